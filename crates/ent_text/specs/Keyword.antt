@@ -1,0 +1,45 @@
+-- Reserved words.
+use Rattle.std.specs.Prelude.{ℕ, Bool, true, false, List, [], ◌∷◌, Option, codes, ◌==◌, ◌&&◌}
+use Rattle.std.specs.List.{find}
+use Rattle.std.specs.Char.{to_ascii_uppercase}
+use Rattle.ent_text.specs.declared.keyword.Keyword.{Keyword}
+use Rattle.ent_text.specs.declared.keyword.Keyword.TheVariants.{And, Answer, As, Begin, Choose, Commit, Create, Delete, From, In, Insert, Int, Into, Rollback, Runs, Select, Set, Table, Text, Transaction, Update, Values, Where, Within}
+
+abbrev pub keyword_text : Keyword → List ℕ
+keyword_text And = codes "AND"
+keyword_text Answer = codes "ANSWER"
+keyword_text As = codes "AS"
+keyword_text Begin = codes "BEGIN"
+keyword_text Choose = codes "CHOOSE"
+keyword_text Commit = codes "COMMIT"
+keyword_text Create = codes "CREATE"
+keyword_text Delete = codes "DELETE"
+keyword_text From = codes "FROM"
+keyword_text In = codes "IN"
+keyword_text Insert = codes "INSERT"
+keyword_text Int = codes "INT"
+keyword_text Into = codes "INTO"
+keyword_text Rollback = codes "ROLLBACK"
+keyword_text Runs = codes "RUNS"
+keyword_text Select = codes "SELECT"
+keyword_text Set = codes "SET"
+keyword_text Table = codes "TABLE"
+keyword_text Text = codes "TEXT"
+keyword_text Transaction = codes "TRANSACTION"
+keyword_text Update = codes "UPDATE"
+keyword_text Values = codes "VALUES"
+keyword_text Where = codes "WHERE"
+keyword_text Within = codes "WITHIN"
+
+abbrev pub keywords : List Keyword
+keywords = And ∷ Answer ∷ As ∷ Begin ∷ Choose ∷ Commit ∷ Create ∷ Delete ∷ From ∷ In ∷ Insert ∷ Int ∷ Into ∷ Rollback ∷ Runs ∷ Select ∷ Set ∷ Table ∷ Text ∷ Transaction ∷ Update ∷ Values ∷ Where ∷ Within ∷ []
+
+-- the word is written so, in any case
+abbrev pub is_written : List ℕ → List ℕ → Bool
+is_written [] [] = true
+is_written [] (c ∷ cs) = false
+is_written (b ∷ bs) [] = false
+is_written (b ∷ bs) (c ∷ cs) = (to_ascii_uppercase b == c) && is_written bs cs
+
+unfoldable pub keyword_of : List ℕ → Option Keyword
+keyword_of word = find (λ keyword. is_written word (keyword_text keyword)) keywords

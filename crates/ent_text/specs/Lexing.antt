@@ -1,0 +1,90 @@
+-- The tokens of a text, from left to right, and its first fault.
+use Rattle.std.specs.Prelude.{◌≡◌, ℕ, zero, suc, ◌+◌, ◌-◌, ◌*◌, Bool, true, false, not, ◌&&◌, ◌||◌, List, [], ◌∷◌, length, take, drop, Option, Some, None, Result, Ok, Err, nat_lt, ◌==◌, if◌then◌else◌, slice_index}
+use Rattle.std.specs.List.{take_while, prefix_len}
+use Rattle.std.specs.Option.{option_map_or}
+use Rattle.std.specs.Char.{is_ascii_alphabetic, is_ascii_digit, is_ascii_control}
+use Rattle.ent_value.specs.Refusal.{◌>>=◌}
+use Rattle.ent_value.specs.Name.{is_word_byte}
+use Rattle.ent_text.specs.Keyword.{keyword_of}
+use Rattle.ent_text.specs.Symbol.{symbol_of}
+use Rattle.ent_text.specs.declared.fault.TextFault.{TextFault}
+use Rattle.ent_text.specs.declared.fault.TextFault.TheVariants.{BadChar, OpenText, NumberTooLarge, TextTooLong}
+use Rattle.ent_text.specs.declared.token.Token.{Token}
+use Rattle.ent_text.specs.declared.token.TokenKind.{TokenKind}
+use Rattle.ent_text.specs.declared.token.TokenKind.TheVariants.{Word, Name, Number, Literal, Sign}
+
+-- space, tab, CR, LF
+abbrev pub is_blank : ℕ → Bool
+is_blank b = (b == 32) || ((b == 9) || ((b == 13) || (b == 10)))
+
+-- what stands behind the longest front of such bytes
+abbrev pub after : (ℕ → Bool) → List ℕ → List ℕ
+after test bytes = drop (prefix_len test bytes) bytes
+
+-- A piece of the text: a token's kind, or None for white space; and the bytes behind it.
+abbrev pub Piece : Type 0
+Piece = Option TokenKind × List ℕ
+
+abbrev pub word_kind : List ℕ → TokenKind
+word_kind word = option_map_or (λ keyword. Word keyword) (keyword_of word) (Name word)
+
+unfoldable pub word_at : ℕ → List ℕ → Result Piece TextFault
+word_at place bytes =
+    let word = take_while is_word_byte bytes in
+    if nat_lt 63 (length word) then Err (TextTooLong place) else Ok (Some (word_kind word), after is_word_byte bytes)
+
+-- the number that digits go on to
+abbrev pub value_from : ℕ → List ℕ → ℕ
+value_from value [] = value
+value_from value (d ∷ ds) = value_from (value * 10 + (d - 48)) ds
+
+unfoldable pub number_at : ℕ → List ℕ → Result Piece TextFault
+number_at place bytes =
+    let value = value_from 0 (take_while is_ascii_digit bytes) in
+    if nat_lt 9223372036854775807 value then Err (NumberTooLarge place) else Ok (Some (Number value), after is_ascii_digit bytes)
+
+abbrev pub with_byte : ℕ → Result (List ℕ × List ℕ) TextFault → Result (List ℕ × List ℕ) TextFault
+with_byte b read = read >>= λ x. Ok (b ∷ x.0, x.1)
+
+-- What stands in quotes, and the bytes behind the closing one. The opening one stands at quote.
+unfoldable pub quoted_at : ℕ → ℕ → List ℕ → Result (List ℕ × List ℕ) TextFault
+quoted_at quote place [] = Err (OpenText quote)
+quoted_at quote place (b ∷ []) =
+    if b == 39 then Ok ([], []) else (if is_ascii_control b then Err (BadChar place) else Err (OpenText quote))
+quoted_at quote place (b ∷ c ∷ bytes) =
+    if b == 39 then (if c == 39 then with_byte 39 (quoted_at quote (place + 2) bytes) else Ok ([], c ∷ bytes))
+    else (if is_ascii_control b then Err (BadChar place) else with_byte b (quoted_at quote (place + 1) (c ∷ bytes)))
+
+unfoldable pub text_at : ℕ → List ℕ → Result Piece TextFault
+text_at place bytes = do
+  text ← quoted_at place (place + 1) (drop 1 bytes)
+  if nat_lt 255 (length text.0) then Err (TextTooLong place) else Ok (Some (Literal text.0), text.1)
+
+unfoldable pub symbol_at : ℕ → List ℕ → Result Piece TextFault
+symbol_at place bytes = option_map_or (λ s. Ok (Some (Sign s.0), drop s.1 bytes)) (symbol_of (slice_index bytes 0) (slice_index bytes 1)) (Err (BadChar place))
+
+unfoldable pub piece_at : ℕ → List ℕ → Result Piece TextFault
+piece_at place bytes =
+    let b = slice_index bytes 0 in
+    if is_blank b then Ok (None, drop 1 bytes)
+    else (if is_ascii_alphabetic b then word_at place bytes
+    else (if is_ascii_digit b then number_at place bytes
+    else (if b == 39 then text_at place bytes
+    else symbol_at place bytes)))
+
+abbrev pub with_token : Option TokenKind → ℕ → ℕ → List Token → List Token
+with_token None start end ts = ts
+with_token (Some kind) start end ts = record { kind = kind; start = start; end = end } ∷ ts
+
+-- A text of n bytes has no more than n pieces.
+unfoldable pub tokens_from : ℕ → ℕ → List ℕ → Result (List Token) TextFault
+tokens_from n place [] = Ok []
+tokens_from zero place (b ∷ bytes) = Ok []
+tokens_from (suc n) place (b ∷ bytes) = do
+  piece ← piece_at place (b ∷ bytes)
+  let next = place + (length (b ∷ bytes) - length piece.1)
+  more ← tokens_from n next piece.1
+  Ok (with_token piece.0 place next more)
+
+unfoldable pub tokens_of : List ℕ → Result (List Token) TextFault
+tokens_of bytes = tokens_from (length bytes) 0 bytes

@@ -1,0 +1,18 @@
+//! The tokens of a text of entangled SQL.
+#![tactic(auto)]
+
+pub mod fault;
+pub mod keyword;
+pub mod numeral;
+pub mod piece;
+pub mod quoted;
+pub mod symbol;
+pub mod token;
+pub mod tokenizer;
+
+pub use fault::TextFault;
+pub use keyword::Keyword;
+pub use numeral::Numeral;
+pub use symbol::Symbol;
+pub use token::{Token, TokenKind};
+pub use tokenizer::tokens;

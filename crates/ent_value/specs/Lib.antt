@@ -1,0 +1,6 @@
+pub mod Name
+pub mod Value
+pub mod Order
+pub mod Print
+pub mod Refusal
+pub mod Watched

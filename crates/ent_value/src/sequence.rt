@@ -1,0 +1,89 @@
+//! A list of elements.
+ghost use Rattle.std.specs.Prelude.{◌≡◌, [], ◌∷◌, ◌++◌, ◌==◌, ◌<◌, length, OnOk, OnErr, IfErr, slice_get};
+ghost use Rattle.std.specs.Slice.Iter.{iter_rest};
+ghost use Rattle.std.specs.Option.{option_copied};
+
+use std::alloc::{AllocFailed, Global};
+use std::marker::Model;
+use std::slice::Iter;
+
+/// A list of elements, which contracts see as that list and nothing else: two sequences of the same elements are
+/// the same, whatever room they hold.
+#[derive(Drop)]
+pub struct Sequence<T> {
+    elements: Vec<T>,
+}
+
+impl<T> Model for Sequence<T> {
+    ghost use Rattle.std.specs.Prelude.{List};
+
+    ghost Value = { List T };
+
+    ghost view = { λ s. s.elements.items };
+}
+
+impl<T> Sequence<T> {
+    /// The sequence of no element. It takes no memory.
+    pub fn new(alloc: Global) -> Self
+        ensures { result ≡ [] }
+    {
+        Sequence {
+            elements: Vec::new(alloc),
+        }
+    }
+
+    /// The elements of a vector, which is moved and not copied.
+    pub fn from_vec(elements: Vec<T>) -> Self
+        ensures { result ≡ elements.items }
+    {
+        Sequence { elements }
+    }
+
+    /// The elements as a vector, moved and not copied.
+    pub fn into_vec(self) -> Vec<T>
+        ensures { result.items ≡ self }
+    {
+        let Sequence { elements } = self;
+        elements
+    }
+
+    /// Puts an element at the end. Where memory runs out the element comes back.
+    pub fn push(&mut self, element: T) -> Result<(), AllocFailed<T>>
+        ensures ok { OnOk result (self.new ≡ self.old ++ element ∷ []) }
+        ensures err { OnErr result (self.new ≡ self.old) }
+        ensures value_returned { IfErr result (λ e. e.value ≡ element) }
+    {
+        self.elements.push(element)
+    }
+
+    pub fn len(&self) -> usize
+        ensures { result ≡ length self.now }
+    {
+        self.elements.len()
+    }
+
+    pub fn is_empty(&self) -> bool
+        ensures { result ≡ (length self.now == 0) }
+    {
+        self.elements.is_empty()
+    }
+
+    /// The element at an index, counted from 0.
+    pub fn get(&self, index: usize) -> Option<&T>
+        ensures { option_copied result ≡ slice_get self.now index }
+    {
+        self.elements.get(index)
+    }
+
+    pub fn as_slice(&self) -> &[T]
+        ensures { result.now ≡ self.now }
+    {
+        self.elements.as_slice()
+    }
+
+    pub fn iter(&self) -> Iter<'_, T>
+        ensures { iter_rest result ≡ self.now }
+    {
+        self.elements.iter()
+    }
+}
