@@ -1,6 +1,7 @@
 //! Values of a database, rows of them, names, and their text.
 #![tactic(auto)]
 
+pub mod limited;
 pub mod name;
 pub mod print;
 pub mod refusal;
@@ -10,6 +11,7 @@ pub mod text;
 pub mod value;
 pub mod watched;
 
+pub use limited::Limited;
 pub use name::Name;
 pub use print::{print_row, print_value};
 pub use refusal::Refusal;

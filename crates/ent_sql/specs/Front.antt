@@ -1,0 +1,107 @@
+-- The token at the front of tokens, and the fault where it can't stand there.
+use Rattle.std.specs.Prelude.{◌≡◌, ℕ, Bool, true, false, not, List, [], ◌∷◌, drop, Result, Ok, Err, ◌==◌, if◌then◌else◌}
+use Rattle.ent_text.specs.declared.token.Token.{Token}
+use Rattle.ent_text.specs.declared.token.TokenKind.{TokenKind}
+use Rattle.ent_text.specs.declared.token.TokenKind.TheVariants as kinds
+use Rattle.ent_text.specs.declared.keyword.Keyword.{Keyword}
+use Rattle.ent_text.specs.declared.keyword.Keyword.TheVariants as words
+use Rattle.ent_text.specs.declared.symbol.Symbol.{Symbol}
+use Rattle.ent_text.specs.declared.symbol.Symbol.TheVariants as signs
+use Rattle.ent_sql.specs.declared.fault.SqlFault.{SqlFault}
+use Rattle.ent_sql.specs.declared.fault.SqlFault.TheVariants.{Unexpected}
+use Rattle.ent_sql.specs.declared.tree.Identifier.{Identifier}
+
+-- what a reader gives: a value and the tokens behind it, or a fault
+abbrev pub Read : Type 0 → Type 0
+Read A = Result (A × List Token) SqlFault
+
+abbrev pub Rest : Type 0
+Rest = Result (List Token) SqlFault
+
+-- where the first of these tokens stands; the end, if there is none
+abbrev pub place_of : ℕ → List Token → ℕ
+place_of end [] = end
+place_of end (t ∷ ts) = t.start
+
+abbrev pub word_code : Keyword → ℕ
+word_code words.And = 0
+word_code words.Answer = 1
+word_code words.As = 2
+word_code words.Begin = 3
+word_code words.Choose = 4
+word_code words.Commit = 5
+word_code words.Create = 6
+word_code words.Delete = 7
+word_code words.From = 8
+word_code words.In = 9
+word_code words.Insert = 10
+word_code words.Int = 11
+word_code words.Into = 12
+word_code words.Rollback = 13
+word_code words.Runs = 14
+word_code words.Select = 15
+word_code words.Set = 16
+word_code words.Table = 17
+word_code words.Text = 18
+word_code words.Transaction = 19
+word_code words.Update = 20
+word_code words.Values = 21
+word_code words.Where = 22
+word_code words.Within = 23
+
+abbrev pub sign_code : Symbol → ℕ
+sign_code signs.Open = 0
+sign_code signs.Close = 1
+sign_code signs.Comma = 2
+sign_code signs.Semicolon = 3
+sign_code signs.Dot = 4
+sign_code signs.Star = 5
+sign_code signs.Plus = 6
+sign_code signs.Minus = 7
+sign_code signs.Equal = 8
+sign_code signs.NotEqual = 9
+sign_code signs.Less = 10
+sign_code signs.LessOrEqual = 11
+sign_code signs.Greater = 12
+sign_code signs.GreaterOrEqual = 13
+
+abbrev pub is_word : Keyword → TokenKind → Bool
+is_word word (kinds.Word found) = word_code found == word_code word
+is_word word _ = false
+
+abbrev pub is_sign : Symbol → TokenKind → Bool
+is_sign sign (kinds.Sign found) = sign_code found == sign_code sign
+is_sign sign _ = false
+
+abbrev pub is_name : TokenKind → Bool
+is_name (kinds.Name name) = true
+is_name _ = false
+
+-- the first of these tokens passes
+abbrev pub begins : (TokenKind → Bool) → List Token → Bool
+begins test [] = false
+begins test (t ∷ ts) = test t.kind
+
+abbrev pub begins_with_word : Keyword → List Token → Bool
+begins_with_word word ts = begins (is_word word) ts
+
+abbrev pub begins_with_sign : Symbol → List Token → Bool
+begins_with_sign sign ts = begins (is_sign sign) ts
+
+-- the tokens behind a first one that passes
+abbrev pub behind : (TokenKind → Bool) → ℕ → List Token → Rest
+behind test end ts = if not (begins test ts) then Err (Unexpected (place_of end ts)) else Ok (drop 1 ts)
+
+unfoldable pub word_at : Keyword → ℕ → List Token → Rest
+word_at word end ts = behind (is_word word) end ts
+
+unfoldable pub sign_at : Symbol → ℕ → List Token → Rest
+sign_at sign end ts = behind (is_sign sign) end ts
+
+abbrev pub name_from : TokenKind → ℕ → List Token → Read Identifier
+name_from (kinds.Name name) place ts = Ok (record { name = name; place = place }, ts)
+name_from _ place ts = Err (Unexpected place)
+
+unfoldable pub name_at : ℕ → List Token → Read Identifier
+name_at end [] = Err (Unexpected end)
+name_at end (t ∷ ts) = name_from t.kind t.start ts

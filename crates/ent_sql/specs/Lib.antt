@@ -1,0 +1,4 @@
+pub mod Fault
+pub mod Front
+pub mod List
+pub mod Grammar

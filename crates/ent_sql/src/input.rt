@@ -1,0 +1,123 @@
+//! A whole input.
+ghost use Rattle.std.specs.Prelude.{◌≡◌};
+ghost use Rattle.ent_value.specs.Refusal.{Gives};
+ghost use Rattle.ent_sql.specs.Grammar.{input_of, reading};
+
+use crate::declaration::{create_at, insert_at};
+use crate::fault::SqlFault;
+use crate::front::{begins_with_word, unexpected};
+use crate::list::{Item, many};
+use crate::script::script_at;
+use crate::tree::{Create, Input, Insert, Opening, Script};
+use ent_text::{Keyword, Token, tokens};
+use ent_value::Refusal;
+use std::alloc::Global;
+
+/// What a text says, or its first fault: all faults of tokens come before those of the grammar.
+pub fn parse_input(alloc: Global, text: &str) -> Result<Input, Refusal<SqlFault>>
+    ensures { Gives (λ input. input) result (reading text.now) }
+{
+    match tokens(alloc, text) {
+        Ok(found) => input_of(alloc, text.len(), found.as_slice()),
+        Err(Refusal::Memory) => Err(Refusal::Memory),
+        Err(Refusal::Fault(fault)) => Err(Refusal::Fault(SqlFault::Text(fault))),
+    }
+}
+
+impl Item for Create {
+    ghost use Rattle.ent_sql.specs.Grammar.{never, is_create, create_at};
+
+    ghost divides = { never };
+
+    ghost starts = { is_create };
+
+    ghost reads = { create_at };
+
+    fn is_divider(tokens: &[Token]) -> bool {
+        let _ = tokens;
+        false
+    }
+
+    fn is_start(tokens: &[Token]) -> bool {
+        begins_with_word(Keyword::Create, tokens)
+    }
+
+    fn read(
+        alloc: Global,
+        end: usize,
+        tokens: &[Token],
+    ) -> Result<(Self, &[Token]), Refusal<SqlFault>> {
+        create_at(alloc, end, tokens)
+    }
+}
+
+impl Item for Insert {
+    ghost use Rattle.ent_sql.specs.Grammar.{never, is_insert, insert_at};
+
+    ghost divides = { never };
+
+    ghost starts = { is_insert };
+
+    ghost reads = { insert_at };
+
+    fn is_divider(tokens: &[Token]) -> bool {
+        let _ = tokens;
+        false
+    }
+
+    fn is_start(tokens: &[Token]) -> bool {
+        begins_with_word(Keyword::Insert, tokens)
+    }
+
+    fn read(
+        alloc: Global,
+        end: usize,
+        tokens: &[Token],
+    ) -> Result<(Self, &[Token]), Refusal<SqlFault>> {
+        insert_at(alloc, end, tokens)
+    }
+}
+
+impl Item for Script {
+    ghost use Rattle.ent_sql.specs.Grammar.{never, is_begin, script_at};
+
+    ghost divides = { never };
+
+    ghost starts = { is_begin };
+
+    ghost reads = { script_at };
+
+    fn is_divider(tokens: &[Token]) -> bool {
+        let _ = tokens;
+        false
+    }
+
+    fn is_start(tokens: &[Token]) -> bool {
+        begins_with_word(Keyword::Begin, tokens)
+    }
+
+    fn read(
+        alloc: Global,
+        end: usize,
+        tokens: &[Token],
+    ) -> Result<(Self, &[Token]), Refusal<SqlFault>> {
+        script_at(alloc, end, tokens)
+    }
+}
+
+/// What the tokens of a text of this length say.
+#[tactic(auto, unfolding(crate::specs::Grammar::input_of))]
+fn input_of(alloc: Global, end: usize, tokens: &[Token]) -> Result<Input, Refusal<SqlFault>>
+    ensures { Gives (λ input. input) result (input_of end tokens.now) }
+{
+    let (tables, rest) = many(alloc, end, tokens)?;
+    let (rows, rest) = many(alloc, end, rest)?;
+    let (scripts, rest) = many(alloc, end, rest)?;
+    if !rest.is_empty() {
+        return Err(unexpected(end, rest));
+    }
+    Ok(Input {
+        opening: Opening { tables, rows },
+        scripts,
+    })
+}

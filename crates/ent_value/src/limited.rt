@@ -1,0 +1,77 @@
+//! A list of elements with a limit.
+ghost use Rattle.std.specs.Prelude.{◌≡◌, [], ◌∷◌, ◌++◌, ◌==◌, ◌<◌, ◌≤◌, length, OnOk, OnErr, IfErr, slice_get};
+ghost use Rattle.std.specs.Slice.Iter.{iter_rest};
+ghost use Rattle.std.specs.Option.{option_copied};
+
+use std::alloc::{AllocFailed, Global};
+use std::marker::Model;
+use std::slice::Iter;
+
+/// A list of at most `LIMIT` elements, which contracts see as that list.
+#[derive(Drop)]
+pub struct Limited<T, const LIMIT: usize> {
+    elements: Vec<T>,
+}
+
+impl<T, const LIMIT: usize> Model for Limited<T, LIMIT> {
+    ghost use Rattle.std.specs.Prelude.{List, length, ◌≤◌};
+
+    ghost Value = { List T };
+
+    ghost view = { λ l. l.elements.items };
+
+    ghost invariant = { λ l. length l.elements.items ≤ LIMIT };
+}
+
+impl<T, const LIMIT: usize> Limited<T, LIMIT> {
+    /// The list of no element. It takes no memory.
+    pub fn new(alloc: Global) -> Self
+        ensures { result ≡ [] }
+    {
+        Limited {
+            elements: Vec::new(alloc),
+        }
+    }
+
+    /// Puts an element at the end. Where memory runs out the element comes back.
+    pub fn push(&mut self, element: T) -> Result<(), AllocFailed<T>>
+        requires { length self.old < LIMIT }
+        ensures ok { OnOk result (self.new ≡ self.old ++ element ∷ []) }
+        ensures err { OnErr result (self.new ≡ self.old) }
+        ensures value_returned { IfErr result (λ e. e.value ≡ element) }
+    {
+        self.elements.push(element)
+    }
+
+    pub fn len(&self) -> usize
+        ensures len { result ≡ length self.now }
+        ensures limit { result ≤ LIMIT }
+    {
+        self.elements.len()
+    }
+
+    pub fn is_empty(&self) -> bool
+        ensures { result ≡ (length self.now == 0) }
+    {
+        self.elements.is_empty()
+    }
+
+    /// The element at an index, counted from 0.
+    pub fn get(&self, index: usize) -> Option<&T>
+        ensures { option_copied result ≡ slice_get self.now index }
+    {
+        self.elements.get(index)
+    }
+
+    pub fn as_slice(&self) -> &[T]
+        ensures { result.now ≡ self.now }
+    {
+        self.elements.as_slice()
+    }
+
+    pub fn iter(&self) -> Iter<'_, T>
+        ensures { iter_rest result ≡ self.now }
+    {
+        self.elements.iter()
+    }
+}
