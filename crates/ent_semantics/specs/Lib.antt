@@ -1,0 +1,4 @@
+pub mod Database
+pub mod Selection
+pub mod Statement
+pub mod Serial
