@@ -1,0 +1,5 @@
+pub mod Fault
+pub mod Catalogue
+pub mod FirstFault
+pub mod Plain
+pub mod PlainMeaning

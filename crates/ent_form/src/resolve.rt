@@ -1,0 +1,1 @@
+//! Statements resolved against the catalogue.
