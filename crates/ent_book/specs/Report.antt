@@ -25,6 +25,10 @@ abbrev pub failure_text : Failure → List ℕ
 failure_text failures.Overflow = codes "F1"
 failure_text failures.TableFull = codes "F2"
 
+-- rows, a line each
+abbrev pub rows_text : List (List Value) → List ℕ
+rows_text rows = flat_map row_line rows
+
 -- how many runs it took
 abbrev pub after_text : ℕ → List ℕ
 after_text runs = codes " after " ++ decimal runs
@@ -35,7 +39,7 @@ fate_text (fates.Failed failure runs) = codes "failed " ++ (failure_text failure
 
 abbrev pub answer_text : Answer → List ℕ
 answer_text (answers.Count count) = line (codes "count " ++ decimal count)
-answer_text (answers.Rows rows) = line (codes "rows " ++ decimal (length rows)) ++ flat_map row_line rows
+answer_text (answers.Rows rows) = line (codes "rows " ++ decimal (length rows)) ++ rows_text rows
 
 -- answers in order of their statements, from a place on
 abbrev pub answers_text : ℕ → List Answer → List ℕ
@@ -58,15 +62,19 @@ transactions_text tx (fate ∷ more) = transaction_text tx fate ++ transactions_
 
 -- a table: its name, how many rows it has, and these, ascending
 abbrev pub table_text : Name → Rows → List ℕ
-table_text name rows = line (codes "table " ++ (name ++ (codes " " ++ decimal (set.len rows)))) ++ flat_map row_line (set.ascending rows)
+table_text name rows = line (codes "table " ++ (name ++ (codes " " ++ decimal (set.len rows)))) ++ rows_text (set.ascending rows)
 
 -- names by their bytes
 abbrev pub by_bytes : List Name → List Name
 by_bytes names = set.ascending (set.from_list {R = slice_cmp nat_cmp} names)
 
+-- tables by the bytes of their names
+abbrev pub tables_text : List Name → Database → List ℕ
+tables_text tables database = flat_map (λ name. table_text name (database name)) (by_bytes tables)
+
 abbrev pub report_text : List Name → Database → List Fate → List ℕ
 report_text tables database fates =
     line (codes "report 1")
     ++ (transactions_text 1 fates
-    ++ (flat_map (λ name. table_text name (database name)) (by_bytes tables)
+    ++ (tables_text tables database
     ++ line (codes "end")))

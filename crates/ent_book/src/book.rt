@@ -1,6 +1,8 @@
 //! What a run of scripts came to.
+use ent_rel::Table;
 use ent_semantics::{Answer, Failure};
-use ent_value::Sequence;
+use ent_value::{Name, Sequence};
+use std::sync::Arc;
 
 /// What became of a transaction. `runs` counts the runs that it took part in.
 #[derive(Drop)]
@@ -16,4 +18,18 @@ pub enum Fate {
         failure: Failure,
         runs: u64,
     },
+}
+
+/// A table under its name.
+#[derive(Drop)]
+pub struct NamedTable {
+    pub name: Name,
+    pub table: Arc<Table>,
+}
+
+/// The fates of all transactions, in order of their numbers from 1, and the tables that they left.
+#[derive(Drop)]
+pub struct Book {
+    pub fates: Sequence<Fate>,
+    pub tables: Sequence<NamedTable>,
 }

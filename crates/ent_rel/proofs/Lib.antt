@@ -1,0 +1,4 @@
+pub mod Lists
+pub mod Meanings
+pub mod Ascending
+pub mod RowByRow

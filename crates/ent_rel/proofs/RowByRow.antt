@@ -1,0 +1,125 @@
+-- Which rows stand after a change, row by row.
+use Rattle.std.proofs.Common.{◌≡◌, ℕ, ◌<◌, Bool, true, false, cond, not, List, [], ◌∷◌, length, refl, sym, ap, ◌∙◌, arith, Some, None, inl, inr, get_or}
+use Rattle.std.specs.Prelude.{Option, is_some, nat_le, IsTrue, IsFalse, Contains, ◌||◌, ◌&&◌, ◌⊎◌}
+use Rattle.std.specs.List.{filter_map, list_any, list_all}
+use Rattle.std.specs.Ordering.{eq_by_cmp}
+use Rattle.std.proofs.lemmas.Bool.{or_cases}
+use Rattle.std.proofs.lemmas.Map.Views.{list_any-from_Contains, Contains-from_any}
+use Rattle.ent_set.specs.Sets as set
+use Rattle.ent_set.specs.Laws.{contains-insert, contains-retain, contains-insert_all, contains-ascending, contains-without_all}
+use Rattle.ent_value.specs.declared.value.Value.{Value}
+use Rattle.ent_value.specs.Value.{row_cmp}
+use Rattle.ent_value.specs.Order.{rows_total, exact_rows, rows_equal}
+use Rattle.ent_rel.specs.Relation.{RowSet, bounded}
+use Rattle.ent_rel.specs.Change.{changed_rows, insertion, deletion, replacement}
+use Rattle.ent_rel.specs.ByRow.{InsertsOne, DeletesMatches, ReplacesMatches, ChangesRows, IsImage}
+use Rattle.ent_rel.proofs.Lists.{same_rows, any_filter_map, some_passes}
+
+cond_is : {X : Type 0} (b : Bool) (x y : X) → cond b (Some x) None ≡ Some y → x ≡ y
+cond_is true x y e = cc
+cond_is false x y e = cc
+
+both : (a b : Bool) → (a && b) ≡ true → (a ≡ true) × (b ≡ true)
+both true b h = (refl, h)
+both false b h = cc
+
+opposite : (b : Bool) → not b ≡ true → b ≡ false
+opposite true h = cc
+opposite false h = refl
+
+or_right : (a b : Bool) → b ≡ true → (a || b) ≡ true
+or_right true b h = refl
+or_right false b h = h
+
+-- the rows that pass a test
+stays_where : (rows : RowSet) (test : List Value → Bool) (q : List Value) → set.contains (set.retain rows test) q ≡ (set.contains rows q && test q)
+stays_where rows test q = contains-retain rows_total rows test q (λ x e. sym (ap test (exact_rows q x e)))
+
+pub inserts_one : InsertsOne
+inserts_one rows after row count e q =
+    let is : (cond (set.contains rows row) 0 1, set.insert rows row) ≡ (count, after) = cond_is (nat_le (set.len (set.insert rows row)) 65536) (cond (set.contains rows row) 0 1, set.insert rows row) (count, after) e in
+    let told : set.contains after q ≡ (eq_by_cmp row_cmp q row || set.contains rows q) = ap (λ s. set.contains s q) (sym (ap (λ p. p.1) is)) ∙ contains-insert rows_total exact_rows rows row q in (
+      λ here. elim (or_cases (eq_by_cmp row_cmp q row) (set.contains rows q) (sym told ∙ here)) [ inl same ↦ inl (same_rows q row same) | inr old ↦ inr old ],
+      λ either. told ∙ elim either [ inl same ↦ ap (λ b. b || set.contains rows q) (ap (λ r. eq_by_cmp row_cmp q r) (sym same) ∙ rows_equal.refl q) | inr old ↦ or_right _ _ old ],
+    )
+
+pub deletes_matches : DeletesMatches
+deletes_matches rows test q =
+    let told = stays_where rows (λ row. not (test row)) q in (
+      λ here. let p = both _ _ (sym told ∙ here) in (p.0, opposite _ p.1),
+      λ p. told ∙ (λ i. p.0 i && not (p.1 i)),
+    )
+
+-- an element of a list that passes
+one_passing : (p : List Value → Bool) (ks : List (List Value)) → list_any p ks ≡ true → (x : List Value) × (p x ≡ true) × (list_any (eq_by_cmp row_cmp x) ks ≡ true)
+one_passing p [] h = cc
+one_passing p (k ∷ ks) h = by (p k) refl (one_passing p ks)
+  where
+    by : (b : Bool) → p k ≡ b → (list_any p ks ≡ true → (x : List Value) × (p x ≡ true) × (list_any (eq_by_cmp row_cmp x) ks ≡ true)) → (x : List Value) × (p x ≡ true) × (list_any (eq_by_cmp row_cmp x) (k ∷ ks) ≡ true)
+    by true is later = (k, is, ap (λ b. b || list_any (eq_by_cmp row_cmp k) ks) (rows_equal.refl k))
+    by false is later = let rest = later (ap (λ b. b || list_any p ks) (sym is) ∙ h) in (rest.0, rest.1, or_right (eq_by_cmp row_cmp rest.0 k) _ rest.2)
+
+passes_where : (p : List Value → Bool) (x : List Value) → p x ≡ true → (ks : List (List Value)) → list_any (eq_by_cmp row_cmp x) ks ≡ true → list_any p ks ≡ true
+passes_where p x h [] e = cc
+passes_where p x h (k ∷ ks) e = elim (or_cases (eq_by_cmp row_cmp x k) (list_any (eq_by_cmp row_cmp x) ks) e) [
+  | inl same ↦ ap (λ b. b || list_any p ks) (ap p (sym (same_rows x k same)) ∙ h)
+  | inr rest ↦ or_right (p k) _ (passes_where p x h ks rest)
+]
+
+image_is : (q : List Value) (o : Option (List Value)) → some_passes (eq_by_cmp row_cmp q) o ≡ true → o ≡ Some q
+image_is q None h = cc
+image_is q (Some y) h = ap (λ r. Some r) (sym (same_rows q y h))
+
+-- a row is the image of one that stood and matches
+image_there : (rows : RowSet) (test : List Value → Bool) (image : List Value → Option (List Value)) (q : List Value) → list_any (eq_by_cmp row_cmp q) (filter_map image (set.ascending (set.retain rows test))) ≡ true → IsImage rows test image q
+image_there rows test image q h =
+    let passes = λ (k : List Value). some_passes (eq_by_cmp row_cmp q) (image k) in
+    let one = one_passing passes (set.ascending (set.retain rows test)) (sym (any_filter_map (eq_by_cmp row_cmp q) image (set.ascending (set.retain rows test))) ∙ h) in
+    let old = both (set.contains rows one.0) (test one.0) (sym (stays_where rows test one.0) ∙ contains-ascending (set.retain rows test) one.0 ∙ one.2) in
+    (one.0, old.0, old.1, image_is q (image one.0) one.1)
+
+there_image : (rows : RowSet) (test : List Value → Bool) (image : List Value → Option (List Value)) (q : List Value) → IsImage rows test image q → list_any (eq_by_cmp row_cmp q) (filter_map image (set.ascending (set.retain rows test))) ≡ true
+there_image rows test image q is =
+    let passes = λ (k : List Value). some_passes (eq_by_cmp row_cmp q) (image k) in
+    let here : set.contains (set.retain rows test) is.0 ≡ true = stays_where rows test is.0 ∙ (λ i. is.1 i && is.2 i) in
+    any_filter_map (eq_by_cmp row_cmp q) image (set.ascending (set.retain rows test))
+    ∙ passes_where passes is.0 (ap (some_passes (eq_by_cmp row_cmp q)) is.3 ∙ rows_equal.refl q) (set.ascending (set.retain rows test)) (sym (contains-ascending (set.retain rows test) is.0) ∙ here)
+
+pub replaces_matches : ReplacesMatches
+replaces_matches rows after test image count e q =
+    let matched = set.ascending (set.retain rows test) in
+    let kept : RowSet = set.retain rows (λ row. not (test row)) in
+    let next : RowSet = set.insert_all kept (filter_map image matched) in
+    let n = set.len (set.retain rows test) in
+    let within = cond_is (list_all (λ row. is_some (image row)) matched) (bounded next (n, next)) (Some (count, after)) e in
+    let is : (n, next) ≡ (count, after) = cond_is (nat_le (set.len next) 65536) (n, next) (count, after) within in
+    let told : set.contains after q ≡ (list_any (eq_by_cmp row_cmp q) (filter_map image matched) || set.contains kept q) = ap (λ s. set.contains s q) (sym (ap (λ p. p.1) is)) ∙ contains-insert_all rows_total exact_rows kept (filter_map image matched) q in
+    let stays = deletes_matches rows test q in (
+      λ here. elim (or_cases (list_any (eq_by_cmp row_cmp q) (filter_map image matched)) (set.contains kept q) (sym told ∙ here)) [ inl new ↦ inl (image_there rows test image q new) | inr old ↦ inr (stays.0 old) ],
+      λ either. told ∙ elim either [ inl new ↦ ap (λ b. b || set.contains kept q) (there_image rows test image q new) | inr old ↦ or_right _ _ (stays.1 old) ],
+    )
+
+none_there : (removed : List (List Value)) (q : List Value) → (Contains removed q → ⊥) → list_any (eq_by_cmp row_cmp q) removed ≡ false
+none_there removed q none = by (list_any (eq_by_cmp row_cmp q) removed) refl
+  where
+    by : (b : Bool) → list_any (eq_by_cmp row_cmp q) removed ≡ b → list_any (eq_by_cmp row_cmp q) removed ≡ false
+    by true is = absurd (none (Contains-from_any same_rows q removed is))
+    by false is = is
+
+pub changes_rows : ChangesRows
+changes_rows rows removed added q =
+    let kept : RowSet = set.without_all rows removed in
+    let told : set.contains (set.insert_all kept added) q ≡ (list_any (eq_by_cmp row_cmp q) added || set.contains kept q) = contains-insert_all rows_total exact_rows kept added q in
+    let left : set.contains kept q ≡ (set.contains rows q && not (list_any (eq_by_cmp row_cmp q) removed)) = contains-without_all rows_total exact_rows rows removed q in (
+      λ here. elim (or_cases (list_any (eq_by_cmp row_cmp q) added) (set.contains kept q) (sym told ∙ here)) [
+        | inl new ↦ inl (Contains-from_any same_rows q added new)
+        | inr old ↦ let p = both _ _ (sym left ∙ old) in inr (p.0, λ there. true_false (sym (list_any-from_Contains rows_equal q removed there) ∙ opposite _ p.1))
+      ],
+      λ either. told ∙ elim either [
+        | inl new ↦ ap (λ b. b || set.contains kept q) (list_any-from_Contains rows_equal q added new)
+        | inr old ↦ or_right _ _ (left ∙ (λ i. old.0 i && not (none_there removed q old.1 i)))
+      ],
+    )
+  where
+    true_false : true ≡ false → ⊥
+    true_false e = cc

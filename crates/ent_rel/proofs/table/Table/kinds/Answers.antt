@@ -1,0 +1,9 @@
+use Rattle.std.proofs.Common.{subst}
+use Rattle.ent_rel.specs.Relation.{Relation, HaveKinds}
+use Rattle.ent_rel.proofs.Lists.{have_kinds}
+use Rattle.ent_rel.proofs.table.Table.kinds.Goals as goal
+
+pub returns-clause-rows : goal.returns-clause-rows
+returns-clause-rows c =
+    let P : Relation → Type 0 = λ t. HaveKinds t.kinds t.rows in
+    subst P c.self.view_is (have_kinds c.self.inside.kinds.items c.self.inside.rows.items c.self.invariant.fitting)

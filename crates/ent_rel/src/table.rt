@@ -1,0 +1,228 @@
+//! A table over a list of distinct rows in no order.
+ghost use Rattle.std.specs.Prelude.{◌≡◌, ◌≤◌, ◌==◌, [], Bool, List, Option, IfOk, IsSome, map, All};
+ghost use Rattle.std.specs.List.{IsDistinct};
+ghost use Rattle.std.specs.Ordering.{eq_by_cmp};
+ghost use Rattle.ent_set.specs.Sets as set;
+ghost use Rattle.ent_value.specs.Value.{row_cmp, kinds_of};
+ghost use Rattle.ent_value.specs.declared.value.Value.{Value as Cell};
+ghost use Rattle.ent_rel.specs.Relation.{HaveKinds, bounded};
+ghost use Rattle.ent_rel.specs.Rows.{rows_left};
+ghost use Rattle.ent_rel.specs.Change.{changed_rows, insertion, deletion, replacement, application};
+ghost use Rattle.ent_rel.specs.Closure.{Computes, Changes, KeepsKinds};
+ghost use Rattle.ent_rel.specs.Answer.{Gives, GivesAlways, Replaces};
+
+use crate::change::Delta;
+use crate::copies::{copies_of, copies_where, images};
+use crate::fault::{ReplaceFault, TableFault};
+use crate::rows::Rows;
+use ent_value::{Kind, Row, Sequence};
+use std::alloc::{AllocError, Global};
+use std::marker::Model;
+
+/// A finite set of at most 65,536 rows, each of the table's kinds. Contracts see the kinds and the set.
+#[derive(Drop)]
+pub struct Table {
+    kinds: Vec<Kind>,
+    rows: Vec<Row>,
+}
+
+impl Model for Table {
+    ghost use Rattle.ent_set.specs.Sets as set;
+    ghost use Rattle.ent_rel.specs.Relation.{Relation, coded_relation};
+    ghost use Rattle.ent_rel.specs.Kept.{IsKept};
+
+    ghost Value = { Relation };
+
+    ghost coded = { coded_relation };
+
+    ghost view = { λ t. record { kinds = t.kinds.items; rows = set.from_list t.rows.items } };
+
+    ghost invariant = { λ t. IsKept t.kinds.items t.rows.items };
+}
+
+impl Table {
+    /// The table of no row. It takes no memory.
+    pub fn new(alloc: Global, kinds: Vec<Kind>) -> Self
+        ensures { result ≡ record { kinds = kinds.items; rows = set.empty } }
+    {
+        let rows = Vec::new(alloc);
+        Table { kinds, rows }
+    }
+
+    /// The table of these rows, which are moved and put in order, and of which doubles count once. It takes no
+    /// memory. `TableFull` where more than 65,536 are distinct; the rows are lost then.
+    pub fn load(kinds: Vec<Kind>, rows: Vec<Row>) -> Result<Self, TableFault>
+        requires { All (λ row. kinds_of row ≡ kinds.items) rows.items }
+        ensures { let rows = set.from_list {R = row_cmp} rows.items in
+            GivesAlways result (bounded rows record { kinds = kinds.items; rows = rows }) }
+    {
+        let mut rows = rows;
+        rows.sort_unstable();
+        rows.dedup();
+        if rows.len() > 65_536 {
+            return Err(TableFault::TableFull);
+        }
+        Ok(Table { kinds, rows })
+    }
+
+    /// The kinds of the columns, which each row has.
+    pub fn kinds(&self) -> &[Kind]
+        ensures kinds { result.now ≡ self.now.kinds }
+        ensures rows { HaveKinds self.now.kinds self.now.rows }
+    {
+        &self.kinds
+    }
+
+    /// How many rows there are.
+    pub fn len(&self) -> usize
+        ensures len { result ≡ set.len self.now.rows }
+        ensures limit { result ≤ 65536 }
+    {
+        self.rows.len()
+    }
+
+    pub fn is_empty(&self) -> bool
+        ensures { result ≡ (set.len self.now.rows == 0) }
+    {
+        self.rows.is_empty()
+    }
+
+    /// Whether a row is in the table.
+    pub fn contains(&self, row: &Row) -> bool
+        ensures { result ≡ set.contains self.now.rows row.now }
+    {
+        self.rows.contains(row)
+    }
+
+    /// The rows, each once, in some order.
+    pub fn iter(&self) -> Rows<'_>
+        ensures rows { set.from_list (rows_left result) ≡ self.now.rows }
+        ensures distinct { IsDistinct (eq_by_cmp row_cmp) (rows_left result) }
+        ensures kinds { All (λ row. kinds_of row ≡ self.now.kinds) (rows_left result) }
+    {
+        Rows::new(self.rows.as_slice())
+    }
+
+    /// The rows in ascending order.
+    pub fn ascending(&self, alloc: Global) -> Result<Vec<&Row>, AllocError>
+        ensures { IfOk result (λ rows. map (λ row. row.now) rows.items ≡ set.ascending self.now.rows) }
+    {
+        let mut rows: Vec<&Row> = self.rows.iter().collect(alloc)?;
+        rows.sort_unstable();
+        Ok(rows)
+    }
+
+    /// What putting a row in would change: no row where it is there. The change fits: `apply` never
+    /// answers `TableFull` for it.
+    pub fn insert(&self, alloc: Global, row: &Row) -> Result<(u64, Delta), TableFault>
+        requires { kinds_of row.now ≡ self.now.kinds }
+        ensures change { Gives
+            (λ r. (r.0, changed_rows self.now.rows r.1.removed r.1.added))
+            result (insertion self.now.rows row.now) }
+        ensures kinds { IfOk result (λ r. All (λ row. kinds_of row ≡ self.now.kinds) r.1.added) }
+        ensures fits { IfOk result (λ r. IsSome (application self.now.rows r.1.removed r.1.added)) }
+    {
+        let mut added = Sequence::new(alloc);
+        let len = self.len();
+        if self.contains(row) {
+            return Ok((
+                0,
+                Delta {
+                    removed: Sequence::new(alloc),
+                    added,
+                },
+            ));
+        }
+        if len >= 65_536 {
+            return Err(TableFault::TableFull);
+        }
+        added.push(row.copy(alloc)?)?;
+        Ok((
+            1,
+            Delta {
+                removed: Sequence::new(alloc),
+                added,
+            },
+        ))
+    }
+
+    /// What taking out the rows that pass a test would change. The change fits.
+    pub fn delete_rows<F: Fn(&Row) -> bool>(
+        &self,
+        alloc: Global,
+        test: F,
+    ) -> Result<(u64, Delta), AllocError>
+        requires { F.IsAlwaysCallable test }
+        ensures change { (passes : List Cell → Bool) → Computes F.Fn test self.now.rows passes → IfOk result
+            (λ r. (r.0, changed_rows self.now.rows r.1.removed r.1.added) ≡ deletion self.now.rows passes) }
+        ensures kinds { IfOk result (λ r. r.1.added ≡ []) }
+        ensures fits { IfOk result (λ r. IsSome (application self.now.rows r.1.removed r.1.added)) }
+    {
+        let removed = copies_where(alloc, self.rows.as_slice(), test)?;
+        Ok((
+            removed.len() as u64,
+            Delta {
+                removed: Sequence::from_vec(removed),
+                added: Sequence::new(alloc),
+            },
+        ))
+    }
+
+    /// What putting its image in the place of each row that passes a test would change. The change's own `Err`
+    /// comes back before `TableFull`. The change fits.
+    pub fn replace<E: Drop, F: Fn(&Row) -> bool, G: Fn(&Row) -> Result<Row, E>>(
+        &self,
+        alloc: Global,
+        test: F,
+        change: G,
+    ) -> Result<(u64, Delta), ReplaceFault<E>>
+        requires test { F.IsAlwaysCallable test }
+        requires change { G.IsAlwaysCallable change }
+        requires kinds { KeepsKinds G.Fn change self.now.rows self.now.kinds }
+        ensures change { (passes : List Cell → Bool) (image : List Cell → Option (List Cell)) (excused : E → Bool)
+            → Computes F.Fn test self.now.rows passes → Changes G.Fn change self.now.rows image excused → Replaces
+            (λ r. (r.0, changed_rows self.now.rows r.1.removed r.1.added))
+            excused result (replacement self.now.rows passes image) }
+        ensures kinds { IfOk result (λ r. All (λ row. kinds_of row ≡ self.now.kinds) r.1.added) }
+        ensures fits { IfOk result (λ r. IsSome (application self.now.rows r.1.removed r.1.added)) }
+    {
+        let removed = copies_where(alloc, self.rows.as_slice(), test)?;
+        let added = images(alloc, removed.as_slice(), change)?;
+        let count = removed.len() as u64;
+        let delta = Delta {
+            removed: Sequence::from_vec(removed),
+            added: Sequence::from_vec(added),
+        };
+        self.apply(alloc, &delta)?;
+        Ok((count, delta))
+    }
+
+    /// The table after a change. The change's rows are copied.
+    pub fn apply(&self, alloc: Global, delta: &Delta) -> Result<Table, TableFault>
+        requires { All (λ row. kinds_of row ≡ self.now.kinds) delta.now.added }
+        ensures rows { Gives (λ table. table.rows) result
+            (application self.now.rows delta.now.removed delta.now.added) }
+        ensures kinds { IfOk result (λ table. table.kinds ≡ self.now.kinds) }
+    {
+        let kinds = Vec::from_slice(alloc, self.kinds.as_slice())?;
+        let removed = delta.removed.as_slice();
+        let mut rows = copies_where(alloc, self.rows.as_slice(), |row| !removed.contains(row))?;
+        for row in delta.added.as_slice() {
+            if !rows.contains(row) {
+                if rows.len() >= 65_536 {
+                    return Err(TableFault::TableFull);
+                }
+                rows.push(row.copy(alloc)?)?;
+            }
+        }
+        Ok(Table { kinds, rows })
+    }
+
+    pub fn copy(&self, alloc: Global) -> Result<Table, AllocError>
+        ensures { IfOk result (λ table. table ≡ self.now) }
+    {
+        let kinds = Vec::from_slice(alloc, self.kinds.as_slice())?;
+        let rows = copies_of(alloc, self.rows.as_slice())?;
+        Ok(Table { kinds, rows })
+    }
+}
