@@ -1,0 +1,14 @@
+use Rattle.std.proofs.Common.{◌≡◌, ◌≤◌, ◌-◌, ◌+◌, length, vec_len}
+use Rattle.std.specs.Io.KnownBytes.{Consumes}
+use Rattle.ent_engine.specs.Reading.{most_bytes}
+use Rattle.ent_engine.proofs.reader.read_pieces.Given as goal
+
+-- what was read is a beginning of what the reader had
+abbrev pub invariant-reading : goal.invariant-reading
+invariant-reading g l = record {
+  short : vec_len l.bytes ≤ most_bytes;
+  front : Consumes (g.R.Read.remaining l.fn.reader.inner) (g.R.Read.remaining l.reader.inner) l.bytes.items;
+}
+
+abbrev pub decreases-reading : goal.decreases-reading
+decreases-reading g l = most_bytes - vec_len l.bytes

@@ -1,0 +1,8 @@
+use Rattle.std.proofs.Common.{◌≡◌, map, take}
+use Rattle.std.specs.List.{filter}
+use Rattle.ent_form.specs.PlainMeaning.{plain_row, plain_meets}
+use Rattle.ent_engine.proofs.select.item_rows.Given as goal
+
+-- the item rows so far
+abbrev pub invariant-loop-row : goal.invariant-loop-row
+invariant-loop-row l = l.found.items ≡ map (λ row. plain_row l.items row.now) (filter (λ row. plain_meets l.tests row.now) (take l.row-index l.rows))

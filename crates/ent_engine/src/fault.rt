@@ -1,0 +1,93 @@
+//! Why a run of the program gives no report.
+ghost use Rattle.std.specs.Prelude.{◌≡◌};
+ghost use Rattle.ent_engine.specs.Fault.{code_of, place_of, status};
+ghost use Rattle.ent_engine.specs.declared.fault.RunFault.TheVariants.{Memory};
+
+use ent_form::FormFault;
+use ent_sql::SqlFault;
+use std::alloc::{AllocError, AllocFailed};
+use thiserror::Error;
+
+/// Why there is no report. Each place is a byte offset from the input's start.
+#[derive(Clone, Copy, Debug, PartialEq, Eq, Error)]
+pub enum RunFault {
+    /// The input isn't UTF-8; the place is the first byte of what is ill-formed.
+    #[error("E100 at {0}: this isn't UTF-8")]
+    NotUtf8(usize),
+    /// The input has more than 16,777,216 bytes.
+    #[error("E105: the input is too long")]
+    TooLong,
+    /// The input's tokens or its grammar have a fault.
+    #[error("{0}")]
+    Sql(SqlFault),
+    /// The input's names, numbers of values or kinds have a fault.
+    #[error("{0}")]
+    Form(FormFault),
+    /// The reader failed.
+    #[error("E601: the input can't be read")]
+    ReadFault,
+    /// The writer failed, or took no byte.
+    #[error("E602: the report can't be written")]
+    WriteFault,
+    #[error("E900: out of memory")]
+    Memory,
+}
+
+impl From<AllocError> for RunFault {
+    ghost from_gives = { λ _ e. e ≡ Memory };
+
+    fn from(_: AllocError) -> Self {
+        RunFault::Memory
+    }
+}
+
+impl<T: Drop> From<AllocFailed<T>> for RunFault {
+    ghost from_gives = { λ _ e. e ≡ Memory };
+
+    fn from(_: AllocFailed<T>) -> Self {
+        RunFault::Memory
+    }
+}
+
+impl RunFault {
+    /// The fault's number, as 301.
+    pub fn code(self) -> u16
+        ensures { result ≡ code_of self }
+    {
+        match self {
+            RunFault::NotUtf8(_) => 100,
+            RunFault::TooLong => 105,
+            RunFault::Sql(fault) => fault.code(),
+            RunFault::Form(fault) => fault.code(),
+            RunFault::ReadFault => 601,
+            RunFault::WriteFault => 602,
+            RunFault::Memory => 900,
+        }
+    }
+
+    /// Where it stands in the input, if it stands anywhere.
+    pub fn place(self) -> Option<usize>
+        ensures { result ≡ place_of self }
+    {
+        match self {
+            RunFault::NotUtf8(place) => Some(place),
+            RunFault::Sql(fault) => Some(fault.place()),
+            RunFault::Form(fault) => Some(fault.place()),
+            RunFault::TooLong | RunFault::ReadFault | RunFault::WriteFault | RunFault::Memory => {
+                None
+            }
+        }
+    }
+}
+
+/// The program's exit status after a fault: 1 where the input is refused, 3 where memory ran out, 4 where the
+/// reader or the writer failed.
+pub fn status_of(fault: &RunFault) -> u8
+    ensures { result ≡ status fault.now }
+{
+    match fault {
+        RunFault::NotUtf8(_) | RunFault::TooLong | RunFault::Sql(_) | RunFault::Form(_) => 1,
+        RunFault::Memory => 3,
+        RunFault::ReadFault | RunFault::WriteFault => 4,
+    }
+}
