@@ -2,3 +2,8 @@ pub mod Runs
 pub mod Pieces
 pub mod Fusion
 pub mod Meanings
+pub mod Same
+pub mod Serial
+pub mod Loading
+pub mod Booking
+pub mod Written

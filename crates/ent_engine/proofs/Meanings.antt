@@ -50,7 +50,7 @@ named_is_there f (x ∷ xs) zero lt = omega arith
 named_is_there f (x ∷ xs) (suc table) lt = let h = named_is_there f xs table (omega arith) in omega arith
 
 pub fits_old : {A : Type 0} (f : A → Relation) (xs : List A) (table : ℕ) (x : A) (old : Relation) (kinds : List Kind) → table < length xs → x ≡ get_or xs table x → old ≡ f x
-  → kinds ≡ slice_index_or (kinds_in (map f xs)) table [] → kinds ≡ old.kinds
+    → kinds ≡ slice_index_or (kinds_in (map f xs)) table [] → kinds ≡ old.kinds
 fits_old f xs table x old kinds lt is so fits =
     fits ∙ map_at (λ (t : Relation). t.kinds) (map f xs) table old [] (length_map_lt f xs table lt) (table_at f xs table x old lt is so)
 
@@ -66,18 +66,18 @@ with_change tables table (Ok change) = Ok (record { tables = slice_set (rows_in 
 with_change tables table (Err failure) = Err failure
 
 on_limit : (tables : List Relation) (table : ℕ) (rows after : RowSet) (count : ℕ) (b : Bool)
-  → cond b (Ok (record { tables = slice_set (rows_in tables) table after; answer = answers.Count count })) (Err TableFull) ≡ with_change tables table (or_full (cond b (Some (count, after)) None))
+    → cond b (Ok (record { tables = slice_set (rows_in tables) table after; answer = answers.Count count })) (Err TableFull) ≡ with_change tables table (or_full (cond b (Some (count, after)) None))
 on_limit tables table rows after count true = refl
 on_limit tables table rows after count false = refl
 
 pub insert_meaning : (tables : List Relation) (table : ℕ) (row : List Value) (old : Relation) → table < length tables → old ≡ get_or tables table old
-  → plain_meaning (rows_in tables) (resolved.Insert table row) ≡ with_change tables table (insertion_of old.rows row)
+    → plain_meaning (rows_in tables) (resolved.Insert table row) ≡ with_change tables table (insertion_of old.rows row)
 insert_meaning tables table row old lt is =
     let here : table_rows (rows_in tables) table ≡ old.rows = map_at (λ (t : Relation). t.rows) tables table old finite.empty lt is in
     rw here (on_limit tables table old.rows (finite.insert old.rows row) (cond (finite.contains old.rows row) 0 1) (nat_le (finite.len (finite.insert old.rows row)) 65536))
 
 pub insert_done : (tables : List Relation) (table count : ℕ) (row : List Value) (old new : Relation) → table < length tables → old ≡ get_or tables table old
-  → insertion_of old.rows row ≡ Ok (count, new.rows) → plain_meaning (rows_in tables) (resolved.Insert table row) ≡ Ok (effect (slice_set tables table new) (answers.Count count))
+    → insertion_of old.rows row ≡ Ok (count, new.rows) → plain_meaning (rows_in tables) (resolved.Insert table row) ≡ Ok (effect (slice_set tables table new) (answers.Count count))
 insert_done tables table count row old new lt is so =
     insert_meaning tables table row old lt is ∙ ap (with_change tables table) so
     ∙ ap (λ (rows : List RowSet). let r : Result PlainEffect Failure = Ok (record { tables = rows; answer = answers.Count count }) in r) (sym (map-set (λ (t : Relation). t.rows) tables table new))
@@ -87,7 +87,7 @@ refused_on tables table refusals.Memory change h = tt
 refused_on tables table (refusals.Fault failure) change h = ap (with_change tables table) h
 
 pub insert_refused : (tables : List Relation) (table : ℕ) (row : List Value) (old : Relation) (refusal : Refusal Failure) → table < length tables → old ≡ get_or tables table old
-  → Refuses refusal (insertion_of old.rows row) → Refuses refusal (plain_meaning (rows_in tables) (resolved.Insert table row))
+    → Refuses refusal (insertion_of old.rows row) → Refuses refusal (plain_meaning (rows_in tables) (resolved.Insert table row))
 insert_refused tables table row old refusal lt is h = rw (insert_meaning tables table row old lt is) (refused_on tables table refusal (insertion_of old.rows row) h)
 
 pub insert_keeps_kinds : (tables : List Relation) (table : ℕ) (old new : Relation) → table < length tables → old ≡ get_or tables table old → new.kinds ≡ old.kinds → kinds_in (slice_set tables table new) ≡ kinds_in tables
@@ -95,7 +95,7 @@ insert_keeps_kinds tables table old new lt is same =
     map-set (λ (t : Relation). t.kinds) tables table new ∙ set_same (kinds_in tables) table new.kinds (map_at (λ (t : Relation). t.kinds) tables table old new.kinds lt is ∙ sym same)
 
 pub select_done : (tables : List Relation) (table : ℕ) (items : List PlainOperand) (tests : List PlainTest) (rows : List (List Value)) (old : Relation) → table < length tables → old ≡ get_or tables table old
-  → rows ≡ finite.ascending (plain_selection items tests old.rows) → plain_meaning (rows_in tables) (resolved.Select table items tests) ≡ Ok (effect tables (answers.Rows rows))
+    → rows ≡ finite.ascending (plain_selection items tests old.rows) → plain_meaning (rows_in tables) (resolved.Select table items tests) ≡ Ok (effect tables (answers.Rows rows))
 select_done tables table items tests rows old lt is so =
     let here : table_rows (rows_in tables) table ≡ old.rows = map_at (λ (t : Relation). t.rows) tables table old finite.empty lt is in
     rw (so, here) refl

@@ -18,7 +18,7 @@ at_end : (xs bytes rest : List ℕ) → xs ≡ bytes ++ rest → rest ≡ [] →
 at_end xs bytes rest h is = sym (append-nil bytes) ∙ ap (λ (y : List ℕ). bytes ++ y) (sym is) ∙ sym h
 
 pub read_to_end : (old mid new : Option (List ℕ)) (bytes buffer : List ℕ) (n : ℕ) → n ≡ 0 → 0 < length buffer → Consumes old mid bytes
-  → Consumes mid new (take n buffer) × (n ≡ 0 → 0 < length buffer → IsAtEnd new) → IfSome old (λ all. bytes ≡ all)
+    → Consumes mid new (take n buffer) × (n ≡ 0 → 0 < length buffer → IsAtEnd new) → IfSome old (λ all. bytes ≡ all)
 read_to_end None mid new bytes buffer n zero some h k = tt
 read_to_end (Some xs) None new bytes buffer n zero some h k = absurd h
 read_to_end (Some xs) (Some ys) None bytes buffer n zero some h k = absurd k.0
@@ -27,7 +27,7 @@ read_to_end (Some xs) (Some ys) (Some zs) bytes buffer n zero some h k =
     at_end xs bytes ys h rest
 
 pub read_too_much : (old mid new : Option (List ℕ)) (bytes buffer : List ℕ) (n most : ℕ) → n ≤ length buffer → most - length bytes < n → Consumes old mid bytes
-  → Consumes mid new (take n buffer) → IfSome old (λ all. most < length all)
+    → Consumes mid new (take n buffer) → IfSome old (λ all. most < length all)
 read_too_much None mid new bytes buffer n most le more h k = tt
 read_too_much (Some xs) None new bytes buffer n most le more h k = absurd h
 read_too_much (Some xs) (Some ys) None bytes buffer n most le more h k = absurd k

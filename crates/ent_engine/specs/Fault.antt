@@ -1,5 +1,6 @@
 -- The number, the place and the exit status of a fault.
-use Rattle.std.specs.Prelude.{ℕ, Option, Some, None}
+use Rattle.std.specs.Prelude.{ℕ, List, [], ◌++◌, codes, Option, Some, None}
+use Rattle.std.specs.Fmt.{decimal}
 use Rattle.ent_sql.specs.Fault.{code_of as sql_code_of, place_of as sql_place_of}
 use Rattle.ent_form.specs.Fault.{code_of as form_code_of, place_of as form_place_of}
 use Rattle.ent_engine.specs.declared.fault.RunFault.{RunFault}
@@ -32,3 +33,11 @@ status (Form fault) = 1
 status ReadFault = 4
 status WriteFault = 4
 status Memory = 3
+
+abbrev pub place_text : Option ℕ → List ℕ
+place_text None = []
+place_text (Some place) = codes " at " ++ decimal place
+
+-- the line that names a fault, without its end
+abbrev pub line_text : RunFault → List ℕ
+line_text fault = codes "E" ++ (decimal (code_of fault) ++ place_text (place_of fault))

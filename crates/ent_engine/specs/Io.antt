@@ -3,7 +3,9 @@ use Rattle.std.specs.Prelude.{◌≡◌, ℕ, Bool, true, ◌<◌, ◌++◌, ◌
 use Rattle.std.specs.Io.KnownBytes.{Appends, Keeps}
 use Rattle.ent_engine.specs.declared.fault.RunFault.{RunFault}
 use Rattle.ent_engine.specs.declared.fault.RunFault.TheVariants.{NotUtf8, TooLong, Sql, Form, ReadFault, WriteFault, Memory}
-use Rattle.ent_engine.specs.Reading.{most_bytes}
+use Rattle.ent_sql.specs.declared.tree.Input.{Input}
+use Rattle.ent_engine.specs.Outcome.{report_of}
+use Rattle.ent_engine.specs.Reading.{IsInput, most_bytes}
 
 -- Reading to the end fails for want of memory, where there is too much, or where the reader failed.
 abbrev pub ReadingFails : Option (List ℕ) → Bool → RunFault → Type 0
@@ -34,3 +36,14 @@ IsSilent old new TooLong = Keeps old new
 IsSilent old new (Sql fault) = Keeps old new
 IsSilent old new (Form fault) = Keeps old new
 IsSilent old new Memory = Keeps old new
+
+-- where the writer failed, what it took is a beginning of the report of the input
+abbrev pub WritesBeginning : List ℕ → Option (List ℕ) → Option (List ℕ) → RunFault → Type 0
+WritesBeginning bytes old new WriteFault =
+    (input : Input) × IsInput bytes input × ((front rest : List ℕ) × (report_of input ≡ front ++ rest) × Appends old new front)
+WritesBeginning bytes old new ReadFault = Unit {0}
+WritesBeginning bytes old new (NotUtf8 place) = Unit {0}
+WritesBeginning bytes old new TooLong = Unit {0}
+WritesBeginning bytes old new (Sql fault) = Unit {0}
+WritesBeginning bytes old new (Form fault) = Unit {0}
+WritesBeginning bytes old new Memory = Unit {0}

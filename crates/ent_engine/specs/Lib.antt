@@ -4,3 +4,4 @@ pub mod Io
 pub mod Fault
 pub mod Tables
 pub mod Insertion
+pub mod Parse

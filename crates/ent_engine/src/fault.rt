@@ -1,11 +1,12 @@
 //! Why a run of the program gives no report.
-ghost use Rattle.std.specs.Prelude.{◌≡◌};
-ghost use Rattle.ent_engine.specs.Fault.{code_of, place_of, status};
+ghost use Rattle.std.specs.Prelude.{◌≡◌, Some};
+ghost use Rattle.ent_engine.specs.Fault.{code_of, place_of, status, line_text};
 ghost use Rattle.ent_engine.specs.declared.fault.RunFault.TheVariants.{Memory};
 
 use ent_form::FormFault;
 use ent_sql::SqlFault;
 use std::alloc::{AllocError, AllocFailed};
+use std::fmt;
 use thiserror::Error;
 
 /// Why there is no report. Each place is a byte offset from the input's start.
@@ -89,5 +90,21 @@ pub fn status_of(fault: &RunFault) -> u8
         RunFault::NotUtf8(_) | RunFault::TooLong | RunFault::Sql(_) | RunFault::Form(_) => 1,
         RunFault::Memory => 3,
         RunFault::ReadFault | RunFault::WriteFault => 4,
+    }
+}
+
+/// The line that names a fault, without its end: `E305 at 26`, or `E900` where the fault has no place.
+#[derive(Clone, Copy, Debug)]
+pub struct FaultLine(pub RunFault);
+
+impl fmt::Display for FaultLine {
+    ghost output = { λ line. Some (line_text line.0) };
+
+    fn fmt<W: fmt::Write>(&self, f: &mut fmt::Formatter<W>) -> fmt::Result {
+        let code = self.0.code();
+        match self.0.place() {
+            Some(place) => write!(f, "E{code} at {place}"),
+            None => write!(f, "E{code}"),
+        }
     }
 }

@@ -54,7 +54,8 @@ pub(crate) fn run_scripts(
     scripts: &[Plain],
 ) -> Result<(Tables, Sequence<Fate>), AllocError>
     requires { All (AllFit (kinds_in tables)) scripts.now }
-    ensures { IfOk result (λ r. outcome_of_tables r.0 r.1 ≡ plain_outcomes scripts.now 1 (rows_in tables)) }
+    ensures outcome { IfOk result (λ r. outcome_of_tables r.0 r.1 ≡ plain_outcomes scripts.now 1 (rows_in tables)) }
+    ensures kinds { IfOk result (λ r. kinds_in r.0 ≡ kinds_in tables) }
 {
     let mut fates = Sequence::new(alloc);
     let mut number = 1;

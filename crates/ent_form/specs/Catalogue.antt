@@ -1,5 +1,5 @@
 -- The tables that an input declares, without places.
-use Rattle.std.specs.Prelude.{ℕ, zero, suc, Bool, true, false, ◌||◌, List, [], ◌∷◌, map, Option, Some, None, if◌then◌else◌}
+use Rattle.std.specs.Prelude.{ℕ, suc, Bool, List, [], ◌∷◌, map, Option, Some, None, if◌then◌else◌}
 use Rattle.std.specs.List.{list_any}
 use Rattle.ent_value.specs.declared.value.Kind.{Kind}
 use Rattle.ent_sql.specs.declared.tree.Column.{Column}

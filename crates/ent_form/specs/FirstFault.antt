@@ -1,7 +1,6 @@
 -- The faults of an input's form, and which comes first.
 use Rattle.std.specs.Prelude.{ℕ, Bool, true, false, List, [], ◌∷◌, ◌++◌, map, length, Option, Some, None, Result, Ok, Err, if◌then◌else◌, ◌==◌}
 use Rattle.ent_value.specs.Value.{kind_of}
-use Rattle.ent_value.specs.declared.value.Value.{Value}
 use Rattle.ent_value.specs.declared.value.Kind.{Kind}
 use Rattle.ent_value.specs.declared.value.Kind.TheVariants as kinds
 use Rattle.ent_sql.specs.declared.tree.Create.{Create}
@@ -46,7 +45,7 @@ first_of check (x ∷ xs) = check x before first_of check xs
 -- the first name that stands among those before it
 abbrev pub repeated : List Name → List Identifier → Check
 repeated earlier [] = None
-repeated earlier (identifier ∷ more) = refused_where (is_among earlier identifier.name) (Repeated identifier.place) before repeated (identifier.name ∷ earlier) more
+repeated earlier (identifier ∷ more) = refused_where (is_among earlier identifier.name) (Repeated identifier.place) before repeated (earlier ++ identifier.name ∷ []) more
 
 -- declarations in order: the name of a table, then those of its columns
 abbrev pub declarations_fault : List Name → List Create → Check
@@ -54,7 +53,7 @@ declarations_fault earlier [] = None
 declarations_fault earlier (create ∷ more) =
     refused_where (is_among earlier create.name.name) (Repeated create.name.place)
     before repeated [] (map (λ column. column.name) create.columns)
-    before declarations_fault (create.name.name ∷ earlier) more
+    before declarations_fault (earlier ++ create.name.name ∷ []) more
 
 abbrev pub same_kind : Kind → Kind → Bool
 same_kind kinds.Int kinds.Int = true
@@ -73,12 +72,16 @@ values_fault (column ∷ columns) [] = None
 values_fault (column ∷ columns) (literal ∷ literals) =
     (if same_kind column.kind (kind_of literal.value) then None else Some (WrongKind literal.place)) before values_fault columns literals
 
--- the table, then the number of values, then their kinds
+-- the number of values, then their kinds
+abbrev pub row_fault : TableSchema → Insert → Check
+row_fault table insert =
+    (if length insert.values == length table.columns then None else Some (Arity insert.place))
+    before values_fault table.columns insert.values
+
+-- the table, then the row
 abbrev pub insert_fault : List TableSchema → Insert → Check
 insert_fault tables insert =
-    where_there (table_named tables insert.table.name) (NoTable insert.table.place) (λ table.
-    (if length insert.values == length table.columns then None else Some (Arity insert.place))
-    before values_fault table.columns insert.values)
+    where_there (table_named tables insert.table.name) (NoTable insert.table.place) (λ table. row_fault table insert)
 
 abbrev pub operand_kind : List ColumnSchema → Operand → Option Kind
 operand_kind columns (operands.Constant literal) = Some (kind_of literal.value)

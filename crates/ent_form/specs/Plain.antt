@@ -1,15 +1,18 @@
 -- Statements resolved: each name gives way to the number of its table or column.
 use Rattle.std.specs.Prelude.{ℕ, suc, List, [], ◌∷◌, map}
+use Rattle.std.specs.List.{filter}
 use Rattle.std.specs.Option.{option_map_or}
+use Rattle.ent_value.specs.declared.value.Value.{Value}
 use Rattle.ent_sql.specs.declared.tree.Items.{Items}
 use Rattle.ent_sql.specs.declared.tree.Items.TheVariants as items
+use Rattle.ent_sql.specs.declared.tree.Opening.{Opening}
 use Rattle.ent_sql.specs.declared.tree.Operand.{Operand}
 use Rattle.ent_sql.specs.declared.tree.Operand.TheVariants as operands
 use Rattle.ent_sql.specs.declared.tree.Script.{Script}
 use Rattle.ent_sql.specs.declared.tree.Statement.{Statement}
 use Rattle.ent_sql.specs.declared.tree.Statement.TheVariants as statements
 use Rattle.ent_sql.specs.declared.tree.Test.{Test}
-use Rattle.ent_semantics.specs.Database.{Name, row_of}
+use Rattle.ent_semantics.specs.Database.{Name, same_name, row_of}
 use Rattle.ent_form.specs.declared.catalogue.TableSchema.{TableSchema}
 use Rattle.ent_form.specs.declared.plain.Plain.{Plain}
 use Rattle.ent_form.specs.declared.plain.PlainOperand.{PlainOperand}
@@ -47,3 +50,7 @@ plain_statement tables (statements.Select select) =
 
 abbrev pub plain_script : List TableSchema → Script → Plain
 plain_script tables script = record { statements = map (plain_statement tables) script.statements }
+
+-- the opening rows that name a table, in their order
+abbrev pub rows_named : Opening → Name → List (List Value)
+rows_named opening name = map row_of (filter (λ insert. same_name insert.table.name name) opening.rows)

@@ -6,6 +6,7 @@ use Rattle.ent_value.specs.Value.{value_cmp, kinds_of}
 use Rattle.ent_value.specs.declared.value.Kind.{Kind}
 use Rattle.ent_value.specs.declared.value.Value.{Value}
 use Rattle.ent_value.specs.declared.value.Value.TheVariants.{Int}
+use Rattle.ent_sql.specs.declared.tree.Opening.{Opening}
 use Rattle.ent_semantics.specs.declared.answer.Answer.{Answer}
 use Rattle.ent_semantics.specs.declared.answer.Answer.TheVariants as answers
 use Rattle.ent_semantics.specs.declared.answer.Failure.{Failure}
@@ -19,6 +20,8 @@ use Rattle.ent_form.specs.declared.plain.PlainOperand.TheVariants as plain
 use Rattle.ent_form.specs.declared.plain.PlainStatement.{PlainStatement}
 use Rattle.ent_form.specs.declared.plain.PlainStatement.TheVariants as resolved
 use Rattle.ent_form.specs.declared.plain.PlainTest.{PlainTest}
+use Rattle.ent_form.specs.Catalogue.{schemas_of, names_of}
+use Rattle.ent_form.specs.Plain.{rows_named}
 
 abbrev pub plain_value : List Value → PlainOperand → Value
 plain_value row (plain.Constant value) = value
@@ -60,6 +63,10 @@ abbrev pub database_of : List Name → List Rows → Database
 database_of [] tables name = set.empty
 database_of (first ∷ names) [] name = set.empty
 database_of (first ∷ names) (rows ∷ tables) name = if same_name first name then rows else database_of names tables name
+
+-- the opening rows of the tables, in the order of their declaration
+abbrev pub opening_tables : Opening → List Rows
+opening_tables opening = map (λ name. set.from_list (rows_named opening name)) (names_of (schemas_of opening.tables))
 
 -- the effect of a resolved statement, seen by names
 abbrev pub effect_of : List Name → Environment → Result PlainEffect Failure → Result Effect Failure

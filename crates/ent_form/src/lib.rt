@@ -2,11 +2,16 @@
 #![tactic(auto)]
 
 pub mod catalogue;
+pub mod declaration;
 pub mod fault;
+pub mod law;
+pub mod operand;
 pub mod plain;
-pub mod resolve;
+pub mod row;
+pub mod statement;
 
 pub use catalogue::{Catalogue, ColumnSchema, TableSchema};
 pub use fault::FormFault;
 pub use plain::{Plain, PlainOperand, PlainStatement, PlainTest};
-
+pub use row::opening_rows;
+pub use statement::resolve;

@@ -1,10 +1,9 @@
 -- Rows put in ascending order.
-use Rattle.std.proofs.Common.{◌≡◌, ℕ, ◌+◌, ◌≤◌, ◌<◌, Bool, true, false, cond, List, [], ◌∷◌, length, map, refl, sym, ap, subst, ◌∙◌, arith, Some, None, get_or}
-use Rattle.std.specs.Prelude.{All, Option}
+use Rattle.std.proofs.Common.{◌≡◌, ◌+◌, ◌≤◌, ◌<◌, cond, List, [], ◌∷◌, length, map, refl, sym, ap, subst, ◌∙◌, arith, Some, None, get_or}
+use Rattle.std.specs.Prelude.{All}
 use Rattle.std.specs.List.{IsDistinct, dedup, dedup_from}
 use Rattle.std.specs.List.Sorted.{IsSorted, IsPermutation}
 use Rattle.std.specs.Ordering.{eq_by_cmp, is_lt}
-use Rattle.std.proofs.lemmas.Cmp.{eq_by_cmp_equiv}
 use Rattle.std.proofs.lemmas.List.{length-map, get_or-map}
 use Rattle.std.proofs.lemmas.List.Filters.{All-dedup}
 use Rattle.std.proofs.lemmas.List.Kept.{IsStrictlySortedBy-dedup}
@@ -17,7 +16,7 @@ use Rattle.ent_value.specs.declared.value.Value.{Value}
 use Rattle.ent_value.specs.declared.value.Kind.{Kind}
 use Rattle.ent_value.specs.Value.{row_cmp, kinds_of}
 use Rattle.ent_value.specs.Order.{rows_total, exact_rows, rows_equal}
-use Rattle.ent_rel.specs.Relation.{RowSet, Relation, bounded}
+use Rattle.ent_rel.specs.Relation.{Relation, bounded}
 use Rattle.ent_rel.specs.Kept.{IsKept}
 use Rattle.ent_rel.proofs.Meanings.{bounded_within, bounded_beyond}
 

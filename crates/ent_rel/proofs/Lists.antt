@@ -5,7 +5,7 @@ use Rattle.std.specs.List.{filter, list_any, list_all, filter_map, cons_option, 
 use Rattle.std.specs.Ordering.{eq_by_cmp}
 use Rattle.std.specs.Cmp.{Equal-is}
 use Rattle.std.proofs.lemmas.List.{take_more}
-use Rattle.std.proofs.lemmas.List.Elements.{filter_more, filter_map-append, All-contains, Contains-get_or}
+use Rattle.std.proofs.lemmas.List.Elements.{filter_more, filter_map-append, All-contains}
 use Rattle.std.proofs.lemmas.Map.Views.{Contains-from_any, list_any-from_Contains}
 use denote.Param.Members.{Shared}
 use denote.Ref.{Bor}

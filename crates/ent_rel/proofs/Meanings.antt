@@ -1,6 +1,6 @@
 -- What the calls on a table mean, case by case.
 use Rattle.std.proofs.Common.{◌≡◌, ℕ, ◌+◌, ◌≤◌, ◌<◌, Bool, true, false, cond, not, List, [], ◌∷◌, length, refl, sym, ap, ◌∙◌, arith, Some, None, get_or, drop, ◌++◌}
-use Rattle.std.specs.Prelude.{Result, Err, is_some, Option, nat_le, ◌||◌, All, IsSome}
+use Rattle.std.specs.Prelude.{Err, is_some, Option, nat_le, ◌||◌, All, IsSome}
 use Rattle.std.specs.List.{filter, IsDistinct, list_any, list_all, filter_map}
 use Rattle.std.specs.Ordering.{eq_by_cmp}
 use Rattle.std.proofs.lemmas.Bool.{le-leb, lt-leb}

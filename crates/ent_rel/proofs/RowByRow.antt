@@ -1,6 +1,6 @@
 -- Which rows stand after a change, row by row.
-use Rattle.std.proofs.Common.{◌≡◌, ℕ, ◌<◌, Bool, true, false, cond, not, List, [], ◌∷◌, length, refl, sym, ap, ◌∙◌, arith, Some, None, inl, inr, get_or}
-use Rattle.std.specs.Prelude.{Option, is_some, nat_le, IsTrue, IsFalse, Contains, ◌||◌, ◌&&◌, ◌⊎◌}
+use Rattle.std.proofs.Common.{◌≡◌, Bool, true, false, cond, not, List, [], ◌∷◌, refl, sym, ap, ◌∙◌, Some, None, inl, inr}
+use Rattle.std.specs.Prelude.{Option, is_some, nat_le, Contains, ◌||◌, ◌&&◌}
 use Rattle.std.specs.List.{filter_map, list_any, list_all}
 use Rattle.std.specs.Ordering.{eq_by_cmp}
 use Rattle.std.proofs.lemmas.Bool.{or_cases}
@@ -11,7 +11,6 @@ use Rattle.ent_value.specs.declared.value.Value.{Value}
 use Rattle.ent_value.specs.Value.{row_cmp}
 use Rattle.ent_value.specs.Order.{rows_total, exact_rows, rows_equal}
 use Rattle.ent_rel.specs.Relation.{RowSet, bounded}
-use Rattle.ent_rel.specs.Change.{changed_rows, insertion, deletion, replacement}
 use Rattle.ent_rel.specs.ByRow.{InsertsOne, DeletesMatches, ReplacesMatches, ChangesRows, IsImage}
 use Rattle.ent_rel.proofs.Lists.{same_rows, any_filter_map, some_passes}
 

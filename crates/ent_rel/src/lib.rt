@@ -12,4 +12,4 @@ pub use change::Delta;
 pub use fault::{ReplaceFault, TableFault};
 pub use laws::changes_by_row;
 pub use rows::Rows;
-pub use table::Table;
+pub use table::{ROW_LIMIT, Table};

@@ -19,6 +19,9 @@ use ent_value::{Kind, Row, Sequence};
 use std::alloc::{AllocError, Global};
 use std::marker::Model;
 
+/// The most rows that a table holds.
+pub const ROW_LIMIT: usize = 65_536;
+
 /// A finite set of at most 65,536 rows, each of the table's kinds. Contracts see the kinds and the set.
 #[derive(Drop)]
 pub struct Table {
@@ -59,7 +62,7 @@ impl Table {
         let mut rows = rows;
         rows.sort_unstable();
         rows.dedup();
-        if rows.len() > 65_536 {
+        if rows.len() > ROW_LIMIT {
             return Err(TableFault::TableFull);
         }
         Ok(Table { kinds, rows })
@@ -133,7 +136,7 @@ impl Table {
                 },
             ));
         }
-        if len >= 65_536 {
+        if len >= ROW_LIMIT {
             return Err(TableFault::TableFull);
         }
         added.push(row.copy(alloc)?)?;
@@ -209,7 +212,7 @@ impl Table {
         let mut rows = copies_where(alloc, self.rows.as_slice(), |row| !removed.contains(row))?;
         for row in delta.added.as_slice() {
             if !rows.contains(row) {
-                if rows.len() >= 65_536 {
+                if rows.len() >= ROW_LIMIT {
                     return Err(TableFault::TableFull);
                 }
                 rows.push(row.copy(alloc)?)?;

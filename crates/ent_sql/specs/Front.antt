@@ -1,12 +1,13 @@
 -- The token at the front of tokens, and the fault where it can't stand there.
-use Rattle.std.specs.Prelude.{◌≡◌, ℕ, Bool, true, false, not, List, [], ◌∷◌, drop, Result, Ok, Err, ◌==◌, if◌then◌else◌}
+use Rattle.std.specs.Prelude.{ℕ, Bool, true, false, not, List, [], ◌∷◌, drop, Result, Ok, Err, if◌then◌else◌}
+use denote.Enum.Bare.{sameb}
+use Rattle.ent_text.specs.contracts.keyword.Keyword.{the_type as keyword_type}
+use Rattle.ent_text.specs.contracts.symbol.Symbol.{the_type as symbol_type}
 use Rattle.ent_text.specs.declared.token.Token.{Token}
 use Rattle.ent_text.specs.declared.token.TokenKind.{TokenKind}
 use Rattle.ent_text.specs.declared.token.TokenKind.TheVariants as kinds
 use Rattle.ent_text.specs.declared.keyword.Keyword.{Keyword}
-use Rattle.ent_text.specs.declared.keyword.Keyword.TheVariants as words
 use Rattle.ent_text.specs.declared.symbol.Symbol.{Symbol}
-use Rattle.ent_text.specs.declared.symbol.Symbol.TheVariants as signs
 use Rattle.ent_sql.specs.declared.fault.SqlFault.{SqlFault}
 use Rattle.ent_sql.specs.declared.fault.SqlFault.TheVariants.{Unexpected}
 use Rattle.ent_sql.specs.declared.tree.Identifier.{Identifier}
@@ -23,54 +24,20 @@ abbrev pub place_of : ℕ → List Token → ℕ
 place_of end [] = end
 place_of end (t ∷ ts) = t.start
 
-abbrev pub word_code : Keyword → ℕ
-word_code words.And = 0
-word_code words.Answer = 1
-word_code words.As = 2
-word_code words.Begin = 3
-word_code words.Choose = 4
-word_code words.Commit = 5
-word_code words.Create = 6
-word_code words.Delete = 7
-word_code words.From = 8
-word_code words.In = 9
-word_code words.Insert = 10
-word_code words.Int = 11
-word_code words.Into = 12
-word_code words.Rollback = 13
-word_code words.Runs = 14
-word_code words.Select = 15
-word_code words.Set = 16
-word_code words.Table = 17
-word_code words.Text = 18
-word_code words.Transaction = 19
-word_code words.Update = 20
-word_code words.Values = 21
-word_code words.Where = 22
-word_code words.Within = 23
+-- these are the same reserved word
+abbrev pub same_word : Keyword → Keyword → Bool
+same_word found word = sameb keyword_type found word
 
-abbrev pub sign_code : Symbol → ℕ
-sign_code signs.Open = 0
-sign_code signs.Close = 1
-sign_code signs.Comma = 2
-sign_code signs.Semicolon = 3
-sign_code signs.Dot = 4
-sign_code signs.Star = 5
-sign_code signs.Plus = 6
-sign_code signs.Minus = 7
-sign_code signs.Equal = 8
-sign_code signs.NotEqual = 9
-sign_code signs.Less = 10
-sign_code signs.LessOrEqual = 11
-sign_code signs.Greater = 12
-sign_code signs.GreaterOrEqual = 13
+-- these are the same symbol
+abbrev pub same_sign : Symbol → Symbol → Bool
+same_sign found sign = sameb symbol_type found sign
 
 abbrev pub is_word : Keyword → TokenKind → Bool
-is_word word (kinds.Word found) = word_code found == word_code word
+is_word word (kinds.Word found) = same_word found word
 is_word word _ = false
 
 abbrev pub is_sign : Symbol → TokenKind → Bool
-is_sign sign (kinds.Sign found) = sign_code found == sign_code sign
+is_sign sign (kinds.Sign found) = same_sign found sign
 is_sign sign _ = false
 
 abbrev pub is_name : TokenKind → Bool

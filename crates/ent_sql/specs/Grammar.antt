@@ -1,5 +1,5 @@
 -- Scripts from tokens, from left to right, and the first fault.
-use Rattle.std.specs.Prelude.{ℕ, Bool, true, false, ◌||◌, List, [], ◌∷◌, length, drop, Option, Some, None, Result, Ok, Err, if◌then◌else◌, ◌==◌, ℤ, pos}
+use Rattle.std.specs.Prelude.{ℕ, Bool, true, false, ◌||◌, List, [], ◌∷◌, length, drop, Option, Some, None, Result, Ok, Err, if◌then◌else◌, ◌==◌, pos}
 use Rattle.std.specs.Option.{option_map_or}
 use Rattle.ent_text.specs.declared.token.Token.{Token}
 use Rattle.ent_text.specs.declared.token.TokenKind.{TokenKind}
@@ -28,7 +28,6 @@ use Rattle.ent_sql.specs.declared.tree.Statement.{Statement}
 use Rattle.ent_sql.specs.declared.tree.Statement.TheVariants as statements
 use Rattle.ent_sql.specs.declared.tree.Script.{Script}
 use Rattle.ent_sql.specs.declared.tree.Input.{Input}
-use Rattle.ent_sql.specs.declared.tree.Opening.{Opening}
 use Rattle.ent_value.specs.Refusal.{◌>>=◌}
 use Rattle.ent_text.specs.Numeral.{negative_of}
 use Rattle.ent_text.specs.Lexing.{tokens_of}

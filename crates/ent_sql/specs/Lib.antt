@@ -1,3 +1,6 @@
+pub mod Spelling
+pub mod Limits
+pub mod Says
 pub mod Fault
 pub mod Front
 pub mod List

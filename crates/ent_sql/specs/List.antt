@@ -1,8 +1,7 @@
 -- Lists of things, up to a limit.
-use Rattle.std.specs.Prelude.{ℕ, zero, suc, ◌-◌, Bool, List, [], ◌∷◌, ◌++◌, drop, Result, Ok, Err, if◌then◌else◌}
+use Rattle.std.specs.Prelude.{ℕ, zero, suc, ◌-◌, Bool, List, [], ◌∷◌, drop, Ok, Err, if◌then◌else◌}
 use Rattle.ent_text.specs.declared.token.Token.{Token}
 use Rattle.ent_text.specs.declared.token.TokenKind.{TokenKind}
-use Rattle.ent_sql.specs.declared.fault.SqlFault.{SqlFault}
 use Rattle.ent_sql.specs.declared.fault.SqlFault.TheVariants.{Unexpected, TooMany}
 use Rattle.ent_value.specs.Refusal.{◌>>=◌}
 use Rattle.ent_sql.specs.Front.{Read, place_of, begins}

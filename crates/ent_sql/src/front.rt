@@ -2,7 +2,7 @@
 ghost use Rattle.std.specs.Prelude.{◌≡◌, drop, ◌<◌, length};
 ghost use Rattle.ent_value.specs.declared.refusal.Refusal.TheVariants.{Fault};
 ghost use Rattle.ent_value.specs.Refusal.{Gives};
-ghost use Rattle.ent_sql.specs.Front.{place_of, begins_with_word, begins_with_sign, word_at, sign_at, name_at, word_code, sign_code};
+ghost use Rattle.ent_sql.specs.Front.{place_of, begins_with_word, begins_with_sign, word_at, sign_at, name_at};
 
 use crate::fault::SqlFault;
 use crate::tree::Identifier;
@@ -34,18 +34,6 @@ pub fn too_many(end: usize, tokens: &[Token]) -> Refusal<SqlFault>
     Refusal::Fault(SqlFault::TooMany(place_of(end, tokens)))
 }
 
-fn word_code(word: Keyword) -> u8
-    ensures { result ≡ word_code word }
-{
-    word as u8
-}
-
-fn sign_code(sign: Symbol) -> u8
-    ensures { result ≡ sign_code sign }
-{
-    sign as u8
-}
-
 /// Whether this reserved word stands at the front.
 pub fn begins_with_word(word: Keyword, tokens: &[Token]) -> bool
     ensures { result ≡ begins_with_word word tokens.now }
@@ -53,7 +41,7 @@ pub fn begins_with_word(word: Keyword, tokens: &[Token]) -> bool
     match tokens {
         [] => false,
         [token, ..] => match &token.kind {
-            TokenKind::Word(found) => word_code(*found) == word_code(word),
+            TokenKind::Word(found) => *found == word,
             _ => false,
         },
     }
@@ -66,7 +54,7 @@ pub fn begins_with_sign(sign: Symbol, tokens: &[Token]) -> bool
     match tokens {
         [] => false,
         [token, ..] => match &token.kind {
-            TokenKind::Sign(found) => sign_code(*found) == sign_code(sign),
+            TokenKind::Sign(found) => *found == sign,
             _ => false,
         },
     }

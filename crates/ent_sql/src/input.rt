@@ -1,6 +1,10 @@
 //! A whole input.
-ghost use Rattle.std.specs.Prelude.{◌≡◌};
+ghost use Rattle.std.specs.Prelude.{◌≡◌, ◌↔◌, ℕ, List, Ok, Err, IfOk};
+ghost use Rattle.ent_value.specs.declared.refusal.Refusal.TheVariants.{Fault};
 ghost use Rattle.ent_value.specs.Refusal.{Gives};
+ghost use Rattle.ent_sql.specs.declared.fault.SqlFault.{SqlFault};
+ghost use Rattle.ent_sql.specs.declared.tree.Input.{Input};
+ghost use Rattle.ent_sql.specs.Says.{Says, SaysNothing};
 ghost use Rattle.ent_sql.specs.Grammar.{input_of, reading};
 
 use crate::declaration::{create_at, insert_at};
@@ -13,9 +17,12 @@ use ent_text::{Keyword, Token, tokens};
 use ent_value::Refusal;
 use std::alloc::Global;
 
-/// What a text says, or its first fault: all faults of tokens come before those of the grammar.
+/// What a text says, or its first fault: all faults of tokens come before those of the grammar, and a fault comes
+/// only where the text says nothing.
 pub fn parse_input(alloc: Global, text: &str) -> Result<Input, Refusal<SqlFault>>
-    ensures { Gives (λ input. input) result (reading text.now) }
+    ensures meaning { Gives (λ input. input) result (reading text.now) }
+    ensures said { IfOk result (λ input. Says text.now input) }
+    ensures nothing_said { (fault : SqlFault) → result ≡ Err (Fault fault) → SaysNothing text.now }
 {
     match tokens(alloc, text) {
         Ok(found) => input_of(alloc, text.len(), found.as_slice()),
@@ -23,6 +30,12 @@ pub fn parse_input(alloc: Global, text: &str) -> Result<Input, Refusal<SqlFault>
         Err(Refusal::Fault(fault)) => Err(Refusal::Fault(SqlFault::Text(fault))),
     }
 }
+
+/// An input is read from a text exactly where the text says it, and a text says one input at most.
+pub fn reading_is_exact()
+    ensures exact { (text : List ℕ) (input : Input) → (reading text ≡ Ok input) ↔ Says text input }
+    ensures single { (text : List ℕ) (one other : Input) → Says text one → Says text other → one ≡ other }
+{}
 
 impl Item for Create {
     ghost use Rattle.ent_sql.specs.Grammar.{never, is_create, create_at};

@@ -12,8 +12,11 @@ pub mod select;
 pub mod tree;
 
 pub use fault::SqlFault;
-pub use input::parse_input;
+pub use input::{parse_input, reading_is_exact};
 pub use tree::{
     Column, Comparison, Create, Identifier, Input, Insert, Items, Literal, Opening, Operand,
     Script, Select, Statement, Test,
 };
+
+#[cfg(test)]
+mod tests;

@@ -1,5 +1,13 @@
 pub mod Reading
 pub mod Rest
 pub mod Shorter
-pub mod Spelling
+pub mod Fronts
+pub mod Digits
+pub mod Firsts
 pub mod Words
+pub mod Symbols
+pub mod Texts
+pub mod Runs
+pub mod Found
+pub mod Slices
+pub mod OneReading

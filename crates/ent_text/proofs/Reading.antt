@@ -1,10 +1,10 @@
 -- Reading on behind what was read.
-use Rattle.std.proofs.Common.{◌≡◌, ℕ, suc, ◌+◌, ◌-◌, ◌*◌, ◌<◌, ◌≤◌, Bool, true, false, List, [], ◌∷◌, ◌++◌, length, drop, get_or, Result, Ok, Err, refl, ap, append_assoc, sym, ◌∙◌, arith, eqb, drop-cons}
+use Rattle.std.proofs.Common.{◌≡◌, ℕ, suc, ◌+◌, ◌-◌, ◌*◌, ◌<◌, ◌≤◌, true, false, List, [], ◌∷◌, ◌++◌, length, drop, get_or, Result, Ok, Err, refl, ap, append_assoc, sym, ◌∙◌, arith, eqb, drop-cons}
 use Rattle.std.proofs.lemmas.Bool.{ne_eqb}
 use Rattle.std.proofs.lemmas.List.{length-drop}
 use Rattle.std.specs.Char.{is_ascii_control}
 use Rattle.ent_text.specs.declared.fault.TextFault.{TextFault}
-use Rattle.ent_text.specs.declared.fault.TextFault.TheVariants.{BadChar, OpenText}
+use Rattle.ent_text.specs.declared.fault.TextFault.TheVariants.{BadChar}
 use Rattle.ent_value.specs.Refusal.{◌>>=◌}
 use Rattle.ent_text.specs.Lexing.{with_byte, value_from, quoted_at}
 

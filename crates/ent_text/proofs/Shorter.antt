@@ -1,22 +1,19 @@
 -- A piece takes one byte at least.
-use Rattle.std.proofs.Common.{◌≡◌, ℕ, zero, suc, pos, ◌+◌, ◌-◌, ◌<◌, ◌≤◌, Bool, true, false, not, cond, ltb, eqb, List, [], ◌∷◌, length, get_or, drop, Result, Ok, Err, refl, ap, sym, ◌∙◌, subst, arith, Option, Some, None, ◌⊎◌, inl, inr}
+use Rattle.std.proofs.Common.{◌≡◌, ℕ, zero, suc, ◌+◌, ◌<◌, ◌≤◌, Bool, true, false, cond, ltb, eqb, List, [], ◌∷◌, length, drop, Result, Ok, Err, refl, ap, subst, arith, Option, Some, None, ◌⊎◌, inl, inr}
 use Rattle.std.proofs.lemmas.List.{length-drop}
-use Rattle.std.proofs.lemmas.Bool.{eqb-true}
-use Rattle.std.specs.Prelude.{IfOk}
-use Rattle.std.specs.Prelude.{◌&&◌, ◌||◌, slice_index}
+use Rattle.std.specs.Prelude.{◌||◌, slice_index}
 use Rattle.std.specs.List.{prefix_len, take_while}
 use Rattle.std.specs.Option.{option_map_or}
-use Rattle.std.specs.Char.{is_ascii_alphabetic, is_ascii_alphanumeric, is_ascii_digit, is_ascii_control}
+use Rattle.std.specs.Char.{is_ascii_alphabetic, is_ascii_digit, is_ascii_control}
 use Rattle.std.specs.Int.{is_in_range}
 use Rattle.ent_text.specs.declared.fault.TextFault.{TextFault}
-use Rattle.ent_text.specs.declared.fault.TextFault.TheVariants.{BadChar, OpenText, NumberTooLarge, TextTooLong}
-use Rattle.ent_text.specs.declared.token.TokenKind.{TokenKind}
-use Rattle.ent_text.specs.declared.token.TokenKind.TheVariants.{Number, Literal, Sign}
+use Rattle.ent_text.specs.declared.fault.TextFault.TheVariants.{BadChar, TextTooLong}
+use Rattle.ent_text.specs.declared.token.TokenKind.TheVariants.{Literal, Sign}
 use Rattle.ent_text.specs.declared.symbol.Symbol.{Symbol}
 use Rattle.ent_value.specs.Refusal.{◌>>=◌}
 use Rattle.ent_value.specs.Name.{is_word_byte}
-use Rattle.ent_text.specs.Symbol.{symbol_of}
-use Rattle.ent_text.specs.Lexing.{Piece, is_blank, after, word_kind, word_at, value_from, number_at, with_byte, quoted_at, text_at, symbol_at, piece_at}
+use Rattle.ent_text.specs.Spelling.{is_blank}
+use Rattle.ent_text.specs.Lexing.{Piece, symbol_of, after, word_at, value_from, number_at, with_byte, quoted_at, text_at, symbol_at, piece_at}
 
 pub chosen : {A : Type 0} (b : Bool) (x y z : A) → cond b x y ≡ z → ((b ≡ true) × (x ≡ z)) ⊎ ((b ≡ false) × (y ≡ z))
 chosen true x y z e = inl (refl, e)

@@ -1,7 +1,5 @@
 -- Reserved words.
-use Rattle.std.specs.Prelude.{ℕ, Bool, true, false, List, [], ◌∷◌, Option, codes, ◌==◌, ◌&&◌}
-use Rattle.std.specs.List.{find}
-use Rattle.std.specs.Char.{to_ascii_uppercase}
+use Rattle.std.specs.Prelude.{ℕ, List, codes}
 use Rattle.ent_text.specs.declared.keyword.Keyword.{Keyword}
 use Rattle.ent_text.specs.declared.keyword.Keyword.TheVariants.{And, Answer, As, Begin, Choose, Commit, Create, Delete, From, In, Insert, Int, Into, Rollback, Runs, Select, Set, Table, Text, Transaction, Update, Values, Where, Within}
 
@@ -30,16 +28,3 @@ keyword_text Update = codes "UPDATE"
 keyword_text Values = codes "VALUES"
 keyword_text Where = codes "WHERE"
 keyword_text Within = codes "WITHIN"
-
-abbrev pub keywords : List Keyword
-keywords = And ∷ Answer ∷ As ∷ Begin ∷ Choose ∷ Commit ∷ Create ∷ Delete ∷ From ∷ In ∷ Insert ∷ Int ∷ Into ∷ Rollback ∷ Runs ∷ Select ∷ Set ∷ Table ∷ Text ∷ Transaction ∷ Update ∷ Values ∷ Where ∷ Within ∷ []
-
--- the word is written so, in any case
-abbrev pub is_written : List ℕ → List ℕ → Bool
-is_written [] [] = true
-is_written [] (c ∷ cs) = false
-is_written (b ∷ bs) [] = false
-is_written (b ∷ bs) (c ∷ cs) = (to_ascii_uppercase b == c) && is_written bs cs
-
-unfoldable pub keyword_of : List ℕ → Option Keyword
-keyword_of word = find (λ keyword. is_written word (keyword_text keyword)) keywords

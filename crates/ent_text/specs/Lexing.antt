@@ -1,21 +1,22 @@
--- The tokens of a text, from left to right, and its first fault.
-use Rattle.std.specs.Prelude.{◌≡◌, ℕ, zero, suc, ◌+◌, ◌-◌, ◌*◌, Bool, true, false, not, ◌&&◌, ◌||◌, List, [], ◌∷◌, length, take, drop, Option, Some, None, Result, Ok, Err, nat_lt, ◌==◌, if◌then◌else◌, slice_index}
-use Rattle.std.specs.List.{take_while, prefix_len}
+-- How the tokens of a text are read from left to right, up to its first fault: a function that gives what `Reading`
+-- speaks of, as its laws say.
+use Rattle.std.specs.Prelude.{ℕ, zero, suc, ◌+◌, ◌-◌, ◌*◌, Bool, true, false, ◌&&◌, List, [], ◌∷◌, length, drop, Option, Some, None, Result, Ok, Err, nat_lt, ◌==◌, if◌then◌else◌, slice_index}
+use Rattle.std.specs.List.{find, take_while, prefix_len}
 use Rattle.std.specs.Option.{option_map_or}
-use Rattle.std.specs.Char.{is_ascii_alphabetic, is_ascii_digit, is_ascii_control}
+use Rattle.std.specs.Char.{is_ascii_alphabetic, is_ascii_digit, is_ascii_control, to_ascii_uppercase}
 use Rattle.ent_value.specs.Refusal.{◌>>=◌}
 use Rattle.ent_value.specs.Name.{is_word_byte}
-use Rattle.ent_text.specs.Keyword.{keyword_of}
-use Rattle.ent_text.specs.Symbol.{symbol_of}
+use Rattle.ent_text.specs.Keyword.{keyword_text}
+use Rattle.ent_text.specs.declared.keyword.Keyword.{Keyword}
+use Rattle.ent_text.specs.declared.keyword.Keyword.TheVariants.{And, Answer, As, Begin, Choose, Commit, Create, Delete, From, In, Insert, Int, Into, Rollback, Runs, Select, Set, Table, Text, Transaction, Update, Values, Where, Within}
+use Rattle.ent_text.specs.Spelling.{is_blank}
+use Rattle.ent_text.specs.declared.symbol.Symbol.{Symbol}
+use Rattle.ent_text.specs.declared.symbol.Symbol.TheVariants.{Open, Close, Comma, Semicolon, Dot, Star, Plus, Minus, Equal, NotEqual, Less, LessOrEqual, Greater, GreaterOrEqual}
 use Rattle.ent_text.specs.declared.fault.TextFault.{TextFault}
 use Rattle.ent_text.specs.declared.fault.TextFault.TheVariants.{BadChar, OpenText, NumberTooLarge, TextTooLong}
 use Rattle.ent_text.specs.declared.token.Token.{Token}
 use Rattle.ent_text.specs.declared.token.TokenKind.{TokenKind}
 use Rattle.ent_text.specs.declared.token.TokenKind.TheVariants.{Word, Name, Number, Literal, Sign}
-
--- space, tab, CR, LF
-abbrev pub is_blank : ℕ → Bool
-is_blank b = (b == 32) || ((b == 9) || ((b == 13) || (b == 10)))
 
 -- what stands behind the longest front of such bytes
 abbrev pub after : (ℕ → Bool) → List ℕ → List ℕ
@@ -24,6 +25,19 @@ after test bytes = drop (prefix_len test bytes) bytes
 -- A piece of the text: a token's kind, or None for white space; and the bytes behind it.
 abbrev pub Piece : Type 0
 Piece = Option TokenKind × List ℕ
+
+abbrev pub keywords : List Keyword
+keywords = And ∷ Answer ∷ As ∷ Begin ∷ Choose ∷ Commit ∷ Create ∷ Delete ∷ From ∷ In ∷ Insert ∷ Int ∷ Into ∷ Rollback ∷ Runs ∷ Select ∷ Set ∷ Table ∷ Text ∷ Transaction ∷ Update ∷ Values ∷ Where ∷ Within ∷ []
+
+-- the word is written so, in any case
+abbrev pub is_written : List ℕ → List ℕ → Bool
+is_written [] [] = true
+is_written [] (c ∷ cs) = false
+is_written (b ∷ bs) [] = false
+is_written (b ∷ bs) (c ∷ cs) = (to_ascii_uppercase b == c) && is_written bs cs
+
+unfoldable pub keyword_of : List ℕ → Option Keyword
+keyword_of word = find (λ keyword. is_written word (keyword_text keyword)) keywords
 
 abbrev pub word_kind : List ℕ → TokenKind
 word_kind word = option_map_or (λ keyword. Word keyword) (keyword_of word) (Name word)
@@ -59,6 +73,23 @@ unfoldable pub text_at : ℕ → List ℕ → Result Piece TextFault
 text_at place bytes = do
   text ← quoted_at place (place + 1) (drop 1 bytes)
   if nat_lt 255 (length text.0) then Err (TextTooLong place) else Ok (Some (Literal text.0), text.1)
+
+-- the longest symbol that the two bytes begin, and its length
+unfoldable pub symbol_of : ℕ → ℕ → Option (Symbol × ℕ)
+symbol_of b c =
+    if b == 40 then Some (Open, 1)
+    else (if b == 41 then Some (Close, 1)
+    else (if b == 44 then Some (Comma, 1)
+    else (if b == 59 then Some (Semicolon, 1)
+    else (if b == 46 then Some (Dot, 1)
+    else (if b == 42 then Some (Star, 1)
+    else (if b == 43 then Some (Plus, 1)
+    else (if b == 45 then Some (Minus, 1)
+    else (if b == 61 then Some (Equal, 1)
+    else (if b == 60 then (if c == 62 then Some (NotEqual, 2) else (if c == 61 then Some (LessOrEqual, 2) else Some (Less, 1)))
+    else (if b == 62 then (if c == 61 then Some (GreaterOrEqual, 2) else Some (Greater, 1))
+    else (if b == 33 then (if c == 61 then Some (NotEqual, 2) else None)
+    else None)))))))))))
 
 unfoldable pub symbol_at : ℕ → List ℕ → Result Piece TextFault
 symbol_at place bytes = option_map_or (λ s. Ok (Some (Sign s.0), drop s.1 bytes)) (symbol_of (slice_index bytes 0) (slice_index bytes 1)) (Err (BadChar place))

@@ -1,6 +1,8 @@
-pub mod Fault
 pub mod Numeral
 pub mod Keyword
 pub mod Symbol
-pub mod Lexing
 pub mod Spelling
+pub mod Fault
+pub mod Reading
+pub mod Slices
+pub mod Lexing

@@ -1,35 +1,59 @@
--- What the tokens of a text are: gaps and tokens in turn, each token spelled by its bytes.
-use Rattle.std.specs.Prelude.{◌≡◌, ℕ, ◌+◌, ◌≤◌, pos, Bool, true, false, List, [], ◌∷◌, ◌++◌, length, Option, Some, None, ◌==◌, if◌then◌else◌, slice_index, ◌⊎◌}
-use Rattle.std.specs.List.{list_all}
-use Rattle.std.specs.Char.{is_ascii_alphabetic, is_ascii_digit, is_ascii_control}
-use Rattle.ent_text.specs.declared.token.Token.{Token}
+-- What spells a token, and which spelling is the longest that could stand at a place.
+use Rattle.std.specs.Prelude.{◌≡◌, ℕ, ◌≤◌, List, [], ◌∷◌, ◌++◌, map, length, Option, Some, None, Bool, ◌||◌, ◌==◌, IsTrue, IsFalse, slice_index, ⊤}
+use Rattle.std.specs.List.{list_all, list_any}
+use Rattle.std.specs.Char.{is_ascii_alphabetic, is_ascii_control, to_ascii_uppercase}
+use Rattle.std.specs.Str.Parse.{IsNumeral, digits_value}
+use Rattle.ent_value.specs.Name.{is_word_byte}
+use Rattle.ent_value.specs.Print.{quoted}
+use Rattle.ent_text.specs.declared.keyword.Keyword.{Keyword}
 use Rattle.ent_text.specs.declared.token.TokenKind.{TokenKind}
 use Rattle.ent_text.specs.declared.token.TokenKind.TheVariants.{Word, Name, Number, Literal, Sign}
-use Rattle.ent_text.specs.Keyword.{keyword_of}
-use Rattle.ent_value.specs.Name.{is_word_byte}
-use Rattle.ent_value.specs.Print.{doubled}
-use Rattle.ent_text.specs.Symbol.{symbol_of}
-use Rattle.ent_text.specs.Lexing.{is_blank, value_from}
+use Rattle.ent_text.specs.Keyword.{keyword_text}
+use Rattle.ent_text.specs.Symbol.{SpellsSymbol}
 
--- these bytes are this token's
+-- a letter, then letters, digits and `_`
+abbrev pub IsWordLike : List ℕ → Type 0
+IsWordLike bytes = IsTrue (is_ascii_alphabetic (slice_index bytes 0)) × IsTrue (list_all is_word_byte bytes)
+
+-- the reserved word, in any case
+abbrev pub IsInAnyCase : Keyword → List ℕ → Type 0
+IsInAnyCase keyword bytes = map to_ascii_uppercase bytes ≡ keyword_text keyword
+
+-- no control character stands among them
+abbrev pub IsPlain : List ℕ → Type 0
+IsPlain bytes = IsFalse (list_any is_ascii_control bytes)
+
+-- These bytes spell this token, whatever its length or value. In a text each quote is doubled.
 abbrev pub Spells : List ℕ → TokenKind → Type 0
-Spells bytes (Word keyword) = keyword_of bytes ≡ Some keyword
-Spells bytes (Name word) = (bytes ≡ word) × (keyword_of bytes ≡ None) × (list_all is_word_byte word ≡ true) × (length word ≤ 63)
-Spells bytes (Number n) = (n ≡ value_from 0 bytes) × (list_all is_ascii_digit bytes ≡ true) × (value_from 0 bytes ≤ 9223372036854775807)
-Spells bytes (Literal text) = (bytes ≡ 39 ∷ (doubled text ++ 39 ∷ [])) × (length text ≤ 255)
-Spells bytes (Sign symbol) = (next n : ℕ) × (symbol_of (slice_index bytes 0) next ≡ Some (symbol, n))
+Spells bytes (Word keyword) = IsWordLike bytes × IsInAnyCase keyword bytes
+Spells bytes (Name word) = IsWordLike bytes × (bytes ≡ word) × ((keyword : Keyword) → ¬ (IsInAnyCase keyword bytes))
+Spells bytes (Number n) = IsNumeral 10 bytes × (digits_value 10 bytes ≡ n)
+Spells bytes (Literal text) = (bytes ≡ quoted text) × IsPlain text
+Spells bytes (Sign symbol) = SpellsSymbol bytes symbol
 
--- a white-space byte
+-- what a token may be at most: a name 63 bytes, a number 9223372036854775807, a text 255 bytes
+abbrev pub IsWithinLimit : TokenKind → Type 0
+IsWithinLimit (Word keyword) = ⊤
+IsWithinLimit (Name word) = length word ≤ 63
+IsWithinLimit (Number n) = n ≤ 9223372036854775807
+IsWithinLimit (Literal text) = length text ≤ 255
+IsWithinLimit (Sign symbol) = ⊤
+
+-- space, tab, CR, LF
+abbrev pub is_blank : ℕ → Bool
+is_blank b = (b == 32) || ((b == 9) || ((b == 13) || (b == 10)))
+
+-- a byte of white space
 abbrev pub IsBlank : List ℕ → Type 0
-IsBlank bytes = (b : ℕ) × (bytes ≡ b ∷ []) × (is_blank b ≡ true)
+IsBlank bytes = (b : ℕ) × (bytes ≡ b ∷ []) × IsTrue (is_blank b)
 
+-- A piece of a text: white space, or a token.
 abbrev pub IsPiece : List ℕ → Option TokenKind → Type 0
 IsPiece bytes None = IsBlank bytes
 IsPiece bytes (Some kind) = Spells bytes kind
 
--- the bytes from a place on are white space and these tokens, in turn
-pub data AreTokens : ℕ → List ℕ → List Token → Type 0 where
-  ended : (place : ℕ) → AreTokens place [] []
-  blank : (place : ℕ) (gap rest : List ℕ) (ts : List Token) → IsBlank gap → AreTokens (place + length gap) rest ts → AreTokens place (gap ++ rest) ts
-  token : (place : ℕ) (bytes rest : List ℕ) (kind : TokenKind) (ts : List Token) → Spells bytes kind → AreTokens (place + length bytes) rest ts
-      → AreTokens place (bytes ++ rest) (record { kind = kind; start = place; end = place + length bytes } ∷ ts)
+-- These bytes, before the rest, are the longest possible: whatever longer front of the text one takes, no piece
+-- begins with it.
+abbrev pub IsLongest : List ℕ → List ℕ → Type 0
+IsLongest bytes rest =
+    (front behind more : List ℕ) (piece : Option TokenKind) → front ++ behind ≡ bytes ++ rest → IsPiece (front ++ more) piece → length front ≤ length bytes

@@ -1,7 +1,8 @@
 //! Reserved words.
 ghost use Rattle.std.specs.Prelude.{◌≡◌};
 ghost use Rattle.std.specs.List.{find};
-ghost use Rattle.ent_text.specs.Keyword.{keyword_text, keywords, keyword_of, is_written};
+ghost use Rattle.ent_text.specs.Keyword.{keyword_text};
+ghost use Rattle.ent_text.specs.Lexing.{keywords, keyword_of, is_written};
 
 /// A reserved word, which no name can be, in any case.
 #[derive(Clone, Copy, Debug, PartialEq, Eq)]
@@ -125,7 +126,7 @@ fn first_written(word: &[u8], keywords: &[Keyword]) -> Option<Keyword>
 }
 
 /// The reserved word that a word is.
-#[tactic(auto, unfolding(crate::specs::Keyword::keyword_of))]
+#[tactic(auto, unfolding(crate::specs::Lexing::keyword_of))]
 pub(crate) fn keyword_of(word: &[u8]) -> Option<Keyword>
     ensures { result ≡ keyword_of word.now }
 {

@@ -3,6 +3,7 @@
 
 pub mod fault;
 pub mod keyword;
+pub mod laws;
 pub mod numeral;
 pub mod piece;
 pub mod quoted;
@@ -16,3 +17,6 @@ pub use numeral::Numeral;
 pub use symbol::Symbol;
 pub use token::{Token, TokenKind};
 pub use tokenizer::tokens;
+
+#[cfg(test)]
+mod tests;

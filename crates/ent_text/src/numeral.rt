@@ -7,7 +7,7 @@ use std::marker::Model;
 /// A number without a sign: 0 to 9223372036854775807.
 #[derive(Debug, Drop)]
 pub struct Numeral {
-    value: u64,
+    magnitude: u64,
 }
 
 impl Model for Numeral {
@@ -15,37 +15,38 @@ impl Model for Numeral {
 
     ghost Value = { ℕ };
 
-    ghost view = { λ n. n.value };
+    ghost view = { λ n. n.magnitude };
 
-    ghost invariant = { λ n. n.value ≤ 9223372036854775807 };
+    ghost invariant = { λ n. n.magnitude ≤ 9223372036854775807 };
 }
 
 impl Numeral {
+    /// The number of this value; the greatest is 9223372036854775807.
     pub fn new(value: u64) -> Self
         requires { value ≤ 9223372036854775807 }
         ensures { result ≡ value }
     {
-        Numeral { value }
+        Numeral { magnitude: value }
     }
 
     pub fn value(&self) -> u64
         ensures value { result ≡ self.now }
         ensures bound { result ≤ 9223372036854775807 }
     {
-        self.value
+        self.magnitude
     }
 
     /// The number as it is written.
     pub fn positive(&self) -> i64
         ensures { result ≡ pos self.now }
     {
-        self.value as i64
+        self.value() as i64
     }
 
     /// The number with a minus sign before it.
     pub fn negative(&self) -> i64
         ensures { result ≡ negative_of self.now }
     {
-        -(self.value as i64)
+        -self.positive()
     }
 }

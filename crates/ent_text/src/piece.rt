@@ -4,7 +4,8 @@ ghost use Rattle.std.specs.List.{prefix_len, list_all};
 ghost use Rattle.std.specs.Char.{is_ascii_digit, is_ascii_alphabetic};
 ghost use Rattle.ent_value.specs.Refusal.{Gives};
 ghost use Rattle.ent_value.specs.Name.{is_word_byte, IsWord};
-ghost use Rattle.ent_text.specs.Lexing.{is_blank, word_at, word_kind, number_at, value_from, text_at, symbol_at, piece_at};
+ghost use Rattle.ent_text.specs.Spelling.{is_blank};
+ghost use Rattle.ent_text.specs.Lexing.{word_at, word_kind, number_at, value_from, text_at, symbol_at, piece_at};
 
 use crate::fault::TextFault;
 use crate::keyword::keyword_of;

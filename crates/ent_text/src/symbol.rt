@@ -1,6 +1,6 @@
 //! Symbols.
 ghost use Rattle.std.specs.Prelude.{◌≡◌};
-ghost use Rattle.ent_text.specs.Symbol.{symbol_of};
+ghost use Rattle.ent_text.specs.Lexing.{symbol_of};
 
 /// A symbol; `!=` is read as `<>`.
 #[derive(Clone, Copy, Debug, PartialEq, Eq)]
@@ -22,7 +22,7 @@ pub enum Symbol {
 }
 
 /// The longest symbol that two bytes begin, and its length.
-#[tactic(auto, unfolding(crate::specs::Symbol::symbol_of))]
+#[tactic(auto, unfolding(crate::specs::Lexing::symbol_of))]
 pub(crate) fn symbol_of(first: u8, second: u8) -> Option<(Symbol, usize)>
     ensures value { result ≡ symbol_of first second }
 {

@@ -1,8 +1,11 @@
 //! All tokens of a text.
-ghost use Rattle.std.specs.Prelude.{IfOk};
+ghost use Rattle.std.specs.Prelude.{IfOk, IfErr};
+ghost use Rattle.std.specs.List.{All};
 ghost use Rattle.ent_value.specs.Refusal.{Gives};
+ghost use Rattle.ent_text.specs.Fault.{IfFault};
+ghost use Rattle.ent_text.specs.Reading.{AreTokens, HasFault};
+ghost use Rattle.ent_text.specs.Slices.{IsSliceOf, AreInOrder};
 ghost use Rattle.ent_text.specs.Lexing.{tokens_of};
-ghost use Rattle.ent_text.specs.Spelling.{AreTokens};
 
 use crate::fault::TextFault;
 use crate::piece::piece_at;
@@ -10,11 +13,17 @@ use crate::token::Token;
 use ent_value::{Refusal, Sequence};
 use std::alloc::Global;
 
-/// The tokens of a text, in order, or its first fault from the left.
+/// The tokens of a text, in order, or its first fault from the left. The text may hold any characters. Words,
+/// numbers and texts beyond their limits are faults, so a token's value is always within its type.
 pub fn tokens(alloc: Global, text: &str) -> Result<Sequence<Token>, Refusal<TextFault>>
-    // The text is white space and these tokens in turn, each spelled by its bytes.
-    ensures found { IfOk result (λ tokens. AreTokens 0 text.now tokens) }
-    // Which tokens, or which fault.
+    // The text is white space and these tokens in turn, each the longest possible.
+    ensures found { IfOk result (λ tokens. AreTokens text.now tokens) }
+    // Each token is spelled by the bytes between its places.
+    ensures slices { IfOk result (λ tokens. All (λ token. IsSliceOf text.now token) tokens) }
+    ensures order { IfOk result (λ tokens. AreInOrder tokens) }
+    // The text is white space and tokens up to a place, and what stands there has this fault.
+    ensures fault { IfErr result (λ refusal. IfFault (λ fault. HasFault text.now fault) refusal) }
+    // The same as a function of the text: `laws` says that it and the clauses above mean one thing.
     ensures exact { Gives (λ tokens. tokens) result (tokens_of text.now) }
 {
     all_tokens(alloc, text)

@@ -1,5 +1,5 @@
 //! A text of a database.
-ghost use Rattle.std.specs.Prelude.{◌≡◌, IfOk, false, ◌==◌};
+ghost use Rattle.std.specs.Prelude.{◌≡◌, ◌≤◌, length, IfOk, false, ◌==◌};
 ghost use Rattle.std.proofs.Common.{rules};
 ghost use Rattle.std.specs.Cmp.{partial_order_from_own_ties};
 ghost use Rattle.std.specs.Cmp.Rules.{comparing};
@@ -10,23 +10,29 @@ use std::alloc::{AllocError, Global};
 use std::cmp::Ordering;
 use std::marker::Model;
 
-/// A text, kept and compared as its bytes of UTF-8.
+/// The most bytes of a text.
+pub const LONGEST_TEXT: usize = 255;
+
+/// A text of at most 255 bytes, kept and compared as its bytes of UTF-8.
 #[derive(Debug, Drop)]
 pub struct Text {
     content: Vec<u8>,
 }
 
 impl Model for Text {
-    ghost use Rattle.std.specs.Prelude.{ℕ, List};
+    ghost use Rattle.std.specs.Prelude.{ℕ, ◌≤◌, List, length};
 
     ghost Value = { List ℕ };
 
     ghost view = { λ t. t.content.items };
+
+    ghost invariant = { λ t. length t.content.items ≤ 255 };
 }
 
 impl Text {
     /// A text of its own with these bytes.
     pub fn from_bytes(alloc: Global, bytes: &[u8]) -> Result<Self, AllocError>
+        requires { length bytes.now ≤ LONGEST_TEXT }
         ensures { IfOk result (λ t. t ≡ bytes.now) }
     {
         Ok(Text {
@@ -36,13 +42,15 @@ impl Text {
 
     /// The text of these bytes, which are moved and not copied.
     pub fn from_vec(content: Vec<u8>) -> Self
+        requires { length content.items ≤ LONGEST_TEXT }
         ensures { result ≡ content.items }
     {
         Text { content }
     }
 
     pub fn as_bytes(&self) -> &[u8]
-        ensures { result.now ≡ self.now }
+        ensures bytes { result.now ≡ self.now }
+        ensures limit { length self.now ≤ LONGEST_TEXT }
     {
         self.content.as_slice()
     }

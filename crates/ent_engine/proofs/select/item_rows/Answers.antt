@@ -16,10 +16,10 @@ loop-row-preserved c =
     let p : Bor (List Value) → Bool = λ row. plain_meets c.args.tests.now row.now in
     let says : c.meets.result ≡ p x = c.meets.ensures ∙ ap (plain_meets c.args.tests.now) c.values.ensures in
     map_filter_step f p c.args.rows.now kept _ c.loop-row.row-index x (omega arith) c.row-item.is c.loop-row.invariant (elim c.if-meets.branch [
-          | then-meets+in_ok-item_row+in_ok-push w ↦
-            ap (λ v. v.items) w.found-is ∙ w.in_ok-push.ensures.items ∙ rw (w.in_ok-item_row.ensures, w.values-then-meets.ensures) (ap (λ b. cond b (kept ++ f x ∷ []) kept) (sym w.if-meets.true ∙ says))
-          | else-meets w ↦ ap (λ v. v.items) w.found-is ∙ ap (λ b. cond b (kept ++ f x ∷ []) kept) (sym w.if-meets.false ∙ says)
-        ])
+      | then-meets+in_ok-item_row+in_ok-push w ↦
+          ap (λ v. v.items) w.found-is ∙ w.in_ok-push.ensures.items ∙ rw (w.in_ok-item_row.ensures, w.values-then-meets.ensures) (ap (λ b. cond b (kept ++ f x ∷ []) kept) (sym w.if-meets.true ∙ says))
+      | else-meets w ↦ ap (λ v. v.items) w.found-is ∙ ap (λ b. cond b (kept ++ f x ∷ []) kept) (sym w.if-meets.false ∙ says)
+    ])
 
 pub returns : goal.returns
 returns c =

@@ -19,14 +19,14 @@ returns-in_err-changed-clause-meaning c =
     let lt : c.args.table < length items = named_is_there arc_value items c.args.table c.requires.0 in
     let p = err_from_is_err_and c.from_residual.result c.from_residual.ensures.1 in
     rw (p.1, p.2) (insert_refused (map arc_value items) c.args.table c.args.row.now c.deref.result.now c.in_err-changed.field-0.0 (length_map_lt arc_value items c.args.table lt)
-      (table_at arc_value items c.args.table c.index.result.now c.deref.result.now lt c.index.ensures c.deref.ensures) c.in_err-changed.ensures.rows)
+    (table_at arc_value items c.args.table c.index.result.now c.deref.result.now lt c.index.ensures c.deref.ensures) c.in_err-changed.ensures.rows)
 
 pub returns-clause-meaning : goal.returns-clause-meaning
 returns-clause-meaning c =
     let items = c.args.tables.now.items in
     let lt : c.args.table < length items = named_is_there arc_value items c.args.table c.requires.0 in
     insert_done (map arc_value items) c.args.table c.in_ok-changed.changed.count c.args.row.now c.deref.result.now (arc_value c.in_ok-changed.changed.table) (length_map_lt arc_value items c.args.table lt)
-      (table_at arc_value items c.args.table c.index.result.now c.deref.result.now lt c.index.ensures c.deref.ensures) c.in_ok-changed.ensures.rows
+    (table_at arc_value items c.args.table c.index.result.now c.deref.result.now lt c.index.ensures c.deref.ensures) c.in_ok-changed.ensures.rows
     ∙ ap (λ (tables : List Relation). Ok (effect tables (answers.Count c.in_ok-changed.changed.count))) (sym (map-set arc_value items c.args.table c.in_ok-changed.changed.table))
 
 pub returns-clause-kinds : goal.returns-clause-kinds
@@ -35,4 +35,4 @@ returns-clause-kinds c =
     let lt : c.args.table < length items = named_is_there arc_value items c.args.table c.requires.0 in
     ap kinds_in (map-set arc_value items c.args.table c.in_ok-changed.changed.table)
     ∙ insert_keeps_kinds (map arc_value items) c.args.table c.deref.result.now (arc_value c.in_ok-changed.changed.table) (length_map_lt arc_value items c.args.table lt)
-      (table_at arc_value items c.args.table c.index.result.now c.deref.result.now lt c.index.ensures c.deref.ensures) c.in_ok-changed.ensures.kinds
+    (table_at arc_value items c.args.table c.index.result.now c.deref.result.now lt c.index.ensures c.deref.ensures) c.in_ok-changed.ensures.kinds

@@ -1,8 +1,7 @@
-use Rattle.std.proofs.Common.{◌≡◌, refl, ap, sym, subst, ◌∙◌, cond, List, ◌∷◌, [], ◌++◌, arith, take, All, Contains}
+use Rattle.std.proofs.Common.{◌≡◌, refl, ap, sym, ◌∙◌, cond, ◌∷◌, [], ◌++◌, arith, Contains}
 use Rattle.std.proofs.lemmas.Fn.{says_at}
 use Rattle.std.proofs.lemmas.List.{take_all}
-use Rattle.std.proofs.lemmas.List.Elements.{All-nil, All-push, Contains-get_or}
-use Rattle.ent_value.specs.declared.value.Value.{Value}
+use Rattle.std.proofs.lemmas.List.Elements.{All-nil, All-push}
 use Rattle.ent_rel.proofs.Lists.{filter_step, listed}
 use Rattle.ent_rel.proofs.copies.copies_where.Goals as goal
 use Rattle.ent_rel.proofs.copies.copies_where.Goals.{then-test+in_ok-copy+in_ok-push, else-test}

@@ -1,4 +1,4 @@
-use Rattle.std.proofs.Common.{◌≡◌, ◌∙◌, ◌∷◌, [], sym, ap, arith, length}
+use Rattle.std.proofs.Common.{◌∙◌, ◌∷◌, [], sym, ap, arith, length}
 use Rattle.std.proofs.lemmas.List.{length-append}
 use Rattle.std.proofs.lemmas.Result.{err_from_is_err_and}
 use Rattle.ent_sql.proofs.Loops.{many_first, many_on, many_fault, many_too_many, many_done}

@@ -1,6 +1,7 @@
 use Rattle.std.proofs.Common.{◌≡◌, drop}
 use Rattle.std.specs.List.{find}
-use Rattle.ent_text.specs.Keyword.{keyword_text, is_written}
+use Rattle.ent_text.specs.Keyword.{keyword_text}
+use Rattle.ent_text.specs.Lexing.{is_written}
 use Rattle.ent_text.proofs.keyword.first_written.Given as goal
 
 abbrev pub invariant-loop-keyword : goal.invariant-loop-keyword

@@ -1,5 +1,5 @@
 use Rattle.std.proofs.Common.{◌≡◌, length}
-use Rattle.ent_text.specs.Keyword.{is_written}
+use Rattle.ent_text.specs.Lexing.{is_written}
 use Rattle.ent_text.proofs.keyword.is_written.Given as goal
 
 abbrev pub invariant-loop-word : goal.invariant-loop-word

@@ -1,4 +1,4 @@
-use Rattle.std.proofs.Common.{◌≡◌, ℕ, ◌<◌, List, length, Result, Ok, Err, Option, Bor}
+use Rattle.std.proofs.Common.{ℕ, ◌<◌, List, length, Result, Ok, Err, Option, Bor}
 use Rattle.std.specs.Prelude.{IfOk}
 use Rattle.ent_value.specs.declared.refusal.Refusal.{Refusal}
 use Rattle.ent_text.specs.declared.fault.TextFault.{TextFault}

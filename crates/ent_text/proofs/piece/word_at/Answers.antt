@@ -1,4 +1,4 @@
-use Rattle.std.proofs.Common.{◌≡◌, ◌∙◌, sym, ap, refl, arith, rules, take}
+use Rattle.std.proofs.Common.{◌∙◌, ap, arith, take}
 use Rattle.ent_text.proofs.Words.{front_is_word}
 use Rattle.ent_text.proofs.piece.word_at.Goals as goal
 

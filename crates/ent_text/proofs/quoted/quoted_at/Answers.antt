@@ -1,4 +1,4 @@
-use Rattle.std.proofs.Common.{◌≡◌, ◌∙◌, sym, refl, arith, rules}
+use Rattle.std.proofs.Common.{◌∙◌, sym, refl, arith}
 use Rattle.ent_text.proofs.Reading.{left_length, on_other, on_doubled}
 use Rattle.ent_text.proofs.quoted.quoted_at.Goals as goal
 

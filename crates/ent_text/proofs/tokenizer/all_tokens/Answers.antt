@@ -1,7 +1,7 @@
-use Rattle.std.proofs.Common.{◌≡◌, ◌∙◌, sym, ap, refl, arith, rules, Some, None, Ok, subst}
+use Rattle.std.proofs.Common.{◌∙◌, ap, arith, Some, None, Ok}
 use Rattle.std.proofs.lemmas.List.{append-nil}
 use Rattle.std.proofs.lemmas.Result.{err_from_is_err_and}
-use Rattle.ent_text.proofs.Rest.{LeftToRead, left_at_first, nothing_left, fault_here, left_behind}
+use Rattle.ent_text.proofs.Rest.{left_at_first, nothing_left, fault_here, left_behind}
 use Rattle.ent_text.specs.Lexing.{tokens_of}
 use Rattle.ent_text.proofs.tokenizer.all_tokens.Goals as goal
 

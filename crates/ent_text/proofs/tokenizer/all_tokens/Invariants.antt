@@ -1,5 +1,5 @@
-use Rattle.std.proofs.Common.{◌≡◌, ◌+◌, ◌≤◌, ℕ, length}
-use Rattle.ent_text.specs.Lexing.{tokens_from, tokens_of}
+use Rattle.std.proofs.Common.{◌≡◌, ◌+◌, length}
+use Rattle.ent_text.specs.Lexing.{tokens_of}
 use Rattle.ent_text.proofs.Rest.{LeftToRead}
 use Rattle.ent_text.proofs.tokenizer.all_tokens.Given as goal
 

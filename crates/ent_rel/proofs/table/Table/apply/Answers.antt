@@ -1,17 +1,14 @@
-use Rattle.std.proofs.Common.{◌≡◌, refl, ap, sym, ◌∙◌, length, [], ◌∷◌, ◌++◌, ◌≤◌, ◌+◌, Some, List, drop, Bool, true, false, rules, arith, not}
+use Rattle.std.proofs.Common.{◌≡◌, ap, sym, ◌∙◌, length, [], ◌∷◌, ◌++◌, ◌≤◌, true, false, rules, arith}
 use Rattle.std.specs.List.{filter, list_any}
 use Rattle.std.specs.Ordering.{eq_by_cmp}
-use Rattle.std.proofs.lemmas.List.{at_drop_all, length_push}
-use Rattle.std.proofs.lemmas.List.Elements.{All-filter, All-push, All-same}
+use Rattle.std.proofs.lemmas.List.{at_drop_all}
 use Rattle.ent_set.specs.Sets as set
 use Rattle.ent_set.specs.Sets.{insert_all}
-use Rattle.ent_value.specs.declared.value.Value.{Value}
 use Rattle.ent_value.specs.Value.{row_cmp, kinds_of}
-use Rattle.ent_rel.specs.Change.{changed_rows, application}
-use Rattle.ent_rel.specs.Kept.{IsKept}
+use Rattle.ent_rel.specs.Change.{changed_rows}
 use Rattle.ent_rel.proofs.Meanings.{stays, without_rows, kept_filter, kept_push, added_kinds, too_many, there_already, whole_step, beyond_step, apply_done, from_push, apply_beyond}
 use Rattle.ent_rel.proofs.table.Table.apply.Goals as goal
-use Rattle.ent_rel.proofs.table.Table.apply.Goals.{then-not-contains+else-len-ge65536+in_ok-copy+in_ok-push, else-not-contains}
+use Rattle.ent_rel.proofs.table.Table.apply.Goals.{then-not-contains+else-len-ge-ROW_LIMIT+in_ok-copy+in_ok-push, else-not-contains}
 
 pub loop-row-init : goal.loop-row-init
 loop-row-init c =
@@ -32,7 +29,7 @@ loop-row-preserved c =
     let added = c.as_slice-row-items.result.now in
     let asked : c.contains.result ≡ list_any (λ y. eq_by_cmp row_cmp y x) rows = c.contains.ensures.value ∙ ap (list_any (λ y. eq_by_cmp row_cmp y x)) c.deref.ensures.value in
     elim c.if-not-contains.branch [
-      | then-not-contains+else-len-ge65536+in_ok-copy+in_ok-push w ↦
+      | then-not-contains+else-len-ge-ROW_LIMIT+in_ok-copy+in_ok-push w ↦
           let absent : list_any (λ y. eq_by_cmp row_cmp y x) rows ≡ false = sym asked ∙ search (rules, w.if-not-contains) in
           let pushed : c.if-not-contains.rows.items ≡ rows ++ x ∷ [] = ap (λ v. v.items) w.rows-is ∙ w.in_ok-push.ensures.items ∙ ap (λ y. rows ++ y ∷ []) w.in_ok-copy.ensures in
           let fitting : kinds_of x ≡ c.in_ok-kinds.kinds.items = added_kinds added c.args.delta.now.added c.loop-row.row-index x c.args.self.now.kinds c.row-item.is c.as_slice-row-items.ensures (omega arith) c.requires ∙ sym c.loop-row.invariant.kinds in
@@ -58,8 +55,8 @@ returns-clause-rows c =
     let all : set.from_list {R = row_cmp} rows ≡ changed_rows c.args.self.now.rows c.args.delta.now.removed c.args.delta.now.added = sym (at_drop_all (insert_all (set.from_list {R = row_cmp} rows)) added c.loop-row.row-index (omega arith)) ∙ c.loop-row.invariant.whole in
     apply_done c.args.self.now.rows c.args.delta.now.removed c.args.delta.now.added rows all c.loop-row.invariant.kept.distinct c.loop-row.invariant.kept.limit
 
-pub returns-then-len-ge65536-clause-rows : goal.returns-then-len-ge65536-clause-rows
-returns-then-len-ge65536-clause-rows c =
+pub returns-then-len-ge-ROW_LIMIT-clause-rows : goal.returns-then-len-ge-ROW_LIMIT-clause-rows
+returns-then-len-ge-ROW_LIMIT-clause-rows c =
     let rows = c.loop-row.rows.items in
     let x = c.row-item.result in
     let added = c.as_slice-row-items.result.now in

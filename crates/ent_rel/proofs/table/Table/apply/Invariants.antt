@@ -1,9 +1,6 @@
-use Rattle.std.proofs.Common.{◌≡◌, ◌≤◌, All, drop, length}
-use Rattle.std.specs.List.{IsDistinct}
-use Rattle.std.specs.Ordering.{eq_by_cmp}
+use Rattle.std.proofs.Common.{◌≡◌, drop}
 use Rattle.ent_set.specs.Sets as set
 use Rattle.ent_set.specs.Sets.{insert_all}
-use Rattle.ent_value.specs.Value.{row_cmp, kinds_of}
 use Rattle.ent_rel.specs.Change.{changed_rows}
 use Rattle.ent_rel.specs.Kept.{IsKept}
 use Rattle.ent_rel.proofs.table.Table.apply.Given as goal

@@ -1,6 +1,5 @@
-use Rattle.std.proofs.Common.{◌≡◌, List, map, ap, ◌∙◌, rules}
+use Rattle.std.proofs.Common.{◌≡◌, map, ap, ◌∙◌, rules}
 use Rattle.ent_set.specs.Sets as set
-use Rattle.ent_value.specs.declared.value.Value.{Value}
 use Rattle.ent_rel.proofs.Ascending.{shown_ascending}
 use Rattle.ent_rel.proofs.table.Table.ascending.Goals as goal
 

@@ -1,5 +1,4 @@
-use Rattle.std.proofs.Common.{ap, sym, ◌∙◌, ◌∷◌, [], arith, Some}
-use Rattle.ent_rel.specs.Change.{changed_rows}
+use Rattle.std.proofs.Common.{ap, sym, ◌∙◌, arith, Some}
 use Rattle.ent_rel.proofs.Meanings.{insertion_there, insertion_more, insertion_full, changed_none, changed_added, fits_none, fits_added}
 use Rattle.ent_rel.proofs.table.Table.insert.Goals as goal
 
@@ -8,8 +7,8 @@ returns-then-contains-clause-change c =
     insertion_there _ _ (sym c.contains.ensures ∙ c.if-contains.true) (omega arith)
     ∙ ap (λ s. Some (0, s)) (rw (c.new.ensures, c.new-added.ensures) (sym (changed_none _)))
 
-pub returns-then-len-ge65536-clause-change : goal.returns-then-len-ge65536-clause-change
-returns-then-len-ge65536-clause-change c = insertion_full _ _ (sym c.contains.ensures ∙ c.if-contains.false) (omega arith)
+pub returns-then-len-ge-ROW_LIMIT-clause-change : goal.returns-then-len-ge-ROW_LIMIT-clause-change
+returns-then-len-ge-ROW_LIMIT-clause-change c = insertion_full _ _ (sym c.contains.ensures ∙ c.if-contains.false) (omega arith)
 
 pub returns-clause-change : goal.returns-clause-change
 returns-clause-change c =

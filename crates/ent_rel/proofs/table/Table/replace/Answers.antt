@@ -1,11 +1,11 @@
-use Rattle.std.proofs.Common.{◌≡◌, ℕ, ap, sym, subst, ◌∙◌, length, List, All, Contains, Some}
-use Rattle.std.specs.Prelude.{Result, Err, is_some, Option}
+use Rattle.std.proofs.Common.{◌≡◌, ℕ, ap, sym, subst, ◌∙◌, length, Some}
+use Rattle.std.specs.Prelude.{Result, Err, is_some}
 use Rattle.std.specs.List.{filter, filter_map, list_all}
 use Rattle.std.proofs.lemmas.Result.{err_from_is_err_and}
 use Rattle.ent_set.specs.Sets as set
 use Rattle.ent_rel.specs.Relation.{RowSet}
 use Rattle.ent_rel.specs.Change.{changed_rows, replacement}
-use Rattle.ent_rel.specs.Answer.{Replaces, as_replace_fault}
+use Rattle.ent_rel.specs.Answer.{Replaces}
 use Rattle.ent_rel.specs.declared.change.Delta.{Delta}
 use Rattle.ent_rel.specs.declared.fault.ReplaceFault.{ReplaceFault}
 use Rattle.ent_rel.proofs.Lists.{computes_listed, taken_from, taken_changes, taken_kinds}

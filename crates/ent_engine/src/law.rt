@@ -1,0 +1,15 @@
+//! What a report says of the scripts, beyond how it was made.
+ghost use Rattle.std.specs.Prelude.{◌≡◌, Some, length};
+ghost use Rattle.ent_sql.specs.declared.tree.Input.{Input};
+ghost use Rattle.ent_semantics.specs.Database.{opening_database};
+ghost use Rattle.ent_semantics.specs.Serial.{scripts_run};
+ghost use Rattle.ent_engine.specs.Outcome.{outcome_of, committed, commit_answers, commit_numbers, numbers_from};
+
+/// The scripts that commit, run alone in order of their commits, leave the database of the report and give its
+/// answers. Commits are numbered from 1, and each script has one fate.
+pub fn the_report_is_serial()
+    ensures serial { (input : Input) → scripts_run input.opening.tables (committed input.scripts (outcome_of input).fates) (opening_database input.opening)
+        ≡ Some (record { database = (outcome_of input).database; answers = commit_answers (outcome_of input).fates }) }
+    ensures numbered { (input : Input) → commit_numbers (outcome_of input).fates ≡ numbers_from 1 (commit_numbers (outcome_of input).fates) }
+    ensures each { (input : Input) → length (outcome_of input).fates ≡ length input.scripts }
+{}

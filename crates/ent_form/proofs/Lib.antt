@@ -1,0 +1,9 @@
+pub mod Steps
+pub mod Declared
+pub mod Fitting
+pub mod Names
+pub mod KindsKept
+pub mod ByNumber
+pub mod Selecting
+pub mod Same
+pub mod Opened

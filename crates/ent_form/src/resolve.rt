@@ -1,1 +1,0 @@
-//! Statements resolved against the catalogue.

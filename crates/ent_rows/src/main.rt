@@ -1,0 +1,125 @@
+//! Runs the worked rows and the examples through the engine, and says of each that differs what it gave.
+//!
+//! A row is an input and the report that it must give, or the line of its fault and the exit status; `INDEX.tsv`
+//! lists the rows. An example is an input and its report.
+#![tactic(auto)]
+
+mod streams;
+
+use crate::streams::{FailingReader, FailingWriter};
+use anyhow::{Context, Result, ensure};
+use ent_engine::{FaultLine, RunFault, run, status_of};
+use ent_value::Watched;
+use std::alloc::Global;
+use std::fs;
+
+/// What a run gave: its report, or its fault.
+#[derive(Drop)]
+struct Ran {
+    output: Vec<u8>,
+    fault: Option<RunFault>,
+}
+
+fn main(rt: HostRuntime) -> Result<()> {
+    let rows = check_rows(&rt)?;
+    println!(rt; "{rows} rows")?;
+    for name in ["first", "flights", "orders"] {
+        check_example(&rt, name)?;
+    }
+    println!(rt; "3 examples")?;
+    check_longest(rt.alloc())?;
+    println!(rt; "the longest input, and one byte more")?;
+    check_failing_streams(rt.alloc())?;
+    println!(rt; "failing streams")?;
+    Ok(())
+}
+
+fn ran(alloc: Global, input: &[u8]) -> Ran {
+    let mut reader = Watched::new(input);
+    let mut writer = Watched::new(Vec::new(alloc));
+    let fault = run(alloc, &mut reader, &mut writer).err();
+    Ran {
+        output: writer.inner,
+        fault,
+    }
+}
+
+/// Checks the rows whose command line is `run`, and answers how many they are.
+fn check_rows(rt: &HostRuntime) -> Result<usize> {
+    let index = fs::read_to_string(rt, "rows/INDEX.tsv")?;
+    let mut count = 0usize;
+    for line in index.lines().skip(1) {
+        let fields: Vec<&str> = line.split('\t').collect(rt.alloc())?;
+        if let [name, "run", status, fault, _] = fields.as_slice() {
+            check_row(rt, name, status, fault).context(format_args!("row {name}"))?;
+            count = count.saturating_add(1);
+        }
+    }
+    Ok(count)
+}
+
+fn check_row(rt: &HostRuntime, name: &str, status: &str, line: &str) -> Result<()> {
+    let alloc = rt.alloc();
+    let input = fs::read(rt, format!(in alloc; "rows/{name}.in")?)?;
+    let wanted = fs::read(rt, format!(in alloc; "rows/{name}.out")?)?;
+    let ran = ran(alloc, input.as_slice());
+    ensure!(ran.output == wanted, "another report");
+    let (got_status, got_line) = match ran.fault {
+        Some(fault) => (
+            status_of(&fault),
+            format!(in alloc; "{}", FaultLine(fault))?,
+        ),
+        None => (0, String::new(alloc)),
+    };
+    ensure!(
+        format!(in alloc; "{got_status}")? == status,
+        "status {got_status}"
+    );
+    ensure!(got_line == line, "fault {got_line}");
+    Ok(())
+}
+
+fn check_example(rt: &HostRuntime, name: &str) -> Result<()> {
+    let alloc = rt.alloc();
+    let input = fs::read(rt, format!(in alloc; "examples/{name}.sql")?)?;
+    let wanted = fs::read(rt, format!(in alloc; "examples/{name}.report")?)?;
+    let ran = ran(alloc, input.as_slice());
+    ensure!(ran.output == wanted, "example {name} gives another report");
+    Ok(())
+}
+
+/// The longest input, of white space alone, and one byte more.
+fn check_longest(alloc: Global) -> Result<()> {
+    let mut spaces = vec![in alloc; b' '; 16_777_216]?;
+    let longest = ran(alloc, spaces.as_slice());
+    ensure!(
+        longest.output.as_slice() == b"report 1\nend\n",
+        "the longest input"
+    );
+    spaces.push(b' ')?;
+    let longer = ran(alloc, spaces.as_slice());
+    ensure!(longer.fault == Some(RunFault::TooLong), "a longer input");
+    ensure!(longer.output.is_empty(), "a longer input is answered");
+    Ok(())
+}
+
+const INSERTING: &[u8] =
+    b"CREATE TABLE T (a INT); BEGIN TRANSACTION; INSERT INTO T VALUES (7); SELECT * FROM T; COMMIT;";
+
+/// A reader and a writer that fail in mid-stream.
+fn check_failing_streams(alloc: Global) -> Result<()> {
+    let mut reader = Watched::new(FailingReader::new(INSERTING));
+    let mut writer = Watched::new(Vec::new(alloc));
+    let unread = run(alloc, &mut reader, &mut writer).err();
+    ensure!(unread == Some(RunFault::ReadFault), "a failing reader");
+    ensure!(writer.inner.is_empty(), "a report of what was not read");
+    let mut reader = Watched::new(INSERTING);
+    let mut writer = Watched::new(FailingWriter::new(alloc));
+    let unwritten = run(alloc, &mut reader, &mut writer).err();
+    ensure!(unwritten == Some(RunFault::WriteFault), "a failing writer");
+    ensure!(
+        writer.inner.taken() == b"report 1\ntx 1 co",
+        "no beginning of the report"
+    );
+    Ok(())
+}

@@ -1,0 +1,158 @@
+-- What a text says: each line of the grammar as a relation between a tree and the tokens that spell it, places included.
+use Rattle.std.specs.Prelude.{◌≡◌, ℕ, List, [], ◌∷◌, ◌++◌, pos, ◌⊎◌}
+use Rattle.ent_text.specs.declared.token.Token.{Token}
+use Rattle.ent_text.specs.declared.token.TokenKind.{TokenKind}
+use Rattle.ent_text.specs.declared.token.TokenKind.TheVariants as kinds
+use Rattle.ent_text.specs.declared.keyword.Keyword.{Keyword}
+use Rattle.ent_text.specs.declared.keyword.Keyword.TheVariants as words
+use Rattle.ent_text.specs.declared.symbol.Symbol.{Symbol}
+use Rattle.ent_text.specs.declared.symbol.Symbol.TheVariants as signs
+use Rattle.ent_text.specs.Numeral.{negative_of}
+use Rattle.ent_value.specs.declared.value.Kind.{Kind}
+use Rattle.ent_value.specs.declared.value.Kind.TheVariants as sorts
+use Rattle.ent_value.specs.declared.value.Value.TheVariants as values
+use Rattle.ent_sql.specs.declared.tree.Identifier.{Identifier}
+use Rattle.ent_sql.specs.declared.tree.Column.{Column}
+use Rattle.ent_sql.specs.declared.tree.Create.{Create}
+use Rattle.ent_sql.specs.declared.tree.Literal.{Literal}
+use Rattle.ent_sql.specs.declared.tree.Insert.{Insert}
+use Rattle.ent_sql.specs.declared.tree.Operand.{Operand}
+use Rattle.ent_sql.specs.declared.tree.Operand.TheVariants as operands
+use Rattle.ent_sql.specs.declared.tree.Comparison.{Comparison}
+use Rattle.ent_sql.specs.declared.tree.Comparison.TheVariants as comparisons
+use Rattle.ent_sql.specs.declared.tree.Test.{Test}
+use Rattle.ent_sql.specs.declared.tree.Items.{Items}
+use Rattle.ent_sql.specs.declared.tree.Items.TheVariants.{All, Listed}
+use Rattle.ent_sql.specs.declared.tree.Select.{Select}
+use Rattle.ent_sql.specs.declared.tree.Statement.{Statement}
+use Rattle.ent_sql.specs.declared.tree.Statement.TheVariants as statements
+use Rattle.ent_sql.specs.declared.tree.Script.{Script}
+use Rattle.ent_sql.specs.declared.tree.Input.{Input}
+
+infixr 60 ◌⨾◌
+-- a phrase is the set of the token lists that spell it
+abbrev pub Phrase : Type 1
+Phrase = List Token → Type 0
+
+-- the tokens of one phrase, and those of another behind them
+pub record ◌⨾◌ (one other : Phrase) (tokens : List Token) : Type 0 where
+  pub front : List Token
+  pub back : List Token
+  pub whole : tokens ≡ front ++ back
+  pub first : one front
+  pub second : other back
+
+-- a single token of this kind, which stands at this place
+pub record Standing (place : ℕ) (kind : TokenKind) (tokens : List Token) : Type 0 where
+  pub token : Token
+  pub whole : tokens ≡ token ∷ []
+  pub is_kind : token.kind ≡ kind
+  pub stands : token.start ≡ place
+
+-- a single token of this kind, wherever it stands
+abbrev pub single : TokenKind → Phrase
+single kind tokens = (place : ℕ) × Standing place kind tokens
+
+abbrev pub word : Keyword → Phrase
+word keyword = single (kinds.Word keyword)
+
+abbrev pub sign : Symbol → Phrase
+sign symbol = single (kinds.Sign symbol)
+
+-- no token
+abbrev pub nothing : Phrase
+nothing tokens = tokens ≡ []
+
+-- things one behind the other
+abbrev pub many : {A : Type 0} → (A → Phrase) → List A → Phrase
+many of [] = nothing
+many of (x ∷ xs) = of x ⨾ many of xs
+
+-- one thing or more, with a divider between each two
+abbrev pub listed : {A : Type 0} → Phrase → (A → Phrase) → List A → Phrase
+listed divider of [] = λ tokens. ⊥
+listed divider of (x ∷ xs) = of x ⨾ many (λ y. divider ⨾ of y) xs
+
+abbrev pub comma : Phrase
+comma = sign signs.Comma
+
+-- a name stands where its token does
+abbrev pub name : Identifier → Phrase
+name n = Standing n.place (kinds.Name n.name)
+
+-- INT or TEXT
+abbrev pub kind : Kind → Phrase
+kind sorts.Int = word words.Int
+kind sorts.Text = word words.Text
+
+-- name kind
+abbrev pub column : Column → Phrase
+column c = name c.name ⨾ kind c.kind
+
+-- CREATE TABLE name "(" column { "," column } ")" ";"
+abbrev pub create : Create → Phrase
+create c = word words.Create ⨾ word words.Table ⨾ name c.name ⨾ sign signs.Open ⨾ listed comma column c.columns ⨾ sign signs.Close ⨾ sign signs.Semicolon
+
+-- a number
+abbrev pub positive : Literal → Phrase
+positive l tokens = (n : ℕ) × (l.value ≡ values.Int (pos n)) × Standing l.place (kinds.Number n) tokens
+
+-- a number behind a minus sign; it stands where the sign does
+abbrev pub negative : Literal → Phrase
+negative l tokens = (n : ℕ) × (l.value ≡ values.Int (negative_of n)) × (Standing l.place (kinds.Sign signs.Minus) ⨾ single (kinds.Number n)) tokens
+
+-- a text in quotes
+abbrev pub quoted : Literal → Phrase
+quoted l tokens = (t : List ℕ) × (l.value ≡ values.Text t) × Standing l.place (kinds.Literal t) tokens
+
+-- number, "-" number or text
+abbrev pub literal : Literal → Phrase
+literal l tokens = positive l tokens ⊎ (negative l tokens ⊎ quoted l tokens)
+
+-- INSERT INTO name VALUES "(" literal { "," literal } ")" ";"
+abbrev pub insert : Insert → Phrase
+insert i = word words.Insert ⨾ word words.Into ⨾ name i.table ⨾ word words.Values ⨾ Standing i.place (kinds.Sign signs.Open) ⨾ listed comma literal i.values ⨾ sign signs.Close ⨾ sign signs.Semicolon
+
+-- literal or name
+abbrev pub operand : Operand → Phrase
+operand (operands.Constant l) = literal l
+operand (operands.Column n) = name n
+
+abbrev pub sign_of : Comparison → Symbol
+sign_of comparisons.Equal = signs.Equal
+sign_of comparisons.NotEqual = signs.NotEqual
+sign_of comparisons.Less = signs.Less
+sign_of comparisons.LessOrEqual = signs.LessOrEqual
+sign_of comparisons.Greater = signs.Greater
+sign_of comparisons.GreaterOrEqual = signs.GreaterOrEqual
+
+-- operand comparison operand
+abbrev pub test : Test → Phrase
+test t = operand t.left ⨾ sign (sign_of t.comparison) ⨾ operand t.right
+
+-- "*" or operand { "," operand }
+abbrev pub items : Items → Phrase
+items All = sign signs.Star
+items (Listed xs) = listed comma operand xs
+
+-- [ WHERE test { AND test } ]
+abbrev pub conditions : List Test → Phrase
+conditions [] = nothing
+conditions (t ∷ ts) = word words.Where ⨾ listed (word words.And) test (t ∷ ts)
+
+-- SELECT items FROM name [ WHERE tests ] ";"
+abbrev pub select : Select → Phrase
+select s = word words.Select ⨾ items s.items ⨾ word words.From ⨾ name s.source ⨾ conditions s.tests ⨾ sign signs.Semicolon
+
+-- insert or select
+abbrev pub statement : Statement → Phrase
+statement (statements.Insert i) = insert i
+statement (statements.Select s) = select s
+
+-- BEGIN TRANSACTION ";" { statement } COMMIT ";"
+abbrev pub script : Script → Phrase
+script s = word words.Begin ⨾ word words.Transaction ⨾ sign signs.Semicolon ⨾ many statement s.statements ⨾ word words.Commit ⨾ sign signs.Semicolon
+
+-- { create } { insert } { script }
+abbrev pub input : Input → Phrase
+input i = many create i.opening.tables ⨾ many insert i.opening.rows ⨾ many script i.scripts

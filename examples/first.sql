@@ -1,0 +1,5 @@
+CREATE TABLE Notes (day INT, what TEXT);
+BEGIN TRANSACTION;
+INSERT INTO Notes VALUES (1, 'it''s a start');
+SELECT * FROM Notes;
+COMMIT;

@@ -1,0 +1,20 @@
+CREATE TABLE Flights (fno INT, dest TEXT);
+CREATE TABLE Bookings (who TEXT, fno INT);
+INSERT INTO Flights VALUES (122, 'LA');
+INSERT INTO Flights VALUES (123, 'LA');
+INSERT INTO Flights VALUES (136, 'Paris');
+
+BEGIN TRANSACTION;
+SELECT fno FROM Flights WHERE dest = 'LA';
+INSERT INTO Bookings VALUES ('Mickey', 122);
+COMMIT;
+
+BEGIN TRANSACTION;
+INSERT INTO Bookings VALUES ('Minnie', 122);
+SELECT who FROM Bookings WHERE fno = 122;
+COMMIT;
+
+BEGIN TRANSACTION;
+INSERT INTO Bookings VALUES ('Minnie', 122);
+SELECT fno, dest FROM Flights WHERE fno > 122 AND dest <> 'Paris';
+COMMIT;
