@@ -15,7 +15,7 @@ use std::fs;
 
 /// What a run gave: its report, or its fault.
 #[derive(Drop)]
-struct Ran {
+struct Outcome {
     output: Vec<u8>,
     fault: Option<RunFault>,
 }
@@ -34,11 +34,11 @@ fn main(rt: HostRuntime) -> Result<()> {
     Ok(())
 }
 
-fn ran(alloc: Global, input: &[u8]) -> Ran {
+fn run_over(alloc: Global, input: &[u8]) -> Outcome {
     let mut reader = Watched::new(input);
     let mut writer = Watched::new(Vec::new(alloc));
     let fault = run(alloc, &mut reader, &mut writer).err();
-    Ran {
+    Outcome {
         output: writer.inner,
         fault,
     }
@@ -62,7 +62,7 @@ fn check_row(rt: &HostRuntime, name: &str, status: &str, line: &str) -> Result<(
     let alloc = rt.alloc();
     let input = fs::read(rt, format!(in alloc; "rows/{name}.in")?)?;
     let wanted = fs::read(rt, format!(in alloc; "rows/{name}.out")?)?;
-    let ran = ran(alloc, input.as_slice());
+    let ran = run_over(alloc, input.as_slice());
     ensure!(ran.output == wanted, "another report");
     let (got_status, got_line) = match ran.fault {
         Some(fault) => (
@@ -71,11 +71,9 @@ fn check_row(rt: &HostRuntime, name: &str, status: &str, line: &str) -> Result<(
         ),
         None => (0, String::new(alloc)),
     };
-    ensure!(
-        format!(in alloc; "{got_status}")? == status,
-        "status {got_status}"
-    );
-    ensure!(got_line == line, "fault {got_line}");
+    let got_status = format!(in alloc; "{got_status}")?;
+    ensure!(got_status.as_str() == status, "status {got_status}");
+    ensure!(got_line.as_str() == line, "fault {got_line}");
     Ok(())
 }
 
@@ -83,7 +81,7 @@ fn check_example(rt: &HostRuntime, name: &str) -> Result<()> {
     let alloc = rt.alloc();
     let input = fs::read(rt, format!(in alloc; "examples/{name}.sql")?)?;
     let wanted = fs::read(rt, format!(in alloc; "examples/{name}.report")?)?;
-    let ran = ran(alloc, input.as_slice());
+    let ran = run_over(alloc, input.as_slice());
     ensure!(ran.output == wanted, "example {name} gives another report");
     Ok(())
 }
@@ -91,13 +89,13 @@ fn check_example(rt: &HostRuntime, name: &str) -> Result<()> {
 /// The longest input, of white space alone, and one byte more.
 fn check_longest(alloc: Global) -> Result<()> {
     let mut spaces = vec![in alloc; b' '; 16_777_216]?;
-    let longest = ran(alloc, spaces.as_slice());
+    let longest = run_over(alloc, spaces.as_slice());
     ensure!(
-        longest.output.as_slice() == b"report 1\nend\n",
+        longest.output.as_slice() == b"report 1\nend\n".as_slice(),
         "the longest input"
     );
     spaces.push(b' ')?;
-    let longer = ran(alloc, spaces.as_slice());
+    let longer = run_over(alloc, spaces.as_slice());
     ensure!(longer.fault == Some(RunFault::TooLong), "a longer input");
     ensure!(longer.output.is_empty(), "a longer input is answered");
     Ok(())
@@ -118,7 +116,7 @@ fn check_failing_streams(alloc: Global) -> Result<()> {
     let unwritten = run(alloc, &mut reader, &mut writer).err();
     ensure!(unwritten == Some(RunFault::WriteFault), "a failing writer");
     ensure!(
-        writer.inner.taken() == b"report 1\ntx 1 co",
+        writer.inner.taken() == b"report 1\ntx 1 co".as_slice(),
         "no beginning of the report"
     );
     Ok(())
