@@ -1,5 +1,5 @@
 //! A report written out.
-ghost use Rattle.std.specs.Prelude.{◌≡◌, ◌++◌, ◌⊎◌, true, OnOk, IfErr, IfSome, List, ℕ};
+ghost use Rattle.std.specs.Prelude.{◌≡◌, ◌≢◌, ◌++◌, ◌⊎◌, true, OnOk, IfErr, IfSome, List, ℕ};
 ghost use Rattle.std.specs.Io.KnownBytes.{Appends};
 ghost use Rattle.ent_book.specs.Book.{table_names, tables_database};
 ghost use Rattle.ent_book.specs.Report.{report_text};
@@ -53,6 +53,9 @@ pub fn write_report<W: Write>(
         (report_text (table_names book.now.tables) (tables_database book.now.tables) book.now.fates)) }
     // A fault of the writer comes only where it failed, or took no byte.
     ensures failure { IfErr result (λ fault. MarksFailure fault writer.new.failed writer.new.stalled) }
+    // After any other answer the writer's marks are as they were: nothing failed on the way.
+    ensures unfailed { result ≢ Err WriteFault → writer.new.failed ≡ writer.old.failed }
+    ensures unstalled { result ≢ Err WriteFault → writer.new.stalled ≡ writer.old.stalled }
 {
     let text = report(alloc, book)?;
     write_whole(writer, text.as_slice())
@@ -62,6 +65,8 @@ fn write_whole<W: Write>(writer: &mut Watched<W>, text: &[u8]) -> Result<(), Rep
     ensures written { OnOk result (Appends (W.contents writer.old.inner) (W.contents writer.new.inner) text.now) }
     ensures beginning { IfErr result (λ fault. AppendsBeginning fault (W.contents writer.old.inner) (W.contents writer.new.inner) text.now) }
     ensures failure { IfErr result (λ fault. MarksFailure fault writer.new.failed writer.new.stalled) }
+    ensures unfailed { result ≢ Err WriteFault → writer.new.failed ≡ writer.old.failed }
+    ensures unstalled { result ≢ Err WriteFault → writer.new.stalled ≡ writer.old.stalled }
 {
     let mut rest = text;
     while !rest.is_empty() {

@@ -1,16 +1,15 @@
 -- The book of an input is that of its scripts run one after the other.
-use Rattle.std.proofs.Common.{◌≡◌, ℕ, cond, List, [], ◌∷◌, length, map, Option, Some, None, Result, Ok, Err, refl, sym, ap, ◌∙◌, arith, subst}
+use Rattle.std.proofs.Common.{◌≡◌, cond, List, [], ◌∷◌, length, map, None, Result, Ok, Err, refl, sym, ap, ◌∙◌, subst}
 use Rattle.std.specs.Prelude.{All}
 use Rattle.std.specs.List.{AllByRecursion}
 use Rattle.std.specs.Arc.{arc_value}
 use Rattle.std.proofs.lemmas.List.Elements.{All-from_recursion}
-use Rattle.ent_set.specs.Sets as set
 use Rattle.ent_rel.specs.Relation.{Relation}
 use Rattle.ent_value.specs.declared.value.Kind.{Kind}
 use Rattle.ent_sql.specs.declared.tree.Create.{Create}
 use Rattle.ent_sql.specs.declared.tree.Input.{Input}
 use Rattle.ent_sql.specs.declared.tree.Script.{Script}
-use Rattle.ent_semantics.specs.Database.{Name, Rows, Database, same_name}
+use Rattle.ent_semantics.specs.Database.{Name, Rows, same_name}
 use Rattle.ent_form.specs.declared.catalogue.TableSchema.{TableSchema}
 use Rattle.ent_form.specs.declared.plain.Plain.{Plain}
 use Rattle.ent_form.specs.Catalogue.{schemas_of, names_of}
@@ -31,10 +30,10 @@ use Rattle.ent_form.specs.FirstFault.{opening_fault, statement_fault}
 use Rattle.ent_form.specs.Plain.{plain_statement}
 use Rattle.ent_form.specs.PlainMeaning.{PlainEffect, plain_meaning, effect_of, opening_tables, AreOfKinds}
 use Rattle.ent_book.specs.declared.book.Fate.{Fate}
-use Rattle.ent_engine.specs.Outcome.{Outcome, outcomes, outcome_of}
+use Rattle.ent_engine.specs.Outcome.{outcomes, outcome_of}
 use Rattle.ent_engine.specs.Reading.{form_fault}
-use Rattle.ent_engine.specs.Tables.{PlainOutcome, plain_outcomes, outcome_of_tables}
-use Rattle.ent_engine.proofs.Loading.{map-map, length_map}
+use Rattle.ent_engine.specs.Tables.{plain_outcomes, outcome_of_tables}
+use Rattle.ent_engine.proofs.Loading.{length_map}
 use Rattle.ent_engine.proofs.Same.{none_before, EffectOfKinds, as_outcome, same_outcome}
 
 -- tables under their names

@@ -1,8 +1,7 @@
 -- Tables that are loaded with their opening rows.
-use Rattle.std.proofs.Common.{◌≡◌, ℕ, zero, suc, ◌+◌, ◌<◌, ◌≤◌, Bool, true, false, cond, List, [], ◌∷◌, ◌++◌, length, map, get_or, Option, Some, None, Result, Ok, Err, refl, sym, ap, ◌∙◌, arith, subst}
+use Rattle.std.proofs.Common.{◌≡◌, ℕ, zero, suc, ◌+◌, ◌<◌, ◌≤◌, Bool, true, false, cond, List, [], ◌∷◌, length, map, get_or, Option, Some, None, Err, refl, sym, ap, ◌∙◌, arith, subst}
 use Rattle.std.specs.Prelude.{slice_get, slice_index_or, nat_le, All}
 use Rattle.std.specs.List.{AllByRecursion, filter}
-use Rattle.std.specs.Arc.{arc_value}
 use Rattle.std.proofs.lemmas.List.Elements.{All-from_recursion}
 use Rattle.std.proofs.lemmas.Bool.{le-leb}
 use Rattle.ent_set.specs.Sets as set
@@ -11,11 +10,10 @@ use Rattle.ent_value.specs.Value.{row_cmp, kinds_of}
 use Rattle.ent_value.specs.Order.{rows_total, exact_rows}
 use Rattle.ent_value.specs.declared.value.Value.{Value}
 use Rattle.ent_value.specs.declared.value.Kind.{Kind}
-use Rattle.ent_rel.specs.Relation.{Relation, RowSet, bounded}
-use Rattle.ent_rel.specs.Answer.{GivesAlways}
+use Rattle.ent_rel.specs.Relation.{RowSet, bounded}
+use Rattle.ent_rel.specs.Answer.{Gives}
 use Rattle.ent_rel.specs.declared.fault.TableFault.{TableFault}
 use Rattle.ent_rel.specs.declared.fault.TableFault.TheVariants.{Memory, TableFull}
-use Rattle.ent_sql.specs.declared.tree.Create.{Create}
 use Rattle.ent_sql.specs.declared.tree.Insert.{Insert}
 use Rattle.ent_sql.specs.declared.tree.Opening.{Opening}
 use Rattle.ent_semantics.specs.Database.{Name, same_name, row_of}
@@ -80,18 +78,22 @@ few_rows opening name le =
     let c : length named ≤ length opening.rows = filter_le (λ (insert : Insert). same_name insert.table.name name) opening.rows in
     omega arith
 
-never_full : {X : Type 0} (rows : RowSet) (x : X) (fault : TableFault) → set.len rows ≤ 65536 → GivesAlways (Err fault) (bounded rows x) → ⊥
-never_full rows x Memory le h = h
-never_full {X} rows x TableFull le h = let e : cond (nat_le (set.len rows) 65536) (Some x) None ≡ None = h in on (nat_le (set.len rows) 65536) (le-leb (set.len rows) 65536 le) e
+never_full : {X : Type 0} (rows : RowSet) (x : X) → set.len rows ≤ 65536 → bounded rows x ≡ None → ⊥
+never_full {X} rows x le e = on (nat_le (set.len rows) 65536) (le-leb (set.len rows) 65536 le) e
   where
     on : (b : Bool) → b ≡ true → cond b (Some x) None ≡ None → ⊥
     on true p q = cc
     on false p q = cc
 
-pub fits_always : {X : Type 0} (opening : Opening) (name : Name) (rows : List (List Value)) (x : X) (fault : TableFault) → length opening.rows ≤ 65536 → rows ≡ rows_named opening name
-    → GivesAlways (Err fault) (bounded (set.from_list rows) x) → ⊥
-fits_always {X} opening name rows x fault le is h =
-    never_full (set.from_list rows) x fault (subst (λ (rs : List (List Value)). set.len (set.from_list {R = row_cmp} rs) ≤ 65536) (sym is) (few_rows opening name le)) h
+pub fits_always : {X : Type 0} (opening : Opening) (name : Name) (rows : List (List Value)) (x : X) → length opening.rows ≤ 65536 → rows ≡ rows_named opening name
+    → bounded (set.from_list rows) x ≡ None → ⊥
+fits_always {X} opening name rows x le is h =
+    never_full (set.from_list rows) x (subst (λ (rs : List (List Value)). set.len (set.from_list {R = row_cmp} rs) ≤ 65536) (sym is) (few_rows opening name le)) h
+
+-- what a full table tells
+pub full_is : {X Y : Type 0} (view : X → Y) (fault : TableFault) (meant : Option Y) → fault ≡ TableFull → Gives view (Err fault) meant → meant ≡ None
+full_is view Memory meant e h = absurd cc
+full_is view TableFull meant e h = h
 
 pub loaded_is : {X : Type 0} (rows : RowSet) (x y : X) → bounded rows x ≡ Some y → x ≡ y
 loaded_is {X} rows x y e = on (nat_le (set.len rows) 65536) e

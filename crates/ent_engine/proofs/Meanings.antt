@@ -1,7 +1,6 @@
 -- A statement over tables, from what it does to its one table.
-use Rattle.std.proofs.Common.{◌≡◌, ℕ, zero, suc, ◌<◌, Bool, true, false, cond, List, [], ◌∷◌, length, map, get_or, Option, Some, None, Result, Ok, Err, refl, sym, ap, ◌∙◌, arith, subst}
+use Rattle.std.proofs.Common.{◌≡◌, ℕ, zero, suc, ◌<◌, Bool, true, false, cond, List, [], ◌∷◌, length, map, get_or, Some, None, Result, Ok, Err, refl, sym, ap, ◌∙◌, arith}
 use Rattle.std.specs.Prelude.{slice_set, slice_index_or, nat_le}
-use Rattle.std.specs.Arc.{arc_value}
 use Rattle.std.proofs.Math.ListN.{set}
 use Rattle.ent_set.specs.Sets as finite
 use Rattle.ent_value.specs.declared.value.Value.{Value}
@@ -10,14 +9,11 @@ use Rattle.ent_value.specs.declared.refusal.Refusal.{Refusal}
 use Rattle.ent_value.specs.declared.refusal.Refusal.TheVariants as refusals
 use Rattle.ent_value.specs.Refusal.{Refuses}
 use Rattle.ent_rel.specs.Relation.{Relation, RowSet}
-use Rattle.ent_rel.specs.Change.{insertion}
-use Rattle.ent_semantics.specs.declared.answer.Answer.{Answer}
 use Rattle.ent_semantics.specs.declared.answer.Answer.TheVariants as answers
 use Rattle.ent_semantics.specs.declared.answer.Failure.{Failure}
 use Rattle.ent_semantics.specs.declared.answer.Failure.TheVariants.{TableFull}
 use Rattle.ent_form.specs.declared.plain.PlainOperand.{PlainOperand}
 use Rattle.ent_form.specs.declared.plain.PlainTest.{PlainTest}
-use Rattle.ent_form.specs.declared.plain.PlainStatement.{PlainStatement}
 use Rattle.ent_form.specs.declared.plain.PlainStatement.TheVariants as resolved
 use Rattle.ent_form.specs.PlainMeaning.{PlainEffect, plain_meaning, plain_selection, table_rows}
 use Rattle.ent_engine.specs.Insertion.{or_full, insertion_of}

@@ -1,25 +1,22 @@
 -- Resolved scripts run to the same end as the scripts that they were made of.
-use Rattle.std.proofs.Common.{◌≡◌, ℕ, ◌+◌, List, [], ◌∷◌, map, Option, Some, None, Result, Ok, Err, refl, sym, ap, ◌∙◌, subst}
+use Rattle.std.proofs.Common.{◌≡◌, ℕ, ◌+◌, List, [], ◌∷◌, map, Option, Some, None, Result, Ok, Err, refl, ap, ◌∙◌}
 use Rattle.std.specs.Option.{option_map}
-use Rattle.std.specs.Prelude.{unwrap_or}
 use Rattle.ent_value.specs.declared.value.Kind.{Kind}
 use Rattle.ent_sql.specs.declared.tree.Create.{Create}
 use Rattle.ent_sql.specs.declared.tree.Script.{Script}
 use Rattle.ent_sql.specs.declared.tree.Statement.{Statement}
 use Rattle.ent_semantics.specs.declared.answer.Answer.{Answer}
 use Rattle.ent_semantics.specs.declared.answer.Failure.{Failure}
-use Rattle.ent_semantics.specs.declared.answer.Failure.TheVariants.{TableFull}
-use Rattle.ent_semantics.specs.Database.{Name, Rows, Database, Environment, nothing_bound}
-use Rattle.ent_semantics.specs.Statement.{Effect, statement_meaning}
-use Rattle.ent_semantics.specs.Serial.{Run, after, statements_run, script_run, answered_first}
+use Rattle.ent_semantics.specs.Database.{Name, Rows, Environment, nothing_bound}
+use Rattle.ent_semantics.specs.Statement.{statement_meaning}
+use Rattle.ent_semantics.specs.Serial.{Run, statements_run, script_run, answered_first}
 use Rattle.ent_form.specs.declared.catalogue.TableSchema.{TableSchema}
 use Rattle.ent_form.specs.FirstFault.{Check, ◌before◌, first_of, statement_fault, script_fault}
 use Rattle.ent_form.specs.Plain.{plain_statement, plain_script}
 use Rattle.ent_form.specs.PlainMeaning.{PlainEffect, plain_meaning, database_of, effect_of, AreOfKinds}
-use Rattle.ent_book.specs.declared.book.Fate.{Fate}
 use Rattle.ent_book.specs.declared.book.Fate.TheVariants.{Committed, Failed}
-use Rattle.ent_engine.specs.Outcome.{Outcome, with_fate, failure_behind, failure_of, fated, outcomes}
-use Rattle.ent_engine.specs.Tables.{PlainRun, PlainOutcome, answered, run_behind, plain_run, plain_fated, plain_outcomes, with_plain_fate}
+use Rattle.ent_engine.specs.Outcome.{Outcome, with_fate, failure_of, outcomes}
+use Rattle.ent_engine.specs.Tables.{PlainRun, PlainOutcome, answered, run_behind, plain_run, plain_fated, plain_outcomes}
 
 -- no fault of two checks is no fault of either
 pub none_before : (first later : Check) → first before later ≡ None → (first ≡ None) × (later ≡ None)

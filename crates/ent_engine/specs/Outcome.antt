@@ -1,5 +1,5 @@
 -- What becomes of the scripts of an input, each run alone to its end, in order.
-use Rattle.std.specs.Prelude.{ℕ, suc, ◌+◌, List, [], ◌∷◌, map, Option, Some, None, Result, Ok, Err, unwrap_or}
+use Rattle.std.specs.Prelude.{ℕ, ◌+◌, List, [], ◌∷◌, map, Option, Some, None, Result, Ok, Err, unwrap_or}
 use Rattle.ent_sql.specs.declared.tree.Create.{Create}
 use Rattle.ent_sql.specs.declared.tree.Input.{Input}
 use Rattle.ent_sql.specs.declared.tree.Script.{Script}
@@ -7,7 +7,7 @@ use Rattle.ent_sql.specs.declared.tree.Statement.{Statement}
 use Rattle.ent_semantics.specs.declared.answer.Answer.{Answer}
 use Rattle.ent_semantics.specs.declared.answer.Failure.{Failure}
 use Rattle.ent_semantics.specs.declared.answer.Failure.TheVariants.{TableFull}
-use Rattle.ent_semantics.specs.Database.{Name, Database, Environment, nothing_bound, opening_database}
+use Rattle.ent_semantics.specs.Database.{Database, Environment, nothing_bound, opening_database}
 use Rattle.ent_semantics.specs.Statement.{Effect, statement_meaning}
 use Rattle.ent_semantics.specs.Serial.{Valuation, Run, script_run}
 use Rattle.ent_book.specs.declared.book.Fate.{Fate}

@@ -1,5 +1,5 @@
 -- Which bytes are an input, and why others are refused.
-use Rattle.std.specs.Prelude.{◌≡◌, ℕ, Bool, true, ◌<◌, ◌≤◌, ◌⊎◌, List, length, Option, Some, None, Result, Ok, Err, IfSome}
+use Rattle.std.specs.Prelude.{◌≡◌, ℕ, ◌<◌, ◌≤◌, List, length, Some, None, Ok, Err}
 use Rattle.std.specs.Str.{IsUtf8, IsValidUpTo}
 use Rattle.ent_sql.specs.declared.tree.Input.{Input}
 use Rattle.ent_sql.specs.Grammar.{reading}

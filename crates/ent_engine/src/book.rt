@@ -22,7 +22,7 @@ use ent_form::law::{
     resolved_means_the_same,
 };
 use ent_form::{Catalogue, ColumnSchema, TableSchema, opening_rows};
-use ent_rel::Table;
+use ent_rel::{Table, TableFault};
 use ent_sql::Opening;
 use ent_value::{Kind, Sequence};
 use std::alloc::{AllocError, Global};
@@ -102,10 +102,11 @@ fn load_table(
     let _ = opening.rows.len();
     let kinds = kinds_of(alloc, schema.columns.as_slice())?;
     let rows = opening_rows(alloc, catalogue, number, opening)?;
-    match Table::load(kinds, rows) {
+    match Table::load(alloc, kinds, rows) {
         Ok(table) => Ok(table),
-        // An input opens with at most 65,536 rows, so no table is too full; and loading takes no memory.
-        Err(_) => unreachable!(),
+        Err(TableFault::Memory) => Err(AllocError),
+        // An input opens with at most 65,536 rows, so no table is too full.
+        Err(TableFault::TableFull) => unreachable!(),
     }
 }
 

@@ -7,3 +7,6 @@ pub mod ByNumber
 pub mod Selecting
 pub mod Same
 pub mod Opened
+pub mod Heads
+pub mod Membership
+pub mod Stands

@@ -86,8 +86,11 @@ inserts_fit schemas (insert ∷ rows) e = (insert_fits schemas insert (first_non
 pub opening_fits : (opening : Opening) → opening_fault opening ≡ None → AllByRecursion (InsertFits (schemas_of opening.tables)) opening.rows
 opening_fits opening e = inserts_fit (schemas_of opening.tables) opening.rows (later_none (declarations_fault [] opening.tables) _ e)
 
-distinct_names : (opening : Opening) → opening_fault opening ≡ None → IsDistinct same_name (names_of (schemas_of opening.tables))
-distinct_names opening e = (declared_new [] opening.tables (first_none (declarations_fault [] opening.tables) _ e)).1
+pub distinct_names : (creates : List Create) → declarations_fault [] creates ≡ None → IsDistinct same_name (names_of (schemas_of creates))
+distinct_names creates e = (declared_new [] creates e).1
+
+pub name_number : (creates : List Create) (table : ℕ) → declarations_fault [] creates ≡ None → table < length (schemas_of creates) → index_of (names_of (schemas_of creates)) (slice_index_or (names_of (schemas_of creates)) table []) ≡ table
+name_number creates table e l = index_at (names_of (schemas_of creates)) table (distinct_names creates e) (omega (arith, length-map (schemas_of creates) (λ table. table.name)))
 
 named_fit : (schemas : List TableSchema) (name : Name) (kinds : List Kind) (rows : List Insert) → slice_index_or (map schema_kinds schemas) (index_of (names_of schemas) name) [] ≡ kinds → AllByRecursion (InsertFits schemas) rows
     → AllByRecursion (λ row. kinds_of row ≡ kinds) (map row_of (filter (λ insert. same_name insert.table.name name) rows))
@@ -103,7 +106,7 @@ pub table_fits : (opening : Opening) (table : ℕ) → opening_fault opening ≡
     → AllByRecursion (λ row. kinds_of row ≡ slice_index_or (map schema_kinds (schemas_of opening.tables)) table []) (rows_named opening (slice_index_or (names_of (schemas_of opening.tables)) table []))
 table_fits opening table e l =
     let schemas = schemas_of opening.tables in
-    let at : index_of (names_of schemas) (slice_index_or (names_of schemas) table []) ≡ table = index_at (names_of schemas) table (distinct_names opening e) (omega (arith, length-map schemas (λ table. table.name))) in
+    let at : index_of (names_of schemas) (slice_index_or (names_of schemas) table []) ≡ table = name_number opening.tables table (first_none (declarations_fault [] opening.tables) _ e) l in
     named_fit schemas (slice_index_or (names_of schemas) table []) (slice_index_or (map schema_kinds schemas) table []) opening.rows (ap (λ n. slice_index_or (map schema_kinds schemas) n []) at) (opening_fits opening e)
 
 OfKinds-from_list : (kinds : List Kind) (rows : List (List Value)) → AllByRecursion (λ row. kinds_of row ≡ kinds) rows → OfKinds kinds (set.from_list rows)

@@ -1,5 +1,5 @@
 //! The tables that an input declares.
-ghost use Rattle.std.specs.Prelude.{◌≡◌, ◌+◌, IfSome, IfOk, map};
+ghost use Rattle.std.specs.Prelude.{◌≡◌, IfSome, IfOk};
 ghost use Rattle.std.specs.Option.{option_map};
 ghost use Rattle.ent_value.specs.Refusal.{Gives};
 ghost use Rattle.ent_form.specs.Catalogue.{column_schema, table_schema, schemas_of, table_named, column_kind, index_of, names_of, column_names};
@@ -46,10 +46,11 @@ impl TableSchema {
 }
 
 impl Catalogue {
-    /// The tables of an input whose declarations and opening rows have no fault; else the first fault, those of the
-    /// declarations before those of the rows.
+    /// The tables of an input whose declarations and opening rows have no fault; else the first fault, those of
+    /// the declarations before those of the rows.
     pub fn of(alloc: Global, opening: &Opening) -> Result<Catalogue, Refusal<FormFault>>
-        ensures { Gives (λ catalogue. catalogue.tables) result (unless (opening_fault opening.now) (schemas_of opening.now.tables)) }
+        ensures { Gives (λ catalogue. catalogue.tables) result
+            (unless (opening_fault opening.now) (schemas_of opening.now.tables)) }
     {
         if let Some(fault) = declarations_fault(opening.tables.as_slice()) {
             return Err(Refusal::Fault(fault));

@@ -1,5 +1,5 @@
-//! Operands and tests resolved against the columns of a table.
-ghost use Rattle.std.specs.Prelude.{◌≡◌, IfOk, Some, map, Ok};
+//! Operands, tests and items resolved against the columns of a table.
+ghost use Rattle.std.specs.Prelude.{◌≡◌, IfOk, map};
 ghost use Rattle.ent_value.specs.Refusal.{Gives};
 ghost use Rattle.ent_form.specs.Catalogue.{column_names};
 ghost use Rattle.ent_form.specs.FirstFault.{operand_place, operand_kind, operand_fault, test_fault, first_of, items_fault, unless};
@@ -28,7 +28,9 @@ fn plain_operand(
     table: &TableSchema,
     operand: &Operand,
 ) -> Result<(PlainOperand, Kind), Refusal<FormFault>>
-    ensures operand { Gives (λ found. found.0) result (unless (operand_fault table.now.columns operand.now) (plain_operand (column_names table.now.columns) operand.now)) }
+    ensures operand { Gives (λ found. found.0) result
+        (unless (operand_fault table.now.columns operand.now)
+        (plain_operand (column_names table.now.columns) operand.now)) }
     ensures kind { IfOk result (λ found. operand_kind table.now.columns operand.now ≡ Some found.1) }
 {
     match operand {
@@ -49,7 +51,9 @@ fn plain_test(
     table: &TableSchema,
     test: &Test,
 ) -> Result<PlainTest, Refusal<FormFault>>
-    ensures { Gives (λ plain. plain) result (unless (test_fault table.now.columns test.now) (plain_test (column_names table.now.columns) test.now)) }
+    ensures { Gives (λ plain. plain) result
+        (unless (test_fault table.now.columns test.now)
+        (plain_test (column_names table.now.columns) test.now)) }
 {
     let (left, left_kind) = plain_operand(alloc, table, &test.left)?;
     let (right, right_kind) = plain_operand(alloc, table, &test.right)?;
@@ -69,7 +73,9 @@ pub(crate) fn plain_tests(
     table: &TableSchema,
     tests: &[Test],
 ) -> Result<Sequence<PlainTest>, Refusal<FormFault>>
-    ensures { Gives (λ plain. plain) result (unless (first_of (test_fault table.now.columns) tests.now) (map (plain_test (column_names table.now.columns)) tests.now)) }
+    ensures { Gives (λ plain. plain) result
+        (unless (first_of (test_fault table.now.columns) tests.now)
+        (map (plain_test (column_names table.now.columns)) tests.now)) }
 {
     let mut plain = Vec::with_capacity(alloc, tests.len())?;
     for test in tests {
@@ -84,7 +90,9 @@ fn plain_operands(
     table: &TableSchema,
     operands: &[Operand],
 ) -> Result<Sequence<PlainOperand>, Refusal<FormFault>>
-    ensures { Gives (λ plain. plain) result (unless (first_of (operand_fault table.now.columns) operands.now) (map (plain_operand (column_names table.now.columns)) operands.now)) }
+    ensures { Gives (λ plain. plain) result
+        (unless (first_of (operand_fault table.now.columns) operands.now)
+        (map (plain_operand (column_names table.now.columns)) operands.now)) }
 {
     let mut plain = Vec::with_capacity(alloc, operands.len())?;
     for operand in operands {
@@ -110,7 +118,9 @@ pub(crate) fn plain_items(
     table: &TableSchema,
     items: &Items,
 ) -> Result<Sequence<PlainOperand>, Refusal<FormFault>>
-    ensures { Gives (λ plain. plain) result (unless (items_fault table.now.columns items.now) (plain_items (column_names table.now.columns) items.now)) }
+    ensures { Gives (λ plain. plain) result
+        (unless (items_fault table.now.columns items.now)
+        (plain_items (column_names table.now.columns) items.now)) }
 {
     match items {
         Items::All => Ok(every_column(alloc, table)?),

@@ -1,5 +1,5 @@
 //! Rows that are put in.
-ghost use Rattle.std.specs.Prelude.{◌≡◌, ◌<◌, [], IfOk, map, length, slice_index_or};
+ghost use Rattle.std.specs.Prelude.{◌≡◌, ◌<◌, [], IfOk, length, slice_index_or};
 ghost use Rattle.ent_semantics.specs.Database.{row_of};
 ghost use Rattle.ent_form.specs.Catalogue.{names_of};
 ghost use Rattle.ent_form.specs.FirstFault.{same_kind, values_fault, insert_fault, first_of, row_fault};
@@ -29,7 +29,8 @@ fn values_fault(columns: &[ColumnSchema], literals: &[Literal]) -> Option<FormFa
     None
 }
 
-/// What keeps a row out of a table: the number of its values, else the first value of another kind than its column.
+/// What keeps a row out of a table: the number of its values, else the first value of another kind than its
+/// column.
 pub(crate) fn row_fault(table: &TableSchema, insert: &Insert) -> Option<FormFault>
     ensures { result ≡ row_fault table.now insert.now }
 {
@@ -79,7 +80,8 @@ pub fn opening_rows(
     opening: &Opening,
 ) -> Result<Vec<Row>, AllocError>
     requires { table < length catalogue.now.tables }
-    ensures { IfOk result (λ rows. rows.items ≡ rows_named opening.now (slice_index_or (names_of catalogue.now.tables) table [])) }
+    ensures { IfOk result (λ rows.
+        rows.items ≡ rows_named opening.now (slice_index_or (names_of catalogue.now.tables) table [])) }
 {
     let name = &catalogue.tables.as_slice()[table].name;
     let mut rows = Vec::new(alloc);

@@ -1,19 +1,18 @@
 //! Statements resolved against the catalogue.
-ghost use Rattle.std.specs.Prelude.{◌≡◌, IfOk, Some, map, Ok};
+ghost use Rattle.std.specs.Prelude.{IfOk, map};
 ghost use Rattle.std.specs.List.{AllByRecursion};
 ghost use Rattle.ent_value.specs.Refusal.{Gives};
 ghost use Rattle.ent_sql.specs.declared.tree.Statement.TheVariants as statements;
-ghost use Rattle.ent_form.specs.Catalogue.{table_named, index_of, names_of};
-ghost use Rattle.ent_form.specs.FirstFault.{insert_fault, select_fault, statement_fault, script_fault, first_of, unless};
+ghost use Rattle.ent_form.specs.FirstFault.{insert_fault, select_fault, statement_fault, script_fault, unless};
 ghost use Rattle.ent_form.specs.Plain.{plain_statement, plain_script};
 ghost use Rattle.ent_form.specs.PlainMeaning.{Fits, schema_kinds};
 
-use crate::catalogue::{Catalogue, TableSchema};
+use crate::catalogue::Catalogue;
 use crate::fault::FormFault;
 use crate::operand::{plain_items, plain_tests};
 use crate::plain::{Plain, PlainStatement};
 use crate::row::{row_fault, row_of};
-use ent_sql::{Identifier, Insert, Script, Select, Statement};
+use ent_sql::{Insert, Script, Select, Statement};
 use ent_value::{Refusal, Sequence};
 use std::alloc::Global;
 
@@ -22,7 +21,9 @@ fn plain_insert(
     catalogue: &Catalogue,
     insert: &Insert,
 ) -> Result<PlainStatement, Refusal<FormFault>>
-    ensures { Gives (λ plain. plain) result (unless (insert_fault catalogue.now.tables insert.now) (plain_statement catalogue.now.tables (statements.Insert insert.now))) }
+    ensures { Gives (λ plain. plain) result
+        (unless (insert_fault catalogue.now.tables insert.now)
+        (plain_statement catalogue.now.tables (statements.Insert insert.now))) }
 {
     let Some((table, schema)) = catalogue.table_named(&insert.table.name) else {
         return Err(Refusal::Fault(FormFault::NoTable(insert.table.place)));
@@ -41,7 +42,9 @@ fn plain_select(
     catalogue: &Catalogue,
     select: &Select,
 ) -> Result<PlainStatement, Refusal<FormFault>>
-    ensures { Gives (λ plain. plain) result (unless (select_fault catalogue.now.tables select.now) (plain_statement catalogue.now.tables (statements.Select select.now))) }
+    ensures { Gives (λ plain. plain) result
+        (unless (select_fault catalogue.now.tables select.now)
+        (plain_statement catalogue.now.tables (statements.Select select.now))) }
 {
     let Some((table, schema)) = catalogue.table_named(&select.source.name) else {
         return Err(Refusal::Fault(FormFault::NoTable(select.source.place)));
@@ -60,7 +63,9 @@ fn plain_statement(
     catalogue: &Catalogue,
     statement: &Statement,
 ) -> Result<PlainStatement, Refusal<FormFault>>
-    ensures { Gives (λ plain. plain) result (unless (statement_fault catalogue.now.tables statement.now) (plain_statement catalogue.now.tables statement.now)) }
+    ensures { Gives (λ plain. plain) result
+        (unless (statement_fault catalogue.now.tables statement.now)
+        (plain_statement catalogue.now.tables statement.now)) }
 {
     match statement {
         Statement::Insert(insert) => plain_insert(alloc, catalogue, insert),
@@ -75,8 +80,12 @@ pub fn resolve(
     catalogue: &Catalogue,
     script: &Script,
 ) -> Result<Plain, Refusal<FormFault>>
-    ensures exact { Gives (λ plain. plain) result (unless (script_fault catalogue.now.tables script.now) (plain_script catalogue.now.tables script.now)) }
-    ensures fits { IfOk result (λ plain. AllByRecursion (Fits (map schema_kinds catalogue.now.tables)) plain.statements) }
+    ensures exact { Gives (λ plain. plain) result
+        (unless (script_fault catalogue.now.tables script.now)
+        (plain_script catalogue.now.tables script.now)) }
+    // Tables are there, and rows have the kinds of their table's columns.
+    ensures fits { IfOk result (λ plain.
+        AllByRecursion (Fits (map schema_kinds catalogue.now.tables)) plain.statements) }
 {
     let mut statements = Vec::with_capacity(alloc, script.statements.len())?;
     for statement in script.statements.as_slice() {

@@ -1,16 +1,16 @@
 -- Lists of rows: what a loop over them has made, and what they have in common with the set of their rows.
-use Rattle.std.proofs.Common.{◌≡◌, ℕ, zero, suc, ◌+◌, ◌<◌, Bool, true, false, cond, not, List, [], ◌∷◌, ◌++◌, length, refl, sym, ap, subst, ◌∙◌, arith, Some, None, get_or, take, append-nil}
+use Rattle.std.proofs.Common.{◌≡◌, ℕ, zero, suc, ◌+◌, ◌<◌, Bool, true, false, cond, not, List, [], ◌∷◌, ◌++◌, length, refl, sym, ap, subst, ◌∙◌, arith, Some, None, get_or, take, drop, append-nil}
 use Rattle.std.specs.Prelude.{is_some, Option, Result, IsTrue, All, ◌&&◌, ◌||◌}
 use Rattle.std.specs.List.{filter, list_any, list_all, filter_map, cons_option, Contains}
 use Rattle.std.specs.Ordering.{eq_by_cmp}
 use Rattle.std.specs.Cmp.{Equal-is}
-use Rattle.std.proofs.lemmas.List.{take_more}
-use Rattle.std.proofs.lemmas.List.Elements.{filter_more, filter_map-append, All-contains}
+use Rattle.std.proofs.lemmas.List.{take_more, take_all, take-append-le}
+use Rattle.std.proofs.lemmas.List.Elements.{filter_more, filter_map-append, All-append, All-take, All-contains}
 use Rattle.std.proofs.lemmas.Map.Views.{Contains-from_any, list_any-from_Contains}
 use denote.Param.Members.{Shared}
 use denote.Ref.{Bor}
 use Rattle.ent_set.specs.Sets as set
-use Rattle.ent_set.specs.Laws.{contains-from_list}
+use Rattle.ent_set.specs.Laws.{same_set, contains-from_list, contains-insert_all}
 use Rattle.ent_value.specs.declared.value.Value.{Value}
 use Rattle.ent_value.specs.declared.value.Kind.{Kind}
 use Rattle.ent_value.specs.Value.{row_cmp, kinds_of}
@@ -63,6 +63,10 @@ images_step f rows added next i x image h is some so e =
       e ∙ (λ j. so.1 j ++ sym put j) ∙ sym (filter_map-append f (take i rows) (x ∷ [])) ∙ ap (filter_map f) (sym more),
     )
 
+-- a list of as many elements written over another
+pub written_over : {X : Type 0} (n : ℕ) (xs old : List X) → length xs ≡ n → take n (xs ++ drop (length xs) old) ≡ xs
+written_over n xs old e = take-append-le n xs (drop (length xs) old) (omega arith) ∙ take_all n xs (omega arith)
+
 -- an element of a list is in the set of its elements
 pub there : (rows : List (List Value)) (row : List Value) → Contains rows row → IsTrue (set.contains (set.from_list {R = row_cmp} rows) row)
 there rows row here = contains-from_list rows_total exact_rows rows row ∙ list_any-from_Contains rows_equal row rows here
@@ -107,3 +111,33 @@ taken_from items given taken matched same also all =
 pub computes_listed : {F : Type 0} (calls : Shared F (Bor (List Value) × Unit {0}) Bool) (closure : F) (items given : List (List Value)) (s : RowSet) (passes : List Value → Bool) → set.from_list items ≡ s → given ≡ items → Computes calls closure s passes → Computes calls closure (set.from_list given) passes
 computes_listed calls closure items given s passes view same computes row answer here says =
     computes row answer (sym (ap (λ xs. set.contains (set.from_list {R = row_cmp} xs) row) same ∙ ap (λ t. set.contains t row) view) ∙ here) says
+
+any_append : (p : List Value → Bool) (xs ys : List (List Value)) → list_any p (xs ++ ys) ≡ (list_any p ys || list_any p xs)
+any_append p [] ys = sym (or_nothing (list_any p ys))
+  where
+    or_nothing : (b : Bool) → (b || false) ≡ b
+    or_nothing true = refl
+    or_nothing false = refl
+any_append p (x ∷ xs) ys = ap (λ b. p x || b) (any_append p xs ys) ∙ swapped (p x) (list_any p ys) (list_any p xs)
+  where
+    swapped : (a b c : Bool) → (a || (b || c)) ≡ (b || (a || c))
+    swapped true true c = refl
+    swapped true false c = refl
+    swapped false b c = refl
+
+-- the set of a list with others behind it
+pub from_append : (rows added : List (List Value)) → set.from_list {R = row_cmp} (rows ++ added) ≡ set.insert_all (set.from_list rows) added
+from_append rows added = same_set rows_total exact_rows _ _ (λ q.
+    contains-from_list rows_total exact_rows (rows ++ added) q ∙ any_append (eq_by_cmp row_cmp q) rows added
+    ∙ ap (λ b. list_any (eq_by_cmp row_cmp q) added || b) (sym (contains-from_list rows_total exact_rows rows q))
+    ∙ sym (contains-insert_all rows_total exact_rows (set.from_list rows) added q))
+
+-- rows that stay and rows that are put in have the table's kinds
+pub put_kinds : (kinds own mine : List Kind) (items given kept added put rows : List (List Value)) (i : ℕ) → rows ≡ kept ++ take i added → All (Contains given) kept → given ≡ items → All (λ row. kinds_of row ≡ mine) items → kinds ≡ mine → mine ≡ own → added ≡ put → All (λ row. kinds_of row ≡ own) put → All (λ row. kinds_of row ≡ kinds) rows
+put_kinds kinds own mine items given kept added put rows i e listed same fitting is view also all =
+    let P : List Value → Type 0 = λ row. kinds_of row ≡ kinds in
+    let Q : List (List Value) → Type 0 = λ xs. All (Contains xs) kept in
+    let R : List (List Value) → Type 0 = λ xs. All (λ row. kinds_of row ≡ own) xs in
+    let stay : All P kept = λ k d h. All-contains (λ row. kinds_of row ≡ mine) items (get_or kept k d) fitting (subst Q same listed k d h) ∙ sym is in
+    let come : All P added = λ k d h. subst R (sym also) all k d h ∙ sym view ∙ sym is in
+    rw e (All-append P kept (take i added) stay (All-take P i added come))

@@ -1,30 +1,28 @@
 -- What the calls on a table mean, case by case.
-use Rattle.std.proofs.Common.{◌≡◌, ℕ, ◌+◌, ◌≤◌, ◌<◌, Bool, true, false, cond, not, List, [], ◌∷◌, length, refl, sym, ap, ◌∙◌, arith, Some, None, get_or, drop, ◌++◌}
-use Rattle.std.specs.Prelude.{Err, is_some, Option, nat_le, ◌||◌, All, IsSome}
+use Rattle.std.proofs.Common.{◌≡◌, ℕ, ◌+◌, ◌≤◌, ◌<◌, Bool, true, false, cond, not, List, [], ◌∷◌, length, refl, sym, ap, ◌∙◌, arith, Some, None, ◌++◌, take}
+use Rattle.std.specs.Prelude.{Result, Ok, Err, IfOk, is_some, Option, nat_le, ◌||◌, IsSome}
 use Rattle.std.specs.List.{filter, IsDistinct, list_any, list_all, filter_map}
 use Rattle.std.specs.Ordering.{eq_by_cmp}
 use Rattle.std.proofs.lemmas.Bool.{le-leb, lt-leb}
-use Rattle.std.proofs.lemmas.Cmp.{eq_by_cmp_equiv}
-use Rattle.std.proofs.lemmas.List.{at_drop_more, length_push}
-use Rattle.std.proofs.lemmas.List.Elements.{All-filter, All-push}
+use Rattle.std.proofs.lemmas.List.{take_all}
+use Rattle.std.specs.List.Sorted.{IsPermutation}
+use Rattle.std.proofs.lemmas.List.Sorted.{list_any-IsPermutation}
 use Rattle.std.proofs.lemmas.List.Filters.{length-filter_both}
-use Rattle.std.proofs.lemmas.Map.Keys.{IsDistinct-push}
 use Rattle.ent_set.specs.Sets as set
 use Rattle.ent_set.specs.Sets.{insert_all}
-use Rattle.ent_set.specs.Laws.{any_agree, any_same_set, same_set, contains-insert_all, from_list-ascending, len-insert, from_list_push, contains-list, len_grows_all, without-list, insert_there, without-nothing, without-filter, len-distinct, from_list-filter, IsDistinct-filter}
+use Rattle.ent_set.specs.Laws.{any_same_set, same_set, contains-insert_all, from_list-ascending, len-insert, without-list, insert_there, without-nothing, without-filter, len-distinct, from_list-filter, IsDistinct-filter}
 use Rattle.ent_value.specs.declared.value.Value.{Value}
 use Rattle.ent_value.specs.declared.value.Kind.{Kind}
-use Rattle.ent_value.specs.Value.{row_cmp, kinds_of}
+use Rattle.ent_value.specs.Value.{row_cmp}
 use Rattle.ent_value.specs.Order.{rows_total, exact_rows}
 use Rattle.ent_rel.specs.Relation.{RowSet, Relation, bounded}
-use Rattle.ent_rel.specs.Kept.{IsKept}
 use Rattle.ent_rel.specs.Change.{insertion, deletion, application, changed_rows, replacement}
 use Rattle.ent_rel.specs.Answer.{Gives, Replaces, HasImages, as_replace_fault}
 use Rattle.ent_rel.specs.declared.fault.TableFault.{TableFault}
 use Rattle.ent_rel.specs.declared.fault.TableFault.TheVariants.{Memory, TableFull}
 use Rattle.ent_rel.specs.declared.fault.ReplaceFault.{ReplaceFault}
 use Rattle.ent_rel.specs.declared.fault.ReplaceFault.TheVariants as faults
-use Rattle.ent_rel.proofs.Lists.{all_of, any_filter_map, some_passes}
+use Rattle.ent_rel.proofs.Lists.{from_append, all_of, any_filter_map, some_passes}
 
 pub bounded_within : {X : Type 0} (s : RowSet) (x : X) → set.len s ≤ 65536 → bounded s x ≡ Some x
 bounded_within s x h = ap (λ b. cond b (Some x) None) (le-leb _ _ h)
@@ -70,68 +68,8 @@ without_rows = without-list rows_total exact_rows
 pub apply_within : (s : RowSet) (removed added : List (List Value)) → set.len (changed_rows s removed added) ≤ 65536 → application s removed added ≡ Some (changed_rows s removed added)
 apply_within s removed added h = bounded_within (changed_rows s removed added) (changed_rows s removed added) h
 
-pub apply_beyond : (s : RowSet) (removed added : List (List Value)) → 65536 < set.len (changed_rows s removed added) → application s removed added ≡ None
-apply_beyond s removed added h = bounded_beyond (changed_rows s removed added) (changed_rows s removed added) h
-
--- a list of distinct rows, as large as a table may be, and a row that is not in it
-pub too_many : (rows : List (List Value)) (row : List Value) (more : List (List Value)) → IsDistinct (eq_by_cmp row_cmp) rows → list_any (λ y. eq_by_cmp row_cmp y row) rows ≡ false → 65536 ≤ length rows → 65536 < set.len (insert_all (set.insert (set.from_list {R = row_cmp} rows) row) more)
-too_many rows row more distinct absent full =
-    let count : set.len (set.from_list {R = row_cmp} rows) ≡ length rows = len-distinct rows_total exact_rows rows distinct in
-    let one : set.len (set.insert (set.from_list {R = row_cmp} rows) row) ≡ set.len (set.from_list {R = row_cmp} rows) + 1 = len_more _ row (sym (contains-list rows_total exact_rows rows row) ∙ absent) in
-    let grown : set.len (set.insert (set.from_list {R = row_cmp} rows) row) ≤ set.len (insert_all (set.insert (set.from_list {R = row_cmp} rows) row) more) = len_grows_all rows_total exact_rows _ more in
-    omega arith
-
-pub there_already : (rows : List (List Value)) (row : List Value) → list_any (λ y. eq_by_cmp row_cmp y row) rows ≡ true → set.insert (set.from_list {R = row_cmp} rows) row ≡ set.from_list rows
-there_already rows row here = insert_there rows_total exact_rows _ row (sym (contains-list rows_total exact_rows rows row) ∙ here)
-
-distinct_push : (rows : List (List Value)) (row : List Value) → IsDistinct (eq_by_cmp row_cmp) rows → list_any (λ y. eq_by_cmp row_cmp y row) rows ≡ false → IsDistinct (eq_by_cmp row_cmp) (rows ++ row ∷ [])
-distinct_push rows row distinct absent =
-    IsDistinct-push (eq_by_cmp_equiv rows_total) rows row distinct (any_agree _ _ (λ y. (eq_by_cmp_equiv rows_total).symm row y) rows ∙ absent)
-
-pub from_push : (rows : List (List Value)) (row : List Value) → set.from_list {R = row_cmp} (rows ++ row ∷ []) ≡ set.insert (set.from_list rows) row
-from_push = from_list_push rows_total exact_rows
-
 length_filter : (rows : List (List Value)) (p : List Value → Bool) → length (filter p rows) ≤ length rows
 length_filter rows p = omega (arith, length-filter_both p (λ x. not (p x)) (λ x. refl) rows)
-
--- what a filter leaves of a table's list is fit to be a table's
-pub kept_filter : (kinds : List Kind) (rows : List (List Value)) (p : List Value → Bool) → IsKept kinds rows → IsKept kinds (filter p rows)
-kept_filter kinds rows p kept =
-    record {
-      distinct = IsDistinct-filter _ p rows kept.distinct;
-      limit = omega (arith, length_filter rows p, kept.limit);
-      fitting = All-filter p (λ row. kinds_of row ≡ kinds) rows kept.fitting;
-    }
-
--- and so is the list with one more row, if there is room
-pub kept_push : (kinds : List Kind) (rows : List (List Value)) (row : List Value) → IsKept kinds rows → list_any (λ y. eq_by_cmp row_cmp y row) rows ≡ false → kinds_of row ≡ kinds → length rows < 65536 → IsKept kinds (rows ++ row ∷ [])
-kept_push kinds rows row kept absent fitting room =
-    record {
-      distinct = distinct_push rows row kept.distinct absent;
-      limit = omega (arith, length_push rows row);
-      fitting = All-push (λ row. kinds_of row ≡ kinds) rows row kept.fitting fitting;
-    }
-
--- a row that is put in has the table's kinds
-pub added_kinds : (added given : List (List Value)) (i : ℕ) (x : List Value) (kinds : List Kind) → x ≡ get_or added i x → added ≡ given → i < length added → All (λ row. kinds_of row ≡ kinds) given → kinds_of x ≡ kinds
-added_kinds added given i x kinds is same h all = ap kinds_of (is ∙ ap (λ xs. get_or xs i x) same) ∙ all i x (omega (arith, ap length same))
-
--- one more row is put in
-pub whole_step : (rows next added : List (List Value)) (i : ℕ) (x : List Value) (goal : RowSet) → i < length added → x ≡ get_or added i x → set.from_list {R = row_cmp} next ≡ set.insert (set.from_list rows) x → insert_all (set.from_list {R = row_cmp} rows) (drop i added) ≡ goal → insert_all (set.from_list {R = row_cmp} next) (drop (i + 1) added) ≡ goal
-whole_step rows next added i x goal h is e whole =
-    ap (λ s. insert_all s (drop (i + 1) added)) e
-    ∙ ap (λ y. insert_all (set.insert (set.from_list {R = row_cmp} rows) y) (drop (i + 1) added)) is
-    ∙ sym (at_drop_more (insert_all (set.from_list {R = row_cmp} rows)) added i x h) ∙ whole
-
-pub beyond_step : (rows added : List (List Value)) (i : ℕ) (x : List Value) (goal : RowSet) → i < length added → x ≡ get_or added i x → insert_all (set.from_list {R = row_cmp} rows) (drop i added) ≡ goal → ((more : List (List Value)) → 65536 < set.len (insert_all (set.insert (set.from_list {R = row_cmp} rows) x) more)) → 65536 < set.len goal
-beyond_step rows added i x goal h is whole many =
-    let all : insert_all (set.insert (set.from_list {R = row_cmp} rows) x) (drop (i + 1) added) ≡ goal = ap (λ y. insert_all (set.insert (set.from_list {R = row_cmp} rows) y) (drop (i + 1) added)) is ∙ sym (at_drop_more (insert_all (set.from_list {R = row_cmp} rows)) added i x h) ∙ whole in
-    rw (← all) (many (drop (i + 1) added))
-
-pub apply_done : (s : RowSet) (removed added rows : List (List Value)) → set.from_list {R = row_cmp} rows ≡ changed_rows s removed added → IsDistinct (eq_by_cmp row_cmp) rows → length rows ≤ 65536 → application s removed added ≡ Some (set.from_list rows)
-apply_done s removed added rows all distinct h =
-    let small : set.len (changed_rows s removed added) ≤ 65536 = rw (← all, len-distinct rows_total exact_rows rows distinct) h in
-    apply_within s removed added small ∙ ap (λ x. Some x) (sym all)
 
 -- Changes that fit.
 
@@ -173,6 +111,14 @@ both_none : {X Y : Type 0} (b : Bool) (x : X) (y : Y) → cond b (Some x) None �
 both_none true x y e = cc
 both_none false x y e = refl
 
+rows_some : (b : Bool) (kinds : List Kind) (rows : RowSet) (t : Relation) → cond b (Some (record { kinds = kinds; rows = rows })) None ≡ Some t → cond b (Some rows) None ≡ Some t.rows
+rows_some true kinds rows t e = let is : record { kinds = kinds; rows = rows } ≡ t = cc in ap (λ (r : Relation). Some r.rows) is
+rows_some false kinds rows t e = cc
+
+kinds_some : (b : Bool) (kinds : List Kind) (rows : RowSet) (t : Relation) → cond b (Some (record { kinds = kinds; rows = rows })) None ≡ Some t → kinds ≡ t.kinds
+kinds_some true kinds rows t e = let is : record { kinds = kinds; rows = rows } ≡ t = cc in ap (λ (r : Relation). r.kinds) is
+kinds_some false kinds rows t e = cc
+
 pub applied : (n : ℕ) (s t : RowSet) (removed added : List (List Value)) → application s removed added ≡ Some t → counted n (changed_rows s removed added) ≡ Some (n, changed_rows s removed added)
 applied n s t removed added e = both_some (nat_le (set.len (changed_rows s removed added)) 65536) (changed_rows s removed added) t (n, changed_rows s removed added) e
 
@@ -207,3 +153,28 @@ not_replaced_so view excused s rows matched passes f (faults.Change c) is e h = 
 pub not_applied : {E X : Type 0} (view : X → ℕ × RowSet) (excused : E → Bool) (s : RowSet) (meant : Option (Option (ℕ × RowSet))) (n : ℕ) (removed added : List (List Value)) (fault : TableFault) → meant ≡ Some (counted n (changed_rows s removed added)) → Gives {X = Relation} (λ t. t.rows) (Err fault) (application s removed added) → Replaces view excused (Err (as_replace_fault fault)) meant
 not_applied view excused s meant n removed added Memory e gives = tt
 not_applied view excused s meant n removed added TableFull e gives = e ∙ ap (λ b. Some b) (refused n s removed added gives)
+
+-- the table that a load made of the changed rows, as the table after the change
+pub loaded_after : (kinds : List Kind) (rows : List (List Value)) (s : RowSet) (removed added : List (List Value)) (r : Result Relation TableFault) → set.from_list rows ≡ changed_rows s removed added → Gives {X = Relation} (λ t. t) r (bounded (set.from_list {R = row_cmp} rows) (record { kinds = kinds; rows = set.from_list rows })) → Gives {X = Relation} (λ t. t.rows) r (application s removed added)
+loaded_after kinds rows s removed added (Ok t) same gives =
+    let e : bounded (changed_rows s removed added) (set.from_list {R = row_cmp} rows) ≡ Some t.rows = (λ i. bounded (sym same i) (set.from_list {R = row_cmp} rows)) ∙ rows_some (nat_le (set.len (set.from_list {R = row_cmp} rows)) 65536) kinds (set.from_list rows) t gives in
+    ap (bounded (changed_rows s removed added)) (sym same) ∙ e
+loaded_after kinds rows s removed added (Err Memory) same gives = tt
+loaded_after kinds rows s removed added (Err TableFull) same gives =
+    let none : bounded (set.from_list {R = row_cmp} rows) (changed_rows s removed added) ≡ None = both_none (nat_le (set.len (set.from_list {R = row_cmp} rows)) 65536) (record { kinds = kinds; rows = set.from_list rows }) (changed_rows s removed added) gives in
+    (λ i. bounded (sym same i) (changed_rows s removed added)) ∙ none
+
+pub loaded_kinds : (kinds own : List Kind) (rows : List (List Value)) (r : Result Relation TableFault) → kinds ≡ own → Gives {X = Relation} (λ t. t) r (bounded (set.from_list {R = row_cmp} rows) (record { kinds = kinds; rows = set.from_list rows })) → IfOk r (λ t. t.kinds ≡ own)
+loaded_kinds kinds own rows (Ok t) same gives = sym (kinds_some (nat_le (set.len (set.from_list {R = row_cmp} rows)) 65536) kinds (set.from_list rows) t gives) ∙ same
+loaded_kinds kinds own rows (Err fault) same gives = tt
+
+-- the rows that a list in another order takes out are the same
+pub without_moved : (s : RowSet) (removed moved : List (List Value)) → IsPermutation removed moved → set.without_all s moved ≡ set.without_all s removed
+without_moved s removed moved perm i = set.retain s (λ row. not (sym (list_any-IsPermutation (eq_by_cmp row_cmp row) removed moved perm) i))
+
+-- the set of the rows that stay and those that are put in
+pub rows_after : (s : RowSet) (items kept removed moved added given rows : List (List Value)) (i : ℕ) → set.from_list items ≡ s → kept ≡ filter (stays moved) items → IsPermutation removed moved → rows ≡ kept ++ take i given → length given ≤ i → given ≡ added → set.from_list rows ≡ changed_rows s removed added
+rows_after s items kept removed moved added given rows i view is perm e all same =
+    ap (λ xs. set.from_list {R = row_cmp} xs) (e ∙ ap (λ xs. kept ++ xs) (take_all i given all ∙ same) ∙ ap (λ xs. xs ++ added) is)
+    ∙ from_append (filter (stays moved) items) added
+    ∙ ap (λ t. set.insert_all t added) (without_rows items moved ∙ ap (λ t. set.without_all t moved) view ∙ without_moved s removed moved perm)

@@ -15,12 +15,6 @@ Gives view (Ok x) meant = meant ≡ Some (view x)
 Gives view (Err Memory) meant = Unit {0}
 Gives view (Err TableFull) meant = meant ≡ None
 
--- An answer is what is meant, and the table is full where nothing is. Memory never runs out.
-abbrev pub GivesAlways : {X : Type 0} → Result X TableFault → Option X → Type 0
-GivesAlways (Ok x) meant = meant ≡ Some x
-GivesAlways (Err Memory) meant = ⊥
-GivesAlways (Err TableFull) meant = meant ≡ None
-
 -- An answer, seen by view, is what is meant, unless memory ran out or the fault of the change is excused.
 abbrev pub Replaces : {E X : Type 0} → (X → ℕ × RowSet) → (E → Bool) → Result X (ReplaceFault E) → Option (Option (ℕ × RowSet)) → Type 0
 Replaces view excused (Ok x) meant = meant ≡ Some (Some (view x))

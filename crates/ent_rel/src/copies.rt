@@ -29,7 +29,8 @@ pub(crate) fn copies_where<F: Fn(&Row) -> bool>(
     test: F,
 ) -> Result<Vec<Row>, AllocError>
     requires { F.IsAlwaysCallable test }
-    ensures passing { (passes : List Cell → Bool) → Computes F.Fn test (set.from_list {R = row_cmp} rows.now) passes
+    ensures passing { (passes : List Cell → Bool)
+        → Computes F.Fn test (set.from_list {R = row_cmp} rows.now) passes
         → IfOk result (λ copies. copies.items ≡ filter passes rows.now) }
     ensures listed { IfOk result (λ copies. All (Contains rows.now) copies.items) }
 {
@@ -52,7 +53,8 @@ pub(crate) fn images<E: Drop, G: Fn(&Row) -> Result<Row, E>>(
     ensures images { (image : List Cell → Option (List Cell)) (excused : E → Bool)
         → Changes G.Fn change (set.from_list {R = row_cmp} rows.now) image excused
         → HasImages image excused rows.now result }
-    ensures kinds { (kinds : List Kind) → KeepsKinds G.Fn change (set.from_list {R = row_cmp} rows.now) kinds
+    ensures kinds { (kinds : List Kind)
+        → KeepsKinds G.Fn change (set.from_list {R = row_cmp} rows.now) kinds
         → IfOk result (λ images. All (λ row. kinds_of row ≡ kinds) images.items) }
 {
     let mut images = Vec::with_capacity(alloc, rows.len())?;

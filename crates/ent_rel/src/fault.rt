@@ -1,6 +1,7 @@
 //! Why a call on a table answers nothing.
 
 use std::alloc::{AllocError, AllocFailed};
+use std::fmt::{Debug, Display};
 use thiserror::Error;
 
 /// Why a table is not made or changed.
@@ -15,13 +16,17 @@ pub enum TableFault {
 }
 
 /// Why rows are not replaced. The change's own fault comes before a full table.
-#[derive(Debug, Drop)]
+#[derive(Debug, Drop, Error)]
+#[error_bound(E: Debug + Display)]
 pub enum ReplaceFault<E> {
     /// A growth was refused.
+    #[error("E900 out of memory")]
     Memory,
     /// More than 65,536 rows would stand.
+    #[error("E310 table full")]
     TableFull,
     /// The change of a row gave this.
+    #[error("{0}")]
     Change(E),
 }
 

@@ -6,6 +6,7 @@ mod copies;
 mod fault;
 mod laws;
 mod rows;
+mod search;
 mod table;
 
 pub use change::Delta;

@@ -1,5 +1,5 @@
-//! A table over a list of distinct rows in no order.
-ghost use Rattle.std.specs.Prelude.{◌≡◌, ◌≤◌, ◌==◌, [], Bool, List, Option, IfOk, IsSome, map, All};
+//! A table over a list of its rows in ascending order.
+ghost use Rattle.std.specs.Prelude.{◌≡◌, ◌≤◌, ◌==◌, [], Bool, List, Option, IfOk, IsSome, IsTrue, ◌↔◌, map, All};
 ghost use Rattle.std.specs.List.{IsDistinct};
 ghost use Rattle.std.specs.Ordering.{eq_by_cmp};
 ghost use Rattle.ent_set.specs.Sets as set;
@@ -9,12 +9,13 @@ ghost use Rattle.ent_rel.specs.Relation.{HaveKinds, bounded};
 ghost use Rattle.ent_rel.specs.Rows.{rows_left};
 ghost use Rattle.ent_rel.specs.Change.{changed_rows, insertion, deletion, replacement, application};
 ghost use Rattle.ent_rel.specs.Closure.{Computes, Changes, KeepsKinds};
-ghost use Rattle.ent_rel.specs.Answer.{Gives, GivesAlways, Replaces};
+ghost use Rattle.ent_rel.specs.Answer.{Gives, Replaces};
 
 use crate::change::Delta;
 use crate::copies::{copies_of, copies_where, images};
 use crate::fault::{ReplaceFault, TableFault};
 use crate::rows::Rows;
+use crate::search::{are_same_kinds, are_same_rows, is_among};
 use ent_value::{Kind, Row, Sequence};
 use std::alloc::{AllocError, Global};
 use std::marker::Model;
@@ -52,15 +53,15 @@ impl Table {
         Table { kinds, rows }
     }
 
-    /// The table of these rows, which are moved and put in order, and of which doubles count once. It takes no
-    /// memory. `TableFull` where more than 65,536 are distinct; the rows are lost then.
-    pub fn load(kinds: Vec<Kind>, rows: Vec<Row>) -> Result<Self, TableFault>
+    /// The table of these rows, which are moved and put in order, and of which doubles count once. `TableFull` where
+    /// more than 65,536 are distinct. With a fault the rows are lost.
+    pub fn load(alloc: Global, kinds: Vec<Kind>, rows: Vec<Row>) -> Result<Self, TableFault>
         requires { All (λ row. kinds_of row ≡ kinds.items) rows.items }
         ensures { let rows = set.from_list {R = row_cmp} rows.items in
-            GivesAlways result (bounded rows record { kinds = kinds.items; rows = rows }) }
+            Gives (λ table. table) result (bounded rows record { kinds = kinds.items; rows = rows }) }
     {
         let mut rows = rows;
-        rows.sort_unstable();
+        rows.as_mut_slice().sort(alloc)?;
         rows.dedup();
         if rows.len() > ROW_LIMIT {
             return Err(TableFault::TableFull);
@@ -94,7 +95,7 @@ impl Table {
     pub fn contains(&self, row: &Row) -> bool
         ensures { result ≡ set.contains self.now.rows row.now }
     {
-        self.rows.contains(row)
+        is_among(&self.rows, row)
     }
 
     /// The rows, each once, in some order.
@@ -110,9 +111,7 @@ impl Table {
     pub fn ascending(&self, alloc: Global) -> Result<Vec<&Row>, AllocError>
         ensures { IfOk result (λ rows. map (λ row. row.now) rows.items ≡ set.ascending self.now.rows) }
     {
-        let mut rows: Vec<&Row> = self.rows.iter().collect(alloc)?;
-        rows.sort_unstable();
-        Ok(rows)
+        self.rows.iter().collect(alloc)
     }
 
     /// What putting a row in would change: no row where it is there. The change fits: `apply` never
@@ -156,9 +155,9 @@ impl Table {
         test: F,
     ) -> Result<(u64, Delta), AllocError>
         requires { F.IsAlwaysCallable test }
-        ensures change { (passes : List Cell → Bool) → Computes F.Fn test self.now.rows passes → IfOk result
-            (λ r. (r.0, changed_rows self.now.rows r.1.removed r.1.added) ≡ deletion self.now.rows passes) }
-        ensures kinds { IfOk result (λ r. r.1.added ≡ []) }
+        ensures change { (passes : List Cell → Bool) → Computes F.Fn test self.now.rows passes
+            → IfOk result (λ r. (r.0, changed_rows self.now.rows r.1.removed r.1.added) ≡ deletion self.now.rows passes) }
+        ensures kinds { IfOk result (λ r. All (λ row. kinds_of row ≡ self.now.kinds) r.1.added) }
         ensures fits { IfOk result (λ r. IsSome (application self.now.rows r.1.removed r.1.added)) }
     {
         let removed = copies_where(alloc, self.rows.as_slice(), test)?;
@@ -182,9 +181,11 @@ impl Table {
         requires test { F.IsAlwaysCallable test }
         requires change { G.IsAlwaysCallable change }
         requires kinds { KeepsKinds G.Fn change self.now.rows self.now.kinds }
-        ensures change { (passes : List Cell → Bool) (image : List Cell → Option (List Cell)) (excused : E → Bool)
-            → Computes F.Fn test self.now.rows passes → Changes G.Fn change self.now.rows image excused → Replaces
-            (λ r. (r.0, changed_rows self.now.rows r.1.removed r.1.added))
+        ensures change { (passes : List Cell → Bool) (image : List Cell → Option (List Cell))
+            (excused : E → Bool)
+            → Computes F.Fn test self.now.rows passes
+            → Changes G.Fn change self.now.rows image excused
+            → Replaces (λ r. (r.0, changed_rows self.now.rows r.1.removed r.1.added))
             excused result (replacement self.now.rows passes image) }
         ensures kinds { IfOk result (λ r. All (λ row. kinds_of row ≡ self.now.kinds) r.1.added) }
         ensures fits { IfOk result (λ r. IsSome (application self.now.rows r.1.removed r.1.added)) }
@@ -208,17 +209,20 @@ impl Table {
         ensures kinds { IfOk result (λ table. table.kinds ≡ self.now.kinds) }
     {
         let kinds = Vec::from_slice(alloc, self.kinds.as_slice())?;
-        let removed = delta.removed.as_slice();
-        let mut rows = copies_where(alloc, self.rows.as_slice(), |row| !removed.contains(row))?;
+        let mut removed = copies_of(alloc, delta.removed.as_slice())?;
+        removed.sort_unstable();
+        let mut rows = copies_where(alloc, self.rows.as_slice(), |row| !is_among(&removed, row))?;
         for row in delta.added.as_slice() {
-            if !rows.contains(row) {
-                if rows.len() >= ROW_LIMIT {
-                    return Err(TableFault::TableFull);
-                }
-                rows.push(row.copy(alloc)?)?;
-            }
+            rows.push(row.copy(alloc)?)?;
         }
-        Ok(Table { kinds, rows })
+        Table::load(alloc, kinds, rows)
+    }
+
+    /// Whether two tables are the same, kinds and rows. It takes no memory.
+    pub fn is_same(&self, other: &Table) -> bool
+        ensures { IsTrue result ↔ (self.now ≡ other.now) }
+    {
+        are_same_kinds(&self.kinds, &other.kinds) && are_same_rows(&self.rows, &other.rows)
     }
 
     pub fn copy(&self, alloc: Global) -> Result<Table, AllocError>

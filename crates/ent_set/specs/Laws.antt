@@ -202,7 +202,7 @@ module _ {K : Type 0} {R : K → K → Ordering} (o : IsTotalOrder R) (same : fi
   pub ascending-from_list : (xs : List K) → T (finite.is_sorted R (unit_pairs xs)) → ascending (from_list {R = R} xs) ≡ xs
   ascending-from_list xs sorted =
       let made : from_list {R = R} xs ≡ finite.from_sorted (unit_pairs xs) = same_set _ _ (λ q.
-          contains-from_list xs q ∙ sym (contains-ascending (finite.from_sorted (unit_pairs xs)) q ∙ ap (λ es. list_any (eq_by_cmp R q) (map (λ (e : K × Unit {0}). e.0) es)) (finite.entries-from_sorted R (unit_pairs xs) sorted) ∙ ap (list_any (eq_by_cmp R q)) (keys_again xs))) in
+      contains-from_list xs q ∙ sym (contains-ascending (finite.from_sorted (unit_pairs xs)) q ∙ ap (λ es. list_any (eq_by_cmp R q) (map (λ (e : K × Unit {0}). e.0) es)) (finite.entries-from_sorted R (unit_pairs xs) sorted) ∙ ap (list_any (eq_by_cmp R q)) (keys_again xs))) in
       ap ascending made ∙ ap (map (λ (e : K × Unit {0}). e.0)) (finite.entries-from_sorted R (unit_pairs xs) sorted) ∙ keys_again xs
 
   pub len_grows : (s : Set R) (k : K) → len s ≤ len (insert s k)
@@ -253,8 +253,9 @@ module _ {K : Type 0} {R : K → K → Ordering} (o : IsTotalOrder R) (same : fi
       let strict : IsStrictlySortedBy R (dedup (eq_by_cmp R) ys) = IsStrictlySortedBy-dedup o (λ x y. refl) ys sorted in
       sym (ascending-from_list o same (dedup (eq_by_cmp R) ys) (is_sorted_from R _ strict))
       ∙ ap ascending (same_set o same _ _ (λ q. contains-from_list o same (dedup (eq_by_cmp R) ys) q ∙ any_dedup (eq_by_cmp R) (eq_by_cmp R q) (alike q) ys ∙ sym (list_any-IsPermutation (eq_by_cmp R q) xs ys moved) ∙ sym (contains-from_list o same xs q)))
-    where alike : (q y x : K) → eq_by_cmp R y x ≡ true → eq_by_cmp R q y ≡ true → eq_by_cmp R q x ≡ true
-          alike q y x e h = ap (eq_by_cmp R q) (sym (same y x (tied o same y x e))) ∙ h
+    where
+      alike : (q y x : K) → eq_by_cmp R y x ≡ true → eq_by_cmp R q y ≡ true → eq_by_cmp R q x ≡ true
+      alike q y x e h = ap (eq_by_cmp R q) (sym (same y x (tied o same y x e))) ∙ h
 
 pub any_map : {K J : Type 0} (t : J → Bool) (f : K → J) (ks : List K) → list_any t (map f ks) ≡ list_any (λ k. t (f k)) ks
 any_map t f [] = refl
@@ -263,9 +264,9 @@ any_map t f (k ∷ ks) = ap (λ b. t (f k) || b) (any_map t f ks)
 pub any_where : {K : Type 0} (t p : K → Bool) (ks : List K) → list_any t (filter p ks) ≡ list_any (λ k. p k && t k) ks
 any_where t p [] = refl
 any_where t p (k ∷ ks) = elim (p k) as (λ b. list_any t (cond b (k ∷ filter p ks) (filter p ks)) ≡ ((b && t k) || list_any (λ k. p k && t k) ks)) [
-      | true ↦ ap (λ b. t k || b) (any_where t p ks)
-      | false ↦ any_where t p ks
-    ]
+  | true ↦ ap (λ b. t k || b) (any_where t p ks)
+  | false ↦ any_where t p ks
+]
 
 module _ {K : Type 0} {R : K → K → Ordering} (o : IsTotalOrder R) (same : finite.IsAntisymmetric R) where
   itself : (x : K) → eq_by_cmp R x x ≡ true
@@ -290,8 +291,9 @@ module _ {K : Type 0} {R : K → K → Ordering} (o : IsTotalOrder R) (same : fi
   -- lists of one set have the same elements
   pub any_same_set : (t : K → Bool) (xs ys : List K) → from_list {R = R} xs ≡ from_list ys → list_any t xs ≡ list_any t ys
   any_same_set t xs ys e = both_ways _ _ (over xs ys e) (over ys xs (sym e))
-    where over : (xs ys : List K) → from_list {R = R} xs ≡ from_list ys → list_any t xs ≡ true → list_any t ys ≡ true
-          over xs ys e h = let w = one_passing t xs h in passes_where t w.0 w.1 ys (sym (contains-from_list o same ys w.0) ∙ ap (λ s. contains s w.0) (sym e) ∙ contains-from_list o same xs w.0 ∙ w.2)
+    where
+      over : (xs ys : List K) → from_list {R = R} xs ≡ from_list ys → list_any t xs ≡ true → list_any t ys ≡ true
+      over xs ys e h = let w = one_passing t xs h in passes_where t w.0 w.1 ys (sym (contains-from_list o same ys w.0) ∙ ap (λ s. contains s w.0) (sym e) ∙ contains-from_list o same xs w.0 ∙ w.2)
 
 -- the images of the elements that pass a test depend on the set alone
 pub image-same_set : {K J : Type 0} {R : K → K → Ordering} {S : J → J → Ordering} (o : IsTotalOrder R) (same : finite.IsAntisymmetric R) (u : IsTotalOrder S) (alike : finite.IsAntisymmetric S) (f : K → J) (p : K → Bool) (xs ys : List K) → from_list {R = R} xs ≡ from_list ys → from_list {R = S} (map f (filter p xs)) ≡ from_list (map f (filter p ys))

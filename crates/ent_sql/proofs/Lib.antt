@@ -4,3 +4,7 @@ pub mod Tokens
 pub mod Found
 pub mod Only
 pub mod Exact
+pub mod Steady
+pub mod Decided
+pub mod First
+pub mod Place

@@ -1,5 +1,5 @@
 -- What is spelled so is read.
-use Rattle.std.proofs.Common.{◌≡◌, ℕ, zero, suc, ◌-◌, ◌≤◌, Bool, true, false, List, [], ◌∷◌, ◌++◌, drop, length, Some, Result, Ok, refl, sym, ap, ◌∙◌, arith, inl, inr}
+use Rattle.std.proofs.Common.{◌≡◌, ℕ, zero, suc, ◌-◌, ◌≤◌, Bool, true, false, List, [], ◌∷◌, ◌++◌, drop, length, Some, Result, Ok, refl, sym, ap, ◌∙◌, arith, inl, inr, ◌⊎◌, subst, Err}
 use Rattle.ent_text.specs.declared.token.Token.{Token}
 use Rattle.ent_text.specs.declared.token.TokenKind.{TokenKind}
 use Rattle.ent_text.specs.declared.token.TokenKind.TheVariants as kinds
@@ -11,6 +11,7 @@ use Rattle.ent_value.specs.Refusal.{◌>>=◌}
 use Rattle.ent_value.specs.declared.value.Kind.{Kind}
 use Rattle.ent_value.specs.declared.value.Kind.TheVariants as sorts
 use Rattle.ent_sql.specs.declared.fault.SqlFault.{SqlFault}
+use Rattle.ent_sql.specs.declared.fault.SqlFault.TheVariants.{Unexpected, TooMany}
 use Rattle.ent_sql.specs.declared.tree.Identifier.{Identifier}
 use Rattle.ent_sql.specs.declared.tree.Column.{Column}
 use Rattle.ent_sql.specs.declared.tree.Create.{Create}
@@ -42,15 +43,38 @@ use Rattle.ent_sql.proofs.Tokens.{is_that_word, is_that_sign}
 pub step : {A B : Type 0} (read : Result A SqlFault) (next : A → Result B SqlFault) (x : A) (all : Result B SqlFault) → read ≡ Ok x → next x ≡ all → (read >>= next) ≡ all
 step {A} read next x all e k = ap (λ (r : Result A SqlFault). r >>= next) e ∙ k
 
+-- a value is read, or there is too much of something, and then it doesn't fit
+pub record Answers {A : Type 0} (fits : Type 0) (read : Result A SqlFault) (x : A) : Type 0 where
+  pub says : (read ≡ Ok x) ⊎ ((place : ℕ) × (read ≡ Err (TooMany place)) × (fits → ⊥))
+
+surely : {A : Type 0} {fits : Type 0} {read : Result A SqlFault} {x : A} → read ≡ Ok x → Answers fits read x
+surely e = record { says = inl e }
+
+step_so : {A B : Type 0} {fits : Type 0} {y : B} (read : Result A SqlFault) (next : A → Result B SqlFault) (x : A) → read ≡ Ok x → Answers fits (next x) y → Answers fits (read >>= next) y
+step_so {A} {B} {fits} {y} read next x e k = subst (λ (r : Result B SqlFault). Answers fits r y) (sym (ap (λ (r : Result A SqlFault). r >>= next) e)) k
+
+step_or : {A B : Type 0} {few fits : Type 0} {y : B} (read : Result A SqlFault) (next : A → Result B SqlFault) (x : A) → (fits → few) → Answers few read x → Answers fits (next x) y → Answers fits (read >>= next) y
+step_or {A} {B} {few} {fits} {y} read next x less h k = go h.says
+  where
+    go : (read ≡ Ok x) ⊎ ((place : ℕ) × (read ≡ Err (TooMany place)) × (few → ⊥)) → Answers fits (read >>= next) y
+    go (inl e) = step_so read next x e k
+    go (inr f) = record { says = inr (f.0, ap (λ (r : Result A SqlFault). r >>= next) f.1, λ all. f.2 (less all)) }
+
 -- a phrase without a value, and what stands behind it
-pass_on : {B : Type 0} {one other : Phrase} {ts rest : List Token} (read : Rest) (next : List Token → Result B SqlFault) (all : Result B SqlFault) → Begins (one ⨾ other) ts rest
-    → ((between : List Token) → Begins one ts between → read ≡ Ok between) → ((between : List Token) → Begins other between rest → next between ≡ all) → (read >>= next) ≡ all
-pass_on read next all h first second = let k = halves h in step read next k.between all (first k.between k.first) (second k.between k.second)
+pass_on : {B : Type 0} {fits : Type 0} {y : B} {one other : Phrase} {ts rest : List Token} (read : Rest) (next : List Token → Result B SqlFault) → Begins (one ⨾ other) ts rest
+    → ((between : List Token) → Begins one ts between → read ≡ Ok between) → ((between : List Token) → Begins other between rest → Answers fits (next between) y) → Answers fits (read >>= next) y
+pass_on read next h first second = let k = halves h in step_so read next k.between (first k.between k.first) (second k.between k.second)
 
 -- a phrase with a value, and what stands behind it
-read_on : {A B : Type 0} {one other : Phrase} {ts rest : List Token} (x : A) (read : Read A) (next : A × List Token → Result B SqlFault) (all : Result B SqlFault) → Begins (one ⨾ other) ts rest
-    → ((between : List Token) → Begins one ts between → Begins other between rest → read ≡ Ok (x, between)) → ((between : List Token) → Begins other between rest → next (x, between) ≡ all) → (read >>= next) ≡ all
-read_on x read next all h first second = let k = halves h in step read next (x, k.between) all (first k.between k.first k.second) (second k.between k.second)
+read_on : {A B : Type 0} {fits : Type 0} {y : B} {one other : Phrase} {ts rest : List Token} (x : A) (read : Read A) (next : A × List Token → Result B SqlFault) → Begins (one ⨾ other) ts rest
+    → ((between : List Token) → Begins one ts between → read ≡ Ok (x, between)) → ((between : List Token) → Begins other between rest → Answers fits (next (x, between)) y) → Answers fits (read >>= next) y
+read_on x read next h first second = let k = halves h in step_so read next (x, k.between) (first k.between k.first) (second k.between k.second)
+
+-- things of which there can be too many, and what stands behind them
+list_on : {A B : Type 0} {few fits : Type 0} {y : B} {one other : Phrase} {ts rest : List Token} (x : A) (read : Read A) (next : A × List Token → Result B SqlFault) → (fits → few) → Begins (one ⨾ other) ts rest
+    → ((between : List Token) → Begins one ts between → Begins other between rest → Answers few read (x, between)) → ((between : List Token) → Begins other between rest → Answers fits (next (x, between)) y)
+    → Answers fits (read >>= next) y
+list_on x read next less h first second = let k = halves h in step_or read next (x, k.between) less (first k.between k.first k.second) (second k.between k.second)
 
 -- ---- single tokens
 
@@ -89,39 +113,46 @@ behind_single kind ts rest h = let f = front_of (standing_of h) in rw f.whole re
 -- ---- lists
 
 module _ {A : Type 0} (divides starts : TokenKind → Bool) (divider : TokenKind) (divided : divides divider ≡ true) (of : A → Phrase) (item : ℕ → List Token → Read A)
+    (first : (x : A) (ts rest : List Token) → Begins (of x) ts rest → begins starts ts ≡ true)
     (each : (x : A) (end : ℕ) (ts rest : List Token) → Begins (of x) ts rest → item end ts ≡ Ok (x, rest)) where
-  more_read : (xs : List A) (end room : ℕ) (ts rest : List Token) → length xs ≤ room → begins divides rest ≡ false → Begins (spelled.many (λ y. single divider ⨾ of y) xs) ts rest → more_at divides starts item end room ts ≡ Ok (xs, rest)
+  more_read : (xs : List A) (end room : ℕ) (ts rest : List Token) → begins divides rest ≡ false → Begins (spelled.many (λ y. single divider ⨾ of y) xs) ts rest → Answers (length xs ≤ room) (more_at divides starts item end room ts) (xs, rest)
   unfolding more_at
-  more_read [] end zero ts rest few last h = rw (begins_nothing h, last) refl
-  more_read [] end (suc room) ts rest few last h = rw (begins_nothing h, last) refl
-  more_read (x ∷ xs) end zero ts rest few last h = absurd (omega arith)
-  more_read (x ∷ xs) end (suc room) ts rest few last h =
+  more_read [] end zero ts rest last h = rw (begins_nothing h, last) (surely refl)
+  more_read [] end (suc room) ts rest last h = rw (begins_nothing h, last) (surely refl)
+  more_read (x ∷ xs) end zero ts rest last h =
+      let k = halves h in
+      let d = halves k.first in
+      let b : begins divides ts ≡ true = single_starts divides divider ts d.between d.first ∙ divided in
+      let is_next : begins starts (drop 1 ts) ≡ true = rw (behind_single divider ts d.between d.first) (first x d.between k.between d.second) in
+      record { says = inr (place_of end (drop 1 ts), rw (b, is_next) refl, λ le. absurd (omega arith)) }
+  more_read (x ∷ xs) end (suc room) ts rest last h =
       let k = halves h in
       let d = halves k.first in
       let b : begins divides ts ≡ true = single_starts divides divider ts d.between d.first ∙ divided in
       let e : item end (drop 1 ts) ≡ Ok (x, k.between) = rw (behind_single divider ts d.between d.first) (each x end d.between k.between d.second) in
-      rw b (step (item end (drop 1 ts)) _ (x, k.between) _ e (step (more_at divides starts item end room k.between) _ (xs, rest) _ (more_read xs end room k.between rest (omega arith) last k.second) refl))
+      rw b (step_so (item end (drop 1 ts)) _ (x, k.between) e (step_or (more_at divides starts item end room k.between) _ (xs, rest) (λ le. omega arith) (more_read xs end room k.between rest last k.second) (surely refl)))
 
-  pub listed_read : (xs : List A) (end limit : ℕ) (ts rest : List Token) → length xs ≤ limit → begins divides rest ≡ false → Begins (spelled.listed (single divider) of xs) ts rest → listed_at divides starts item end limit ts ≡ Ok (xs, rest)
+  pub listed_read : (xs : List A) (end limit : ℕ) (ts rest : List Token) → begins divides rest ≡ false → Begins (spelled.listed (single divider) of xs) ts rest → Answers (length xs ≤ limit) (listed_at divides starts item end limit ts) (xs, rest)
   unfolding listed_at
-  listed_read [] end limit ts rest few last h = absurd h.is
-  listed_read (x ∷ xs) end limit ts rest few last h =
+  listed_read [] end limit ts rest last h = absurd h.is
+  listed_read (x ∷ xs) end limit ts rest last h =
       let k = halves h in
-      step (item end ts) _ (x, k.between) _ (each x end ts k.between k.first) (step (more_at divides starts item end (limit - 1) k.between) _ (xs, rest) _ (more_read xs end (limit - 1) k.between rest (omega arith) last k.second) refl)
+      step_so (item end ts) _ (x, k.between) (each x end ts k.between k.first) (step_or (more_at divides starts item end (limit - 1) k.between) _ (xs, rest) (λ le. omega arith) (more_read xs end (limit - 1) k.between rest last k.second) (surely refl))
 
 module _ {A : Type 0} (starts : TokenKind → Bool) (of : A → Phrase) (fits : A → Type 0) (item : ℕ → List Token → Read A)
     (first : (x : A) (ts rest : List Token) → Begins (of x) ts rest → begins starts ts ≡ true)
-    (each : (x : A) (end : ℕ) (ts rest : List Token) → fits x → Begins (of x) ts rest → item end ts ≡ Ok (x, rest)) where
-  pub many_read : (xs : List A) (end room : ℕ) (ts rest : List Token) → AtMost room fits xs → begins starts rest ≡ false → Begins (spelled.many of xs) ts rest → many_at starts item end room ts ≡ Ok (xs, rest)
+    (each : (x : A) (end : ℕ) (ts rest : List Token) → Begins (of x) ts rest → Answers (fits x) (item end ts) (x, rest)) where
+  pub many_read : (xs : List A) (end room : ℕ) (ts rest : List Token) → begins starts rest ≡ false → Begins (spelled.many of xs) ts rest → Answers (AtMost room fits xs) (many_at starts item end room ts) (xs, rest)
   unfolding many_at
-  many_read [] end zero ts rest few last h = rw (begins_nothing h, last) refl
-  many_read [] end (suc room) ts rest few last h = rw (begins_nothing h, last) refl
-  many_read (x ∷ xs) end zero ts rest few last h = absurd (omega (arith, few.0))
-  many_read (x ∷ xs) end (suc room) ts rest few last h =
+  many_read [] end zero ts rest last h = rw (begins_nothing h, last) (surely refl)
+  many_read [] end (suc room) ts rest last h = rw (begins_nothing h, last) (surely refl)
+  many_read (x ∷ xs) end zero ts rest last h =
       let k = halves h in
-      let less : length xs ≤ room = omega (arith, few.0) in
-      rw (first x ts k.between k.first) (step (item end ts) _ (x, k.between) _ (each x end ts k.between few.1.0 k.first)
-      (step (many_at starts item end room k.between) _ (xs, rest) _ (many_read xs end room k.between rest (less, few.1.1) last k.second) refl))
+      record { says = inr (place_of end ts, rw (first x ts k.between k.first) refl, λ few. absurd (omega (arith, few.0))) }
+  many_read (x ∷ xs) end (suc room) ts rest last h =
+      let k = halves h in
+      rw (first x ts k.between k.first) (step_or (item end ts) _ (x, k.between) (λ few. few.1.0) (each x end ts k.between k.first)
+      (step_or (many_at starts item end room k.between) _ (xs, rest) (λ few. let less : length xs ≤ room = omega (arith, few.0) in (less, few.1.1)) (many_read xs end room k.between rest last k.second) (surely refl)))
 
 -- ---- tables
 
@@ -137,17 +168,20 @@ column_read c end ts rest h = let k = halves h in
     step (name_at end ts) _ (c.name, k.between) _ (name_read c.name end ts k.between k.first)
     (step (kind_at end k.between) _ (c.kind, rest) _ (kind_read c.kind end k.between rest k.second) refl)
 
-pub create_read : (c : Create) (end : ℕ) (ts rest : List Token) → FewColumns c → Begins (spelled.create c) ts rest → create_at end ts ≡ Ok (c, rest)
+name_then : {other : Phrase} (n : Identifier) (ts rest : List Token) → Begins (spelled.name n ⨾ other) ts rest → begins is_name ts ≡ true
+name_then n ts rest h = let k = halves h in standing_starts is_name n.place (kinds.Name n.name) ts k.between k.first
+
+pub create_read : (c : Create) (end : ℕ) (ts rest : List Token) → Begins (spelled.create c) ts rest → Answers (FewColumns c) (create_at end ts) (c, rest)
 unfolding create_at
-create_read c end ts rest few h =
-    pass_on (word_at words.Create end ts) _ _ h (λ b k. word_read words.Create end ts b k) (λ r1 h1.
-    pass_on (word_at words.Table end r1) _ _ h1 (λ b k. word_read words.Table end r1 b k) (λ r2 h2.
-    read_on c.name (name_at end r2) _ _ h2 (λ b k l. name_read c.name end r2 b k) (λ r3 h3.
-    pass_on (sign_at signs.Open end r3) _ _ h3 (λ b k. mark_read signs.Open end r3 b k) (λ r4 h4.
-    read_on c.columns (listed_at is_comma is_name column_at end 16 r4) _ _ h4
-    (λ b k l. listed_read is_comma is_name (kinds.Sign signs.Comma) refl spelled.column column_at column_read c.columns end 16 r4 b few (single_then is_comma (kinds.Sign signs.Close) b rest l) k) (λ r5 h5.
-    pass_on (sign_at signs.Close end r5) _ _ h5 (λ b k. mark_read signs.Close end r5 b k) (λ r6 h6.
-    step (sign_at signs.Semicolon end r6) _ rest _ (mark_read signs.Semicolon end r6 rest h6) refl))))))
+create_read c end ts rest h =
+    pass_on (word_at words.Create end ts) _ h (λ b k. word_read words.Create end ts b k) (λ r1 h1.
+    pass_on (word_at words.Table end r1) _ h1 (λ b k. word_read words.Table end r1 b k) (λ r2 h2.
+    read_on c.name (name_at end r2) _ h2 (λ b k. name_read c.name end r2 b k) (λ r3 h3.
+    pass_on (sign_at signs.Open end r3) _ h3 (λ b k. mark_read signs.Open end r3 b k) (λ r4 h4.
+    list_on c.columns (listed_at is_comma is_name column_at end 16 r4) _ (λ few. few) h4
+    (λ b k l. listed_read is_comma is_name (kinds.Sign signs.Comma) refl spelled.column column_at (λ d us r m. name_then d.name us r m) column_read c.columns end 16 r4 b (single_then is_comma (kinds.Sign signs.Close) b rest l) k) (λ r5 h5.
+    pass_on (sign_at signs.Close end r5) _ h5 (λ b k. mark_read signs.Close end r5 b k) (λ r6 h6.
+    step_so (sign_at signs.Semicolon end r6) _ rest (mark_read signs.Semicolon end r6 rest h6) (surely refl)))))))
 
 -- ---- literals and rows
 
@@ -199,19 +233,22 @@ literal_starts_of test b l ts rest front so e (inr (inr h)) = standing_starts te
 literal_starts : (test : TokenKind → Bool) (b : Bool) (l : Literal) (ts rest : List Token) → LiteralStart test b → Begins (spelled.literal l) ts rest → begins test ts ≡ b
 literal_starts test b l ts rest so h = literal_starts_of test b l ts rest h.front so h.whole h.is
 
-pub insert_read : (i : Insert) (end : ℕ) (ts rest : List Token) → FewValues i → Begins (spelled.insert i) ts rest → insert_at end ts ≡ Ok (i, rest)
+pub insert_read : (i : Insert) (end : ℕ) (ts rest : List Token) → Begins (spelled.insert i) ts rest → Answers (FewValues i) (insert_at end ts) (i, rest)
 unfolding insert_at
-insert_read i end ts rest few h =
-    pass_on (word_at words.Insert end ts) _ _ h (λ b k. word_read words.Insert end ts b k) (λ r1 h1.
-    pass_on (word_at words.Into end r1) _ _ h1 (λ b k. word_read words.Into end r1 b k) (λ r2 h2.
-    read_on i.table (name_at end r2) _ _ h2 (λ b k l. name_read i.table end r2 b k) (λ r3 h3.
-    pass_on (word_at words.Values end r3) _ _ h3 (λ b k. word_read words.Values end r3 b k) (λ r4 h4.
+insert_read i end ts rest h =
+    pass_on (word_at words.Insert end ts) _ h (λ b k. word_read words.Insert end ts b k) (λ r1 h1.
+    pass_on (word_at words.Into end r1) _ h1 (λ b k. word_read words.Into end r1 b k) (λ r2 h2.
+    read_on i.table (name_at end r2) _ h2 (λ b k. name_read i.table end r2 b k) (λ r3 h3.
+    pass_on (word_at words.Values end r3) _ h3 (λ b k. word_read words.Values end r3 b k) (λ r4 h4.
     let open_stands = let k = halves h4 in standing_place i.place end (kinds.Sign signs.Open) r4 k.between k.first in
-    pass_on (sign_at signs.Open end r4) _ _ h4 (λ b k. sign_read signs.Open i.place end r4 b k) (λ r5 h5.
-    read_on i.values (listed_at is_comma is_literal literal_at end 16 r5) _ _ h5
-    (λ b k l. listed_read is_comma is_literal (kinds.Sign signs.Comma) refl spelled.literal literal_at literal_read i.values end 16 r5 b few (single_then is_comma (kinds.Sign signs.Close) b rest l) k) (λ r6 h6.
-    pass_on (sign_at signs.Close end r6) _ _ h6 (λ b k. mark_read signs.Close end r6 b k) (λ r7 h7.
-    step (sign_at signs.Semicolon end r7) _ rest _ (mark_read signs.Semicolon end r7 rest h7) (λ j. Ok (record { table = i.table; place = open_stands j; values = i.values }, rest)))))))))
+    pass_on (sign_at signs.Open end r4) _ h4 (λ b k. sign_read signs.Open i.place end r4 b k) (λ r5 h5.
+    list_on i.values (listed_at is_comma is_literal literal_at end 16 r5) _ (λ few. few) h5
+    (λ b k l. listed_read is_comma is_literal (kinds.Sign signs.Comma) refl spelled.literal literal_at literal_first literal_read i.values end 16 r5 b (single_then is_comma (kinds.Sign signs.Close) b rest l) k) (λ r6 h6.
+    pass_on (sign_at signs.Close end r6) _ h6 (λ b k. mark_read signs.Close end r6 b k) (λ r7 h7.
+    step_so (sign_at signs.Semicolon end r7) _ rest (mark_read signs.Semicolon end r7 rest h7) (surely (λ j. Ok (record { table = i.table; place = open_stands j; values = i.values }, rest))))))))))
+  where
+    literal_first : (l : Literal) (us r : List Token) → Begins (spelled.literal l) us r → begins is_literal us ≡ true
+    literal_first l us r m = literal_starts is_literal true l us r (record { number = λ n. refl; text = λ t. refl; minus = refl }) m
 
 -- ---- selects
 
@@ -241,76 +278,85 @@ comparison_read c end ts rest h = let f = front_of (standing_of h) in rw (f.whol
 pub test_read : (t : Test) (end : ℕ) (ts rest : List Token) → Begins (spelled.test t) ts rest → test_at end ts ≡ Ok (t, rest)
 unfolding test_at
 test_read t end ts rest h =
-    read_on t.left (operand_at end ts) _ _ h (λ b k l. operand_read t.left end ts b k) (λ r1 h1.
-    read_on t.comparison (comparison_at end r1) _ _ h1 (λ b k l. comparison_read t.comparison end r1 b k) (λ r2 h2.
-    step (operand_at end r2) _ (t.right, rest) _ (operand_read t.right end r2 rest h2) refl))
+    let k = halves h in
+    let l = halves k.second in
+    step (operand_at end ts) _ (t.left, k.between) _ (operand_read t.left end ts k.between k.first)
+    (step (comparison_at end k.between) _ (t.comparison, l.between) _ (comparison_read t.comparison end k.between l.between l.first)
+    (step (operand_at end l.between) _ (t.right, rest) _ (operand_read t.right end l.between rest l.second) refl))
 
-pub items_read : (i : Items) (end : ℕ) (ts rest : List Token) → FewItems i → begins is_comma rest ≡ false → Begins (spelled.items i) ts rest → items_at end ts ≡ Ok (i, rest)
+operand_first : (o : Operand) (ts rest : List Token) → Begins (spelled.operand o) ts rest → begins is_operand ts ≡ true
+operand_first o ts rest h = operand_starts is_operand true o ts rest (λ n. refl) (record { number = λ n. refl; text = λ t. refl; minus = refl }) h
+
+test_first : (t : Test) (ts rest : List Token) → Begins (spelled.test t) ts rest → begins is_operand ts ≡ true
+test_first t ts rest h = let k = halves h in operand_first t.left ts k.between k.first
+
+pub items_read : (i : Items) (end : ℕ) (ts rest : List Token) → begins is_comma rest ≡ false → Begins (spelled.items i) ts rest → Answers (FewItems i) (items_at end ts) (i, rest)
 unfolding items_at
-items_read All end ts rest few last h = rw (single_starts (is_sign signs.Star) (kinds.Sign signs.Star) ts rest h, behind_single _ ts rest h) refl
-items_read (Listed []) end ts rest few last h = absurd h.is
-items_read (Listed (x ∷ xs)) end ts rest few last h =
+items_read All end ts rest last h = rw (single_starts (is_sign signs.Star) (kinds.Sign signs.Star) ts rest h, behind_single _ ts rest h) (surely refl)
+items_read (Listed []) end ts rest last h = absurd h.is
+items_read (Listed (x ∷ xs)) end ts rest last h =
     let k = halves h in
     let no_star : begins (is_sign signs.Star) ts ≡ false = operand_starts (is_sign signs.Star) false x ts k.between (λ n. refl) (record { number = λ n. refl; text = λ t. refl; minus = refl }) k.first in
-    rw no_star (step (listed_at is_comma is_operand operand_at end 16 ts) _ (x ∷ xs, rest) _ (listed_read is_comma is_operand (kinds.Sign signs.Comma) refl spelled.operand operand_at operand_read (x ∷ xs) end 16 ts rest few last h) refl)
+    rw no_star (step_or (listed_at is_comma is_operand operand_at end 16 ts) _ (x ∷ xs, rest) (λ few. few)
+    (listed_read is_comma is_operand (kinds.Sign signs.Comma) refl spelled.operand operand_at operand_first operand_read (x ∷ xs) end 16 ts rest last h) (surely refl))
 
-pub tests_read : (xs : List Test) (end : ℕ) (ts rest : List Token) → length xs ≤ 16 → begins is_and rest ≡ false → begins (is_word words.Where) rest ≡ false → Begins (spelled.conditions xs) ts rest → tests_at end ts ≡ Ok (xs, rest)
+pub tests_read : (xs : List Test) (end : ℕ) (ts rest : List Token) → begins is_and rest ≡ false → begins (is_word words.Where) rest ≡ false → Begins (spelled.conditions xs) ts rest → Answers (length xs ≤ 16) (tests_at end ts) (xs, rest)
 unfolding tests_at
-tests_read [] end ts rest few last none h = rw (begins_nothing h, none) refl
-tests_read (x ∷ xs) end ts rest few last none h =
+tests_read [] end ts rest last none h = rw (begins_nothing h, none) (surely refl)
+tests_read (x ∷ xs) end ts rest last none h =
     let k = halves h in
     rw (single_starts (is_word words.Where) (kinds.Word words.Where) ts k.between k.first, behind_single _ ts k.between k.first)
-    (listed_read is_and is_operand (kinds.Word words.And) refl spelled.test test_at test_read (x ∷ xs) end 16 k.between rest few last k.second)
+    (listed_read is_and is_operand (kinds.Word words.And) refl spelled.test test_at test_first test_read (x ∷ xs) end 16 k.between rest last k.second)
 
-pub select_read : (s : Select) (end : ℕ) (ts rest : List Token) → FewParts s → Begins (spelled.select s) ts rest → select_at end ts ≡ Ok (s, rest)
+pub select_read : (s : Select) (end : ℕ) (ts rest : List Token) → Begins (spelled.select s) ts rest → Answers (FewParts s) (select_at end ts) (s, rest)
 unfolding select_at
-select_read s end ts rest few h =
-    pass_on (word_at words.Select end ts) _ _ h (λ b k. word_read words.Select end ts b k) (λ r1 h1.
-    read_on s.items (items_at end r1) _ _ h1 (λ b k l. items_read s.items end r1 b few.0 (single_then is_comma (kinds.Word words.From) b rest l) k) (λ r2 h2.
-    pass_on (word_at words.From end r2) _ _ h2 (λ b k. word_read words.From end r2 b k) (λ r3 h3.
-    read_on s.source (name_at end r3) _ _ h3 (λ b k l. name_read s.source end r3 b k) (λ r4 h4.
-    read_on s.tests (tests_at end r4) _ _ h4
-    (λ b k l. tests_read s.tests end r4 b few.1 (single_starts is_and (kinds.Sign signs.Semicolon) b rest l) (single_starts (is_word words.Where) (kinds.Sign signs.Semicolon) b rest l) k) (λ r5 h5.
-    step (sign_at signs.Semicolon end r5) _ rest _ (mark_read signs.Semicolon end r5 rest h5) refl)))))
+select_read s end ts rest h =
+    pass_on (word_at words.Select end ts) _ h (λ b k. word_read words.Select end ts b k) (λ r1 h1.
+    list_on s.items (items_at end r1) _ (λ few. few.0) h1 (λ b k l. items_read s.items end r1 b (single_then is_comma (kinds.Word words.From) b rest l) k) (λ r2 h2.
+    pass_on (word_at words.From end r2) _ h2 (λ b k. word_read words.From end r2 b k) (λ r3 h3.
+    read_on s.source (name_at end r3) _ h3 (λ b k. name_read s.source end r3 b k) (λ r4 h4.
+    list_on s.tests (tests_at end r4) _ (λ few. few.1) h4
+    (λ b k l. tests_read s.tests end r4 b (single_starts is_and (kinds.Sign signs.Semicolon) b rest l) (single_starts (is_word words.Where) (kinds.Sign signs.Semicolon) b rest l) k) (λ r5 h5.
+    step_so (sign_at signs.Semicolon end r5) _ rest (mark_read signs.Semicolon end r5 rest h5) (surely refl))))))
 
 -- ---- scripts and inputs
 
-pub statement_read : (s : Statement) (end : ℕ) (ts rest : List Token) → IsShort s → Begins (spelled.statement s) ts rest → statement_at end ts ≡ Ok (s, rest)
+pub statement_read : (s : Statement) (end : ℕ) (ts rest : List Token) → Begins (spelled.statement s) ts rest → Answers (IsShort s) (statement_at end ts) (s, rest)
 unfolding statement_at
-statement_read (statements.Insert i) end ts rest few h = rw (single_then (is_word words.Insert) (kinds.Word words.Insert) ts rest h) (step (insert_at end ts) _ (i, rest) _ (insert_read i end ts rest few h) refl)
-statement_read (statements.Select s) end ts rest few h = rw (single_then (is_word words.Insert) (kinds.Word words.Select) ts rest h) (step (select_at end ts) _ (s, rest) _ (select_read s end ts rest few h) refl)
+statement_read (statements.Insert i) end ts rest h = rw (single_then (is_word words.Insert) (kinds.Word words.Insert) ts rest h) (step_or (insert_at end ts) _ (i, rest) (λ few. few) (insert_read i end ts rest h) (surely refl))
+statement_read (statements.Select s) end ts rest h = rw (single_then (is_word words.Insert) (kinds.Word words.Select) ts rest h) (step_or (select_at end ts) _ (s, rest) (λ few. few) (select_read s end ts rest h) (surely refl))
 
 statement_starts : (s : Statement) (ts rest : List Token) → Begins (spelled.statement s) ts rest → begins is_statement ts ≡ true
 statement_starts (statements.Insert i) ts rest h = single_then is_statement (kinds.Word words.Insert) ts rest h
 statement_starts (statements.Select s) ts rest h = single_then is_statement (kinds.Word words.Select) ts rest h
 
-pub script_read : (s : Script) (end : ℕ) (ts rest : List Token) → FewStatements s → Begins (spelled.script s) ts rest → script_at end ts ≡ Ok (s, rest)
+pub script_read : (s : Script) (end : ℕ) (ts rest : List Token) → Begins (spelled.script s) ts rest → Answers (FewStatements s) (script_at end ts) (s, rest)
 unfolding script_at
-script_read s end ts rest few h =
-    pass_on (word_at words.Begin end ts) _ _ h (λ b k. word_read words.Begin end ts b k) (λ r1 h1.
-    pass_on (word_at words.Transaction end r1) _ _ h1 (λ b k. word_read words.Transaction end r1 b k) (λ r2 h2.
-    pass_on (sign_at signs.Semicolon end r2) _ _ h2 (λ b k. mark_read signs.Semicolon end r2 b k) (λ r3 h3.
-    read_on s.statements (many_at is_statement statement_at end 64 r3) _ _ h3
-    (λ b k l. many_read is_statement spelled.statement IsShort statement_at statement_starts statement_read s.statements end 64 r3 b few (single_then is_statement (kinds.Word words.Commit) b rest l) k) (λ r4 h4.
-    pass_on (word_at words.Commit end r4) _ _ h4 (λ b k. word_read words.Commit end r4 b k) (λ r5 h5.
-    step (sign_at signs.Semicolon end r5) _ rest _ (mark_read signs.Semicolon end r5 rest h5) refl)))))
+script_read s end ts rest h =
+    pass_on (word_at words.Begin end ts) _ h (λ b k. word_read words.Begin end ts b k) (λ r1 h1.
+    pass_on (word_at words.Transaction end r1) _ h1 (λ b k. word_read words.Transaction end r1 b k) (λ r2 h2.
+    pass_on (sign_at signs.Semicolon end r2) _ h2 (λ b k. mark_read signs.Semicolon end r2 b k) (λ r3 h3.
+    list_on s.statements (many_at is_statement statement_at end 64 r3) _ (λ few. few) h3
+    (λ b k l. many_read is_statement spelled.statement IsShort statement_at statement_starts statement_read s.statements end 64 r3 b (single_then is_statement (kinds.Word words.Commit) b rest l) k) (λ r4 h4.
+    pass_on (word_at words.Commit end r4) _ h4 (λ b k. word_read words.Commit end r4 b k) (λ r5 h5.
+    step_so (sign_at signs.Semicolon end r5) _ rest (mark_read signs.Semicolon end r5 rest h5) (surely refl))))))
 
 many_not : {A : Type 0} (of : A → Phrase) (test : TokenKind → Bool) → ((x : A) (ts rest : List Token) → Begins (of x) ts rest → begins test ts ≡ false) → (xs : List A) (ts rest : List Token)
     → begins test rest ≡ false → Begins (spelled.many of xs) ts rest → begins test ts ≡ false
 many_not of test each [] ts rest e h = ap (begins test) (begins_nothing h) ∙ e
 many_not of test each (x ∷ xs) ts rest e h = let k = halves h in each x ts k.between k.first
 
--- an input that keeps the limits and is spelled so is read
-pub input_read : (tree : Input) (end : ℕ) (ts : List Token) → WithinLimits tree → spelled.input tree ts → input_of end ts ≡ Ok tree
+-- what is spelled as an input is read, unless there is too much of something
+pub sentence_read : (tree : Input) (end : ℕ) (ts : List Token) → spelled.input tree ts → Answers (WithinLimits tree) (input_of end ts) tree
 unfolding input_of
-input_read tree end ts few whole =
+sentence_read tree end ts whole =
     let h : Begins (spelled.input tree) ts [] = of_all whole in
-    read_on tree.opening.tables (many_at is_create create_at end 64 ts) _ _ h
-    (λ b k l. many_read is_create spelled.create FewColumns create_at (λ c us r m. single_then is_create (kinds.Word words.Create) us r m) create_read tree.opening.tables end 64 ts b few.0 (no_create b l) k) (λ r1 h1.
-    read_on tree.opening.rows (many_at is_insert insert_at end 65536 r1) _ _ h1
-    (λ b k l. many_read is_insert spelled.insert FewValues insert_at (λ i us r m. single_then is_insert (kinds.Word words.Insert) us r m) insert_read tree.opening.rows end 65536 r1 b few.1 (no_insert b l) k) (λ r2 h2.
-    step (many_at is_begin script_at end 10000 r2) _ (tree.scripts, []) _
-    (many_read is_begin spelled.script FewStatements script_at (λ s us r m. single_then is_begin (kinds.Word words.Begin) us r m) script_read tree.scripts end 10000 r2 [] few.2 refl h2) refl))
+    list_on tree.opening.tables (many_at is_create create_at end 64 ts) _ (λ few. few.0) h
+    (λ b k l. many_read is_create spelled.create FewColumns create_at (λ c us r m. single_then is_create (kinds.Word words.Create) us r m) create_read tree.opening.tables end 64 ts b (no_create b l) k) (λ r1 h1.
+    list_on tree.opening.rows (many_at is_insert insert_at end 65536 r1) _ (λ few. few.1) h1
+    (λ b k l. many_read is_insert spelled.insert FewValues insert_at (λ i us r m. single_then is_insert (kinds.Word words.Insert) us r m) insert_read tree.opening.rows end 65536 r1 b (no_insert b l) k) (λ r2 h2.
+    step_or (many_at is_begin script_at end 10000 r2) _ (tree.scripts, []) (λ few. few.2)
+    (many_read is_begin spelled.script FewStatements script_at (λ s us r m. single_then is_begin (kinds.Word words.Begin) us r m) script_read tree.scripts end 10000 r2 [] refl h2) (surely refl)))
   where
     no_insert : (b : List Token) → Begins (spelled.many spelled.script tree.scripts) b [] → begins is_insert b ≡ false
     no_insert b l = many_not spelled.script is_insert (λ s us r m. single_then is_insert (kinds.Word words.Begin) us r m) tree.scripts b [] refl l
@@ -320,3 +366,19 @@ input_read tree end ts few whole =
         let k = halves l in
         many_not spelled.insert is_create (λ i us r m. single_then is_create (kinds.Word words.Insert) us r m) tree.opening.rows b k.between
         (many_not spelled.script is_create (λ s us r m. single_then is_create (kinds.Word words.Begin) us r m) tree.scripts k.between [] refl k.second) k.first
+
+kept_is_read : {A : Type 0} {fits : Type 0} {read : Result A SqlFault} {x : A} → fits → (read ≡ Ok x) ⊎ ((place : ℕ) × (read ≡ Err (TooMany place)) × (fits → ⊥)) → read ≡ Ok x
+kept_is_read few (inl e) = e
+kept_is_read few (inr f) = absurd (f.2 few)
+
+-- an input that keeps the limits and is spelled so is read
+pub input_read : (tree : Input) (end : ℕ) (ts : List Token) → WithinLimits tree → spelled.input tree ts → input_of end ts ≡ Ok tree
+input_read tree end ts few whole = let h = sentence_read tree end ts whole in kept_is_read few h.says
+
+never_unexpected_of : {A : Type 0} {fits : Type 0} {read : Result A SqlFault} {x : A} (place : ℕ) → read ≡ Err (Unexpected place) → (read ≡ Ok x) ⊎ ((p : ℕ) × (read ≡ Err (TooMany p)) × (fits → ⊥)) → ⊥
+never_unexpected_of place e (inl k) = absurd cc
+never_unexpected_of place e (inr k) = let same = k.1 in absurd cc
+
+-- where a token can't stand, nothing is spelled so, of whatever size
+pub never_unexpected : (tree : Input) (end place : ℕ) (ts : List Token) → input_of end ts ≡ Err (Unexpected place) → spelled.input tree ts → ⊥
+never_unexpected tree end place ts e whole = let h = sentence_read tree end ts whole in never_unexpected_of place e h.says

@@ -5,6 +5,9 @@ ghost use Rattle.ent_value.specs.Refusal.{Gives};
 ghost use Rattle.ent_sql.specs.declared.fault.SqlFault.{SqlFault};
 ghost use Rattle.ent_sql.specs.declared.tree.Input.{Input};
 ghost use Rattle.ent_sql.specs.Says.{Says, SaysNothing};
+ghost use Rattle.ent_sql.specs.FirstFault.{CantFollow, IsTooMuch};
+ghost use Rattle.ent_text.specs.Lexing.{tokens_of};
+ghost use Rattle.ent_text.specs.declared.fault.TextFault.{TextFault};
 ghost use Rattle.ent_sql.specs.Grammar.{input_of, reading};
 
 use crate::declaration::{create_at, insert_at};
@@ -17,12 +20,15 @@ use ent_text::{Keyword, Token, tokens};
 use ent_value::Refusal;
 use std::alloc::Global;
 
-/// What a text says, or its first fault: all faults of tokens come before those of the grammar, and a fault comes
-/// only where the text says nothing.
+/// What a text says, or its first fault: all faults of tokens come before those of the grammar, which are the first
+/// token that can't follow what stands before it, or that begins a thing beyond a limit.
 pub fn parse_input(alloc: Global, text: &str) -> Result<Input, Refusal<SqlFault>>
     ensures meaning { Gives (λ input. input) result (reading text.now) }
     ensures said { IfOk result (λ input. Says text.now input) }
     ensures nothing_said { (fault : SqlFault) → result ≡ Err (Fault fault) → SaysNothing text.now }
+    ensures token_fault { (fault : TextFault) → result ≡ Err (Fault (SqlFault.Text fault)) → tokens_of text.now ≡ Err fault }
+    ensures unexpected { (place : ℕ) → result ≡ Err (Fault (SqlFault.Unexpected place)) → CantFollow text.now place }
+    ensures too_many { (place : ℕ) → result ≡ Err (Fault (SqlFault.TooMany place)) → IsTooMuch text.now place }
 {
     match tokens(alloc, text) {
         Ok(found) => input_of(alloc, text.len(), found.as_slice()),
@@ -31,10 +37,14 @@ pub fn parse_input(alloc: Global, text: &str) -> Result<Input, Refusal<SqlFault>
     }
 }
 
-/// An input is read from a text exactly where the text says it, and a text says one input at most.
+/// An input is read from a text exactly where the text says it, and a text says one input at most. Each fault is
+/// answered exactly where it is the first.
 pub fn reading_is_exact()
-    ensures exact { (text : List ℕ) (input : Input) → (reading text ≡ Ok input) ↔ Says text input }
+    ensures input { (text : List ℕ) (input : Input) → (reading text ≡ Ok input) ↔ Says text input }
     ensures single { (text : List ℕ) (one other : Input) → Says text one → Says text other → one ≡ other }
+    ensures token_fault { (text : List ℕ) (fault : TextFault) → (reading text ≡ Err (SqlFault.Text fault)) ↔ (tokens_of text ≡ Err fault) }
+    ensures unexpected { (text : List ℕ) (place : ℕ) → (reading text ≡ Err (SqlFault.Unexpected place)) ↔ CantFollow text place }
+    ensures too_many { (text : List ℕ) (place : ℕ) → (reading text ≡ Err (SqlFault.TooMany place)) ↔ IsTooMuch text place }
 {}
 
 impl Item for Create {

@@ -1,14 +1,14 @@
 //! The tree of an input: declarations, opening rows and scripts.
 #![tactic(auto)]
 
-pub mod declaration;
+mod declaration;
 pub mod fault;
-pub mod front;
+mod front;
 pub mod input;
-pub mod list;
-pub mod operand;
-pub mod script;
-pub mod select;
+mod list;
+mod operand;
+mod script;
+mod select;
 pub mod tree;
 
 pub use fault::SqlFault;

@@ -1,13 +1,12 @@
-use Rattle.std.proofs.Common.{◌≡◌, ◌∙◌, sym, ap, map, length, List, None}
+use Rattle.std.proofs.Common.{◌∙◌, sym, ap, map, length}
 use Rattle.std.specs.Arc.{arc_value}
 use Rattle.ent_form.specs.Catalogue.{schemas_of, names_of}
 use Rattle.ent_form.specs.FirstFault.{opening_fault, first_of, script_fault}
 use Rattle.ent_form.specs.Plain.{plain_script}
 use Rattle.ent_form.specs.PlainMeaning.{schema_kinds, database_of, opening_tables}
-use Rattle.ent_form.specs.declared.catalogue.TableSchema.{TableSchema}
-use Rattle.ent_engine.specs.Outcome.{Outcome, outcome_of}
-use Rattle.ent_engine.specs.Tables.{PlainOutcome, plain_outcomes, outcome_of_tables}
-use Rattle.ent_engine.proofs.Same.{none_before, as_outcome}
+use Rattle.ent_engine.specs.Outcome.{Outcome}
+use Rattle.ent_engine.specs.Tables.{PlainOutcome}
+use Rattle.ent_engine.proofs.Same.{none_before}
 use Rattle.ent_engine.proofs.Booking.{scripts_fit, whole_outcome, ran_plain, as_many, declared_names, same_database}
 use Rattle.ent_engine.proofs.book.book_of.Goals as goal
 

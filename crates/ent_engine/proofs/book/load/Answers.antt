@@ -1,4 +1,4 @@
-use Rattle.std.proofs.Common.{◌≡◌, ◌∙◌, ap, map, arith, length}
+use Rattle.std.proofs.Common.{◌∙◌, ap, map, arith, length}
 use Rattle.std.proofs.lemmas.List.{take_all}
 use Rattle.ent_set.specs.Sets as set
 use Rattle.ent_value.specs.Value.{row_cmp}

@@ -1,8 +1,8 @@
-use Rattle.std.proofs.Common.{◌≡◌, ◌∙◌, sym, ap, map, arith}
+use Rattle.std.proofs.Common.{◌∙◌, sym, ap, map, arith}
 use Rattle.ent_rel.specs.Relation.{Relation}
 use Rattle.ent_set.specs.Sets as set
 use Rattle.ent_value.specs.Value.{row_cmp}
-use Rattle.ent_engine.proofs.Loading.{rows_of_table, rows_fit, fits_always, loaded_is}
+use Rattle.ent_engine.proofs.Loading.{rows_of_table, rows_fit, fits_always, full_is, loaded_is}
 use Rattle.ent_engine.proofs.book.load_table.Goals as goal
 
 pub load-requires : goal.load-requires
@@ -13,11 +13,11 @@ load-requires c =
 
 pub unreachable-requires : goal.unreachable-requires
 unreachable-requires c =
-    fits_always c.args.opening.now c.args.schema.now.name c.in_ok-rows.rows.items _ c.in-Err.field-0 (omega (arith, c.len.ensures.len, c.len.ensures.limit))
+    fits_always c.args.opening.now c.args.schema.now.name c.in_ok-rows.rows.items _ (omega (arith, c.len.ensures.len, c.len.ensures.limit))
     (rows_of_table c.args.opening.now c.args.catalogue.now.tables c.args.number c.args.schema.now c.in_ok-rows.rows.items c.requires.number c.in_ok-rows.ensures)
-    c.in-Err.ensures
+    (full_is (λ (table : Relation). table) c.in-Err-TableFull.field-0 _ c.in-Err-TableFull.field-0-is c.in-Err-TableFull.ensures)
 
-pub returns-clause-rows : goal.returns-clause-rows
-returns-clause-rows c =
+pub returns-in-Ok-clause-rows : goal.returns-in-Ok-clause-rows
+returns-in-Ok-clause-rows c =
     sym (ap (λ (table : Relation). table.rows) (loaded_is _ _ _ c.in-Ok.ensures))
     ∙ ap (λ rows. set.from_list {R = row_cmp} rows) (rows_of_table c.args.opening.now c.args.catalogue.now.tables c.args.number c.args.schema.now c.in_ok-rows.rows.items c.requires.number c.in_ok-rows.ensures)

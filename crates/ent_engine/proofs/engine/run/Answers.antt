@@ -1,4 +1,3 @@
-use Rattle.std.proofs.Common.{◌≡◌}
 use Rattle.ent_book.specs.Book.{table_names, tables_database}
 use Rattle.ent_engine.proofs.Written.{same_report, wrote_beginning}
 use Rattle.ent_engine.proofs.engine.run.Goals as goal

@@ -1,5 +1,4 @@
-use Rattle.std.proofs.Common.{◌≡◌, ◌<◌, ◌≤◌, ◌-◌, length, vec_len, arith, rules, sym, ap, ◌∙◌, take, ◌++◌}
-use Rattle.std.proofs.lemmas.List.{length-append, length-take-le}
+use Rattle.std.proofs.Common.{arith, ◌∙◌}
 use Rattle.ent_engine.proofs.Pieces.{or-true, nothing_read, read_more, read_to_end, read_too_much}
 use Rattle.ent_engine.proofs.reader.read_pieces.Goals as goal
 

@@ -1,4 +1,4 @@
-use Rattle.std.proofs.Common.{◌≡◌, ◌≤◌, ◌+◌, ◌++◌, drop}
+use Rattle.std.proofs.Common.{◌≡◌, ◌≤◌, ◌+◌, drop}
 use Rattle.ent_engine.specs.Tables.{kinds_in, rows_in, plain_outcomes}
 use Rattle.ent_engine.proofs.Runs.{with_fates}
 use Rattle.ent_engine.proofs.runner.run_scripts.Given as goal

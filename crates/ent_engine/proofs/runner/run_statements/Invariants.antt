@@ -1,4 +1,4 @@
-use Rattle.std.proofs.Common.{◌≡◌, ◌++◌, drop}
+use Rattle.std.proofs.Common.{◌≡◌, drop}
 use Rattle.ent_engine.specs.Tables.{kinds_in, rows_in, plain_run}
 use Rattle.ent_engine.proofs.Runs.{with_answers}
 use Rattle.ent_engine.proofs.runner.run_statements.Given as goal

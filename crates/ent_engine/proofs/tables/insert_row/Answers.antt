@@ -1,9 +1,8 @@
-use Rattle.std.proofs.Common.{◌≡◌, ◌∙◌, ◌<◌, sym, ap, map, length, List, Ok}
+use Rattle.std.proofs.Common.{◌∙◌, ◌<◌, sym, ap, map, length, List, Ok}
 use Rattle.ent_semantics.specs.declared.answer.Answer.TheVariants as answers
 use Rattle.std.specs.Arc.{arc_value}
 use Rattle.std.proofs.lemmas.Result.{err_from_is_err_and}
 use Rattle.ent_rel.specs.Relation.{Relation}
-use Rattle.ent_form.specs.PlainMeaning.{plain_meaning}
 use Rattle.ent_engine.specs.Tables.{kinds_in, effect}
 use Rattle.ent_engine.proofs.Meanings.{map-set, named_is_there, fits_old, table_at, length_map_lt, insert_done, insert_refused, insert_keeps_kinds}
 use Rattle.ent_engine.proofs.tables.insert_row.Goals as goal

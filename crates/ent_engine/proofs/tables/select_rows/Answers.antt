@@ -1,4 +1,4 @@
-use Rattle.std.proofs.Common.{◌≡◌, ◌∙◌, ap, map}
+use Rattle.std.proofs.Common.{map}
 use Rattle.std.specs.Arc.{arc_value}
 use Rattle.ent_engine.proofs.Meanings.{table_at, length_map_lt, select_done}
 use Rattle.ent_engine.proofs.tables.select_rows.Goals as goal

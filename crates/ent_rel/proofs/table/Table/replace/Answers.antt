@@ -10,6 +10,7 @@ use Rattle.ent_rel.specs.declared.change.Delta.{Delta}
 use Rattle.ent_rel.specs.declared.fault.ReplaceFault.{ReplaceFault}
 use Rattle.ent_rel.proofs.Lists.{computes_listed, taken_from, taken_changes, taken_kinds}
 use Rattle.ent_rel.proofs.Meanings.{replaced_so, not_replaced_so, applied, not_applied, counted}
+use Rattle.ent_rel.proofs.Kept.{distinct_rows}
 use Rattle.ent_rel.proofs.table.Table.replace.Goals as goal
 
 pub returns-in_err-added-clause-change : goal.returns-in_err-added-clause-change
@@ -55,7 +56,7 @@ returns-in_err-apply-clause-change g c = λ passes image excused computes change
     let made = c.in_ok-added.ensures.images image excused here in
     let same : matched ≡ c.from_vec.result = c.as_slice-2.ensures.value ∙ sym c.from_vec.ensures in
     let removed : c.from_vec.result ≡ filter passes items = c.from_vec.ensures ∙ c.in_ok-removed.ensures.passing passes listed ∙ ap (filter passes) c.as_slice.ensures.value in
-    let meant : replacement s passes image ≡ Some (counted (length c.from_vec.result) (changed_rows s c.from_vec.result c.from_vec-2.result)) = replaced_so s items passes image c.from_vec.result c.from_vec-2.result view c.self.invariant.distinct removed (
+    let meant : replacement s passes image ≡ Some (counted (length c.from_vec.result) (changed_rows s c.from_vec.result c.from_vec-2.result)) = replaced_so s items passes image c.from_vec.result c.from_vec-2.result view (distinct_rows c.self.invariant) removed (
       ap (list_all (λ row. is_some (image row))) (sym same) ∙ made.0,
       c.from_vec-2.ensures ∙ made.1 ∙ ap (filter_map image) same,
     ) in
@@ -77,7 +78,7 @@ returns-clause-change g c = λ passes image excused computes changes.
     let same : matched ≡ c.from_vec.result = c.as_slice-2.ensures.value ∙ sym c.from_vec.ensures in
     let removed : c.from_vec.result ≡ filter passes items = c.from_vec.ensures ∙ c.in_ok-removed.ensures.passing passes listed ∙ ap (filter passes) c.as_slice.ensures.value in
     let count : length c.from_vec.result ≡ c.len-count.result = ap length c.from_vec.ensures ∙ sym c.in_ok-removed.removed.ok.0 ∙ sym c.len-count.ensures in
-    let meant : replacement s passes image ≡ Some (counted (length c.from_vec.result) (changed_rows s c.from_vec.result c.from_vec-2.result)) = replaced_so s items passes image c.from_vec.result c.from_vec-2.result view c.self.invariant.distinct removed (
+    let meant : replacement s passes image ≡ Some (counted (length c.from_vec.result) (changed_rows s c.from_vec.result c.from_vec-2.result)) = replaced_so s items passes image c.from_vec.result c.from_vec-2.result view (distinct_rows c.self.invariant) removed (
       ap (list_all (λ row. is_some (image row))) (sym same) ∙ made.0,
       c.from_vec-2.ensures ∙ made.1 ∙ ap (filter_map image) same,
     ) in

@@ -1,0 +1,228 @@
+-- What asking for uses and dropping them make of the uses that are held.
+use Rattle.std.proofs.Common.{◌≡◌, ◌≢◌, ℕ, zero, suc, ◌≤◌, ◌==◌, Bool, true, false, not, ◌&&◌, ◌||◌, if◌then◌else◌, min, ◌⊎◌, inl, inr, List, [], ◌∷◌, refl, sym, ap, subst, ◌∙◌, arith, true≢false}
+use Rattle.std.specs.Prelude.{Contains, IsTrue, Option, None, Some, ◌↔◌}
+use Rattle.std.specs.List.{list_any}
+use Rattle.std.specs.FinSet as finite
+use Rattle.std.proofs.lemmas.Bool.{eqb-true, eq-eqb, ne_eqb}
+use Rattle.std.proofs.lemmas.List.Elements.{Contains-append_right}
+use Rattle.ent_lock.specs.declared.mode.Mode.{Mode}
+use Rattle.ent_lock.specs.declared.holders.Holder.{Holder}
+use Rattle.ent_lock.specs.Mode.{in_conflict}
+use Rattle.ent_lock.specs.Holders.{is_in_way, lesser, least_in_way}
+use Rattle.ent_lock.specs.Use.{Use, Uses, Holds, InConflict, InConflictAt, Blocks, IsLeastIfAny, AddsUses, DropsUses, with_uses}
+use Rattle.ent_lock.specs.Layout.{is_use_of_none}
+use Rattle.ent_lock.proofs.Held.{the_use, use_total, is_use, is_use-true, is_use-itself, of_none_alike, not_true, both_true}
+
+-- ---- numbers of a list
+
+pub any_from_number : (x : ℕ) (xs : List ℕ) → Contains xs x → list_any (λ m. m == x) xs ≡ true
+any_from_number x [] (k, within, e) = absurd (omega arith)
+any_from_number x (y ∷ ys) (zero, within, e) = λ i. eq-eqb y x e i || list_any (λ m. m == x) ys
+any_from_number x (y ∷ ys) (suc k, within, e) = ap (λ b. (y == x) || b) (any_from_number x ys (k, omega arith, e)) ∙ or_true (y == x)
+  where
+    or_true : (a : Bool) → (a || true) ≡ true
+    or_true true = refl
+    or_true false = refl
+
+pub number_from_any : (x : ℕ) (xs : List ℕ) → list_any (λ m. m == x) xs ≡ true → Contains xs x
+number_from_any x [] = λ e. absurd (true≢false (sym e))
+number_from_any x (y ∷ ys) =
+    elim (y == x) as (λ b. (y == x) ≡ b → (b || list_any (λ m. m == x) ys) ≡ true → Contains (y ∷ ys) x) [
+      | true ↦ λ same _. (0, omega arith, eqb-true y x same)
+      | false ↦ λ _ later. Contains-append_right (y ∷ []) ys x (number_from_any x ys later)
+    ] refl
+
+not_any : (x : ℕ) (xs : List ℕ) → ¬ Contains xs x → not (list_any (λ m. m == x) xs) ≡ true
+not_any x xs apart = ap not (not_true (list_any (λ m. m == x) xs) (λ e. apart (number_from_any x xs e)))
+
+not_inside : (x : ℕ) (xs : List ℕ) → not (list_any (λ m. m == x) xs) ≡ true → ¬ Contains xs x
+not_inside x xs none inside = true≢false (sym (sym (ap not (any_from_number x xs inside)) ∙ none))
+
+-- ---- the least number of which a fact holds
+
+pub least_same : (P Q : ℕ → Type 0) (o : Option ℕ) → ((v : ℕ) → P v → Q v) → ((v : ℕ) → Q v → P v) → IsLeastIfAny P o → IsLeastIfAny Q o
+least_same P Q None to from h = λ v q. h v (from v q)
+least_same P Q (Some x) to from h = (to x h.0, λ w q. h.1 w (from w q))
+
+min_left : (x y w : ℕ) → x ≤ w → min x y ≤ w
+min_left x y w h = omega arith
+
+min_right : (x y w : ℕ) → y ≤ w → min x y ≤ w
+min_right x y w h = omega arith
+
+min_is : (x y : ℕ) → (min x y ≡ x) ⊎ (min x y ≡ y)
+min_is x y = grind arith
+
+pub least_either : (P Q : ℕ → Type 0) (a b : Option ℕ) → IsLeastIfAny P a → IsLeastIfAny Q b → IsLeastIfAny (λ v. P v ⊎ Q v) (lesser a b)
+least_either P Q None None p q = λ v either. elim either [ inl h ↦ p v h | inr h ↦ q v h ]
+least_either P Q None (Some y) p q = (inr q.0, λ w either. elim either [ inl h ↦ absurd (p w h) | inr h ↦ q.1 w h ])
+least_either P Q (Some x) None p q = (inl p.0, λ w either. elim either [ inl h ↦ p.1 w h | inr h ↦ absurd (q w h) ])
+least_either P Q (Some x) (Some y) p q = (
+  elim (min_is x y) [ inl e ↦ inl (subst P (sym e) p.0) | inr e ↦ inr (subst Q (sym e) q.0) ],
+  λ w either. elim either [ inl h ↦ min_left x y w (p.1 w h) | inr h ↦ min_right x y w (q.1 w h) ],
+)
+
+-- ---- the holders in the way
+
+abbrev pub holder_of : ℕ → Mode → Holder
+holder_of v mode = record { holder = v; mode = mode }
+
+abbrev pub InWay : ℕ → Mode → List ℕ → List Holder → ℕ → Type 0
+InWay tx mode pass hs v = (theirs : Mode) × Contains hs (holder_of v theirs) × (is_in_way tx mode pass (holder_of v theirs) ≡ true)
+
+abbrev FirstInWay : ℕ → Mode → List ℕ → Holder → ℕ → Type 0
+FirstInWay tx mode pass h v = (h.holder ≡ v) × (is_in_way tx mode pass h ≡ true)
+
+least_first : (tx : ℕ) (mode : Mode) (pass : List ℕ) (h : Holder) → IsLeastIfAny (FirstInWay tx mode pass h) (if is_in_way tx mode pass h then Some h.holder else None)
+least_first tx mode pass h =
+    elim (is_in_way tx mode pass h) as (λ b. is_in_way tx mode pass h ≡ b → IsLeastIfAny (FirstInWay tx mode pass h) (if b then Some h.holder else None)) [
+      | true ↦ λ e. ((refl, e), λ w it. omega (arith, it.0))
+      | false ↦ λ e v it. true≢false (sym it.1 ∙ e)
+    ] refl
+
+in_way_head : (tx : ℕ) (mode : Mode) (pass : List ℕ) (h : Holder) (hs : List Holder) (v : ℕ) → FirstInWay tx mode pass h v ⊎ InWay tx mode pass hs v → InWay tx mode pass (h ∷ hs) v
+in_way_head tx mode pass h hs v (inl (same, in_way)) =
+    let whole : h ≡ holder_of v h.mode = λ i. holder_of (same i) h.mode in
+    (h.mode, (0, omega arith, whole), ap (is_in_way tx mode pass) (sym whole) ∙ in_way)
+in_way_head tx mode pass h hs v (inr (theirs, inside, in_way)) = (theirs, Contains-append_right (h ∷ []) hs (holder_of v theirs) inside, in_way)
+
+in_way_cases : (tx : ℕ) (mode : Mode) (pass : List ℕ) (h : Holder) (hs : List Holder) (v : ℕ) → InWay tx mode pass (h ∷ hs) v → FirstInWay tx mode pass h v ⊎ InWay tx mode pass hs v
+in_way_cases tx mode pass h hs v (theirs, (zero, within, e), in_way) = inl (ap (λ (k : Holder). k.holder) e, ap (is_in_way tx mode pass) e ∙ in_way)
+in_way_cases tx mode pass h hs v (theirs, (suc k, within, e), in_way) = inr (theirs, (k, omega arith, e), in_way)
+
+pub least_in_way-IsLeastIfAny : (tx : ℕ) (mode : Mode) (pass : List ℕ) (hs : List Holder) → IsLeastIfAny (InWay tx mode pass hs) (least_in_way tx mode pass hs)
+least_in_way-IsLeastIfAny tx mode pass [] = λ v it. nobody it
+  where
+    nobody : {v : ℕ} → InWay tx mode pass [] v → ⊥
+    nobody (theirs, (k, within, e), in_way) = absurd (omega arith)
+least_in_way-IsLeastIfAny tx mode pass (h ∷ hs) =
+    least_same (λ v. FirstInWay tx mode pass h v ⊎ InWay tx mode pass hs v) (InWay tx mode pass (h ∷ hs)) (least_in_way tx mode pass (h ∷ hs))
+    (in_way_head tx mode pass h hs) (in_way_cases tx mode pass h hs)
+    (least_either (FirstInWay tx mode pass h) (InWay tx mode pass hs) (if is_in_way tx mode pass h then Some h.holder else None) (least_in_way tx mode pass hs)
+    (least_first tx mode pass h) (least_in_way-IsLeastIfAny tx mode pass hs))
+
+-- ---- who blocks
+
+-- a transaction's use of one table is in the way of one that is asked for
+abbrev pub BlocksOne : Uses → ℕ → List ℕ → Mode → List ℕ → ℕ → Type 0
+BlocksOne held tx table mode pass v = (v ≢ tx) × ¬ Contains pass v × ((theirs : Mode) × Holds held v table theirs × IsTrue (in_conflict theirs mode))
+
+way_parts : (tx : ℕ) (mode : Mode) (pass : List ℕ) (v : ℕ) (theirs : Mode) → is_in_way tx mode pass (holder_of v theirs) ≡ true → (v ≢ tx) × ¬ Contains pass v × IsTrue (in_conflict theirs mode)
+way_parts tx mode pass v theirs e =
+    let first = both_true (not (v == tx)) (in_conflict theirs mode && not (list_any (λ m. m == v) pass)) e in
+    let second = both_true (in_conflict theirs mode) (not (list_any (λ m. m == v) pass)) first.1 in
+    (λ same. true≢false (sym (sym (ap not (eq-eqb v tx same)) ∙ first.0)), not_inside v pass second.1, second.0)
+
+way_whole : (tx : ℕ) (mode : Mode) (pass : List ℕ) (v : ℕ) (theirs : Mode) → (v ≢ tx) → ¬ Contains pass v → IsTrue (in_conflict theirs mode) → is_in_way tx mode pass (holder_of v theirs) ≡ true
+way_whole tx mode pass v theirs other apart conflict = λ i. ap not (ne_eqb v tx other) i && (conflict i && not_any v pass apart i)
+
+in_way_blocks : (held : Uses) (tx : ℕ) (table : List ℕ) (mode : Mode) (pass : List ℕ) (hs : List Holder) →
+    ((v : ℕ) (theirs : Mode) → Contains hs (holder_of v theirs) ↔ Holds held v table theirs) → (v : ℕ) → InWay tx mode pass hs v → BlocksOne held tx table mode pass v
+in_way_blocks held tx table mode pass hs holders v (theirs, inside, in_way) =
+    let parts = way_parts tx mode pass v theirs in_way in
+    (parts.0, parts.1, (theirs, (holders v theirs).0 inside, parts.2))
+
+blocks_in_way : (held : Uses) (tx : ℕ) (table : List ℕ) (mode : Mode) (pass : List ℕ) (hs : List Holder) →
+    ((v : ℕ) (theirs : Mode) → Contains hs (holder_of v theirs) ↔ Holds held v table theirs) → (v : ℕ) → BlocksOne held tx table mode pass v → InWay tx mode pass hs v
+blocks_in_way held tx table mode pass hs holders v (other, apart, (theirs, there, conflict)) =
+    (theirs, (holders v theirs).1 there, way_whole tx mode pass v theirs other apart conflict)
+
+pub least_of_one : (held : Uses) (tx : ℕ) (table : List ℕ) (mode : Mode) (pass : List ℕ) (hs : List Holder) →
+    ((v : ℕ) (theirs : Mode) → Contains hs (holder_of v theirs) ↔ Holds held v table theirs) → IsLeastIfAny (BlocksOne held tx table mode pass) (least_in_way tx mode pass hs)
+least_of_one held tx table mode pass hs holders =
+    least_same (InWay tx mode pass hs) (BlocksOne held tx table mode pass) (least_in_way tx mode pass hs)
+    (in_way_blocks held tx table mode pass hs holders) (blocks_in_way held tx table mode pass hs holders) (least_in_way-IsLeastIfAny tx mode pass hs)
+
+blocks_more : (held : Uses) (tx : ℕ) (a : List ℕ × Mode) (asked : List (List ℕ × Mode)) (pass : List ℕ) (v : ℕ) → BlocksOne held tx a.0 a.1 pass v ⊎ Blocks held tx asked pass v → Blocks held tx (a ∷ asked) pass v
+blocks_more held tx a asked pass v (inl (other, apart, (theirs, there, conflict))) = (other, apart, (a.0, a.1, theirs, (0, omega arith, refl), there, conflict))
+blocks_more held tx a asked pass v (inr (other, apart, (table, mode, theirs, inside, there, conflict))) =
+    (other, apart, (table, mode, theirs, Contains-append_right (a ∷ []) asked (table, mode) inside, there, conflict))
+
+blocks_cases : (held : Uses) (tx : ℕ) (a : List ℕ × Mode) (asked : List (List ℕ × Mode)) (pass : List ℕ) (v : ℕ) → Blocks held tx (a ∷ asked) pass v → BlocksOne held tx a.0 a.1 pass v ⊎ Blocks held tx asked pass v
+blocks_cases held tx a asked pass v (other, apart, (table, mode, theirs, (zero, within, e), there, conflict)) =
+    let same_table : a.0 ≡ table = ap (λ (b : List ℕ × Mode). b.0) e in
+    let same_mode : a.1 ≡ mode = ap (λ (b : List ℕ × Mode). b.1) e in
+    inl (other, apart, (theirs, subst (λ (t : List ℕ). Holds held v t theirs) (sym same_table) there, subst (λ (m : Mode). IsTrue (in_conflict theirs m)) (sym same_mode) conflict))
+blocks_cases held tx a asked pass v (other, apart, (table, mode, theirs, (suc k, within, e), there, conflict)) =
+    inr (other, apart, (table, mode, theirs, (k, omega arith, e), there, conflict))
+
+pub least_of_more : (held : Uses) (tx : ℕ) (a : List ℕ × Mode) (asked : List (List ℕ × Mode)) (pass : List ℕ) (o p : Option ℕ) →
+    IsLeastIfAny (BlocksOne held tx a.0 a.1 pass) o → IsLeastIfAny (Blocks held tx asked pass) p → IsLeastIfAny (Blocks held tx (a ∷ asked) pass) (lesser o p)
+least_of_more held tx a asked pass o p first rest =
+    least_same (λ v. BlocksOne held tx a.0 a.1 pass v ⊎ Blocks held tx asked pass v) (Blocks held tx (a ∷ asked) pass) (lesser o p)
+    (blocks_more held tx a asked pass) (blocks_cases held tx a asked pass) (least_either (BlocksOne held tx a.0 a.1 pass) (Blocks held tx asked pass) o p first rest)
+
+pub nobody_blocks : (held : Uses) (tx : ℕ) (pass : List ℕ) (v : ℕ) → ¬ Blocks held tx [] pass v
+nobody_blocks held tx pass v (other, apart, (table, mode, theirs, (k, within, e), there, conflict)) = absurd (omega arith)
+
+-- ---- who is in conflict
+
+pub conflict_more : (held : Uses) (v : ℕ) (a : List ℕ × Mode) (asked : List (List ℕ × Mode)) → InConflictAt held v a.0 a.1 ⊎ InConflict held v asked → InConflict held v (a ∷ asked)
+conflict_more held v a asked (inl (theirs, there, conflict)) = (a.0, a.1, theirs, (0, omega arith, refl), there, conflict)
+conflict_more held v a asked (inr (table, mode, theirs, inside, there, conflict)) = (table, mode, theirs, Contains-append_right (a ∷ []) asked (table, mode) inside, there, conflict)
+
+pub conflict_cases : (held : Uses) (v : ℕ) (a : List ℕ × Mode) (asked : List (List ℕ × Mode)) → InConflict held v (a ∷ asked) → InConflictAt held v a.0 a.1 ⊎ InConflict held v asked
+conflict_cases held v a asked (table, mode, theirs, (zero, within, e), there, conflict) =
+    let same_table : a.0 ≡ table = ap (λ (b : List ℕ × Mode). b.0) e in
+    let same_mode : a.1 ≡ mode = ap (λ (b : List ℕ × Mode). b.1) e in
+    inl (theirs, subst (λ (t : List ℕ). Holds held v t theirs) (sym same_table) there, subst (λ (m : Mode). IsTrue (in_conflict theirs m)) (sym same_mode) conflict)
+conflict_cases held v a asked (table, mode, theirs, (suc k, within, e), there, conflict) = inr (table, mode, theirs, (k, omega arith, e), there, conflict)
+
+-- ---- uses that are added
+
+or_cases : (a b : Bool) → (a || b) ≡ true → (a ≡ true) ⊎ (b ≡ true)
+or_cases true b e = inl refl
+or_cases false b e = inr e
+
+or_left : (a b : Bool) → a ≡ true → (a || b) ≡ true
+or_left a b e = λ i. e i || b
+
+or_right : (a b : Bool) → b ≡ true → (a || b) ≡ true
+or_right true b e = refl
+or_right false b e = e
+
+added_back : (held : Uses) (tx : ℕ) (asked : List (List ℕ × Mode)) (v : ℕ) (table : List ℕ) (mode : Mode) → Holds (with_uses held tx asked) v table mode → Holds held v table mode ⊎ ((v ≡ tx) × Contains asked (table, mode))
+added_back held tx [] v table mode h = inl h
+added_back held tx (a ∷ asked) v table mode h =
+    let q = the_use v table mode in
+    let u = the_use tx a.0 a.1 in
+    elim (added_back (finite.insert held u) tx asked v table mode h) [
+      | inl there ↦ elim (or_cases (is_use q u) (finite.contains held q) (sym (finite.contains-insert use_total held u q) ∙ there)) [
+        | inl same ↦
+            let e = is_use-true q u same in
+            let pair : a ≡ (table, mode) = λ i. (ap (λ (w : Use). w.table) (sym e) i, ap (λ (w : Use). w.mode) (sym e) i) in
+            inr (ap (λ (w : Use). w.holder) e, (0, omega arith, pair))
+        | inr before ↦ inl before
+      ]
+      | inr later ↦ inr (later.0, Contains-append_right (a ∷ []) asked (table, mode) later.1)
+    ]
+
+added_from : (held : Uses) (tx : ℕ) (asked : List (List ℕ × Mode)) (v : ℕ) (table : List ℕ) (mode : Mode) → Holds held v table mode ⊎ ((v ≡ tx) × Contains asked (table, mode)) → Holds (with_uses held tx asked) v table mode
+added_from held tx [] v table mode (inl h) = h
+added_from held tx [] v table mode (inr (same, (k, within, e))) = absurd (omega arith)
+added_from held tx (a ∷ asked) v table mode (inl h) =
+    let q = the_use v table mode in
+    let u = the_use tx a.0 a.1 in
+    added_from (finite.insert held u) tx asked v table mode (inl (finite.contains-insert use_total held u q ∙ or_right (is_use q u) (finite.contains held q) h))
+added_from held tx (a ∷ asked) v table mode (inr (same, (zero, within, e))) =
+    let q = the_use v table mode in
+    let u = the_use tx a.0 a.1 in
+    let it : q ≡ u = λ i. the_use (same i) (ap (λ (b : List ℕ × Mode). b.0) (sym e) i) (ap (λ (b : List ℕ × Mode). b.1) (sym e) i) in
+    added_from (finite.insert held u) tx asked v table mode (inl (finite.contains-insert use_total held u q ∙ or_left (is_use q u) (finite.contains held q) (is_use-itself q u it)))
+added_from held tx (a ∷ asked) v table mode (inr (same, (suc k, within, e))) =
+    added_from (finite.insert held (the_use tx a.0 a.1)) tx asked v table mode (inr (same, (k, omega arith, e)))
+
+pub with_uses-AddsUses : (held : Uses) (tx : ℕ) (asked : List (List ℕ × Mode)) → AddsUses held (with_uses held tx asked) tx asked
+with_uses-AddsUses held tx asked v table mode = (added_back held tx asked v table mode, added_from held tx asked v table mode)
+
+-- ---- uses that are dropped
+
+pub retain-DropsUses : (held : Uses) (members : List ℕ) → DropsUses held (finite.retain held (is_use_of_none members)) members
+retain-DropsUses held members v table mode =
+    let q = the_use v table mode in
+    let is = finite.contains-retain held (is_use_of_none members) q (λ u tie. of_none_alike members q u tie) in (
+      λ there.
+          let parts = both_true (finite.contains held q) (is_use_of_none members q) (sym is ∙ there) in
+          (parts.0, not_inside v members parts.1),
+      λ kept. is ∙ (λ i. kept.0 i && not_any v members kept.1 i),
+    )

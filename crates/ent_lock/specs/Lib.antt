@@ -1,0 +1,4 @@
+pub mod Mode
+pub mod Holders
+pub mod Use
+pub mod Layout

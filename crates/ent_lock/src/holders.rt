@@ -1,0 +1,72 @@
+//! The holders of one table.
+ghost use Rattle.std.specs.Prelude.{◌≡◌, ◌==◌, ◌&&◌, not, filter};
+ghost use Rattle.std.specs.List.{list_any};
+ghost use Rattle.ent_lock.specs.Holders.{is_holder, is_no_holder, is_not_of, is_in_way, lesser, least_in_way};
+
+use crate::mode::Mode;
+use ent_group::{Members, Tx};
+
+/// A transaction that holds a table, and how.
+#[derive(Clone, Copy, Debug, PartialEq, Eq)]
+pub struct Holder {
+    pub holder: Tx,
+    pub mode: Mode,
+}
+
+fn is_holder(holder: &Holder, tx: Tx, mode: Mode) -> bool
+    ensures { result ≡ is_holder tx mode holder.now }
+{
+    holder.holder == tx && holder.mode == mode
+}
+
+/// Whether a transaction holds the table in a mode.
+pub(crate) fn is_held(holders: &[Holder], tx: Tx, mode: Mode) -> bool
+    ensures { result ≡ list_any (is_holder tx mode) holders.now }
+{
+    holders.iter().any(|h| is_holder(h, tx, mode))
+}
+
+/// Takes a transaction's use of the table out.
+pub(crate) fn remove_holder(holders: &mut Vec<Holder>, tx: Tx, mode: Mode)
+    ensures { holders.new.items ≡ filter (is_no_holder tx mode) holders.old.items }
+{
+    holders.retain(|h| !is_holder(h, tx, mode));
+}
+
+/// Takes out all uses of the table by some transactions.
+pub(crate) fn drop_holders(holders: &mut Vec<Holder>, members: &Members)
+    ensures { holders.new.items ≡ filter (is_not_of members.now) holders.old.items }
+{
+    holders.retain(|h| !members.contains(h.holder));
+}
+
+fn is_in_way(holder: &Holder, tx: Tx, mode: Mode, pass: &Members) -> bool
+    ensures { result ≡ is_in_way tx mode pass.now holder.now }
+{
+    holder.holder != tx && holder.mode.in_conflict(mode) && !pass.contains(holder.holder)
+}
+
+/// The lesser of two transactions, where there are two.
+pub(crate) fn lesser(left: Option<Tx>, right: Option<Tx>) -> Option<Tx>
+    ensures { result ≡ lesser left right }
+{
+    match (left, right) {
+        (Some(x), Some(y)) => Some(x.min(y)),
+        (None, other) => other,
+        (other, None) => other,
+    }
+}
+
+/// The least holder whose use is in conflict with one that a transaction asks for, save itself and those that are to
+/// be passed.
+pub(crate) fn least_in_way(holders: &[Holder], tx: Tx, mode: Mode, pass: &Members) -> Option<Tx>
+    ensures { result ≡ least_in_way tx mode pass.now holders.now }
+{
+    let mut least = None;
+    for holder in holders {
+        if is_in_way(holder, tx, mode, pass) {
+            least = lesser(least, Some(holder.holder));
+        }
+    }
+    least
+}
