@@ -1,11 +1,10 @@
 -- Values are totally ordered, and values that compare alike are equal.
-use Rattle.std.proofs.Common.{◌≡◌, refl, ap, sym}
-use Rattle.std.specs.Cmp.{IsTotalOrder, IsEquivalence, eq_by_cmp_equiv, nat_cmp_total, int_cmp_total}
-use Rattle.std.specs.Ordering.{nat_cmp, int_cmp, ordering_reverse, eq_by_cmp}
+use Rattle.std.proofs.Common.{◌≡◌, refl, ap}
+use Rattle.std.specs.Cmp.{IsTotalOrder, IsEquivalence, eq_by_cmp_equiv, int_cmp_total}
+use Rattle.std.specs.Ordering.{ordering_reverse, eq_by_cmp}
 use Rattle.std.proofs.lemmas.Cmp.{lists_total, nat_list_cmp_total}
 use Rattle.std.proofs.lemmas.Map.Lookups.{CmpEqualImpliesEq, exact_signed, exact_bytes}
-use Rattle.std.specs.declared.cmp.Ordering.{Ordering}
-use Rattle.std.specs.declared.cmp.Ordering.TheVariants.{Less, Equal, Greater}
+use Rattle.std.specs.declared.cmp.Ordering.TheVariants.{Less, Equal}
 use Rattle.ent_value.specs.Value.{value_cmp, row_cmp}
 use Rattle.std.specs.FinSet.{slice_cmp-IsAntisymmetric}
 use Rattle.ent_value.specs.declared.value.Value.{Value}

@@ -1,6 +1,6 @@
 use Rattle.ent_book.proofs.NoRows.{empty_table}
 use Rattle.std.proofs.lemmas.Grind.{common_steps}
-use Rattle.std.proofs.Common.{◌≡◌, arith, rules}
+use Rattle.std.proofs.Common.{arith}
 use Rattle.ent_book.proofs.report.append_no_table.Goals as goal
 
 pub returns : goal.returns
