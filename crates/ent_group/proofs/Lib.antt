@@ -1,2 +1,3 @@
 pub mod Labels
 pub mod Ring
+pub mod Walks

@@ -1,19 +1,19 @@
 -- Rings of pairs, and the search for one.
-use Rattle.std.proofs.Common.{◌≡◌, ◌≢◌, ℕ, zero, suc, ◌+◌, ◌<◌, ◌≤◌, ◌==◌, ◌^◌, ◌⊎◌, inl, inr, Bool, true, false, ◌&&◌, ◌||◌, if◌then◌else◌, max, List, [], ◌∷◌, ◌++◌, length, map, take, get_or, refl, sym, ap, subst, ◌∙◌, arith, true≢false}
-use Rattle.std.specs.Prelude.{All, AllPairs, Contains, slice_index, nat_lt, Option, None, Some, IfSome, IsNone, unwrap_or}
-use Rattle.std.specs.List.{list_any}
-use Rattle.std.proofs.lemmas.Bool.{eqb-true, eq-eqb, ltb-true, ltb-false, lt-ltb}
+use Rattle.std.proofs.Common.{◌≡◌, ◌≢◌, ℕ, zero, suc, ◌+◌, ◌<◌, ◌≤◌, ◌⊎◌, inl, inr, true, false, List, [], ◌∷◌, ◌++◌, length, map, take, get_or, refl, sym, ap, subst, ◌∙◌, arith}
+use Rattle.std.specs.Prelude.{All, AllPairs, Contains, slice_index, nat_lt, slice_get, Option, None, Some, IfSome, IsNone, unwrap_or}
+use Rattle.std.proofs.lemmas.Bool.{eqb-true, ltb-true, ltb-false}
 use Rattle.std.proofs.lemmas.Bool.Decides.{Decides-eqb}
 use Rattle.std.proofs.lemmas.Cmp.{nat_eq_equiv}
-use Rattle.std.proofs.lemmas.List.{length-map, length-append, get_or_push, get_or_append_left, get_or_default}
+use Rattle.std.proofs.lemmas.List.{length-map, length-append, length-take, get_or-take, get_or_push, get_or_append_left, get_or_default}
+use Rattle.std.proofs.lemmas.Option.{slice_get-get_or}
 use Rattle.std.proofs.lemmas.List.Quantifiers.{all_pairs_push}
-use Rattle.std.proofs.lemmas.List.Elements.{All-head, All-tail, All-cons, All-contains, All-push, All-more, All-weaker, All-nil, All-contains_itself, Contains-append_left, Contains-append_right, Contains-get_or}
+use Rattle.std.proofs.lemmas.List.Elements.{All-head, All-tail, All-cons, All-contains, All-push, All-more, All-weaker, All-nil, All-contains_itself, Contains-append_left, Contains-append_right, Contains-get_or, Contains-push}
 use Rattle.std.proofs.lemmas.Map.Made.{IsDistinct-from_AllPairs, length-le_from_is_member}
 use Rattle.std.proofs.lemmas.Map.Views.{Contains-from_any, list_any-from_Contains}
 use Rattle.ent_group.specs.Cycle.{NamesAtMost, waiters_of, links_to, Closes, IsCycle, IsInRing}
-use Rattle.ent_group.specs.Reach.{IsReach, IsClosed, greater, is_below, greatest_waiter}
+use Rattle.ent_group.specs.Reach.{IsReach, IsClosed}
 
-below_or : (i j : ℕ) → (i < j) ⊎ (j ≤ i)
+pub below_or : (i j : ℕ) → (i < j) ⊎ (j ≤ i)
 below_or i j = elim (nat_lt i j) as (λ b. nat_lt i j ≡ b → (i < j) ⊎ (j ≤ i)) [ true ↦ λ e. inl (ltb-true i j e) | false ↦ λ e. inr (ltb-false i j e) ] refl
 
 -- ---- distinct numbers among others are no more than those
@@ -110,12 +110,50 @@ ring_waiter waits x (m ∷ ms, ring, inside) =
 at_place : (reached : List ℕ) (k x : ℕ) → k < length reached → get_or reached k x ≡ x → slice_index reached k ≡ x
 at_place reached k x within e = get_or_default reached k 0 x within ∙ e
 
-pub room_more : (waits : List (ℕ × ℕ)) (reached : List ℕ) (x y : ℕ) → NamesAtMost 64 waits → IsReach waits reached → Contains waits (x, y) → ¬ Contains reached x → length reached < 64
-room_more waits reached x y (names, few, named) reach there absent =
-    let grown : AllPairs (λ a b. a ≢ b) (reached ++ x ∷ []) = all_pairs_push (λ a b. a ≢ b) reached x reach.distinct (λ k d within same. absent (subst (Contains reached) same (Contains-get_or reached k d within))) in
-    let waiters : All (Contains (waiters_of waits)) (reached ++ x ∷ []) = All-push (Contains (waiters_of waits)) reached x reach.waiters (waiter waits x y there) in
-    let bound : length (reached ++ x ∷ []) ≤ length names = no_more (reached ++ x ∷ []) names grown (All-weaker (Contains (waiters_of waits)) (Contains names) (named_waiter names waits named) (reached ++ x ∷ []) waiters) in
-    omega (arith, length-append reached (x ∷ []), bound, few)
+-- distinct numbers that wait are few, and so there is room for one more
+pub few_waiters : (waits : List (ℕ × ℕ)) (xs : List ℕ) → NamesAtMost 64 waits → AllPairs (λ x y. x ≢ y) xs → All (Contains (waiters_of waits)) xs → length xs ≤ 64
+few_waiters waits xs (names, few, named) distinct waiters =
+    let bound : length xs ≤ length names = no_more xs names distinct (All-weaker (Contains (waiters_of waits)) (Contains names) (named_waiter names waits named) xs waiters) in
+    omega (arith, bound, few)
+
+distinct_more : (xs : List ℕ) (x : ℕ) → AllPairs (λ a b. a ≢ b) xs → ¬ Contains xs x → AllPairs (λ a b. a ≢ b) (xs ++ x ∷ [])
+distinct_more xs x distinct absent = all_pairs_push (λ a b. a ≢ b) xs x distinct (λ k d within same. absent (subst (Contains xs) same (Contains-get_or xs k d within)))
+
+pub room_more : (waits : List (ℕ × ℕ)) (xs : List ℕ) (x y : ℕ) → NamesAtMost 64 waits → AllPairs (λ x y. x ≢ y) xs → All (Contains (waiters_of waits)) xs → Contains waits (x, y) → ¬ Contains xs x → length xs < 64
+room_more waits xs x y names distinct waiters there absent =
+    let bound = few_waiters waits (xs ++ x ∷ []) names (distinct_more xs x distinct absent) (All-push (Contains (waiters_of waits)) xs x waiters (waiter waits x y there)) in
+    omega (arith, length-append xs (x ∷ []), bound)
+
+-- each of those who wait in the pairs up to a place, once
+pub record Waiting (waits : List (ℕ × ℕ)) (xs : List ℕ) (i : ℕ) : Type 0 where
+  pub distinct : AllPairs (λ x y. x ≢ y) xs
+  pub each : All (Contains (waiters_of waits)) xs
+  pub all : All (λ p. Contains xs p.0) (take i waits)
+
+pub waiting_start : (waits : List (ℕ × ℕ)) → Waiting waits [] 0
+waiting_start waits = record {
+  distinct = λ i j d below within. absurd (omega arith);
+  each = All-nil (Contains (waiters_of waits));
+  all = All-nil (λ q. Contains [] q.0);
+}
+
+pub waiting_more : (waits : List (ℕ × ℕ)) (xs : List ℕ) (i : ℕ) → Waiting waits xs i → i < length waits → ¬ Contains xs (get_or waits i (0, 0)).0 → Waiting waits (xs ++ (get_or waits i (0, 0)).0 ∷ []) (i + 1)
+waiting_more waits xs i h within absent =
+    let p = get_or waits i (0, 0) in
+    let more : List ℕ = xs ++ p.0 ∷ [] in
+    record {
+      distinct = distinct_more xs p.0 h.distinct absent;
+      each = All-push (Contains (waiters_of waits)) xs p.0 h.each (waiter waits p.0 p.1 (Contains-get_or waits i (0, 0) within));
+      all = All-more (λ q. Contains more q.0) waits i (0, 0) within
+          (All-weaker (λ q. Contains xs q.0) (λ q. Contains more q.0) (λ q there. Contains-append_left xs (p.0 ∷ []) q.0 there) (take i waits) h.all) (Contains-push xs p.0);
+    }
+
+pub waiting_same : (waits : List (ℕ × ℕ)) (xs : List ℕ) (i : ℕ) → Waiting waits xs i → i < length waits → Contains xs (get_or waits i (0, 0)).0 → Waiting waits xs (i + 1)
+waiting_same waits xs i h within there = record {
+  distinct = h.distinct;
+  each = h.each;
+  all = All-more (λ q. Contains xs q.0) waits i (0, 0) within h.all there;
+}
 
 led_more : (waits : List (ℕ × ℕ)) (reached : List ℕ) (x y : ℕ) → IsReach waits reached → Contains waits (x, y) → Contains reached y → (i : ℕ) → 0 < i → i < length (reached ++ x ∷ []) →
     (j : ℕ) × (j < i) × Contains waits (slice_index (reached ++ x ∷ []) i, slice_index (reached ++ x ∷ []) j)
@@ -133,41 +171,105 @@ led_more waits reached x y reach there (k, within, e) i above below =
 pub reach_more : (waits : List (ℕ × ℕ)) (reached : List ℕ) (x y : ℕ) → IsReach waits reached → Contains waits (x, y) → Contains reached y → ¬ Contains reached x → IsReach waits (reached ++ x ∷ [])
 reach_more waits reached x y reach there inside absent = record {
   not_empty = omega (arith, length-append reached (x ∷ []));
-  distinct = all_pairs_push (λ a b. a ≢ b) reached x reach.distinct (λ k d within same. absent (subst (Contains reached) same (Contains-get_or reached k d within)));
+  distinct = distinct_more reached x reach.distinct absent;
   waiters = All-push (Contains (waiters_of waits)) reached x reach.waiters (waiter waits x y there);
   led = led_more waits reached x y reach there inside;
 }
 
--- a pass over the pairs has come to place i: nobody is added yet, or there are more than before
-pub record Extending (waits : List (ℕ × ℕ)) (old reached : List ℕ) (i : ℕ) : Type 0 where
+-- a pass over the pairs has come to place i: those so far who wait for one are among those reached
+pub record Extending (waits : List (ℕ × ℕ)) (old reached : List ℕ) (awaited i : ℕ) : Type 0 where
   pub reach : IsReach waits reached
-  pub first : slice_index reached 0 ≡ slice_index old 0
+  pub kept : (k : ℕ) → k < length old → slice_index reached k ≡ slice_index old k
   pub longer : length old ≤ length reached
-  pub bound : length reached ≤ 64
-  pub closed : length reached ≡ length old → IsClosed (take i waits) reached
+  pub inside : Contains reached awaited
+  pub all : All (λ p. p.1 ≡ awaited → Contains reached p.0) (take i waits)
 
-pub extending_more : (waits : List (ℕ × ℕ)) (old reached : List ℕ) (i x y : ℕ) → NamesAtMost 64 waits → Extending waits old reached i → Contains waits (x, y) → Contains reached y → ¬ Contains reached x →
-    Extending waits old (reached ++ x ∷ []) (i + 1)
-extending_more waits old reached i x y names h there inside absent =
-    let long = length-append reached (x ∷ []) in
-    let room = room_more waits reached x y names h.reach there absent in
+pub extending_start : (waits : List (ℕ × ℕ)) (reached : List ℕ) (awaited : ℕ) → IsReach waits reached → Contains reached awaited → Extending waits reached reached awaited 0
+extending_start waits reached awaited reach inside = record {
+  reach = reach;
+  kept = λ k within. refl;
+  longer = omega arith;
+  inside = inside;
+  all = All-nil (λ p. p.1 ≡ awaited → Contains reached p.0);
+}
+
+pub extending_more : (waits : List (ℕ × ℕ)) (old reached : List ℕ) (awaited i x y : ℕ) → Extending waits old reached awaited i → i < length waits → get_or waits i (0, 0) ≡ (x, y) → y ≡ awaited → ¬ Contains reached x →
+    Extending waits old (reached ++ x ∷ []) awaited (i + 1)
+extending_more waits old reached awaited i x y h within is same absent =
+    let there : Contains waits (x, y) = subst (Contains waits) is (Contains-get_or waits i (0, 0) within) in
+    let more : List ℕ = reached ++ x ∷ [] in
     record {
-      reach = reach_more waits reached x y h.reach there inside absent;
-      first = get_or_append_left reached (x ∷ []) 0 0 h.reach.not_empty ∙ h.first;
-      longer = omega (arith, long, h.longer);
-      bound = omega (arith, long, room);
-      closed = λ same. absurd (omega (arith, long, h.longer, same));
+      reach = reach_more waits reached x y h.reach there (subst (Contains reached) (sym same) h.inside) absent;
+      kept = λ k below. get_or_append_left reached (x ∷ []) 0 k (omega (arith, below, h.longer)) ∙ h.kept k below;
+      longer = omega (arith, length-append reached (x ∷ []), h.longer);
+      inside = Contains-append_left reached (x ∷ []) awaited h.inside;
+      all = All-more (λ p. p.1 ≡ awaited → Contains more p.0) waits i (0, 0) within
+          (All-weaker (λ p. p.1 ≡ awaited → Contains reached p.0) (λ p. p.1 ≡ awaited → Contains more p.0) (λ p old waiting. Contains-append_left reached (x ∷ []) p.0 (old waiting)) (take i waits) h.all)
+          (λ _. subst (λ (q : ℕ × ℕ). Contains more q.0) (sym is) (Contains-push reached x));
     }
 
-pub extending_same : (waits : List (ℕ × ℕ)) (old reached : List ℕ) (i : ℕ) → Extending waits old reached i → i < length waits →
-    (Contains reached (get_or waits i (0, 0)).1 → Contains reached (get_or waits i (0, 0)).0) → Extending waits old reached (i + 1)
-extending_same waits old reached i h within here = record {
+pub extending_same : (waits : List (ℕ × ℕ)) (old reached : List ℕ) (awaited i : ℕ) → Extending waits old reached awaited i → i < length waits →
+    ((get_or waits i (0, 0)).1 ≡ awaited → Contains reached (get_or waits i (0, 0)).0) → Extending waits old reached awaited (i + 1)
+extending_same waits old reached awaited i h within here = record {
   reach = h.reach;
-  first = h.first;
+  kept = h.kept;
   longer = h.longer;
-  bound = h.bound;
-  closed = λ same. All-more (λ p. Contains reached p.1 → Contains reached p.0) waits i (0, 0) within (h.closed same) here;
+  inside = h.inside;
+  all = All-more (λ p. p.1 ≡ awaited → Contains reached p.0) waits i (0, 0) within h.all here;
 }
+
+-- whoever waits for one of those reached at the first places is reached
+pub record Searching (waits : List (ℕ × ℕ)) (first : ℕ) (reached : List ℕ) (next : ℕ) : Type 0 where
+  pub reach : IsReach waits reached
+  pub begins : slice_index reached 0 ≡ first
+  pub place : next ≤ length reached
+  pub all : (k : ℕ) → k < next → All (λ p. p.1 ≡ slice_index reached k → Contains reached p.0) waits
+
+pub searching_start : (waits : List (ℕ × ℕ)) (first : ℕ) → Contains (waiters_of waits) first → Searching waits first (first ∷ []) 0
+searching_start waits first waiting = record {
+  reach = record {
+    not_empty = omega arith;
+    distinct = λ i j d below within. absurd (omega arith);
+    waiters = All-cons (Contains (waiters_of waits)) first [] waiting (All-nil (Contains (waiters_of waits)));
+    led = λ i above within. absurd (omega arith);
+  };
+  begins = refl;
+  place = omega arith;
+  all = λ k below. absurd (omega arith);
+}
+
+still_inside : (old new : List ℕ) → ((k : ℕ) → k < length old → slice_index new k ≡ slice_index old k) → length old ≤ length new → (x : ℕ) → Contains old x → Contains new x
+still_inside old new kept longer x (k, within, e) =
+    let in_new : k < length new = omega arith in
+    (k, in_new, get_or_default new k x 0 in_new ∙ kept k within ∙ at_place old k x within e)
+
+pub searching_more : (waits : List (ℕ × ℕ)) (first : ℕ) (old new : List ℕ) (next awaited : ℕ) → Searching waits first old next → next < length old → slice_index old next ≡ awaited → IsReach waits new →
+    ((k : ℕ) → k < length old → slice_index new k ≡ slice_index old k) → length old ≤ length new → All (λ p. p.1 ≡ awaited → Contains new p.0) waits → Searching waits first new (next + 1)
+searching_more waits first old new next awaited h within is reach kept longer all = record {
+  reach = reach;
+  begins = kept 0 h.reach.not_empty ∙ h.begins;
+  place = omega arith;
+  all = λ k below. elim (below_or k next) [
+    | inl before ↦
+        let in_old : k < length old = omega (arith, h.place) in
+        All-weaker (λ p. p.1 ≡ slice_index old k → Contains old p.0) (λ p. p.1 ≡ slice_index new k → Contains new p.0)
+        (λ p was waiting. still_inside old new kept longer p.0 (was (waiting ∙ kept k in_old))) waits (h.all k before)
+    | inr last ↦
+        let here : k ≡ next = omega arith in
+        let same : slice_index new k ≡ awaited = ap (slice_index new) here ∙ kept next within ∙ is in
+        All-weaker (λ p. p.1 ≡ awaited → Contains new p.0) (λ p. p.1 ≡ slice_index new k → Contains new p.0) (λ p was waiting. was (waiting ∙ same)) waits all
+  ];
+}
+
+pub past_end : (xs : List ℕ) (n : ℕ) → slice_get xs n ≡ None → length xs ≤ n
+past_end xs n nothing = elim (below_or n (length xs)) [
+  | inl below ↦ let there : slice_get xs n ≡ Some (get_or xs n 0) = slice_get-get_or xs n 0 below in cc
+  | inr past ↦ past
+]
+
+pub searching_end : (waits : List (ℕ × ℕ)) (first : ℕ) (reached : List ℕ) (next : ℕ) → Searching waits first reached next → length reached ≤ next → IsClosed waits reached
+searching_end waits first reached next h done = λ k d within (j, in_reached, e).
+    h.all j (omega arith) k d within (sym (at_place reached j (get_or waits k d).1 in_reached e))
 
 -- ---- from the search to the ring
 
@@ -238,93 +340,13 @@ closing_end waits reached (m ∷ ms) h = record {
   distinct = h.distinct;
 }
 
--- ---- one pair among the pairs
-
-pub any_pair : (waits : List (ℕ × ℕ)) (x y : ℕ) → Contains waits (x, y) → list_any (λ q. (q.0 == x) && (q.1 == y)) waits ≡ true
-any_pair [] x y (k, within, e) = absurd (omega arith)
-any_pair (p ∷ waits) x y (zero, within, e) = λ i. (eq-eqb p.0 x (ap (λ (q : ℕ × ℕ). q.0) e) i && eq-eqb p.1 y (ap (λ (q : ℕ × ℕ). q.1) e) i) || list_any (λ (q : ℕ × ℕ). (q.0 == x) && (q.1 == y)) waits
-any_pair (p ∷ waits) x y (suc k, within, e) = ap (λ b. ((p.0 == x) && (p.1 == y)) || b) (any_pair waits x y (k, omega arith, e)) ∙ or_true ((p.0 == x) && (p.1 == y))
-  where
-    or_true : (a : Bool) → (a || true) ≡ true
-    or_true true = refl
-    or_true false = refl
-
--- ---- the first place of one that is awaited, before a place of one that is
+-- ---- a place before another of one that is awaited
 
 pub awaited_place : (waits : List (ℕ × ℕ)) (reached : List ℕ) (w at j : ℕ) (o : Option ℕ) → j < at → at < length reached → Contains waits (w, slice_index reached j) →
-    IfSome o (λ i. (i < length reached) × Contains waits (w, slice_index reached i)) → IfSome o (λ i. (k : ℕ) → k < i → ¬ Contains waits (w, slice_index reached k)) →
-    (IsNone o → All (λ y. ¬ Contains waits (w, y)) reached) → (unwrap_or o 0 < at) × Contains waits (w, slice_index reached (unwrap_or o 0))
-awaited_place waits reached w at j None below within there some first none = absurd (none refl j 0 (omega arith) there)
-awaited_place waits reached w at j (Some i) below within there some first none =
-    (elim (below_or j i) [ inl before ↦ absurd (first j before there) | inr upto ↦ omega arith ], some.1)
-
--- ---- the greatest of those who wait, below a limit
-
-abbrev pub GreatestBelow : Option ℕ → List (ℕ × ℕ) → Option ℕ → Type 0
-GreatestBelow limit waits None = All (λ x. is_below limit x ≡ false) (waiters_of waits)
-GreatestBelow limit waits (Some w) = (is_below limit w ≡ true) × Contains (waiters_of waits) w × All (λ x. is_below limit x ≡ true → x ≤ w) (waiters_of waits)
-
-below_more : (limit : Option ℕ) (p : ℕ × ℕ) (waits : List (ℕ × ℕ)) (o : Option ℕ) → is_below limit p.0 ≡ true → GreatestBelow limit waits o → GreatestBelow limit (p ∷ waits) (greater (Some p.0) o)
-below_more limit p waits None fits none = (
-  fits,
-  (0, omega arith, refl),
-  All-cons (λ x. is_below limit x ≡ true → x ≤ p.0) p.0 (waiters_of waits) (λ _. omega arith)
-      (All-weaker (λ x. is_below limit x ≡ false) (λ x. is_below limit x ≡ true → x ≤ p.0) (λ x above below. absurd (true≢false (sym below ∙ above))) (waiters_of waits) none),
-)
-below_more limit p waits (Some w) fits (bound, inside, greatest) =
-    elim (below_or p.0 w) [
-      | inl less ↦
-          let is : max p.0 w ≡ w = omega arith in
-          subst (λ (m : ℕ). GreatestBelow limit (p ∷ waits) (Some m)) (sym is)
-          (bound, Contains-append_right (p.0 ∷ []) (waiters_of waits) w inside, All-cons (λ x. is_below limit x ≡ true → x ≤ w) p.0 (waiters_of waits) (λ _. omega arith) greatest)
-      | inr more ↦
-          let is : max p.0 w ≡ p.0 = omega arith in
-          subst (λ (m : ℕ). GreatestBelow limit (p ∷ waits) (Some m)) (sym is) (
-            fits,
-            (0, omega arith, refl),
-            All-cons (λ x. is_below limit x ≡ true → x ≤ p.0) p.0 (waiters_of waits) (λ _. omega arith)
-                (All-weaker (λ x. is_below limit x ≡ true → x ≤ w) (λ x. is_below limit x ≡ true → x ≤ p.0) (λ x upto below. let le : x ≤ w = upto below in omega arith) (waiters_of waits) greatest),
-          )
-    ]
-
-below_less : (limit : Option ℕ) (p : ℕ × ℕ) (waits : List (ℕ × ℕ)) (o : Option ℕ) → is_below limit p.0 ≡ false → GreatestBelow limit waits o → GreatestBelow limit (p ∷ waits) o
-below_less limit p waits None above none = All-cons (λ x. is_below limit x ≡ false) p.0 (waiters_of waits) above none
-below_less limit p waits (Some w) above (bound, inside, greatest) = (
-  bound,
-  Contains-append_right (p.0 ∷ []) (waiters_of waits) w inside,
-  All-cons (λ x. is_below limit x ≡ true → x ≤ w) p.0 (waiters_of waits) (λ below. absurd (true≢false (sym below ∙ above))) greatest,
-)
-
-pub greatest_waiter-GreatestBelow : (limit : Option ℕ) (waits : List (ℕ × ℕ)) → GreatestBelow limit waits (greatest_waiter limit waits)
-greatest_waiter-GreatestBelow limit [] = All-nil (λ x. is_below limit x ≡ false)
-greatest_waiter-GreatestBelow limit (p ∷ waits) =
-    elim (is_below limit p.0) as (λ b. is_below limit p.0 ≡ b → GreatestBelow limit (p ∷ waits) (greater (if b then Some p.0 else None) (greatest_waiter limit waits))) [
-      | true ↦ λ e. below_more limit p waits (greatest_waiter limit waits) e (greatest_waiter-GreatestBelow limit waits)
-      | false ↦ λ e. below_less limit p waits (greatest_waiter limit waits) e (greatest_waiter-GreatestBelow limit waits)
-    ] refl
-
--- ---- going down from the greatest waiter
-
-pub found_waiter : (limit : Option ℕ) (waits : List (ℕ × ℕ)) (w : ℕ) → Some w ≡ greatest_waiter limit waits → GreatestBelow limit waits (Some w)
-found_waiter limit waits w is = subst (GreatestBelow limit waits) (sym is) (greatest_waiter-GreatestBelow limit waits)
-
-pub ring_upto : (limit : Option ℕ) (waits : List (ℕ × ℕ)) (w x : ℕ) → GreatestBelow limit waits (Some w) → IsInRing waits x → is_below limit x ≡ true → x ≤ w
-ring_upto limit waits w x h ring below = All-contains (λ y. is_below limit y ≡ true → y ≤ w) (waiters_of waits) x h.2 (ring_waiter waits x ring) below
-
-pub no_ring : (limit : Option ℕ) (waits : List (ℕ × ℕ)) (x : ℕ) → None ≡ greatest_waiter limit waits → IsInRing waits x → is_below limit x ≡ true → ⊥
-no_ring limit waits x is ring below =
-    let none : GreatestBelow limit waits None = subst (GreatestBelow limit waits) (sym is) (greatest_waiter-GreatestBelow limit waits) in
-    true≢false (sym below ∙ All-contains (λ y. is_below limit y ≡ false) (waiters_of waits) x none (ring_waiter waits x ring))
-
--- where one stands in no ring, all that stand in one are below it
-pub ring_below : (limit : Option ℕ) (waits : List (ℕ × ℕ)) (w x : ℕ) → GreatestBelow limit waits (Some w) → ¬ IsInRing waits w → IsInRing waits x → is_below limit x ≡ true → is_below (Some w) x ≡ true
-ring_below limit waits w x h none ring below =
-    let upto = ring_upto limit waits w x h ring below in
-    elim (below_or x w) [
-      | inl less ↦ lt-ltb x w less
-      | inr more ↦ let same : x ≡ w = omega (arith, upto, more) in absurd (none (subst (IsInRing waits) same ring))
-    ]
-
-pub below_limit : (limit : Option ℕ) (w : ℕ) → is_below limit w ≡ true → w < 2 ^ 64 → w < unwrap_or limit (2 ^ 64)
-below_limit None w below fits = fits
-below_limit (Some l) w below fits = ltb-true w l below
+    IfSome o (λ i. (i < length (take at reached)) × Contains waits (w, slice_index (take at reached) i)) → (IsNone o → All (λ y. ¬ Contains waits (w, y)) (take at reached)) →
+    (unwrap_or o 0 < at) × Contains waits (w, slice_index reached (unwrap_or o 0))
+awaited_place waits reached w at j None below within there some none =
+    absurd (none refl j 0 (omega (arith, length-take at reached)) (subst (λ (y : ℕ). Contains waits (w, y)) (sym (get_or-take at reached j 0 below)) there))
+awaited_place waits reached w at j (Some i) below within there (inside, awaited) none =
+    let before : i < at = omega (arith, length-take at reached) in
+    (before, subst (λ (y : ℕ). Contains waits (w, y)) (get_or-take at reached i 0 before) awaited)

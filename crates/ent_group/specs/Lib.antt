@@ -1,3 +1,4 @@
 pub mod Groups
 pub mod Cycle
+pub mod Marks
 pub mod Reach

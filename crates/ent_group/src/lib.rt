@@ -2,6 +2,7 @@
 #![tactic(auto)]
 
 pub mod groups;
+mod marks;
 pub mod members;
 pub mod waits;
 

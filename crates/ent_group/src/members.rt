@@ -56,7 +56,7 @@ impl Members {
         ensures len { result ≡ length self.now }
         ensures bound { length self.now ≤ 64 }
     {
-        self.len
+        self.as_slice().len()
     }
 
     pub fn is_empty(&self) -> bool

@@ -1,8 +1,10 @@
 //! Cycles of transactions that wait for each other.
-ghost use Rattle.std.specs.Prelude.{◌≡◌, true, false, ℕ, ◌<◌, ◌≤◌, length, All, Contains, IfSome, IsNone, IsTrue, MatchOption, ◌↔◌, slice_index};
-ghost use Rattle.ent_group.specs.Cycle.{NamesAtMost, Closes, IsCycle, IsInRing, waiters_of};
-ghost use Rattle.ent_group.specs.Reach.{IsReach, IsClosed, greater, is_below, greatest_waiter};
+ghost use Rattle.std.specs.Prelude.{◌≡◌, ◌≢◌, ℕ, ◌<◌, ◌≤◌, ◌⊎◌, ◌↔◌, length, slice_index, All, AllPairs, Contains, IfSome, IsNone};
+ghost use Rattle.ent_group.specs.Cycle.{NamesAtMost, IsCycle, IsInRing, waiters_of};
+ghost use Rattle.ent_group.specs.Marks.{IsMarked};
+ghost use Rattle.ent_group.specs.Reach.{AreWaiters, IsAt, IsWalk, IsReach, greater};
 
+use crate::marks::{Row, has_mark, join_over, with_mark};
 use crate::members::{Members, Tx};
 
 /// A cycle of a waits-for relation, which is given as pairs of a waiter and one that it waits for: distinct
@@ -14,14 +16,26 @@ pub fn cycle(pairs: &[(Tx, Tx)]) -> Option<Members>
     ensures greatest { IfSome result (λ members. (x : ℕ) → IsInRing pairs.now x → x ≤ slice_index members 0) }
     ensures none { IsNone result → (x : ℕ) → ¬ IsInRing pairs.now x }
 {
-    let mut limit = None;
-    while let Some(first) = greatest_waiter(pairs, limit) {
-        if let Some(found) = cycle_from(pairs, first) {
-            return Some(found);
+    let waiters = waiters_of(pairs);
+    let first = greatest_in_ring(pairs, waiters.as_slice())?;
+    cycle_from(pairs, first)
+}
+
+/// The greatest transaction that stands on a cycle: one that waits, over others, for itself.
+fn greatest_in_ring(pairs: &[(Tx, Tx)], waiters: &[Tx]) -> Option<Tx>
+    requires { AreWaiters pairs.now waiters.now }
+    ensures ring { IfSome result (IsInRing pairs.now) }
+    ensures greatest { IfSome result (λ w. (x : ℕ) → IsInRing pairs.now x → x ≤ w) }
+    ensures none { IsNone result → (x : ℕ) → ¬ IsInRing pairs.now x }
+{
+    let rows = reach_of(pairs, waiters);
+    let mut greatest = None;
+    for (i, waiter) in waiters.iter().enumerate() {
+        if has_mark(rows[i], i) {
+            greatest = greater(greatest, Some(*waiter));
         }
-        limit = Some(first);
     }
-    None
+    greatest
 }
 
 /// The greater of two transactions, where there are two.
@@ -35,27 +49,59 @@ fn greater(left: Option<Tx>, right: Option<Tx>) -> Option<Tx>
     }
 }
 
-/// Whether a transaction is below a limit, where there is one.
-fn is_below(tx: Tx, limit: Option<Tx>) -> bool
-    ensures { result ≡ is_below limit tx }
+/// Those who wait, each once.
+fn waiters_of(pairs: &[(Tx, Tx)]) -> Members
+    requires { NamesAtMost 64 pairs.now }
+    ensures { AreWaiters pairs.now result }
 {
-    match limit {
-        Some(limit) => tx < limit,
-        None => true,
+    let mut waiters = Members::new();
+    for (waiter, _) in pairs {
+        if !waiters.contains(*waiter) {
+            waiters.push(*waiter);
+        }
+    }
+    waiters
+}
+
+/// For each of those who wait a row, which marks those among them that it waits for, over others too: a pair marks
+/// whom it names, and each in turn hands on what its row marks to the rows that mark it.
+fn reach_of(pairs: &[(Tx, Tx)], waiters: &[Tx]) -> [Row; 64]
+    requires { AreWaiters pairs.now waiters.now }
+    ensures { (i j : ℕ) → i < length waiters.now → j < length waiters.now → IsMarked result i j ↔ IsWalk pairs.now (slice_index waiters.now i) (slice_index waiters.now j) }
+{
+    let mut rows = [0; 64];
+    for (waiter, awaited) in pairs {
+        mark_pair(&mut rows, waiters, *waiter, *awaited);
+    }
+    for middle in 0..waiters.len() {
+        join_over(&mut rows, middle);
+    }
+    rows
+}
+
+/// Marks one in the row of another, where both have a place.
+fn mark_pair(rows: &mut [Row], waiters: &[Tx], waiter: Tx, awaited: Tx)
+    requires distinct { AllPairs (λ x y. x ≢ y) waiters.now }
+    requires bound { length waiters.now ≤ 64 }
+    requires rows { length rows.old ≡ 64 }
+    ensures { (i j : ℕ) → IsMarked rows.new i j ↔ (IsMarked rows.old i j ⊎ (IsAt waiters.now waiter i × IsAt waiters.now awaited j)) }
+{
+    if let (Some(from), Some(to)) = (place_of(waiters, waiter), place_of(waiters, awaited)) {
+        rows[from] = with_mark(rows[from], to);
     }
 }
 
-/// The greatest transaction that waits, below a limit where there is one.
-fn greatest_waiter(pairs: &[(Tx, Tx)], limit: Option<Tx>) -> Option<Tx>
-    ensures { result ≡ greatest_waiter limit pairs.now }
+/// Where a transaction stands in a list.
+fn place_of(numbers: &[Tx], tx: Tx) -> Option<usize>
+    ensures some { IfSome result (IsAt numbers.now tx) }
+    ensures none { IsNone result → ¬ Contains numbers.now tx }
 {
-    let mut greatest = None;
-    for (waiter, _) in pairs {
-        if is_below(*waiter, limit) {
-            greatest = greater(greatest, Some(*waiter));
+    for (i, number) in numbers.iter().enumerate() {
+        if *number == tx {
+            return Some(i);
         }
     }
-    greatest
+    None
 }
 
 /// A cycle that begins with a transaction that waits, where it stands on one.
@@ -66,39 +112,43 @@ fn cycle_from(pairs: &[(Tx, Tx)], first: Tx) -> Option<Members>
     ensures none { IsNone result → ¬ IsInRing pairs.now first }
 {
     let mut reached = Members::of(first);
-    while extend(pairs, &mut reached) {}
+    let mut next = 0;
+    while let Some(awaited) = reached.get(next) {
+        extend(pairs, &mut reached, awaited);
+        next += 1;
+    }
     let second = place_awaited(pairs, reached.as_slice(), first)?;
     Some(close(pairs, reached.as_slice(), second))
 }
 
-/// Adds those who wait for one that is reached, in one pass over the pairs, and answers whether there were any.
-fn extend(pairs: &[(Tx, Tx)], reached: &mut Members) -> bool
+/// Adds those who wait for one that is reached.
+fn extend(pairs: &[(Tx, Tx)], reached: &mut Members, awaited: Tx)
     requires names { NamesAtMost 64 pairs.now }
     requires reach { IsReach pairs.now reached.old }
+    requires awaited { Contains reached.old awaited }
     ensures reach { IsReach pairs.now reached.new }
-    ensures first { slice_index reached.new 0 ≡ slice_index reached.old 0 }
-    ensures closed { result ≡ false → IsClosed pairs.now reached.new }
-    ensures grown { result ≡ true → length reached.old < length reached.new }
+    ensures kept { (k : ℕ) → k < length reached.old → slice_index reached.new k ≡ slice_index reached.old k }
+    ensures longer { length reached.old ≤ length reached.new }
+    ensures all { All (λ p. p.1 ≡ awaited → Contains reached.new p.0) pairs.now }
     ensures room { length reached.new ≤ 64 }
 {
-    let before = reached.len();
-    for (waiter, awaited) in pairs {
-        if reached.contains(*awaited) && !reached.contains(*waiter) {
+    for (waiter, other) in pairs {
+        if *other == awaited && !reached.contains(*waiter) {
             reached.push(*waiter);
         }
     }
-    before < reached.len()
 }
 
-/// The first place among those reached of one for which a transaction waits.
+/// The place among those reached of one for which a transaction waits.
 fn place_awaited(pairs: &[(Tx, Tx)], reached: &[Tx], waiter: Tx) -> Option<usize>
     ensures some { IfSome result (λ i. (i < length reached.now) × Contains pairs.now (waiter, slice_index reached.now i)) }
-    ensures first { IfSome result (λ i. (j : ℕ) → j < i → ¬ Contains pairs.now (waiter, slice_index reached.now j)) }
     ensures none { IsNone result → All (λ y. ¬ Contains pairs.now (waiter, y)) reached.now }
 {
-    for (i, awaited) in reached.iter().enumerate() {
-        if pairs.contains(&(waiter, *awaited)) {
-            return Some(i);
+    for (from, awaited) in pairs {
+        if *from == waiter {
+            if let Some(place) = place_of(reached, *awaited) {
+                return Some(place);
+            }
         }
     }
     None
@@ -118,7 +168,7 @@ fn close(pairs: &[(Tx, Tx)], reached: &[Tx], second: usize) -> Members
     while at > 0 {
         let waiter = reached[at];
         members.push(waiter);
-        at = place_awaited(pairs, reached, waiter).unwrap_or(0);
+        at = place_awaited(pairs, &reached[..at], waiter).unwrap_or(0);
     }
     members
 }

@@ -1,11 +1,11 @@
 //! The locks of all tables.
 ghost use Rattle.std.specs.Prelude.{◌≡◌, ◌≢◌, ℕ, ◌↔◌, IsTrue, IfOk, OnErr, Contains};
 ghost use Rattle.std.specs.FinSet as set;
-ghost use Rattle.ent_lock.specs.Use.{Holds, InConflict, InConflictAt, Blocks, IsLeast, IsLeastIfAny, AddsUses, DropsUses};
+ghost use Rattle.ent_lock.specs.Use.{Holds, InConflict, InConflictAt, Blocks, IsLeast, IsLeastIfAny, AddsUses, DropsUses, AreUsesOf, IsByTable};
 
 use crate::holders::{Holder, is_held, least_in_way, lesser};
 use crate::mode::Mode;
-use crate::table_uses::{TableUses, add_all, drop_members, holders_of};
+use crate::table_uses::{TableUses, add_all, drop_members, holders_of, uses_of};
 use ent_group::{Members, Tx};
 use ent_value::Name;
 use std::alloc::{AllocError, Global};
@@ -58,6 +58,15 @@ impl LockTable {
         ensures { (tx : ℕ) (mode : Mode) → Contains result.now (record { holder = tx; mode = mode }) ↔ Holds self.now tx table.now mode }
     {
         holders_of(&self.tables, table)
+    }
+
+    /// The uses of a transaction: its tables by name, each with its mode, and where it holds one in both modes the shared
+    /// use first.
+    pub fn uses(&self, alloc: Global, tx: Tx) -> Result<Vec<(Name, Mode)>, AllocError>
+        ensures held { IfOk result (λ uses. AreUsesOf self.now tx uses.items) }
+        ensures by_table { IfOk result (λ uses. IsByTable uses.items) }
+    {
+        uses_of(&self.tables, alloc, tx)
     }
 
     /// Whether a transaction holds a table in a mode.

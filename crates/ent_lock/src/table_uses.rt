@@ -1,8 +1,8 @@
 //! The uses of each table, by name.
-ghost use Rattle.std.specs.Prelude.{◌≡◌, ℕ, ◌<◌, ◌≤◌, ◌==◌, ◌||◌, ◌↔◌, [], length, map, filter, not, IsTrue, OnOk, OnErr, IfOk, IfErr, Contains, slice_index_or};
+ghost use Rattle.std.specs.Prelude.{◌≡◌, ℕ, ◌<◌, ◌≤◌, ◌==◌, ◌||◌, ◌↔◌, ◌++◌, [], length, map, filter, not, IsTrue, OnOk, OnErr, IfOk, IfErr, Contains, slice_index_or};
 ghost use Rattle.std.specs.FinSet as set;
 ghost use Rattle.ent_lock.specs.Use.{with_uses, Holds};
-ghost use Rattle.ent_lock.specs.Layout.{held_in, IsByName, IsAt, IsGapFor, is_use_of_none};
+ghost use Rattle.ent_lock.specs.Layout.{held_in, IsByName, IsAt, IsGapFor, is_use_of_none, use_of, uses_of};
 
 use crate::holders::{Holder, drop_holders, is_held, remove_holder};
 use crate::mode::Mode;
@@ -35,6 +35,34 @@ pub fn holders_of<'a>(tables: &'a [TableUses], table: &Name) -> &'a [Holder]
         Ok(at) => tables[at].holders.as_slice(),
         Err(_) => &[],
     }
+}
+
+/// Puts a transaction's use of one table to a list, where it holds the table in this mode.
+fn push_use(
+    uses: &mut Vec<(Name, Mode)>,
+    alloc: Global,
+    table_uses: &TableUses,
+    tx: Tx,
+    mode: Mode,
+) -> Result<(), AllocError>
+    ensures { OnOk result (uses.new.items ≡ uses.old.items ++ use_of tx mode table_uses.now) }
+{
+    if is_held(&table_uses.holders, tx, mode) {
+        uses.push((table_uses.table.copy(alloc)?, mode))?;
+    }
+    Ok(())
+}
+
+/// The uses of a transaction, by table.
+pub fn uses_of(tables: &[TableUses], alloc: Global, tx: Tx) -> Result<Vec<(Name, Mode)>, AllocError>
+    ensures { IfOk result (λ uses. uses.items ≡ uses_of tx tables.now) }
+{
+    let mut uses = Vec::new(alloc);
+    for table_uses in tables {
+        push_use(&mut uses, alloc, table_uses, tx, Mode::Shared)?;
+        push_use(&mut uses, alloc, table_uses, tx, Mode::Exclusive)?;
+    }
+    Ok(uses)
 }
 
 /// Adds a use, and answers whether it is new. Where memory runs out nothing is changed.

@@ -115,3 +115,38 @@ fn shared_then_exclusive(rt: HostRuntime) -> Result<(), Fail> {
     }
     Ok(())
 }
+
+#[test]
+fn uses_by_table(rt: HostRuntime) -> Result<(), Fail> {
+    let alloc = rt.alloc();
+    let nobody = Members::new();
+    let mut locks = LockTable::new(alloc);
+    for (tx, table, mode) in [
+        (1, "Flights", Mode::Exclusive),
+        (1, "Bookings", Mode::Exclusive),
+        (1, "Bookings", Mode::Shared),
+        (2, "Hotels", Mode::Shared),
+        (1, "Bookings", Mode::Shared),
+    ] {
+        let granted = ask(&rt, alloc, &mut locks, tx, table, mode, &nobody)?;
+        assert_eq!(rt; granted, Answer::Granted);
+    }
+    let uses = match locks.uses(alloc, 1) {
+        Ok(uses) => uses,
+        Err(_) => locks.uses(alloc, 1)?,
+    };
+    assert_eq!(rt; uses.len(), 3);
+    for (i, (table, mode)) in [
+        ("Bookings", Mode::Shared),
+        ("Bookings", Mode::Exclusive),
+        ("Flights", Mode::Exclusive),
+    ]
+    .iter()
+    .enumerate()
+    {
+        assert!(rt; uses[i].0.as_bytes() == table.as_bytes());
+        assert_eq!(rt; uses[i].1, *mode);
+    }
+    assert_eq!(rt; locks.uses(alloc, 3)?.len(), 0);
+    Ok(())
+}

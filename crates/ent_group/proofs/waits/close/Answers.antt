@@ -1,22 +1,14 @@
 use Rattle.std.proofs.Common.{◌≡◌, ℕ, ◌<◌, List, sym, subst, arith}
 use Rattle.std.specs.Prelude.{Contains, slice_index}
-use Rattle.ent_group.proofs.Ring.{Closing, closing_start, closing_more, closing_end, awaited_place}
+use Rattle.ent_group.proofs.Ring.{Closing, closing_more, closing_end, awaited_place}
 use Rattle.ent_group.proofs.waits.close.Goals as goal
-
-pub loop-at-init : goal.loop-at-init
-loop-at-init c =
-    subst (λ (members : List ℕ). Closing c.args.pairs.now c.args.reached.now members c.args.second) (sym c.of-members.ensures)
-    (closing_start c.args.pairs.now c.args.reached.now c.args.second c.requires.place c.requires.awaited)
 
 next : (c : goal.After-unwrap_or-at) → (c.unwrap_or-at.result < c.loop-at.at) × Contains c.args.pairs.now (slice_index c.args.reached.now c.loop-at.at, slice_index c.args.reached.now c.unwrap_or-at.result)
 next c =
     let led = c.requires.reach.led c.loop-at.at c.loop-at-test.true c.loop-at.invariant.place in
     let place = awaited_place c.args.pairs.now c.args.reached.now (slice_index c.args.reached.now c.loop-at.at) c.loop-at.at led.0 c.place_awaited.result led.1 c.loop-at.invariant.place led.2
-    c.place_awaited.ensures.some c.place_awaited.ensures.first c.place_awaited.ensures.none in
+    c.place_awaited.ensures.some c.place_awaited.ensures.none in
     subst (λ (i : ℕ). (i < c.loop-at.at) × Contains c.args.pairs.now (slice_index c.args.reached.now c.loop-at.at, slice_index c.args.reached.now i)) (sym c.unwrap_or-at.ensures) place
-
-pub loop-at-smaller : goal.loop-at-smaller
-loop-at-smaller c = (next c).0
 
 pub loop-at-preserved : goal.loop-at-preserved
 loop-at-preserved c =

@@ -1,22 +1,19 @@
-use Rattle.std.proofs.Common.{ℕ, ◌≤◌, refl, sym, subst, rules}
-use Rattle.ent_group.proofs.Ring.{found_waiter, ring_upto, ring_below, no_ring, below_limit}
+use Rattle.std.proofs.Common.{◌≡◌, ℕ, ◌≤◌, refl, sym, subst}
+use Rattle.std.specs.Prelude.{slice_index}
+use Rattle.std.proofs.lemmas.Option.{IfSome_then}
+use Rattle.ent_group.specs.Cycle.{IsCycle, IsInRing}
+use Rattle.ent_group.proofs.Ring.{ring_waiter}
 use Rattle.ent_group.proofs.waits.cycle.Goals as goal
 
+pub returns-in_err-first-clause-none : goal.returns-in_err-first-clause-none
+returns-in_err-first-clause-none c = λ _. c.in_err-first.ensures.none refl
+
 pub cycle_from-requires-clause-waits : goal.cycle_from-requires-clause-waits
-cycle_from-requires-clause-waits c = (found_waiter c.loop-first.limit c.args.pairs.now c.in-Some.first c.in-Some.ensures).1
+cycle_from-requires-clause-waits c = ring_waiter c.args.pairs.now c.in_ok-first.first c.in_ok-first.ensures.ring
 
-pub returns-in-Some-cycle_from-clause-greatest : goal.returns-in-Some-cycle_from-clause-greatest
-returns-in-Some-cycle_from-clause-greatest c = λ x ring.
-    let upto = ring_upto c.loop-first.limit c.args.pairs.now c.in-Some.first x (found_waiter c.loop-first.limit c.args.pairs.now c.in-Some.first c.in-Some.ensures) ring (c.loop-first.invariant x ring) in
-    subst (λ (first : ℕ). x ≤ first) (sym c.in-Some-cycle_from.ensures.found.1) upto
-
-pub loop-first-smaller : goal.loop-first-smaller
-loop-first-smaller c = below_limit c.loop-first.limit c.in-Some.first (found_waiter c.loop-first.limit c.args.pairs.now c.in-Some.first c.in-Some.ensures).0 (search rules)
-
-pub loop-first-preserved : goal.loop-first-preserved
-loop-first-preserved c = λ x ring.
-    ring_below c.loop-first.limit c.args.pairs.now c.in-Some.first x (found_waiter c.loop-first.limit c.args.pairs.now c.in-Some.first c.in-Some.ensures)
-    (c.in_default-cycle_from.ensures.none refl) ring (c.loop-first.invariant x ring)
-
-pub returns-clause-none : goal.returns-clause-none
-returns-clause-none c = λ _ x ring. no_ring c.loop-first.limit c.args.pairs.now x c.in_default.ensures ring (c.loop-first.invariant x ring)
+pub returns-clause-greatest : goal.returns-clause-greatest
+returns-clause-greatest c =
+    let pairs = c.args.pairs.now in
+    let first = c.in_ok-first.first in
+    IfSome_then c.cycle_from.result {P = λ members. IsCycle pairs members × (slice_index members 0 ≡ first)} {Q = λ members. (x : ℕ) → IsInRing pairs x → x ≤ slice_index members 0} c.cycle_from.ensures.found
+    (λ members found x ring. subst (λ (v : ℕ). x ≤ v) (sym found.1) (c.in_ok-first.ensures.greatest x ring))

@@ -1,14 +1,9 @@
-use Rattle.std.proofs.Common.{◌≡◌, ◌-◌, ◌≤◌, length}
-use Rattle.std.specs.Prelude.{slice_index}
-use Rattle.ent_group.specs.Reach.{IsReach}
+use Rattle.std.proofs.Common.{◌-◌}
+use Rattle.ent_group.proofs.Ring.{Searching}
 use Rattle.ent_group.proofs.waits.cycle_from.Given as goal
 
-abbrev pub invariant-loop : goal.invariant-loop
-invariant-loop l = record {
-  reach : IsReach l.pairs l.reached;
-  first : slice_index l.reached 0 ≡ l.first;
-  bound : length l.reached ≤ 64;
-}
+abbrev pub invariant-loop-awaited : goal.invariant-loop-awaited
+invariant-loop-awaited l = Searching l.pairs l.first l.reached l.next
 
-abbrev pub decreases-loop : goal.decreases-loop
-decreases-loop l = 64 - length l.reached
+abbrev pub decreases-loop-awaited : goal.decreases-loop-awaited
+decreases-loop-awaited l = 64 - l.next

@@ -1,6 +1,6 @@
-use Rattle.std.proofs.Common.{ℕ, ◌<◌}
-use Rattle.std.specs.Prelude.{Contains, slice_index}
+use Rattle.std.proofs.Common.{◌≡◌, take}
+use Rattle.std.specs.Prelude.{All, Contains}
 use Rattle.ent_group.proofs.waits.place_awaited.Given as goal
 
-abbrev pub invariant-loop-i : goal.invariant-loop-i
-invariant-loop-i l = (j : ℕ) → j < l.i → Contains l.pairs (l.waiter, slice_index l.reached j) → ⊥
+abbrev pub invariant-loop-from : goal.invariant-loop-from
+invariant-loop-from l = All (λ p. p.0 ≡ l.waiter → ¬ Contains l.reached p.1) (take l.from-index l.pairs)
