@@ -1,0 +1,135 @@
+//! The log of the tables that transactions changed, each as it stood before.
+ghost use Rattle.std.specs.Prelude.{◌≡◌, [], ◌∷◌, ◌++◌, map, filter, OnOk, OnErr, IfErr, slice_set};
+ghost use Rattle.std.specs.Arc.{arc_value};
+ghost use Rattle.ent_undo.specs.Change.{of_others, rolled_back};
+ghost use Rattle.ent_undo.specs.Records.{changes_in, is_record_of_others};
+
+use ent_rel::Table;
+use std::alloc::{AllocFailed, Global};
+use std::marker::Model;
+use std::mem;
+use std::sync::Arc;
+
+/// A table as it stood before a transaction changed it.
+#[derive(Drop)]
+struct UndoRecord {
+    tx: u64,
+    table: usize,
+    before: Arc<Table>,
+}
+
+/// Exchanges the table of a record with the one that stands at its index, if the index is below the number of tables.
+fn exchange(undo: &mut UndoRecord, tables: &mut [Arc<Table>])
+    ensures tables { map arc_value tables.new ≡ slice_set (map arc_value tables.old) undo.old.table (arc_value undo.old.before) }
+    ensures tx { undo.new.tx ≡ undo.old.tx }
+{
+    if undo.table < tables.len() {
+        mem::swap(&mut tables[undo.table], &mut undo.before);
+    }
+}
+
+/// Puts the tables of these transactions' records back, newest first. What stood in their places goes into the
+/// records.
+fn put_back(records: &mut [UndoRecord], members: &[u64], tables: &mut [Arc<Table>])
+    ensures tables { map arc_value tables.new ≡ rolled_back members.now (changes_in records.old) (map arc_value tables.old) }
+    ensures others { of_others members.now (changes_in records.new) ≡ of_others members.now (changes_in records.old) }
+{
+    for index in (0..records.len()).rev() {
+        if members.contains(&records[index].tx) {
+            exchange(&mut records[index], tables);
+        }
+    }
+}
+
+/// Takes these transactions' records out.
+fn remove_records(records: &mut Vec<UndoRecord>, members: &[u64])
+    ensures { records.new.items ≡ filter (is_record_of_others members.now) records.old.items }
+{
+    records.retain(|record| !members.contains(&record.tx));
+}
+
+/// Tables as they stood before transactions changed them, for changes that may still be taken back. Contracts see
+/// the list of these changes, the oldest first. A table is named by its index in the order of declaration, which is
+/// its place in the slice of tables that a rollback is given.
+///
+/// Before a transaction puts a new table in a table's place, `note` is told of the one that stands there. A record
+/// holds that table itself, so that a rollback moves it back and copies no row. `note` alone takes memory.
+#[derive(Drop)]
+pub struct UndoLog {
+    records: Vec<UndoRecord>,
+}
+
+impl Model for UndoLog {
+    ghost use Rattle.std.specs.Prelude.{List};
+    ghost use Rattle.ent_undo.specs.Change.{Change, coded_changes};
+
+    ghost Value = { List Change };
+
+    ghost coded = { coded_changes };
+
+    ghost use Rattle.ent_undo.specs.Records.{changes_in};
+
+    ghost view = { λ log. changes_in log.records.items };
+}
+
+impl UndoLog {
+    /// The log of no change. It takes no memory.
+    pub fn new(alloc: Global) -> Self
+        ensures { result ≡ [] }
+    {
+        UndoLog {
+            records: Vec::new(alloc),
+        }
+    }
+
+    /// Notes that a transaction changes the table at an index, which stands there as `before`. Where memory runs out
+    /// nothing is noted, and the table comes back.
+    pub fn note(
+        &mut self,
+        tx: u64,
+        table: usize,
+        before: Arc<Table>,
+    ) -> Result<(), AllocFailed<Arc<Table>>>
+        ensures ok { OnOk result (self.new ≡ self.old ++ record { tx = tx; table = table; before = arc_value before } ∷ []) }
+        ensures err { OnErr result (self.new ≡ self.old) }
+        ensures returned { IfErr result (λ refused. refused.value ≡ before) }
+    {
+        match self.records.push(UndoRecord { tx, table, before }) {
+            Ok(()) => Ok(()),
+            Err(refused) => {
+                let UndoRecord { before, .. } = refused.value;
+                Err(AllocFailed { value: before })
+            }
+        }
+    }
+
+    /// Takes back all changes of some transactions together: each table that was noted for one of them stands again as
+    /// it was noted first, every other one as it is, and the records of these transactions are gone. What others
+    /// changed in such a table since is lost, so nobody else may have. It takes no memory. A record whose index is not
+    /// below the number of tables puts nothing back.
+    pub fn roll_back(&mut self, members: &[u64], tables: &mut [Arc<Table>])
+        ensures tables { map arc_value tables.new ≡ rolled_back members.now self.old (map arc_value tables.old) }
+        ensures log { self.new ≡ of_others members.now self.old }
+    {
+        put_back(self.records.as_mut_slice(), members, tables);
+        self.forget(members);
+    }
+
+    /// Takes back all changes of one transaction, as [`roll_back`](UndoLog::roll_back) does.
+    pub fn roll_back_one(&mut self, tx: u64, tables: &mut [Arc<Table>])
+        ensures tables { map arc_value tables.new ≡ rolled_back (tx ∷ []) self.old (map arc_value tables.old) }
+        ensures log { self.new ≡ of_others (tx ∷ []) self.old }
+    {
+        self.roll_back(&[tx], tables);
+    }
+
+    /// Takes the records of some transactions out, whose changes are to stay. It takes no memory.
+    pub fn forget(&mut self, members: &[u64])
+        ensures { self.new ≡ of_others members.now self.old }
+    {
+        remove_records(&mut self.records, members);
+    }
+}
+
+#[cfg(test)]
+mod tests;
