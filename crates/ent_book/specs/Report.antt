@@ -5,7 +5,7 @@ use Rattle.std.specs.Fmt.{decimal}
 use Rattle.std.specs.Ordering.{nat_cmp}
 use Rattle.std.specs.Cmp.Lexicographic.{slice_cmp}
 use Rattle.ent_set.specs.Sets as set
-use Rattle.ent_value.specs.Print.{row_text}
+use Rattle.ent_value.specs.Print.{value_text, row_text}
 use Rattle.ent_value.specs.declared.value.Value.{Value}
 use Rattle.ent_semantics.specs.declared.answer.Answer.{Answer}
 use Rattle.ent_semantics.specs.declared.answer.Answer.TheVariants as answers
@@ -35,10 +35,12 @@ after_text runs = codes " after " ++ decimal runs
 
 abbrev pub fate_text : Fate → List ℕ
 fate_text (fates.Committed number runs answers) = codes "committed " ++ (decimal number ++ after_text runs)
+fate_text (fates.RolledBack runs) = codes "rolled back" ++ after_text runs
 fate_text (fates.Failed failure runs) = codes "failed " ++ (failure_text failure ++ after_text runs)
 
 abbrev pub answer_text : Answer → List ℕ
 answer_text (answers.Count count) = line (codes "count " ++ decimal count)
+answer_text (answers.Value value) = line (codes "set " ++ value_text value)
 answer_text (answers.Rows rows) = line (codes "rows " ++ decimal (length rows)) ++ rows_text rows
 
 -- answers in order of their statements, from a place on
@@ -49,6 +51,7 @@ answers_text place (answer ∷ more) = (decimal place ++ (codes " " ++ answer_te
 -- the answers of a transaction that committed
 abbrev pub fate_answers : Fate → List Answer
 fate_answers (fates.Committed number runs answers) = answers
+fate_answers (fates.RolledBack runs) = []
 fate_answers (fates.Failed failure runs) = []
 
 -- a transaction: its fate, then its answers

@@ -5,7 +5,7 @@ ghost use Rattle.ent_book.specs.Report.{row_line, failure_text, after_text, fate
 
 use crate::book::Fate;
 use ent_semantics::{Answer, Failure};
-use ent_value::{Row, print_row};
+use ent_value::{Row, print_row, print_value};
 use std::alloc::{AllocError, Global};
 
 pub(crate) fn append_number(alloc: Global, out: &mut Vec<u8>, number: u64) -> Result<(), AllocError>
@@ -49,6 +49,10 @@ pub(crate) fn append_fate(alloc: Global, out: &mut Vec<u8>, fate: &Fate) -> Resu
             append_number(alloc, out, *number)?;
             append_after(alloc, out, *runs)
         }
+        Fate::RolledBack { runs } => {
+            out.extend_from_slice(b"rolled back")?;
+            append_after(alloc, out, *runs)
+        }
         Fate::Failed { failure, runs } => {
             out.extend_from_slice(b"failed ")?;
             append_failure(out, *failure)?;
@@ -77,6 +81,12 @@ pub(crate) fn append_answer(
         Answer::Count(count) => {
             out.extend_from_slice(b"count ")?;
             append_number(alloc, out, *count)?;
+            out.push(b'\n')?;
+            Ok(())
+        }
+        Answer::Value(value) => {
+            out.extend_from_slice(b"set ")?;
+            print_value(alloc, out, value)?;
             out.push(b'\n')?;
             Ok(())
         }

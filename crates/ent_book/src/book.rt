@@ -13,6 +13,10 @@ pub enum Fate {
         runs: u64,
         answers: Sequence<Answer>,
     },
+    /// Its script ended with ROLLBACK; it left nothing.
+    RolledBack {
+        runs: u64,
+    },
     /// A statement couldn't be carried out; it left nothing.
     Failed {
         failure: Failure,

@@ -40,7 +40,7 @@ fn append_transaction(
     out.push(b'\n')?;
     match fate {
         Fate::Committed { answers, .. } => append_answers(alloc, out, answers.as_slice()),
-        Fate::Failed { .. } => Ok(()),
+        Fate::RolledBack { .. } | Fate::Failed { .. } => Ok(()),
     }
 }
 

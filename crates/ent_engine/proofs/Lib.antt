@@ -1,9 +1,14 @@
+pub mod Bindings
+pub mod Kept
+pub mod Changes
+pub mod Undone
 pub mod Runs
 pub mod Pieces
 pub mod Fusion
 pub mod Meanings
 pub mod Same
 pub mod Serial
+pub mod Meant
 pub mod Loading
 pub mod Booking
 pub mod Written

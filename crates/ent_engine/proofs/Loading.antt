@@ -14,7 +14,7 @@ use Rattle.ent_rel.specs.Relation.{RowSet, bounded}
 use Rattle.ent_rel.specs.Answer.{Gives}
 use Rattle.ent_rel.specs.declared.fault.TableFault.{TableFault}
 use Rattle.ent_rel.specs.declared.fault.TableFault.TheVariants.{Memory, TableFull}
-use Rattle.ent_sql.specs.declared.tree.Insert.{Insert}
+use Rattle.ent_sql.specs.declared.tree.OpeningRow.{OpeningRow}
 use Rattle.ent_sql.specs.declared.tree.Opening.{Opening}
 use Rattle.ent_semantics.specs.Database.{Name, same_name, row_of}
 use Rattle.ent_form.specs.declared.catalogue.TableSchema.{TableSchema}
@@ -72,10 +72,10 @@ set_len_le (row ∷ rows) =
 
 few_rows : (opening : Opening) (name : Name) → length opening.rows ≤ 65536 → set.len (set.from_list {R = row_cmp} (rows_named opening name)) ≤ 65536
 few_rows opening name le =
-    let named = filter (λ (insert : Insert). same_name insert.table.name name) opening.rows in
+    let named = filter (λ (row : OpeningRow). same_name row.table.name name) opening.rows in
     let a : set.len (set.from_list {R = row_cmp} (rows_named opening name)) ≤ length (map row_of named) = set_len_le (map row_of named) in
     let b : length (map row_of named) ≡ length named = length_map row_of named in
-    let c : length named ≤ length opening.rows = filter_le (λ (insert : Insert). same_name insert.table.name name) opening.rows in
+    let c : length named ≤ length opening.rows = filter_le (λ (row : OpeningRow). same_name row.table.name name) opening.rows in
     omega arith
 
 never_full : {X : Type 0} (rows : RowSet) (x : X) → set.len rows ≤ 65536 → bounded rows x ≡ None → ⊥

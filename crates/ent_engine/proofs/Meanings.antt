@@ -1,22 +1,29 @@
 -- A statement over tables, from what it does to its one table.
-use Rattle.std.proofs.Common.{◌≡◌, ℕ, zero, suc, ◌<◌, Bool, true, false, cond, List, [], ◌∷◌, length, map, get_or, Some, None, Result, Ok, Err, refl, sym, ap, ◌∙◌, arith}
-use Rattle.std.specs.Prelude.{slice_set, slice_index_or, nat_le}
-use Rattle.std.proofs.Math.ListN.{set}
+use Rattle.std.proofs.Common.{◌≡◌, ℕ, zero, suc, ◌<◌, Bool, true, false, cond, not, List, [], ◌∷◌, ◌++◌, length, map, take, drop, get_or, Option, Some, None, Result, Ok, Err, refl, sym, ap, ◌∙◌, arith, subst}
+use Rattle.std.specs.Prelude.{slice_set, slice_index_or, nat_le, is_some, OnOk, OnErr}
+use Rattle.std.specs.List.{list_all, filter_map}
+use Rattle.std.proofs.Math.Seq.{take-append_seam}
 use Rattle.ent_set.specs.Sets as finite
 use Rattle.ent_value.specs.declared.value.Value.{Value}
-use Rattle.ent_value.specs.declared.value.Kind.{Kind}
 use Rattle.ent_value.specs.declared.refusal.Refusal.{Refusal}
 use Rattle.ent_value.specs.declared.refusal.Refusal.TheVariants as refusals
-use Rattle.ent_value.specs.Refusal.{Refuses}
-use Rattle.ent_rel.specs.Relation.{Relation, RowSet}
+use Rattle.ent_value.specs.Refusal.{Gives, Refuses}
+use Rattle.ent_rel.specs.Relation.{Relation, RowSet, bounded}
+use Rattle.ent_rel.specs.Change.{deletion}
+use Rattle.ent_sql.specs.declared.tree.Expression.{Expression}
+use Rattle.ent_semantics.specs.declared.answer.Answer.{Answer}
 use Rattle.ent_semantics.specs.declared.answer.Answer.TheVariants as answers
 use Rattle.ent_semantics.specs.declared.answer.Failure.{Failure}
 use Rattle.ent_semantics.specs.declared.answer.Failure.TheVariants.{TableFull}
+use Rattle.ent_semantics.specs.Database.{Environment}
+use Rattle.ent_semantics.specs.Statement.{or_overflow}
 use Rattle.ent_form.specs.declared.plain.PlainOperand.{PlainOperand}
 use Rattle.ent_form.specs.declared.plain.PlainTest.{PlainTest}
+use Rattle.ent_form.specs.declared.plain.PlainValue.{PlainValue}
+use Rattle.ent_form.specs.declared.plain.PlainStatement.{PlainStatement}
 use Rattle.ent_form.specs.declared.plain.PlainStatement.TheVariants as resolved
-use Rattle.ent_form.specs.PlainMeaning.{PlainEffect, plain_meaning, plain_selection, table_rows}
-use Rattle.ent_engine.specs.Insertion.{or_full, insertion_of}
+use Rattle.ent_form.specs.PlainMeaning.{PlainEffect, plain_known_value, plain_meets, plain_image, plain_meaning, plain_selection, table_rows}
+use Rattle.ent_engine.specs.Change.{or_full, insertion_of, replacement_of}
 use Rattle.ent_engine.specs.Tables.{rows_in, kinds_in, effect}
 
 -- a place of a list, seen by f
@@ -45,53 +52,125 @@ named_is_there f [] table lt = absurd (omega arith)
 named_is_there f (x ∷ xs) zero lt = omega arith
 named_is_there f (x ∷ xs) (suc table) lt = let h = named_is_there f xs table (omega arith) in omega arith
 
-pub fits_old : {A : Type 0} (f : A → Relation) (xs : List A) (table : ℕ) (x : A) (old : Relation) (kinds : List Kind) → table < length xs → x ≡ get_or xs table x → old ≡ f x
-    → kinds ≡ slice_index_or (kinds_in (map f xs)) table [] → kinds ≡ old.kinds
-fits_old f xs table x old kinds lt is so fits =
-    fits ∙ map_at (λ (t : Relation). t.kinds) (map f xs) table old [] (length_map_lt f xs table lt) (table_at f xs table x old lt is so)
-
 -- what is written is what was there
 pub set_same : {A : Type 0} (xs : List A) (i : ℕ) (x : A) → slice_index_or xs i x ≡ x → slice_set xs i x ≡ xs
 set_same [] i x is = refl
 set_same (y ∷ xs) zero x is = ap (λ z. z ∷ xs) (sym is)
 set_same (y ∷ xs) (suc i) x is = ap (λ zs. y ∷ zs) (set_same xs i x is)
 
+-- a table that a statement names, behind its Arc
+pub table_found : {A : Type 0} (f : A → Relation) (items : List A) (tables : List Relation) (table : ℕ) (x : A) (old : Relation) → map f items ≡ tables → table < length (kinds_in tables)
+    → x ≡ get_or items table x → old ≡ f x → (table < length tables) × (old ≡ get_or tables table old)
+table_found f items tables table x old view named at so =
+    let there : table < length items = named_is_there f items table (subst (λ (ts : List Relation). table < length (kinds_in ts)) (sym view) named) in
+    let Found : List Relation → Type 0 = λ ts. (table < length ts) × (old ≡ get_or ts table old) in
+    subst Found view (length_map_lt f items table there, table_at f items table x old there at so)
+
 -- a table gets other rows
-abbrev pub with_change : List Relation → ℕ → Result (ℕ × RowSet) Failure → Result PlainEffect Failure
-with_change tables table (Ok change) = Ok (record { tables = slice_set (rows_in tables) table change.1; answer = answers.Count change.0 })
-with_change tables table (Err failure) = Err failure
+abbrev pub with_change : List Relation → Environment → ℕ → Result (ℕ × RowSet) Failure → Result PlainEffect Failure
+with_change tables environment table (Ok change) = Ok (record { tables = slice_set (rows_in tables) table change.1; environment = environment; answer = answers.Count change.0 })
+with_change tables environment table (Err failure) = Err failure
 
-on_limit : (tables : List Relation) (table : ℕ) (rows after : RowSet) (count : ℕ) (b : Bool)
-    → cond b (Ok (record { tables = slice_set (rows_in tables) table after; answer = answers.Count count })) (Err TableFull) ≡ with_change tables table (or_full (cond b (Some (count, after)) None))
-on_limit tables table rows after count true = refl
-on_limit tables table rows after count false = refl
+module _ (tables : List Relation) (environment : Environment) (table : ℕ) (old : Relation) (there : table < length tables) (is : old ≡ get_or tables table old) where
+  rows_here : table_rows (rows_in tables) table ≡ old.rows
+  rows_here = map_at (λ (t : Relation). t.rows) tables table old finite.empty there is
 
-pub insert_meaning : (tables : List Relation) (table : ℕ) (row : List Value) (old : Relation) → table < length tables → old ≡ get_or tables table old
-    → plain_meaning (rows_in tables) (resolved.Insert table row) ≡ with_change tables table (insertion_of old.rows row)
-insert_meaning tables table row old lt is =
-    let here : table_rows (rows_in tables) table ≡ old.rows = map_at (λ (t : Relation). t.rows) tables table old finite.empty lt is in
-    rw here (on_limit tables table old.rows (finite.insert old.rows row) (cond (finite.contains old.rows row) 0 1) (nat_le (finite.len (finite.insert old.rows row)) 65536))
+  on_limit : (after : RowSet) (count : ℕ) (b : Bool)
+      → cond b (Ok (record { tables = slice_set (rows_in tables) table after; environment = environment; answer = answers.Count count })) (Err TableFull) ≡ with_change tables environment table (or_full (cond b (Some (count, after)) None))
+  on_limit after count true = refl
+  on_limit after count false = refl
 
-pub insert_done : (tables : List Relation) (table count : ℕ) (row : List Value) (old new : Relation) → table < length tables → old ≡ get_or tables table old
-    → insertion_of old.rows row ≡ Ok (count, new.rows) → plain_meaning (rows_in tables) (resolved.Insert table row) ≡ Ok (effect (slice_set tables table new) (answers.Count count))
-insert_done tables table count row old new lt is so =
-    insert_meaning tables table row old lt is ∙ ap (with_change tables table) so
-    ∙ ap (λ (rows : List RowSet). let r : Result PlainEffect Failure = Ok (record { tables = rows; answer = answers.Count count }) in r) (sym (map-set (λ (t : Relation). t.rows) tables table new))
+  pub insert_meaning : (values : List PlainValue)
+      → plain_meaning (rows_in tables) environment (resolved.Insert table values) ≡ with_change tables environment table (insertion_of old.rows (map (plain_known_value environment) values))
+  insert_meaning values =
+      let row = map (plain_known_value environment) values in
+      rw rows_here (on_limit (finite.insert old.rows row) (cond (finite.contains old.rows row) 0 1) (nat_le (finite.len (finite.insert old.rows row)) 65536))
 
-refused_on : (tables : List Relation) (table : ℕ) (refusal : Refusal Failure) (change : Result (ℕ × RowSet) Failure) → Refuses refusal change → Refuses refusal (with_change tables table change)
-refused_on tables table refusals.Memory change h = tt
-refused_on tables table (refusals.Fault failure) change h = ap (with_change tables table) h
+  pub delete_meaning : (tests : List PlainTest)
+      → plain_meaning (rows_in tables) environment (resolved.Delete table tests) ≡ with_change tables environment table (Ok (deletion old.rows (plain_meets environment tests)))
+  delete_meaning tests = rw rows_here refl
 
-pub insert_refused : (tables : List Relation) (table : ℕ) (row : List Value) (old : Relation) (refusal : Refusal Failure) → table < length tables → old ≡ get_or tables table old
-    → Refuses refusal (insertion_of old.rows row) → Refuses refusal (plain_meaning (rows_in tables) (resolved.Insert table row))
-insert_refused tables table row old refusal lt is h = rw (insert_meaning tables table row old lt is) (refused_on tables table refusal (insertion_of old.rows row) h)
+  on_overflow : (after : RowSet) (count : ℕ) (b : Bool)
+      → or_overflow (cond b (Some after) None) (λ rows. cond (nat_le (finite.len rows) 65536) (Ok (record { tables = slice_set (rows_in tables) table rows; environment = environment; answer = answers.Count count })) (Err TableFull))
+      ≡ with_change tables environment table (or_overflow (cond b (Some (bounded after (count, after))) None) or_full)
+  on_overflow after count true = on_limit after count (nat_le (finite.len after) 65536)
+  on_overflow after count false = refl
 
-pub insert_keeps_kinds : (tables : List Relation) (table : ℕ) (old new : Relation) → table < length tables → old ≡ get_or tables table old → new.kinds ≡ old.kinds → kinds_in (slice_set tables table new) ≡ kinds_in tables
-insert_keeps_kinds tables table old new lt is same =
-    map-set (λ (t : Relation). t.kinds) tables table new ∙ set_same (kinds_in tables) table new.kinds (map_at (λ (t : Relation). t.kinds) tables table old new.kinds lt is ∙ sym same)
+  pub update_meaning : (image : List (Expression PlainOperand)) (tests : List PlainTest)
+      → plain_meaning (rows_in tables) environment (resolved.Update table image tests) ≡ with_change tables environment table (replacement_of old.rows (plain_meets environment tests) (plain_image environment image))
+  update_meaning image tests =
+      let passes : List Value → Bool = plain_meets environment tests in
+      let image_of : List Value → Option (List Value) = plain_image environment image in
+      let matched = finite.retain old.rows passes in
+      let after = finite.insert_all (finite.retain old.rows (λ row. not (passes row))) (filter_map image_of (finite.ascending matched)) in
+      rw rows_here (on_overflow after (finite.len matched) (list_all (λ row. is_some (image_of row)) (finite.ascending matched)))
 
-pub select_done : (tables : List Relation) (table : ℕ) (items : List PlainOperand) (tests : List PlainTest) (rows : List (List Value)) (old : Relation) → table < length tables → old ≡ get_or tables table old
-    → rows ≡ finite.ascending (plain_selection items tests old.rows) → plain_meaning (rows_in tables) (resolved.Select table items tests) ≡ Ok (effect tables (answers.Rows rows))
-select_done tables table items tests rows old lt is so =
-    let here : table_rows (rows_in tables) table ≡ old.rows = map_at (λ (t : Relation). t.rows) tables table old finite.empty lt is in
-    rw (so, here) refl
+  pub select_meaning : (items : List PlainOperand) (tests : List PlainTest)
+      → plain_meaning (rows_in tables) environment (resolved.Select table items tests) ≡ Ok (effect tables environment (answers.Rows (finite.ascending (plain_selection environment items tests old.rows))))
+  select_meaning items tests = rw rows_here refl
+
+  -- ---- a statement whose parts were read
+
+  pub inserted_so : (statement : PlainStatement) (values given : List PlainValue) → statement ≡ resolved.Insert table values → given ≡ values
+      → plain_meaning (rows_in tables) environment statement ≡ with_change tables environment table (insertion_of old.rows (map (plain_known_value environment) given))
+  inserted_so statement values given s g =
+      ap (plain_meaning (rows_in tables) environment) s ∙ insert_meaning values
+      ∙ ap (λ vs. with_change tables environment table (insertion_of old.rows (map (plain_known_value environment) vs))) (sym g)
+
+  pub deleted_so : (statement : PlainStatement) (tests given : List PlainTest) → statement ≡ resolved.Delete table tests → given ≡ tests
+      → plain_meaning (rows_in tables) environment statement ≡ with_change tables environment table (Ok (deletion old.rows (plain_meets environment given)))
+  deleted_so statement tests given s g =
+      ap (plain_meaning (rows_in tables) environment) s ∙ delete_meaning tests
+      ∙ ap (λ ts. with_change tables environment table (Ok (deletion old.rows (plain_meets environment ts)))) (sym g)
+
+  pub updated_so : (statement : PlainStatement) (image image' : List (Expression PlainOperand)) (tests tests' : List PlainTest) → statement ≡ resolved.Update table image tests → image' ≡ image → tests' ≡ tests
+      → plain_meaning (rows_in tables) environment statement ≡ with_change tables environment table (replacement_of old.rows (plain_meets environment tests') (plain_image environment image'))
+  updated_so statement image image' tests tests' s m t =
+      ap (plain_meaning (rows_in tables) environment) s ∙ update_meaning image tests
+      ∙ sym (λ i. with_change tables environment table (replacement_of old.rows (plain_meets environment (t i)) (plain_image environment (m i))))
+
+  pub selected_so : (statement : PlainStatement) (items items' : List PlainOperand) (tests tests' : List PlainTest) (rows : List (List Value)) → statement ≡ resolved.Select table items tests
+      → items' ≡ items → tests' ≡ tests → rows ≡ finite.ascending (plain_selection environment items' tests' old.rows)
+      → plain_meaning (rows_in tables) environment statement ≡ Ok (effect tables environment (answers.Rows rows))
+  selected_so statement items items' tests tests' rows s m t r =
+      ap (plain_meaning (rows_in tables) environment) s ∙ select_meaning items tests
+      ∙ sym (ap (λ (rs : List (List Value)). let e : Result PlainEffect Failure = Ok (effect tables environment (answers.Rows rs)) in e) (r ∙ (λ i. finite.ascending (plain_selection environment (m i) (t i) old.rows))))
+
+  -- the table as it stands after a change that was made
+  pub change_done : (count : ℕ) (new : Relation) (change : Result (ℕ × RowSet) Failure) → change ≡ Ok (count, new.rows)
+      → with_change tables environment table change ≡ Ok (effect (slice_set tables table new) environment (answers.Count count))
+  change_done count new change so =
+      ap (with_change tables environment table) so
+      ∙ ap (λ (rows : List RowSet). let r : Result PlainEffect Failure = Ok (record { tables = rows; environment = environment; answer = answers.Count count }) in r) (sym (map-set (λ (t : Relation). t.rows) tables table new))
+
+  pub change_keeps_kinds : (new : Relation) → new.kinds ≡ old.kinds → kinds_in (slice_set tables table new) ≡ kinds_in tables
+  change_keeps_kinds new same =
+      map-set (λ (t : Relation). t.kinds) tables table new ∙ set_same (kinds_in tables) table new.kinds (map_at (λ (t : Relation). t.kinds) tables table old new.kinds there is ∙ sym same)
+
+  pub kinds_here : slice_index_or (kinds_in tables) table [] ≡ old.kinds
+  kinds_here = map_at (λ (t : Relation). t.kinds) tables table old [] there is
+
+pub change_refused : (tables : List Relation) (environment : Environment) (table : ℕ) (refusal : Refusal Failure) (change : Result (ℕ × RowSet) Failure) → Refuses refusal change
+    → Refuses refusal (with_change tables environment table change)
+change_refused tables environment table refusals.Memory change h = tt
+change_refused tables environment table (refusals.Fault failure) change h = ap (with_change tables environment table) h
+
+-- what is written through a slice of a whole vector
+pub refilled : {A : Type 0} (n : ℕ) (new old : List A) → n ≡ length new → take n (new ++ drop (length new) old) ≡ new
+refilled n new old is = ap (λ m. take m (new ++ drop (length new) old)) is ∙ take-append_seam new (drop (length new) old)
+
+-- what is answered once a change was made, or couldn't be noted
+pub change_put : (before given put after : List Relation) (environment : Environment) (table count : ℕ) (new : Relation) (result : Result Answer (Refusal Failure)) (meant : Result PlainEffect Failure) → given ≡ before → after ≡ put
+    → meant ≡ Ok (effect (slice_set before table new) environment (answers.Count count)) → Gives (λ answer. answer) result (Ok (answers.Count count)) → OnOk result (put ≡ slice_set given table new)
+    → Gives (λ answer. effect after environment answer) result meant
+change_put before given put after environment table count new (Ok answer) meant view whole is said left =
+    let same : answers.Count count ≡ answer = cc in
+    let made = whole ∙ left ∙ ap (λ (ts : List Relation). slice_set ts table new) view in
+    is ∙ (λ i. Ok (effect (sym made i) environment (same i)))
+change_put before given put after environment table count new (Err refusals.Memory) meant view whole is said left = tt
+change_put before given put after environment table count new (Err (refusals.Fault failure)) meant view whole is said left = cc
+
+pub kinds_put : (before given put after : List Relation) (table : ℕ) (new : Relation) (result : Result Answer (Refusal Failure)) → given ≡ before → after ≡ put → kinds_in (slice_set before table new) ≡ kinds_in before
+    → OnOk result (put ≡ slice_set given table new) → OnErr result (put ≡ given) → kinds_in after ≡ kinds_in before
+kinds_put before given put after table new (Ok answer) view whole same left stays = ap kinds_in (whole ∙ left ∙ ap (λ (ts : List Relation). slice_set ts table new) view) ∙ same
+kinds_put before given put after table new (Err refusal) view whole same left stays = ap kinds_in (whole ∙ stays ∙ view)

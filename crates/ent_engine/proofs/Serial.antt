@@ -19,7 +19,8 @@ on_run : (declared : List Create) (script : Script) (more : List Script) (number
     → Serial declared (script ∷ more) database (fated run failure number database (outcomes declared more))
 on_run declared script more number database failure (Some run) e rest =
     rw e (ap (option_map (ran_first run.answers)) (rest (number + 1) run.database))
-on_run declared script more number database failure None e rest = rest number database
+on_run declared script more number database (Some failure) None e rest = rest number database
+on_run declared script more number database None None e rest = rest number database
 
 pub outcomes_are_serial : (declared : List Create) (scripts : List Script) (number : ℕ) (database : Database) → Serial declared scripts database (outcomes declared scripts number database)
 outcomes_are_serial declared [] number database = refl
@@ -30,7 +31,8 @@ on_number : (declared : List Create) (script : Script) (more : List Script) (num
     → ((number : ℕ) (database : Database) → let fates = (outcomes declared more number database).fates in commit_numbers fates ≡ numbers_from number (commit_numbers fates))
     → let fates = (fated run failure number database (outcomes declared more)).fates in commit_numbers fates ≡ numbers_from number (commit_numbers fates)
 on_number declared script more number database failure (Some run) rest = ap (λ ns. number ∷ ns) (rest (number + 1) run.database)
-on_number declared script more number database failure None rest = rest number database
+on_number declared script more number database (Some failure) None rest = rest number database
+on_number declared script more number database None None rest = rest number database
 
 pub commits_are_numbered : (declared : List Create) (scripts : List Script) (number : ℕ) (database : Database)
     → let fates = (outcomes declared scripts number database).fates in commit_numbers fates ≡ numbers_from number (commit_numbers fates)
@@ -42,7 +44,8 @@ on_fate : (declared : List Create) (script : Script) (more : List Script) (numbe
     → ((number : ℕ) (database : Database) → length (outcomes declared more number database).fates ≡ length more)
     → length (fated run failure number database (outcomes declared more)).fates ≡ length (script ∷ more)
 on_fate declared script more number database failure (Some run) rest = let h = rest (number + 1) run.database in omega arith
-on_fate declared script more number database failure None rest = let h = rest number database in omega arith
+on_fate declared script more number database (Some failure) None rest = let h = rest number database in omega arith
+on_fate declared script more number database None None rest = let h = rest number database in omega arith
 
 pub each_has_a_fate : (declared : List Create) (scripts : List Script) (number : ℕ) (database : Database) → length (outcomes declared scripts number database).fates ≡ length scripts
 each_has_a_fate declared [] number database = refl

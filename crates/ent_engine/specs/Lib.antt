@@ -1,7 +1,11 @@
 pub mod Reading
 pub mod Outcome
+pub mod Fates
 pub mod Io
 pub mod Fault
+pub mod Environment
+pub mod Evaluation
+pub mod Change
 pub mod Tables
-pub mod Insertion
+pub mod Ending
 pub mod Parse

@@ -1,17 +1,16 @@
 -- What becomes of the scripts of an input, each run alone to its end, in order.
-use Rattle.std.specs.Prelude.{ℕ, ◌+◌, List, [], ◌∷◌, map, Option, Some, None, Result, Ok, Err, unwrap_or}
+use Rattle.std.specs.Prelude.{ℕ, ◌+◌, List, [], ◌∷◌, map, Option, Some, None, Result, Ok, Err}
 use Rattle.ent_sql.specs.declared.tree.Create.{Create}
 use Rattle.ent_sql.specs.declared.tree.Input.{Input}
 use Rattle.ent_sql.specs.declared.tree.Script.{Script}
 use Rattle.ent_sql.specs.declared.tree.Statement.{Statement}
 use Rattle.ent_semantics.specs.declared.answer.Answer.{Answer}
 use Rattle.ent_semantics.specs.declared.answer.Failure.{Failure}
-use Rattle.ent_semantics.specs.declared.answer.Failure.TheVariants.{TableFull}
 use Rattle.ent_semantics.specs.Database.{Database, Environment, nothing_bound, opening_database}
 use Rattle.ent_semantics.specs.Statement.{Effect, statement_meaning}
 use Rattle.ent_semantics.specs.Serial.{Valuation, Run, script_run}
 use Rattle.ent_book.specs.declared.book.Fate.{Fate}
-use Rattle.ent_book.specs.declared.book.Fate.TheVariants.{Committed, Failed}
+use Rattle.ent_book.specs.declared.book.Fate.TheVariants.{Committed, RolledBack, Failed}
 use Rattle.ent_book.specs.Report.{report_text}
 
 -- the database that scripts leave, and their fates
@@ -33,10 +32,12 @@ failure_of declared [] database environment = None
 failure_of declared (statement ∷ more) database environment =
     failure_behind (statement_meaning declared database environment statement) (failure_of declared more)
 
--- A script that ran commits as the next; one that didn't fails, and leaves the database as it was.
+-- A script that ran commits as the next. One that gives nothing leaves the database as it was: it failed where a
+-- statement couldn't be carried out, else it is rolled back.
 abbrev pub fated : Option Run → Option Failure → ℕ → Database → (ℕ → Database → Outcome) → Outcome
 fated (Some run) failure number database more = with_fate (Committed number 1 run.answers) (more (number + 1) run.database)
-fated None failure number database more = with_fate (Failed (unwrap_or failure TableFull) 1) (more number database)
+fated None (Some failure) number database more = with_fate (Failed failure 1) (more number database)
+fated None None number database more = with_fate (RolledBack 1) (more number database)
 
 -- scripts one after the other, the next commit having this number
 abbrev pub outcomes : List Create → List Script → ℕ → Database → Outcome
@@ -57,16 +58,19 @@ abbrev pub committed : List Script → List Fate → List (Script × List Valuat
 committed [] fates = []
 committed (script ∷ scripts) [] = []
 committed (script ∷ scripts) (Committed number runs answers ∷ fates) = (script, []) ∷ committed scripts fates
+committed (script ∷ scripts) (RolledBack runs ∷ fates) = committed scripts fates
 committed (script ∷ scripts) (Failed failure runs ∷ fates) = committed scripts fates
 
 abbrev pub commit_answers : List Fate → List (List Answer)
 commit_answers [] = []
 commit_answers (Committed number runs answers ∷ fates) = answers ∷ commit_answers fates
+commit_answers (RolledBack runs ∷ fates) = commit_answers fates
 commit_answers (Failed failure runs ∷ fates) = commit_answers fates
 
 abbrev pub commit_numbers : List Fate → List ℕ
 commit_numbers [] = []
 commit_numbers (Committed number runs answers ∷ fates) = number ∷ commit_numbers fates
+commit_numbers (RolledBack runs ∷ fates) = commit_numbers fates
 commit_numbers (Failed failure runs ∷ fates) = commit_numbers fates
 
 -- as many numbers from one on as a list is long

@@ -18,8 +18,8 @@ use crate::runner::run_scripts;
 use crate::tables::Tables;
 use ent_book::{Book, NamedTable};
 use ent_form::law::{
-    no_fault_fits, opening_rows_fit, opening_tables_mean_the_same, resolved_keeps_kinds,
-    resolved_means_the_same,
+    no_fault_fits, opening_rows_fit, opening_tables_mean_the_same, resolved_binds_the_same,
+    resolved_keeps_kinds, resolved_means_the_same,
 };
 use ent_form::{Catalogue, ColumnSchema, TableSchema, opening_rows};
 use ent_rel::{Table, TableFault};
@@ -38,6 +38,7 @@ pub(crate) fn book_of(alloc: Global, resolved: &Resolved) -> Result<Book, AllocE
 {
     resolved_means_the_same();
     resolved_keeps_kinds();
+    resolved_binds_the_same();
     no_fault_fits();
     opening_rows_fit();
     opening_tables_mean_the_same();

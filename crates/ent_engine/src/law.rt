@@ -3,6 +3,7 @@ ghost use Rattle.std.specs.Prelude.{◌≡◌, Some, length};
 ghost use Rattle.ent_sql.specs.declared.tree.Input.{Input};
 ghost use Rattle.ent_semantics.specs.Database.{opening_database};
 ghost use Rattle.ent_semantics.specs.Serial.{scripts_run};
+ghost use Rattle.ent_engine.specs.Fates.{HaveFates};
 ghost use Rattle.ent_engine.specs.Outcome.{outcome_of, committed, commit_answers, commit_numbers, numbers_from};
 
 /// The scripts that commit, run alone in order of their commits, leave the database of the report and give its
@@ -12,4 +13,10 @@ pub fn the_report_is_serial()
         ≡ Some (record { database = (outcome_of input).database; answers = commit_answers (outcome_of input).fates }) }
     ensures numbered { (input : Input) → commit_numbers (outcome_of input).fates ≡ numbers_from 1 (commit_numbers (outcome_of input).fates) }
     ensures each { (input : Input) → length (outcome_of input).fates ≡ length input.scripts }
+{}
+
+/// Each script of an input has the fate that its own statements and its end give it, over the database that the scripts
+/// before it leave.
+pub fn fates_are_meant()
+    ensures { (input : Input) → HaveFates input.opening.tables input.scripts (opening_database input.opening) (outcome_of input).fates (outcome_of input).database }
 {}

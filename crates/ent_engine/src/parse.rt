@@ -9,7 +9,6 @@ ghost use Rattle.ent_form.specs.Plain.{plain_script};
 ghost use Rattle.ent_form.specs.PlainMeaning.{schema_kinds};
 ghost use Rattle.ent_engine.specs.Parse.{IsResolved, IsRefusedAs, form_refusal};
 ghost use Rattle.ent_engine.specs.Reading.{IsInput, IsRefused, most_bytes};
-ghost use Rattle.ent_engine.specs.Tables.{AllFit};
 
 use crate::fault::RunFault;
 use ent_form::{Catalogue, FormFault, Plain, resolve};

@@ -1,29 +1,21 @@
 //! SELECT, row by row.
-ghost use Rattle.std.specs.Prelude.{◌≡◌, IfOk, List, map, pos};
+ghost use Rattle.std.specs.Prelude.{◌≡◌, IfOk, List, map};
 ghost use Rattle.std.specs.List.{filter};
 ghost use Rattle.ent_set.specs.Sets as set;
-ghost use Rattle.ent_value.specs.declared.value.Value.TheVariants.{Int};
 ghost use Rattle.ent_value.specs.Value.{row_cmp};
 ghost use Rattle.ent_semantics.specs.Selection.{compares};
-ghost use Rattle.ent_form.specs.PlainMeaning.{plain_value, plain_passes, plain_meets, plain_row, plain_selection};
+ghost use Rattle.ent_form.specs.PlainMeaning.{plain_passes, plain_meets, plain_row, plain_selection};
+ghost use Rattle.ent_engine.specs.Environment.{environment_of};
 
+use crate::environment::Environment;
+use crate::row::item_row;
+use crate::term::operand_value;
 use ent_form::{PlainOperand, PlainTest};
 use ent_rel::Table;
 use ent_sql::Comparison;
 use ent_value::{Row, Sequence, Value};
 use std::alloc::{AllocError, Global};
 use std::cmp::Ordering;
-
-/// The value of an operand in a row; a column that isn't there stands for `none`.
-fn value_of<'a>(row: &'a [Value], operand: &'a PlainOperand, none: &'a Value) -> &'a Value
-    requires { none.now ≡ Int (pos 0) }
-    ensures { result.now ≡ plain_value row.now operand.now }
-{
-    match operand {
-        PlainOperand::Constant(value) => value,
-        PlainOperand::Column(index) => row.get(*index).unwrap_or(none),
-    }
-}
 
 fn compares(comparison: Comparison, order: Ordering) -> bool
     ensures { result ≡ compares comparison order }
@@ -38,45 +30,36 @@ fn compares(comparison: Comparison, order: Ordering) -> bool
     }
 }
 
-fn passes(test: &PlainTest, row: &[Value]) -> bool
-    ensures { result ≡ plain_passes row.now test.now }
+fn passes(environment: &Environment, test: &PlainTest, row: &[Value]) -> bool
+    ensures { result ≡ plain_passes (environment_of environment.now) row.now test.now }
 {
     let none = Value::Int(0);
-    let left = value_of(row, &test.left, &none);
-    let right = value_of(row, &test.right, &none);
+    let left = operand_value(environment, row, &test.left, &none);
+    let right = operand_value(environment, row, &test.right, &none);
     compares(test.comparison, left.cmp(right))
 }
 
-fn meets(tests: &[PlainTest], row: &[Value]) -> bool
-    ensures { result ≡ plain_meets tests.now row.now }
+/// Whether a row meets every test.
+pub(crate) fn meets(environment: &Environment, tests: &[PlainTest], row: &[Value]) -> bool
+    ensures { result ≡ plain_meets (environment_of environment.now) tests.now row.now }
 {
-    tests.iter().all(|test| passes(test, row))
-}
-
-fn item_row(alloc: Global, items: &[PlainOperand], row: &[Value]) -> Result<Row, AllocError>
-    ensures { IfOk result (λ shown. shown ≡ plain_row items.now row.now) }
-{
-    let none = Value::Int(0);
-    let mut values = Vec::with_capacity(alloc, items.len())?;
-    for item in items {
-        values.push(value_of(row, item, &none).copy(alloc)?)?;
-    }
-    Ok(Row::from_vec(values))
+    tests.iter().all(|test| passes(environment, test, row))
 }
 
 /// The item rows of the rows that meet every test, in their order.
 fn item_rows(
     alloc: Global,
+    environment: &Environment,
     items: &[PlainOperand],
     tests: &[PlainTest],
     rows: &[&Row],
 ) -> Result<Vec<Row>, AllocError>
-    ensures { IfOk result (λ found. found.items ≡ map (plain_row items.now) (filter (plain_meets tests.now) (map (λ row. row.now) rows.now))) }
+    ensures { IfOk result (λ found. found.items ≡ map (plain_row (environment_of environment.now) items.now) (filter (plain_meets (environment_of environment.now) tests.now) (map (λ row. row.now) rows.now))) }
 {
     let mut found = Vec::new(alloc);
     for row in rows {
-        if meets(tests, row.values()) {
-            found.push(item_row(alloc, items, row.values())?)?;
+        if meets(environment, tests, row.values()) {
+            found.push(item_row(alloc, environment, items, row.values())?)?;
         }
     }
     Ok(found)
@@ -95,12 +78,13 @@ fn ascending(mut rows: Vec<Row>) -> Result<Vec<Row>, AllocError>
 pub(crate) fn select(
     alloc: Global,
     table: &Table,
+    environment: &Environment,
     items: &[PlainOperand],
     tests: &[PlainTest],
 ) -> Result<Sequence<Row>, AllocError>
-    ensures { IfOk result (λ rows. rows ≡ set.ascending (plain_selection items.now tests.now table.now.rows)) }
+    ensures { IfOk result (λ rows. rows ≡ set.ascending (plain_selection (environment_of environment.now) items.now tests.now table.now.rows)) }
 {
     let rows = table.ascending(alloc)?;
-    let found = item_rows(alloc, items, tests, rows.as_slice())?;
+    let found = item_rows(alloc, environment, items, tests, rows.as_slice())?;
     Ok(Sequence::from_vec(ascending(found)?))
 }

@@ -1,22 +1,30 @@
 //! The tables of a database, in the order of their declaration.
-ghost use Rattle.std.specs.Prelude.{◌≡◌, ◌<◌, List, length, map, OnErr, IfOk};
+ghost use Rattle.std.specs.Prelude.{◌≡◌, ◌<◌, [], ◌∷◌, List, Ok, length, map, slice_set, OnOk, OnErr};
+ghost use Rattle.std.specs.Arc.{arc_value};
 ghost use Rattle.ent_value.specs.Refusal.{Gives};
 ghost use Rattle.ent_rel.specs.Relation.{Relation};
-ghost use Rattle.ent_form.specs.PlainMeaning.{Fits, plain_meaning};
-ghost use Rattle.std.specs.Arc.{arc_value};
-ghost use Rattle.ent_value.specs.Value.{kinds_of};
-ghost use Rattle.ent_engine.specs.Insertion.{insertion_of, refusal_of};
+ghost use Rattle.ent_undo.specs.Change.{of_others, rolled_back};
+ghost use Rattle.ent_semantics.specs.declared.answer.Answer.TheVariants as answers;
+ghost use Rattle.ent_form.specs.PlainMeaning.{Fits, kinds_bound, plain_bound_after, plain_meaning};
+ghost use Rattle.ent_engine.specs.Environment.{environment_of};
 ghost use Rattle.ent_engine.specs.Tables.{kinds_in, rows_in, effect};
 
+use crate::change::{Changed, deleted, inserted, term_refusal, updated};
+use crate::environment::Environment;
 use crate::select::select;
-use ent_form::{PlainOperand, PlainStatement, PlainTest};
-use ent_rel::{Table, TableFault};
+use crate::term::known_expression;
+use ent_form::{PlainStatement, PlainValue};
+use ent_rel::Table;
 use ent_semantics::{Answer, Failure};
-use ent_value::{Refusal, Row, Sequence};
+use ent_sql::Expression;
+use ent_undo::UndoLog;
+use ent_value::{Name, Refusal};
 use std::alloc::{AllocError, Global};
 use std::marker::Model;
+use std::mem;
 use std::sync::Arc;
 
+/// Contracts see what each table holds, in their order.
 #[derive(Drop)]
 pub(crate) struct Tables {
     tables: Vec<Arc<Table>>,
@@ -49,104 +57,110 @@ impl Tables {
         tables
     }
 
-    /// The same tables again; none is copied row by row.
-    pub(crate) fn copy(&self, alloc: Global) -> Result<Self, AllocError>
-        ensures { IfOk result (λ copy. copy ≡ self.now) }
-    {
-        let mut tables = Vec::with_capacity(alloc, self.tables.len())?;
-        for table in &self.tables {
-            tables.push(table.clone()?)?;
-        }
-        Ok(Tables { tables })
-    }
-
-    /// Carries a statement out. Where it fails, and where memory runs out, nothing changes.
+    /// Carries a statement of a transaction out, and notes in the log what it changes. Where it fails, and where
+    /// memory runs out, the tables stay; a rollback gives what it gave before in any case.
     pub(crate) fn run(
         &mut self,
         alloc: Global,
+        environment: &mut Environment,
+        log: &mut UndoLog,
+        tx: u64,
         statement: &PlainStatement,
     ) -> Result<Answer, Refusal<Failure>>
-        requires { Fits (kinds_in self.old) statement.now }
-        ensures meaning { Gives (λ answer. effect self.new answer) result (plain_meaning (rows_in self.old) statement.now) }
+        requires { Fits (kinds_in self.old) (kinds_bound (environment_of environment.old)) statement.now }
+        ensures meaning { Gives (λ answer. effect self.new (environment_of environment.new) answer) result (plain_meaning (rows_in self.old) (environment_of environment.old) statement.now) }
         ensures kinds { kinds_in self.new ≡ kinds_in self.old }
+        ensures bound { OnOk result (kinds_bound (environment_of environment.new) ≡ plain_bound_after (kinds_bound (environment_of environment.old)) statement.now) }
         ensures err { OnErr result (self.new ≡ self.old) }
+        ensures undone { rolled_back (tx ∷ []) log.new self.new ≡ rolled_back (tx ∷ []) log.old self.old }
+        ensures others { of_others (tx ∷ []) log.new ≡ of_others (tx ∷ []) log.old }
     {
         match statement {
-            PlainStatement::Insert { table, row } => {
-                insert_row(alloc, &mut self.tables, *table, row)
+            PlainStatement::Insert { table, values } => {
+                let values = values.as_slice();
+                let changed = inserted(alloc, &self.tables[*table], environment, values)?;
+                put(self.tables.as_mut_slice(), log, tx, *table, changed)
             }
+            PlainStatement::Delete { table, tests } => {
+                let tests = tests.as_slice();
+                let changed = deleted(alloc, &self.tables[*table], environment, tests)?;
+                put(self.tables.as_mut_slice(), log, tx, *table, changed)
+            }
+            PlainStatement::Update {
+                table,
+                image,
+                tests,
+            } => {
+                let (image, tests) = (image.as_slice(), tests.as_slice());
+                let changed = updated(alloc, &self.tables[*table], environment, image, tests)?;
+                put(self.tables.as_mut_slice(), log, tx, *table, changed)
+            }
+            PlainStatement::Set {
+                variable,
+                expression,
+            } => set(alloc, environment, variable, expression),
             PlainStatement::Select {
                 table,
                 items,
                 tests,
-            } => select_rows(alloc, &self.tables, *table, items, tests),
+            } => {
+                let (items, tests) = (items.as_slice(), tests.as_slice());
+                let rows = select(alloc, &self.tables[*table], environment, items, tests)?;
+                Ok(Answer::Rows(rows))
+            }
+        }
+    }
+
+    /// Takes back all changes of a transaction.
+    pub(crate) fn roll_back(&mut self, log: &mut UndoLog, tx: u64)
+        ensures tables { self.new ≡ rolled_back (tx ∷ []) log.old self.old }
+        ensures log { log.new ≡ of_others (tx ∷ []) log.old }
+    {
+        log.roll_back_one(tx, self.tables.as_mut_slice());
+    }
+}
+
+/// Puts a changed table in place, and notes the one that stood there. Where memory runs out, that one goes back.
+fn put(
+    tables: &mut [Arc<Table>],
+    log: &mut UndoLog,
+    tx: u64,
+    table: usize,
+    changed: Changed,
+) -> Result<Answer, Refusal<Failure>>
+    requires { table < length tables.old }
+    ensures answer { Gives (λ answer. answer) result (Ok (answers.Count changed.count)) }
+    ensures tables { OnOk result (map arc_value tables.new ≡ slice_set (map arc_value tables.old) table (arc_value changed.table)) }
+    ensures err { OnErr result (map arc_value tables.new ≡ map arc_value tables.old) }
+    ensures undone { rolled_back (tx ∷ []) log.new (map arc_value tables.new) ≡ rolled_back (tx ∷ []) log.old (map arc_value tables.old) }
+    ensures others { of_others (tx ∷ []) log.new ≡ of_others (tx ∷ []) log.old }
+{
+    let before = mem::replace(&mut tables[table], changed.table);
+    match log.note(tx, table, before) {
+        Ok(()) => Ok(Answer::Count(changed.count)),
+        Err(refused) => {
+            tables[table] = refused.value;
+            Err(Refusal::Memory)
         }
     }
 }
 
-fn insert_row(
+/// Binds a host variable to what an expression is worth.
+fn set(
     alloc: Global,
-    tables: &mut Vec<Arc<Table>>,
-    table: usize,
-    row: &Row,
+    environment: &mut Environment,
+    variable: &Name,
+    expression: &Expression<PlainValue>,
 ) -> Result<Answer, Refusal<Failure>>
-    requires { Fits (kinds_in (map arc_value tables.old.items)) (PlainStatement.Insert table row.now) }
-    ensures meaning { Gives (λ answer. effect (map arc_value tables.new.items) answer) result
-        (plain_meaning (rows_in (map arc_value tables.old.items)) (PlainStatement.Insert table row.now)) }
-    ensures kinds { kinds_in (map arc_value tables.new.items) ≡ kinds_in (map arc_value tables.old.items) }
-    ensures err { OnErr result (map arc_value tables.new.items ≡ map arc_value tables.old.items) }
+    ensures meaning { (tables : List Relation) → Gives (λ answer. effect tables (environment_of environment.new) answer) result
+        (plain_meaning (rows_in tables) (environment_of environment.old) (PlainStatement.Set variable.now expression.now)) }
+    ensures bound { OnOk result (kinds_bound (environment_of environment.new)
+        ≡ plain_bound_after (kinds_bound (environment_of environment.old)) (PlainStatement.Set variable.now expression.now)) }
 {
-    let changed = inserted(alloc, &tables[table], row)?;
-    tables[table] = changed.table;
-    Ok(Answer::Count(changed.count))
-}
-
-fn select_rows(
-    alloc: Global,
-    tables: &Vec<Arc<Table>>,
-    table: usize,
-    items: &Sequence<PlainOperand>,
-    tests: &Sequence<PlainTest>,
-) -> Result<Answer, Refusal<Failure>>
-    requires { table < length tables.now.items }
-    ensures { Gives (λ answer. effect (map arc_value tables.now.items) answer) result
-        (plain_meaning (rows_in (map arc_value tables.now.items)) (PlainStatement.Select table items.now tests.now)) }
-{
-    let rows = select(alloc, &tables[table], items.as_slice(), tests.as_slice())?;
-    Ok(Answer::Rows(rows))
-}
-
-/// A table after a change, and how many rows the change concerned.
-#[derive(Drop)]
-struct Changed {
-    table: Arc<Table>,
-    count: u64,
-}
-
-fn refused(fault: TableFault) -> Refusal<Failure>
-    ensures { result ≡ refusal_of fault }
-{
-    match fault {
-        TableFault::Memory => Refusal::Memory,
-        TableFault::TableFull => Refusal::Fault(Failure::TableFull),
-    }
-}
-
-/// A table with one row more.
-fn inserted(alloc: Global, table: &Table, row: &Row) -> Result<Changed, Refusal<Failure>>
-    requires { kinds_of row.now ≡ table.now.kinds }
-    ensures rows { Gives (λ changed. (changed.count, (arc_value changed.table).rows)) result (insertion_of table.now.rows row.now) }
-    ensures kinds { IfOk result (λ changed. (arc_value changed.table).kinds ≡ table.now.kinds) }
-{
-    let (count, delta) = match table.insert(alloc, row) {
-        Ok(change) => change,
-        Err(fault) => return Err(refused(fault)),
+    let value = match known_expression(alloc, environment, expression) {
+        Ok(value) => value,
+        Err(fault) => return Err(term_refusal(fault)),
     };
-    match table.apply(alloc, &delta) {
-        Ok(changed) => Ok(Changed {
-            table: Arc::new(alloc, changed)?,
-            count,
-        }),
-        Err(fault) => Err(refused(fault)),
-    }
+    environment.bind(variable.copy(alloc)?, value.copy(alloc)?)?;
+    Ok(Answer::Value(value))
 }

@@ -1,12 +1,12 @@
 pub mod Steps
 pub mod Declared
-pub mod Fitting
 pub mod Names
-pub mod KindsKept
+pub mod Assigning
+pub mod Fitting
 pub mod ByNumber
+pub mod KindsKept
+pub mod Distinct
 pub mod Selecting
+pub mod Changing
 pub mod Same
 pub mod Opened
-pub mod Heads
-pub mod Membership
-pub mod Stands

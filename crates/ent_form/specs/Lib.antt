@@ -1,7 +1,8 @@
 pub mod Fault
 pub mod Catalogue
+pub mod Kinds
+pub mod Bindings
+pub mod Lookup
 pub mod FirstFault
-pub mod AllFaults
-pub mod Standing
 pub mod Plain
 pub mod PlainMeaning

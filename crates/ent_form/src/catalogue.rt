@@ -43,6 +43,19 @@ impl TableSchema {
         }
         None
     }
+
+    /// How many columns stand before the first one of this name: all, where there is none.
+    pub(crate) fn column_number(&self, name: &Name) -> usize
+        ensures { result ≡ index_of (column_names self.now.columns) name.now }
+    {
+        let columns = self.columns.as_slice();
+        for (number, column) in columns.iter().enumerate() {
+            if column.name == *name {
+                return number;
+            }
+        }
+        columns.len()
+    }
 }
 
 impl Catalogue {

@@ -17,11 +17,14 @@ pub enum FormFault {
     /// A row has another number of values than its table has columns; the place is the `(` behind VALUES.
     #[error("E303 at {0}: the number of values isn't the table's")]
     Arity(usize),
-    /// A value isn't of its column's kind, or the two sides of a test are of two kinds; the place is the value, or
-    /// the right side.
+    /// A value isn't of its column's kind, the two sides of a test or of an assignment are of two kinds, or a text
+    /// stands beside `+` or `-`; the place is the value, the right side, or the text.
     #[error("E304 at {0}: this isn't of the kind that is wanted here")]
     WrongKind(usize),
-    /// A table or a column is declared twice; the place is the second name.
+    /// No earlier statement of the script sets this host variable; the place is its `@`.
+    #[error("E306 at {0}: no earlier statement of the script sets this host variable")]
+    NoHostVariable(usize),
+    /// A table or a column is declared twice, or a column is assigned twice in an UPDATE; the place is the second name.
     #[error("E308 at {0}: this stands here a second time")]
     Repeated(usize),
 }
@@ -36,6 +39,7 @@ impl FormFault {
             FormFault::NoColumn(_) => 302,
             FormFault::Arity(_) => 303,
             FormFault::WrongKind(_) => 304,
+            FormFault::NoHostVariable(_) => 306,
             FormFault::Repeated(_) => 308,
         }
     }
@@ -49,6 +53,7 @@ impl FormFault {
             | FormFault::NoColumn(place)
             | FormFault::Arity(place)
             | FormFault::WrongKind(place)
+            | FormFault::NoHostVariable(place)
             | FormFault::Repeated(place) => place,
         }
     }

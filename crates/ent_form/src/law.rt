@@ -1,40 +1,37 @@
 //! Laws of resolving.
-ghost use Rattle.std.specs.Prelude.{◌≡◌, ◌↔◌, ◌<◌, ℕ, List, [], map, length, IfOk, slice_index_or};
-ghost use Rattle.std.specs.List.{AllByRecursion, Contains, IsDistinct};
+ghost use Rattle.std.specs.Prelude.{◌≡◌, ◌<◌, ℕ, List, [], map, length, IfOk, slice_index_or};
+ghost use Rattle.std.specs.List.{AllByRecursion, IsDistinct};
 ghost use Rattle.ent_value.specs.Value.{kinds_of};
 ghost use Rattle.ent_value.specs.declared.value.Kind.{Kind};
 ghost use Rattle.ent_sql.specs.declared.tree.Create.{Create};
 ghost use Rattle.ent_sql.specs.declared.tree.Opening.{Opening};
 ghost use Rattle.ent_sql.specs.declared.tree.Script.{Script};
 ghost use Rattle.ent_sql.specs.declared.tree.Statement.{Statement};
-ghost use Rattle.ent_sql.specs.declared.tree.Statement.TheVariants as statements;
-ghost use Rattle.ent_semantics.specs.Database.{Name, Rows, Environment, same_name, opening_database};
+ghost use Rattle.ent_semantics.specs.Database.{Name, Rows, Environment, same_name, row_of, opening_database};
 ghost use Rattle.ent_semantics.specs.Statement.{statement_meaning};
 ghost use Rattle.ent_form.specs.declared.catalogue.TableSchema.{TableSchema};
 ghost use Rattle.ent_form.specs.declared.plain.PlainStatement.{PlainStatement};
-ghost use Rattle.ent_form.specs.declared.fault.FormFault.{FormFault};
 ghost use Rattle.ent_form.specs.Catalogue.{schemas_of, names_of, index_of};
+ghost use Rattle.ent_form.specs.Kinds.{Bound, none_bound, bound_after};
 ghost use Rattle.ent_form.specs.FirstFault.{declarations_fault, opening_fault, statement_fault, script_fault};
-ghost use Rattle.ent_form.specs.Standing.{IsOpeningFault, IsScriptFault};
-ghost use Rattle.ent_form.specs.AllFaults.{head_of, opening_faults, script_faults};
 ghost use Rattle.ent_form.specs.Plain.{plain_statement, plain_script, rows_named};
-ghost use Rattle.ent_form.specs.PlainMeaning.{Fits, AreOfKinds, schema_kinds, plain_meaning, table_rows, database_of, opening_tables, effect_of};
+ghost use Rattle.ent_form.specs.PlainMeaning.{Fits, AllFit, RowFits, AreOfKinds, schema_kinds, kinds_bound, plain_bound_after, plain_meaning, table_rows, database_of, opening_tables, effect_of};
 
-/// Scripts without a fault name tables that are there, and the rows that they put in have the kinds of their
-/// table's columns.
+/// Scripts without a fault name tables that are there, and the rows and the images that they put in have the kinds of
+/// their table's columns.
 pub fn no_fault_fits()
     ensures { (tables : List TableSchema) (script : Script)
         → script_fault tables script ≡ None
-        → AllByRecursion (Fits (map schema_kinds tables)) (plain_script tables script).statements }
+        → AllFit (map schema_kinds tables) none_bound (plain_script tables script).statements }
 {}
 
-/// Opening rows without a fault fit: each names a table that is declared, and the rows of each table have the kinds
-/// of its columns.
+/// Opening rows without a fault fit: each names a table that is declared and has the kinds of its columns; so the rows
+/// of each table have the kinds of its columns.
 pub fn opening_rows_fit()
     ensures each { (opening : Opening)
         → opening_fault opening ≡ None
         → let schemas = schemas_of opening.tables in
-        AllByRecursion (λ insert. Fits (map schema_kinds schemas) (plain_statement schemas (statements.Insert insert)))
+        AllByRecursion (λ row. RowFits (map schema_kinds schemas) (index_of (names_of schemas) row.table.name) (row_of row))
         opening.rows }
     ensures of_table { (opening : Opening) (table : ℕ)
         → opening_fault opening ≡ None
@@ -70,37 +67,32 @@ pub fn opening_tables_mean_the_same()
         → opening_database opening ≡ database_of (names_of (schemas_of opening.tables)) (opening_tables opening) }
 {}
 
-/// A statement without a fault means what it means resolved, over the same rows under their tables' names.
+/// Over tables that are declared without a fault, a statement without a fault means what it means resolved, over the
+/// same rows under their tables' names.
 pub fn resolved_means_the_same()
-    ensures { (creates : List Create) (tables : List Rows) (environment : Environment) (statement : Statement)
+    ensures { (creates : List Create) (tables : List Rows) (bound : Bound) (environment : Environment) (statement : Statement)
+        → declarations_fault [] creates ≡ None
         → AreOfKinds (map schema_kinds (schemas_of creates)) tables
-        → statement_fault (schemas_of creates) statement ≡ None
+        → statement_fault (schemas_of creates) bound statement ≡ None
         → let names = names_of (schemas_of creates) in
         statement_meaning creates (database_of names tables) environment statement
-        ≡ effect_of names environment (plain_meaning tables (plain_statement (schemas_of creates) statement)) }
+        ≡ effect_of names (plain_meaning tables environment (plain_statement (schemas_of creates) statement)) }
 {}
 
-/// A resolved statement that fits leaves tables whose rows have the kinds of their columns.
+/// A resolved statement that fits leaves tables whose rows have the kinds of their columns; whether it fits or not, the
+/// kinds of the values that are bound after it are those that are known from its text.
 pub fn resolved_keeps_kinds()
-    ensures { (kinds : List (List Kind)) (tables : List Rows) (statement : PlainStatement)
+    ensures tables { (kinds : List (List Kind)) (tables : List Rows) (environment : Environment) (statement : PlainStatement)
         → AreOfKinds kinds tables
-        → Fits kinds statement
-        → IfOk (plain_meaning tables statement) (λ effect. AreOfKinds kinds effect.tables) }
+        → Fits kinds (kinds_bound environment) statement
+        → IfOk (plain_meaning tables environment statement) (λ effect. AreOfKinds kinds effect.tables) }
+    ensures bound { (tables : List Rows) (environment : Environment) (statement : PlainStatement)
+        → IfOk (plain_meaning tables environment statement) (λ effect.
+        kinds_bound effect.environment ≡ plain_bound_after (kinds_bound environment) statement) }
 {}
 
-/// The fault that is answered is the first of all.
-pub fn first_fault_is_first()
-    ensures opening { (opening : Opening) → opening_fault opening ≡ head_of (opening_faults opening) }
-    ensures script { (tables : List TableSchema) (script : Script)
-        → script_fault tables script ≡ head_of (script_faults tables script) }
-{}
-
-/// The faults that are counted are those that stand in the input, each where it stands: a name that is declared a
-/// second time; a table or a column that isn't there; a row with another number of values than its table has
-/// columns, or a value of another kind than its column; a test of two kinds.
-pub fn faults_are_those_that_stand()
-    ensures opening { (opening : Opening) (fault : FormFault)
-        → (Contains (opening_faults opening) fault ↔ IsOpeningFault opening fault) }
-    ensures script { (tables : List TableSchema) (script : Script) (fault : FormFault)
-        → (Contains (script_faults tables script) fault ↔ IsScriptFault tables script fault) }
+/// A statement binds the same host variables to values of the same kinds as it does resolved.
+pub fn resolved_binds_the_same()
+    ensures { (tables : List TableSchema) (bound : Bound) (statement : Statement)
+        → plain_bound_after bound (plain_statement tables statement) ≡ bound_after bound statement }
 {}

@@ -1,81 +1,141 @@
-//! Operands, tests and items resolved against the columns of a table.
+//! The parts of statements, resolved against the columns of a table.
 ghost use Rattle.std.specs.Prelude.{◌≡◌, IfOk, map};
-ghost use Rattle.ent_value.specs.Refusal.{Gives};
 ghost use Rattle.ent_form.specs.Catalogue.{column_names};
-ghost use Rattle.ent_form.specs.FirstFault.{operand_place, operand_kind, operand_fault, test_fault, first_of, items_fault, unless};
-ghost use Rattle.ent_form.specs.Plain.{plain_operand, plain_test, columns_from, plain_items};
+ghost use Rattle.ent_form.specs.Plain.{plain_known, plain_operand, plain_expression, assigned, image_from, plain_test, columns_from, plain_items};
 
 use crate::catalogue::TableSchema;
-use crate::fault::FormFault;
-use crate::plain::{PlainOperand, PlainTest};
-use crate::row::same_kind;
-use ent_sql::{Items, Operand, Test};
-use ent_value::{Kind, Refusal, Sequence};
+use crate::plain::{PlainOperand, PlainTest, PlainValue};
+use ent_sql::{Assignment, Expression, Items, Operand, Test, ValueSpecification};
+use ent_value::Sequence;
 use std::alloc::{AllocError, Global};
 
-fn place_of(operand: &Operand) -> usize
-    ensures { result ≡ operand_place operand.now }
+fn plain_value(alloc: Global, value: &ValueSpecification) -> Result<PlainValue, AllocError>
+    ensures { IfOk result (λ plain. plain ≡ plain_known value.now) }
 {
-    match operand {
-        Operand::Constant(literal) => literal.place,
-        Operand::Column(column) => column.place,
-    }
+    Ok(match value {
+        ValueSpecification::Literal(literal) => PlainValue::Constant(literal.value.copy(alloc)?),
+        ValueSpecification::HostVariable(variable) => {
+            PlainValue::HostVariable(variable.name.copy(alloc)?)
+        }
+    })
 }
 
-/// An operand with its column looked up, and its kind.
+pub(crate) fn plain_values(
+    alloc: Global,
+    values: &[ValueSpecification],
+) -> Result<Sequence<PlainValue>, AllocError>
+    ensures { IfOk result (λ plain. plain ≡ map plain_known values.now) }
+{
+    let mut plain = Vec::with_capacity(alloc, values.len())?;
+    for value in values {
+        plain.push(plain_value(alloc, value)?)?;
+    }
+    Ok(Sequence::from_vec(plain))
+}
+
+/// The right side of a SET.
+pub(crate) fn value_expression(
+    alloc: Global,
+    expression: &Expression<ValueSpecification>,
+) -> Result<Expression<PlainValue>, AllocError>
+    ensures { IfOk result (λ plain. plain ≡ plain_expression plain_known expression.now) }
+{
+    Ok(match expression {
+        Expression::Single(term) => Expression::Single(plain_value(alloc, term)?),
+        Expression::Sum(left, right) => {
+            Expression::Sum(plain_value(alloc, left)?, plain_value(alloc, right)?)
+        }
+        Expression::Difference(left, right) => {
+            Expression::Difference(plain_value(alloc, left)?, plain_value(alloc, right)?)
+        }
+    })
+}
+
+/// An operand with its column's number in place of its name.
 fn plain_operand(
     alloc: Global,
     table: &TableSchema,
     operand: &Operand,
-) -> Result<(PlainOperand, Kind), Refusal<FormFault>>
-    ensures operand { Gives (λ found. found.0) result
-        (unless (operand_fault table.now.columns operand.now)
-        (plain_operand (column_names table.now.columns) operand.now)) }
-    ensures kind { IfOk result (λ found. operand_kind table.now.columns operand.now ≡ Some found.1) }
+) -> Result<PlainOperand, AllocError>
+    ensures { IfOk result (λ plain. plain ≡ plain_operand (column_names table.now.columns) operand.now) }
 {
-    match operand {
-        Operand::Constant(literal) => Ok((
-            PlainOperand::Constant(literal.value.copy(alloc)?),
-            literal.value.kind(),
-        )),
-        Operand::Column(column) => match table.column_named(&column.name) {
-            Some((number, kind)) => Ok((PlainOperand::Column(number), kind)),
-            None => Err(Refusal::Fault(FormFault::NoColumn(column.place))),
-        },
-    }
-}
-
-/// A test with both sides looked up before their kinds are compared.
-fn plain_test(
-    alloc: Global,
-    table: &TableSchema,
-    test: &Test,
-) -> Result<PlainTest, Refusal<FormFault>>
-    ensures { Gives (λ plain. plain) result
-        (unless (test_fault table.now.columns test.now)
-        (plain_test (column_names table.now.columns) test.now)) }
-{
-    let (left, left_kind) = plain_operand(alloc, table, &test.left)?;
-    let (right, right_kind) = plain_operand(alloc, table, &test.right)?;
-    if !same_kind(left_kind, right_kind) {
-        return Err(Refusal::Fault(FormFault::WrongKind(place_of(&test.right))));
-    }
-    Ok(PlainTest {
-        left,
-        comparison: test.comparison,
-        right,
+    Ok(match operand {
+        Operand::Value(value) => PlainOperand::Value(plain_value(alloc, value)?),
+        Operand::Column(column) => PlainOperand::Column(table.column_number(&column.name)),
     })
 }
 
-/// Every test of a WHERE, from left to right.
+/// The right side of an assignment.
+fn operand_expression(
+    alloc: Global,
+    table: &TableSchema,
+    expression: &Expression<Operand>,
+) -> Result<Expression<PlainOperand>, AllocError>
+    ensures { IfOk result (λ plain. plain ≡ plain_expression (plain_operand (column_names table.now.columns)) expression.now) }
+{
+    Ok(match expression {
+        Expression::Single(term) => Expression::Single(plain_operand(alloc, table, term)?),
+        Expression::Sum(left, right) => Expression::Sum(
+            plain_operand(alloc, table, left)?,
+            plain_operand(alloc, table, right)?,
+        ),
+        Expression::Difference(left, right) => Expression::Difference(
+            plain_operand(alloc, table, left)?,
+            plain_operand(alloc, table, right)?,
+        ),
+    })
+}
+
+/// The expression that the column of this number gets: itself, where no assignment is to it.
+fn assigned(
+    alloc: Global,
+    table: &TableSchema,
+    assignments: &[Assignment],
+    number: usize,
+) -> Result<Expression<PlainOperand>, AllocError>
+    ensures { IfOk result (λ plain. plain ≡ assigned (column_names table.now.columns) assignments.now number) }
+{
+    for assignment in assignments {
+        if table.column_number(&assignment.column.name) == number {
+            return operand_expression(alloc, table, &assignment.expression);
+        }
+    }
+    Ok(Expression::Single(PlainOperand::Column(number)))
+}
+
+/// The expressions of all columns of a table, in order.
+pub(crate) fn image(
+    alloc: Global,
+    table: &TableSchema,
+    assignments: &[Assignment],
+) -> Result<Sequence<Expression<PlainOperand>>, AllocError>
+    ensures { IfOk result (λ image. let names = column_names table.now.columns in image ≡ image_from names assignments.now 0 names) }
+{
+    let count = table.columns.len();
+    let mut image = Vec::with_capacity(alloc, count)?;
+    for number in 0..count {
+        image.push(assigned(alloc, table, assignments, number)?)?;
+    }
+    Ok(Sequence::from_vec(image))
+}
+
+fn plain_test(alloc: Global, table: &TableSchema, test: &Test) -> Result<PlainTest, AllocError>
+    ensures { IfOk result (λ plain. plain ≡ plain_test (column_names table.now.columns) test.now) }
+{
+    Ok(PlainTest {
+        left: plain_operand(alloc, table, &test.left)?,
+        comparison: test.comparison,
+        right: plain_operand(alloc, table, &test.right)?,
+    })
+}
+
+/// Every test of a WHERE.
 pub(crate) fn plain_tests(
     alloc: Global,
     table: &TableSchema,
     tests: &[Test],
-) -> Result<Sequence<PlainTest>, Refusal<FormFault>>
-    ensures { Gives (λ plain. plain) result
-        (unless (first_of (test_fault table.now.columns) tests.now)
-        (map (plain_test (column_names table.now.columns)) tests.now)) }
+) -> Result<Sequence<PlainTest>, AllocError>
+    ensures { IfOk result (λ plain. plain ≡ map (plain_test (column_names table.now.columns)) tests.now) }
 {
     let mut plain = Vec::with_capacity(alloc, tests.len())?;
     for test in tests {
@@ -84,20 +144,16 @@ pub(crate) fn plain_tests(
     Ok(Sequence::from_vec(plain))
 }
 
-/// Operands from left to right.
 fn plain_operands(
     alloc: Global,
     table: &TableSchema,
     operands: &[Operand],
-) -> Result<Sequence<PlainOperand>, Refusal<FormFault>>
-    ensures { Gives (λ plain. plain) result
-        (unless (first_of (operand_fault table.now.columns) operands.now)
-        (map (plain_operand (column_names table.now.columns)) operands.now)) }
+) -> Result<Sequence<PlainOperand>, AllocError>
+    ensures { IfOk result (λ plain. plain ≡ map (plain_operand (column_names table.now.columns)) operands.now) }
 {
     let mut plain = Vec::with_capacity(alloc, operands.len())?;
     for operand in operands {
-        let (operand, _) = plain_operand(alloc, table, operand)?;
-        plain.push(operand)?;
+        plain.push(plain_operand(alloc, table, operand)?)?;
     }
     Ok(Sequence::from_vec(plain))
 }
@@ -117,13 +173,11 @@ pub(crate) fn plain_items(
     alloc: Global,
     table: &TableSchema,
     items: &Items,
-) -> Result<Sequence<PlainOperand>, Refusal<FormFault>>
-    ensures { Gives (λ plain. plain) result
-        (unless (items_fault table.now.columns items.now)
-        (plain_items (column_names table.now.columns) items.now)) }
+) -> Result<Sequence<PlainOperand>, AllocError>
+    ensures { IfOk result (λ plain. plain ≡ plain_items (column_names table.now.columns) items.now) }
 {
     match items {
-        Items::All => Ok(every_column(alloc, table)?),
+        Items::All => every_column(alloc, table),
         Items::Listed(listed) => plain_operands(alloc, table, listed.as_slice()),
     }
 }

@@ -1,11 +1,19 @@
-//! Statements with each name resolved: tables by their number in the catalogue, columns by their number in the row.
-use ent_sql::Comparison;
-use ent_value::{Row, Sequence, Value};
+//! Statements with each name of a table or a column resolved: tables by their number in the catalogue, columns by their
+//! number in the row. Host variables keep their names.
+use ent_sql::{Comparison, End, Expression};
+use ent_value::{Name, Sequence, Value};
 
-/// A value, or the column of this number, counted from 0.
+/// A value, or that of the host variable of this name.
+#[derive(Drop)]
+pub enum PlainValue {
+    Constant(Value),
+    HostVariable(Name),
+}
+
+/// A value that is known before any row is read, or the column of this number, counted from 0.
 #[derive(Drop)]
 pub enum PlainOperand {
-    Constant(Value),
+    Value(PlainValue),
     Column(usize),
 }
 
@@ -21,7 +29,21 @@ pub struct PlainTest {
 pub enum PlainStatement {
     Insert {
         table: usize,
-        row: Row,
+        values: Sequence<PlainValue>,
+    },
+    Delete {
+        table: usize,
+        tests: Sequence<PlainTest>,
+    },
+    /// An image is an expression for each column, in order; a column that isn't assigned is its own.
+    Update {
+        table: usize,
+        image: Sequence<Expression<PlainOperand>>,
+        tests: Sequence<PlainTest>,
+    },
+    Set {
+        variable: Name,
+        expression: Expression<PlainValue>,
     },
     Select {
         table: usize,
@@ -34,4 +56,5 @@ pub enum PlainStatement {
 #[derive(Drop)]
 pub struct Plain {
     pub statements: Sequence<PlainStatement>,
+    pub end: End,
 }

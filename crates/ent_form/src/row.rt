@@ -2,12 +2,13 @@
 ghost use Rattle.std.specs.Prelude.{◌≡◌, ◌<◌, [], IfOk, length, slice_index_or};
 ghost use Rattle.ent_semantics.specs.Database.{row_of};
 ghost use Rattle.ent_form.specs.Catalogue.{names_of};
-ghost use Rattle.ent_form.specs.FirstFault.{same_kind, values_fault, insert_fault, first_of, row_fault};
+ghost use Rattle.ent_form.specs.FirstFault.{literals_fault, row_fault, opening_row_fault, first_of};
+ghost use Rattle.ent_form.specs.Kinds.{same_kind};
 ghost use Rattle.ent_form.specs.Plain.{rows_named};
 
 use crate::catalogue::{Catalogue, ColumnSchema, TableSchema};
 use crate::fault::FormFault;
-use ent_sql::{Insert, Literal, Opening};
+use ent_sql::{Literal, Opening, OpeningRow};
 use ent_value::{Kind, Row};
 use std::alloc::{AllocError, Global};
 
@@ -17,9 +18,9 @@ pub(crate) fn same_kind(left: Kind, right: Kind) -> bool
     left == right
 }
 
-/// The first value that isn't of its column's kind.
-fn values_fault(columns: &[ColumnSchema], literals: &[Literal]) -> Option<FormFault>
-    ensures { result ≡ values_fault columns.now literals.now }
+/// The first literal that isn't of its column's kind.
+fn literals_fault(columns: &[ColumnSchema], literals: &[Literal]) -> Option<FormFault>
+    ensures { result ≡ literals_fault columns.now literals.now }
 {
     for (column, literal) in columns.iter().zip(literals) {
         if !same_kind(column.kind, literal.value.kind()) {
@@ -31,42 +32,43 @@ fn values_fault(columns: &[ColumnSchema], literals: &[Literal]) -> Option<FormFa
 
 /// What keeps a row out of a table: the number of its values, else the first value of another kind than its
 /// column.
-pub(crate) fn row_fault(table: &TableSchema, insert: &Insert) -> Option<FormFault>
-    ensures { result ≡ row_fault table.now insert.now }
+fn row_fault(table: &TableSchema, row: &OpeningRow) -> Option<FormFault>
+    ensures { result ≡ row_fault table.now row.now }
 {
-    if insert.values.len() != table.columns.len() {
-        return Some(FormFault::Arity(insert.place));
+    if row.values.len() != table.columns.len() {
+        return Some(FormFault::Arity(row.place));
     }
-    values_fault(table.columns.as_slice(), insert.values.as_slice())
+    literals_fault(table.columns.as_slice(), row.values.as_slice())
 }
 
-fn insert_fault(catalogue: &Catalogue, insert: &Insert) -> Option<FormFault>
-    ensures { result ≡ insert_fault catalogue.now.tables insert.now }
+/// What keeps an opening row out: its table, else what keeps it out of that table.
+fn opening_row_fault(catalogue: &Catalogue, row: &OpeningRow) -> Option<FormFault>
+    ensures { result ≡ opening_row_fault catalogue.now.tables row.now }
 {
-    match catalogue.table_named(&insert.table.name) {
-        Some((_, table)) => row_fault(table, insert),
-        None => Some(FormFault::NoTable(insert.table.place)),
+    match catalogue.table_named(&row.table.name) {
+        Some((_, table)) => row_fault(table, row),
+        None => Some(FormFault::NoTable(row.table.place)),
     }
 }
 
 /// The first fault of opening rows, from left to right.
-pub(crate) fn rows_fault(catalogue: &Catalogue, rows: &[Insert]) -> Option<FormFault>
-    ensures { result ≡ first_of (insert_fault catalogue.now.tables) rows.now }
+pub(crate) fn rows_fault(catalogue: &Catalogue, rows: &[OpeningRow]) -> Option<FormFault>
+    ensures { result ≡ first_of (opening_row_fault catalogue.now.tables) rows.now }
 {
-    for insert in rows {
-        if let Some(fault) = insert_fault(catalogue, insert) {
+    for row in rows {
+        if let Some(fault) = opening_row_fault(catalogue, row) {
             return Some(fault);
         }
     }
     None
 }
 
-/// The row that the values of an INSERT make.
-pub(crate) fn row_of(alloc: Global, insert: &Insert) -> Result<Row, AllocError>
-    ensures { IfOk result (λ row. row ≡ row_of insert.now) }
+/// The row that the literals of an opening row make.
+fn row_of(alloc: Global, row: &OpeningRow) -> Result<Row, AllocError>
+    ensures { IfOk result (λ made. made ≡ row_of row.now) }
 {
-    let mut values = Vec::with_capacity(alloc, insert.values.len())?;
-    for literal in insert.values.as_slice() {
+    let mut values = Vec::with_capacity(alloc, row.values.len())?;
+    for literal in row.values.as_slice() {
         values.push(literal.value.copy(alloc)?)?;
     }
     Ok(Row::from_vec(values))
@@ -85,9 +87,9 @@ pub fn opening_rows(
 {
     let name = &catalogue.tables.as_slice()[table].name;
     let mut rows = Vec::new(alloc);
-    for insert in opening.rows.as_slice() {
-        if insert.table.name == *name {
-            rows.push(row_of(alloc, insert)?)?;
+    for row in opening.rows.as_slice() {
+        if row.table.name == *name {
+            rows.push(row_of(alloc, row)?)?;
         }
     }
     Ok(rows)

@@ -23,10 +23,10 @@ struct Outcome {
 fn main(rt: HostRuntime) -> Result<()> {
     let rows = check_rows(&rt)?;
     println!(rt; "{rows} rows")?;
-    for name in ["first", "flights", "orders"] {
+    for name in ["first", "flights", "orders", "theatre"] {
         check_example(&rt, name)?;
     }
-    println!(rt; "3 examples")?;
+    println!(rt; "4 examples")?;
     check_longest(rt.alloc())?;
     println!(rt; "the longest input, and one byte more")?;
     check_failing_streams(rt.alloc())?;

@@ -1,4 +1,6 @@
 pub mod Database
+pub mod Term
 pub mod Selection
+pub mod Change
 pub mod Statement
 pub mod Serial

@@ -5,6 +5,8 @@ use Rattle.ent_value.specs.declared.value.Value.{Value}
 use Rattle.ent_sql.specs.declared.tree.Create.{Create}
 use Rattle.ent_sql.specs.declared.tree.Statement.{Statement}
 use Rattle.ent_sql.specs.declared.tree.Script.{Script}
+use Rattle.ent_sql.specs.declared.tree.End.{End}
+use Rattle.ent_sql.specs.declared.tree.End.TheVariants.{Commit, Rollback}
 use Rattle.ent_semantics.specs.declared.answer.Answer.{Answer}
 use Rattle.ent_semantics.specs.declared.answer.Failure.{Failure}
 use Rattle.ent_semantics.specs.Database.{Name, Database, Environment, nothing_bound}
@@ -34,9 +36,14 @@ statements_run declared [] database environment (valuation ∷ oracle) = None
 statements_run declared (statement ∷ more) database environment oracle =
     after (statement_meaning declared database environment statement) (λ database environment. statements_run declared more database environment oracle)
 
+-- COMMIT keeps what was run; ROLLBACK gives nothing
+abbrev pub ended : End → Option Run → Option Run
+ended Commit run = run
+ended Rollback run = None
+
 -- a script from a database, nothing bound yet
 abbrev pub script_run : List Create → Script → Database → List Valuation → Option Run
-script_run declared script database oracle = statements_run declared script.statements database nothing_bound oracle
+script_run declared script database oracle = ended script.end (statements_run declared script.statements database nothing_bound oracle)
 
 -- the database that scripts leave, and the answers of each
 pub record Runs : Type 0 where

@@ -1,7 +1,6 @@
 -- What one ordinary statement does: from a database and an environment to those after it and an answer, or a failure.
-use Rattle.std.specs.Prelude.{ℕ, List, [], ◌∷◌, Result, Ok, Err, nat_le, if◌then◌else◌}
+use Rattle.std.specs.Prelude.{ℕ, List, [], ◌∷◌, map, Option, Some, None, Result, Ok, Err, nat_le, if◌then◌else◌}
 use Rattle.ent_set.specs.Sets as set
-use Rattle.ent_value.specs.declared.value.Value.{Value}
 use Rattle.ent_sql.specs.declared.tree.Create.{Create}
 use Rattle.ent_sql.specs.declared.tree.Select.{Select}
 use Rattle.ent_sql.specs.declared.tree.Statement.{Statement}
@@ -9,9 +8,11 @@ use Rattle.ent_sql.specs.declared.tree.Statement.TheVariants as statements
 use Rattle.ent_semantics.specs.declared.answer.Answer.{Answer}
 use Rattle.ent_semantics.specs.declared.answer.Answer.TheVariants as answers
 use Rattle.ent_semantics.specs.declared.answer.Failure.{Failure}
-use Rattle.ent_semantics.specs.declared.answer.Failure.TheVariants.{TableFull}
-use Rattle.ent_semantics.specs.Database.{Name, Rows, Database, Environment, with_rows, columns_of, row_of}
+use Rattle.ent_semantics.specs.declared.answer.Failure.TheVariants.{Overflow, TableFull}
+use Rattle.ent_semantics.specs.Database.{Name, Rows, Database, Environment, with_rows, with_value, columns_of}
+use Rattle.ent_semantics.specs.Term.{known_value, expression_value}
 use Rattle.ent_semantics.specs.Selection.{Source, selection}
+use Rattle.ent_semantics.specs.Change.{matched, unmatched, updated}
 
 -- what a statement leaves and answers
 pub record Effect : Type 0 where
@@ -35,13 +36,37 @@ abbrev pub sources_of : List Create → Database → Select → List Source
 sources_of declared database select =
     record { name = select.source.name; columns = columns_of declared select.source.name; rows = database select.source.name } ∷ []
 
+-- goes on with what is there; what is beyond 64 bits is a failure
+abbrev pub or_overflow : {A B : Type 0} → Option A → (A → Result B Failure) → Result B Failure
+or_overflow (Some x) more = more x
+or_overflow None more = Err Overflow
+
+-- An INSERT is the union with one row. A DELETE keeps the rows that don't match. An UPDATE puts its image in the place of
+-- each row that matches; a sum beyond 64 bits comes before a full table. A SET binds its host variable.
 abbrev pub statement_meaning : List Create → Database → Environment → Statement → Result Effect Failure
 statement_meaning declared database environment (statements.Insert insert) =
     let rows = database insert.table.name in
-    changed database environment insert.table.name (if set.contains rows (row_of insert) then 0 else 1) (set.insert rows (row_of insert))
+    let row = map (known_value environment) insert.values in
+    changed database environment insert.table.name (if set.contains rows row then 0 else 1) (set.insert rows row)
+statement_meaning declared database environment (statements.Delete delete) =
+    let rows = database delete.table.name in
+    let columns = columns_of declared delete.table.name in
+    Ok (record {
+      database = with_rows database delete.table.name (unmatched environment delete.table.name columns delete.tests rows);
+      environment = environment;
+      answer = answers.Count (set.len (matched environment delete.table.name columns delete.tests rows));
+    })
+statement_meaning declared database environment (statements.Update update) =
+    let rows = database update.table.name in
+    let columns = columns_of declared update.table.name in
+    or_overflow (updated environment update.table.name columns update.assignments update.tests rows) (λ after.
+    changed database environment update.table.name (set.len (matched environment update.table.name columns update.tests rows)) after)
+statement_meaning declared database environment (statements.Set setting) =
+    or_overflow (expression_value (known_value environment) setting.expression) (λ value.
+    Ok (record { database = database; environment = with_value environment setting.variable.name value; answer = answers.Value value }))
 statement_meaning declared database environment (statements.Select select) =
     Ok (record {
       database = database;
       environment = environment;
-      answer = answers.Rows (set.ascending (selection select.items select.tests (sources_of declared database select)));
+      answer = answers.Rows (set.ascending (selection environment select.items select.tests (sources_of declared database select)));
     })

@@ -1,11 +1,13 @@
 //! What statements answer.
-use ent_value::{Row, Sequence};
+use ent_value::{Row, Sequence, Value};
 
 /// What a statement answers.
 #[derive(Drop)]
 pub enum Answer {
-    /// How many rows an INSERT put in.
+    /// How many rows an INSERT put in, or a DELETE or an UPDATE concerned.
     Count(u64),
+    /// What a SET bound its host variable to.
+    Value(Value),
     /// The rows of a SELECT, ascending.
     Rows(Sequence<Row>),
 }

@@ -17,17 +17,22 @@ use Rattle.ent_sql.specs.declared.tree.Input.{Input}
 use Rattle.ent_value.specs.declared.value.Kind.TheVariants as sorts
 use Rattle.ent_value.specs.declared.value.Value.TheVariants as values
 use Rattle.ent_text.specs.Numeral.{negative_of}
+use Rattle.ent_sql.specs.declared.tree.Identifier.{Identifier}
+use Rattle.ent_sql.specs.declared.tree.ValueSpecification.TheVariants as specifications
+use Rattle.ent_sql.specs.declared.tree.Expression.TheVariants.{Single, Sum, Difference}
 use Rattle.ent_sql.specs.declared.tree.Operand.TheVariants as operands
 use Rattle.ent_sql.specs.declared.tree.Items.TheVariants.{All, Listed}
+use Rattle.ent_sql.specs.declared.tree.Statement.{Statement}
 use Rattle.ent_sql.specs.declared.tree.Statement.TheVariants as statements
+use Rattle.ent_sql.specs.declared.tree.End.TheVariants as ends
 use Rattle.ent_sql.specs.declared.tree.Comparison.TheVariants as comparisons
 use Rattle.ent_sql.specs.Front.{Read, place_of, begins, is_word, is_sign, is_name, word_at, sign_at, name_at, name_from}
 use Rattle.ent_sql.specs.List.{joined, more_at, listed_at, many_at}
-use Rattle.ent_sql.specs.Grammar.{is_comma, is_and, is_literal, is_operand, is_statement, is_create, is_insert, is_begin, kind_at, column_at, create_at, negative_from, negative_at, literal_from, literal_at, insert_at, operand_at, comparison_from, comparison_at, test_at, items_at, tests_at, select_at, statement_at, script_at, input_of}
+use Rattle.ent_sql.specs.Grammar.{is_comma, is_and, is_literal, is_variable, is_value, is_operand, is_statement, is_create, is_insert, is_begin, kind_at, column_at, create_at, negative_from, negative_at, literal_from, literal_at, row_at, opening_row_at, variable_from, variable_at, value_at, insert_at, operand_at, comparison_from, comparison_at, test_at, items_at, tests_at, select_at, expression_behind, expression_at, delete_at, assignment_at, update_at, set_at, statement_at, end_at, script_at, input_of}
 use Rattle.ent_sql.specs.Spelling as spelled
 use Rattle.ent_sql.specs.Spelling.{Phrase, ◌⨾◌, Standing, single}
 use Rattle.ent_sql.proofs.Tokens.{word_is, sign_is}
-use Rattle.ent_sql.specs.Limits.{AtMost, FewColumns, FewValues, FewItems, FewParts, IsShort, FewStatements, WithinLimits}
+use Rattle.ent_sql.specs.Limits.{AtMost, FewColumns, FewLiterals, FewValues, FewItems, FewParts, FewTests, FewAssignments, IsShort, FewStatements, WithinLimits}
 use Rattle.ent_sql.specs.FirstFault.{AtMostADivider}
 use Rattle.ent_sql.proofs.Steady.{Language, both, full_steady, Steady, Head, Opening, steady_also, steady_along, steady_then, ok_steady, heads_steady, either_steady, behind_steady, unexpected_steady, limit_steady}
 
@@ -64,6 +69,11 @@ alone kind t e = (t.start, standing kind t e)
 in_front : {phrase : Phrase} (kind : TokenKind) (t : Token) (us : List Token) → t.kind ≡ kind → phrase us → (single kind ⨾ phrase) (t ∷ us)
 in_front kind t us e h = record { front = t ∷ []; back = us; whole = refl; first = alone kind t e; second = h }
 
+-- a thing that begins with this word
+opening_from : {A : Type 0} {of : A → Phrase} {fits : A → Type 0} {rest : Phrase} (w : Keyword) (sample : List Token) → ((ts : List Token) → (spelled.word w ⨾ rest) ts → sized of fits false ts) → (spelled.word w ⨾ rest) sample
+    → (t : Token) → is_word w t.kind ≡ true → Opening (some of) t
+opening_from w sample language h t is = let k = language (t ∷ h.back) (in_front (kinds.Word w) t h.back (word_is w t.kind is) h.second) in (h.back, (k.0, k.1))
+
 -- ---- single tokens
 
 word_head : {A : Type 0} {rest : Language} (w : Keyword) (next : ℕ → List Token → Read A) → Steady rest next → (t : Token) (b : Bool) → is_word w t.kind ≡ b → Head (both (λ kept. spelled.word w) rest) (λ e us. word_at w e us >>= next e) t
@@ -98,6 +108,7 @@ sign_steady s next h = placed_steady s (λ place. next) (λ place. h)
 name_head : (t : Token) (k : TokenKind) → t.kind ≡ k → Steady (λ kept us. some spelled.name (t ∷ us)) (λ e us. name_from k t.start us) ⊎ ((e : ℕ) (us : List Token) → name_from k t.start us ≡ Err (Unexpected t.start))
 name_head t (kinds.Name n) is = inl (steady_also (λ kept us e. subst (λ (vs : List Token). some spelled.name (t ∷ vs)) (sym e) (record { name = n; place = t.start }, standing (kinds.Name n) t is)) (ok_steady (record { name = n; place = t.start })))
 name_head t (kinds.Word n) is = inr (λ e us. refl)
+name_head t (kinds.HostVariable n) is = inr (λ e us. refl)
 name_head t (kinds.Number n) is = inr (λ e us. refl)
 name_head t (kinds.Literal n) is = inr (λ e us. refl)
 name_head t (kinds.Sign n) is = inr (λ e us. refl)
@@ -218,6 +229,7 @@ column_steady = steady_also column_language (steady_then name_at (λ e n. kind_a
 name_opening_of : (t : Token) (k : TokenKind) → t.kind ≡ k → is_name k ≡ true → some spelled.name (t ∷ [])
 name_opening_of t (kinds.Name n) e is = (record { name = n; place = t.start }, standing (kinds.Name n) t e)
 name_opening_of t (kinds.Word n) e is = absurd cc
+name_opening_of t (kinds.HostVariable n) e is = absurd cc
 name_opening_of t (kinds.Number n) e is = absurd cc
 name_opening_of t (kinds.Literal n) e is = absurd cc
 name_opening_of t (kinds.Sign n) e is = absurd cc
@@ -247,9 +259,7 @@ pub create_steady : Steady (sized spelled.create FewColumns) create_at
 create_steady = steady_also create_language create_chain
 
 pub create_opening : (t : Token) → is_create t.kind ≡ true → Opening (some spelled.create) t
-create_opening t is = let h : CreateTokens false create_chain.sample = create_chain.in_language false in
-    let k = create_language false (t ∷ h.back) (in_front (kinds.Word words.Create) t h.back (word_is words.Create t.kind is) h.second) in
-    (h.back, (k.0, k.1))
+create_opening t is = opening_from words.Create create_chain.sample (create_language false) (create_chain.in_language false) t is
 
 -- ---- literals and rows
 
@@ -264,6 +274,7 @@ negative_head t u (kinds.Number n) is also_is =
     (ok_steady (record { value = values.Int (negative_of n); place = t.start })))
 negative_head t u (kinds.Word n) is also_is = inr (λ e us. refl)
 negative_head t u (kinds.Name n) is also_is = inr (λ e us. refl)
+negative_head t u (kinds.HostVariable n) is also_is = inr (λ e us. refl)
 negative_head t u (kinds.Literal n) is also_is = inr (λ e us. refl)
 negative_head t u (kinds.Sign n) is also_is = inr (λ e us. refl)
 
@@ -303,51 +314,117 @@ literal_opening_of t _ e is = absurd cc
 literal_opening : (t : Token) → is_literal t.kind ≡ true → Opening (some spelled.literal) t
 literal_opening t is = literal_opening_of t t.kind refl is
 
-abbrev InsertTokens : Language
-InsertTokens kept = spelled.word words.Insert ⨾ spelled.word words.Into ⨾ some spelled.name ⨾ spelled.word words.Values ⨾ spelled.sign signs.Open ⨾ sized (spelled.listed spelled.comma spelled.literal) (λ xs. length xs ≤ 16) kept ⨾ spelled.sign signs.Close ⨾ spelled.sign signs.Semicolon ⨾ spelled.nothing
+abbrev row_of : {A : Type 0} → (A → Phrase) → Identifier × ℕ × List A → Phrase
+row_of of r = spelled.row of r.0 r.1 r.2
 
-insert_chain : Steady InsertTokens insert_at
-unfolding insert_at
-insert_chain =
-    word_steady words.Insert _ (word_steady words.Into _ (steady_then name_at _ name_steady (λ n. word_steady words.Values _ (
-    placed_steady signs.Open (λ place e us. listed_at is_comma is_literal literal_at e 16 us >>= λ vs. sign_at signs.Close e vs.1 >>= λ us. sign_at signs.Semicolon e us >>= λ us. Ok (record { table = n; place = place; values = vs.0 }, us)) (λ place.
-    steady_then (λ e us. listed_at is_comma is_literal literal_at e 16 us) _ (listed_steady is_comma is_literal (kinds.Sign signs.Comma) (sign_is signs.Comma) comma_may (no_divider_of _ refl refl) spelled.literal literal_at literal_opening literal_steady 16 (omega arith)) (λ vs.
-    sign_steady signs.Close _ (sign_steady signs.Semicolon _ (ok_steady (record { table = n; place = place; values = vs })))))))))
+abbrev FewInRow : {A : Type 0} → Identifier × ℕ × List A → Type 0
+FewInRow r = length r.2 ≤ 16
 
-insert_language : (kept : Bool) (ts : List Token) → InsertTokens kept ts → sized spelled.insert FewValues kept ts
-insert_language kept ts h =
-    let h1 = h.second in let h2 = h1.second in let h3 = h2.second in let h4 = h3.second in let h5 = h4.second in let h6 = h5.second in
-    (record { table = h2.first.0; place = h4.first.0; values = h5.first.0 }, part h h.first (part h1 h1.first (part h2 h2.first.1 (part h3 h3.first (part h4 h4.first.1 (part h5 h5.first.1 (part h6 h6.first (last_of h6.second))))))), h5.first.2)
+module _ {A : Type 0} (starts : TokenKind → Bool) (plain : (t : Token) → starts t.kind ≡ true → AtMostADivider (t ∷ []) → ⊥) (of : A → Phrase) (part_at : ℕ → List Token → Read A)
+    (opening : (t : Token) → starts t.kind ≡ true → Opening (some of) t) (each : Steady (free of) part_at) where
+  abbrev RowTokens : Language
+  RowTokens kept = spelled.word words.Insert ⨾ spelled.word words.Into ⨾ some spelled.name ⨾ spelled.word words.Values ⨾ spelled.sign signs.Open ⨾ sized (spelled.listed spelled.comma of) (λ xs. length xs ≤ 16) kept ⨾ spelled.sign signs.Close ⨾ spelled.sign signs.Semicolon ⨾ spelled.nothing
+
+  row_chain : Steady RowTokens (λ e us. row_at is_comma starts part_at e us)
+  unfolding row_at
+  row_chain =
+      word_steady words.Insert _ (word_steady words.Into _ (steady_then name_at _ name_steady (λ n. word_steady words.Values _ (
+      placed_steady signs.Open (λ place e us. listed_at is_comma starts part_at e 16 us >>= λ vs. sign_at signs.Close e vs.1 >>= λ us. sign_at signs.Semicolon e us >>= λ us. Ok ((n, place, vs.0), us)) (λ place.
+      steady_then (λ e us. listed_at is_comma starts part_at e 16 us) _ (listed_steady is_comma starts (kinds.Sign signs.Comma) (sign_is signs.Comma) comma_may plain of part_at opening each 16 (omega arith)) (λ vs.
+      sign_steady signs.Close _ (sign_steady signs.Semicolon _ (ok_steady (n, place, vs)))))))))
+
+  row_language : (kept : Bool) (ts : List Token) → RowTokens kept ts → sized (row_of of) FewInRow kept ts
+  row_language kept ts h =
+      let h1 = h.second in let h2 = h1.second in let h3 = h2.second in let h4 = h3.second in let h5 = h4.second in let h6 = h5.second in
+      ((h2.first.0, h4.first.0, h5.first.0), part h h.first (part h1 h1.first (part h2 h2.first.1 (part h3 h3.first (part h4 h4.first.1 (part h5 h5.first.1 (part h6 h6.first (last_of h6.second))))))), h5.first.2)
+
+  row_steady : Steady (sized (row_of of) FewInRow) (λ e us. row_at is_comma starts part_at e us)
+  row_steady = steady_also row_language row_chain
+
+  row_opening : (t : Token) → is_insert t.kind ≡ true → Opening (some (row_of of)) t
+  row_opening t is = opening_from words.Insert row_chain.sample (row_language false) (row_chain.in_language false) t is
+
+opening_row_language : (kept : Bool) (ts : List Token) → (sized (row_of spelled.literal) FewInRow kept ⨾ spelled.nothing) ts → sized spelled.opening_row FewLiterals kept ts
+opening_row_language kept ts h = let k : sized (row_of spelled.literal) FewInRow kept ts = last_of h in (record { table = k.0.0; place = k.0.1; values = k.0.2 }, k.1, k.2)
+
+pub opening_row_steady : Steady (sized spelled.opening_row FewLiterals) opening_row_at
+unfolding opening_row_at
+opening_row_steady =
+    steady_also opening_row_language (steady_then (λ e us. row_at is_comma is_literal literal_at e us) (λ e r. Ok (record { table = r.0.0; place = r.0.1; values = r.0.2 }, r.1)) (row_steady is_literal (no_divider_of _ refl refl) spelled.literal literal_at literal_opening literal_steady) (λ r.
+    ok_steady (record { table = r.0; place = r.1; values = r.2 })))
+
+pub opening_row_opening : (t : Token) → is_insert t.kind ≡ true → Opening (some spelled.opening_row) t
+opening_row_opening t is = let k = row_opening is_literal (no_divider_of _ refl refl) spelled.literal literal_at literal_opening literal_steady t is in (k.0, (record { table = k.1.0.0; place = k.1.0.1; values = k.1.0.2 }, k.1.1))
+
+-- ---- values and operands
+
+variable_head : (t : Token) (k : TokenKind) → t.kind ≡ k → Steady (λ kept us. some spelled.variable (t ∷ us)) (λ e us. variable_from k t.start us) ⊎ ((e : ℕ) (us : List Token) → variable_from k t.start us ≡ Err (Unexpected t.start))
+variable_head t (kinds.HostVariable n) is = inl (steady_also (only_token spelled.variable (record { name = n; place = t.start }) t (standing (kinds.HostVariable n) t is)) (ok_steady (record { name = n; place = t.start })))
+variable_head t _ is = inr (λ e us. refl)
+
+pub variable_steady : Steady (free spelled.variable) variable_at
+unfolding variable_at
+variable_steady =
+    heads_steady variable_at (record { name = 120 ∷ []; place = 0 }) (record { kind = kinds.HostVariable (120 ∷ []); start = 0; end = 0 } ∷ [])
+    (λ kept. (record { name = 120 ∷ []; place = 0 }, standing (kinds.HostVariable (120 ∷ [])) (record { kind = kinds.HostVariable (120 ∷ []); start = 0; end = 0 }) refl)) (λ e. refl) (λ t. variable_head t t.kind refl)
+
+variable_opening_of : (t : Token) (k : TokenKind) → t.kind ≡ k → is_variable k ≡ true → some spelled.variable (t ∷ [])
+variable_opening_of t (kinds.HostVariable n) e is = (record { name = n; place = t.start }, standing (kinds.HostVariable n) t e)
+variable_opening_of t _ e is = absurd cc
+
+value_of_variable : (kept : Bool) (ts : List Token) → (some spelled.variable ⨾ spelled.nothing) ts → some spelled.value ts
+value_of_variable kept ts h = let k : some spelled.variable ts = last_of h in (specifications.HostVariable k.0, k.1)
+
+value_of_literal : (kept : Bool) (ts : List Token) → (some spelled.literal ⨾ spelled.nothing) ts → some spelled.value ts
+value_of_literal kept ts h = let k : some spelled.literal ts = last_of h in (specifications.Literal k.0, k.1)
+
+pub value_steady : Steady (free spelled.value) value_at
+unfolding value_at
+value_steady =
+    either_steady is_variable (λ e us. variable_at e us >>= λ v. Ok (specifications.HostVariable v.0, v.1)) (λ e us. literal_at e us >>= λ l. Ok (specifications.Literal l.0, l.1))
+    (steady_also value_of_variable (steady_then variable_at (λ e v. Ok (specifications.HostVariable v.0, v.1)) variable_steady (λ v. ok_steady (specifications.HostVariable v))))
+    (steady_also value_of_literal (steady_then literal_at (λ e l. Ok (specifications.Literal l.0, l.1)) literal_steady (λ l. ok_steady (specifications.Literal l))))
+
+value_opening_of : (t : Token) (b : Bool) → is_variable t.kind ≡ b → is_value t.kind ≡ true → Opening (some spelled.value) t
+value_opening_of t true e is = let k = variable_opening_of t t.kind refl e in ([], (specifications.HostVariable k.0, k.1))
+value_opening_of t false e is = let literal_is : is_literal t.kind ≡ true = rw e at is in let k = literal_opening t literal_is in (k.0, (specifications.Literal k.1.0, k.1.1))
+
+value_opening : (t : Token) → is_value t.kind ≡ true → Opening (some spelled.value) t
+value_opening t is = value_opening_of t (is_variable t.kind) refl is
+
+insert_language : (kept : Bool) (ts : List Token) → (sized (row_of spelled.value) FewInRow kept ⨾ spelled.nothing) ts → sized spelled.insert FewValues kept ts
+insert_language kept ts h = let k : sized (row_of spelled.value) FewInRow kept ts = last_of h in (record { table = k.0.0; place = k.0.1; values = k.0.2 }, k.1, k.2)
 
 pub insert_steady : Steady (sized spelled.insert FewValues) insert_at
-insert_steady = steady_also insert_language insert_chain
+unfolding insert_at
+insert_steady =
+    steady_also insert_language (steady_then (λ e us. row_at is_comma is_value value_at e us) (λ e r. Ok (record { table = r.0.0; place = r.0.1; values = r.0.2 }, r.1)) (row_steady is_value (no_divider_of _ refl refl) spelled.value value_at value_opening value_steady) (λ r.
+    ok_steady (record { table = r.0; place = r.1; values = r.2 })))
 
-pub insert_opening : (t : Token) → is_insert t.kind ≡ true → Opening (some spelled.insert) t
-insert_opening t is = let h : InsertTokens false insert_chain.sample = insert_chain.in_language false in
-    let k = insert_language false (t ∷ h.back) (in_front (kinds.Word words.Insert) t h.back (word_is words.Insert t.kind is) h.second) in
-    (h.back, (k.0, k.1))
-
--- ---- selects
+insert_opening : (t : Token) → is_insert t.kind ≡ true → Opening (some spelled.insert) t
+insert_opening t is = let k = row_opening is_value (no_divider_of _ refl refl) spelled.value value_at value_opening value_steady t is in (k.0, (record { table = k.1.0.0; place = k.1.0.1; values = k.1.0.2 }, k.1.1))
 
 operand_of_name : (kept : Bool) (ts : List Token) → (some spelled.name ⨾ spelled.nothing) ts → some spelled.operand ts
 operand_of_name kept ts h = let k : some spelled.name ts = last_of h in (operands.Column k.0, k.1)
 
-operand_of_literal : (kept : Bool) (ts : List Token) → (some spelled.literal ⨾ spelled.nothing) ts → some spelled.operand ts
-operand_of_literal kept ts h = let k : some spelled.literal ts = last_of h in (operands.Constant k.0, k.1)
+operand_of_value : (kept : Bool) (ts : List Token) → (some spelled.value ⨾ spelled.nothing) ts → some spelled.operand ts
+operand_of_value kept ts h = let k : some spelled.value ts = last_of h in (operands.Value k.0, k.1)
 
 pub operand_steady : Steady (free spelled.operand) operand_at
 unfolding operand_at
 operand_steady =
-    either_steady is_name (λ e us. name_at e us >>= λ n. Ok (operands.Column n.0, n.1)) (λ e us. literal_at e us >>= λ l. Ok (operands.Constant l.0, l.1))
+    either_steady is_name (λ e us. name_at e us >>= λ n. Ok (operands.Column n.0, n.1)) (λ e us. value_at e us >>= λ v. Ok (operands.Value v.0, v.1))
     (steady_also operand_of_name (steady_then name_at (λ e n. Ok (operands.Column n.0, n.1)) name_steady (λ n. ok_steady (operands.Column n))))
-    (steady_also operand_of_literal (steady_then literal_at (λ e l. Ok (operands.Constant l.0, l.1)) literal_steady (λ l. ok_steady (operands.Constant l))))
+    (steady_also operand_of_value (steady_then value_at (λ e v. Ok (operands.Value v.0, v.1)) value_steady (λ v. ok_steady (operands.Value v))))
 
 operand_opening_of : (t : Token) (b : Bool) → is_name t.kind ≡ b → is_operand t.kind ≡ true → Opening (some spelled.operand) t
 operand_opening_of t true e is = let k = name_opening_of t t.kind refl e in ([], (operands.Column k.0, k.1))
-operand_opening_of t false e is = let literal_is : is_literal t.kind ≡ true = rw e at is in let k = literal_opening t literal_is in (k.0, (operands.Constant k.1.0, k.1.1))
+operand_opening_of t false e is = let value_is : is_value t.kind ≡ true = rw e at is in let k = value_opening t value_is in (k.0, (operands.Value k.1.0, k.1.1))
 
 operand_opening : (t : Token) → is_operand t.kind ≡ true → Opening (some spelled.operand) t
 operand_opening t is = operand_opening_of t (is_name t.kind) refl is
+
+-- ---- selects
 
 abbrev compared : Comparison → Phrase
 compared c = spelled.sign (spelled.sign_of c)
@@ -437,54 +514,183 @@ select_language kept ts h =
 pub select_steady : Steady (sized spelled.select FewParts) select_at
 select_steady = steady_also select_language select_chain
 
+-- ---- changes
+
+abbrev DeleteTokens : Language
+DeleteTokens kept = spelled.word words.Delete ⨾ spelled.word words.From ⨾ some spelled.name ⨾ Conditions kept ⨾ spelled.sign signs.Semicolon ⨾ spelled.nothing
+
+delete_chain : Steady DeleteTokens delete_at
+unfolding delete_at
+delete_chain = word_steady words.Delete _ (word_steady words.From _ (steady_then name_at _ name_steady (λ n. steady_then tests_at _ tests_steady (λ xs. sign_steady signs.Semicolon _ (ok_steady (record { table = n; tests = xs }))))))
+
+delete_language : (kept : Bool) (ts : List Token) → DeleteTokens kept ts → sized spelled.delete FewTests kept ts
+delete_language kept ts h =
+    let h1 = h.second in let h2 = h1.second in let h3 = h2.second in
+    (record { table = h2.first.0; tests = h3.first.0 }, part h h.first (part h1 h1.first (part h2 h2.first.1 (part h3 h3.first.1 (last_of h3.second)))), h3.first.2)
+
+pub delete_steady : Steady (sized spelled.delete FewTests) delete_at
+delete_steady = steady_also delete_language delete_chain
+
+module _ {A : Type 0} (of : A → Phrase) (term : ℕ → List Token → Read A) (each : Steady (free of) term) where
+  -- what stands behind the first term
+  abbrev Onward : Language
+  Onward kept ts = spelled.nothing ts ⊎ ((spelled.sign signs.Plus ⨾ some of) ts ⊎ (spelled.sign signs.Minus ⨾ some of) ts)
+
+  sum_onward : (t : Token) → is_sign signs.Plus t.kind ≡ true → (kept : Bool) (us : List Token) → (some of ⨾ spelled.nothing) us → Onward kept (t ∷ us)
+  sum_onward t is kept us h = let k : some of us = last_of h in inr (inl (in_front (kinds.Sign signs.Plus) t us (sign_is signs.Plus t.kind is) k))
+
+  difference_onward : (t : Token) → is_sign signs.Minus t.kind ≡ true → (kept : Bool) (us : List Token) → (some of ⨾ spelled.nothing) us → Onward kept (t ∷ us)
+  difference_onward t is kept us h = let k : some of us = last_of h in inr (inr (in_front (kinds.Sign signs.Minus) t us (sign_is signs.Minus t.kind is) k))
+
+  onward_steady : (x : A) → Steady Onward (λ e us. expression_behind term x e us)
+  unfolding expression_behind
+  onward_steady x =
+      behind_steady (is_sign signs.Plus) (λ e us. term e us >>= λ y. Ok (Sum x y.0, y.1)) (λ e us. cond (begins (is_sign signs.Minus) us) (term e (drop 1 us) >>= λ y. Ok (Difference x y.0, y.1)) (Ok (Single x, us))) sum_onward
+      (steady_then term (λ e y. Ok (Sum x y.0, y.1)) each (λ y. ok_steady (Sum x y)))
+      (behind_steady (is_sign signs.Minus) (λ e us. term e us >>= λ y. Ok (Difference x y.0, y.1)) (λ e us. Ok (Single x, us)) difference_onward
+      (steady_then term (λ e y. Ok (Difference x y.0, y.1)) each (λ y. ok_steady (Difference x y)))
+      (steady_also (λ kept us e. inl e) (ok_steady (Single x))))
+
+  expression_of : (kept : Bool) (ts : List Token) (h : (some of ⨾ Onward kept) ts) → Onward kept h.back → some (spelled.expression of) ts
+  expression_of kept ts h (inl e) = (Single h.first.0, last_of {phrase = of h.first.0} (part h h.first.1 e))
+  expression_of kept ts h (inr (inl k)) = (Sum h.first.0 k.second.0, part h h.first.1 (part k k.first k.second.1))
+  expression_of kept ts h (inr (inr k)) = (Difference h.first.0 k.second.0, part h h.first.1 (part k k.first k.second.1))
+
+  pub expression_steady : Steady (free (spelled.expression of)) (λ e us. expression_at term e us)
+  unfolding expression_at
+  expression_steady = steady_also (λ kept ts h. expression_of kept ts h h.second) (steady_then term (λ e x. expression_behind term x.0 e x.1) each onward_steady)
+
+abbrev AssignmentTokens : Language
+AssignmentTokens kept = some spelled.name ⨾ spelled.sign signs.Equal ⨾ some (spelled.expression spelled.operand) ⨾ spelled.nothing
+
+assignment_chain : Steady AssignmentTokens assignment_at
+unfolding assignment_at
+assignment_chain =
+    steady_then name_at _ name_steady (λ n. sign_steady signs.Equal _ (steady_then (λ e us. expression_at operand_at e us) _ (expression_steady spelled.operand operand_at operand_steady) (λ x. ok_steady (record { column = n; expression = x }))))
+
+assignment_language : (kept : Bool) (ts : List Token) → AssignmentTokens kept ts → some spelled.assignment ts
+assignment_language kept ts h =
+    let h1 = h.second in
+    let h2 : some (spelled.expression spelled.operand) h1.back = last_of h1.second in
+    (record { column = h.first.0; expression = h2.0 }, part h h.first.1 (part h1 h1.first h2.1))
+
+pub assignment_steady : Steady (free spelled.assignment) assignment_at
+assignment_steady = steady_also assignment_language assignment_chain
+
+assignment_opening : (t : Token) → is_name t.kind ≡ true → Opening (some spelled.assignment) t
+assignment_opening t is =
+    let h : AssignmentTokens false assignment_chain.sample = assignment_chain.in_language false in
+    let k = assignment_language false (t ∷ h.back) (record { front = t ∷ []; back = h.back; whole = refl; first = name_opening_of t t.kind refl is; second = h.second }) in
+    (h.back, k)
+
+abbrev UpdateTokens : Language
+UpdateTokens kept = spelled.word words.Update ⨾ some spelled.name ⨾ spelled.word words.Set ⨾ sized (spelled.listed spelled.comma spelled.assignment) (λ xs. length xs ≤ 16) kept ⨾ Conditions kept ⨾ spelled.sign signs.Semicolon ⨾ spelled.nothing
+
+update_chain : Steady UpdateTokens update_at
+unfolding update_at
+update_chain =
+    word_steady words.Update _ (steady_then name_at _ name_steady (λ n. word_steady words.Set _ (
+    steady_then (λ e us. listed_at is_comma is_name assignment_at e 16 us) _ (listed_steady is_comma is_name (kinds.Sign signs.Comma) (sign_is signs.Comma) comma_may (no_divider_of _ refl refl) spelled.assignment assignment_at assignment_opening assignment_steady 16 (omega arith)) (λ changes.
+    steady_then tests_at _ tests_steady (λ xs. sign_steady signs.Semicolon _ (ok_steady (record { table = n; assignments = changes; tests = xs })))))))
+
+update_language : (kept : Bool) (ts : List Token) → UpdateTokens kept ts → sized spelled.update FewAssignments kept ts
+update_language kept ts h =
+    let h1 = h.second in let h2 = h1.second in let h3 = h2.second in let h4 = h3.second in
+    (record { table = h1.first.0; assignments = h3.first.0; tests = h4.first.0 }, part h h.first (part h1 h1.first.1 (part h2 h2.first (part h3 h3.first.1 (part h4 h4.first.1 (last_of h4.second))))), λ e. (h3.first.2 e, h4.first.2 e))
+
+pub update_steady : Steady (sized spelled.update FewAssignments) update_at
+update_steady = steady_also update_language update_chain
+
+abbrev SetTokens : Language
+SetTokens kept = spelled.word words.Set ⨾ some spelled.variable ⨾ spelled.sign signs.Equal ⨾ some (spelled.expression spelled.value) ⨾ spelled.sign signs.Semicolon ⨾ spelled.nothing
+
+set_chain : Steady SetTokens set_at
+unfolding set_at
+set_chain =
+    word_steady words.Set _ (steady_then variable_at _ variable_steady (λ v. sign_steady signs.Equal _ (
+    steady_then (λ e us. expression_at value_at e us) _ (expression_steady spelled.value value_at value_steady) (λ x. sign_steady signs.Semicolon _ (ok_steady (record { variable = v; expression = x }))))))
+
+set_language : (kept : Bool) (ts : List Token) → SetTokens kept ts → sized spelled.set (λ s. Unit {0}) kept ts
+set_language kept ts h =
+    let h1 = h.second in let h2 = h1.second in let h3 = h2.second in
+    (record { variable = h1.first.0; expression = h3.first.0 }, part h h.first (part h1 h1.first.1 (part h2 h2.first (part h3 h3.first.1 (last_of h3.second)))), λ e. tt)
+
+pub set_steady : Steady (sized spelled.set (λ s. Unit {0})) set_at
+set_steady = steady_also set_language set_chain
+
 -- ---- scripts and inputs
 
-statement_of_insert : (kept : Bool) (ts : List Token) → (sized spelled.insert FewValues kept ⨾ spelled.nothing) ts → sized spelled.statement IsShort kept ts
-statement_of_insert kept ts h = let k : sized spelled.insert FewValues kept ts = last_of h in (statements.Insert k.0, k.1, k.2)
+module _ {A : Type 0} (of : A → Phrase) (fits : A → Type 0) (make : A → Statement) (into : (kept : Bool) (ts : List Token) → sized of fits kept ts → sized spelled.statement IsShort kept ts) (read : ℕ → List Token → Read A) where
+  made_statement : (kept : Bool) (ts : List Token) → (sized of fits kept ⨾ spelled.nothing) ts → sized spelled.statement IsShort kept ts
+  made_statement kept ts h = let k : sized of fits kept ts = last_of h in into kept ts k
 
-statement_of_select : (kept : Bool) (ts : List Token) → (sized spelled.select FewParts kept ⨾ spelled.nothing) ts → sized spelled.statement IsShort kept ts
-statement_of_select kept ts h = let k : sized spelled.select FewParts kept ts = last_of h in (statements.Select k.0, k.1, k.2)
+  statement_from : Steady (sized of fits) read → Steady (sized spelled.statement IsShort) (λ e us. read e us >>= λ x. Ok (make x.0, x.1))
+  statement_from each = steady_also made_statement (steady_then read (λ e x. Ok (make x.0, x.1)) each (λ x. ok_steady (make x)))
 
 pub statement_steady : Steady (sized spelled.statement IsShort) statement_at
 unfolding statement_at
 statement_steady =
-    either_steady (is_word words.Insert) (λ e us. insert_at e us >>= λ i. Ok (statements.Insert i.0, i.1)) (λ e us. select_at e us >>= λ s. Ok (statements.Select s.0, s.1))
-    (steady_also statement_of_insert (steady_then insert_at (λ e i. Ok (statements.Insert i.0, i.1)) insert_steady (λ i. ok_steady (statements.Insert i))))
-    (steady_also statement_of_select (steady_then select_at (λ e s. Ok (statements.Select s.0, s.1)) select_steady (λ s. ok_steady (statements.Select s))))
+    either_steady (is_word words.Insert) _ _ (statement_from spelled.insert FewValues (λ i. statements.Insert i) (λ kept ts k. (statements.Insert k.0, k.1, k.2)) insert_at insert_steady) (
+    either_steady (is_word words.Delete) _ _ (statement_from spelled.delete FewTests (λ d. statements.Delete d) (λ kept ts k. (statements.Delete k.0, k.1, k.2)) delete_at delete_steady) (
+    either_steady (is_word words.Update) _ _ (statement_from spelled.update FewAssignments (λ u. statements.Update u) (λ kept ts k. (statements.Update k.0, k.1, k.2)) update_at update_steady) (
+    either_steady (is_word words.Set) _ _ (statement_from spelled.set (λ s. Unit {0}) (λ s. statements.Set s) (λ kept ts k. (statements.Set k.0, k.1, k.2)) set_at set_steady) (
+    statement_from spelled.select FewParts (λ s. statements.Select s) (λ kept ts k. (statements.Select k.0, k.1, k.2)) select_at select_steady))))
 
-statement_opening_of : (t : Token) (b : Bool) → is_word words.Insert t.kind ≡ b → is_statement t.kind ≡ true → Opening (some spelled.statement) t
-statement_opening_of t true e is = let k = insert_opening t e in (k.0, (statements.Insert k.1.0, k.1.1))
-statement_opening_of t false e is =
-    let select_is : is_word words.Select t.kind ≡ true = rw e at is in
-    let h : SelectTokens false select_chain.sample = select_chain.in_language false in
-    let k = select_language false (t ∷ h.back) (in_front (kinds.Word words.Select) t h.back (word_is words.Select t.kind select_is) h.second) in
-    (h.back, (statements.Select k.0, k.1))
+select_opening : (t : Token) → is_word words.Select t.kind ≡ true → Opening (some spelled.select) t
+select_opening t is = opening_from words.Select select_chain.sample (select_language false) (select_chain.in_language false) t is
+
+delete_opening : (t : Token) → is_word words.Delete t.kind ≡ true → Opening (some spelled.delete) t
+delete_opening t is = opening_from words.Delete delete_chain.sample (delete_language false) (delete_chain.in_language false) t is
+
+update_opening : (t : Token) → is_word words.Update t.kind ≡ true → Opening (some spelled.update) t
+update_opening t is = opening_from words.Update update_chain.sample (update_language false) (update_chain.in_language false) t is
+
+set_opening : (t : Token) → is_word words.Set t.kind ≡ true → Opening (some spelled.set) t
+set_opening t is = opening_from words.Set set_chain.sample (set_language false) (set_chain.in_language false) t is
+
+statement_opening_of : (t : Token) (insert delete update set : Bool) → is_word words.Insert t.kind ≡ insert → is_word words.Delete t.kind ≡ delete → is_word words.Update t.kind ≡ update → is_word words.Set t.kind ≡ set → is_statement t.kind ≡ true
+    → Opening (some spelled.statement) t
+statement_opening_of t true _ _ _ e1 e2 e3 e4 is = let k = insert_opening t e1 in (k.0, (statements.Insert k.1.0, k.1.1))
+statement_opening_of t false true _ _ e1 e2 e3 e4 is = let k = delete_opening t e2 in (k.0, (statements.Delete k.1.0, k.1.1))
+statement_opening_of t false false true _ e1 e2 e3 e4 is = let k = update_opening t e3 in (k.0, (statements.Update k.1.0, k.1.1))
+statement_opening_of t false false false true e1 e2 e3 e4 is = let k = set_opening t e4 in (k.0, (statements.Set k.1.0, k.1.1))
+statement_opening_of t false false false false e1 e2 e3 e4 is =
+    let select_is : is_word words.Select t.kind ≡ true = rw (e1, e2, e3, e4) at is in
+    let k = select_opening t select_is in
+    (k.0, (statements.Select k.1.0, k.1.1))
 
 statement_opening : (t : Token) → is_statement t.kind ≡ true → Opening (some spelled.statement) t
-statement_opening t is = statement_opening_of t (is_word words.Insert t.kind) refl is
+statement_opening t is = statement_opening_of t _ _ _ _ refl refl refl refl is
+
+pub end_steady : Steady (free spelled.ending) end_at
+unfolding end_at
+end_steady =
+    behind_steady (is_word words.Commit) (λ e us. Ok (ends.Commit, us)) (λ e us. cond (begins (is_word words.Rollback) us) (Ok (ends.Rollback, drop 1 us)) (Err (Unexpected (place_of e us))))
+    (λ t is. only_token spelled.ending ends.Commit t (alone (kinds.Word words.Commit) t (word_is words.Commit t.kind is))) (ok_steady ends.Commit)
+    (behind_steady (is_word words.Rollback) (λ e us. Ok (ends.Rollback, us)) (λ e us. Err (Unexpected (place_of e us)))
+    (λ t is. only_token spelled.ending ends.Rollback t (alone (kinds.Word words.Rollback) t (word_is words.Rollback t.kind is))) (ok_steady ends.Rollback)
+    (unexpected_steady ends.Commit (record { kind = kinds.Word words.Commit; start = 0; end = 0 } ∷ []) (λ kept. (ends.Commit, alone (kinds.Word words.Commit) (record { kind = kinds.Word words.Commit; start = 0; end = 0 }) refl))))
 
 abbrev ScriptTokens : Language
-ScriptTokens kept = spelled.word words.Begin ⨾ spelled.word words.Transaction ⨾ spelled.sign signs.Semicolon ⨾ sized (spelled.many spelled.statement) (AtMost 64 IsShort) kept ⨾ spelled.word words.Commit ⨾ spelled.sign signs.Semicolon ⨾ spelled.nothing
+ScriptTokens kept = spelled.word words.Begin ⨾ spelled.word words.Transaction ⨾ spelled.sign signs.Semicolon ⨾ sized (spelled.many spelled.statement) (AtMost 64 IsShort) kept ⨾ some spelled.ending ⨾ spelled.sign signs.Semicolon ⨾ spelled.nothing
 
 script_chain : Steady ScriptTokens script_at
 unfolding script_at
 script_chain =
     word_steady words.Begin _ (word_steady words.Transaction _ (sign_steady signs.Semicolon _ (
     steady_then (λ e us. many_at is_statement statement_at e 64 us) _ (many_steady is_statement (no_divider_of is_statement refl refl) spelled.statement IsShort statement_at statement_opening statement_steady 64) (λ xs.
-    word_steady words.Commit _ (sign_steady signs.Semicolon _ (ok_steady (record { statements = xs })))))))
+    steady_then end_at _ end_steady (λ e. sign_steady signs.Semicolon _ (ok_steady (record { statements = xs; end = e })))))))
 
 script_language : (kept : Bool) (ts : List Token) → ScriptTokens kept ts → sized spelled.script FewStatements kept ts
 script_language kept ts h =
     let h1 = h.second in let h2 = h1.second in let h3 = h2.second in let h4 = h3.second in
-    (record { statements = h3.first.0 }, part h h.first (part h1 h1.first (part h2 h2.first (part h3 h3.first.1 (part h4 h4.first (last_of h4.second))))), h3.first.2)
+    (record { statements = h3.first.0; end = h4.first.0 }, part h h.first (part h1 h1.first (part h2 h2.first (part h3 h3.first.1 (part h4 h4.first.1 (last_of h4.second))))), h3.first.2)
 
 pub script_steady : Steady (sized spelled.script FewStatements) script_at
 script_steady = steady_also script_language script_chain
 
 pub script_opening : (t : Token) → is_begin t.kind ≡ true → Opening (some spelled.script) t
-script_opening t is = let h : ScriptTokens false script_chain.sample = script_chain.in_language false in
-    let k = script_language false (t ∷ h.back) (in_front (kinds.Word words.Begin) t h.back (word_is words.Begin t.kind is) h.second) in
-    (h.back, (k.0, k.1))
+script_opening t is = opening_from words.Begin script_chain.sample (script_language false) (script_chain.in_language false) t is
 
 -- the input, if nothing is left
 abbrev pub last_at : Input → ℕ → List Token → Read Input
@@ -506,12 +712,12 @@ last_steady tree =
 pub whole_at : ℕ → List Token → Read Input
 whole_at end ts =
     many_at is_create create_at end 64 ts >>= λ tables.
-    many_at is_insert insert_at end 65536 tables.1 >>= λ rows.
+    many_at is_insert opening_row_at end 65536 tables.1 >>= λ rows.
     many_at is_begin script_at end 10000 rows.1 >>= λ scripts.
     last_at (record { opening = record { tables = tables.0; rows = rows.0 }; scripts = scripts.0 }) end scripts.1
 
 input_language : (kept : Bool) (ts : List Token)
-    → (sized (spelled.many spelled.create) (AtMost 64 FewColumns) kept ⨾ sized (spelled.many spelled.insert) (AtMost 65536 FewValues) kept ⨾ sized (spelled.many spelled.script) (AtMost 10000 FewStatements) kept ⨾ spelled.nothing) ts
+    → (sized (spelled.many spelled.create) (AtMost 64 FewColumns) kept ⨾ sized (spelled.many spelled.opening_row) (AtMost 65536 FewLiterals) kept ⨾ sized (spelled.many spelled.script) (AtMost 10000 FewStatements) kept ⨾ spelled.nothing) ts
     → sized spelled.input WithinLimits kept ts
 input_language kept ts h =
     let h1 = h.second in
@@ -522,7 +728,7 @@ pub whole_steady : Steady (sized spelled.input WithinLimits) whole_at
 unfolding whole_at
 whole_steady = steady_also input_language (
     steady_then (λ e us. many_at is_create create_at e 64 us) _ (many_steady is_create (no_divider_of is_create refl refl) spelled.create FewColumns create_at create_opening create_steady 64) (λ tables.
-    steady_then (λ e us. many_at is_insert insert_at e 65536 us) _ (many_steady is_insert (no_divider_of is_insert refl refl) spelled.insert FewValues insert_at insert_opening insert_steady 65536) (λ rows.
+    steady_then (λ e us. many_at is_insert opening_row_at e 65536 us) _ (many_steady is_insert (no_divider_of is_insert refl refl) spelled.opening_row FewLiterals opening_row_at opening_row_opening opening_row_steady 65536) (λ rows.
     steady_then (λ e us. many_at is_begin script_at e 10000 us) _ (many_steady is_begin (no_divider_of is_begin refl refl) spelled.script FewStatements script_at script_opening script_steady 10000) (λ scripts.
     last_steady (record { opening = record { tables = tables; rows = rows }; scripts = scripts })))))
 
@@ -541,5 +747,5 @@ strip_cond false tree ts f = refl
 pub input_is_whole : (end : ℕ) (ts : List Token) → input_of end ts ≡ strip (whole_at end ts)
 unfolding input_of whole_at
 input_is_whole end ts =
-    strip_bind (many_at is_create create_at end 64 ts) _ _ (λ tables. strip_bind (many_at is_insert insert_at end 65536 tables.1) _ _ (λ rows. strip_bind (many_at is_begin script_at end 10000 rows.1) _ _ (λ scripts.
+    strip_bind (many_at is_create create_at end 64 ts) _ _ (λ tables. strip_bind (many_at is_insert opening_row_at end 65536 tables.1) _ _ (λ rows. strip_bind (many_at is_begin script_at end 10000 rows.1) _ _ (λ scripts.
     strip_cond (eqb (length scripts.1) 0) (record { opening = record { tables = tables.0; rows = rows.0 }; scripts = scripts.0 }) scripts.1 (Unexpected (place_of end scripts.1)))))

@@ -13,10 +13,10 @@ use Rattle.ent_sql.specs.declared.tree.Test.{Test}
 use Rattle.ent_sql.specs.declared.tree.Input.{Input}
 use Rattle.ent_sql.specs.Front.{Read, Rest, place_of, begins, is_word, is_sign, is_name, word_at, sign_at, name_at, name_from}
 use Rattle.ent_sql.specs.List.{more_at, listed_at, many_at}
-use Rattle.ent_sql.specs.Grammar.{is_comma, is_and, is_literal, is_operand, is_statement, is_create, is_insert, is_begin, kind_at, column_at, create_at, negative_from, negative_at, literal_from, literal_at, insert_at, operand_at, comparison_from, comparison_at, test_at, items_at, tests_at, select_at, statement_at, script_at, input_of}
+use Rattle.ent_sql.specs.Grammar.{is_comma, is_and, is_literal, is_variable, is_value, is_operand, is_statement, is_create, is_insert, is_begin, kind_at, column_at, create_at, negative_from, negative_at, literal_from, literal_at, row_at, opening_row_at, variable_from, variable_at, value_at, insert_at, operand_at, comparison_from, comparison_at, test_at, items_at, tests_at, select_at, expression_behind, expression_at, delete_at, assignment_at, update_at, set_at, statement_at, end_at, script_at, input_of}
 use Rattle.ent_sql.specs.Spelling as spelled
 use Rattle.ent_sql.specs.Spelling.{Phrase, ◌⨾◌, Standing, single}
-use Rattle.ent_sql.specs.Limits.{AtMost, FewColumns, FewValues, FewItems, FewParts, IsShort, FewStatements, WithinLimits}
+use Rattle.ent_sql.specs.Limits.{AtMost, FewColumns, FewLiterals, FewValues, FewItems, FewParts, FewTests, FewAssignments, IsShort, FewStatements, WithinLimits}
 use Rattle.ent_sql.proofs.Phrases.{Begins, ◌then◌, nothing_begins, token_begins, some_begins, all_of}
 use Rattle.ent_sql.proofs.Tokens.{word_is, sign_is}
 
@@ -77,6 +77,7 @@ sign_found s end (t ∷ ts) = passes (Standing t.start (kinds.Sign s)) (t ∷ ts
 name_found_from : (k : TokenKind) (t : Token) (ts : List Token) → t.kind ≡ k → Reads (λ n. Begins (spelled.name n) (t ∷ ts)) (name_from k t.start ts)
 name_found_from (kinds.Name n) t ts e = done (token_begins (kinds.Name n) t ts e)
 name_found_from (kinds.Word n) t ts e = stops
+name_found_from (kinds.HostVariable n) t ts e = stops
 name_found_from (kinds.Number n) t ts e = stops
 name_found_from (kinds.Literal n) t ts e = stops
 name_found_from (kinds.Sign n) t ts e = stops
@@ -149,6 +150,7 @@ negative_found_from (kinds.Number n) t u ts e is =
     done (record { front = h.front; whole = h.whole; is = (n, refl, h.is) })
 negative_found_from (kinds.Word n) t u ts e is = stops
 negative_found_from (kinds.Name n) t u ts e is = stops
+negative_found_from (kinds.HostVariable n) t u ts e is = stops
 negative_found_from (kinds.Literal n) t u ts e is = stops
 negative_found_from (kinds.Sign n) t u ts e is = stops
 
@@ -173,24 +175,48 @@ unfolding literal_at
 literal_found end [] = stops
 literal_found end (t ∷ ts) = literal_found_from t.kind t end ts refl
 
+module _ {A : Type 0} (starts : TokenKind → Bool) (of : A → Phrase) (part : ℕ → List Token → Read A) (each : (end : ℕ) (ts : List Token) → Reads (λ x. Begins (of x) ts) (part end ts)) where
+  row_found : (end : ℕ) (ts : List Token) → Reads (λ r rest. Begins (spelled.row of r.0 r.1 r.2) ts rest × (length r.2 ≤ 16)) (row_at is_comma starts part end ts)
+  unfolding row_at
+  row_found end ts =
+      pass_then _ _ (word_found words.Insert end ts) (λ r1 h1.
+      pass_then _ _ (word_found words.Into end r1) (λ r2 h2.
+      read_then _ _ (name_found end r2) (λ n r3 h3.
+      pass_then _ _ (word_found words.Values end r3) (λ r4 h4.
+      pass_then _ _ (sign_found signs.Open end r4) (λ r5 h5.
+      read_then _ _ (listed_found is_comma starts spelled.comma (sign_divides signs.Comma) of part each end 16 r5 (omega arith)) (λ vs r6 h6.
+      pass_then _ _ (sign_found signs.Close end r6) (λ r7 h7.
+      pass_then _ _ (sign_found signs.Semicolon end r7) (λ r8 h8.
+      done (h1 then h2 then h3 then h4 then h5 then h6.0 then some_begins h7 then some_begins h8, h6.1)))))))))
+
+pub opening_row_found : (end : ℕ) (ts : List Token) → Reads (λ r rest. Begins (spelled.opening_row r) ts rest × FewLiterals r) (opening_row_at end ts)
+unfolding opening_row_at
+opening_row_found end ts = read_then _ _ (row_found is_literal spelled.literal literal_at literal_found end ts) (λ r rest h. done (h.0, h.1))
+
+-- ---- values and operands
+
+variable_found_from : (k : TokenKind) (t : Token) (ts : List Token) → t.kind ≡ k → Reads (λ v. Begins (spelled.variable v) (t ∷ ts)) (variable_from k t.start ts)
+variable_found_from (kinds.HostVariable n) t ts e = done (token_begins (kinds.HostVariable n) t ts e)
+variable_found_from _ t ts e = stops
+
+pub variable_found : (end : ℕ) (ts : List Token) → Reads (λ v. Begins (spelled.variable v) ts) (variable_at end ts)
+unfolding variable_at
+variable_found end [] = stops
+variable_found end (t ∷ ts) = variable_found_from t.kind t ts refl
+
+pub value_found : (end : ℕ) (ts : List Token) → Reads (λ v. Begins (spelled.value v) ts) (value_at end ts)
+unfolding value_at
+value_found end ts = either (begins is_variable ts) _ _ (λ e. read_then _ _ (variable_found end ts) (λ v rest h. done h)) (λ e. read_then _ _ (literal_found end ts) (λ l rest h. done h))
+
 pub insert_found : (end : ℕ) (ts : List Token) → Reads (λ i rest. Begins (spelled.insert i) ts rest × FewValues i) (insert_at end ts)
 unfolding insert_at
-insert_found end ts =
-    pass_then _ _ (word_found words.Insert end ts) (λ r1 h1.
-    pass_then _ _ (word_found words.Into end r1) (λ r2 h2.
-    read_then _ _ (name_found end r2) (λ n r3 h3.
-    pass_then _ _ (word_found words.Values end r3) (λ r4 h4.
-    pass_then _ _ (sign_found signs.Open end r4) (λ r5 h5.
-    read_then _ _ (listed_found is_comma is_literal spelled.comma (sign_divides signs.Comma) spelled.literal literal_at literal_found end 16 r5 (omega arith)) (λ vs r6 h6.
-    pass_then _ _ (sign_found signs.Close end r6) (λ r7 h7.
-    pass_then _ _ (sign_found signs.Semicolon end r7) (λ r8 h8.
-    done (h1 then h2 then h3 then h4 then h5 then h6.0 then some_begins h7 then some_begins h8, h6.1)))))))))
-
--- ---- selects
+insert_found end ts = read_then _ _ (row_found is_value spelled.value value_at value_found end ts) (λ r rest h. done (h.0, h.1))
 
 pub operand_found : (end : ℕ) (ts : List Token) → Reads (λ o. Begins (spelled.operand o) ts) (operand_at end ts)
 unfolding operand_at
-operand_found end ts = either (begins is_name ts) _ _ (λ e. read_then _ _ (name_found end ts) (λ n rest h. done h)) (λ e. read_then _ _ (literal_found end ts) (λ l rest h. done h))
+operand_found end ts = either (begins is_name ts) _ _ (λ e. read_then _ _ (name_found end ts) (λ n rest h. done h)) (λ e. read_then _ _ (value_found end ts) (λ v rest h. done h))
+
+-- ---- selects
 
 comparison_found_from : (k : TokenKind) (t : Token) (ts : List Token) → t.kind ≡ k → Reads (λ c. Begins (spelled.sign (spelled.sign_of c)) (t ∷ ts)) (comparison_from k t.start ts)
 comparison_found_from (kinds.Sign signs.Equal) t ts e = done (some_begins (token_begins (kinds.Sign signs.Equal) t ts e))
@@ -240,13 +266,71 @@ select_found end ts =
     pass_then _ _ (sign_found signs.Semicolon end r5) (λ r6 h6.
     done (h1 then h2.0 then h3 then h4 then h5.0 then some_begins h6, (h2.1, h5.1))))))))
 
+-- ---- changes
+
+module _ {A : Type 0} (of : A → Phrase) (term : ℕ → List Token → Read A) (each : (end : ℕ) (ts : List Token) → Reads (λ x. Begins (of x) ts) (term end ts)) where
+  behind_found : (x : A) (end : ℕ) (before ts : List Token) → Begins (of x) before ts → Reads (λ e. Begins (spelled.expression of e) before) (expression_behind term x end ts)
+  unfolding expression_behind
+  behind_found x end before ts h = either (begins (is_sign signs.Plus) ts) _ _
+      (λ e. read_then _ _ (each end (drop 1 ts)) (λ y rest k. done (h then sign_divides signs.Plus ts e then k)))
+      (λ e. either (begins (is_sign signs.Minus) ts) _ _ (λ e. read_then _ _ (each end (drop 1 ts)) (λ y rest k. done (h then sign_divides signs.Minus ts e then k))) (λ e. done h))
+
+  pub expression_found : (end : ℕ) (ts : List Token) → Reads (λ e. Begins (spelled.expression of e) ts) (expression_at term end ts)
+  unfolding expression_at
+  expression_found end ts = read_then _ _ (each end ts) (λ x rest h. behind_found x end ts rest h)
+
+pub delete_found : (end : ℕ) (ts : List Token) → Reads (λ d rest. Begins (spelled.delete d) ts rest × FewTests d) (delete_at end ts)
+unfolding delete_at
+delete_found end ts =
+    pass_then _ _ (word_found words.Delete end ts) (λ r1 h1.
+    pass_then _ _ (word_found words.From end r1) (λ r2 h2.
+    read_then _ _ (name_found end r2) (λ n r3 h3.
+    read_then _ _ (tests_found end r3) (λ xs r4 h4.
+    pass_then _ _ (sign_found signs.Semicolon end r4) (λ r5 h5.
+    done (h1 then h2 then h3 then h4.0 then some_begins h5, h4.1))))))
+
+pub assignment_found : (end : ℕ) (ts : List Token) → Reads (λ a. Begins (spelled.assignment a) ts) (assignment_at end ts)
+unfolding assignment_at
+assignment_found end ts =
+    read_then _ _ (name_found end ts) (λ n r1 h1.
+    pass_then _ _ (sign_found signs.Equal end r1) (λ r2 h2.
+    read_then _ _ (expression_found spelled.operand operand_at operand_found end r2) (λ e r3 h3. done (h1 then some_begins h2 then h3))))
+
+pub update_found : (end : ℕ) (ts : List Token) → Reads (λ u rest. Begins (spelled.update u) ts rest × FewAssignments u) (update_at end ts)
+unfolding update_at
+update_found end ts =
+    pass_then _ _ (word_found words.Update end ts) (λ r1 h1.
+    read_then _ _ (name_found end r1) (λ n r2 h2.
+    pass_then _ _ (word_found words.Set end r2) (λ r3 h3.
+    read_then _ _ (listed_found is_comma is_name spelled.comma (sign_divides signs.Comma) spelled.assignment assignment_at assignment_found end 16 r3 (omega arith)) (λ changes r4 h4.
+    read_then _ _ (tests_found end r4) (λ xs r5 h5.
+    pass_then _ _ (sign_found signs.Semicolon end r5) (λ r6 h6.
+    done (h1 then h2 then h3 then h4.0 then h5.0 then some_begins h6, (h4.1, h5.1))))))))
+
+pub set_found : (end : ℕ) (ts : List Token) → Reads (λ s rest. Begins (spelled.set s) ts rest) (set_at end ts)
+unfolding set_at
+set_found end ts =
+    pass_then _ _ (word_found words.Set end ts) (λ r1 h1.
+    read_then _ _ (variable_found end r1) (λ v r2 h2.
+    pass_then _ _ (sign_found signs.Equal end r2) (λ r3 h3.
+    read_then _ _ (expression_found spelled.value value_at value_found end r3) (λ e r4 h4.
+    pass_then _ _ (sign_found signs.Semicolon end r4) (λ r5 h5.
+    done (h1 then h2 then some_begins h3 then h4 then some_begins h5))))))
+
 -- ---- scripts and inputs
 
 pub statement_found : (end : ℕ) (ts : List Token) → Reads (λ s rest. Begins (spelled.statement s) ts rest × IsShort s) (statement_at end ts)
 unfolding statement_at
-statement_found end ts = either (begins (is_word words.Insert) ts) _ _
-    (λ e. read_then _ _ (insert_found end ts) (λ i rest h. done (h.0, h.1)))
-    (λ e. read_then _ _ (select_found end ts) (λ s rest h. done (h.0, h.1)))
+statement_found end ts = either (begins (is_word words.Insert) ts) _ _ (λ e. read_then _ _ (insert_found end ts) (λ i rest h. done (h.0, h.1))) (λ e.
+    either (begins (is_word words.Delete) ts) _ _ (λ e. read_then _ _ (delete_found end ts) (λ d rest h. done (h.0, h.1))) (λ e.
+    either (begins (is_word words.Update) ts) _ _ (λ e. read_then _ _ (update_found end ts) (λ u rest h. done (h.0, h.1))) (λ e.
+    either (begins (is_word words.Set) ts) _ _ (λ e. read_then _ _ (set_found end ts) (λ s rest h. done (h, tt))) (λ e.
+    read_then _ _ (select_found end ts) (λ s rest h. done (h.0, h.1))))))
+
+pub end_found : (end : ℕ) (ts : List Token) → Reads (λ e. Begins (spelled.ending e) ts) (end_at end ts)
+unfolding end_at
+end_found end ts = either (begins (is_word words.Commit) ts) _ _ (λ e. done (word_divides words.Commit ts e)) (λ e.
+    either (begins (is_word words.Rollback) ts) _ _ (λ e. done (word_divides words.Rollback ts e)) (λ e. stops))
 
 pub script_found : (end : ℕ) (ts : List Token) → Reads (λ s rest. Begins (spelled.script s) ts rest × FewStatements s) (script_at end ts)
 unfolding script_at
@@ -255,7 +339,7 @@ script_found end ts =
     pass_then _ _ (word_found words.Transaction end r1) (λ r2 h2.
     pass_then _ _ (sign_found signs.Semicolon end r2) (λ r3 h3.
     read_then _ _ (many_found is_statement spelled.statement IsShort statement_at statement_found end 64 r3) (λ xs r4 h4.
-    pass_then _ _ (word_found words.Commit end r4) (λ r5 h5.
+    read_then _ _ (end_found end r4) (λ e r5 h5.
     pass_then _ _ (sign_found signs.Semicolon end r5) (λ r6 h6.
     done (h1 then h2 then some_begins h3 then h4.0 then h5 then some_begins h6, h4.1)))))))
 
@@ -279,7 +363,7 @@ input_chain : (end : ℕ) (ts : List Token) → Gets (λ tree. spelled.input tre
 unfolding input_of
 input_chain end ts =
     get_then _ _ (many_found is_create spelled.create FewColumns create_at create_found end 64 ts) (λ tables r1 h1.
-    get_then _ _ (many_found is_insert spelled.insert FewValues insert_at insert_found end 65536 r1) (λ rows r2 h2.
+    get_then _ _ (many_found is_insert spelled.opening_row FewLiterals opening_row_at opening_row_found end 65536 r1) (λ rows r2 h2.
     get_then _ _ (many_found is_begin spelled.script FewStatements script_at script_found end 10000 r2) (λ scripts r3 h3.
     at_end _ r3 _ _ (λ e. (all_of (subst (Begins _ ts) e (h1.0 then h2.0 then h3.0)), (h1.1, h2.1, h3.1))))))
 

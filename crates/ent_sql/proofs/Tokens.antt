@@ -12,6 +12,7 @@ use Rattle.ent_sql.specs.Front.{is_word, is_sign}
 pub word_is : (w : Keyword) (k : TokenKind) → is_word w k ≡ true → k ≡ kinds.Word w
 word_is w (kinds.Word v) e = ap (λ (u : Keyword). kinds.Word u) (same_true keyword_type (search rules) v w e)
 word_is w (kinds.Name n) e = absurd cc
+word_is w (kinds.HostVariable n) e = absurd cc
 word_is w (kinds.Number n) e = absurd cc
 word_is w (kinds.Literal n) e = absurd cc
 word_is w (kinds.Sign n) e = absurd cc
@@ -19,6 +20,7 @@ word_is w (kinds.Sign n) e = absurd cc
 pub sign_is : (s : Symbol) (k : TokenKind) → is_sign s k ≡ true → k ≡ kinds.Sign s
 sign_is s (kinds.Sign v) e = ap (λ (u : Symbol). kinds.Sign u) (same_true symbol_type (search rules) v s e)
 sign_is s (kinds.Name n) e = absurd cc
+sign_is s (kinds.HostVariable n) e = absurd cc
 sign_is s (kinds.Number n) e = absurd cc
 sign_is s (kinds.Literal n) e = absurd cc
 sign_is s (kinds.Word n) e = absurd cc

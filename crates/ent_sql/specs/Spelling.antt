@@ -15,7 +15,18 @@ use Rattle.ent_sql.specs.declared.tree.Identifier.{Identifier}
 use Rattle.ent_sql.specs.declared.tree.Column.{Column}
 use Rattle.ent_sql.specs.declared.tree.Create.{Create}
 use Rattle.ent_sql.specs.declared.tree.Literal.{Literal}
+use Rattle.ent_sql.specs.declared.tree.OpeningRow.{OpeningRow}
+use Rattle.ent_sql.specs.declared.tree.ValueSpecification.{ValueSpecification}
+use Rattle.ent_sql.specs.declared.tree.ValueSpecification.TheVariants as specifications
+use Rattle.ent_sql.specs.declared.tree.Expression.{Expression}
+use Rattle.ent_sql.specs.declared.tree.Expression.TheVariants.{Single, Sum, Difference}
 use Rattle.ent_sql.specs.declared.tree.Insert.{Insert}
+use Rattle.ent_sql.specs.declared.tree.Delete.{Delete}
+use Rattle.ent_sql.specs.declared.tree.Assignment.{Assignment}
+use Rattle.ent_sql.specs.declared.tree.Update.{Update}
+use Rattle.ent_sql.specs.declared.tree.Set.{Set}
+use Rattle.ent_sql.specs.declared.tree.End.{End}
+use Rattle.ent_sql.specs.declared.tree.End.TheVariants as ends
 use Rattle.ent_sql.specs.declared.tree.Operand.{Operand}
 use Rattle.ent_sql.specs.declared.tree.Operand.TheVariants as operands
 use Rattle.ent_sql.specs.declared.tree.Comparison.{Comparison}
@@ -109,14 +120,37 @@ quoted l tokens = (t : List ℕ) × (l.value ≡ values.Text t) × Standing l.pl
 abbrev pub literal : Literal → Phrase
 literal l tokens = positive l tokens ⊎ (negative l tokens ⊎ quoted l tokens)
 
--- INSERT INTO name VALUES "(" literal { "," literal } ")" ";"
-abbrev pub insert : Insert → Phrase
-insert i = word words.Insert ⨾ word words.Into ⨾ name i.table ⨾ word words.Values ⨾ Standing i.place (kinds.Sign signs.Open) ⨾ listed comma literal i.values ⨾ sign signs.Close ⨾ sign signs.Semicolon
+-- INSERT INTO name VALUES "(" part { "," part } ")" ";", where the first bracket stands at this place
+abbrev pub row : {A : Type 0} → (A → Phrase) → Identifier → ℕ → List A → Phrase
+row of table place values = word words.Insert ⨾ word words.Into ⨾ name table ⨾ word words.Values ⨾ Standing place (kinds.Sign signs.Open) ⨾ listed comma of values ⨾ sign signs.Close ⨾ sign signs.Semicolon
 
--- literal or name
+-- INSERT INTO name VALUES "(" literal { "," literal } ")" ";"
+abbrev pub opening_row : OpeningRow → Phrase
+opening_row r = row literal r.table r.place r.values
+
+-- a host variable stands where its `@` does, and is named without it
+abbrev pub variable : Identifier → Phrase
+variable v = Standing v.place (kinds.HostVariable v.name)
+
+-- literal or host variable
+abbrev pub value : ValueSpecification → Phrase
+value (specifications.Literal l) = literal l
+value (specifications.HostVariable v) = variable v
+
+-- INSERT INTO name VALUES "(" value { "," value } ")" ";"
+abbrev pub insert : Insert → Phrase
+insert i = row value i.table i.place i.values
+
+-- value or name
 abbrev pub operand : Operand → Phrase
-operand (operands.Constant l) = literal l
+operand (operands.Value v) = value v
 operand (operands.Column n) = name n
+
+-- term [ ( "+" | "-" ) term ]
+abbrev pub expression : {A : Type 0} → (A → Phrase) → Expression A → Phrase
+expression of (Single x) = of x
+expression of (Sum x y) = of x ⨾ sign signs.Plus ⨾ of y
+expression of (Difference x y) = of x ⨾ sign signs.Minus ⨾ of y
 
 abbrev pub sign_of : Comparison → Symbol
 sign_of comparisons.Equal = signs.Equal
@@ -144,15 +178,39 @@ conditions (t ∷ ts) = word words.Where ⨾ listed (word words.And) test (t ∷
 abbrev pub select : Select → Phrase
 select s = word words.Select ⨾ items s.items ⨾ word words.From ⨾ name s.source ⨾ conditions s.tests ⨾ sign signs.Semicolon
 
--- insert or select
+-- DELETE FROM name [ WHERE tests ] ";"
+abbrev pub delete : Delete → Phrase
+delete d = word words.Delete ⨾ word words.From ⨾ name d.table ⨾ conditions d.tests ⨾ sign signs.Semicolon
+
+-- name "=" operand [ ( "+" | "-" ) operand ]
+abbrev pub assignment : Assignment → Phrase
+assignment a = name a.column ⨾ sign signs.Equal ⨾ expression operand a.expression
+
+-- UPDATE name SET assignment { "," assignment } [ WHERE tests ] ";"
+abbrev pub update : Update → Phrase
+update u = word words.Update ⨾ name u.table ⨾ word words.Set ⨾ listed comma assignment u.assignments ⨾ conditions u.tests ⨾ sign signs.Semicolon
+
+-- SET hostvariable "=" value [ ( "+" | "-" ) value ] ";"
+abbrev pub set : Set → Phrase
+set s = word words.Set ⨾ variable s.variable ⨾ sign signs.Equal ⨾ expression value s.expression ⨾ sign signs.Semicolon
+
+-- insert, delete, update, set or select
 abbrev pub statement : Statement → Phrase
 statement (statements.Insert i) = insert i
+statement (statements.Delete d) = delete d
+statement (statements.Update u) = update u
+statement (statements.Set s) = set s
 statement (statements.Select s) = select s
 
--- BEGIN TRANSACTION ";" { statement } COMMIT ";"
-abbrev pub script : Script → Phrase
-script s = word words.Begin ⨾ word words.Transaction ⨾ sign signs.Semicolon ⨾ many statement s.statements ⨾ word words.Commit ⨾ sign signs.Semicolon
+-- COMMIT or ROLLBACK
+abbrev pub ending : End → Phrase
+ending ends.Commit = word words.Commit
+ending ends.Rollback = word words.Rollback
 
--- { create } { insert } { script }
+-- BEGIN TRANSACTION ";" { statement } ( COMMIT | ROLLBACK ) ";"
+abbrev pub script : Script → Phrase
+script s = word words.Begin ⨾ word words.Transaction ⨾ sign signs.Semicolon ⨾ many statement s.statements ⨾ ending s.end ⨾ sign signs.Semicolon
+
+-- { create } { opening row } { script }
 abbrev pub input : Input → Phrase
-input i = many create i.opening.tables ⨾ many insert i.opening.rows ⨾ many script i.scripts
+input i = many create i.opening.tables ⨾ many opening_row i.opening.rows ⨾ many script i.scripts

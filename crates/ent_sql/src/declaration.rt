@@ -1,7 +1,7 @@
 //! Declarations of tables, and rows that are put in.
 ghost use Rattle.std.specs.Prelude.{◌≡◌};
 ghost use Rattle.ent_value.specs.Refusal.{Gives};
-ghost use Rattle.ent_sql.specs.Grammar.{kind_at, column_at, create_at, insert_at};
+ghost use Rattle.ent_sql.specs.Grammar.{kind_at, column_at, create_at, row_at, opening_row_at, insert_at};
 
 use crate::fault::SqlFault;
 use crate::front::{
@@ -9,9 +9,9 @@ use crate::front::{
 };
 use crate::list::{Item, listed};
 use crate::operand::begins_with_name;
-use crate::tree::{Column, Create, Insert};
+use crate::tree::{Column, Create, Identifier, Insert, MOST_PARTS, OpeningRow};
 use ent_text::{Keyword, Symbol, Token};
-use ent_value::{Kind, Refusal};
+use ent_value::{Kind, Limited, Refusal};
 use std::alloc::Global;
 
 #[tactic(auto, unfolding(crate::specs::Grammar::kind_at))]
@@ -85,13 +85,14 @@ pub(crate) fn create_at(
     Ok((Create { name, columns }, rest))
 }
 
-#[tactic(auto, unfolding(crate::specs::Grammar::insert_at))]
-pub(crate) fn insert_at(
+/// The table, the place of the `(` and the values of an INSERT.
+#[tactic(auto, unfolding(crate::specs::Grammar::row_at))]
+fn row_at<T: Item>(
     alloc: Global,
     end: usize,
     tokens: &[Token],
-) -> Result<(Insert, &[Token]), Refusal<SqlFault>>
-    ensures { Gives (λ x. (x.0, x.1.now)) result (insert_at end tokens.now) }
+) -> Result<((Identifier, usize, Limited<T, MOST_PARTS>), &[Token]), Refusal<SqlFault>>
+    ensures { Gives (λ x. (x.0, x.1.now)) result (row_at T.divides T.starts T.reads end tokens.now) }
 {
     let rest = word_at(Keyword::Insert, end, tokens)?;
     let rest = word_at(Keyword::Into, end, rest)?;
@@ -102,6 +103,37 @@ pub(crate) fn insert_at(
     let (values, rest) = listed(alloc, end, rest)?;
     let rest = sign_at(Symbol::Close, end, rest)?;
     let rest = sign_at(Symbol::Semicolon, end, rest)?;
+    Ok(((table, place, values), rest))
+}
+
+#[tactic(auto, unfolding(crate::specs::Grammar::opening_row_at))]
+pub(crate) fn opening_row_at(
+    alloc: Global,
+    end: usize,
+    tokens: &[Token],
+) -> Result<(OpeningRow, &[Token]), Refusal<SqlFault>>
+    ensures { Gives (λ x. (x.0, x.1.now)) result (opening_row_at end tokens.now) }
+{
+    let ((table, place, values), rest) = row_at(alloc, end, tokens)?;
+    Ok((
+        OpeningRow {
+            table,
+            place,
+            values,
+        },
+        rest,
+    ))
+}
+
+#[tactic(auto, unfolding(crate::specs::Grammar::insert_at))]
+pub(crate) fn insert_at(
+    alloc: Global,
+    end: usize,
+    tokens: &[Token],
+) -> Result<(Insert, &[Token]), Refusal<SqlFault>>
+    ensures { Gives (λ x. (x.0, x.1.now)) result (insert_at end tokens.now) }
+{
+    let ((table, place, values), rest) = row_at(alloc, end, tokens)?;
     Ok((
         Insert {
             table,

@@ -10,12 +10,12 @@ ghost use Rattle.ent_text.specs.Lexing.{tokens_of};
 ghost use Rattle.ent_text.specs.declared.fault.TextFault.{TextFault};
 ghost use Rattle.ent_sql.specs.Grammar.{input_of, reading};
 
-use crate::declaration::{create_at, insert_at};
+use crate::declaration::{create_at, opening_row_at};
 use crate::fault::SqlFault;
 use crate::front::{begins_with_word, unexpected};
 use crate::list::{Item, many};
 use crate::script::script_at;
-use crate::tree::{Create, Input, Insert, Opening, Script};
+use crate::tree::{Create, Input, Opening, OpeningRow, Script};
 use ent_text::{Keyword, Token, tokens};
 use ent_value::Refusal;
 use std::alloc::Global;
@@ -74,14 +74,14 @@ impl Item for Create {
     }
 }
 
-impl Item for Insert {
-    ghost use Rattle.ent_sql.specs.Grammar.{never, is_insert, insert_at};
+impl Item for OpeningRow {
+    ghost use Rattle.ent_sql.specs.Grammar.{never, is_insert, opening_row_at};
 
     ghost divides = { never };
 
     ghost starts = { is_insert };
 
-    ghost reads = { insert_at };
+    ghost reads = { opening_row_at };
 
     fn is_divider(tokens: &[Token]) -> bool {
         let _ = tokens;
@@ -97,7 +97,7 @@ impl Item for Insert {
         end: usize,
         tokens: &[Token],
     ) -> Result<(Self, &[Token]), Refusal<SqlFault>> {
-        insert_at(alloc, end, tokens)
+        opening_row_at(alloc, end, tokens)
     }
 }
 

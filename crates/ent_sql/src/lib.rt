@@ -1,6 +1,7 @@
 //! The tree of an input: declarations, opening rows and scripts.
 #![tactic(auto)]
 
+mod change;
 mod declaration;
 pub mod fault;
 mod front;
@@ -14,8 +15,9 @@ pub mod tree;
 pub use fault::SqlFault;
 pub use input::{parse_input, reading_is_exact};
 pub use tree::{
-    Column, Comparison, Create, Identifier, Input, Insert, Items, Literal, Opening, Operand,
-    Script, Select, Statement, Test,
+    Assignment, Column, Comparison, Create, Delete, End, Expression, Identifier, Input, Insert,
+    Items, Literal, Opening, OpeningRow, Operand, Script, Select, Set, Statement, Test, Update,
+    ValueSpecification,
 };
 
 #[cfg(test)]

@@ -1,13 +1,13 @@
-//! Literals, operands and tests.
+//! Literals, values, operands and tests.
 ghost use Rattle.std.specs.Prelude.{◌≡◌};
 ghost use Rattle.ent_value.specs.Refusal.{Gives};
 ghost use Rattle.ent_sql.specs.Front.{begins, is_name};
-ghost use Rattle.ent_sql.specs.Grammar.{literal_at, negative_at, operand_at, comparison_at, comparison_of, test_at, is_literal, is_operand};
+ghost use Rattle.ent_sql.specs.Grammar.{literal_at, negative_at, variable_at, value_at, operand_at, comparison_at, comparison_of, test_at, is_literal, is_variable, is_value, is_operand};
 
 use crate::fault::SqlFault;
 use crate::front::{begins_with_sign, begins_with_word, name_at, unexpected};
 use crate::list::Item;
-use crate::tree::{Comparison, Literal, Operand, Test};
+use crate::tree::{Comparison, Identifier, Literal, Operand, Test, ValueSpecification};
 use ent_text::{Keyword, Symbol, Token, TokenKind};
 use ent_value::{Refusal, Value};
 use std::alloc::Global;
@@ -33,10 +33,25 @@ fn begins_with_literal(tokens: &[Token]) -> bool
     }
 }
 
+fn begins_with_variable(tokens: &[Token]) -> bool
+    ensures { result ≡ begins is_variable tokens.now }
+{
+    match tokens {
+        [] => false,
+        [token, ..] => matches!(&token.kind, TokenKind::HostVariable(_)),
+    }
+}
+
+fn begins_with_value(tokens: &[Token]) -> bool
+    ensures { result ≡ begins is_value tokens.now }
+{
+    begins_with_variable(tokens) || begins_with_literal(tokens)
+}
+
 fn begins_with_operand(tokens: &[Token]) -> bool
     ensures { result ≡ begins is_operand tokens.now }
 {
-    begins_with_name(tokens) || begins_with_literal(tokens)
+    begins_with_name(tokens) || begins_with_value(tokens)
 }
 
 /// The number behind a minus sign that stands at `place`.
@@ -64,7 +79,7 @@ fn negative_at(
 }
 
 #[tactic(auto, unfolding(crate::specs::Grammar::literal_at))]
-pub(crate) fn literal_at(
+fn literal_at(
     alloc: Global,
     end: usize,
     tokens: &[Token],
@@ -117,8 +132,73 @@ impl Item for Literal {
     }
 }
 
+/// The host variable at the front.
+#[tactic(auto, unfolding(crate::specs::Grammar::variable_at))]
+pub(crate) fn variable_at(
+    alloc: Global,
+    end: usize,
+    tokens: &[Token],
+) -> Result<(Identifier, &[Token]), Refusal<SqlFault>>
+    ensures { Gives (λ x. (x.0, x.1.now)) result (variable_at end tokens.now) }
+{
+    match tokens {
+        [] => Err(unexpected(end, tokens)),
+        [token, rest @ ..] => match &token.kind {
+            TokenKind::HostVariable(name) => {
+                let name = name.copy(alloc)?;
+                let place = token.start;
+                Ok((Identifier { name, place }, rest))
+            }
+            _ => Err(unexpected(end, tokens)),
+        },
+    }
+}
+
+#[tactic(auto, unfolding(crate::specs::Grammar::value_at))]
+fn value_at(
+    alloc: Global,
+    end: usize,
+    tokens: &[Token],
+) -> Result<(ValueSpecification, &[Token]), Refusal<SqlFault>>
+    ensures { Gives (λ x. (x.0, x.1.now)) result (value_at end tokens.now) }
+{
+    if begins_with_variable(tokens) {
+        let (variable, rest) = variable_at(alloc, end, tokens)?;
+        Ok((ValueSpecification::HostVariable(variable), rest))
+    } else {
+        let (literal, rest) = literal_at(alloc, end, tokens)?;
+        Ok((ValueSpecification::Literal(literal), rest))
+    }
+}
+
+impl Item for ValueSpecification {
+    ghost use Rattle.ent_sql.specs.Grammar.{is_comma, is_value, value_at};
+
+    ghost divides = { is_comma };
+
+    ghost starts = { is_value };
+
+    ghost reads = { value_at };
+
+    fn is_divider(tokens: &[Token]) -> bool {
+        begins_with_sign(Symbol::Comma, tokens)
+    }
+
+    fn is_start(tokens: &[Token]) -> bool {
+        begins_with_value(tokens)
+    }
+
+    fn read(
+        alloc: Global,
+        end: usize,
+        tokens: &[Token],
+    ) -> Result<(Self, &[Token]), Refusal<SqlFault>> {
+        value_at(alloc, end, tokens)
+    }
+}
+
 #[tactic(auto, unfolding(crate::specs::Grammar::operand_at))]
-pub(crate) fn operand_at(
+fn operand_at(
     alloc: Global,
     end: usize,
     tokens: &[Token],
@@ -129,8 +209,8 @@ pub(crate) fn operand_at(
         let (name, rest) = name_at(alloc, end, tokens)?;
         Ok((Operand::Column(name), rest))
     } else {
-        let (literal, rest) = literal_at(alloc, end, tokens)?;
-        Ok((Operand::Constant(literal), rest))
+        let (value, rest) = value_at(alloc, end, tokens)?;
+        Ok((Operand::Value(value), rest))
     }
 }
 

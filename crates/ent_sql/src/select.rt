@@ -27,7 +27,7 @@ fn items_at(
 }
 
 #[tactic(auto, unfolding(crate::specs::Grammar::tests_at))]
-fn tests_at(
+pub(crate) fn tests_at(
     alloc: Global,
     end: usize,
     tokens: &[Token],

@@ -13,7 +13,7 @@ pub const MOST_SCRIPTS: usize = 10_000;
 /// The most statements of a script before its end.
 pub const MOST_STATEMENTS: usize = 64;
 
-/// The most columns of a table, values of a row, items of a list and conditions of a WHERE.
+/// The most columns of a table, values of a row, items of a list, assignments of an UPDATE and conditions of a WHERE.
 pub const MOST_PARTS: usize = 16;
 
 /// A name, and where it stands.
@@ -44,20 +44,36 @@ pub struct Literal {
     pub place: usize,
 }
 
-/// `INSERT INTO table VALUES (values);`
+/// `INSERT INTO table VALUES (literals);` before the scripts.
 #[derive(Drop)]
-pub struct Insert {
+pub struct OpeningRow {
     pub table: Identifier,
     /// Where the `(` behind VALUES stands.
     pub place: usize,
     pub values: Limited<Literal, MOST_PARTS>,
 }
 
-/// What is compared, or shown in a column of an answer.
+/// A value that is known before any row is read: one that is written, or that of a host variable, which stands where
+/// its `@` does and is named without it.
+#[derive(Drop)]
+pub enum ValueSpecification {
+    Literal(Literal),
+    HostVariable(Identifier),
+}
+
+/// What is compared, assigned, or shown in a column of an answer.
 #[derive(Drop)]
 pub enum Operand {
-    Constant(Literal),
+    Value(ValueSpecification),
     Column(Identifier),
+}
+
+/// A term, or the sum or the difference of two.
+#[derive(Drop)]
+pub enum Expression<T> {
+    Single(T),
+    Sum(T, T),
+    Difference(T, T),
 }
 
 /// How two operands are compared.
@@ -94,23 +110,72 @@ pub struct Select {
     pub tests: Limited<Test, MOST_PARTS>,
 }
 
+/// `INSERT INTO table VALUES (values);`
+#[derive(Drop)]
+pub struct Insert {
+    pub table: Identifier,
+    /// Where the `(` behind VALUES stands.
+    pub place: usize,
+    pub values: Limited<ValueSpecification, MOST_PARTS>,
+}
+
+/// `DELETE FROM table WHERE tests;`
+#[derive(Drop)]
+pub struct Delete {
+    pub table: Identifier,
+    pub tests: Limited<Test, MOST_PARTS>,
+}
+
+/// `column = expression` in an UPDATE.
+#[derive(Drop)]
+pub struct Assignment {
+    pub column: Identifier,
+    pub expression: Expression<Operand>,
+}
+
+/// `UPDATE table SET assignments WHERE tests;`
+#[derive(Drop)]
+pub struct Update {
+    pub table: Identifier,
+    pub assignments: Limited<Assignment, MOST_PARTS>,
+    pub tests: Limited<Test, MOST_PARTS>,
+}
+
+/// `SET variable = expression;` The variable stands where its `@` does, and is named without it.
+#[derive(Drop)]
+pub struct Set {
+    pub variable: Identifier,
+    pub expression: Expression<ValueSpecification>,
+}
+
 #[derive(Drop)]
 pub enum Statement {
     Insert(Insert),
+    Delete(Delete),
+    Update(Update),
+    Set(Set),
     Select(Select),
 }
 
-/// A transaction's statements before its COMMIT.
+/// How a script ends.
+#[derive(Clone, Copy, Debug, PartialEq, Eq)]
+pub enum End {
+    Commit,
+    Rollback,
+}
+
+/// A transaction's statements, and its end.
 #[derive(Drop)]
 pub struct Script {
     pub statements: Limited<Statement, MOST_STATEMENTS>,
+    pub end: End,
 }
 
 /// The tables, and the rows that stand in them at first.
 #[derive(Drop)]
 pub struct Opening {
     pub tables: Limited<Create, MOST_TABLES>,
-    pub rows: Limited<Insert, MOST_OPENING_ROWS>,
+    pub rows: Limited<OpeningRow, MOST_OPENING_ROWS>,
 }
 
 #[derive(Drop)]

@@ -1,6 +1,8 @@
 //! Inputs of which it is known from outside what their names mean.
-use ent_form::{Catalogue, FormFault, PlainOperand, PlainStatement, opening_rows, resolve};
-use ent_sql::{SqlFault, parse_input};
+use ent_form::{
+    Catalogue, FormFault, PlainOperand, PlainStatement, PlainValue, opening_rows, resolve,
+};
+use ent_sql::{End, Expression, SqlFault, parse_input};
 use ent_value::{Kind, Refusal, Value, print_row};
 use std::alloc::Global;
 use std::test::Fail;
@@ -64,13 +66,92 @@ fn first_faults(rt: HostRuntime) -> Result<(), Fail> {
 }
 
 #[test]
+fn first_faults_of_changes(rt: HostRuntime) -> Result<(), Fail> {
+    let cases = [
+        (
+            "BEGIN TRANSACTION;\nSET @a = @b;\nCOMMIT;\n",
+            FormFault::NoHostVariable(28),
+        ),
+        (
+            "CREATE TABLE T (a INT, b TEXT);\nBEGIN TRANSACTION;\nDELETE FROM Nope WHERE @x = 1;\nCOMMIT;\n",
+            FormFault::NoTable(63),
+        ),
+        (
+            "CREATE TABLE T (a INT, b TEXT);\nBEGIN TRANSACTION;\nDELETE FROM T WHERE @x = zzz;\nCOMMIT;\n",
+            FormFault::NoHostVariable(71),
+        ),
+        (
+            "CREATE TABLE T (a INT, b TEXT);\nBEGIN TRANSACTION;\nUPDATE T SET a = 1, a = 2;\nCOMMIT;\n",
+            FormFault::Repeated(71),
+        ),
+        (
+            "CREATE TABLE T (a INT, b TEXT);\nBEGIN TRANSACTION;\nUPDATE T SET zzz = @x;\nCOMMIT;\n",
+            FormFault::NoColumn(64),
+        ),
+        (
+            "CREATE TABLE T (a INT, b TEXT);\nBEGIN TRANSACTION;\nUPDATE T SET a = 1, a = @x;\nCOMMIT;\n",
+            FormFault::Repeated(71),
+        ),
+        (
+            "CREATE TABLE T (a INT, b TEXT);\nBEGIN TRANSACTION;\nUPDATE T SET a = b;\nCOMMIT;\n",
+            FormFault::WrongKind(68),
+        ),
+        (
+            "CREATE TABLE T (a INT, b TEXT);\nBEGIN TRANSACTION;\nUPDATE T SET b = a + 1;\nCOMMIT;\n",
+            FormFault::WrongKind(68),
+        ),
+        (
+            "CREATE TABLE T (a INT, b TEXT);\nBEGIN TRANSACTION;\nUPDATE T SET a = 'x' + yyy;\nCOMMIT;\n",
+            FormFault::WrongKind(68),
+        ),
+        (
+            "CREATE TABLE T (a INT, b TEXT);\nBEGIN TRANSACTION;\nUPDATE T SET a = yyy - 'x';\nCOMMIT;\n",
+            FormFault::NoColumn(68),
+        ),
+        (
+            "CREATE TABLE T (a INT, b TEXT);\nBEGIN TRANSACTION;\nUPDATE T SET zzz = 1 WHERE yyy = 1;\nCOMMIT;\n",
+            FormFault::NoColumn(78),
+        ),
+        (
+            "CREATE TABLE T (a INT, b TEXT);\nBEGIN TRANSACTION;\nSET @a = 1 + 'x';\nCOMMIT;\n",
+            FormFault::WrongKind(64),
+        ),
+        (
+            "CREATE TABLE T (a INT, b TEXT);\nBEGIN TRANSACTION;\nSET @a = 'x'; INSERT INTO T VALUES (@a, 'y');\nCOMMIT;\n",
+            FormFault::WrongKind(87),
+        ),
+        (
+            "CREATE TABLE T (a INT, b TEXT);\nBEGIN TRANSACTION;\nSET @a = 1; SET @a = 'x'; INSERT INTO T VALUES (1, @a); SELECT a FROM T WHERE a = @a;\nCOMMIT;\n",
+            FormFault::WrongKind(133),
+        ),
+        (
+            "CREATE TABLE T (a INT, b TEXT);\nBEGIN TRANSACTION;\nINSERT INTO T VALUES (1, @a); SET @a = 'x';\nCOMMIT;\n",
+            FormFault::NoHostVariable(76),
+        ),
+        (
+            "CREATE TABLE T (a INT, b TEXT);\nBEGIN TRANSACTION;\nINSERT INTO T VALUES (@a);\nCOMMIT;\n",
+            FormFault::Arity(72),
+        ),
+        (
+            "CREATE TABLE T (a INT, b TEXT);\nBEGIN TRANSACTION;\nSET @a = 1; COMMIT; BEGIN TRANSACTION; SELECT @a FROM T;\nCOMMIT;\n",
+            FormFault::NoHostVariable(97),
+        ),
+    ];
+    for (text, fault) in cases {
+        assert_eq!(rt; fault_of(rt.alloc(), text)?, Some(fault), "{text}");
+    }
+    Ok(())
+}
+
+#[test]
 fn codes_and_places(rt: HostRuntime) {
     let cases = [
         (FormFault::NoTable(1), 301),
         (FormFault::NoColumn(2), 302),
         (FormFault::Arity(3), 303),
         (FormFault::WrongKind(4), 304),
-        (FormFault::Repeated(5), 308),
+        (FormFault::NoHostVariable(5), 306),
+        (FormFault::Repeated(6), 308),
     ];
     for (place, (fault, code)) in (1..).zip(cases) {
         assert_eq!(rt; (fault.code(), fault.place()), (code, place));
@@ -122,11 +203,12 @@ fn resolved_statements(rt: HostRuntime) -> Result<(), Fail> {
     let catalogue = Catalogue::of(rt.alloc(), &input.opening)?;
     let script = input.scripts.get(0).expect(&rt, "a script");
     let plain = resolve(rt.alloc(), &catalogue, script)?;
-    let Some(PlainStatement::Insert { table, row }) = plain.statements.get(0) else {
+    assert_eq!(rt; plain.end, End::Commit);
+    let Some(PlainStatement::Insert { table, values }) = plain.statements.get(0) else {
         assert!(rt; false, "an INSERT");
         return Ok(());
     };
-    assert_eq!(rt; (*table, row.values().len()), (1, 2));
+    assert_eq!(rt; (*table, values.len()), (1, 2));
     let Some(
         PlainStatement::Select {
             table,
@@ -142,6 +224,73 @@ fn resolved_statements(rt: HostRuntime) -> Result<(), Fail> {
     assert!(rt; matches!(items.get(0), Some(PlainOperand::Column(1))));
     let test = tests.get(0).expect(&rt, "a test");
     assert!(rt; matches!(&test.left, PlainOperand::Column(0)));
-    assert!(rt; matches!(&test.right, PlainOperand::Constant(Value::Int(1))));
+    assert!(rt;
+        matches!(
+            &test.right,
+            PlainOperand::Value(PlainValue::Constant(Value::Int(1)))
+        )
+    );
+    Ok(())
+}
+
+#[test]
+fn resolved_changes(rt: HostRuntime) -> Result<(), Fail> {
+    let input = parse_input(
+        rt.alloc(),
+        "CREATE TABLE S (x INT);\nCREATE TABLE T (a INT, b TEXT);\nBEGIN TRANSACTION;\nSET @d = 3 - 5;\nUPDATE T SET b = 'y' WHERE a = @d;\nDELETE FROM S;\nROLLBACK;\n",
+    )?;
+    let catalogue = Catalogue::of(rt.alloc(), &input.opening)?;
+    let script = input.scripts.get(0).expect(&rt, "a script");
+    let plain = resolve(rt.alloc(), &catalogue, script)?;
+    assert_eq!(rt; plain.end, End::Rollback);
+    let Some(
+        PlainStatement::Set {
+            variable,
+            expression,
+        },
+    ) = plain.statements.get(0)
+    else {
+        assert!(rt; false, "a SET");
+        return Ok(());
+    };
+    assert_eq!(rt; variable.as_bytes(), b"d".as_slice());
+    assert!(rt;
+        matches!(
+            expression,
+            Expression::Difference(
+                PlainValue::Constant(Value::Int(3)),
+                PlainValue::Constant(Value::Int(5))
+            )
+        )
+    );
+    let Some(
+        PlainStatement::Update {
+            table,
+            image,
+            tests,
+        },
+    ) = plain.statements.get(1)
+    else {
+        assert!(rt; false, "an UPDATE");
+        return Ok(());
+    };
+    assert_eq!(rt; (*table, image.len(), tests.len()), (1, 2, 1));
+    assert!(rt;
+        matches!(
+            image.get(0),
+            Some(Expression::Single(PlainOperand::Column(0)))
+        )
+    );
+    assert!(rt;
+        matches!(
+            image.get(1),
+            Some(Expression::Single(PlainOperand::Value(PlainValue::Constant(Value::Text(_)))))
+        )
+    );
+    let Some(PlainStatement::Delete { table, tests }) = plain.statements.get(2) else {
+        assert!(rt; false, "a DELETE");
+        return Ok(());
+    };
+    assert_eq!(rt; (*table, tests.len()), (0, 0));
     Ok(())
 }

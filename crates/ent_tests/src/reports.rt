@@ -6,7 +6,7 @@ use crate::streams::{KeepingWriter, Manner};
 use ent_book::{Book, Fate, NamedTable, ReportFault, write_report};
 use ent_rel::{Table, TableFault};
 use ent_semantics::{Answer, Failure};
-use ent_value::{Name, Sequence, Watched};
+use ent_value::{Name, Sequence, Text, Value, Watched};
 use std::alloc::{AllocError, Global};
 use std::sync::Arc;
 use std::test::Fail;
@@ -60,6 +60,10 @@ fn small_reports(rt: HostRuntime) -> Result<(), Fail> {
     let cases = [
         (None, INSERT_THEN_SELECT),
         (
+            Some(Fate::RolledBack { runs: 3 }),
+            "report 1\ntx 1 committed 1 after 1\n1 count 1\n2 rows 1\n(7)\ntx 2 rolled back after 3\ntable T 1\n(7)\nend\n",
+        ),
+        (
             Some(full),
             "report 1\ntx 1 committed 1 after 1\n1 count 1\n2 rows 1\n(7)\ntx 2 failed F2 after 1\ntable T 1\n(7)\nend\n",
         ),
@@ -76,6 +80,29 @@ fn small_reports(rt: HostRuntime) -> Result<(), Fail> {
         assert!(rt; !writer.failed);
         assert!(rt; !writer.stalled);
     }
+    Ok(())
+}
+
+#[test]
+fn a_report_of_values(rt: HostRuntime) -> Result<(), Fail> {
+    let alloc = rt.alloc();
+    let mut answers = Sequence::new(alloc);
+    answers.push(Answer::Value(Value::Int(-2)))?;
+    answers.push(Answer::Value(Value::Text(Text::from_bytes(alloc, b"it's")?)))?;
+    let mut fates = Sequence::new(alloc);
+    fates.push(Fate::Committed {
+        number: 1,
+        runs: 1,
+        answers,
+    })?;
+    let book = Book {
+        fates,
+        tables: Sequence::new(alloc),
+    };
+    let mut writer = Watched::new(Vec::new(alloc));
+    write_report(alloc, &book, &mut writer)?;
+    let want = "report 1\ntx 1 committed 1 after 1\n1 set -2\n2 set 'it''s'\nend\n";
+    assert_eq!(rt; writer.inner.as_slice(), want.as_bytes());
     Ok(())
 }
 

@@ -1,29 +1,30 @@
 -- The first byte of a piece tells what it is.
-use Rattle.std.proofs.Common.{◌≡◌, ℕ, ◌<◌, ◌≤◌, Bool, true, false, not, cond, leb, eqb, List, [], ◌∷◌, length, Result, Ok, refl, ap, ◌∙◌, arith, Option, Some, None, inl, inr}
+use Rattle.std.proofs.Common.{◌≡◌, ℕ, ◌<◌, ◌≤◌, Bool, true, false, not, cond, leb, eqb, List, [], ◌∷◌, length, Result, Ok, refl, ap, sym, ◌∙◌, arith, Option, Some, None, ◌⊎◌, inl, inr}
 use Rattle.std.specs.Prelude.{◌||◌, slice_index}
 use Rattle.std.specs.Char.{is_ascii_alphabetic, is_ascii_digit}
 use Rattle.std.specs.Int.{is_in_range}
 use Rattle.std.proofs.lemmas.Bool.{agree_below_at, and_parts, or_cases, leb-true, eqb-true}
 use Rattle.ent_text.specs.declared.fault.TextFault.{TextFault}
 use Rattle.ent_text.specs.declared.token.TokenKind.{TokenKind}
-use Rattle.ent_text.specs.declared.token.TokenKind.TheVariants.{Word, Name, Number, Literal, Sign}
+use Rattle.ent_text.specs.declared.token.TokenKind.TheVariants.{Word, Name, HostVariable, Number, Literal, Sign}
 use Rattle.ent_text.specs.declared.symbol.Symbol.{Symbol}
 use Rattle.ent_text.specs.declared.symbol.Symbol.TheVariants.{Open, Close, Comma, Semicolon, Dot, Star, Plus, Minus, Equal, NotEqual, Less, LessOrEqual, Greater, GreaterOrEqual}
 use Rattle.ent_text.specs.Symbol.{symbol_text, SpellsSymbol}
-use Rattle.ent_text.specs.Spelling.{is_blank, IsPiece}
-use Rattle.ent_text.specs.Lexing.{Piece, word_at, number_at, text_at, symbol_at, piece_at}
+use Rattle.ent_text.specs.Spelling.{Spells, is_blank, is_in_line, IsBlank, IsComment, IsPiece}
+use Rattle.ent_text.specs.Lexing.{Piece, after, word_at, number_at, text_at, host_variable_at, begins_comment, symbol_at, piece_at}
 use Rattle.ent_text.proofs.Digits.{is_digit}
 
-abbrev pub class_from : Bool → Bool → Bool → Bool → ℕ
-class_from true letter digit quote = 0
-class_from false true digit quote = 1
-class_from false false true quote = 2
-class_from false false false true = 3
-class_from false false false false = 4
+abbrev pub class_from : Bool → Bool → Bool → Bool → Bool → ℕ
+class_from true letter digit quote host = 0
+class_from false true digit quote host = 1
+class_from false false true quote host = 2
+class_from false false false true host = 3
+class_from false false false false true = 5
+class_from false false false false false = 4
 
--- white space, letter, digit, quote or another
+-- white space, letter, digit, quote, `@` or another
 pub class_of : ℕ → ℕ
-class_of b = class_from (is_blank b) (is_ascii_alphabetic b) (is_ascii_digit b) (eqb b 39)
+class_of b = class_from (is_blank b) (is_ascii_alphabetic b) (is_ascii_digit b) (eqb b 39) (eqb b 64)
 
 implied : (x y : Bool) → not x || y ≡ true → x ≡ true → y ≡ true
 implied true y h e = h
@@ -33,7 +34,7 @@ pub class_of_blank : (b : ℕ) → is_blank b ≡ true → class_of b ≡ 0
 unfolding class_of
 class_of_blank b e = on (is_blank b) e
   where
-    on : (t : Bool) → t ≡ true → class_from t (is_ascii_alphabetic b) (is_ascii_digit b) (eqb b 39) ≡ 0
+    on : (t : Bool) → t ≡ true → class_from t (is_ascii_alphabetic b) (is_ascii_digit b) (eqb b 39) (eqb b 64) ≡ 0
     on true e = refl
     on false e = absurd cc
 
@@ -55,24 +56,37 @@ pub class_of_digit : (b : ℕ) → is_ascii_digit b ≡ true → class_of b ≡ 
 unfolding class_of
 class_of_digit b e = eqb-true (class_of b) 2 (implied (is_ascii_digit b) (eqb (class_of b) 2) (agree_below_at (λ c. not (is_ascii_digit c) || eqb (class_of c) 2) (λ c. true) 128 b refl (digit_is_small b e)) e)
 
-pub class_of_other : (b : ℕ) → is_blank b ≡ false → is_ascii_alphabetic b ≡ false → is_ascii_digit b ≡ false → eqb b 39 ≡ false → class_of b ≡ 4
+pub class_of_other : (b : ℕ) → is_blank b ≡ false → is_ascii_alphabetic b ≡ false → is_ascii_digit b ≡ false → eqb b 39 ≡ false → eqb b 64 ≡ false → class_of b ≡ 4
 unfolding class_of
-class_of_other b e f g h = on (is_blank b) (is_ascii_alphabetic b) (is_ascii_digit b) (eqb b 39) e f g h
+class_of_other b e f g h i = on (is_blank b) (is_ascii_alphabetic b) (is_ascii_digit b) (eqb b 39) (eqb b 64) e f g h i
   where
-    on : (t u v w : Bool) → t ≡ false → u ≡ false → v ≡ false → w ≡ false → class_from t u v w ≡ 4
-    on t u v w p q r s = rw (p, q, r, s) refl
+    on : (t u v w x : Bool) → t ≡ false → u ≡ false → v ≡ false → w ≡ false → x ≡ false → class_from t u v w x ≡ 4
+    on t u v w x p q r s o = rw (p, q, r, s, o) refl
 
 pub class_of_quote : class_of 39 ≡ 3
 unfolding class_of
 class_of_quote = refl
 
-abbrev pub class_of_piece : Option TokenKind → ℕ
-class_of_piece None = 0
-class_of_piece (Some (Word keyword)) = 1
-class_of_piece (Some (Name word)) = 1
-class_of_piece (Some (Number n)) = 2
-class_of_piece (Some (Literal text)) = 3
-class_of_piece (Some (Sign symbol)) = 4
+pub class_of_at_sign : class_of 64 ≡ 5
+unfolding class_of
+class_of_at_sign = refl
+
+pub class_of_minus : class_of 45 ≡ 4
+unfolding class_of
+class_of_minus = refl
+
+abbrev pub class_of_kind : TokenKind → ℕ
+class_of_kind (Word keyword) = 1
+class_of_kind (Name word) = 1
+class_of_kind (HostVariable word) = 5
+class_of_kind (Number n) = 2
+class_of_kind (Literal text) = 3
+class_of_kind (Sign symbol) = 4
+
+-- a piece whose first byte is of this class; a comment begins as a symbol does
+abbrev pub PieceOf : ℕ → List ℕ → Option TokenKind → Type 0
+PieceOf k bytes None = ((k ≡ 0) × IsBlank bytes) ⊎ ((k ≡ 4) × IsComment bytes)
+PieceOf k bytes (Some kind) = (k ≡ class_of_kind kind) × Spells bytes kind
 
 class_of_mark : (symbol : Symbol) → class_of (slice_index (symbol_text symbol) 0) ≡ 4
 unfolding class_of
@@ -99,13 +113,18 @@ pub class_of_symbol : (bytes : List ℕ) (symbol : Symbol) → SpellsSymbol byte
 class_of_symbol bytes symbol (inl e) = ap (λ (l : List ℕ). class_of (slice_index l 0)) e ∙ class_of_mark symbol
 class_of_symbol bytes symbol (inr e) = ap (λ (l : List ℕ). class_of (slice_index l 0)) e.0 ∙ class_of_exclamation
 
-pub class_of_first : (b : ℕ) (bytes : List ℕ) (piece : Option TokenKind) → IsPiece (b ∷ bytes) piece → class_of b ≡ class_of_piece piece
-class_of_first b bytes None (c, e, h) = let k : b ≡ c = cc in ap class_of k ∙ class_of_blank c h
-class_of_first b bytes (Some (Word keyword)) h = class_of_letter b h.0.0
-class_of_first b bytes (Some (Name word)) h = class_of_letter b h.0.0
-class_of_first b bytes (Some (Number n)) h = class_of_digit b (is_digit b h.0.1.0)
-class_of_first b bytes (Some (Literal text)) h = let k : b ≡ 39 = ap (λ (l : List ℕ). slice_index l 0) h.0 in ap class_of k ∙ class_of_quote
-class_of_first b bytes (Some (Sign symbol)) h = class_of_symbol (b ∷ bytes) symbol h
+pub kind_of_first : (b : ℕ) (bytes : List ℕ) (kind : TokenKind) → Spells (b ∷ bytes) kind → class_of b ≡ class_of_kind kind
+kind_of_first b bytes (Word keyword) h = class_of_letter b h.0.0
+kind_of_first b bytes (Name word) h = class_of_letter b h.0.0
+kind_of_first b bytes (HostVariable word) h = let k : b ≡ 64 = ap (λ (l : List ℕ). slice_index l 0) h.0 in ap class_of k ∙ class_of_at_sign
+kind_of_first b bytes (Number n) h = class_of_digit b (is_digit b h.0.1.0)
+kind_of_first b bytes (Literal text) h = let k : b ≡ 39 = ap (λ (l : List ℕ). slice_index l 0) h.0 in ap class_of k ∙ class_of_quote
+kind_of_first b bytes (Sign symbol) h = class_of_symbol (b ∷ bytes) symbol h
+
+pub piece_of_first : (b k : ℕ) (bytes : List ℕ) (piece : Option TokenKind) → class_of b ≡ k → IsPiece (b ∷ bytes) piece → PieceOf k (b ∷ bytes) piece
+piece_of_first b k bytes None e (inl h) = let first : b ≡ h.0 = ap (λ (l : List ℕ). slice_index l 0) h.1 in inl (sym e ∙ ap class_of first ∙ class_of_blank h.0 h.2, h)
+piece_of_first b k bytes None e (inr h) = let first : b ≡ 45 = ap (λ (l : List ℕ). slice_index l 0) h.1 in inr (sym e ∙ ap class_of first ∙ class_of_minus, h)
+piece_of_first b k bytes (Some kind) e h = (sym e ∙ kind_of_first b bytes kind h, h)
 
 length_of_mark : (symbol : Symbol) → 0 < length (symbol_text symbol)
 length_of_mark Open = omega arith
@@ -125,9 +144,11 @@ length_of_mark GreaterOrEqual = omega arith
 
 -- a piece has a byte
 pub no_empty_piece : (piece : Option TokenKind) → IsPiece [] piece → ⊥
-no_empty_piece None (b, e, h) = absurd cc
+no_empty_piece None (inl h) = absurd (omega (arith, ap length h.1))
+no_empty_piece None (inr h) = absurd (omega (arith, ap length h.1))
 no_empty_piece (Some (Word keyword)) h = absurd cc
 no_empty_piece (Some (Name word)) h = absurd cc
+no_empty_piece (Some (HostVariable word)) h = absurd (omega (arith, ap length h.0))
 no_empty_piece (Some (Number n)) h = absurd (omega arith)
 no_empty_piece (Some (Literal text)) h = absurd cc
 no_empty_piece (Some (Sign symbol)) (inl e) = absurd (omega (arith, length_of_mark symbol, ap length e))
@@ -135,41 +156,57 @@ no_empty_piece (Some (Sign symbol)) (inr e) = absurd (omega (arith, ap length e.
 
 -- ---- what is read there
 
-abbrev Chosen : Bool → Bool → Bool → Bool → Result Piece TextFault → Result Piece TextFault → Result Piece TextFault → Result Piece TextFault → Result Piece TextFault → Result Piece TextFault
-Chosen t u v w a b c d e = cond t a (cond u b (cond v c (cond w d e)))
+abbrev Chosen : Bool → Bool → Bool → Bool → Bool → Result Piece TextFault → Result Piece TextFault → Result Piece TextFault → Result Piece TextFault → Result Piece TextFault → Result Piece TextFault → Result Piece TextFault
+Chosen t u v w x a b c d e f = cond t a (cond u b (cond v c (cond w d (cond x e f))))
 
-pick_word : (t u v w : Bool) (a b c d e : Result Piece TextFault) → class_from t u v w ≡ 1 → Chosen t u v w a b c d e ≡ b
-pick_word true u v w a b c d e k = absurd (omega arith)
-pick_word false true v w a b c d e k = refl
-pick_word false false true w a b c d e k = absurd (omega arith)
-pick_word false false false true a b c d e k = absurd (omega arith)
-pick_word false false false false a b c d e k = absurd (omega arith)
+pick_word : (t u v w x : Bool) (a b c d e f : Result Piece TextFault) → class_from t u v w x ≡ 1 → Chosen t u v w x a b c d e f ≡ b
+pick_word true u v w x a b c d e f k = absurd (omega arith)
+pick_word false true v w x a b c d e f k = refl
+pick_word false false true w x a b c d e f k = absurd (omega arith)
+pick_word false false false true x a b c d e f k = absurd (omega arith)
+pick_word false false false false true a b c d e f k = absurd (omega arith)
+pick_word false false false false false a b c d e f k = absurd (omega arith)
 
-pick_number : (t u v w : Bool) (a b c d e : Result Piece TextFault) → class_from t u v w ≡ 2 → Chosen t u v w a b c d e ≡ c
-pick_number true u v w a b c d e k = absurd (omega arith)
-pick_number false true v w a b c d e k = absurd (omega arith)
-pick_number false false true w a b c d e k = refl
-pick_number false false false true a b c d e k = absurd (omega arith)
-pick_number false false false false a b c d e k = absurd (omega arith)
+pick_number : (t u v w x : Bool) (a b c d e f : Result Piece TextFault) → class_from t u v w x ≡ 2 → Chosen t u v w x a b c d e f ≡ c
+pick_number true u v w x a b c d e f k = absurd (omega arith)
+pick_number false true v w x a b c d e f k = absurd (omega arith)
+pick_number false false true w x a b c d e f k = refl
+pick_number false false false true x a b c d e f k = absurd (omega arith)
+pick_number false false false false true a b c d e f k = absurd (omega arith)
+pick_number false false false false false a b c d e f k = absurd (omega arith)
 
-pick_symbol : (t u v w : Bool) (a b c d e : Result Piece TextFault) → class_from t u v w ≡ 4 → Chosen t u v w a b c d e ≡ e
-pick_symbol true u v w a b c d e k = absurd (omega arith)
-pick_symbol false true v w a b c d e k = absurd (omega arith)
-pick_symbol false false true w a b c d e k = absurd (omega arith)
-pick_symbol false false false true a b c d e k = absurd (omega arith)
-pick_symbol false false false false a b c d e k = refl
+pick_other : (t u v w x : Bool) (a b c d e f : Result Piece TextFault) → class_from t u v w x ≡ 4 → Chosen t u v w x a b c d e f ≡ f
+pick_other true u v w x a b c d e f k = absurd (omega arith)
+pick_other false true v w x a b c d e f k = absurd (omega arith)
+pick_other false false true w x a b c d e f k = absurd (omega arith)
+pick_other false false false true x a b c d e f k = absurd (omega arith)
+pick_other false false false false true a b c d e f k = absurd (omega arith)
+pick_other false false false false false a b c d e f k = refl
 
 pub word_is_read : (place b : ℕ) (bytes : List ℕ) → class_of b ≡ 1 → piece_at place (b ∷ bytes) ≡ word_at place (b ∷ bytes)
 unfolding piece_at class_of
-word_is_read place b bytes k = pick_word (is_blank b) (is_ascii_alphabetic b) (is_ascii_digit b) (eqb b 39) _ _ _ _ _ k
+word_is_read place b bytes k = pick_word (is_blank b) (is_ascii_alphabetic b) (is_ascii_digit b) (eqb b 39) (eqb b 64) _ _ _ _ _ _ k
 
 pub number_is_read : (place b : ℕ) (bytes : List ℕ) → class_of b ≡ 2 → piece_at place (b ∷ bytes) ≡ number_at place (b ∷ bytes)
 unfolding piece_at class_of
-number_is_read place b bytes k = pick_number (is_blank b) (is_ascii_alphabetic b) (is_ascii_digit b) (eqb b 39) _ _ _ _ _ k
+number_is_read place b bytes k = pick_number (is_blank b) (is_ascii_alphabetic b) (is_ascii_digit b) (eqb b 39) (eqb b 64) _ _ _ _ _ _ k
 
-pub symbol_is_read : (place b : ℕ) (bytes : List ℕ) → class_of b ≡ 4 → piece_at place (b ∷ bytes) ≡ symbol_at place (b ∷ bytes)
+abbrev CommentOr : List ℕ → Result Piece TextFault → Bool → Result Piece TextFault
+CommentOr bytes symbol comment = cond comment (Ok (None, after is_in_line bytes)) symbol
+
+other_is_read : (place b : ℕ) (bytes : List ℕ) → class_of b ≡ 4 → piece_at place (b ∷ bytes) ≡ CommentOr (b ∷ bytes) (symbol_at place (b ∷ bytes)) (begins_comment (b ∷ bytes))
 unfolding piece_at class_of
-symbol_is_read place b bytes k = pick_symbol (is_blank b) (is_ascii_alphabetic b) (is_ascii_digit b) (eqb b 39) _ _ _ _ _ k
+other_is_read place b bytes k = pick_other (is_blank b) (is_ascii_alphabetic b) (is_ascii_digit b) (eqb b 39) (eqb b 64) _ _ _ _ _ _ k
+
+pub comment_is_read : (place b : ℕ) (bytes : List ℕ) → class_of b ≡ 4 → begins_comment (b ∷ bytes) ≡ true → piece_at place (b ∷ bytes) ≡ Ok (None, after is_in_line (b ∷ bytes))
+comment_is_read place b bytes k e = other_is_read place b bytes k ∙ ap (CommentOr (b ∷ bytes) (symbol_at place (b ∷ bytes))) e
+
+pub symbol_is_read : (place b : ℕ) (bytes : List ℕ) → class_of b ≡ 4 → begins_comment (b ∷ bytes) ≡ false → piece_at place (b ∷ bytes) ≡ symbol_at place (b ∷ bytes)
+symbol_is_read place b bytes k e = other_is_read place b bytes k ∙ ap (CommentOr (b ∷ bytes) (symbol_at place (b ∷ bytes))) e
+
+pub host_variable_is_read : (place : ℕ) (bytes : List ℕ) → piece_at place (64 ∷ bytes) ≡ host_variable_at place (64 ∷ bytes)
+unfolding piece_at
+host_variable_is_read place bytes = refl
 
 pub text_is_read : (place : ℕ) (bytes : List ℕ) → piece_at place (39 ∷ bytes) ≡ text_at place (39 ∷ bytes)
 unfolding piece_at

@@ -16,20 +16,20 @@ use Rattle.ent_text.specs.declared.fault.TextFault.{TextFault}
 use Rattle.ent_text.specs.declared.fault.TextFault.TheVariants.{BadChar, OpenText, NumberTooLarge, TextTooLong}
 use Rattle.ent_text.specs.declared.token.Token.{Token}
 use Rattle.ent_text.specs.declared.token.TokenKind.{TokenKind}
-use Rattle.ent_text.specs.declared.token.TokenKind.TheVariants.{Word, Name, Number, Literal, Sign}
-use Rattle.ent_text.specs.Spelling.{Spells, IsPiece, IsLongest, IsWithinLimit, is_blank}
-use Rattle.ent_text.specs.Reading.{Reads, nothing, blank, token, AreTokens, IsTooLong, IsFaulty, HasFault}
-use Rattle.ent_text.specs.Lexing.{Piece, after, keyword_of, word_kind, word_at, number_at, value_from, symbol_of, symbol_at, quoted_at, text_at, piece_at, tokens_from, tokens_of, with_token}
+use Rattle.ent_text.specs.declared.token.TokenKind.TheVariants.{Word, Name, HostVariable, Number, Literal, Sign}
+use Rattle.ent_text.specs.Spelling.{Spells, IsPiece, IsLongest, IsWithinLimit, is_blank, is_in_line}
+use Rattle.ent_text.specs.Reading.{Reads, nothing, gap, token, AreTokens, IsTooLong, IsFaulty, HasFault}
+use Rattle.ent_text.specs.Lexing.{Piece, after, keyword_of, word_kind, word_at, number_at, value_from, symbol_of, symbol_at, quoted_at, text_at, host_variable_at, begins_comment, piece_at, tokens_from, tokens_of, with_token}
 use Rattle.ent_text.proofs.Shorter.{piece_shorter}
 use Rattle.ent_text.proofs.Digits.{all_digits, value_is}
 use Rattle.ent_text.proofs.Fronts.{front_passes, parts}
 use Rattle.ent_text.proofs.Firsts.{class_of, class_of_blank, class_of_letter, class_of_digit, class_of_other}
 use Rattle.ent_text.proofs.Words.{front_is_wordlike, word_spells, found_is_keyword, keyword_is_short}
-use Rattle.ent_text.proofs.Runs.{blank_longest, word_longest, number_longest}
-use Rattle.ent_text.proofs.Symbols.{Marks, symbol_marks, symbol_longest, nothing_begins}
+use Rattle.ent_text.proofs.Runs.{blank_longest, word_longest, number_longest, host_variable_longest, comment_longest, comment_front}
+use Rattle.ent_text.proofs.Symbols.{Marks, symbol_marks, symbol_longest, nothing_begins, at_sign_begins_nothing}
 use Rattle.ent_text.proofs.Texts.{Quoted, quoted_is, text_longest}
 
--- white space has no limit
+-- a gap has no limit
 abbrev pub IsPieceWithin : Option TokenKind → Type 0
 IsPieceWithin None = Unit {0}
 IsPieceWithin (Some kind) = IsWithinLimit kind
@@ -64,6 +64,22 @@ word_cut place b bytes letter =
     cut_cond place (b ∷ bytes) (ltb 63 (length word)) _ _
     (λ e. (refl, (word_kind word, (word, after is_word_byte (b ∷ bytes), parts is_word_byte (b ∷ bytes), spelled, longest), (word_limits place word).1 (ltb-true 63 (length word) e))))
     (λ e. (word, parts is_word_byte (b ∷ bytes), spelled, longest, (word_limits place word).0 (ltb-false 63 (length word) e)))
+
+-- ---- host variables
+
+host_variable_cut : (place : ℕ) (bytes : List ℕ) → Cut place (64 ∷ bytes) (host_variable_at place (64 ∷ bytes))
+unfolding host_variable_at
+host_variable_cut place bytes =
+    cut_cond place (64 ∷ bytes) (is_ascii_alphabetic (slice_index bytes 0)) _ _
+    (λ letter.
+    let word = take_while is_word_byte bytes in
+    let is : 64 ∷ bytes ≡ 64 ∷ (word ++ after is_word_byte bytes) = ap (λ (l : List ℕ). 64 ∷ l) (parts is_word_byte bytes) in
+    let spelled : Spells (64 ∷ word) (HostVariable word) = (refl, front_is_wordlike bytes letter) in
+    let longest : IsLongest (64 ∷ word) (after is_word_byte bytes) = host_variable_longest bytes in
+    cut_cond place (64 ∷ bytes) (ltb 63 (length word)) _ _
+    (λ e. (refl, (HostVariable word, (64 ∷ word, after is_word_byte bytes, is, spelled, longest), ltb-true 63 (length word) e)))
+    (λ e. (64 ∷ word, is, spelled, longest, ltb-false 63 (length word) e)))
+    (λ e. inl (refl, at_sign_begins_nothing bytes e))
 
 -- ---- numbers
 
@@ -100,26 +116,33 @@ text_cut place bytes = on (quoted_at place (place + 1) bytes) (quoted_is place (
     on (Err (NumberTooLarge at)) h = absurd h
     on (Err (TextTooLong at)) h = absurd h
 
+-- ---- comments
+
+comment_cut : (place b : ℕ) (bytes : List ℕ) → class_of b ≡ 4 → begins_comment (b ∷ bytes) ≡ true → Cut place (b ∷ bytes) (Ok (None, after is_in_line (b ∷ bytes)))
+comment_cut place b bytes k e = (take_while is_in_line (b ∷ bytes), parts is_in_line (b ∷ bytes), inr (comment_front b bytes e), comment_longest b bytes k, tt)
+
 -- ---- symbols
 
-symbol_cut : (place b : ℕ) (bytes : List ℕ) → class_of b ≡ 4 → eqb b 39 ≡ false → Cut place (b ∷ bytes) (symbol_at place (b ∷ bytes))
+symbol_cut : (place b : ℕ) (bytes : List ℕ) → class_of b ≡ 4 → eqb b 39 ≡ false → begins_comment (b ∷ bytes) ≡ false → Cut place (b ∷ bytes) (symbol_at place (b ∷ bytes))
 unfolding symbol_at
-symbol_cut place b bytes k e = on (symbol_of b (slice_index bytes 0)) refl (symbol_marks b bytes)
+symbol_cut place b bytes k e plain = on (symbol_of b (slice_index bytes 0)) refl (symbol_marks b bytes)
   where
     on : (o : Option (Symbol × ℕ)) → symbol_of b (slice_index bytes 0) ≡ o → Marks (b ∷ bytes) o → Cut place (b ∷ bytes) (option_map_or (λ s. Ok (Some (Sign s.0), drop s.1 (b ∷ bytes))) o (Err (BadChar place)))
-    on None is h = inl (refl, nothing_begins b bytes k e is)
-    on (Some x) is h = (take x.1 (b ∷ bytes), sym (take-append-drop x.1 (b ∷ bytes)), h.2, symbol_longest b bytes x k h.0 h.1 is, tt)
+    on None is h = inl (refl, nothing_begins b bytes k e plain is)
+    on (Some x) is h = (take x.1 (b ∷ bytes), sym (take-append-drop x.1 (b ∷ bytes)), h.2, symbol_longest b bytes x k plain h.0 h.1 is, tt)
 
 -- ---- all pieces
 
 pub piece_cut : (place b : ℕ) (bytes : List ℕ) → Cut place (b ∷ bytes) (piece_at place (b ∷ bytes))
 unfolding piece_at
 piece_cut place b bytes =
-    cut_cond place (b ∷ bytes) (is_blank b) _ _ (λ e. (b ∷ [], refl, (b, refl, e), blank_longest b bytes (class_of_blank b e), tt)) (λ e0.
+    cut_cond place (b ∷ bytes) (is_blank b) _ _ (λ e. (b ∷ [], refl, inl (b, refl, e), blank_longest b bytes (class_of_blank b e), tt)) (λ e0.
     cut_cond place (b ∷ bytes) (is_ascii_alphabetic b) _ _ (word_cut place b bytes) (λ e1.
     cut_cond place (b ∷ bytes) (is_ascii_digit b) _ _ (number_cut place b bytes) (λ e2.
     cut_cond place (b ∷ bytes) (eqb b 39) _ _ (λ e. subst (λ (q : ℕ). Cut place (q ∷ bytes) (text_at place (q ∷ bytes))) (sym (eqb-true b 39 e)) (text_cut place bytes)) (λ e3.
-    symbol_cut place b bytes (class_of_other b e0 e1 e2 e3) e3))))
+    cut_cond place (b ∷ bytes) (eqb b 64) _ _ (λ e. subst (λ (q : ℕ). Cut place (q ∷ bytes) (host_variable_at place (q ∷ bytes))) (sym (eqb-true b 64 e)) (host_variable_cut place bytes)) (λ e4.
+    let k : class_of b ≡ 4 = class_of_other b e0 e1 e2 e3 e4 in
+    cut_cond place (b ∷ bytes) (begins_comment (b ∷ bytes)) _ _ (comment_cut place b bytes k) (symbol_cut place b bytes k e3))))))
 
 -- ---- all tokens
 
@@ -130,7 +153,7 @@ AllCut place bytes (Err f) = (ts : List Token) × (at : ℕ) × (rest : List ℕ
 -- a piece before what is read behind it
 reads_piece : (place : ℕ) (word rest : List ℕ) (piece : Option TokenKind) (ts : List Token) (end : ℕ) (last : List ℕ) → IsPiece word piece → IsLongest word rest → IsPieceWithin piece
     → Reads (place + length word) rest ts end last → Reads place (word ++ rest) (with_token piece place (place + length word) ts) end last
-reads_piece place word rest None ts end last spelled longest within h = blank place word rest ts end last spelled longest h
+reads_piece place word rest None ts end last spelled longest within h = gap place word rest ts end last spelled longest h
 reads_piece place word rest (Some kind) ts end last spelled longest within h = token place word rest kind ts end last spelled longest within h
 
 put : (place : ℕ) (word rest : List ℕ) (piece : Option TokenKind) (read : Result (List Token) TextFault) → IsPiece word piece → IsLongest word rest → IsPieceWithin piece → AllCut (place + length word) rest read

@@ -6,7 +6,7 @@ use Rattle.std.proofs.lemmas.Bool.{eqb-true, ne_eqb, and_from, or_from, or_parts
 use Rattle.std.specs.Prelude.{slice_index, ◌≢◌}
 use Rattle.std.specs.Option.{option_map_or}
 use Rattle.std.specs.List.{take_while, list_all, list_any}
-use Rattle.std.specs.Char.{is_ascii_digit, is_ascii_control}
+use Rattle.std.specs.Char.{is_ascii_alphabetic, is_ascii_digit, is_ascii_control}
 use Rattle.std.specs.Str.Parse.{IsNumeral, digits_value}
 use Rattle.ent_value.specs.Refusal.{◌>>=◌}
 use Rattle.ent_value.specs.declared.refusal.Refusal.TheVariants as errors
@@ -18,15 +18,16 @@ use Rattle.ent_text.specs.declared.fault.TextFault.{TextFault}
 use Rattle.ent_text.specs.declared.fault.TextFault.TheVariants.{BadChar, OpenText, NumberTooLarge, TextTooLong}
 use Rattle.ent_text.specs.declared.token.Token.{Token}
 use Rattle.ent_text.specs.declared.token.TokenKind.{TokenKind}
-use Rattle.ent_text.specs.declared.token.TokenKind.TheVariants.{Word, Name, Number, Literal, Sign}
+use Rattle.ent_text.specs.declared.token.TokenKind.TheVariants.{Word, Name, HostVariable, Number, Literal, Sign}
 use Rattle.ent_text.specs.Symbol.{SpellsSymbol}
-use Rattle.ent_text.specs.Spelling.{Spells, IsPlain, IsPiece, IsLongest, IsWordLike, is_blank}
-use Rattle.ent_text.specs.Reading.{Reads, nothing, blank, token, AreTokens, IsTooLong, IsFaulty, HasFault}
-use Rattle.ent_text.specs.Lexing.{Piece, after, word_kind, word_at, number_at, value_from, symbol_of, symbol_at, with_byte, quoted_at, text_at, piece_at, tokens_of, with_token}
+use Rattle.ent_text.specs.Spelling.{Spells, IsPlain, IsPiece, IsLongest, IsWordLike, IsComment, is_blank, is_in_line}
+use Rattle.ent_text.specs.Reading.{Reads, nothing, gap, token, AreTokens, IsTooLong, IsFaulty, HasFault}
+use Rattle.ent_text.specs.Lexing.{Piece, after, word_kind, word_at, number_at, value_from, host_variable_at, begins_comment, symbol_of, symbol_at, with_byte, quoted_at, text_at, piece_at, tokens_of, with_token}
 use Rattle.ent_text.proofs.Digits.{digits_pass, all_digits, value_is}
 use Rattle.ent_text.proofs.Fronts.{Stops, taken_is, after_is}
-use Rattle.ent_text.proofs.Firsts.{class_of, class_of_first, no_empty_piece, word_is_read, number_is_read, symbol_is_read, text_is_read, blank_is_read}
-use Rattle.ent_text.proofs.Words.{word_spells, keyword_kind, keyword_is_short, name_kind}
+use Rattle.ent_text.proofs.Firsts.{class_of, class_of_minus, kind_of_first, no_empty_piece, word_is_read, number_is_read, host_variable_is_read, comment_is_read, symbol_is_read, text_is_read, blank_is_read}
+use Rattle.ent_text.proofs.Words.{letter_first, word_spells, keyword_kind, keyword_is_short, name_kind}
+use Rattle.ent_text.proofs.Runs.{comment_is_in_line, comment_begins, begins_two}
 use Rattle.ent_text.proofs.Symbols.{Marks, symbol_marks, symbol_takes, takes_none, takes_at_most}
 use Rattle.ent_text.proofs.Texts.{is_quote}
 use Rattle.ent_text.proofs.Reading.{Body, quoted-doubled, quoted-closed, quoted-control, quoted-other}
@@ -49,10 +50,13 @@ stops test word (c ∷ rest) longest more = on (test c) refl
     on true e = let p = more c e in absurd (goes_on word rest c p.0 p.1 longest p.2)
     on false e = refl
 
+longer_run : (test : ℕ → Bool) (bytes : List ℕ) (c : ℕ) → list_all test bytes ≡ true → test c ≡ true → list_all test (bytes ++ c ∷ []) ≡ true
+longer_run test bytes c all e = list_all-append test bytes (c ∷ []) ∙ and_from (list_all test bytes) (list_all test (c ∷ [])) all (and_from (test c) true e refl)
+
 -- ---- words
 
-longer_word : (b : ℕ) (word : List ℕ) (c : ℕ) → IsWordLike (b ∷ word) → is_word_byte c ≡ true → IsWordLike ((b ∷ word) ++ c ∷ [])
-longer_word b word c like e = (like.0, list_all-append is_word_byte (b ∷ word) (c ∷ []) ∙ and_from (list_all is_word_byte (b ∷ word)) (list_all is_word_byte (c ∷ [])) like.1 (and_from (is_word_byte c) true e refl))
+longer_word : (word : List ℕ) (c : ℕ) → IsWordLike word → is_word_byte c ≡ true → IsWordLike (word ++ c ∷ [])
+longer_word word c like e = (letter_first word (c ∷ []) like.0, longer_run is_word_byte word c like.1 e)
 
 nothing_more : (word : List ℕ) (piece : Option TokenKind) → IsPiece word piece → IsPiece (word ++ []) piece
 nothing_more word piece h = subst (λ (l : List ℕ). IsPiece l piece) (sym (append-nil word)) h
@@ -66,16 +70,36 @@ word_read place bytes = refl
 
 word_reads : (place b : ℕ) (word rest : List ℕ) → class_of b ≡ 1 → IsWordLike (b ∷ word) → IsLongest (b ∷ word) rest → piece_at place (b ∷ (word ++ rest)) ≡ WordRead place (b ∷ word) rest
 word_reads place b word rest k like longest =
-    let stop : Stops is_word_byte rest = stops is_word_byte (b ∷ word) rest longest (λ c e. ([], Some (word_kind ((b ∷ word) ++ c ∷ [])), nothing_more ((b ∷ word) ++ c ∷ []) (Some (word_kind ((b ∷ word) ++ c ∷ []))) (word_spells ((b ∷ word) ++ c ∷ []) (longer_word b word c like e)))) in
+    let stop : Stops is_word_byte rest = stops is_word_byte (b ∷ word) rest longest (λ c e. ([], Some (word_kind ((b ∷ word) ++ c ∷ [])), nothing_more ((b ∷ word) ++ c ∷ []) (Some (word_kind ((b ∷ word) ++ c ∷ []))) (word_spells ((b ∷ word) ++ c ∷ []) (longer_word (b ∷ word) c like e)))) in
     word_is_read place b (word ++ rest) k ∙ word_read place (b ∷ (word ++ rest))
     ∙ ap (λ (l : List ℕ). WordRead place l (after is_word_byte (b ∷ (word ++ rest)))) (taken_is is_word_byte (b ∷ word) rest like.1 stop)
     ∙ ap (WordRead place (b ∷ word)) (after_is is_word_byte (b ∷ word) rest like.1 stop)
+
+-- ---- host variables
+
+abbrev HostVariableRead : ℕ → List ℕ → List ℕ → Result Piece TextFault
+HostVariableRead place word rest = cond (ltb 63 (length word)) (Err (TextTooLong place)) (Ok (Some (HostVariable word), rest))
+
+host_variable_read : (place : ℕ) (bytes : List ℕ) → is_ascii_alphabetic (slice_index bytes 0) ≡ true
+    → host_variable_at place (64 ∷ bytes) ≡ HostVariableRead place (take_while is_word_byte bytes) (after is_word_byte bytes)
+unfolding host_variable_at
+host_variable_read place bytes letter =
+    let word = take_while is_word_byte bytes in
+    let rest = after is_word_byte bytes in
+    ap (λ (t : Bool). let r : Result Piece TextFault = cond t (HostVariableRead place word rest) (Err (BadChar place)) in r) letter
+
+host_variable_reads : (place : ℕ) (word rest : List ℕ) → IsWordLike word → IsLongest (64 ∷ word) rest → piece_at place (64 ∷ (word ++ rest)) ≡ HostVariableRead place word rest
+host_variable_reads place word rest like longest =
+    let stop : Stops is_word_byte rest = stops is_word_byte (64 ∷ word) rest longest (λ c e. ([], Some (HostVariable (word ++ c ∷ [])), nothing_more (64 ∷ (word ++ c ∷ [])) (Some (HostVariable (word ++ c ∷ []))) (refl, longer_word word c like e))) in
+    host_variable_is_read place (word ++ rest) ∙ host_variable_read place (word ++ rest) (letter_first word rest like.0)
+    ∙ ap (λ (l : List ℕ). HostVariableRead place l (after is_word_byte (word ++ rest))) (taken_is is_word_byte word rest like.1 stop)
+    ∙ ap (HostVariableRead place word) (after_is is_word_byte word rest like.1 stop)
 
 -- ---- numbers
 
 longer_number : (word : List ℕ) (c : ℕ) → IsNumeral 10 word → is_ascii_digit c ≡ true → IsNumeral 10 (word ++ c ∷ [])
 longer_number word c h e =
-    (omega (arith, length-append word (c ∷ [])), all_digits (word ++ c ∷ []) (list_all-append is_ascii_digit word (c ∷ []) ∙ and_from (list_all is_ascii_digit word) (list_all is_ascii_digit (c ∷ [])) (digits_pass word h.1) (and_from (is_ascii_digit c) true e refl)))
+    (omega (arith, length-append word (c ∷ [])), all_digits (word ++ c ∷ []) (longer_run is_ascii_digit word c (digits_pass word h.1) e))
 
 abbrev NumberRead : ℕ → ℕ → List ℕ → Result Piece TextFault
 NumberRead place value rest = cond (ltb 9223372036854775807 value) (Err (NumberTooLarge place)) (Ok (Some (Number value), rest))
@@ -220,11 +244,41 @@ the_symbol b word rest symbol (Some x) is spelled longest =
     let same : x.0 ≡ symbol = one_symbol (b ∷ word) x.0 symbol (subst (λ (l : List ℕ). SpellsSymbol l x.0) cut marks.2) spelled in
     λ i. Some (same i, size i)
 
+-- the symbol that a minus sign begins is that alone
+minus_is_short : (word : List ℕ) (symbol : Symbol) → SpellsSymbol (45 ∷ word) symbol → length (45 ∷ word) ≡ 1
+unfolding symbol_of
+minus_is_short word symbol spelled = ap (λ (o : Option (Symbol × ℕ)). option_map_or (λ x. x.1) o 1) (sym (symbol_is (45 ∷ word) symbol spelled))
+
+-- the symbol that is the longest piece is no beginning of a comment
+symbol_is_plain : (b : ℕ) (word rest : List ℕ) (symbol : Symbol) → SpellsSymbol (b ∷ word) symbol → IsLongest (b ∷ word) rest → begins_comment (b ∷ (word ++ rest)) ≡ false
+symbol_is_plain b word rest symbol spelled longest = on (begins_comment (b ∷ (word ++ rest))) refl
+  where
+    on : (t : Bool) → begins_comment (b ∷ (word ++ rest)) ≡ t → t ≡ false
+    on false e = refl
+    on true e =
+        let two : b ∷ (word ++ rest) ≡ 45 ∷ 45 ∷ drop 1 (word ++ rest) = begins_two b (word ++ rest) e in
+        let first : b ≡ 45 = ap (λ (l : List ℕ). slice_index l 0) two in
+        let short : length (45 ∷ word) ≡ 1 = minus_is_short word symbol (subst (λ (y : ℕ). SpellsSymbol (y ∷ word) symbol) first spelled) in
+        let le : length {A = ℕ} (45 ∷ 45 ∷ []) ≤ length (b ∷ word) = longest (45 ∷ 45 ∷ []) (drop 1 (word ++ rest)) [] None (sym two) (inr ([], refl, refl)) in
+        absurd (omega arith)
+
 symbol_reads : (place b : ℕ) (word rest : List ℕ) (symbol : Symbol) → class_of b ≡ 4 → SpellsSymbol (b ∷ word) symbol → IsLongest (b ∷ word) rest → piece_at place (b ∷ (word ++ rest)) ≡ Ok (Some (Sign symbol), rest)
 symbol_reads place b word rest symbol k spelled longest =
-    symbol_is_read place b (word ++ rest) k ∙ symbol_read place b (word ++ rest)
+    symbol_is_read place b (word ++ rest) k (symbol_is_plain b word rest symbol spelled longest) ∙ symbol_read place b (word ++ rest)
     ∙ ap (SymbolRead place (b ∷ (word ++ rest))) (the_symbol b word rest symbol (symbol_of b (slice_index (word ++ rest) 0)) refl spelled longest)
     ∙ ap (λ (l : List ℕ). let r : Result Piece TextFault = Ok (Some (Sign symbol), l) in r) (drop_at (b ∷ word) rest (length (b ∷ word)) refl)
+
+-- ---- comments
+
+longer_comment : (bytes : List ℕ) (c : ℕ) → IsComment bytes → is_in_line c ≡ true → IsComment (bytes ++ c ∷ [])
+longer_comment bytes c (content, is, plain) e = (content ++ c ∷ [], ap (λ (l : List ℕ). l ++ c ∷ []) is, longer_run is_in_line content c plain e)
+
+comment_reads : (place b : ℕ) (word rest : List ℕ) → IsComment (b ∷ word) → IsLongest (b ∷ word) rest → piece_at place (b ∷ (word ++ rest)) ≡ Ok (None, rest)
+comment_reads place b word rest comment longest =
+    let stop : Stops is_in_line rest = stops is_in_line (b ∷ word) rest longest (λ c e. ([], None, nothing_more ((b ∷ word) ++ c ∷ []) None (inr (longer_comment (b ∷ word) c comment e)))) in
+    let first : b ≡ 45 = ap (λ (l : List ℕ). slice_index l 0) comment.1 in
+    comment_is_read place b (word ++ rest) (ap class_of first ∙ class_of_minus) (comment_begins (b ∷ word) rest comment)
+    ∙ ap (λ (l : List ℕ). let r : Result Piece TextFault = Ok (None, l) in r) (after_is is_in_line (b ∷ word) rest (comment_is_in_line (b ∷ word) comment) stop)
 
 -- ---- all pieces
 
@@ -233,35 +287,41 @@ abbrev pub judged : ℕ → Option TokenKind → List ℕ → Result Piece TextF
 judged place None rest = Ok (None, rest)
 judged place (Some (Word keyword)) rest = Ok (Some (Word keyword), rest)
 judged place (Some (Name word)) rest = cond (ltb 63 (length word)) (Err (TextTooLong place)) (Ok (Some (Name word), rest))
+judged place (Some (HostVariable word)) rest = HostVariableRead place word rest
 judged place (Some (Number n)) rest = NumberRead place n rest
 judged place (Some (Literal text)) rest = TextRead place (Ok (text, rest))
 judged place (Some (Sign symbol)) rest = Ok (Some (Sign symbol), rest)
 
 pub reads_as : (place : ℕ) (word rest : List ℕ) (piece : Option TokenKind) → IsPiece word piece → IsLongest word rest → piece_at place (word ++ rest) ≡ judged place piece rest
 reads_as place [] rest piece spelled longest = absurd (no_empty_piece piece spelled)
-reads_as place (b ∷ word) rest None (c, is, h) longest =
+reads_as place (b ∷ word) rest None (inr comment) longest = comment_reads place b word rest comment longest
+reads_as place (b ∷ word) rest None (inl (c, is, h)) longest =
     let first : b ≡ c = cc in
     let others : word ≡ [] = cc in
     blank_is_read place b (word ++ rest) (ap is_blank first ∙ h) ∙ ap (λ (l : List ℕ). let r : Result Piece TextFault = Ok (None, l ++ rest) in r) others
 reads_as place (b ∷ word) rest (Some (Word keyword)) spelled longest =
     let short : ltb 63 (length (b ∷ word)) ≡ false = le-ltb 63 (length (b ∷ word)) (keyword_is_short (b ∷ word) keyword spelled.1) in
-    let read = word_reads place b word rest (class_of_first b word (Some (Word keyword)) spelled) spelled.0 longest in
+    let read = word_reads place b word rest (kind_of_first b word (Word keyword) spelled) spelled.0 longest in
     read ∙ ap (λ (t : Bool). cond t (Err (TextTooLong place)) (Ok (Some (word_kind (b ∷ word)), rest))) short ∙ ap (λ (kind : TokenKind). let r : Result Piece TextFault = Ok (Some kind, rest) in r) (keyword_kind (b ∷ word) keyword spelled.1)
 reads_as place (b ∷ word) rest (Some (Name name)) spelled longest =
-    let read = word_reads place b word rest (class_of_first b word (Some (Name name)) spelled) spelled.0 longest in
+    let read = word_reads place b word rest (kind_of_first b word (Name name) spelled) spelled.0 longest in
     let named : word_kind (b ∷ word) ≡ Name (b ∷ word) = name_kind (b ∷ word) spelled.2 in
     read ∙ ap (λ (kind : TokenKind). let r : Result Piece TextFault = cond (ltb 63 (length (b ∷ word))) (Err (TextTooLong place)) (Ok (Some kind, rest)) in r) named
     ∙ ap (λ (l : List ℕ). judged place (Some (Name l)) rest) spelled.1
-reads_as place (b ∷ word) rest (Some (Number n)) spelled longest = number_reads place b word rest n (class_of_first b word (Some (Number n)) spelled) spelled longest
+reads_as place (b ∷ word) rest (Some (HostVariable name)) spelled longest =
+    let longest_name : IsLongest (64 ∷ name) rest = subst (λ (l : List ℕ). IsLongest l rest) spelled.0 longest in
+    ap (λ (l : List ℕ). piece_at place (l ++ rest)) spelled.0 ∙ host_variable_reads place name rest spelled.1 longest_name
+reads_as place (b ∷ word) rest (Some (Number n)) spelled longest = number_reads place b word rest n (kind_of_first b word (Number n) spelled) spelled longest
 reads_as place (b ∷ word) rest (Some (Literal text)) spelled longest =
     let closed : IsLongest (quoted text) rest = subst (λ (l : List ℕ). IsLongest l rest) spelled.0 longest in
     ap (λ (l : List ℕ). piece_at place (l ++ rest)) spelled.0 ∙ text_reads place text rest spelled.1 closed
-reads_as place (b ∷ word) rest (Some (Sign symbol)) spelled longest = symbol_reads place b word rest symbol (class_of_first b word (Some (Sign symbol)) spelled) spelled longest
+reads_as place (b ∷ word) rest (Some (Sign symbol)) spelled longest = symbol_reads place b word rest symbol (kind_of_first b word (Sign symbol) spelled) spelled longest
 
 within_is_read : (place : ℕ) (piece : Option TokenKind) (rest : List ℕ) → IsPieceWithin piece → judged place piece rest ≡ Ok (piece, rest)
 within_is_read place None rest h = refl
 within_is_read place (Some (Word keyword)) rest h = refl
 within_is_read place (Some (Name word)) rest h = ap (λ (t : Bool). let r : Result Piece TextFault = cond t (Err (TextTooLong place)) (Ok (Some (Name word), rest)) in r) (le-ltb 63 (length word) h)
+within_is_read place (Some (HostVariable word)) rest h = ap (λ (t : Bool). let r : Result Piece TextFault = cond t (Err (TextTooLong place)) (Ok (Some (HostVariable word), rest)) in r) (le-ltb 63 (length word) h)
 within_is_read place (Some (Number n)) rest h = ap (λ (t : Bool). let r : Result Piece TextFault = cond t (Err (NumberTooLarge place)) (Ok (Some (Number n), rest)) in r) (le-ltb 9223372036854775807 n h)
 within_is_read place (Some (Literal text)) rest h = ap (λ (t : Bool). let r : Result Piece TextFault = cond t (Err (TextTooLong place)) (Ok (Some (Literal text), rest)) in r) (le-ltb 255 (length text) h)
 within_is_read place (Some (Sign symbol)) rest h = refl
@@ -269,6 +329,7 @@ within_is_read place (Some (Sign symbol)) rest h = refl
 too_long_is_read : (place : ℕ) (kind : TokenKind) (rest : List ℕ) → IsTooLong kind → judged place (Some kind) rest ≡ Err (TextTooLong place)
 too_long_is_read place (Word keyword) rest h = absurd h
 too_long_is_read place (Name word) rest h = ap (λ (t : Bool). let r : Result Piece TextFault = cond t (Err (TextTooLong place)) (Ok (Some (Name word), rest)) in r) (lt-ltb 63 (length word) h)
+too_long_is_read place (HostVariable word) rest h = ap (λ (t : Bool). let r : Result Piece TextFault = cond t (Err (TextTooLong place)) (Ok (Some (HostVariable word), rest)) in r) (lt-ltb 63 (length word) h)
 too_long_is_read place (Number n) rest h = absurd h
 too_long_is_read place (Literal text) rest h = ap (λ (t : Bool). let r : Result Piece TextFault = cond t (Err (TextTooLong place)) (Ok (Some (Literal text), rest)) in r) (lt-ltb 255 (length text) h)
 too_long_is_read place (Sign symbol) rest h = absurd h
@@ -330,9 +391,9 @@ left_after found place word rest piece total spelled longest within left =
 
 read_on : {place : ℕ} {bytes : List ℕ} {ts : List Token} {end : ℕ} {rest : List ℕ} → Reads place bytes ts end rest → (found : List Token) (total : Result (List Token) TextFault) → LeftToRead found place bytes total → LeftToRead (found ++ ts) end rest total
 read_on (nothing place rest) found total left = subst (λ (l : List Token). LeftToRead l place rest total) (sym (append-nil found)) left
-read_on (blank place gap behind ts end rest spelled longest more) found total left =
-    let h = left_after found place gap behind None total spelled longest tt left in
-    read_on more found total (subst (λ (l : List Token). LeftToRead l (place + length gap) behind total) (append-nil found) h)
+read_on (gap place bytes behind ts end rest spelled longest more) found total left =
+    let h = left_after found place bytes behind None total spelled longest tt left in
+    read_on more found total (subst (λ (l : List Token). LeftToRead l (place + length bytes) behind total) (append-nil found) h)
 read_on (token place bytes behind kind ts end rest spelled longest within more) found total left =
     let t : Token = record { kind = kind; start = place; end = place + length bytes } in
     let h = left_after found place bytes behind (Some kind) total spelled longest within left in

@@ -2,6 +2,7 @@
 use Rattle.std.proofs.Common.{◌≡◌, ℕ, zero, suc, ◌+◌, ◌<◌, ◌≤◌, Bool, true, false, cond, ltb, eqb, List, [], ◌∷◌, length, drop, Result, Ok, Err, refl, ap, subst, arith, Option, Some, None, ◌⊎◌, inl, inr}
 use Rattle.std.proofs.lemmas.List.{length-drop}
 use Rattle.std.specs.Prelude.{◌||◌, slice_index}
+use Rattle.std.proofs.lemmas.Bool.{and_parts, eqb-true}
 use Rattle.std.specs.List.{prefix_len, take_while}
 use Rattle.std.specs.Option.{option_map_or}
 use Rattle.std.specs.Char.{is_ascii_alphabetic, is_ascii_digit, is_ascii_control}
@@ -12,8 +13,8 @@ use Rattle.ent_text.specs.declared.token.TokenKind.TheVariants.{Literal, Sign}
 use Rattle.ent_text.specs.declared.symbol.Symbol.{Symbol}
 use Rattle.ent_value.specs.Refusal.{◌>>=◌}
 use Rattle.ent_value.specs.Name.{is_word_byte}
-use Rattle.ent_text.specs.Spelling.{is_blank}
-use Rattle.ent_text.specs.Lexing.{Piece, symbol_of, after, word_at, value_from, number_at, with_byte, quoted_at, text_at, symbol_at, piece_at}
+use Rattle.ent_text.specs.Spelling.{is_blank, is_in_line}
+use Rattle.ent_text.specs.Lexing.{Piece, symbol_of, after, word_at, value_from, number_at, with_byte, quoted_at, text_at, host_variable_at, begins_comment, symbol_at, piece_at}
 
 pub chosen : {A : Type 0} (b : Bool) (x y z : A) → cond b x y ≡ z → ((b ≡ true) × (x ≡ z)) ⊎ ((b ≡ false) × (y ≡ z))
 chosen true x y z e = inl (refl, e)
@@ -90,6 +91,15 @@ text_leaves place b bytes = on (quoted_at place (place + 1) bytes) (λ x e. quot
     on (Ok x) h = leaves_cond _ (ltb 255 (length x.0)) _ _ (λ _. tt) (λ _. let k = h x refl in omega arith)
     on (Err f) h = tt
 
+host_variable_leaves : (place b : ℕ) (bytes : List ℕ) → Leaves (length (b ∷ bytes)) (host_variable_at place (b ∷ bytes))
+unfolding host_variable_at
+host_variable_leaves place b bytes =
+    leaves_cond _ (is_ascii_alphabetic (slice_index bytes 0)) _ _
+    (λ _. leaves_cond _ (ltb 63 (length (take_while is_word_byte bytes))) _ _ (λ _. tt) (λ _. omega (arith, length-drop (prefix_len is_word_byte bytes) bytes))) (λ _. tt)
+
+pub comment_is_in_line : (b : ℕ) (bytes : List ℕ) → begins_comment (b ∷ bytes) ≡ true → is_in_line b ≡ true
+comment_is_in_line b bytes e = ap is_in_line (eqb-true b 45 (and_parts (eqb b 45) (eqb (slice_index bytes 0) 45) e).0)
+
 -- a symbol has a byte
 abbrev pub Long : Option (Symbol × ℕ) → Type 0
 Long None = Unit {0}
@@ -122,7 +132,9 @@ piece_leaves place b bytes =
     leaves_cond _ (is_ascii_alphabetic b) _ _ (word_leaves place b bytes) (λ _.
     leaves_cond _ (is_ascii_digit b) _ _ (number_leaves place b bytes) (λ _.
     leaves_cond _ (eqb b 39) _ _ (λ _. text_leaves place b bytes) (λ _.
-    symbol_leaves place b bytes))))
+    leaves_cond _ (eqb b 64) _ _ (λ _. host_variable_leaves place b bytes) (λ _.
+    leaves_cond _ (begins_comment (b ∷ bytes)) _ _ (λ e. after_shorter is_in_line b bytes (comment_is_in_line b bytes e)) (λ _.
+    symbol_leaves place b bytes))))))
 
 leaves_ok : (n : ℕ) (read : Result Piece TextFault) (x : Piece) → Leaves n read → read ≡ Ok x → length x.1 < n
 leaves_ok n (Ok y) x h e = let k : y ≡ x = cc in subst (λ (z : Piece). length z.1 < n) k h

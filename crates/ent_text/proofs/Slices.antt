@@ -7,7 +7,7 @@ use Rattle.std.proofs.lemmas.List.Elements.{All-nil, All-cons, All-weaker}
 use Rattle.ent_text.specs.declared.token.Token.{Token}
 use Rattle.ent_text.specs.declared.token.TokenKind.{TokenKind}
 use Rattle.ent_text.specs.Spelling.{Spells, IsPiece}
-use Rattle.ent_text.specs.Reading.{Reads, nothing, blank, token, AreTokens}
+use Rattle.ent_text.specs.Reading.{Reads, nothing, gap, token, AreTokens}
 use Rattle.ent_text.specs.Slices.{IsSliceOf, AreInOrder}
 use Rattle.ent_text.proofs.Firsts.{no_empty_piece}
 
@@ -28,9 +28,9 @@ later near far ts le h = All-weaker (λ t. far ≤ t.start) (λ t. near ≤ t.st
 
 slices_from : {place : ℕ} {bytes : List ℕ} {ts : List Token} {end : ℕ} {rest : List ℕ} → Reads place bytes ts end rest → (before text : List ℕ) → text ≡ before ++ bytes → place ≡ length before → AreSlices place text ts
 slices_from (nothing place rest) before text is at = (All-nil _, tt, All-nil _)
-slices_from (blank place gap behind ts end rest spelled longest more) before text is at =
-    let h = slices_from more (before ++ gap) text (is ∙ sym (append_assoc before gap behind)) (omega (arith, length-append before gap)) in
-    (h.0, h.1, later place (place + length gap) ts (omega arith) h.2)
+slices_from (gap place bytes behind ts end rest spelled longest more) before text is at =
+    let h = slices_from more (before ++ bytes) text (is ∙ sym (append_assoc before bytes behind)) (omega (arith, length-append before bytes)) in
+    (h.0, h.1, later place (place + length bytes) ts (omega arith) h.2)
 slices_from (token place bytes behind kind ts end rest spelled longest within more) before text is at =
     let h = slices_from more (before ++ bytes) text (is ∙ sym (append_assoc before bytes behind)) (omega (arith, length-append before bytes)) in
     let t : Token = record { kind = kind; start = place; end = place + length bytes } in

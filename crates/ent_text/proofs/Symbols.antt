@@ -1,17 +1,20 @@
 -- Symbols: the longest one is read.
 use Rattle.std.proofs.Common.{◌≡◌, ℕ, ◌<◌, ◌≤◌, Bool, true, false, cond, eqb, List, [], ◌∷◌, ◌++◌, length, take, drop, refl, ap, sym, ◌∙◌, subst, arith, Option, Some, None, inl, inr}
-use Rattle.std.specs.Prelude.{codes, slice_index}
+use Rattle.std.specs.Prelude.{codes, slice_index, ◌&&◌}
+use Rattle.std.specs.Char.{is_ascii_alphabetic}
 use Rattle.std.proofs.lemmas.Bool.{eqb-true, eqb-false}
 use Rattle.std.proofs.lemmas.List.{length-take-le, take-append-drop, length-append}
 use Rattle.ent_text.specs.declared.token.TokenKind.{TokenKind}
-use Rattle.ent_text.specs.declared.token.TokenKind.TheVariants.{Word, Name, Number, Literal, Sign}
+use Rattle.ent_text.specs.declared.token.TokenKind.TheVariants.{Word, Name, HostVariable, Number, Literal, Sign}
 use Rattle.ent_text.specs.declared.symbol.Symbol.{Symbol}
 use Rattle.ent_text.specs.declared.symbol.Symbol.TheVariants.{Open, Close, Comma, Semicolon, Dot, Star, Plus, Minus, Equal, NotEqual, Less, LessOrEqual, Greater, GreaterOrEqual}
 use Rattle.ent_text.specs.Symbol.{symbol_text, SpellsSymbol}
-use Rattle.ent_text.specs.Spelling.{IsPiece, IsLongest}
+use Rattle.ent_text.specs.Spelling.{IsWordLike, IsPiece, IsLongest}
 use Rattle.ent_text.specs.Reading.{BeginsNothing}
-use Rattle.ent_text.specs.Lexing.{symbol_of}
-use Rattle.ent_text.proofs.Firsts.{class_of, class_of_piece, class_of_first, no_empty_piece}
+use Rattle.ent_text.specs.Lexing.{symbol_of, begins_comment}
+use Rattle.ent_text.proofs.Firsts.{PieceOf, class_of, piece_of_first, no_empty_piece}
+use Rattle.ent_text.proofs.Words.{letter_first}
+use Rattle.ent_text.proofs.Runs.{comment_begins, behind_at_sign}
 
 -- what is read is spelled by that many of the bytes
 abbrev pub Marks : List ℕ → Option (Symbol × ℕ) → Type 0
@@ -82,18 +85,21 @@ symbol_takes bytes behind symbol (inl e) =
 symbol_takes bytes behind symbol (inr e) =
     subst (λ (l : List ℕ). Takes (length l) (symbol_of (slice_index (l ++ behind) 0) (slice_index (l ++ behind) 1))) (sym e.0) (exclamation_takes behind)
 
--- a piece that begins as a symbol does is one
-is_symbol : (bytes : List ℕ) (piece : Option TokenKind) → 4 ≡ class_of_piece piece → IsPiece bytes piece → (symbol : Symbol) × SpellsSymbol bytes symbol
-is_symbol bytes None e h = absurd (omega arith)
-is_symbol bytes (Some (Word keyword)) e h = absurd (omega arith)
-is_symbol bytes (Some (Name word)) e h = absurd (omega arith)
-is_symbol bytes (Some (Number n)) e h = absurd (omega arith)
-is_symbol bytes (Some (Literal text)) e h = absurd (omega arith)
-is_symbol bytes (Some (Sign symbol)) e h = (symbol, h)
+-- a piece that begins as a symbol does is one, where no comment begins
+is_symbol : (bytes behind : List ℕ) (piece : Option TokenKind) → PieceOf 4 bytes piece → begins_comment (bytes ++ behind) ≡ false → (symbol : Symbol) × SpellsSymbol bytes symbol
+is_symbol bytes behind None (inl h) plain = absurd (omega (arith, h.0))
+is_symbol bytes behind None (inr h) plain = let begins : begins_comment (bytes ++ behind) ≡ true = comment_begins bytes behind h.1 in absurd cc
+is_symbol bytes behind (Some (Word keyword)) h plain = absurd (omega (arith, h.0))
+is_symbol bytes behind (Some (Name word)) h plain = absurd (omega (arith, h.0))
+is_symbol bytes behind (Some (HostVariable word)) h plain = absurd (omega (arith, h.0))
+is_symbol bytes behind (Some (Number n)) h plain = absurd (omega (arith, h.0))
+is_symbol bytes behind (Some (Literal text)) h plain = absurd (omega (arith, h.0))
+is_symbol bytes behind (Some (Sign symbol)) h plain = (symbol, h.1)
 
-piece_takes : (x : ℕ) (front behind : List ℕ) (piece : Option TokenKind) → class_of x ≡ 4 → IsPiece (x ∷ front) piece → Takes (length (x ∷ front)) (symbol_of x (slice_index (front ++ behind) 0))
-piece_takes x front behind piece k spelled =
-    let s = is_symbol (x ∷ front) piece (sym k ∙ class_of_first x front piece spelled) spelled in
+piece_takes : (x : ℕ) (front behind : List ℕ) (piece : Option TokenKind) → class_of x ≡ 4 → begins_comment (x ∷ (front ++ behind)) ≡ false → IsPiece (x ∷ front) piece
+    → Takes (length (x ∷ front)) (symbol_of x (slice_index (front ++ behind) 0))
+piece_takes x front behind piece k plain spelled =
+    let s = is_symbol (x ∷ front) behind piece (piece_of_first x 4 front piece k spelled) plain in
     symbol_takes (x ∷ front) behind s.0 s.1
 
 pub takes_at_most : (n : ℕ) (o : Option (Symbol × ℕ)) (x : Symbol × ℕ) → o ≡ Some x → Takes n o → n ≤ x.1
@@ -105,21 +111,21 @@ takes_none n None e h = h
 takes_none n (Some y) e h = absurd cc
 
 -- the symbol that is read is the longest piece
-pub symbol_longest : (b : ℕ) (rest : List ℕ) (x : Symbol × ℕ) → class_of b ≡ 4 → 0 < x.1 → x.1 ≤ length (b ∷ rest) → symbol_of b (slice_index rest 0) ≡ Some x → IsLongest (take x.1 (b ∷ rest)) (drop x.1 (b ∷ rest))
-symbol_longest b rest x k some le read [] behind more piece same spelled = omega arith
-symbol_longest b rest x k some le read (y ∷ []) behind more piece same spelled = omega (arith, length-take-le x.1 (b ∷ rest) le)
-symbol_longest b rest x k some le read (y ∷ z ∷ front) behind more piece same spelled =
+pub symbol_longest : (b : ℕ) (rest : List ℕ) (x : Symbol × ℕ) → class_of b ≡ 4 → begins_comment (b ∷ rest) ≡ false → 0 < x.1 → x.1 ≤ length (b ∷ rest) → symbol_of b (slice_index rest 0) ≡ Some x → IsLongest (take x.1 (b ∷ rest)) (drop x.1 (b ∷ rest))
+symbol_longest b rest x k plain some le read [] behind more piece same spelled = omega arith
+symbol_longest b rest x k plain some le read (y ∷ []) behind more piece same spelled = omega (arith, length-take-le x.1 (b ∷ rest) le)
+symbol_longest b rest x k plain some le read (y ∷ z ∷ front) behind more piece same spelled =
     let whole : y ∷ z ∷ (front ++ behind) ≡ b ∷ rest = same ∙ take-append-drop x.1 (b ∷ rest) in
     let first : y ≡ b = ap (λ (l : List ℕ). slice_index l 0) whole in
     let second : z ≡ slice_index rest 0 = ap (λ (l : List ℕ). slice_index l 1) whole in
-    let takes : Takes (length (y ∷ z ∷ (front ++ more))) (symbol_of y z) = piece_takes y (z ∷ (front ++ more)) [] piece (ap class_of first ∙ k) spelled in
+    let takes : Takes (length (y ∷ z ∷ (front ++ more))) (symbol_of y z) = piece_takes y (z ∷ (front ++ more)) [] piece (ap class_of first ∙ k) (ap (λ (c : ℕ). eqb c 45 && eqb z 45) first ∙ ap (λ (c : ℕ). eqb b 45 && eqb c 45) second ∙ plain) spelled in
     let is : symbol_of y z ≡ Some x = ap (λ (c : ℕ). symbol_of c z) first ∙ ap (symbol_of b) second ∙ read in
     let most : length (y ∷ z ∷ (front ++ more)) ≤ x.1 = takes_at_most _ (symbol_of y z) x is takes in
     omega (arith, length-append front more, length-take-le x.1 (b ∷ rest) le)
 
--- where no symbol is read, nothing begins
-pub nothing_begins : (b : ℕ) (rest : List ℕ) → class_of b ≡ 4 → eqb b 39 ≡ false → symbol_of b (slice_index rest 0) ≡ None → BeginsNothing (b ∷ rest)
-nothing_begins b rest k e none = (b, rest, refl, eqb-false b 39 e, on)
+-- where no comment and no symbol is read, nothing begins
+pub nothing_begins : (b : ℕ) (rest : List ℕ) → class_of b ≡ 4 → eqb b 39 ≡ false → begins_comment (b ∷ rest) ≡ false → symbol_of b (slice_index rest 0) ≡ None → BeginsNothing (b ∷ rest)
+nothing_begins b rest k e plain none = (b, rest, refl, eqb-false b 39 e, on)
   where
     on : (front behind : List ℕ) (piece : Option TokenKind) → b ∷ rest ≡ front ++ behind → IsPiece front piece → ⊥
     on [] behind piece same spelled = no_empty_piece piece spelled
@@ -127,4 +133,16 @@ nothing_begins b rest k e none = (b, rest, refl, eqb-false b 39 e, on)
         let first : y ≡ b = sym (ap (λ (l : List ℕ). slice_index l 0) same) in
         let second : slice_index (front ++ behind) 0 ≡ slice_index rest 0 = sym (ap (λ (l : List ℕ). slice_index l 1) same) in
         let is : symbol_of y (slice_index (front ++ behind) 0) ≡ None = ap (λ (c : ℕ). symbol_of c (slice_index (front ++ behind) 0)) first ∙ ap (symbol_of b) second ∙ none in
-        takes_none _ _ is (piece_takes y front behind piece (ap class_of first ∙ k) spelled)
+        takes_none _ _ is (piece_takes y front behind piece (ap class_of first ∙ k) (ap begins_comment (sym same) ∙ plain) spelled)
+
+-- nor behind an `@` that no letter follows
+pub at_sign_begins_nothing : (rest : List ℕ) → is_ascii_alphabetic (slice_index rest 0) ≡ false → BeginsNothing (64 ∷ rest)
+at_sign_begins_nothing rest none = (64, rest, refl, eqb-false 64 39 refl, on)
+  where
+    on : (front behind : List ℕ) (piece : Option TokenKind) → 64 ∷ rest ≡ front ++ behind → IsPiece front piece → ⊥
+    on [] behind piece same spelled = no_empty_piece piece spelled
+    on (y ∷ front) behind piece same spelled =
+        let word : IsWordLike front = behind_at_sign y front piece (sym (ap (λ (l : List ℕ). slice_index l 0) same)) spelled in
+        let letter : is_ascii_alphabetic (slice_index (front ++ behind) 0) ≡ true = letter_first front behind word.0 in
+        let is : is_ascii_alphabetic (slice_index rest 0) ≡ is_ascii_alphabetic (slice_index (front ++ behind) 0) = ap (λ (l : List ℕ). is_ascii_alphabetic (slice_index l 1)) same in
+        absurd cc

@@ -1,5 +1,5 @@
 -- Texts: what stands in quotes.
-use Rattle.std.proofs.Common.{◌≡◌, ℕ, ◌+◌, ◌≤◌, Bool, true, false, cond, eqb, List, [], ◌∷◌, ◌++◌, length, Ok, Err, refl, ap, sym, ◌∙◌, subst, append_assoc, arith, Option, Some, None}
+use Rattle.std.proofs.Common.{◌≡◌, ℕ, ◌+◌, ◌≤◌, Bool, true, false, cond, eqb, List, [], ◌∷◌, ◌++◌, length, Ok, Err, refl, ap, sym, ◌∙◌, subst, append_assoc, arith, Option, Some, None, inl, inr}
 use Rattle.std.specs.Prelude.{slice_index}
 use Rattle.std.proofs.lemmas.Bool.{eqb-true, eqb-false, or_from}
 use Rattle.std.proofs.lemmas.List.{length-append}
@@ -7,12 +7,12 @@ use Rattle.std.specs.List.{list_any}
 use Rattle.std.specs.Char.{is_ascii_control}
 use Rattle.ent_text.specs.declared.fault.TextFault.TheVariants.{BadChar, OpenText, NumberTooLarge, TextTooLong}
 use Rattle.ent_text.specs.declared.token.TokenKind.{TokenKind}
-use Rattle.ent_text.specs.declared.token.TokenKind.TheVariants.{Word, Name, Number, Literal, Sign}
+use Rattle.ent_text.specs.declared.token.TokenKind.TheVariants.{Word, Name, HostVariable, Number, Literal, Sign}
 use Rattle.ent_value.specs.Print.{doubled, quoted}
-use Rattle.ent_text.specs.Spelling.{IsPlain, IsPiece, IsLongest}
+use Rattle.ent_text.specs.Spelling.{IsPlain, IsLongest}
 use Rattle.ent_text.specs.Lexing.{with_byte, quoted_at}
 use Rattle.ent_text.proofs.Fronts.{Stops}
-use Rattle.ent_text.proofs.Firsts.{class_of, class_of_piece, class_of_first, class_of_quote}
+use Rattle.ent_text.proofs.Firsts.{PieceOf, class_of, piece_of_first, class_of_quote}
 use Rattle.ent_text.proofs.Reading.{Body}
 
 abbrev pub is_quote : ℕ → Bool
@@ -127,20 +127,22 @@ within_text (b ∷ content) (x ∷ y ∷ front) behind more other rest same stop
         let le = one_on next.0 cc next.1 in
         rw h (omega arith)
 
-is_text : (bytes : List ℕ) (piece : Option TokenKind) → 3 ≡ class_of_piece piece → IsPiece bytes piece → (text : List ℕ) × (bytes ≡ quoted text)
-is_text bytes None e h = absurd (omega arith)
-is_text bytes (Some (Word keyword)) e h = absurd (omega arith)
-is_text bytes (Some (Name word)) e h = absurd (omega arith)
-is_text bytes (Some (Number n)) e h = absurd (omega arith)
-is_text bytes (Some (Literal text)) e h = (text, h.0)
-is_text bytes (Some (Sign symbol)) e h = absurd (omega arith)
+is_text : (bytes : List ℕ) (piece : Option TokenKind) → PieceOf 3 bytes piece → (text : List ℕ) × (bytes ≡ quoted text)
+is_text bytes None (inl h) = absurd (omega (arith, h.0))
+is_text bytes None (inr h) = absurd (omega (arith, h.0))
+is_text bytes (Some (Word keyword)) h = absurd (omega (arith, h.0))
+is_text bytes (Some (Name word)) h = absurd (omega (arith, h.0))
+is_text bytes (Some (HostVariable word)) h = absurd (omega (arith, h.0))
+is_text bytes (Some (Number n)) h = absurd (omega (arith, h.0))
+is_text bytes (Some (Literal text)) h = (text, h.1.0)
+is_text bytes (Some (Sign symbol)) h = absurd (omega (arith, h.0))
 
 -- a closed text that no quote follows is the longest piece
 pub text_longest : (content rest : List ℕ) → Stops is_quote rest → IsLongest (quoted content) rest
 text_longest content rest stop [] behind more piece same spelled = omega arith
 text_longest content rest stop (x ∷ front) behind more piece same spelled =
     let first : x ≡ 39 = ap (λ (l : List ℕ). slice_index l 0) same in
-    let is = is_text (x ∷ (front ++ more)) piece (sym (ap class_of first ∙ class_of_quote) ∙ class_of_first x (front ++ more) piece spelled) spelled in
+    let is = is_text (x ∷ (front ++ more)) piece (piece_of_first x 3 (front ++ more) piece (ap class_of first ∙ class_of_quote) spelled) in
     let e : x ∷ (front ++ behind) ≡ 39 ∷ ((doubled content ++ 39 ∷ []) ++ rest) = same in
     let others : front ++ behind ≡ (doubled content ++ 39 ∷ []) ++ rest = cc in
     let f : x ∷ (front ++ more) ≡ 39 ∷ (doubled is.0 ++ 39 ∷ []) = is.1 in

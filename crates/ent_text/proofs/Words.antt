@@ -1,5 +1,5 @@
 -- Words: which are reserved, and what spells them.
-use Rattle.std.proofs.Common.{◌≡◌, ℕ, ◌≤◌, Bool, true, false, cond, eqb, List, [], ◌∷◌, map, length, refl, ap, sym, ◌∙◌, arith, subst, Option, Some, None}
+use Rattle.std.proofs.Common.{◌≡◌, ℕ, ◌≤◌, Bool, true, false, cond, eqb, List, [], ◌∷◌, ◌++◌, map, length, refl, ap, sym, ◌∙◌, arith, subst, Option, Some, None}
 use Rattle.std.specs.Prelude.{◌&&◌, slice_index, IsTrue}
 use Rattle.std.proofs.lemmas.Bool.{le-leb, and_parts, eqb-true}
 use Rattle.std.proofs.lemmas.List.{length-map}
@@ -23,6 +23,10 @@ all_three a b c p q r = rw (p, q, r) refl
 first_stays : (bytes : List ℕ) → is_ascii_alphabetic (slice_index bytes 0) ≡ true → is_ascii_alphabetic (slice_index (take_while is_word_byte bytes) 0) ≡ true
 first_stays [] e = e
 first_stays (b ∷ bytes) e = rw take_while-cons (rw (alphabetic_is_word b e) e)
+
+pub letter_first : (front behind : List ℕ) → is_ascii_alphabetic (slice_index front 0) ≡ true → is_ascii_alphabetic (slice_index (front ++ behind) 0) ≡ true
+letter_first [] behind e = absurd cc
+letter_first (b ∷ front) behind e = e
 
 -- the longest front of word bytes, behind a letter, is a word
 pub front_is_wordlike : (bytes : List ℕ) → is_ascii_alphabetic (slice_index bytes 0) ≡ true → IsWordLike (take_while is_word_byte bytes)

@@ -9,20 +9,20 @@ use Rattle.ent_value.specs.Name.{is_word_byte}
 use Rattle.ent_text.specs.Keyword.{keyword_text}
 use Rattle.ent_text.specs.declared.keyword.Keyword.{Keyword}
 use Rattle.ent_text.specs.declared.keyword.Keyword.TheVariants.{And, Answer, As, Begin, Choose, Commit, Create, Delete, From, In, Insert, Int, Into, Rollback, Runs, Select, Set, Table, Text, Transaction, Update, Values, Where, Within}
-use Rattle.ent_text.specs.Spelling.{is_blank}
+use Rattle.ent_text.specs.Spelling.{is_blank, is_in_line}
 use Rattle.ent_text.specs.declared.symbol.Symbol.{Symbol}
 use Rattle.ent_text.specs.declared.symbol.Symbol.TheVariants.{Open, Close, Comma, Semicolon, Dot, Star, Plus, Minus, Equal, NotEqual, Less, LessOrEqual, Greater, GreaterOrEqual}
 use Rattle.ent_text.specs.declared.fault.TextFault.{TextFault}
 use Rattle.ent_text.specs.declared.fault.TextFault.TheVariants.{BadChar, OpenText, NumberTooLarge, TextTooLong}
 use Rattle.ent_text.specs.declared.token.Token.{Token}
 use Rattle.ent_text.specs.declared.token.TokenKind.{TokenKind}
-use Rattle.ent_text.specs.declared.token.TokenKind.TheVariants.{Word, Name, Number, Literal, Sign}
+use Rattle.ent_text.specs.declared.token.TokenKind.TheVariants.{Word, Name, HostVariable, Number, Literal, Sign}
 
 -- what stands behind the longest front of such bytes
 abbrev pub after : (ℕ → Bool) → List ℕ → List ℕ
 after test bytes = drop (prefix_len test bytes) bytes
 
--- A piece of the text: a token's kind, or None for white space; and the bytes behind it.
+-- A piece of the text: a token's kind, or None for a gap; and the bytes behind it.
 abbrev pub Piece : Type 0
 Piece = Option TokenKind × List ℕ
 
@@ -46,6 +46,14 @@ unfoldable pub word_at : ℕ → List ℕ → Result Piece TextFault
 word_at place bytes =
     let word = take_while is_word_byte bytes in
     if nat_lt 63 (length word) then Err (TextTooLong place) else Ok (Some (word_kind word), after is_word_byte bytes)
+
+-- an `@`, and a word directly behind it
+unfoldable pub host_variable_at : ℕ → List ℕ → Result Piece TextFault
+host_variable_at place bytes =
+    let behind = drop 1 bytes in
+    let word = take_while is_word_byte behind in
+    if is_ascii_alphabetic (slice_index behind 0) then (if nat_lt 63 (length word) then Err (TextTooLong place) else Ok (Some (HostVariable word), after is_word_byte behind))
+    else Err (BadChar place)
 
 -- the number that digits go on to
 abbrev pub value_from : ℕ → List ℕ → ℕ
@@ -94,6 +102,10 @@ symbol_of b c =
 unfoldable pub symbol_at : ℕ → List ℕ → Result Piece TextFault
 symbol_at place bytes = option_map_or (λ s. Ok (Some (Sign s.0), drop s.1 bytes)) (symbol_of (slice_index bytes 0) (slice_index bytes 1)) (Err (BadChar place))
 
+-- two minus signs stand first
+abbrev pub begins_comment : List ℕ → Bool
+begins_comment bytes = (slice_index bytes 0 == 45) && (slice_index bytes 1 == 45)
+
 unfoldable pub piece_at : ℕ → List ℕ → Result Piece TextFault
 piece_at place bytes =
     let b = slice_index bytes 0 in
@@ -101,7 +113,9 @@ piece_at place bytes =
     else (if is_ascii_alphabetic b then word_at place bytes
     else (if is_ascii_digit b then number_at place bytes
     else (if b == 39 then text_at place bytes
-    else symbol_at place bytes)))
+    else (if b == 64 then host_variable_at place bytes
+    else (if begins_comment bytes then Ok (None, after is_in_line bytes)
+    else symbol_at place bytes)))))
 
 abbrev pub with_token : Option TokenKind → ℕ → ℕ → List Token → List Token
 with_token None start end ts = ts

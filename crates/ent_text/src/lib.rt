@@ -1,7 +1,10 @@
 //! The tokens of a text of entangled SQL.
 #![tactic(auto)]
 
+pub mod bytes;
+pub mod comment;
 pub mod fault;
+pub mod host_variable;
 pub mod keyword;
 pub mod laws;
 pub mod numeral;
@@ -10,6 +13,7 @@ pub mod quoted;
 pub mod symbol;
 pub mod token;
 pub mod tokenizer;
+pub mod word;
 
 pub use fault::TextFault;
 pub use keyword::Keyword;

@@ -1,33 +1,27 @@
-//! A piece of a text: a token, or white space.
-ghost use Rattle.std.specs.Prelude.{◌≡◌, ◌<◌, ◌≤◌, ◌+◌, ◌^◌, length, IfOk, IfSome, IfNone, slice_index, IsTrue, true};
-ghost use Rattle.std.specs.List.{prefix_len, list_all};
-ghost use Rattle.std.specs.Char.{is_ascii_digit, is_ascii_alphabetic};
+//! A piece of a text: a token, or a gap of white space or a comment.
+ghost use Rattle.std.specs.Prelude.{◌≡◌, ◌<◌, ◌≤◌, ◌+◌, ◌^◌, length, IfOk, IfSome, IfNone, slice_index};
+ghost use Rattle.std.specs.List.{prefix_len};
+ghost use Rattle.std.specs.Char.{is_ascii_digit};
 ghost use Rattle.ent_value.specs.Refusal.{Gives};
-ghost use Rattle.ent_value.specs.Name.{is_word_byte, IsWord};
 ghost use Rattle.ent_text.specs.Spelling.{is_blank};
-ghost use Rattle.ent_text.specs.Lexing.{word_at, word_kind, number_at, value_from, text_at, symbol_at, piece_at};
+ghost use Rattle.ent_text.specs.Lexing.{number_at, value_from, text_at, symbol_at, piece_at};
 
+use crate::bytes::{byte_at, tail};
+use crate::comment::{begins_comment, behind_line};
 use crate::fault::TextFault;
-use crate::keyword::keyword_of;
+use crate::host_variable::host_variable_at;
 use crate::numeral::Numeral;
-use crate::quoted::{quoted_at, tail};
+use crate::quoted::quoted_at;
 use crate::symbol::symbol_of;
 use crate::token::TokenKind;
-use ent_value::name::is_word_byte;
-use ent_value::{Name, Refusal, Text};
+use crate::word::word_at;
+use ent_value::{Refusal, Text};
 use std::alloc::Global;
 
 fn is_blank(byte: u8) -> bool
     ensures { result ≡ is_blank byte }
 {
     byte == b' ' || byte == b'\t' || byte == b'\r' || byte == b'\n'
-}
-
-fn word_len(bytes: &[u8]) -> usize
-    ensures value { result ≡ prefix_len is_word_byte bytes.now }
-    ensures bound { result ≤ length bytes.now }
-{
-    bytes.iter().take_while(|byte| is_word_byte(**byte)).count()
 }
 
 fn digits_len(bytes: &[u8]) -> usize
@@ -38,32 +32,6 @@ fn digits_len(bytes: &[u8]) -> usize
         .iter()
         .take_while(|byte| byte.is_ascii_digit())
         .count()
-}
-
-fn word_kind(alloc: Global, word: &[u8]) -> Result<TokenKind, Refusal<TextFault>>
-    requires { IsWord word.now }
-    ensures { Gives (λ kind. kind) result (Ok (word_kind word.now)) }
-{
-    match keyword_of(word) {
-        Some(keyword) => Ok(TokenKind::Word(keyword)),
-        None => Ok(TokenKind::Name(Name::new(alloc, word)?)),
-    }
-}
-
-#[tactic(auto, unfolding(crate::specs::Lexing::word_at))]
-fn word_at(
-    alloc: Global,
-    place: usize,
-    bytes: &[u8],
-) -> Result<(Option<TokenKind>, &[u8]), Refusal<TextFault>>
-    requires { is_ascii_alphabetic (slice_index bytes.now 0) ≡ true }
-    ensures { Gives (λ x. (x.0, x.1.now)) result (word_at place bytes.now) }
-{
-    let (word, rest) = bytes.split_at(word_len(bytes));
-    if word.len() > 63 {
-        return Err(Refusal::Fault(TextFault::TextTooLong(place)));
-    }
-    Ok((Some(word_kind(alloc, word)?), rest))
 }
 
 /// The value of digits, where it is no larger than the limit of a number.
@@ -114,13 +82,6 @@ fn text_at(
     Ok((Some(TokenKind::Literal(Text::from_vec(text))), rest))
 }
 
-/// The byte at an index, or 0.
-fn byte_at(bytes: &[u8], index: usize) -> u8
-    ensures { result ≡ slice_index bytes.now index }
-{
-    bytes.get(index).copied().unwrap_or(0)
-}
-
 #[tactic(auto, unfolding(crate::specs::Lexing::symbol_at))]
 fn symbol_at(place: usize, bytes: &[u8]) -> Result<(Option<TokenKind>, &[u8]), Refusal<TextFault>>
     ensures { Gives (λ x. (x.0, x.1.now)) result (symbol_at place bytes.now) }
@@ -167,6 +128,10 @@ fn piece(
         number_at(place, bytes)
     } else if first == b'\'' {
         text_at(alloc, place, bytes)
+    } else if first == b'@' {
+        host_variable_at(alloc, place, bytes)
+    } else if begins_comment(bytes) {
+        Ok((None, behind_line(bytes)))
     } else {
         symbol_at(place, bytes)
     }

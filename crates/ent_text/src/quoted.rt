@@ -1,19 +1,12 @@
 //! What stands in quotes.
-ghost use Rattle.std.specs.Prelude.{◌≡◌, ◌<◌, ◌≤◌, ◌+◌, ◌^◌, length, drop};
+ghost use Rattle.std.specs.Prelude.{◌<◌, ◌+◌, ◌^◌, length};
 ghost use Rattle.ent_value.specs.Refusal.{Gives};
 ghost use Rattle.ent_text.specs.Lexing.{quoted_at};
 
+use crate::bytes::tail;
 use crate::fault::TextFault;
 use ent_value::Refusal;
 use std::alloc::Global;
-
-/// The bytes behind the first of them.
-pub(crate) fn tail(bytes: &[u8], len: usize) -> &[u8]
-    requires { len ≤ length bytes.now }
-    ensures { result.now ≡ drop len bytes.now }
-{
-    bytes.split_at(len).1
-}
 
 /// The content of a text whose opening quote stands at `quote`, just before these bytes, and the bytes behind its
 /// closing quote.

@@ -7,6 +7,7 @@ fn label(kind: &TokenKind) -> &'static str {
     match kind {
         TokenKind::Word(_) => "word",
         TokenKind::Name(_) => "name",
+        TokenKind::HostVariable(_) => "host variable",
         TokenKind::Number(_) => "number",
         TokenKind::Literal(_) => "text",
         TokenKind::Sign(_) => "sign",
@@ -17,7 +18,7 @@ fn label(kind: &TokenKind) -> &'static str {
 fn content(kind: &TokenKind) -> &[u8] {
     match kind {
         TokenKind::Word(keyword) => keyword.text(),
-        TokenKind::Name(name) => name.as_bytes(),
+        TokenKind::Name(name) | TokenKind::HostVariable(name) => name.as_bytes(),
         TokenKind::Literal(text) => text.as_bytes(),
         _ => b"",
     }
@@ -44,6 +45,85 @@ fn kinds_and_places(rt: HostRuntime) -> Result<(), Fail> {
         assert_eq!(rt; content(&token.kind), value.as_bytes(), "of {bytes}");
     }
     Ok(())
+}
+
+/// Each token by its kind and its places, and what each word, host variable or text among them says.
+type Spelled = (&'static str, usize, usize, &'static str);
+
+fn is_spelled(alloc: Global, text: &str, expected: &[Spelled]) -> bool {
+    let Ok(found) = tokens(alloc, text) else {
+        return false;
+    };
+    for (token, (kind, start, end, value)) in found.iter().zip(expected) {
+        if label(&token.kind) != *kind || content(&token.kind) != value.as_bytes() {
+            return false;
+        }
+        if (token.start, token.end) != (*start, *end) {
+            return false;
+        }
+    }
+    found.len() == expected.len()
+}
+
+#[test]
+fn host_variables(rt: HostRuntime) {
+    let rows: [(&str, &[Spelled]); 4] = [
+        (
+            "@a@b",
+            &[("host variable", 0, 2, "a"), ("host variable", 2, 4, "b")],
+        ),
+        ("@select", &[("host variable", 0, 7, "select")]),
+        (
+            "X_1@X_1=",
+            &[
+                ("name", 0, 3, "X_1"),
+                ("host variable", 3, 7, "X_1"),
+                ("sign", 7, 8, ""),
+            ],
+        ),
+        (
+            "1@a'b'",
+            &[
+                ("number", 0, 1, ""),
+                ("host variable", 1, 3, "a"),
+                ("text", 3, 6, "b"),
+            ],
+        ),
+    ];
+    for (text, expected) in rows {
+        assert!(rt; is_spelled(rt.alloc(), text, expected), "of {text}");
+    }
+}
+
+#[test]
+fn comments(rt: HostRuntime) {
+    let rows: [(&str, &[Spelled]); 9] = [
+        (
+            "SELECT--x\n1",
+            &[("word", 0, 6, "SELECT"), ("number", 10, 11, "")],
+        ),
+        ("--", &[]),
+        ("--a\n", &[]),
+        ("1--", &[("number", 0, 1, "")]),
+        ("---1\n--\n2--3", &[("number", 8, 9, "")]),
+        ("- -", &[("sign", 0, 1, ""), ("sign", 2, 3, "")]),
+        (
+            "1-@a--@",
+            &[
+                ("number", 0, 1, ""),
+                ("sign", 1, 2, ""),
+                ("host variable", 2, 4, "a"),
+            ],
+        ),
+        ("'a--b'", &[("text", 0, 6, "a--b")]),
+        (
+            "a--it's\t\u{0}\u{1f}\u{7f} @ ! caf\u{e9}\r2\nb",
+            &[("name", 0, 1, "a"), ("name", 24, 25, "b")],
+        ),
+    ];
+    for (text, expected) in rows {
+        assert!(rt; is_spelled(rt.alloc(), text, expected), "of {text}");
+    }
 }
 
 #[test]
@@ -138,7 +218,16 @@ fn faults(rt: HostRuntime) {
             Some(TextFault::BadChar(24)),
         ),
         ("!", Some(TextFault::BadChar(0))),
+        ("@", Some(TextFault::BadChar(0))),
         ("@1", Some(TextFault::BadChar(0))),
+        ("@@a", Some(TextFault::BadChar(0))),
+        ("SET @_a", Some(TextFault::BadChar(4))),
+        ("SET @ a", Some(TextFault::BadChar(4))),
+        ("@\u{e9}", Some(TextFault::BadChar(0))),
+        ("--@\n@", Some(TextFault::BadChar(4))),
+        ("--\r\n\u{c}", Some(TextFault::BadChar(4))),
+        ("'a--\nb'", Some(TextFault::BadChar(4))),
+        ("1--'\n'", Some(TextFault::OpenText(5))),
         ("caf\u{e9}", Some(TextFault::BadChar(3))),
         ("a\u{c}b", Some(TextFault::BadChar(1))),
         ("'caf\u{e9}\u{7f}", Some(TextFault::BadChar(6))),
@@ -173,6 +262,10 @@ fn lengths(rt: HostRuntime) -> Result<(), Fail> {
     let rows = [
         ("", 63, "", None),
         ("", 64, "", Some(TextFault::TextTooLong(0))),
+        ("@", 63, "", None),
+        ("@", 64, "", Some(TextFault::TextTooLong(0))),
+        ("SET @", 64, " = @", Some(TextFault::TextTooLong(4))),
+        ("--@", 64, "", None),
         ("'", 255, "'", None),
         ("'", 254, "'''", None),
         ("'", 256, "'", Some(TextFault::TextTooLong(0))),

@@ -9,6 +9,8 @@ use ent_value::{Name, Text};
 pub enum TokenKind {
     Word(Keyword),
     Name(Name),
+    /// The word directly behind an `@`; it may be a reserved one.
+    HostVariable(Name),
     Number(Numeral),
     /// The content of a text, each doubled quote being one.
     Literal(Text),

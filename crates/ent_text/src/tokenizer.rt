@@ -13,15 +13,16 @@ use crate::token::Token;
 use ent_value::{Refusal, Sequence};
 use std::alloc::Global;
 
-/// The tokens of a text, in order, or its first fault from the left. The text may hold any characters. Words,
-/// numbers and texts beyond their limits are faults, so a token's value is always within its type.
+/// The tokens of a text, in order, or its first fault from the left. The text may hold any characters. Comments count
+/// as white space. Words, host variables, numbers and texts beyond their limits are faults, so a token's value is
+/// always within its type.
 pub fn tokens(alloc: Global, text: &str) -> Result<Sequence<Token>, Refusal<TextFault>>
-    // The text is white space and these tokens in turn, each the longest possible.
+    // The text is gaps, of white space and comments, and these tokens in turn, each the longest possible.
     ensures found { IfOk result (λ tokens. AreTokens text.now tokens) }
     // Each token is spelled by the bytes between its places.
     ensures slices { IfOk result (λ tokens. All (λ token. IsSliceOf text.now token) tokens) }
     ensures order { IfOk result (λ tokens. AreInOrder tokens) }
-    // The text is white space and tokens up to a place, and what stands there has this fault.
+    // The text is gaps and tokens up to a place, and what stands there has this fault.
     ensures fault { IfErr result (λ refusal. IfFault (λ fault. HasFault text.now fault) refusal) }
     // The same as a function of the text: `laws` says that it and the clauses above mean one thing.
     ensures exact { Gives (λ tokens. tokens) result (tokens_of text.now) }

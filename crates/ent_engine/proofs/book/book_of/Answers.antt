@@ -30,7 +30,7 @@ returns-clause-fates c =
     let run = ran_plain c.in_ok-tables-2.tables c.in_ok-tables-2.fates c.as_slice.result.now (map (plain_script schemas) input.scripts) _ (opening_tables input.opening) c.in_ok-tables-2.ensures.outcome
     (c.as_slice.ensures.value ∙ c.requires.resolved.scripts_are) c.in_ok-tables.ensures.rows in
     ap (λ (o : PlainOutcome). o.fates) run
-    ∙ sym (ap (λ (o : Outcome). o.fates) (whole_outcome c.resolved_means_the_same.ensures c.resolved_keeps_kinds.ensures c.no_fault_fits.ensures c.opening_rows_fit.ensures.tables c.opening_tables_mean_the_same.ensures input c.requires.formed))
+    ∙ sym (ap (λ (o : Outcome). o.fates) (whole_outcome c.resolved_means_the_same.ensures c.resolved_keeps_kinds.ensures.tables c.resolved_keeps_kinds.ensures.bound c.resolved_binds_the_same.ensures c.no_fault_fits.ensures c.opening_rows_fit.ensures.tables c.opening_tables_mean_the_same.ensures input c.requires.formed))
 
 pub returns-clause-database : goal.returns-clause-database
 returns-clause-database c =
@@ -41,7 +41,7 @@ returns-clause-database c =
     same_database c.in_ok-named.field-0 (names_of schemas) c.in_ok-tables-2.tables (c.in_ok-named.ensures.names ∙ ap names_of c.requires.resolved.tables_are)
     (c.in_ok-named.ensures.tables ∙ ap (map arc_value) c.as_slice-2.ensures.value ∙ c.into_vec.ensures)
     ∙ ap (λ (o : PlainOutcome). database_of (names_of schemas) o.tables) run
-    ∙ sym (ap (λ (o : Outcome). o.database) (whole_outcome c.resolved_means_the_same.ensures c.resolved_keeps_kinds.ensures c.no_fault_fits.ensures c.opening_rows_fit.ensures.tables c.opening_tables_mean_the_same.ensures input c.requires.formed))
+    ∙ sym (ap (λ (o : Outcome). o.database) (whole_outcome c.resolved_means_the_same.ensures c.resolved_keeps_kinds.ensures.tables c.resolved_keeps_kinds.ensures.bound c.resolved_binds_the_same.ensures c.no_fault_fits.ensures c.opening_rows_fit.ensures.tables c.opening_tables_mean_the_same.ensures input c.requires.formed))
 
 pub returns-clause-names : goal.returns-clause-names
 returns-clause-names c = c.in_ok-named.ensures.names ∙ ap names_of c.requires.resolved.tables_are ∙ declared_names c.args.resolved.now.input.opening.tables

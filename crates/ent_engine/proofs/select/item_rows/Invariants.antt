@@ -1,8 +1,10 @@
 use Rattle.std.proofs.Common.{◌≡◌, map, take}
 use Rattle.std.specs.List.{filter}
 use Rattle.ent_form.specs.PlainMeaning.{plain_row, plain_meets}
+use Rattle.ent_engine.specs.Environment.{environment_of}
 use Rattle.ent_engine.proofs.select.item_rows.Given as goal
 
 -- the item rows so far
 abbrev pub invariant-loop-row : goal.invariant-loop-row
-invariant-loop-row l = l.found.items ≡ map (λ row. plain_row l.items row.now) (filter (λ row. plain_meets l.tests row.now) (take l.row-index l.rows))
+invariant-loop-row l =
+    l.found.items ≡ map (λ row. plain_row (environment_of l.environment) l.items row.now) (filter (λ row. plain_meets (environment_of l.environment) l.tests row.now) (take l.row-index l.rows))

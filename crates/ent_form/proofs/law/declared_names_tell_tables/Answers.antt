@@ -1,5 +1,5 @@
 use Rattle.ent_form.proofs.ByNumber.{database_at}
-use Rattle.ent_form.proofs.Opened.{distinct_names, name_number}
+use Rattle.ent_form.proofs.Distinct.{distinct_names, name_number}
 use Rattle.ent_form.proofs.law.declared_names_tell_tables.Goals as goal
 
 pub returns-clause-distinct : goal.returns-clause-distinct

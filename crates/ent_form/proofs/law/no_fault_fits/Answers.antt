@@ -1,5 +1,6 @@
+use Rattle.ent_form.specs.Kinds.{none_bound}
 use Rattle.ent_form.proofs.Fitting.{all_fit}
 use Rattle.ent_form.proofs.law.no_fault_fits.Goals as goal
 
 pub returns : goal.returns
-returns c = λ tables script e. all_fit tables script.statements e
+returns c = λ tables script e. all_fit tables none_bound script.statements e

@@ -1,11 +1,7 @@
-use Rattle.std.proofs.Common.{◌≡◌, map, take, drop}
+use Rattle.std.proofs.Common.{◌≡◌, map, take}
 use Rattle.ent_form.specs.Catalogue.{column_names}
-use Rattle.ent_form.specs.FirstFault.{first_of, test_fault}
 use Rattle.ent_form.specs.Plain.{plain_test}
 use Rattle.ent_form.proofs.operand.plain_tests.Given as goal
 
 abbrev pub invariant-loop-test : goal.invariant-loop-test
-invariant-loop-test l = record {
-  fault : first_of (test_fault l.table.columns) (drop l.test-index l.tests) ≡ first_of (test_fault l.table.columns) l.tests;
-  done : l.plain.items ≡ map (plain_test (column_names l.table.columns)) (take l.test-index l.tests);
-}
+invariant-loop-test l = l.plain.items ≡ map (plain_test (column_names l.table.columns)) (take l.test-index l.tests)

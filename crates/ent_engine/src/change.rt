@@ -1,0 +1,130 @@
+//! Changes of one table.
+ghost use Rattle.std.specs.Prelude.{◌≡◌, All, IfOk, IsSome, Some, map};
+ghost use Rattle.std.specs.Arc.{arc_value};
+ghost use Rattle.ent_value.specs.Refusal.{Gives};
+ghost use Rattle.ent_value.specs.Value.{kinds_of};
+ghost use Rattle.ent_rel.specs.Change.{changed_rows, application, deletion};
+ghost use Rattle.ent_form.specs.PlainMeaning.{known_kind, kind_with, kinds_bound, plain_kind, plain_known_value, plain_meets, plain_image};
+ghost use Rattle.ent_engine.specs.Change.{change_made, insertion_of, replacement_of, table_refusal, term_refusal, replace_refusal};
+ghost use Rattle.ent_engine.specs.Environment.{environment_of};
+
+use crate::environment::Environment;
+use crate::row::{image_row, known_row};
+use crate::select::meets;
+use crate::term::TermFault;
+use ent_form::{PlainOperand, PlainTest, PlainValue};
+use ent_rel::{Delta, ReplaceFault, Table, TableFault};
+use ent_semantics::Failure;
+use ent_sql::Expression;
+use ent_value::Refusal;
+use std::alloc::{AllocError, Global};
+use std::sync::Arc;
+
+/// A table after a change, and how many rows the change concerned.
+#[derive(Drop)]
+pub(crate) struct Changed {
+    pub(crate) table: Arc<Table>,
+    pub(crate) count: u64,
+}
+
+fn table_refusal(fault: TableFault) -> Refusal<Failure>
+    ensures { result ≡ table_refusal fault }
+{
+    match fault {
+        TableFault::Memory => Refusal::Memory,
+        TableFault::TableFull => Refusal::Fault(Failure::TableFull),
+    }
+}
+
+pub(crate) fn term_refusal(fault: TermFault) -> Refusal<Failure>
+    ensures { result ≡ term_refusal fault }
+{
+    match fault {
+        TermFault::Memory => Refusal::Memory,
+        TermFault::Overflow => Refusal::Fault(Failure::Overflow),
+    }
+}
+
+fn replace_refusal(fault: ReplaceFault<TermFault>) -> Refusal<Failure>
+    ensures { result ≡ replace_refusal fault }
+{
+    match fault {
+        ReplaceFault::Memory => Refusal::Memory,
+        ReplaceFault::TableFull => Refusal::Fault(Failure::TableFull),
+        ReplaceFault::Change(fault) => term_refusal(fault),
+    }
+}
+
+/// A table after a change that fits it.
+fn applied(alloc: Global, table: &Table, count: u64, delta: &Delta) -> Result<Changed, AllocError>
+    requires kinds { All (λ row. kinds_of row ≡ table.now.kinds) delta.now.added }
+    requires fits { IsSome (application table.now.rows delta.now.removed delta.now.added) }
+    ensures made { IfOk result (λ changed. change_made changed ≡ (count, changed_rows table.now.rows delta.now.removed delta.now.added)) }
+    ensures kinds { IfOk result (λ changed. (arc_value changed.table).kinds ≡ table.now.kinds) }
+{
+    match table.apply(alloc, delta) {
+        Ok(changed) => Ok(Changed {
+            table: Arc::new(alloc, changed)?,
+            count,
+        }),
+        Err(TableFault::Memory) => Err(AllocError),
+        // The change fits.
+        Err(TableFault::TableFull) => unreachable!(),
+    }
+}
+
+/// A table with one row more.
+pub(crate) fn inserted(
+    alloc: Global,
+    table: &Table,
+    environment: &Environment,
+    values: &[PlainValue],
+) -> Result<Changed, Refusal<Failure>>
+    requires { map (known_kind (kinds_bound (environment_of environment.now))) values.now ≡ map Some table.now.kinds }
+    ensures made { Gives change_made result (insertion_of table.now.rows (map (plain_known_value (environment_of environment.now)) values.now)) }
+    ensures kinds { IfOk result (λ changed. (arc_value changed.table).kinds ≡ table.now.kinds) }
+{
+    let row = known_row(alloc, environment, values)?;
+    match table.insert(alloc, &row) {
+        Ok((count, delta)) => Ok(applied(alloc, table, count, &delta)?),
+        Err(fault) => Err(table_refusal(fault)),
+    }
+}
+
+/// A table without the rows that meet every test.
+pub(crate) fn deleted(
+    alloc: Global,
+    table: &Table,
+    environment: &Environment,
+    tests: &[PlainTest],
+) -> Result<Changed, AllocError>
+    ensures made { IfOk result (λ changed. change_made changed ≡ deletion table.now.rows (plain_meets (environment_of environment.now) tests.now)) }
+    ensures kinds { IfOk result (λ changed. (arc_value changed.table).kinds ≡ table.now.kinds) }
+{
+    let (count, delta) = table.delete_rows(alloc, |row| meets(environment, tests, row.values()))?;
+    applied(alloc, table, count, &delta)
+}
+
+/// A table with its image in the place of each row that meets every test.
+pub(crate) fn updated(
+    alloc: Global,
+    table: &Table,
+    environment: &Environment,
+    image: &[Expression<PlainOperand>],
+    tests: &[PlainTest],
+) -> Result<Changed, Refusal<Failure>>
+    requires { map (kind_with (plain_kind table.now.kinds (kinds_bound (environment_of environment.now)))) image.now ≡ map Some table.now.kinds }
+    ensures made { Gives change_made result (replacement_of table.now.rows (plain_meets (environment_of environment.now) tests.now) (plain_image (environment_of environment.now) image.now)) }
+    ensures kinds { IfOk result (λ changed. (arc_value changed.table).kinds ≡ table.now.kinds) }
+{
+    let _ = table.kinds();
+    let replaced = table.replace(
+        alloc,
+        |row| meets(environment, tests, row.values()),
+        |row| image_row(alloc, environment, image, row.values()),
+    );
+    match replaced {
+        Ok((count, delta)) => Ok(applied(alloc, table, count, &delta)?),
+        Err(fault) => Err(replace_refusal(fault)),
+    }
+}

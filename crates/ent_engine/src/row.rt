@@ -1,0 +1,61 @@
+//! Rows that statements put in or show.
+ghost use Rattle.std.specs.Prelude.{◌≡◌, IfOk, map};
+ghost use Rattle.ent_form.specs.PlainMeaning.{plain_known_value, plain_row, plain_image};
+ghost use Rattle.ent_engine.specs.Environment.{environment_of};
+ghost use Rattle.ent_engine.specs.Evaluation.{Evaluates};
+
+use crate::environment::Environment;
+use crate::term::{TermFault, known_value, operand_expression, operand_value};
+use ent_form::{PlainOperand, PlainValue};
+use ent_sql::Expression;
+use ent_value::{Row, Value};
+use std::alloc::{AllocError, Global};
+
+/// The row of known values.
+pub(crate) fn known_row(
+    alloc: Global,
+    environment: &Environment,
+    values: &[PlainValue],
+) -> Result<Row, AllocError>
+    ensures { IfOk result (λ row. row ≡ map (plain_known_value (environment_of environment.now)) values.now) }
+{
+    let none = Value::Int(0);
+    let mut row = Vec::with_capacity(alloc, values.len())?;
+    for value in values {
+        row.push(known_value(environment, value, &none).copy(alloc)?)?;
+    }
+    Ok(Row::from_vec(row))
+}
+
+/// What items show of a row.
+pub(crate) fn item_row(
+    alloc: Global,
+    environment: &Environment,
+    items: &[PlainOperand],
+    row: &[Value],
+) -> Result<Row, AllocError>
+    ensures { IfOk result (λ shown. shown ≡ plain_row (environment_of environment.now) items.now row.now) }
+{
+    let none = Value::Int(0);
+    let mut values = Vec::with_capacity(alloc, items.len())?;
+    for item in items {
+        values.push(operand_value(environment, row, item, &none).copy(alloc)?)?;
+    }
+    Ok(Row::from_vec(values))
+}
+
+/// A row with each column changed to its expression's value, all being worked out over the row as it was.
+pub(crate) fn image_row(
+    alloc: Global,
+    environment: &Environment,
+    image: &[Expression<PlainOperand>],
+    row: &[Value],
+) -> Result<Row, TermFault>
+    ensures { Evaluates result (plain_image (environment_of environment.now) image.now row.now) }
+{
+    let mut values = Vec::with_capacity(alloc, image.len())?;
+    for expression in image {
+        values.push(operand_expression(alloc, environment, row, expression)?)?;
+    }
+    Ok(Row::from_vec(values))
+}

@@ -1,0 +1,6 @@
+mod Bindings
+mod Cuts
+mod Heads
+mod Membership
+mod Names
+mod Stands
