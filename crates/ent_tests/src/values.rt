@@ -1,6 +1,6 @@
 //! Printed values and rows, their order, and names.
 use crate::samples::{number_row, text_row};
-use ent_value::name::is_word;
+use ent_value::is_word;
 use ent_value::{Kind, Name, Row, Text, Value, print_row, print_value};
 use std::alloc::{AllocError, Global};
 use std::cmp::Ordering;

@@ -9,7 +9,7 @@ ghost use Rattle.ent_text.specs.Lexing.{word_at, word_kind};
 use crate::fault::TextFault;
 use crate::keyword::keyword_of;
 use crate::token::TokenKind;
-use ent_value::name::is_word_byte;
+use ent_value::is_word_byte;
 use ent_value::{Name, Refusal};
 use std::alloc::Global;
 

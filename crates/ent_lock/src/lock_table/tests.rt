@@ -1,5 +1,5 @@
 use super::*;
-use ent_value::name::is_word;
+use ent_value::is_word;
 use std::process::Abort;
 use std::test::Fail;
 
