@@ -1,20 +1,20 @@
 -- A statement over tables, from what it does to its one table.
 use Rattle.std.proofs.Common.{◌≡◌, ℕ, zero, suc, ◌<◌, Bool, true, false, cond, not, List, [], ◌∷◌, ◌++◌, length, map, take, drop, get_or, Option, Some, None, Result, Ok, Err, refl, sym, ap, ◌∙◌, arith, subst}
-use Rattle.std.specs.Prelude.{slice_set, slice_index_or, nat_le, is_some, OnOk, OnErr}
-use Rattle.std.specs.List.{list_all, filter_map}
+use Rattle.std.specs.Prelude.{slice_set, slice_index_or, nat_le, is_some, OnOk, OnErr, ◌&&◌}
+use Rattle.std.specs.List.{list_all, filter_map, cons_option}
 use Rattle.std.proofs.Math.Seq.{take-append_seam}
 use Rattle.ent_set.specs.Sets as finite
 use Rattle.ent_value.specs.declared.value.Value.{Value}
 use Rattle.ent_value.specs.declared.refusal.Refusal.{Refusal}
 use Rattle.ent_value.specs.declared.refusal.Refusal.TheVariants as refusals
-use Rattle.ent_value.specs.Refusal.{Gives, Refuses}
-use Rattle.ent_rel.specs.Relation.{Relation, RowSet, bounded}
-use Rattle.ent_rel.specs.Change.{deletion}
+use Rattle.ent_value.specs.Refusal.{◌>>=◌, Gives, Refuses}
+use Rattle.ent_rel.specs.Relation.{Relation, RowSet, full, bounded}
+use Rattle.ent_rel.specs.Change.{deletion, replacement, images_of}
 use Rattle.ent_sql.specs.declared.tree.Expression.{Expression}
 use Rattle.ent_semantics.specs.declared.answer.Answer.{Answer}
 use Rattle.ent_semantics.specs.declared.answer.Answer.TheVariants as answers
 use Rattle.ent_semantics.specs.declared.answer.Failure.{Failure}
-use Rattle.ent_semantics.specs.declared.answer.Failure.TheVariants.{TableFull}
+use Rattle.ent_semantics.specs.declared.answer.Failure.TheVariants.{Overflow, TableFull}
 use Rattle.ent_semantics.specs.Database.{Environment}
 use Rattle.ent_semantics.specs.Statement.{or_overflow}
 use Rattle.ent_form.specs.declared.plain.PlainOperand.{PlainOperand}
@@ -23,7 +23,7 @@ use Rattle.ent_form.specs.declared.plain.PlainValue.{PlainValue}
 use Rattle.ent_form.specs.declared.plain.PlainStatement.{PlainStatement}
 use Rattle.ent_form.specs.declared.plain.PlainStatement.TheVariants as resolved
 use Rattle.ent_form.specs.PlainMeaning.{PlainEffect, plain_known_value, plain_meets, plain_image, plain_meaning, plain_selection, table_rows}
-use Rattle.ent_engine.specs.Change.{or_full, insertion_of, replacement_of}
+use Rattle.ent_engine.specs.Change.{or_full, insertion_of, image_or_overflow, replacement_of}
 use Rattle.ent_engine.specs.Tables.{rows_in, kinds_in, effect}
 
 -- a place of a list, seen by f
@@ -66,6 +66,19 @@ table_found f items tables table x old view named at so =
     let Found : List Relation → Type 0 = λ ts. (table < length ts) × (old ≡ get_or ts table old) in
     subst Found view (length_map_lt f items table there, table_at f items table x old there at so)
 
+-- the images of rows, where a row without one overflows
+in_cond : {A B : Type 0} (f : A → B) (x : A) (b : Bool) → (◌>>=◌ {A = A} {B = B} {F = Failure} (cond b (Ok x) (Err Overflow)) (λ y. Ok (f y))) ≡ cond b (Ok (f x)) (Err Overflow)
+in_cond f x true = refl
+in_cond f x false = refl
+
+images_overflow : (image : List Value → Option (List Value)) (rows : List (List Value)) → images_of (image_or_overflow image) rows ≡ cond (list_all (λ row. is_some (image row)) rows) (Ok (filter_map image rows)) (Err Overflow)
+images_overflow image [] = refl
+images_overflow image (row ∷ rows) =
+    elim (image row) as (λ r. (or_overflow r (λ new. Ok new) >>= λ new. images_of (image_or_overflow image) rows >>= λ others. Ok (new ∷ others)) ≡ cond (is_some r && list_all (λ row. is_some (image row)) rows) (Ok (cons_option r (filter_map image rows))) (Err Overflow)) [
+      | None ↦ refl
+      | Some new ↦ ap (λ r. r >>= λ others. Ok (new ∷ others)) (images_overflow image rows) ∙ in_cond (λ others. new ∷ others) (filter_map image rows) (list_all (λ row. is_some (image row)) rows)
+    ]
+
 -- a table gets other rows
 abbrev pub with_change : List Relation → Environment → ℕ → Result (ℕ × RowSet) Failure → Result PlainEffect Failure
 with_change tables environment table (Ok change) = Ok (record { tables = slice_set (rows_in tables) table change.1; environment = environment; answer = answers.Count change.0 })
@@ -76,7 +89,7 @@ module _ (tables : List Relation) (environment : Environment) (table : ℕ) (old
   rows_here = map_at (λ (t : Relation). t.rows) tables table old finite.empty there is
 
   on_limit : (after : RowSet) (count : ℕ) (b : Bool)
-      → cond b (Ok (record { tables = slice_set (rows_in tables) table after; environment = environment; answer = answers.Count count })) (Err TableFull) ≡ with_change tables environment table (or_full (cond b (Some (count, after)) None))
+      → cond b (Ok (record { tables = slice_set (rows_in tables) table after; environment = environment; answer = answers.Count count })) (Err TableFull) ≡ with_change tables environment table (or_full (cond b (Ok (count, after)) (Err full)))
   on_limit after count true = refl
   on_limit after count false = refl
 
@@ -92,7 +105,7 @@ module _ (tables : List Relation) (environment : Environment) (table : ℕ) (old
 
   on_overflow : (after : RowSet) (count : ℕ) (b : Bool)
       → or_overflow (cond b (Some after) None) (λ rows. cond (nat_le (finite.len rows) 65536) (Ok (record { tables = slice_set (rows_in tables) table rows; environment = environment; answer = answers.Count count })) (Err TableFull))
-      ≡ with_change tables environment table (or_overflow (cond b (Some (bounded after (count, after))) None) or_full)
+      ≡ with_change tables environment table (cond b (Ok (count, after)) (Err Overflow) >>= λ change. or_full (bounded change.1 change))
   on_overflow after count true = on_limit after count (nat_le (finite.len after) 65536)
   on_overflow after count false = refl
 
@@ -103,7 +116,12 @@ module _ (tables : List Relation) (environment : Environment) (table : ℕ) (old
       let image_of : List Value → Option (List Value) = plain_image environment image in
       let matched = finite.retain old.rows passes in
       let after = finite.insert_all (finite.retain old.rows (λ row. not (passes row))) (filter_map image_of (finite.ascending matched)) in
-      rw rows_here (on_overflow after (finite.len matched) (list_all (λ row. is_some (image_of row)) (finite.ascending matched)))
+      let kept = finite.retain old.rows (λ row. not (passes row)) in
+      let made : replacement old.rows passes (image_or_overflow image_of) ≡ cond (list_all (λ row. is_some (image_of row)) (finite.ascending matched)) (Ok (finite.len matched, after)) (Err Overflow) =
+      ap (λ r. ◌>>=◌ {B = ℕ × RowSet} r (λ images. Ok (finite.len matched, finite.insert_all kept images))) (images_overflow image_of (finite.ascending matched))
+      ∙ in_cond {A = List (List Value)} {B = ℕ × RowSet} (λ images. (finite.len matched, finite.insert_all kept images)) (filter_map image_of (finite.ascending matched)) (list_all (λ row. is_some (image_of row)) (finite.ascending matched)) in
+      rw rows_here (on_overflow after (finite.len matched) (list_all (λ row. is_some (image_of row)) (finite.ascending matched))
+      ∙ ap (λ r. with_change tables environment table (r >>= λ change. or_full (bounded change.1 change))) (sym made))
 
   pub select_meaning : (items : List PlainOperand) (tests : List PlainTest)
       → plain_meaning (rows_in tables) environment (resolved.Select table items tests) ≡ Ok (effect tables environment (answers.Rows (finite.ascending (plain_selection environment items tests old.rows))))

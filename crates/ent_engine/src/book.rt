@@ -22,9 +22,9 @@ use ent_form::law::{
     resolved_keeps_kinds, resolved_means_the_same,
 };
 use ent_form::{Catalogue, ColumnSchema, TableSchema, opening_rows};
-use ent_rel::{Table, TableFault};
+use ent_rel::{Table, TableFull};
 use ent_sql::Opening;
-use ent_value::{Kind, Sequence};
+use ent_value::{Kind, Refusal, Sequence};
 use std::alloc::{AllocError, Global};
 use std::sync::Arc;
 
@@ -105,9 +105,9 @@ fn load_table(
     let rows = opening_rows(alloc, catalogue, number, opening)?;
     match Table::load(alloc, kinds, rows) {
         Ok(table) => Ok(table),
-        Err(TableFault::Memory) => Err(AllocError),
+        Err(Refusal::Memory) => Err(AllocError),
         // An input opens with at most 65,536 rows, so no table is too full.
-        Err(TableFault::TableFull) => unreachable!(),
+        Err(Refusal::Fault(TableFull)) => unreachable!(),
     }
 }
 
