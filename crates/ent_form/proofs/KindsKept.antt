@@ -20,7 +20,8 @@ use Rattle.ent_semantics.specs.declared.answer.Failure.{Failure}
 use Rattle.ent_semantics.specs.declared.answer.Failure.TheVariants.{TableFull}
 use Rattle.ent_semantics.specs.Change.{all_there}
 use Rattle.ent_semantics.specs.Database.{Name, Rows, Environment, same_name, with_value}
-use Rattle.ent_semantics.specs.Statement.{most_rows, or_overflow}
+use Rattle.ent_value.specs.declared.limits.TheConstants.{MOST_ROWS}
+use Rattle.ent_semantics.specs.Statement.{or_overflow}
 use Rattle.ent_semantics.specs.Term.{no_value, number_of, is_64_bits, in_64_bits, expression_value}
 use Rattle.ent_form.specs.declared.plain.PlainOperand.{PlainOperand}
 use Rattle.ent_form.specs.declared.plain.PlainOperand.TheVariants as plain
@@ -196,7 +197,7 @@ module _ (kinds : List (List Kind)) (tables : List Rows) (environment : Environm
 
   changed_kept : (table count : ℕ) (rows : Rows) → table < length kinds → OfKinds (slice_index_or kinds table []) rows → IfOk (plain_changed tables environment table count rows) Keeps
   changed_kept table count rows there fit =
-      answered_where (nat_le (set.len rows) most_rows) (record { tables = slice_set tables table rows; environment = environment; answer = answers.Count count }) TableFull Keeps (AreOfKinds-set kinds tables table rows h there fit)
+      answered_where (nat_le (set.len rows) MOST_ROWS) (record { tables = slice_set tables table rows; environment = environment; answer = answers.Count count }) TableFull Keeps (AreOfKinds-set kinds tables table rows h there fit)
 
   pub kinds_kept : (statement : PlainStatement) → Fits kinds (kinds_bound environment) statement → IfOk (plain_meaning tables environment statement) Keeps
   kinds_kept (resolved.Select table shown tests) fits = h
@@ -258,12 +259,12 @@ module _ (tables : List Rows) (environment : Environment) where
       let rows = table_rows tables table in
       let row = map (plain_known_value environment) values in
       let new = set.insert rows row in
-      answered_where (nat_le (set.len new) most_rows) (record { tables = slice_set tables table new; environment = environment; answer = answers.Count (if set.contains rows row then 0 else 1) }) TableFull (Binds (resolved.Insert table values)) refl
+      answered_where (nat_le (set.len new) MOST_ROWS) (record { tables = slice_set tables table new; environment = environment; answer = answers.Count (if set.contains rows row then 0 else 1) }) TableFull (Binds (resolved.Insert table values)) refl
   bound_kept (resolved.Update table image tests) =
       let rows = table_rows tables table in
       let count = set.len (plain_matched environment tests rows) in
       over_overflow (plain_updated environment image tests rows) (λ after. plain_changed tables environment table count after) (Binds (resolved.Update table image tests))
-      (λ after _. answered_where (nat_le (set.len after) most_rows) (record { tables = slice_set tables table after; environment = environment; answer = answers.Count count }) TableFull (Binds (resolved.Update table image tests)) refl)
+      (λ after _. answered_where (nat_le (set.len after) MOST_ROWS) (record { tables = slice_set tables table after; environment = environment; answer = answers.Count count }) TableFull (Binds (resolved.Update table image tests)) refl)
   bound_kept (resolved.Set variable expression) =
       over_overflow (expression_value (plain_known_value environment) expression) (λ value. Ok (record { tables = tables; environment = with_value environment variable value; answer = answers.Value value })) (Binds (resolved.Set variable expression))
       (λ value is. value_bound environment variable value ∙ ap (with_kind (kinds_bound environment) variable) (set_kind environment expression value is))

@@ -24,7 +24,8 @@ use Rattle.ent_semantics.specs.declared.answer.Failure.TheVariants.{TableFull}
 use Rattle.ent_semantics.specs.Change.{matched, unmatched, updated}
 use Rattle.ent_semantics.specs.Database.{Name, Rows, Database, Environment, same_name, columns_of, with_rows, with_value}
 use Rattle.ent_semantics.specs.Selection.{selection}
-use Rattle.ent_semantics.specs.Statement.{Effect, statement_meaning, changed, most_rows, or_overflow}
+use Rattle.ent_value.specs.declared.limits.TheConstants.{MOST_ROWS}
+use Rattle.ent_semantics.specs.Statement.{Effect, statement_meaning, changed, or_overflow}
 use Rattle.ent_semantics.specs.Term.{known_value, expression_value}
 use Rattle.ent_form.specs.declared.catalogue.TableSchema.{TableSchema}
 use Rattle.ent_form.specs.declared.fault.FormFault.TheVariants.{NoTable}
@@ -92,7 +93,7 @@ module _ (creates : List Create) (tables : List Rows) (declared : declarations_f
   stored name new count here false = refl
 
   changed_same : (name : Name) (new : Rows) (count : ℕ) → index_of names name < length tables → changed database environment name count new ≡ effect_of names (plain_changed tables environment (index_of names name) count new)
-  changed_same name new count here = stored name new count here (nat_le (set.len new) most_rows)
+  changed_same name new count here = stored name new count here (nat_le (set.len new) MOST_ROWS)
 
   -- every row of a table has as many values as the table has columns
   rows_long : (name : Name) (table : TableSchema) → table_named (schemas_of creates) name ≡ Some table → (row : List Value) → set.contains (rows_in name) row ≡ true → length row ≡ length (columns_in name)
