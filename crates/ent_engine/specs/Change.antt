@@ -39,7 +39,8 @@ abbrev pub insertion_of : RowSet → List Value → Result (ℕ × RowSet) Failu
 insertion_of rows row = or_full (insertion rows row)
 
 -- an overflow comes before a full table
-abbrev pub replacement_of : RowSet → (List Value → Bool) → (List Value → Option (List Value)) → Result (ℕ × RowSet) Failure
+abbrev pub replacement_of : RowSet → (List Value → Bool) → (List Value → Option (List Value))
+    → Result (ℕ × RowSet) Failure
 replacement_of rows test image = or_overflow (replacement rows test image) or_full
 
 -- how many rows a change concerned, and the rows that it left

@@ -67,7 +67,7 @@ pub(crate) fn operand_value<'a>(
     }
 }
 
-/// The number that a value is. No statement that is resolved adds or subtracts a text.
+/// The number that a value is; a text, which is of the wrong kind for a sum or a difference, counts as 0.
 fn number_of(value: &Value) -> i64
     ensures { result ≡ number_of value.now }
 {
@@ -124,7 +124,8 @@ pub(crate) fn operand_expression(
     row: &[Value],
     expression: &Expression<PlainOperand>,
 ) -> Result<Value, TermFault>
-    ensures { Evaluates result (expression_value (plain_value (environment_of environment.now) row.now) expression.now) }
+    ensures { let value = plain_value (environment_of environment.now) row.now in
+        Evaluates result (expression_value value expression.now) }
 {
     let none = Value::Int(0);
     match expression {
