@@ -1,48 +1,46 @@
 -- Changes of one table, from what the table answers.
-use Rattle.std.proofs.Common.{◌≡◌, ℕ, Bool, true, false, List, map, Option, Some, None, Result, Ok, Err, refl, ap, ◌∙◌, sym}
-use Rattle.std.specs.Prelude.{IfOk, MatchResult}
+use Rattle.std.proofs.Common.{◌≡◌, ℕ, Bool, true, false, cond, List, map, Option, Some, None, Result, Ok, Err, refl, ap}
+use Rattle.std.proofs.Common.{◌∙◌, sym}
+use Rattle.std.specs.Prelude.{IfOk, IsOk, nat_le}
+use Rattle.std.specs.Result.{is_ok}
+use Rattle.ent_set.specs.Sets as set
 use Rattle.ent_value.specs.Value.{kinds_of}
 use Rattle.ent_value.specs.declared.value.Kind.{Kind}
 use Rattle.ent_value.specs.declared.value.Value.{Value}
-use Rattle.ent_value.specs.Refusal.{Refuses}
-use Rattle.ent_rel.specs.Relation.{RowSet}
-use Rattle.ent_rel.specs.Answer.{Replaces}
-use Rattle.ent_rel.specs.declared.fault.ReplaceFault.{ReplaceFault}
-use Rattle.ent_rel.specs.declared.fault.ReplaceFault.TheVariants as replacing
+use Rattle.ent_value.specs.declared.refusal.Refusal.{Refusal}
+use Rattle.ent_value.specs.Refusal.{◌>>=◌, Gives}
+use Rattle.ent_rel.specs.Relation.{RowSet, full, bounded}
+use Rattle.ent_rel.specs.declared.fault.TheConstants.{ROW_LIMIT}
 use Rattle.ent_sql.specs.declared.tree.Expression.{Expression}
+use Rattle.ent_semantics.specs.declared.answer.Failure.{Failure}
 use Rattle.ent_semantics.specs.Database.{Environment}
-use Rattle.ent_semantics.specs.Statement.{or_overflow}
 use Rattle.ent_form.specs.declared.plain.PlainOperand.{PlainOperand}
 use Rattle.ent_form.specs.PlainMeaning.{plain_image, plain_kind, kind_with, kinds_bound}
-use Rattle.ent_engine.specs.declared.term.TermFault.{TermFault}
-use Rattle.ent_engine.specs.declared.term.TermFault.TheVariants.{Memory, Overflow}
-use Rattle.ent_engine.specs.Change.{or_full, replace_refusal}
-use Rattle.ent_engine.specs.Evaluation.{Evaluates}
+use Rattle.ent_engine.specs.Change.{or_full, image_or_overflow}
+use Rattle.ent_engine.specs.Evaluation.{there_or_overflow}
 use Rattle.ent_engine.proofs.Kept.{kinds_of_image}
 
--- the faults of which nothing is said
-abbrev pub is_memory : TermFault → Bool
-is_memory Memory = true
-is_memory Overflow = false
+-- what there is, from an answer that isn't an overflow
+pub there_is : {A : Type 0} (meant : Option A) (x : A) → there_or_overflow meant ≡ Ok x → meant ≡ Some x
+there_is None x is = absurd cc
+there_is (Some y) x is = let same : y ≡ x = cc in ap (λ z. Some z) same
 
-pub image_made : (answer : Result (List Value) TermFault) (meant : Option (List Value)) → Evaluates answer meant
-    → MatchResult answer (λ new. meant ≡ Some new) (λ fault. is_memory fault ≡ false → meant ≡ None)
-image_made (Ok new) meant is = is
-image_made (Err Memory) meant is = λ e. cc
-image_made (Err Overflow) meant is = λ e. is
-
-pub image_of_kinds : (environment : Environment) (image : List (Expression PlainOperand)) (row : List Value) (columns : List Kind) (answer : Result (List Value) TermFault)
-    → map (kind_with (plain_kind columns (kinds_bound environment))) image ≡ map Some columns → kinds_of row ≡ columns → Evaluates answer (plain_image environment image row)
+pub image_of_kinds :
+    (environment : Environment) (image : List (Expression PlainOperand)) (row : List Value) (columns : List Kind) (answer : Result (List Value) (Refusal Failure))
+    → map (kind_with (plain_kind columns (kinds_bound environment))) image ≡ map Some columns → kinds_of row ≡ columns → Gives (λ new. new) answer (image_or_overflow (plain_image environment image) row)
     → IfOk answer (λ new. kinds_of new ≡ columns)
-image_of_kinds environment image row columns (Ok new) fits of_row is = kinds_of_image environment image row new columns fits of_row is
+image_of_kinds environment image row columns (Ok new) fits of_row is = kinds_of_image environment image row new columns fits of_row (there_is (plain_image environment image row) new is)
 image_of_kinds environment image row columns (Err fault) fits of_row is = tt
 
-pub replaced : (meant : Option (Option (ℕ × RowSet))) (change made : ℕ × RowSet) → meant ≡ Some (Some change) → made ≡ change → or_overflow meant or_full ≡ Ok made
-replaced meant change made is so = ap (λ m. or_overflow m or_full) is ∙ ap (λ c. Ok c) (sym so)
+-- rows that are not too many
+within : {X Y : Type 0} (rows : RowSet) (x : X) (y : Y) → IsOk (bounded rows x) → or_full (bounded rows y) ≡ Ok y
+within {X} {Y} rows x y fits = on (nat_le (set.len rows) ROW_LIMIT) fits
+  where
+    on : (b : Bool) → is_ok (cond b (Ok x) (Err full)) ≡ true → or_full (cond b (Ok y) (Err full)) ≡ Ok y
+    on true p = refl
+    on false p = absurd cc
 
-pub replace_refused : {X : Type 0} (view : X → ℕ × RowSet) (fault : ReplaceFault TermFault) (meant : Option (Option (ℕ × RowSet))) → Replaces view is_memory (Err fault) meant
-    → Refuses (replace_refusal fault) (or_overflow meant or_full)
-replace_refused view replacing.Memory meant is = tt
-replace_refused view replacing.TableFull meant is = ap (λ m. or_overflow m or_full) is
-replace_refused view (replacing.Change Memory) meant is = tt
-replace_refused view (replacing.Change Overflow) meant is = ap (λ m. or_overflow m or_full) (is refl)
+pub replaced : (meant : Result (ℕ × RowSet) Failure) (count : ℕ) (after : RowSet) (made : ℕ × RowSet)
+    → meant ≡ Ok (count, after) → made ≡ (count, after) → IsOk (bounded after after)
+    → (meant >>= λ change. or_full (bounded change.1 change)) ≡ Ok made
+replaced meant count after made is so fits = ap (λ m. m >>= λ change. or_full (bounded change.1 change)) is ∙ within after after (count, after) fits ∙ ap (λ c. Ok c) (sym so)

@@ -1,5 +1,6 @@
 -- Tables that are loaded with their opening rows.
-use Rattle.std.proofs.Common.{◌≡◌, ℕ, zero, suc, ◌+◌, ◌<◌, ◌≤◌, Bool, true, false, cond, List, [], ◌∷◌, length, map, get_or, Option, Some, None, Err, refl, sym, ap, ◌∙◌, arith, subst}
+use Rattle.std.proofs.Common.{◌≡◌, ℕ, zero, suc, ◌+◌, ◌<◌, ◌≤◌, Bool, true, false, cond, List, [], ◌∷◌, length, map}
+use Rattle.std.proofs.Common.{get_or, Some, Result, Ok, Err, refl, sym, ap, ◌∙◌, arith, subst}
 use Rattle.std.specs.Prelude.{slice_get, slice_index_or, nat_le, All}
 use Rattle.std.specs.List.{AllByRecursion, filter}
 use Rattle.std.proofs.lemmas.List.Elements.{All-from_recursion}
@@ -10,10 +11,11 @@ use Rattle.ent_value.specs.Value.{row_cmp, kinds_of}
 use Rattle.ent_value.specs.Order.{rows_total, exact_rows}
 use Rattle.ent_value.specs.declared.value.Value.{Value}
 use Rattle.ent_value.specs.declared.value.Kind.{Kind}
-use Rattle.ent_rel.specs.Relation.{RowSet, bounded}
-use Rattle.ent_rel.specs.Answer.{Gives}
-use Rattle.ent_rel.specs.declared.fault.TableFault.{TableFault}
-use Rattle.ent_rel.specs.declared.fault.TableFault.TheVariants.{Memory, TableFull}
+use Rattle.ent_rel.specs.Relation.{RowSet, full, bounded}
+use Rattle.ent_rel.specs.declared.fault.TableFull.{TableFull}
+use Rattle.ent_value.specs.Refusal.{Refuses}
+use Rattle.ent_value.specs.declared.refusal.Refusal.{Refusal}
+use Rattle.ent_value.specs.declared.refusal.Refusal.TheVariants.{Memory, Fault}
 use Rattle.ent_sql.specs.declared.tree.OpeningRow.{OpeningRow}
 use Rattle.ent_sql.specs.declared.tree.Opening.{Opening}
 use Rattle.ent_semantics.specs.Database.{Name, same_name, row_of}
@@ -33,13 +35,17 @@ abbrev pub RowsFit : Opening → List TableSchema → Type 0
 RowsFit opening schemas = (table : ℕ) → table < length schemas
     → AllByRecursion (λ row. kinds_of row ≡ slice_index_or (map schema_kinds schemas) table []) (rows_named opening (slice_index_or (names_of schemas) table []))
 
-pub rows_of_table : (opening : Opening) (schemas : List TableSchema) (number : ℕ) (schema : TableSchema) (rows : List (List Value)) → slice_get schemas number ≡ Some schema
+pub rows_of_table :
+    (opening : Opening) (schemas : List TableSchema) (number : ℕ) (schema : TableSchema) (rows : List (List Value))
+    → slice_get schemas number ≡ Some schema
     → rows ≡ rows_named opening (slice_index_or (names_of schemas) number []) → rows ≡ rows_named opening schema.name
 rows_of_table opening schemas number schema rows there is =
     let at = got schemas number schema there in
     is ∙ ap (rows_named opening) (map_at (λ (s : TableSchema). s.name) schemas number schema [] at.0 at.1)
 
-pub rows_fit : (opening : Opening) (schemas : List TableSchema) (number : ℕ) (schema : TableSchema) (kinds : List Kind) (rows : List (List Value)) → schemas ≡ schemas_of opening.tables
+pub rows_fit :
+    (opening : Opening) (schemas : List TableSchema) (number : ℕ) (schema : TableSchema) (kinds : List Kind) (rows : List (List Value))
+    → schemas ≡ schemas_of opening.tables
     → slice_get schemas number ≡ Some schema → kinds ≡ schema_kinds schema → rows ≡ rows_named opening (slice_index_or (names_of schemas) number [])
     → RowsFit opening (schemas_of opening.tables) → All (λ row. kinds_of row ≡ kinds) rows
 rows_fit opening schemas number schema kinds rows declared there kinds_are rows_are law =
@@ -70,7 +76,8 @@ set_len_le (row ∷ rows) =
       | false ↦ λ e. omega arith
     ] (len-insert rows_total exact_rows (set.from_list rows) row)
 
-few_rows : (opening : Opening) (name : Name) → length opening.rows ≤ 65536 → set.len (set.from_list {R = row_cmp} (rows_named opening name)) ≤ 65536
+few_rows : (opening : Opening) (name : Name) → length opening.rows ≤ 65536
+    → set.len (set.from_list {R = row_cmp} (rows_named opening name)) ≤ 65536
 few_rows opening name le =
     let named = filter (λ (row : OpeningRow). same_name row.table.name name) opening.rows in
     let a : set.len (set.from_list {R = row_cmp} (rows_named opening name)) ≤ length (map row_of named) = set_len_le (map row_of named) in
@@ -78,27 +85,30 @@ few_rows opening name le =
     let c : length named ≤ length opening.rows = filter_le (λ (row : OpeningRow). same_name row.table.name name) opening.rows in
     omega arith
 
-never_full : {X : Type 0} (rows : RowSet) (x : X) → set.len rows ≤ 65536 → bounded rows x ≡ None → ⊥
-never_full {X} rows x le e = on (nat_le (set.len rows) 65536) (le-leb (set.len rows) 65536 le) e
+never_full : {X : Type 0} (rows : RowSet) (x : X) (fault : TableFull) → set.len rows ≤ 65536
+    → bounded rows x ≡ Err fault → ⊥
+never_full {X} rows x fault le e = on (nat_le (set.len rows) 65536) (le-leb (set.len rows) 65536 le) e
   where
-    on : (b : Bool) → b ≡ true → cond b (Some x) None ≡ None → ⊥
+    on : (b : Bool) → b ≡ true → cond b (Ok x) (Err full) ≡ Err fault → ⊥
     on true p q = cc
     on false p q = cc
 
-pub fits_always : {X : Type 0} (opening : Opening) (name : Name) (rows : List (List Value)) (x : X) → length opening.rows ≤ 65536 → rows ≡ rows_named opening name
-    → bounded (set.from_list rows) x ≡ None → ⊥
-fits_always {X} opening name rows x le is h =
-    never_full (set.from_list rows) x (subst (λ (rs : List (List Value)). set.len (set.from_list {R = row_cmp} rs) ≤ 65536) (sym is) (few_rows opening name le)) h
+pub fits_always : {X : Type 0} (opening : Opening) (name : Name) (rows : List (List Value)) (x : X) (fault : TableFull)
+    → length opening.rows ≤ 65536 → rows ≡ rows_named opening name
+    → bounded (set.from_list rows) x ≡ Err fault → ⊥
+fits_always {X} opening name rows x fault le is h =
+    never_full (set.from_list rows) x fault (subst (λ (rs : List (List Value)). set.len (set.from_list {R = row_cmp} rs) ≤ 65536) (sym is) (few_rows opening name le)) h
 
 -- what a full table tells
-pub full_is : {X Y : Type 0} (view : X → Y) (fault : TableFault) (meant : Option Y) → fault ≡ TableFull → Gives view (Err fault) meant → meant ≡ None
-full_is view Memory meant e h = absurd cc
-full_is view TableFull meant e h = h
+pub full_is : {Y : Type 0} (refusal : Refusal TableFull) (full : TableFull) (meant : Result Y TableFull)
+    → refusal ≡ Fault full → Refuses refusal meant → meant ≡ Err full
+full_is Memory full meant e h = absurd cc
+full_is (Fault fault) full meant e h = let same : fault ≡ full = cc in h ∙ ap (λ f. Err f) same
 
-pub loaded_is : {X : Type 0} (rows : RowSet) (x y : X) → bounded rows x ≡ Some y → x ≡ y
+pub loaded_is : {X : Type 0} (rows : RowSet) (x y : X) → bounded rows x ≡ Ok y → x ≡ y
 loaded_is {X} rows x y e = on (nat_le (set.len rows) 65536) e
   where
-    on : (b : Bool) → cond b (Some x) None ≡ Some y → x ≡ y
+    on : (b : Bool) → cond b (Ok x) (Err full) ≡ Ok y → x ≡ y
     on true p = cc
     on false p = absurd cc
 

@@ -22,9 +22,9 @@ use ent_form::{
     opening_tables_mean_the_same, resolved_binds_the_same, resolved_keeps_kinds,
     resolved_means_the_same,
 };
-use ent_rel::{Table, TableFault};
+use ent_rel::{Table, TableFull};
 use ent_sql::Opening;
-use ent_value::{Kind, Sequence};
+use ent_value::{Kind, Refusal, Sequence};
 use std::alloc::{AllocError, Global};
 use std::sync::Arc;
 
@@ -108,9 +108,9 @@ fn load_table(
     let rows = opening_rows(alloc, catalogue, number, opening)?;
     match Table::load(alloc, kinds, rows) {
         Ok(table) => Ok(table),
-        Err(TableFault::Memory) => Err(AllocError),
+        Err(Refusal::Memory) => Err(AllocError),
         // So no table is too full.
-        Err(TableFault::TableFull) => unreachable!(),
+        Err(Refusal::Fault(TableFull)) => unreachable!(),
     }
 }
 

@@ -1,24 +1,23 @@
 //! Changes of one table.
-ghost use Rattle.std.specs.Prelude.{◌≡◌, All, IfOk, IsSome, Some, map};
+ghost use Rattle.std.specs.Prelude.{◌≡◌, All, IfOk, IsOk, Some, map};
 ghost use Rattle.std.specs.Arc.{arc_value};
 ghost use Rattle.ent_value.specs.Refusal.{Gives};
 ghost use Rattle.ent_value.specs.Value.{kinds_of};
 ghost use Rattle.ent_rel.specs.Change.{changed_rows, application, deletion};
 ghost use Rattle.ent_form.specs.PlainMeaning.{known_kind, kind_with, kinds_bound, plain_kind, plain_known_value};
 ghost use Rattle.ent_form.specs.PlainMeaning.{plain_meets, plain_image};
-ghost use Rattle.ent_engine.specs.Change.{change_made, insertion_of, replacement_of, table_refusal, term_refusal};
-ghost use Rattle.ent_engine.specs.Change.{replace_refusal};
+ghost use Rattle.ent_engine.specs.Change.{change_made, insertion_of, image_or_overflow, replacement_of};
+ghost use Rattle.ent_engine.specs.Change.{table_refusal};
 ghost use Rattle.ent_engine.specs.Environment.{environment_of};
 
 use crate::environment::Environment;
 use crate::row::{image_row, known_row};
 use crate::select::meets;
-use crate::term::TermFault;
 use ent_form::{PlainOperand, PlainTest, PlainValue};
-use ent_rel::{Delta, ReplaceFault, Table, TableFault};
+use ent_rel::{Delta, Table, TableFull};
 use ent_semantics::Failure;
 use ent_sql::Expression;
-use ent_value::Refusal;
+use ent_value::{Refusal, Row};
 use std::alloc::{AllocError, Global};
 use std::sync::Arc;
 
@@ -29,38 +28,19 @@ pub(crate) struct Changed {
     pub(crate) count: u64,
 }
 
-fn table_refusal(fault: TableFault) -> Refusal<Failure>
-    ensures { result ≡ table_refusal fault }
+fn table_refusal(refusal: Refusal<TableFull>) -> Refusal<Failure>
+    ensures { result ≡ table_refusal refusal }
 {
-    match fault {
-        TableFault::Memory => Refusal::Memory,
-        TableFault::TableFull => Refusal::Fault(Failure::TableFull),
-    }
-}
-
-pub(crate) fn term_refusal(fault: TermFault) -> Refusal<Failure>
-    ensures { result ≡ term_refusal fault }
-{
-    match fault {
-        TermFault::Memory => Refusal::Memory,
-        TermFault::Overflow => Refusal::Fault(Failure::Overflow),
-    }
-}
-
-fn replace_refusal(fault: ReplaceFault<TermFault>) -> Refusal<Failure>
-    ensures { result ≡ replace_refusal fault }
-{
-    match fault {
-        ReplaceFault::Memory => Refusal::Memory,
-        ReplaceFault::TableFull => Refusal::Fault(Failure::TableFull),
-        ReplaceFault::Change(fault) => term_refusal(fault),
+    match refusal {
+        Refusal::Memory => Refusal::Memory,
+        Refusal::Fault(TableFull) => Refusal::Fault(Failure::TableFull),
     }
 }
 
 /// A table after a change that fits it.
 fn applied(alloc: Global, table: &Table, count: u64, delta: &Delta) -> Result<Changed, AllocError>
     requires kinds { All (λ row. kinds_of row ≡ table.now.kinds) delta.now.added }
-    requires fits { IsSome (application table.now.rows delta.now.removed delta.now.added) }
+    requires fits { IsOk (application table.now.rows delta.now.removed delta.now.added) }
     ensures made { IfOk result (λ changed.
         change_made changed ≡ (count, changed_rows table.now.rows delta.now.removed delta.now.added)) }
     ensures kinds { IfOk result (λ changed. (arc_value changed.table).kinds ≡ table.now.kinds) }
@@ -70,9 +50,9 @@ fn applied(alloc: Global, table: &Table, count: u64, delta: &Delta) -> Result<Ch
             table: Arc::new(alloc, changed)?,
             count,
         }),
-        Err(TableFault::Memory) => Err(AllocError),
+        Err(Refusal::Memory) => Err(AllocError),
         // The change fits.
-        Err(TableFault::TableFull) => unreachable!(),
+        Err(Refusal::Fault(TableFull)) => unreachable!(),
     }
 }
 
@@ -91,7 +71,7 @@ pub(crate) fn inserted(
     let row = known_row(alloc, environment, values)?;
     match table.insert(alloc, &row) {
         Ok((count, delta)) => Ok(applied(alloc, table, count, &delta)?),
-        Err(fault) => Err(table_refusal(fault)),
+        Err(refusal) => Err(table_refusal(refusal)),
     }
 }
 
@@ -127,13 +107,13 @@ pub(crate) fn updated(
 {
     // Asked for what its contract tells: each row has these kinds, and so has its image.
     let _ = table.kinds();
-    let replaced = table.replace(
+    let (count, delta) = table.replace(
         alloc,
         |row| meets(environment, tests, row.values()),
-        |row| image_row(alloc, environment, image, row.values()),
-    );
-    match replaced {
-        Ok((count, delta)) => Ok(applied(alloc, table, count, &delta)?),
-        Err(fault) => Err(replace_refusal(fault)),
-    }
+        |row: &Row| -> Result<Row, Refusal<Failure>>
+            ensures { let image = plain_image (environment_of environment.entry.now) image.entry.now in
+                Gives (λ new. new) result (image_or_overflow image row.now) }
+        { image_row(alloc, environment, image, row.values()) },
+    )?;
+    Ok(applied(alloc, table, count, &delta)?)
 }

@@ -1,9 +1,9 @@
 //! The engine of the program: from the bytes of an input to the bytes of its report.
 //!
 //! A caller may rely on [`run`]: what it writes is the report of the input, after a fault of the writer a beginning
-//! of it, and after any other fault nothing. Two laws say what such a report tells: by [`the_report_is_serial`] the scripts
-//! that committed, run alone in order, give the same, and by [`fates_are_meant`] each script has the fate that its
-//! statements and its end give it.
+//! of it, and after any other fault nothing. Two laws say what such a report tells: by [`the_report_is_serial`] the
+//! scripts that committed, run alone in order, give the same, and by [`fates_are_meant`] each script has the fate that
+//! its statements and its end give it.
 #![tactic(auto)]
 
 mod book;

@@ -9,11 +9,11 @@ ghost use Rattle.ent_form.specs.PlainMeaning.{Fits, kinds_bound, plain_bound_aft
 ghost use Rattle.ent_engine.specs.Environment.{environment_of};
 ghost use Rattle.ent_engine.specs.Tables.{kinds_in, rows_in, effect};
 
-use crate::change::{Changed, deleted, inserted, term_refusal, updated};
+use crate::change::{Changed, deleted, inserted, updated};
 use crate::environment::Environment;
 use crate::select::select;
 use crate::term::known_expression;
-use ent_form::{PlainStatement, PlainValue};
+use ent_form::{PlainStatement, PlainValue, resolved_keeps_kinds};
 use ent_rel::Table;
 use ent_semantics::{Answer, Failure};
 use ent_sql::Expression;
@@ -164,10 +164,9 @@ fn set(
         OnOk result (kinds_bound (environment_of environment.new)
         ≡ plain_bound_after (kinds_bound (environment_of environment.old)) statement) }
 {
-    let value = match known_expression(alloc, environment, expression) {
-        Ok(value) => value,
-        Err(fault) => return Err(term_refusal(fault)),
-    };
+    // What the value's kind is.
+    resolved_keeps_kinds();
+    let value = known_expression(alloc, environment, expression)?;
     environment.bind(variable.copy(alloc)?, value.copy(alloc)?)?;
     Ok(Answer::Value(value))
 }

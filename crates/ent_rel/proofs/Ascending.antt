@@ -1,6 +1,6 @@
 -- Rows put in ascending order.
-use Rattle.std.proofs.Common.{◌≡◌, ℕ, ◌≤◌, ◌<◌, List, [], length, refl, sym, ap, subst, ◌∙◌, arith, Some, None, take, drop, ◌++◌}
-use Rattle.std.specs.Prelude.{All}
+use Rattle.std.proofs.Common.{◌≡◌, ℕ, ◌≤◌, ◌<◌, List, [], length, refl, sym, ap, subst, ◌∙◌, arith, take, drop, ◌++◌}
+use Rattle.std.specs.Prelude.{All, Result, Ok, Err}
 use Rattle.std.specs.List.{IsDistinct, dedup}
 use Rattle.std.specs.List.Sorted.{IsSorted, IsStrictlySortedBy, IsPermutation}
 use Rattle.std.specs.Ordering.{eq_by_cmp}
@@ -15,8 +15,9 @@ use Rattle.ent_value.specs.declared.value.Value.{Value}
 use Rattle.ent_value.specs.declared.value.Kind.{Kind}
 use Rattle.ent_value.specs.Value.{row_cmp, kinds_of}
 use Rattle.ent_value.specs.Order.{rows_total, exact_rows}
-use Rattle.ent_rel.specs.Relation.{Relation, bounded}
+use Rattle.ent_rel.specs.Relation.{Relation, full, bounded}
 use Rattle.ent_rel.specs.Kept.{IsKept}
+use Rattle.ent_rel.specs.declared.fault.TheConstants.{ROW_LIMIT}
 use Rattle.ent_rel.proofs.Lists.{written_over}
 use Rattle.ent_rel.proofs.Meanings.{bounded_within, bounded_beyond}
 
@@ -46,7 +47,7 @@ module _ (xs ys zs : List (List Value)) (moved : IsPermutation xs ys) (sorted : 
   loaded_len : set.len (set.from_list {R = row_cmp} xs) ≡ length zs
   loaded_len = ap set.len (sym loaded_rows) ∙ len-distinct rows_total exact_rows zs loaded_distinct
 
-  pub loaded_kept : (kinds : List Kind) → All (λ row. kinds_of row ≡ kinds) xs → length zs ≤ 65536 → IsKept kinds zs
+  pub loaded_kept : (kinds : List Kind) → All (λ row. kinds_of row ≡ kinds) xs → length zs ≤ ROW_LIMIT → IsKept kinds zs
   loaded_kept kinds all small =
       record {
         ascending = loaded_strictly;
@@ -54,11 +55,11 @@ module _ (xs ys zs : List (List Value)) (moved : IsPermutation xs ys) (sorted : 
         fitting = rw e (All-dedup (eq_by_cmp row_cmp) (λ row. kinds_of row ≡ kinds) ys (All-permutation (λ row. kinds_of row ≡ kinds) xs ys moved all));
       }
 
-  pub loaded : (kinds : List Kind) → length zs ≤ 65536 → bounded {X = Relation} (set.from_list {R = row_cmp} xs) (record { kinds = kinds; rows = set.from_list xs }) ≡ Some (record { kinds = kinds; rows = set.from_list zs })
+  pub loaded : (kinds : List Kind) → length zs ≤ ROW_LIMIT → bounded {X = Relation} (set.from_list {R = row_cmp} xs) (record { kinds = kinds; rows = set.from_list xs }) ≡ Ok (record { kinds = kinds; rows = set.from_list zs })
   loaded kinds small =
       bounded_within {X = Relation} (set.from_list {R = row_cmp} xs) (record { kinds = kinds; rows = set.from_list xs }) (omega (arith, loaded_len))
-      ∙ (λ i. Some (record { kinds = kinds; rows = sym loaded_rows i }))
+      ∙ (λ i. Ok (record { kinds = kinds; rows = sym loaded_rows i }))
 
-  pub loaded_full : (kinds : List Kind) → 65536 < length zs → bounded {X = Relation} (set.from_list {R = row_cmp} xs) (record { kinds = kinds; rows = set.from_list xs }) ≡ None
+  pub loaded_full : (kinds : List Kind) → ROW_LIMIT < length zs → bounded {X = Relation} (set.from_list {R = row_cmp} xs) (record { kinds = kinds; rows = set.from_list xs }) ≡ Err full
   loaded_full kinds many =
       bounded_beyond {X = Relation} (set.from_list {R = row_cmp} xs) (record { kinds = kinds; rows = set.from_list xs }) (omega (arith, loaded_len))

@@ -1,4 +1,5 @@
 pub mod Lists
+pub mod Parts
 pub mod Meanings
 pub mod Kept
 pub mod Ascending

@@ -1,11 +1,11 @@
 -- Lists of rows: what a loop over them has made, and what they have in common with the set of their rows.
-use Rattle.std.proofs.Common.{◌≡◌, ℕ, zero, suc, ◌+◌, ◌<◌, Bool, true, false, cond, not, List, [], ◌∷◌, ◌++◌, length, refl, sym, ap, subst, ◌∙◌, arith, Some, None, get_or, take, drop, append-nil}
-use Rattle.std.specs.Prelude.{is_some, Option, Result, IsTrue, All, ◌&&◌, ◌||◌}
-use Rattle.std.specs.List.{filter, list_any, list_all, filter_map, cons_option, Contains}
+use Rattle.std.proofs.Common.{◌≡◌, ℕ, zero, suc, ◌+◌, ◌<◌, Bool, true, false, cond, List, [], ◌∷◌, ◌++◌, length, refl, sym, ap, subst, ◌∙◌, arith, get_or, take, drop, append-nil}
+use Rattle.std.specs.Prelude.{Result, Ok, Err, IsTrue, All, ◌||◌}
+use Rattle.std.specs.List.{filter, list_any, Contains}
 use Rattle.std.specs.Ordering.{eq_by_cmp}
 use Rattle.std.specs.Cmp.{Equal-is}
 use Rattle.std.proofs.lemmas.List.{take_more, take_all, take-append-le}
-use Rattle.std.proofs.lemmas.List.Elements.{filter_more, filter_map-append, All-append, All-take, All-contains}
+use Rattle.std.proofs.lemmas.List.Elements.{filter_more, All-append, All-take, All-contains, All-contains_itself}
 use Rattle.std.proofs.lemmas.Map.Views.{Contains-from_any, list_any-from_Contains}
 use denote.Param.Members.{Shared}
 use denote.Ref.{Bor}
@@ -16,7 +16,13 @@ use Rattle.ent_value.specs.declared.value.Kind.{Kind}
 use Rattle.ent_value.specs.Value.{row_cmp, kinds_of}
 use Rattle.ent_value.specs.Order.{rows_total, exact_rows, rows_equal}
 use Rattle.ent_rel.specs.Relation.{RowSet, HaveKinds}
+use Rattle.ent_value.specs.Refusal.{◌>>=◌, Refuses}
+use Rattle.ent_value.specs.declared.refusal.Refusal.{Refusal}
+use Rattle.ent_value.specs.declared.refusal.Refusal.TheVariants.{Memory, Fault}
+use Rattle.ent_rel.specs.Change.{images_of}
+use Rattle.ent_rel.specs.Part.{IsPart}
 use Rattle.ent_rel.specs.Closure.{Computes, Changes, KeepsKinds}
+use Rattle.ent_rel.proofs.Parts.{part_all}
 
 kept_or_not : {X : Type 0} (b : Bool) (kept : List X) (x : X) → cond b (kept ++ x ∷ []) kept ≡ kept ++ cond b (x ∷ []) []
 kept_or_not true kept x = refl
@@ -27,41 +33,42 @@ pub filter_step : {X : Type 0} (p : X → Bool) (xs kept next : List X) (i : ℕ
 filter_step p xs kept next i x h is so e =
     e ∙ kept_or_not (p x) kept x ∙ ap (λ k. k ++ cond (p x) (x ∷ []) []) so ∙ ap (λ y. filter p (take i xs) ++ cond (p y) (y ∷ []) []) is ∙ sym (filter_more p xs i x h)
 
-pub all_of : {K : Type 0} (p : K → Bool) (ks : List K) → list_all p ks ≡ not (list_any (λ k. not (p k)) ks)
-all_of p [] = refl
-all_of p (k ∷ ks) = elim (p k) as (λ b. (b && list_all p ks) ≡ not (not b || list_any (λ k. not (p k)) ks)) [ true ↦ all_of p ks | false ↦ refl ]
+pub images_more : {E : Type 0} (image : List Value → Result (List Value) E) (rows images : List (List Value)) (row new : List Value) → images_of image rows ≡ Ok images → image row ≡ Ok new → images_of image (rows ++ row ∷ []) ≡ Ok (images ++ new ∷ [])
+images_more image [] images row new so one =
+    let none : [] ≡ images = cc in
+    ap (λ r. r >>= λ x. Ok (x ∷ [])) one ∙ ap (λ xs. Ok (xs ++ new ∷ [])) none
+images_more {E} image (x ∷ rows) images row new so one = by (image x) (images_of image rows) refl refl so (λ ys f. images_more image rows ys row new f one)
+  where
+    by : (first : Result (List Value) E) (others : Result (List (List Value)) E) → image x ≡ first → images_of image rows ≡ others → (first >>= λ y. others >>= λ ys. Ok (y ∷ ys)) ≡ Ok images
+        → ((ys : List (List Value)) → images_of image rows ≡ Ok ys → images_of image (rows ++ row ∷ []) ≡ Ok (ys ++ new ∷ []))
+        → images_of image (x ∷ rows ++ row ∷ []) ≡ Ok (images ++ new ∷ [])
+    by (Ok y) (Ok ys) e f h later =
+        let is : y ∷ ys ≡ images = cc in
+        (λ i. e i >>= λ y. later ys f i >>= λ zs. Ok (y ∷ zs)) ∙ ap (λ zs. Ok (zs ++ new ∷ [])) is
+    by (Ok y) (Err fault) e f h later = absurd cc
+    by (Err fault) others e f h later = absurd cc
 
--- whether there is an image that passes
-abbrev pub some_passes : {J : Type 0} → (J → Bool) → Option J → Bool
-some_passes t None = false
-some_passes t (Some y) = t y
+-- the first row that has no image tells its fault
+pub images_fault : {E : Type 0} (image : List Value → Result (List Value) E) (rows images : List (List Value)) (i : ℕ) (row : List Value) (fault : E) → i < length rows → row ≡ get_or rows i row → image row ≡ Err fault → images_of image (take i rows) ≡ Ok images → images_of image rows ≡ Err fault
+images_fault image [] images i row fault lt is one so = absurd (omega arith)
+images_fault image (x ∷ rows) images zero row fault lt is one so = ap (λ r. r >>= λ y. images_of image rows >>= λ ys. Ok (y ∷ ys)) (ap image (sym is) ∙ one)
+images_fault {E} image (x ∷ rows) images (suc i) row fault lt is one so = by (image x) (images_of image (take i rows)) refl refl so (λ ys f. images_fault image rows ys i row fault (omega arith) is one f)
+  where
+    by : (first : Result (List Value) E) (others : Result (List (List Value)) E) → image x ≡ first → images_of image (take i rows) ≡ others → (first >>= λ y. others >>= λ ys. Ok (y ∷ ys)) ≡ Ok images
+        → ((ys : List (List Value)) → images_of image (take i rows) ≡ Ok ys → images_of image rows ≡ Err fault)
+        → images_of image (x ∷ rows) ≡ Err fault
+    by (Ok y) (Ok ys) e f h later = λ j. e j >>= λ y. later ys f j >>= λ zs. Ok (y ∷ zs)
+    by (Ok y) (Err other) e f h later = absurd cc
+    by (Err other) others e f h later = absurd cc
 
-pub any_filter_map : {K J : Type 0} (t : J → Bool) (f : K → Option J) (ks : List K) → list_any t (filter_map f ks) ≡ list_any (λ k. some_passes t (f k)) ks
-any_filter_map t f [] = refl
-any_filter_map t f (k ∷ ks) = elim (f k) as (λ x. list_any t (cons_option x (filter_map f ks)) ≡ (some_passes t x || list_any (λ k. some_passes t (f k)) ks)) [ None ↦ any_filter_map t f ks | Some y ↦ ap (λ b. t y || b) (any_filter_map t f ks) ]
-
-all_append : {K : Type 0} (p : K → Bool) (xs ys : List K) → list_all p (xs ++ ys) ≡ (list_all p xs && list_all p ys)
-all_append p [] ys = refl
-all_append p (x ∷ xs) ys = elim (p x) as (λ b. (b && list_all p (xs ++ ys)) ≡ ((b && list_all p xs) && list_all p ys)) [ true ↦ all_append p xs ys | false ↦ refl ]
-
-second_false : (a : Bool) → (a && false) ≡ false
-second_false true = refl
-second_false false = refl
-
-pub all_fails : {K : Type 0} (p : K → Bool) (rows : List K) (i : ℕ) (x : K) → i < length rows → x ≡ get_or rows i x → p x ≡ false → list_all p rows ≡ false
-all_fails p [] i x h e n = absurd (omega arith)
-all_fails p (r ∷ rs) zero x h e n = ap (λ b. b && list_all p rs) (ap p (sym e) ∙ n)
-all_fails p (r ∷ rs) (suc i) x h e n = ap (λ b. p r && b) (all_fails p rs i x (omega arith) e n) ∙ second_false (p r)
+pub images_refused : {E : Type 0} (image : List Value → Result (List Value) E) (rows images : List (List Value)) (i : ℕ) (row : List Value) (refusal : Refusal E) → i < length rows → row ≡ get_or rows i row → Refuses refusal (image row) → images_of image (take i rows) ≡ Ok images → Refuses refusal (images_of image rows)
+images_refused image rows images i row Memory lt is told so = tt
+images_refused image rows images i row (Fault fault) lt is told so = images_fault image rows images i row fault lt is told so
 
 -- one more row with its image
-pub images_step : {X Y : Type 0} (f : X → Option Y) (rows : List X) (added next : List Y) (i : ℕ) (x : X) (image : Y) → i < length rows → x ≡ get_or rows i x → f x ≡ Some image → (list_all (λ row. is_some (f row)) (take i rows) ≡ true) × (added ≡ filter_map f (take i rows)) → next ≡ added ++ image ∷ [] → (list_all (λ row. is_some (f row)) (take (i + 1) rows) ≡ true) × (next ≡ filter_map f (take (i + 1) rows))
-images_step f rows added next i x image h is some so e =
-    let more : take (i + 1) rows ≡ take i rows ++ x ∷ [] = take_more rows i x h ∙ ap (λ y. take i rows ++ y ∷ []) (sym is) in
-    let one : list_all (λ row. is_some (f row)) (x ∷ []) ≡ true = ap (λ o. is_some o && true) some in
-    let put : filter_map f (x ∷ []) ≡ image ∷ [] = ap (λ o. cons_option o []) some in (
-      ap (list_all (λ row. is_some (f row))) more ∙ all_append _ (take i rows) (x ∷ []) ∙ (λ j. so.0 j && one j),
-      e ∙ (λ j. so.1 j ++ sym put j) ∙ sym (filter_map-append f (take i rows) (x ∷ [])) ∙ ap (filter_map f) (sym more),
-    )
+pub images_step : {E : Type 0} (image : List Value → Result (List Value) E) (rows images : List (List Value)) (i : ℕ) (row new : List Value) → i < length rows → row ≡ get_or rows i row → image row ≡ Ok new → images_of image (take i rows) ≡ Ok images → images_of image (take (i + 1) rows) ≡ Ok (images ++ new ∷ [])
+images_step image rows images i row new lt is one so =
+    ap (images_of image) (take_more rows i row lt ∙ ap (λ y. take i rows ++ y ∷ []) (sym is)) ∙ images_more image (take i rows) images row new so one
 
 -- a list of as many elements written over another
 pub written_over : {X : Type 0} (n : ℕ) (xs old : List X) → length xs ≡ n → take n (xs ++ drop (length xs) old) ≡ xs
@@ -90,22 +97,25 @@ pub taken_there : (rows taken : List (List Value)) (row : List Value) → All (C
 taken_there rows taken row all here = there rows row (All-contains (Contains rows) taken row all (from_there taken row here))
 
 -- what a closure does on the rows of a set, it does on those of a list that was taken from it
-module _ {F E : Type 0} (calls : Shared F (Bor (List Value) × Unit {0}) (Result (List Value) E)) (closure : F) (rows taken : List (List Value)) (s : RowSet) (view : set.from_list rows ≡ s) (all : All (Contains rows) taken) where
+module _ {F E : Type 0} (calls : Shared F (Bor (List Value) × Unit {0}) (Result (List Value) (Refusal E))) (closure : F) (rows taken : List (List Value)) (s : RowSet) (view : set.from_list rows ≡ s) (all : All (Contains rows) taken) where
   found : (row : List Value) → IsTrue (set.contains (set.from_list {R = row_cmp} taken) row) → IsTrue (set.contains s row)
   found row here = ap (λ t. set.contains t row) (sym view) ∙ taken_there rows taken row all here
 
-  pub taken_changes : (image : List Value → Option (List Value)) (excused : E → Bool) → Changes calls closure s image excused → Changes calls closure (set.from_list taken) image excused
-  taken_changes image excused changes row answer here says = changes row answer (found row here) says
+  pub taken_changes : (image : List Value → Result (List Value) E) → Changes calls closure s image → Changes calls closure (set.from_list taken) image
+  taken_changes image changes row answer here says = changes row answer (found row here) says
 
   pub taken_kinds : (kinds : List Kind) → KeepsKinds calls closure s kinds → KeepsKinds calls closure (set.from_list taken) kinds
   taken_kinds kinds keeps row answer here says = keeps row answer (found row here) says
 
 -- a list that equals a table's, and one that equals what was taken from it
-pub taken_from : (items given taken matched : List (List Value)) → given ≡ items → matched ≡ taken → All (Contains given) taken → All (Contains items) matched
-taken_from items given taken matched same also all =
-    let P : List (List Value) → Type 0 = λ xs. All (Contains xs) taken in
-    let Q : List (List Value) → Type 0 = λ xs. All (Contains items) xs in
-    subst Q (sym also) (subst P same all)
+pub taken_from : (items given taken matched : List (List Value)) → given ≡ items → matched ≡ taken → IsPart given taken → IsPart items matched
+taken_from items given taken matched same also part =
+    let P : List (List Value) → Type 0 = λ xs. IsPart xs taken in
+    let Q : List (List Value) → Type 0 = λ xs. IsPart items xs in
+    subst Q (sym also) (subst P same part)
+
+pub part_there : (rows part : List (List Value)) → IsPart rows part → All (Contains rows) part
+part_there rows part h = part_all (Contains rows) rows part h (All-contains_itself rows)
 
 -- a test that a closure computes on the rows of a set, it computes on those of a list of it
 pub computes_listed : {F : Type 0} (calls : Shared F (Bor (List Value) × Unit {0}) Bool) (closure : F) (items given : List (List Value)) (s : RowSet) (passes : List Value → Bool) → set.from_list items ≡ s → given ≡ items → Computes calls closure s passes → Computes calls closure (set.from_list given) passes
@@ -133,11 +143,11 @@ from_append rows added = same_set rows_total exact_rows _ _ (λ q.
     ∙ sym (contains-insert_all rows_total exact_rows (set.from_list rows) added q))
 
 -- rows that stay and rows that are put in have the table's kinds
-pub put_kinds : (kinds own mine : List Kind) (items given kept added put rows : List (List Value)) (i : ℕ) → rows ≡ kept ++ take i added → All (Contains given) kept → given ≡ items → All (λ row. kinds_of row ≡ mine) items → kinds ≡ mine → mine ≡ own → added ≡ put → All (λ row. kinds_of row ≡ own) put → All (λ row. kinds_of row ≡ kinds) rows
-put_kinds kinds own mine items given kept added put rows i e listed same fitting is view also all =
+pub put_kinds : (kinds own mine : List Kind) (items given kept added put rows : List (List Value)) (i : ℕ) → rows ≡ kept ++ take i added → IsPart given kept → given ≡ items → All (λ row. kinds_of row ≡ mine) items → kinds ≡ mine → mine ≡ own → added ≡ put → All (λ row. kinds_of row ≡ own) put → All (λ row. kinds_of row ≡ kinds) rows
+put_kinds kinds own mine items given kept added put rows i e part same fitting is view also all =
     let P : List Value → Type 0 = λ row. kinds_of row ≡ kinds in
-    let Q : List (List Value) → Type 0 = λ xs. All (Contains xs) kept in
+    let Q : List (List Value) → Type 0 = λ xs. IsPart xs kept in
     let R : List (List Value) → Type 0 = λ xs. All (λ row. kinds_of row ≡ own) xs in
-    let stay : All P kept = λ k d h. All-contains (λ row. kinds_of row ≡ mine) items (get_or kept k d) fitting (subst Q same listed k d h) ∙ sym is in
+    let stay : All P kept = λ k d h. All-contains (λ row. kinds_of row ≡ mine) items (get_or kept k d) fitting (part_there items kept (subst Q same part) k d h) ∙ sym is in
     let come : All P added = λ k d h. subst R (sym also) all k d h ∙ sym view ∙ sym is in
     rw e (All-append P kept (take i added) stay (All-take P i added come))

@@ -1,5 +1,5 @@
 -- A table as its readers see it: the kinds of its columns, and a finite set of rows.
-use Rattle.std.specs.Prelude.{◌≡◌, ℤ, ℕ, List, ◌⊎◌, refl, Option, Some, None, nat_le, if◌then◌else◌, IsTrue}
+use Rattle.std.specs.Prelude.{◌≡◌, ℤ, ℕ, List, ◌⊎◌, refl, Result, Ok, Err, nat_le, if◌then◌else◌, IsTrue}
 use Rattle.std.specs.Coded.{Coded, code_by, coded⊎, coded×, coded_ℤ, coded_ℕ, coded_list, coded_bool}
 use Rattle.std.proofs.Common.{inl, inr, Bool, true, false}
 use Rattle.ent_set.specs.Sets as set
@@ -8,6 +8,8 @@ use Rattle.ent_value.specs.declared.value.Value.{Value}
 use Rattle.ent_value.specs.declared.value.Value.TheVariants.{Int, Text}
 use Rattle.ent_value.specs.declared.value.Kind.{Kind}
 use Rattle.ent_value.specs.declared.value.Kind.TheVariants as kinds
+use Rattle.ent_rel.specs.declared.fault.TableFull.{TableFull}
+use Rattle.ent_rel.specs.declared.fault.TheConstants.{ROW_LIMIT}
 
 -- a finite set of rows, in the order of rows
 abbrev pub RowSet : Type 0
@@ -21,9 +23,13 @@ pub record Relation : Type 0 where
 abbrev pub HaveKinds : List Kind → RowSet → Type 0
 HaveKinds kinds rows = (row : List Value) → IsTrue (set.contains rows row) → kinds_of row ≡ kinds
 
+-- the one fault of a table
+abbrev pub full : TableFull
+full = record {}
+
 -- x, where these rows are not too many for a table
-abbrev pub bounded : {X : Type 0} → RowSet → X → Option X
-bounded rows x = if nat_le (set.len rows) 65536 then Some x else None
+abbrev pub bounded : {X : Type 0} → RowSet → X → Result X TableFull
+bounded rows x = if nat_le (set.len rows) ROW_LIMIT then Ok x else Err full
 
 -- How a relation is stored as a number.
 

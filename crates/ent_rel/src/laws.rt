@@ -4,9 +4,9 @@ ghost use Rattle.ent_rel.specs.ByRow.{InsertsOne, DeletesMatches, ReplacesMatche
 /// Which rows stand after a change, row by row: after an insertion the new one and the old ones; after a deletion
 /// those that do not match; after a replacement these and the images of those that match; after any change the
 /// added ones and the old ones that were not removed.
-pub fn changes_by_row()
+pub fn changes_by_row<E>()
     ensures insertion { InsertsOne }
     ensures deletion { DeletesMatches }
-    ensures replacement { ReplacesMatches }
+    ensures replacement { ReplacesMatches E }
     ensures change { ChangesRows }
 {}

@@ -10,7 +10,7 @@ mod search;
 mod table;
 
 pub use change::Delta;
-pub use fault::{ReplaceFault, TableFault};
+pub use fault::{ROW_LIMIT, TableFull};
 pub use laws::changes_by_row;
 pub use rows::Rows;
-pub use table::{ROW_LIMIT, Table};
+pub use table::Table;

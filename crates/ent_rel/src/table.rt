@@ -1,29 +1,26 @@
 //! A table over a list of its rows in ascending order.
-ghost use Rattle.std.specs.Prelude.{◌≡◌, ◌≤◌, ◌==◌, [], Bool, List, Option, IfOk, IsSome, IsTrue, ◌↔◌, map, All};
+ghost use Rattle.std.specs.Prelude.{◌≡◌, ◌≤◌, ◌==◌, [], Bool, List, Result, IfOk, IsOk, IsTrue, ◌↔◌, map, All};
 ghost use Rattle.std.specs.List.{IsDistinct};
 ghost use Rattle.std.specs.Ordering.{eq_by_cmp};
 ghost use Rattle.ent_set.specs.Sets as set;
+ghost use Rattle.ent_value.specs.Refusal.{Gives};
 ghost use Rattle.ent_value.specs.Value.{row_cmp, kinds_of};
 ghost use Rattle.ent_value.specs.declared.value.Value.{Value as Cell};
 ghost use Rattle.ent_rel.specs.Relation.{HaveKinds, bounded};
 ghost use Rattle.ent_rel.specs.Rows.{rows_left};
 ghost use Rattle.ent_rel.specs.Change.{changed_rows, insertion, deletion, replacement, application};
 ghost use Rattle.ent_rel.specs.Closure.{Computes, Changes, KeepsKinds};
-ghost use Rattle.ent_rel.specs.Answer.{Gives, Replaces};
 
 use crate::change::Delta;
 use crate::copies::{copies_of, copies_where, images};
-use crate::fault::{ReplaceFault, TableFault};
+use crate::fault::{ROW_LIMIT, TableFull};
 use crate::rows::Rows;
 use crate::search::{are_same_kinds, are_same_rows, is_among};
-use ent_value::{Kind, Row, Sequence};
+use ent_value::{Kind, Refusal, Row, Sequence};
 use std::alloc::{AllocError, Global};
 use std::marker::Model;
 
-/// The most rows that a table holds.
-pub const ROW_LIMIT: usize = 65_536;
-
-/// A finite set of at most 65,536 rows, each of the table's kinds. Contracts see the kinds and the set.
+/// A finite set of at most [`ROW_LIMIT`] rows, each of the table's kinds. Contracts see the kinds and the set.
 #[derive(Drop)]
 pub struct Table {
     kinds: Vec<Kind>,
@@ -54,8 +51,8 @@ impl Table {
     }
 
     /// The table of these rows, which are moved and put in order, and of which doubles count once. `TableFull` where
-    /// more than 65,536 are distinct. With a fault the rows are lost.
-    pub fn load(alloc: Global, kinds: Vec<Kind>, rows: Vec<Row>) -> Result<Self, TableFault>
+    /// more than [`ROW_LIMIT`] are distinct. With a fault the rows are lost.
+    pub fn load(alloc: Global, kinds: Vec<Kind>, rows: Vec<Row>) -> Result<Self, Refusal<TableFull>>
         requires { All (λ row. kinds_of row ≡ kinds.items) rows.items }
         ensures { let rows = set.from_list {R = row_cmp} rows.items in
             Gives (λ table. table) result (bounded rows record { kinds = kinds.items; rows = rows }) }
@@ -64,7 +61,7 @@ impl Table {
         rows.as_mut_slice().sort(alloc)?;
         rows.dedup();
         if rows.len() > ROW_LIMIT {
-            return Err(TableFault::TableFull);
+            return Err(Refusal::Fault(TableFull));
         }
         Ok(Table { kinds, rows })
     }
@@ -80,7 +77,7 @@ impl Table {
     /// How many rows there are.
     pub fn len(&self) -> usize
         ensures len { result ≡ set.len self.now.rows }
-        ensures limit { result ≤ 65536 }
+        ensures limit { result ≤ ROW_LIMIT }
     {
         self.rows.len()
     }
@@ -116,13 +113,13 @@ impl Table {
 
     /// What putting a row in would change: no row where it is there. The change fits: `apply` never
     /// answers `TableFull` for it.
-    pub fn insert(&self, alloc: Global, row: &Row) -> Result<(u64, Delta), TableFault>
+    pub fn insert(&self, alloc: Global, row: &Row) -> Result<(u64, Delta), Refusal<TableFull>>
         requires { kinds_of row.now ≡ self.now.kinds }
         ensures change { Gives
             (λ r. (r.0, changed_rows self.now.rows r.1.removed r.1.added))
             result (insertion self.now.rows row.now) }
         ensures kinds { IfOk result (λ r. All (λ row. kinds_of row ≡ self.now.kinds) r.1.added) }
-        ensures fits { IfOk result (λ r. IsSome (application self.now.rows r.1.removed r.1.added)) }
+        ensures fits { IfOk result (λ r. IsOk (application self.now.rows r.1.removed r.1.added)) }
     {
         let mut added = Sequence::new(alloc);
         let len = self.len();
@@ -136,7 +133,7 @@ impl Table {
             ));
         }
         if len >= ROW_LIMIT {
-            return Err(TableFault::TableFull);
+            return Err(Refusal::Fault(TableFull));
         }
         added.push(row.copy(alloc)?)?;
         Ok((
@@ -158,7 +155,7 @@ impl Table {
         ensures change { (passes : List Cell → Bool) → Computes F.Fn test self.now.rows passes
             → IfOk result (λ r. (r.0, changed_rows self.now.rows r.1.removed r.1.added) ≡ deletion self.now.rows passes) }
         ensures kinds { IfOk result (λ r. All (λ row. kinds_of row ≡ self.now.kinds) r.1.added) }
-        ensures fits { IfOk result (λ r. IsSome (application self.now.rows r.1.removed r.1.added)) }
+        ensures fits { IfOk result (λ r. IsOk (application self.now.rows r.1.removed r.1.added)) }
     {
         let removed = copies_where(alloc, self.rows.as_slice(), test)?;
         Ok((
@@ -170,39 +167,39 @@ impl Table {
         ))
     }
 
-    /// What putting its image in the place of each row that passes a test would change. The change's own `Err`
-    /// comes back before `TableFull`. The change fits.
-    pub fn replace<E: Drop, F: Fn(&Row) -> bool, G: Fn(&Row) -> Result<Row, E>>(
+    /// What putting its image in the place of each row that passes a test would change, or the fault of the first
+    /// row, in ascending order, that passes and has no image. No more rows stand then than before, so the change fits.
+    pub fn replace<E: Drop, F: Fn(&Row) -> bool, G: Fn(&Row) -> Result<Row, Refusal<E>>>(
         &self,
         alloc: Global,
         test: F,
         change: G,
-    ) -> Result<(u64, Delta), ReplaceFault<E>>
+    ) -> Result<(u64, Delta), Refusal<E>>
         requires test { F.IsAlwaysCallable test }
         requires change { G.IsAlwaysCallable change }
         requires kinds { KeepsKinds G.Fn change self.now.rows self.now.kinds }
-        ensures change { (passes : List Cell → Bool) (image : List Cell → Option (List Cell))
-            (excused : E → Bool)
+        ensures change { (passes : List Cell → Bool) (image : List Cell → Result (List Cell) E)
             → Computes F.Fn test self.now.rows passes
-            → Changes G.Fn change self.now.rows image excused
-            → Replaces (λ r. (r.0, changed_rows self.now.rows r.1.removed r.1.added))
-            excused result (replacement self.now.rows passes image) }
+            → Changes G.Fn change self.now.rows image
+            → Gives (λ r. (r.0, changed_rows self.now.rows r.1.removed r.1.added))
+            result (replacement self.now.rows passes image) }
         ensures kinds { IfOk result (λ r. All (λ row. kinds_of row ≡ self.now.kinds) r.1.added) }
-        ensures fits { IfOk result (λ r. IsSome (application self.now.rows r.1.removed r.1.added)) }
+        ensures fits { IfOk result (λ r. IsOk (application self.now.rows r.1.removed r.1.added)) }
     {
         let removed = copies_where(alloc, self.rows.as_slice(), test)?;
         let added = images(alloc, removed.as_slice(), change)?;
         let count = removed.len() as u64;
-        let delta = Delta {
-            removed: Sequence::from_vec(removed),
-            added: Sequence::from_vec(added),
-        };
-        self.apply(alloc, &delta)?;
-        Ok((count, delta))
+        Ok((
+            count,
+            Delta {
+                removed: Sequence::from_vec(removed),
+                added: Sequence::from_vec(added),
+            },
+        ))
     }
 
     /// The table after a change. The change's rows are copied.
-    pub fn apply(&self, alloc: Global, delta: &Delta) -> Result<Table, TableFault>
+    pub fn apply(&self, alloc: Global, delta: &Delta) -> Result<Table, Refusal<TableFull>>
         requires { All (λ row. kinds_of row ≡ self.now.kinds) delta.now.added }
         ensures rows { Gives (λ table. table.rows) result
             (application self.now.rows delta.now.removed delta.now.added) }

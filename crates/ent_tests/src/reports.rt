@@ -4,9 +4,9 @@ ghost use Rattle.ent_value.specs.Name.{IsWord};
 use crate::samples::{number_rows, number_table, text_table};
 use crate::streams::{KeepingWriter, Manner};
 use ent_book::{Book, Fate, NamedTable, ReportFault, write_report};
-use ent_rel::{Table, TableFault};
+use ent_rel::{Table, TableFull};
 use ent_semantics::{Answer, Failure};
-use ent_value::{Name, Sequence, Text, Value, Watched};
+use ent_value::{Name, Refusal, Sequence, Text, Value, Watched};
 use std::alloc::{AllocError, Global};
 use std::sync::Arc;
 use std::test::Fail;
@@ -29,7 +29,7 @@ fn inserted_and_found(alloc: Global) -> Result<Sequence<Answer>, AllocError> {
 }
 
 /// A row is put into a table and found; another transaction fails where a second fate is wanted.
-fn small_book(alloc: Global, second: Option<Fate>) -> Result<Book, TableFault> {
+fn small_book(alloc: Global, second: Option<Fate>) -> Result<Book, Refusal<TableFull>> {
     let mut fates = Sequence::new(alloc);
     fates.push(Fate::Committed {
         number: 1,

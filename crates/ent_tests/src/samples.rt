@@ -3,8 +3,8 @@ ghost use Rattle.std.specs.Prelude.{◌≡◌, ◌∷◌, [], IfOk, All};
 ghost use Rattle.ent_value.specs.Value.{kinds_of};
 ghost use Rattle.ent_value.specs.declared.value.Kind.TheVariants as kinds;
 
-use ent_rel::{Table, TableFault};
-use ent_value::{Kind, Row, Text, Value};
+use ent_rel::{Table, TableFull};
+use ent_value::{Kind, Refusal, Row, Text, Value};
 use std::alloc::{AllocError, Global};
 
 /// The number of a row that begins with one, else 0.
@@ -63,7 +63,7 @@ pub(crate) fn one_kind(alloc: Global, kind: Kind) -> Result<Vec<Kind>, AllocErro
 }
 
 /// A table of a column of numbers.
-pub(crate) fn number_table(alloc: Global, numbers: &[i64]) -> Result<Table, TableFault>
+pub(crate) fn number_table(alloc: Global, numbers: &[i64]) -> Result<Table, Refusal<TableFull>>
     ensures { IfOk result (λ table. table.kinds ≡ kinds.Int ∷ []) }
 {
     let rows = number_rows(alloc, numbers)?;
@@ -71,7 +71,7 @@ pub(crate) fn number_table(alloc: Global, numbers: &[i64]) -> Result<Table, Tabl
 }
 
 /// A table of a column of texts.
-pub(crate) fn text_table(alloc: Global, texts: &[&str]) -> Result<Table, TableFault> {
+pub(crate) fn text_table(alloc: Global, texts: &[&str]) -> Result<Table, Refusal<TableFull>> {
     let rows = text_rows(alloc, texts)?;
     Table::load(alloc, one_kind(alloc, Kind::Text)?, rows)
 }

@@ -1,7 +1,7 @@
 //! Tables and their changes.
 use crate::samples::{number_of, number_row, number_rows, number_table, numbers_of, one_kind};
-use ent_rel::{Delta, ReplaceFault, Table, TableFault};
-use ent_value::{Kind, Sequence};
+use ent_rel::{Delta, Table, TableFull};
+use ent_value::{Kind, Refusal, Row, Sequence};
 use std::alloc::AllocError;
 use std::test::Fail;
 
@@ -73,7 +73,11 @@ fn deleted_rows(rt: HostRuntime) -> Result<(), Fail> {
 fn replaced_rows(rt: HostRuntime) -> Result<(), Fail> {
     let alloc = rt.alloc();
     let table = number_table(alloc, &[1, 2, 3])?;
-    let (count, delta) = table.replace(alloc, |row| number_of(row) < 3, |_| number_row(alloc, 3))?;
+    let (count, delta) = table.replace(
+        alloc,
+        |row| number_of(row) < 3,
+        |_| -> Result<Row, Refusal<TableFull>> { Ok(number_row(alloc, 3)?) },
+    )?;
     assert_eq!(rt; count, 2);
     let changed = table.apply(alloc, &delta)?;
     assert_eq!(rt; numbers_of(alloc, &changed)?.as_slice(), [3].as_slice());
@@ -88,18 +92,16 @@ fn a_change_with_a_fault(rt: HostRuntime) -> Result<(), Fail> {
         |row| number_of(row) > 1,
         |row| {
             if number_of(row) == 2 {
-                Err("two")
+                Err(Refusal::Fault("two"))
             } else {
-                Err("three")
+                Err(Refusal::Fault("three"))
             }
         },
     );
     match replaced {
-        Err(ReplaceFault::Change(fault)) => {
-            assert!(rt; fault == "two" || fault == "three");
-        }
-        Err(ReplaceFault::Memory) => return Err(Fail::from(AllocError)),
-        _ => {
+        Err(Refusal::Fault(fault)) => assert_eq!(rt; fault, "two"),
+        Err(Refusal::Memory) => return Err(Fail::from(AllocError)),
+        Ok(_) => {
             assert!(rt; false, "the change's own fault");
         }
     }
@@ -107,11 +109,11 @@ fn a_change_with_a_fault(rt: HostRuntime) -> Result<(), Fail> {
 }
 
 /// Whether a call found the table full; where memory ran out, that comes back.
-fn finds_full<T: Drop>(answer: Result<T, TableFault>) -> Result<bool, TableFault> {
+fn finds_full<T: Drop>(answer: Result<T, Refusal<TableFull>>) -> Result<bool, AllocError> {
     match answer {
         Ok(_) => Ok(false),
-        Err(TableFault::TableFull) => Ok(true),
-        Err(TableFault::Memory) => Err(TableFault::Memory),
+        Err(Refusal::Fault(TableFull)) => Ok(true),
+        Err(Refusal::Memory) => Err(AllocError),
     }
 }
 

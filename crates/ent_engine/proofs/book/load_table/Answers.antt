@@ -13,9 +13,9 @@ load-requires c =
 
 pub unreachable-requires : goal.unreachable-requires
 unreachable-requires c =
-    fits_always c.args.opening.now c.args.schema.now.name c.in_ok-rows.rows.items _ (omega (arith, c.len.ensures.len, c.len.ensures.limit))
+    fits_always c.args.opening.now c.args.schema.now.name c.in_ok-rows.rows.items _ _ (omega (arith, c.len.ensures.len, c.len.ensures.limit))
     (rows_of_table c.args.opening.now c.args.catalogue.now.tables c.args.number c.args.schema.now c.in_ok-rows.rows.items c.requires.number c.in_ok-rows.ensures)
-    (full_is (λ (table : Relation). table) c.in-Err-TableFull.field-0 _ c.in-Err-TableFull.field-0-is c.in-Err-TableFull.ensures)
+    (full_is c.in-Err-Fault.field-0 _ _ c.in-Err-Fault.field-0-is c.in-Err-Fault.ensures)
 
 pub returns-in-Ok-clause-rows : goal.returns-in-Ok-clause-rows
 returns-in-Ok-clause-rows c =

@@ -2,13 +2,14 @@ use Rattle.std.proofs.Common.{◌≡◌, ap, ◌∙◌, List, arith, rules, subs
 use Rattle.std.specs.List.{filter}
 use Rattle.ent_value.specs.declared.value.Value.{Value}
 use Rattle.ent_rel.proofs.Lists.{put_kinds}
-use Rattle.ent_rel.proofs.Meanings.{stays, rows_after, loaded_after}
+use Rattle.ent_rel.proofs.Parts.{stays}
+use Rattle.ent_rel.proofs.Meanings.{rows_after, loaded_after}
 use Rattle.ent_rel.proofs.table.Table.apply.Goals as goal
 
 pub load-requires : goal.load-requires
 load-requires c =
     put_kinds c.in_ok-kinds.kinds.items c.args.self.now.kinds c.self.inside.kinds.items c.self.inside.rows.items c.as_slice-3.result.now c.in_ok-rows.rows.items c.as_slice-row-items.result.now c.args.delta.now.added c.loop-row.rows.items
-    c.loop-row.row-index c.loop-row.invariant c.in_ok-rows.ensures.listed c.as_slice-3.ensures.value c.self.invariant.fitting (c.in_ok-kinds.ensures.items ∙ c.as_slice.ensures.value) (ap (λ t. t.kinds) c.self.view_is) c.as_slice-row-items.ensures c.requires
+    c.loop-row.row-index c.loop-row.invariant c.in_ok-rows.ensures.part c.as_slice-3.ensures.value c.self.invariant.fitting (c.in_ok-kinds.ensures.items ∙ c.as_slice.ensures.value) (ap (λ t. t.kinds) c.self.view_is) c.as_slice-row-items.ensures c.requires
 
 pub returns-clause-rows : goal.returns-clause-rows
 returns-clause-rows c =

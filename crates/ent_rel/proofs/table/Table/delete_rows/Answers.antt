@@ -1,10 +1,8 @@
-use Rattle.std.proofs.Common.{◌≡◌, ap, sym, subst, ◌∙◌, length, []}
-use Rattle.std.specs.Prelude.{IsSome}
+use Rattle.std.proofs.Common.{◌≡◌, ap, sym, ◌∙◌, length, arith}
 use Rattle.std.specs.List.{filter}
-use Rattle.ent_rel.specs.Relation.{Relation}
-use Rattle.ent_rel.specs.Change.{deletion, changed_rows, application}
-use Rattle.ent_rel.proofs.Lists.{computes_listed}
-use Rattle.ent_rel.proofs.Meanings.{deletion_filter, fits_removed}
+use Rattle.ent_rel.specs.Change.{deletion, changed_rows}
+use Rattle.ent_rel.proofs.Lists.{computes_listed, taken_from}
+use Rattle.ent_rel.proofs.Meanings.{deletion_filter, fits_part}
 use Rattle.ent_rel.proofs.Kept.{distinct_rows}
 use Rattle.ent_rel.proofs.table.Table.delete_rows.Goals as goal
 
@@ -19,5 +17,6 @@ returns-clause-change g c = λ passes computes.
 
 pub returns-clause-fits : goal.returns-clause-fits
 returns-clause-fits g c =
-    let P : Relation → Type 0 = λ t. IsSome (application t.rows c.from_vec.result []) in
-    rw c.new.ensures (subst P c.self.view_is (fits_removed c.self.inside.rows.items c.from_vec.result (distinct_rows c.self.invariant) c.self.invariant.limit))
+    let rows = c.self.inside.rows.items in
+    let part = taken_from rows c.as_slice.result.now c.in_ok-removed.removed.items c.from_vec.result c.as_slice.ensures.value c.from_vec.ensures c.in_ok-removed.ensures.part in
+    fits_part c.args.self.now.rows rows c.from_vec.result c.new.result (ap (λ t. t.rows) c.self.view_is) (distinct_rows c.self.invariant) c.self.invariant.limit part (omega (arith, ap length c.new.ensures))

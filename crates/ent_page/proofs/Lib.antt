@@ -1,0 +1,5 @@
+mod Order
+mod Written
+mod ReadBack
+mod Laid
+mod Search
