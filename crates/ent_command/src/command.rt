@@ -56,14 +56,17 @@ fn read_command_line<'a>(alloc: Global, words: &'a [String]) -> Result<(), Error
     Ok(())
 }
 
-/// Shows what is wrong with the command line, or the help that it asks for.
+/// Shows what is wrong with the command line, or the help that it asks for; where the help can't be written, that is a
+/// fault of the writer.
 fn show_command_line<R: Print + Eprint>(rt: &R, fault: &Error) -> Ending {
     if fault.kind() == ErrorKind::OutOfMemory {
         return Ending::Faulty(RunFault::Memory);
     }
-    let _ = fault.print(rt);
+    let shown = fault.print(rt);
     if fault.use_stderr() {
         Ending::Misused
+    } else if shown.is_err() {
+        Ending::Faulty(RunFault::WriteFault)
     } else {
         Ending::Done
     }

@@ -22,7 +22,7 @@ pub use limits::MOST_ROWS;
 pub use name::{LONGEST_NAME, Name, is_word, is_word_byte};
 pub use print::{print_row, print_value};
 pub use refusal::Refusal;
-pub use row::Row;
+pub use row::{Row, rows_are_ordered};
 pub use sequence::Sequence;
 pub use text::{LONGEST_TEXT, Text};
 pub use value::{Kind, Value, values_are_ordered};
