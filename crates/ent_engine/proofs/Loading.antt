@@ -1,9 +1,12 @@
 -- Tables that are loaded with their opening rows.
-use Rattle.std.proofs.Common.{◌≡◌, ℕ, zero, suc, ◌+◌, ◌<◌, ◌≤◌, Bool, true, false, cond, List, [], ◌∷◌, length, map}
-use Rattle.std.proofs.Common.{get_or, Some, Result, Ok, Err, refl, sym, ap, ◌∙◌, arith, subst}
+use Rattle.std.proofs.Common.{◌≡◌, ℕ, ◌+◌, ◌<◌, ◌≤◌, Bool, true, false, cond, List, [], ◌∷◌, length, map}
+use Rattle.std.proofs.Common.{get_or, Some, Result, Ok, Err, sym, ap, ◌∙◌, arith, subst}
 use Rattle.std.specs.Prelude.{slice_get, slice_index_or, nat_le, All}
 use Rattle.std.specs.List.{AllByRecursion, filter}
+use Rattle.std.proofs.lemmas.List.{length-map}
+use Rattle.std.proofs.lemmas.Simd.{map-map}
 use Rattle.std.proofs.lemmas.List.Elements.{All-from_recursion}
+use Rattle.std.proofs.lemmas.Option.{get_or_from_slice_get, slice_get_within}
 use Rattle.std.proofs.lemmas.Bool.{le-leb}
 use Rattle.ent_set.specs.Sets as set
 use Rattle.ent_set.specs.Laws.{len-insert, len-empty}
@@ -26,9 +29,7 @@ use Rattle.ent_form.specs.PlainMeaning.{schema_kinds, opening_tables}
 use Rattle.ent_engine.proofs.Meanings.{map_at}
 
 got : {A : Type 0} (xs : List A) (i : ℕ) (x : A) → slice_get xs i ≡ Some x → (i < length xs) × (x ≡ get_or xs i x)
-got [] i x e = absurd cc
-got (y ∷ xs) zero x e = (omega arith, cc)
-got (y ∷ xs) (suc i) x e = let h = got xs i x e in (omega (arith, h.0), h.1)
+got xs i x e = (slice_get_within xs i x e, sym (get_or_from_slice_get xs i x x e))
 
 -- which rows of the opening each table gets, and that they fit it
 abbrev pub RowsFit : Opening → List TableSchema → Type 0
@@ -58,10 +59,6 @@ rows_fit opening schemas number schema kinds rows declared there kinds_are rows_
 
 -- ---- no table is too full
 
-pub length_map : {A B : Type 0} (f : A → B) (xs : List A) → length (map f xs) ≡ length xs
-length_map f [] = refl
-length_map f (x ∷ xs) = let h = length_map f xs in omega arith
-
 filter_le : {A : Type 0} (p : A → Bool) (xs : List A) → length (filter p xs) ≤ length xs
 filter_le p [] = omega arith
 filter_le p (x ∷ xs) = let h = filter_le p xs in
@@ -81,7 +78,7 @@ few_rows : (opening : Opening) (name : Name) → length opening.rows ≤ 65536
 few_rows opening name le =
     let named = filter (λ (row : OpeningRow). same_name row.table.name name) opening.rows in
     let a : set.len (set.from_list {R = row_cmp} (rows_named opening name)) ≤ length (map row_of named) = set_len_le (map row_of named) in
-    let b : length (map row_of named) ≡ length named = length_map row_of named in
+    let b : length (map row_of named) ≡ length named = length-map named row_of in
     let c : length named ≤ length opening.rows = filter_le (λ (row : OpeningRow). same_name row.table.name name) opening.rows in
     omega arith
 
@@ -113,10 +110,6 @@ loaded_is {X} rows x y e = on (nat_le (set.len rows) 65536) e
     on false p = absurd cc
 
 -- ---- the opening tables
-
-pub map-map : {A B C : Type 0} (f : B → C) (g : A → B) (xs : List A) → map f (map g xs) ≡ map (λ x. f (g x)) xs
-map-map f g [] = refl
-map-map f g (x ∷ xs) = ap (λ zs. f (g x) ∷ zs) (map-map f g xs)
 
 pub opened : (opening : Opening) (schemas : List TableSchema) → schemas ≡ schemas_of opening.tables
     → map (λ schema. set.from_list {R = row_cmp} (rows_named opening schema.name)) schemas ≡ opening_tables opening

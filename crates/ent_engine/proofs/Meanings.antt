@@ -3,6 +3,7 @@ use Rattle.std.proofs.Common.{◌≡◌, ℕ, zero, suc, ◌<◌, Bool, true, fa
 use Rattle.std.proofs.Common.{take, drop, get_or, Option, Some, None, Result, Ok, Err, refl, sym, ap, ◌∙◌, arith, subst}
 use Rattle.std.specs.Prelude.{slice_set, slice_index_or, nat_le, is_some, OnOk, OnErr, ◌&&◌}
 use Rattle.std.specs.List.{list_all, filter_map, cons_option}
+use Rattle.std.proofs.lemmas.List.{length-map, map-set}
 use Rattle.std.proofs.Math.Seq.{take-append_seam}
 use Rattle.ent_set.specs.Sets as finite
 use Rattle.ent_value.specs.declared.value.Value.{Value}
@@ -35,21 +36,13 @@ map_at f [] i x d lt is = absurd (omega arith)
 map_at f (y ∷ xs) zero x d lt is = ap f (sym is)
 map_at f (y ∷ xs) (suc i) x d lt is = map_at f xs i x d (omega arith) is
 
-pub map-set : {A B : Type 0} (f : A → B) (xs : List A) (i : ℕ) (x : A)
-    → map f (slice_set xs i x) ≡ slice_set (map f xs) i (f x)
-map-set f [] i x = refl
-map-set f (y ∷ xs) zero x = refl
-map-set f (y ∷ xs) (suc i) x = ap (λ zs. f y ∷ zs) (map-set f xs i x)
-
 -- the table behind an Arc of a list
 pub table_at : {A B : Type 0} (f : A → B) (xs : List A) (i : ℕ) (x : A) (y : B) → i < length xs → x ≡ get_or xs i x
     → y ≡ f x → y ≡ get_or (map f xs) i y
 table_at f xs i x y lt is so = so ∙ sym (map_at f xs i x y lt is)
 
 pub length_map_lt : {A B : Type 0} (f : A → B) (xs : List A) (i : ℕ) → i < length xs → i < length (map f xs)
-length_map_lt f [] i lt = absurd (omega arith)
-length_map_lt f (x ∷ xs) zero lt = omega arith
-length_map_lt f (x ∷ xs) (suc i) lt = let h = length_map_lt f xs i (omega arith) in omega arith
+length_map_lt f xs i lt = omega (arith, lt, length-map xs f)
 
 -- a table that is named is there
 pub named_is_there : {A : Type 0} (f : A → Relation) (xs : List A) (table : ℕ) → table < length (kinds_in (map f xs))
