@@ -10,6 +10,7 @@ use Rattle.std.proofs.lemmas.Option.{get_or_from_slice_get, slice_get_within}
 use Rattle.std.proofs.lemmas.Bool.{le-leb}
 use Rattle.ent_set.specs.Sets as set
 use Rattle.ent_set.specs.Laws.{len-insert, len-empty}
+use Rattle.ent_value.specs.declared.limits.TheConstants.{MOST_ROWS}
 use Rattle.ent_value.specs.Value.{row_cmp, kinds_of}
 use Rattle.ent_value.specs.Order.{rows_total, exact_rows}
 use Rattle.ent_value.specs.declared.value.Value.{Value}
@@ -73,8 +74,8 @@ set_len_le (row ∷ rows) =
       | false ↦ λ e. omega arith
     ] (len-insert rows_total exact_rows (set.from_list rows) row)
 
-few_rows : (opening : Opening) (name : Name) → length opening.rows ≤ 65536
-    → set.len (set.from_list {R = row_cmp} (rows_named opening name)) ≤ 65536
+few_rows : (opening : Opening) (name : Name) → length opening.rows ≤ MOST_ROWS
+    → set.len (set.from_list {R = row_cmp} (rows_named opening name)) ≤ MOST_ROWS
 few_rows opening name le =
     let named = filter (λ (row : OpeningRow). same_name row.table.name name) opening.rows in
     let a : set.len (set.from_list {R = row_cmp} (rows_named opening name)) ≤ length (map row_of named) = set_len_le (map row_of named) in
@@ -82,19 +83,19 @@ few_rows opening name le =
     let c : length named ≤ length opening.rows = filter_le (λ (row : OpeningRow). same_name row.table.name name) opening.rows in
     omega arith
 
-never_full : {X : Type 0} (rows : RowSet) (x : X) (fault : TableFull) → set.len rows ≤ 65536
+never_full : {X : Type 0} (rows : RowSet) (x : X) (fault : TableFull) → set.len rows ≤ MOST_ROWS
     → bounded rows x ≡ Err fault → ⊥
-never_full {X} rows x fault le e = on (nat_le (set.len rows) 65536) (le-leb (set.len rows) 65536 le) e
+never_full {X} rows x fault le e = on (nat_le (set.len rows) MOST_ROWS) (le-leb (set.len rows) MOST_ROWS le) e
   where
     on : (b : Bool) → b ≡ true → cond b (Ok x) (Err full) ≡ Err fault → ⊥
     on true p q = cc
     on false p q = cc
 
 pub fits_always : {X : Type 0} (opening : Opening) (name : Name) (rows : List (List Value)) (x : X) (fault : TableFull)
-    → length opening.rows ≤ 65536 → rows ≡ rows_named opening name
+    → length opening.rows ≤ MOST_ROWS → rows ≡ rows_named opening name
     → bounded (set.from_list rows) x ≡ Err fault → ⊥
 fits_always {X} opening name rows x fault le is h =
-    never_full (set.from_list rows) x fault (subst (λ (rs : List (List Value)). set.len (set.from_list {R = row_cmp} rs) ≤ 65536) (sym is) (few_rows opening name le)) h
+    never_full (set.from_list rows) x fault (subst (λ (rs : List (List Value)). set.len (set.from_list {R = row_cmp} rs) ≤ MOST_ROWS) (sym is) (few_rows opening name le)) h
 
 -- what a full table tells
 pub full_is : {Y : Type 0} (refusal : Refusal TableFull) (full : TableFull) (meant : Result Y TableFull)
@@ -103,7 +104,7 @@ full_is Memory full meant e h = absurd cc
 full_is (Fault fault) full meant e h = let same : fault ≡ full = cc in h ∙ ap (λ f. Err f) same
 
 pub loaded_is : {X : Type 0} (rows : RowSet) (x y : X) → bounded rows x ≡ Ok y → x ≡ y
-loaded_is {X} rows x y e = on (nat_le (set.len rows) 65536) e
+loaded_is {X} rows x y e = on (nat_le (set.len rows) MOST_ROWS) e
   where
     on : (b : Bool) → cond b (Ok x) (Err full) ≡ Ok y → x ≡ y
     on true p = cc

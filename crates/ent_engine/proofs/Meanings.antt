@@ -6,6 +6,7 @@ use Rattle.std.specs.List.{list_all, filter_map, cons_option}
 use Rattle.std.proofs.lemmas.List.{length-map, map-set}
 use Rattle.std.proofs.Math.Seq.{take-append_seam}
 use Rattle.ent_set.specs.Sets as finite
+use Rattle.ent_value.specs.declared.limits.TheConstants.{MOST_ROWS}
 use Rattle.ent_value.specs.declared.value.Value.{Value}
 use Rattle.ent_value.specs.declared.refusal.Refusal.{Refusal}
 use Rattle.ent_value.specs.declared.refusal.Refusal.TheVariants as refusals
@@ -100,16 +101,16 @@ module _ (tables : List Relation) (environment : Environment) (table : ℕ) (old
       → plain_meaning (rows_in tables) environment (resolved.Insert table values) ≡ with_change tables environment table (insertion_of old.rows (map (plain_known_value environment) values))
   insert_meaning values =
       let row = map (plain_known_value environment) values in
-      rw rows_here (on_limit (finite.insert old.rows row) (cond (finite.contains old.rows row) 0 1) (nat_le (finite.len (finite.insert old.rows row)) 65536))
+      rw rows_here (on_limit (finite.insert old.rows row) (cond (finite.contains old.rows row) 0 1) (nat_le (finite.len (finite.insert old.rows row)) MOST_ROWS))
 
   pub delete_meaning : (tests : List PlainTest)
       → plain_meaning (rows_in tables) environment (resolved.Delete table tests) ≡ with_change tables environment table (Ok (deletion old.rows (plain_meets environment tests)))
   delete_meaning tests = rw rows_here refl
 
   on_overflow : (after : RowSet) (count : ℕ) (b : Bool)
-      → or_overflow (cond b (Some after) None) (λ rows. cond (nat_le (finite.len rows) 65536) (Ok (record { tables = slice_set (rows_in tables) table rows; environment = environment; answer = answers.Count count })) (Err TableFull))
+      → or_overflow (cond b (Some after) None) (λ rows. cond (nat_le (finite.len rows) MOST_ROWS) (Ok (record { tables = slice_set (rows_in tables) table rows; environment = environment; answer = answers.Count count })) (Err TableFull))
       ≡ with_change tables environment table (cond b (Ok (count, after)) (Err Overflow) >>= λ change. or_full (bounded change.1 change))
-  on_overflow after count true = on_limit after count (nat_le (finite.len after) 65536)
+  on_overflow after count true = on_limit after count (nat_le (finite.len after) MOST_ROWS)
   on_overflow after count false = refl
 
   pub update_meaning : (image : List (Expression PlainOperand)) (tests : List PlainTest)

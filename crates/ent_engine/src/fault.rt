@@ -30,7 +30,7 @@ pub enum RunFault {
     /// The writer failed, or took no byte.
     #[error("E602: the report can't be written")]
     WriteFault,
-    /// There is no memory for what a run holds.
+    /// Out of memory.
     #[error("E900: out of memory")]
     Memory,
 }
