@@ -3,14 +3,16 @@ use Rattle.std.specs.Prelude.{◌≡◌, ℕ, Bool, true, false, ◌<◌, ◌++�
 use Rattle.std.specs.Io.KnownBytes.{Appends, Keeps}
 use Rattle.ent_value.specs.Watched.{Stream}
 use Rattle.ent_engine.specs.declared.fault.RunFault.{RunFault}
-use Rattle.ent_engine.specs.declared.fault.RunFault.TheVariants.{NotUtf8, TooLong, Sql, Form, ReadFault, WriteFault, Memory}
+use Rattle.ent_engine.specs.declared.fault.RunFault.TheVariants.{NotUtf8, TooLong, Sql, Form, ReadFault, WriteFault}
+use Rattle.ent_engine.specs.declared.fault.RunFault.TheVariants.{Memory}
 use Rattle.ent_sql.specs.declared.tree.Input.{Input}
 use Rattle.ent_engine.specs.Outcome.{report_of}
-use Rattle.ent_engine.specs.Reading.{IsInput, most_bytes}
+use Rattle.ent_engine.specs.declared.reader.TheConstants.{MOST_BYTES}
+use Rattle.ent_engine.specs.Reading.{IsInput}
 
 -- Reading to the end fails for want of memory, where there is too much, or where the reader fails.
 abbrev pub ReadingFails : Option (List ℕ) → RunFault → Type 0
-ReadingFails remaining TooLong = IfSome remaining (λ all. most_bytes < length all)
+ReadingFails remaining TooLong = IfSome remaining (λ all. MOST_BYTES < length all)
 ReadingFails remaining ReadFault = Unit {0}
 ReadingFails remaining Memory = Unit {0}
 ReadingFails remaining (NotUtf8 place) = ⊥
@@ -65,7 +67,8 @@ WritesReport bytes old new = (input : Input) × IsInput bytes input × Appends o
 -- where the writer failed, what it took is a beginning of the report of the input
 abbrev pub WritesBeginning : List ℕ → Option (List ℕ) → Option (List ℕ) → RunFault → Type 0
 WritesBeginning bytes old new WriteFault =
-    (input : Input) × IsInput bytes input × ((front rest : List ℕ) × (report_of input ≡ front ++ rest) × Appends old new front)
+    (input : Input) × IsInput bytes input
+    × ((front rest : List ℕ) × (report_of input ≡ front ++ rest) × Appends old new front)
 WritesBeginning bytes old new ReadFault = Unit {0}
 WritesBeginning bytes old new (NotUtf8 place) = Unit {0}
 WritesBeginning bytes old new TooLong = Unit {0}

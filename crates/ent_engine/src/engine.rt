@@ -15,9 +15,9 @@ use std::io::{Read, Write};
 
 /// Reads an input whole, runs its scripts one after the other, and writes their report.
 ///
-/// Reader and writer are handed in unmarked, as [`Watched::new`] makes them, so that their marks tell of this call. What
-/// is written is the report of the input that the reader had, for a reader that tells what it has and a writer that
-/// tells what it holds. Where the input is refused, nothing is written, and the fault is the input's first.
+/// Reader and writer are handed in unmarked, as [`Watched::new`] makes them, so that their marks tell of this call.
+/// What is written is the report of the input that the reader had, for a reader that tells what it has and a writer
+/// that tells what it holds. Where the input is refused, nothing is written, and the fault is the input's first.
 pub fn run<R: Read, W: Write>(
     alloc: Global,
     reader: &mut Watched<R>,
@@ -28,8 +28,8 @@ pub fn run<R: Read, W: Write>(
     ensures report { OnOk result (IfSome (R.remaining reader.old.inner) (λ bytes.
         WritesReport bytes (W.contents writer.old.inner) (W.contents writer.new.inner))) }
     ensures refused { IfErr result (λ fault. IfSome (R.remaining reader.old.inner) (λ bytes. IsRefused bytes fault)) }
-    // A fault of the reader is answered exactly where that one failed; one of the writer exactly where that one failed or
-    // took no byte.
+    // A fault of the reader is answered exactly where that one failed; one of the writer exactly where that one failed
+    // or took no byte.
     ensures reader_marks { IsReaderMarkedBy result reader.new }
     ensures writer_marks { IsWriterMarkedBy result writer.new }
     // Nothing is written but where the writer failed; then it is a beginning of the report.

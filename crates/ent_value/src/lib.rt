@@ -7,6 +7,7 @@
 #![tactic(auto)]
 
 mod limited;
+mod limits;
 mod name;
 mod print;
 mod refusal;
@@ -17,6 +18,7 @@ mod value;
 mod watched;
 
 pub use limited::Limited;
+pub use limits::MOST_ROWS;
 pub use name::{LONGEST_NAME, Name, is_word, is_word_byte};
 pub use print::{print_row, print_value};
 pub use refusal::Refusal;

@@ -1,5 +1,6 @@
 use Rattle.std.proofs.Common.{arith, ◌∙◌}
 use Rattle.std.proofs.Math.Bool.{or-false}
+use Rattle.ent_engine.specs.declared.reader.TheConstants.{MOST_BYTES}
 use Rattle.ent_engine.proofs.Pieces.{nothing_read, read_more, read_to_end, read_too_much}
 use Rattle.ent_engine.proofs.reader.read_pieces.Goals as goal
 
@@ -16,7 +17,7 @@ returns-in-Ok-eq0-clause-whole g c =
 
 pub returns-then-count-len-clause-fault : goal.returns-then-count-len-clause-fault
 returns-then-count-len-clause-fault g c =
-    read_too_much _ _ _ c.reading.bytes.items c.read.new.buffer c.in-Ok.count 16777216 c.in-Ok.ensures.bound.0 (omega (arith, c.if-count-len.true, c.len.ensures, c.reading.bytes.ok.0)) c.reading.invariant.front c.in-Ok.ensures.bytes.0
+    read_too_much _ _ _ c.reading.bytes.items c.read.new.buffer c.in-Ok.count MOST_BYTES c.in-Ok.ensures.bound.0 (omega (arith, c.if-count-len.true, c.len.ensures, c.reading.bytes.ok.0)) c.reading.invariant.front c.in-Ok.ensures.bytes.0
 
 pub reading-preserved : goal.reading-preserved
 reading-preserved g c = record {

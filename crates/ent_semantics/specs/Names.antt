@@ -1,4 +1,4 @@
--- Names are compared exactly.
+-- Laws of names: they are compared exactly.
 use Rattle.std.proofs.Common.{◌≡◌, true, sym}
 use Rattle.std.specs.Cmp.Lexicographic.{same_text}
 use Rattle.std.proofs.lemmas.Cmp.{nat_list_eq_equiv}
@@ -9,3 +9,6 @@ equal_names first second e = same_text first second (sym e)
 
 pub name_itself : (name : Name) → same_name name name ≡ true
 name_itself name = nat_list_eq_equiv.refl name
+
+pub names_turned : (first second : Name) → same_name first second ≡ same_name second first
+names_turned first second = nat_list_eq_equiv.symm first second
