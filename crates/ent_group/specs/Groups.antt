@@ -25,7 +25,8 @@ moved_label gone kept group = if group == gone then kept else group
 -- each member that had the label of right's group has that of left's, and the others have their own
 abbrev pub Relabels : List Membership → List Membership → ℕ → ℕ → Type 0
 Relabels old new left right =
-    (kept gone : ℕ) → group_of old left ≡ Some kept → group_of old right ≡ Some gone → (x : ℕ) → group_of new x ≡ option_map (moved_label gone kept) (group_of old x)
+    (kept gone : ℕ) → group_of old left ≡ Some kept → group_of old right ≡ Some gone
+    → (x : ℕ) → group_of new x ≡ option_map (moved_label gone kept) (group_of old x)
 
 abbrev pub relabelled : ℕ → ℕ → Membership → Membership
 relabelled gone kept m = record { member = m.member; group = moved_label gone kept m.group }

@@ -28,7 +28,8 @@ pub record IsReach (waits : List (ℕ × ℕ)) (reached : List ℕ) : Type 0 whe
   pub not_empty : 0 < length reached
   pub distinct : AllPairs (λ x y. x ≢ y) reached
   pub waiters : All (Contains (waiters_of waits)) reached
-  pub led : (i : ℕ) → 0 < i → i < length reached → (j : ℕ) × (j < i) × Contains waits (slice_index reached i, slice_index reached j)
+  pub led : (i : ℕ) → 0 < i → i < length reached
+      → (j : ℕ) × (j < i) × Contains waits (slice_index reached i, slice_index reached j)
 
 -- whoever waits for one of them is one of them
 abbrev pub IsClosed : List (ℕ × ℕ) → List ℕ → Type 0

@@ -29,4 +29,5 @@ lesser (Some x) (Some y) = Some (min x y)
 -- the least transaction that is in the way
 abbrev pub least_in_way : ℕ → Mode → List ℕ → List Holder → Option ℕ
 least_in_way tx mode pass [] = None
-least_in_way tx mode pass (h ∷ hs) = lesser (if is_in_way tx mode pass h then Some h.holder else None) (least_in_way tx mode pass hs)
+least_in_way tx mode pass (h ∷ hs) =
+    lesser (if is_in_way tx mode pass h then Some h.holder else None) (least_in_way tx mode pass hs)

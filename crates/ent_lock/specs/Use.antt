@@ -18,7 +18,9 @@ pub record Use : Type 0 where
   pub mode : Mode
 
 abbrev pub use_cmp : Use → Use → Ordering
-use_cmp = then_cmp (on (λ u. u.holder) nat_cmp) (then_cmp (on (λ u. u.table) (slice_cmp nat_cmp)) (on (λ u. mode_rank u.mode) nat_cmp))
+use_cmp =
+    then_cmp (on (λ u. u.holder) nat_cmp)
+    (then_cmp (on (λ u. u.table) (slice_cmp nat_cmp)) (on (λ u. mode_rank u.mode) nat_cmp))
 
 abbrev pub Uses : Type 0
 Uses = set.FinSet use_cmp
@@ -33,7 +35,9 @@ InConflictAt held v table mode = (theirs : Mode) × Holds held v table theirs ×
 
 -- a transaction holds a use that is in conflict with one that is asked for
 abbrev pub InConflict : Uses → ℕ → List (List ℕ × Mode) → Type 0
-InConflict held v asked = (table : List ℕ) × (mode theirs : Mode) × Contains asked (table, mode) × Holds held v table theirs × IsTrue (in_conflict theirs mode)
+InConflict held v asked =
+    (table : List ℕ) × (mode theirs : Mode) × Contains asked (table, mode) × Holds held v table theirs
+    × IsTrue (in_conflict theirs mode)
 
 -- another transaction, which is not to be passed, holds a use in conflict with one that is asked for
 abbrev pub Blocks : Uses → ℕ → List (List ℕ × Mode) → List ℕ → ℕ → Type 0
@@ -50,11 +54,15 @@ IsLeastIfAny P (Some v) = IsLeast P v
 
 -- the uses that were held, and those that a transaction asked for
 abbrev pub AddsUses : Uses → Uses → ℕ → List (List ℕ × Mode) → Type 0
-AddsUses old new tx asked = (v : ℕ) (table : List ℕ) (mode : Mode) → Holds new v table mode ↔ (Holds old v table mode ⊎ ((v ≡ tx) × Contains asked (table, mode)))
+AddsUses old new tx asked =
+    (v : ℕ) (table : List ℕ) (mode : Mode)
+    → Holds new v table mode ↔ (Holds old v table mode ⊎ ((v ≡ tx) × Contains asked (table, mode)))
 
 -- the uses that were held, without those of some transactions
 abbrev pub DropsUses : Uses → Uses → List ℕ → Type 0
-DropsUses old new members = (v : ℕ) (table : List ℕ) (mode : Mode) → Holds new v table mode ↔ (Holds old v table mode × ¬ Contains members v)
+DropsUses old new members =
+    (v : ℕ) (table : List ℕ) (mode : Mode)
+    → Holds new v table mode ↔ (Holds old v table mode × ¬ Contains members v)
 
 -- a transaction's uses are those that it holds
 abbrev pub AreUsesOf : Uses → ℕ → List (List ℕ × Mode) → Type 0
@@ -84,7 +92,9 @@ abbrev coded_mode : Coded Mode
 coded_mode = code_by Bool coded_bool is_exclusive mode_of mode_of-is_exclusive
 
 abbrev coded_use : Coded Use
-coded_use = code_by (ℕ × (List ℕ × Mode)) (coded× coded_ℕ (coded× (coded_list coded_ℕ) coded_mode)) (λ u. (u.holder, (u.table, u.mode))) (λ p. record { holder = p.0; table = p.1.0; mode = p.1.1 }) (λ _. refl)
+coded_use =
+    code_by (ℕ × (List ℕ × Mode)) (coded× coded_ℕ (coded× (coded_list coded_ℕ) coded_mode))
+    (λ u. (u.holder, (u.table, u.mode))) (λ p. record { holder = p.0; table = p.1.0; mode = p.1.1 }) (λ _. refl)
 
 abbrev pub coded_uses : Coded Uses
 coded_uses = set.code coded_use

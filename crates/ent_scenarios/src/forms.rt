@@ -35,10 +35,7 @@ fn put_forms(alloc: Global, input: &Input, out: &mut Vec<u8>) -> Result<()> {
     }
     put(out, "forms;")?;
     put_catalogue(alloc, &catalogue, input, out)?;
-    for plain in &resolved {
-        plain.show(alloc, out)?;
-    }
-    Ok(())
+    put_list(alloc, out, resolved.as_slice(), "")
 }
 
 fn put_refusal(out: &mut Vec<u8>, refusal: &Refusal<FormFault>) -> Result<()> {

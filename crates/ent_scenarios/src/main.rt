@@ -22,16 +22,21 @@ use std::{env, fs, io};
 
 fn main(rt: HostRuntime) -> Result<()> {
     if env::args(&rt)?.nth(1).is_some() {
-        let text = io::read_to_string(rt.alloc(), rt.reader())?;
-        let given = replies(rt.alloc(), text.as_str())?;
-        print!(rt; "{}", given.as_str())?;
-        return Ok(());
+        return play(&rt);
     }
     let index = fs::read_to_string(&rt, "scenarios/INDEX")?;
     for name in index.lines() {
         let count = check(&rt, name).context(format_args!("scenario {name}"))?;
         println!(rt; "{name}: {count} replies")?;
     }
+    Ok(())
+}
+
+/// Plays the scenario on standard input.
+fn play(rt: &HostRuntime) -> Result<()> {
+    let text = io::read_to_string(rt.alloc(), rt.reader())?;
+    let given = replies(rt.alloc(), text.as_str())?;
+    print!(rt; "{}", given.as_str())?;
     Ok(())
 }
 

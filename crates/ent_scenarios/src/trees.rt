@@ -24,16 +24,9 @@ pub(crate) fn reply(alloc: Global, line: &str, out: &mut Vec<u8>) -> Result<()> 
 
 fn put_input(alloc: Global, input: &Input, out: &mut Vec<u8>) -> Result<()> {
     put(out, "input;")?;
-    for create in input.opening.tables.as_slice() {
-        create.show(alloc, out)?;
-    }
-    for row in input.opening.rows.as_slice() {
-        row.show(alloc, out)?;
-    }
-    for script in input.scripts.as_slice() {
-        script.show(alloc, out)?;
-    }
-    Ok(())
+    put_list(alloc, out, input.opening.tables.as_slice(), "")?;
+    put_list(alloc, out, input.opening.rows.as_slice(), "")?;
+    put_list(alloc, out, input.scripts.as_slice(), "")
 }
 
 impl Show for Identifier {

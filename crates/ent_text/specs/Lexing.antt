@@ -35,7 +35,9 @@ abbrev pub Piece : Type 0
 Piece = Option TokenKind × List ℕ
 
 abbrev pub keywords : List Keyword
-keywords = And ∷ Answer ∷ As ∷ Begin ∷ Choose ∷ Commit ∷ Create ∷ Delete ∷ From ∷ In ∷ Insert ∷ Int ∷ Into ∷ Rollback ∷ Runs ∷ Select ∷ Set ∷ Table ∷ Text ∷ Transaction ∷ Update ∷ Values ∷ Where ∷ Within ∷ []
+keywords =
+    And ∷ Answer ∷ As ∷ Begin ∷ Choose ∷ Commit ∷ Create ∷ Delete ∷ From ∷ In ∷ Insert ∷ Int ∷ Into ∷ Rollback ∷ Runs ∷
+    Select ∷ Set ∷ Table ∷ Text ∷ Transaction ∷ Update ∷ Values ∷ Where ∷ Within ∷ []
 
 -- the word is written so, in any case
 abbrev pub is_written : List ℕ → List ℕ → Bool
@@ -53,14 +55,17 @@ word_kind word = option_map_or (λ keyword. Word keyword) (keyword_of word) (Nam
 unfoldable pub word_at : ℕ → List ℕ → Result Piece TextFault
 word_at place bytes =
     let word = take_while is_word_byte bytes in
-    if nat_lt LONGEST_NAME (length word) then Err (TextTooLong place) else Ok (Some (word_kind word), after is_word_byte bytes)
+    if nat_lt LONGEST_NAME (length word) then Err (TextTooLong place)
+    else Ok (Some (word_kind word), after is_word_byte bytes)
 
 -- an `@`, and a word directly behind it
 unfoldable pub host_variable_at : ℕ → List ℕ → Result Piece TextFault
 host_variable_at place bytes =
     let behind = drop 1 bytes in
     let word = take_while is_word_byte behind in
-    if is_ascii_alphabetic (slice_index behind 0) then (if nat_lt LONGEST_NAME (length word) then Err (TextTooLong place) else Ok (Some (HostVariable word), after is_word_byte behind))
+    if is_ascii_alphabetic (slice_index behind 0) then
+    (if nat_lt LONGEST_NAME (length word) then Err (TextTooLong place)
+    else Ok (Some (HostVariable word), after is_word_byte behind))
     else Err (BadChar place)
 
 -- the number that digits go on to
@@ -71,7 +76,8 @@ value_from value (d ∷ ds) = value_from (value * 10 + (d - 48)) ds
 unfoldable pub number_at : ℕ → List ℕ → Result Piece TextFault
 number_at place bytes =
     let value = value_from 0 (take_while is_ascii_digit bytes) in
-    if nat_lt 9223372036854775807 value then Err (NumberTooLarge place) else Ok (Some (Number value), after is_ascii_digit bytes)
+    if nat_lt 9223372036854775807 value then Err (NumberTooLarge place)
+    else Ok (Some (Number value), after is_ascii_digit bytes)
 
 abbrev pub with_byte : ℕ → Result (List ℕ × List ℕ) TextFault → Result (List ℕ × List ℕ) TextFault
 with_byte b read = read >>= λ x. Ok (b ∷ x.0, x.1)
@@ -102,13 +108,16 @@ symbol_of b c =
     else (if b == 43 then Some (Plus, 1)
     else (if b == 45 then Some (Minus, 1)
     else (if b == 61 then Some (Equal, 1)
-    else (if b == 60 then (if c == 62 then Some (NotEqual, 2) else (if c == 61 then Some (LessOrEqual, 2) else Some (Less, 1)))
+    else (if b == 60 then
+    (if c == 62 then Some (NotEqual, 2) else (if c == 61 then Some (LessOrEqual, 2) else Some (Less, 1)))
     else (if b == 62 then (if c == 61 then Some (GreaterOrEqual, 2) else Some (Greater, 1))
     else (if b == 33 then (if c == 61 then Some (NotEqual, 2) else None)
     else None)))))))))))
 
 unfoldable pub symbol_at : ℕ → List ℕ → Result Piece TextFault
-symbol_at place bytes = option_map_or (λ s. Ok (Some (Sign s.0), drop s.1 bytes)) (symbol_of (slice_index bytes 0) (slice_index bytes 1)) (Err (BadChar place))
+symbol_at place bytes =
+    option_map_or (λ s. Ok (Some (Sign s.0), drop s.1 bytes))
+    (symbol_of (slice_index bytes 0) (slice_index bytes 1)) (Err (BadChar place))
 
 -- two minus signs stand first
 abbrev pub begins_comment : List ℕ → Bool

@@ -15,11 +15,14 @@ use Rattle.ent_text.specs.Spelling.{Spells, IsPlain, IsWithinLimit, IsGap, IsPie
 -- rest stands. Each is the longest possible, and each token within its limit.
 pub data Reads : ℕ → List ℕ → List Token → ℕ → List ℕ → Type 0 where
   nothing : (place : ℕ) (rest : List ℕ) → Reads place rest [] place rest
-  gap : (place : ℕ) (bytes behind : List ℕ) (tokens : List Token) (end : ℕ) (rest : List ℕ) → IsGap bytes → IsLongest bytes behind
+  gap : (place : ℕ) (bytes behind : List ℕ) (tokens : List Token) (end : ℕ) (rest : List ℕ)
+      → IsGap bytes → IsLongest bytes behind
       → Reads (place + length bytes) behind tokens end rest → Reads place (bytes ++ behind) tokens end rest
-  token : (place : ℕ) (bytes behind : List ℕ) (kind : TokenKind) (tokens : List Token) (end : ℕ) (rest : List ℕ) → Spells bytes kind → IsLongest bytes behind → IsWithinLimit kind
+  token : (place : ℕ) (bytes behind : List ℕ) (kind : TokenKind) (tokens : List Token) (end : ℕ) (rest : List ℕ)
+      → Spells bytes kind → IsLongest bytes behind → IsWithinLimit kind
       → Reads (place + length bytes) behind tokens end rest
-      → Reads place (bytes ++ behind) (record { kind = kind; start = place; end = place + length bytes } ∷ tokens) end rest
+      → Reads place (bytes ++ behind)
+      (record { kind = kind; start = place; end = place + length bytes } ∷ tokens) end rest
 
 -- the whole text is gaps and these tokens
 abbrev pub AreTokens : List ℕ → List Token → Type 0
@@ -39,7 +42,8 @@ BeginsNothing bytes =
 -- quote
 abbrev pub HasControl : List ℕ → ℕ → Type 0
 HasControl bytes far =
-    (front behind : List ℕ) × (c : ℕ) × (bytes ≡ 39 ∷ (doubled front ++ c ∷ behind)) × IsPlain front × IsTrue (is_ascii_control c) × (far ≡ 1 + length (doubled front))
+    (front behind : List ℕ) × (c : ℕ) × (bytes ≡ 39 ∷ (doubled front ++ c ∷ behind)) × IsPlain front
+    × IsTrue (is_ascii_control c) × (far ≡ 1 + length (doubled front))
 
 -- a text begins here that is never closed, and no control character stands in it
 abbrev pub IsOpen : List ℕ → Type 0
@@ -56,11 +60,14 @@ IsTooLong (Sign symbol) = ⊥
 
 -- what stands at this place has this fault
 abbrev pub IsFaulty : ℕ → List ℕ → TextFault → Type 0
-IsFaulty place bytes (BadChar at) = ((at ≡ place) × BeginsNothing bytes) ⊎ ((far : ℕ) × (at ≡ place + far) × HasControl bytes far)
+IsFaulty place bytes (BadChar at) =
+    ((at ≡ place) × BeginsNothing bytes) ⊎ ((far : ℕ) × (at ≡ place + far) × HasControl bytes far)
 IsFaulty place bytes (OpenText at) = (at ≡ place) × IsOpen bytes
-IsFaulty place bytes (NumberTooLarge at) = (at ≡ place) × ((n : ℕ) × BeginsWith bytes (Number n) × (9223372036854775807 < n))
+IsFaulty place bytes (NumberTooLarge at) =
+    (at ≡ place) × ((n : ℕ) × BeginsWith bytes (Number n) × (9223372036854775807 < n))
 IsFaulty place bytes (TextTooLong at) = (at ≡ place) × ((kind : TokenKind) × BeginsWith bytes kind × IsTooLong kind)
 
 -- the text is gaps and tokens up to some place, and what stands there has this fault
 abbrev pub HasFault : List ℕ → TextFault → Type 0
-HasFault text fault = (tokens : List Token) × (place : ℕ) × (rest : List ℕ) × Reads 0 text tokens place rest × IsFaulty place rest fault
+HasFault text fault =
+    (tokens : List Token) × (place : ℕ) × (rest : List ℕ) × Reads 0 text tokens place rest × IsFaulty place rest fault

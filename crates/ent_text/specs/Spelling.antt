@@ -75,4 +75,5 @@ IsPiece bytes (Some kind) = Spells bytes kind
 -- begins with it. So a comment goes on up to the next LF or the end of the text, and no `-` before another is a symbol.
 abbrev pub IsLongest : List ℕ → List ℕ → Type 0
 IsLongest bytes rest =
-    (front behind more : List ℕ) (piece : Option TokenKind) → front ++ behind ≡ bytes ++ rest → IsPiece (front ++ more) piece → length front ≤ length bytes
+    (front behind more : List ℕ) (piece : Option TokenKind) → front ++ behind ≡ bytes ++ rest
+    → IsPiece (front ++ more) piece → length front ≤ length bytes

@@ -41,4 +41,5 @@ rolled_back members changes tables = map (λ p. before_first_change members chan
 -- how changes are stored as numbers
 abbrev pub coded_changes : Coded (List Change)
 coded_changes =
-    coded_list (code_by (ℕ × (ℕ × Relation)) (coded× coded_ℕ (coded× coded_ℕ coded_relation)) (λ c. (c.tx, (c.table, c.before))) (λ p. record { tx = p.0; table = p.1.0; before = p.1.1 }) (λ _. refl))
+    coded_list (code_by (ℕ × (ℕ × Relation)) (coded× coded_ℕ (coded× coded_ℕ coded_relation))
+    (λ c. (c.tx, (c.table, c.before))) (λ p. record { tx = p.0; table = p.1.0; before = p.1.1 }) (λ _. refl))

@@ -47,16 +47,20 @@ NoneWrites members writes table = All (λ write. write.table ≡ table → IsFal
 -- once one of these transactions wrote a table, nobody else writes it
 abbrev pub NobodyElseWrites : List ℕ → List Write → Type 0
 NobodyElseWrites members writes =
-    AllPairs (λ earlier later. IsTrue (is_among members earlier.tx) → later.table ≡ earlier.table → IsTrue (is_among members later.tx)) writes
+    AllPairs (λ earlier later. IsTrue (is_among members earlier.tx) → later.table ≡ earlier.table
+    → IsTrue (is_among members later.tx)) writes
 
 -- Each table of those that are rolled back is as before its first change.
 abbrev pub RollsBackEach : Type 0
 RollsBackEach = (members : List ℕ) (log : List Change) (tables : List Relation) (table : ℕ)
-    → slice_get (rolled_back members log tables) table ≡ option_map (before_first_change members log table) (slice_get tables table)
+    → slice_get (rolled_back members log tables) table
+    ≡ option_map (before_first_change members log table) (slice_get tables table)
 
 -- A table that one of these transactions wrote is rolled back to what stood before the first of their writes of it.
 abbrev pub RollsBackToFirstWrite : Type 0
-RollsBackToFirstWrite = (members : List ℕ) (log : List Change) (opening : Tables) (earlier later : List Write) (first : Write) (present : Relation)
+RollsBackToFirstWrite =
+    (members : List ℕ) (log : List Change) (opening : Tables)
+    (earlier later : List Write) (first : Write) (present : Relation)
     → TellsOf members log opening (earlier ++ first ∷ later)
     → IsTrue (is_among members first.tx)
     → NoneWrites members earlier first.table
@@ -64,7 +68,8 @@ RollsBackToFirstWrite = (members : List ℕ) (log : List Change) (opening : Tabl
 
 -- A table that none of them wrote stays.
 abbrev pub KeepsOtherTables : Type 0
-KeepsOtherTables = (members : List ℕ) (log : List Change) (opening : Tables) (writes : List Write) (table : ℕ) (present : Relation)
+KeepsOtherTables =
+    (members : List ℕ) (log : List Change) (opening : Tables) (writes : List Write) (table : ℕ) (present : Relation)
     → TellsOf members log opening writes
     → NoneWrites members writes table
     → before_first_change members log table present ≡ present
@@ -74,7 +79,8 @@ abbrev pub UndoesWrites : Type 0
 UndoesWrites = (members : List ℕ) (log : List Change) (opening : Tables) (writes : List Write) (table : ℕ)
     → TellsOf members log opening writes
     → NobodyElseWrites members writes
-    → before_first_change members log table (after_writes opening writes table) ≡ after_writes opening (writes_of_others members writes) table
+    → before_first_change members log table (after_writes opening writes table)
+    ≡ after_writes opening (writes_of_others members writes) table
 
 -- A log that notes each write, with the table as it stands, tells of the longer history.
 abbrev pub TellsOnceNoted : Type 0
