@@ -1,6 +1,7 @@
 -- Keys that lie one after another, and what an insertion does to them.
-use Rattle.std.proofs.Common.{◌≡◌, ℕ, zero, suc, ◌+◌, ◌-◌, ◌<◌, ◌≤◌, List, [], ◌∷◌, ◌++◌, map, length, take, drop, get_or, inl, inr, sym, refl, ap, ◌∙◌, arith}
-use Rattle.std.specs.List.{between, concat, insert}
+use Rattle.std.proofs.Common.{◌≡◌, ℕ, zero, suc, ◌+◌, ◌-◌, ◌<◌, ◌≤◌, List, [], ◌∷◌, ◌++◌, map, length, take, drop, get_or, All, append-nil, inl, inr, sym, refl, ap, ◌∙◌, arith}
+use Rattle.std.specs.List.{between, concat}
+use Rattle.std.proofs.lemmas.List.Elements.{All-nil, All-cons, All-same}
 use Rattle.std.proofs.lemmas.List.{append_assoc, length-append, take-append-drop, take_at, drop_at, get_or_past}
 use Rattle.std.proofs.lemmas.Bool.{cases_lt}
 use Rattle.ent_page.specs.Layout.{pieces, ends_from, start_of, IsLaid}
@@ -82,47 +83,115 @@ shown bs es ks p q = (λ i. pieces (p i) 0 (q i)) ∙ pieces_back [] ks
 pub made : (bs es : List ℕ) (ks : List (List ℕ)) → bs ≡ concat ks → es ≡ ends_from 0 ks → IsLaid bs es
 made bs es ks p q = record { flat = ap concat (shown bs es ks p q) ∙ sym p; bounds = ap (ends_from 0) (shown bs es ks p q) ∙ sym q }
 
--- an insertion
+-- keys put behind others
 
 concat-append : (xs ys : List (List ℕ)) → concat (xs ++ ys) ≡ concat xs ++ concat ys
 concat-append [] ys = refl
 concat-append (x ∷ xs) ys = ap (λ z. x ++ z) (concat-append xs ys) ∙ sym (append_assoc x (concat xs) (concat ys))
 
-ends_later : (n s : ℕ) (ks : List (List ℕ)) → ends_from (s + n) ks ≡ map (λ e. e + n) (ends_from s ks)
-ends_later n s [] = refl
-ends_later n s (k ∷ ks) =
-    let e : s + n + length k ≡ s + length k + n = omega arith in
-    (λ i. e i ∷ ends_from (e i) ks) ∙ ap (λ z. (s + length k + n) ∷ z) (ends_later n (s + length k) ks)
+ends_from-append : (s : ℕ) (xs ys : List (List ℕ)) → ends_from s (xs ++ ys) ≡ ends_from s xs ++ ends_from (s + length (concat xs)) ys
+ends_from-append s [] ys = ap (λ z. ends_from z ys) (omega arith)
+ends_from-append s (x ∷ xs) ys =
+    let e : s + length x + length (concat xs) ≡ s + length (concat (x ∷ xs)) = omega (arith, length-append x (concat xs)) in
+    ap (λ z. (s + length x) ∷ z) (ends_from-append (s + length x) xs ys ∙ ap (λ z. ends_from (s + length x) xs ++ ends_from z ys) e)
 
-ends_inserted : (s : ℕ) (ks : List (List ℕ)) (at : ℕ) (key : List ℕ) → at ≤ length ks → ends_from s (insert ks at key) ≡ take at (ends_from s ks) ++ (start_of s (ends_from s ks) at + length key) ∷ map (λ e. e + length key) (drop at (ends_from s ks))
-ends_inserted s ks zero key h = ap (λ z. (s + length key) ∷ z) (ends_later (length key) s ks)
-ends_inserted s [] (suc at) key h = absurd (omega arith)
-ends_inserted s (k ∷ ks) (suc at) key h =
-    let es = ends_from (s + length k) ks in
-    ap (λ z. (s + length k) ∷ z) (ends_inserted (s + length k) ks at key (omega arith))
-    ∙ ap (λ z. (s + length k) ∷ (take at es ++ (z + length key) ∷ map (λ e. e + length key) (drop at es))) (sym (start_of-cons s (s + length k) es at))
+moved_ends : (s b d : ℕ) (ks : List (List ℕ)) → map (λ e. e - s + b) (ends_from (s + d) ks) ≡ ends_from (b + d) ks
+moved_ends s b d [] = refl
+moved_ends s b d (k ∷ ks) =
+    let e : s + d + length k - s + b ≡ b + d + length k = omega arith in
+    let f : s + d + length k ≡ s + (d + length k) = omega arith in
+    let g : b + (d + length k) ≡ b + d + length k = omega arith in
+    (λ i. e i ∷ map (λ e. e - s + b) (ends_from (f i) ks)) ∙ ap (λ z. (b + d + length k) ∷ z) (moved_ends s b (d + length k) ks ∙ ap (λ z. ends_from z ks) g)
 
-bytes_inserted : (ks : List (List ℕ)) (at : ℕ) (key : List ℕ) (n : ℕ) → n ≡ length (concat (take at ks)) → concat (insert ks at key) ≡ take n (concat ks) ++ (key ++ drop n (concat ks))
-bytes_inserted ks at key n h =
-    let whole : concat ks ≡ concat (take at ks) ++ concat (drop at ks) = ap concat (sym (take-append-drop at ks)) ∙ concat-append (take at ks) (drop at ks) in
-    let front : take n (concat ks) ≡ concat (take at ks) = ap (take n) whole ∙ take_at (concat (take at ks)) (concat (drop at ks)) n (sym h) in
-    let back : drop n (concat ks) ≡ concat (drop at ks) = ap (drop n) whole ∙ drop_at (concat (take at ks)) (concat (drop at ks)) n (sym h) in
-    concat-append (take at ks) (key ∷ drop at ks) ∙ (λ i. sym front i ++ (key ++ sym back i))
-
-module _ (bs es : List ℕ) (laid : IsLaid bs es) (at : ℕ) (key : List ℕ) (h : at ≤ length es) where
-  pub new_bytes : take (start_of 0 es at) bs ++ (key ++ drop (start_of 0 es at) bs) ≡ concat (insert (pieces bs 0 es) at key)
-  new_bytes =
-      sym (bytes_inserted (pieces bs 0 es) at key (start_of 0 es at) (place_is bs es laid at h)
-      ∙ ap (λ z. take (start_of 0 es at) z ++ (key ++ drop (start_of 0 es at) z)) laid.flat)
-
-  pub new_ends : take at es ++ (start_of 0 es at + length key) ∷ map (λ e. e + length key) (drop at es) ≡ ends_from 0 (insert (pieces bs 0 es) at key)
-  new_ends =
-      sym (ends_inserted 0 (pieces bs 0 es) at key (omega (arith, length-pieces bs 0 es))
-      ∙ ap (λ z. take at z ++ (start_of 0 z at + length key) ∷ map (λ e. e + length key) (drop at z)) laid.bounds)
-
--- the arrays that an insertion makes
-pub inserted : (bs es : List ℕ) → IsLaid bs es → (at : ℕ) (key : List ℕ) → at ≤ length es → (read ends new_bs new_es : List ℕ) (start : ℕ) → read ≡ bs → ends ≡ es → start ≡ start_of 0 es at → new_bs ≡ take start read ++ (key ++ drop start read) → new_es ≡ take at ends ++ (start + length key) ∷ map (λ e. e + length key) (drop at ends) → (new_bs ≡ concat (insert (pieces bs 0 es) at key)) × (new_es ≡ ends_from 0 (insert (pieces bs 0 es) at key))
-inserted bs es laid at key h read ends new_bs new_es start p q r a b = (
-  a ∙ (λ i. take (r i) (p i) ++ (key ++ drop (r i) (p i))) ∙ new_bytes bs es laid at key h,
-  b ∙ (λ i. take at (q i) ++ (r i + length key) ∷ map (λ e. e + length key) (drop at (q i))) ∙ new_ends bs es laid at key h,
+pub appended : (bs es new_bs new_es : List ℕ) (keys : List (List ℕ)) → IsLaid bs es → new_bs ≡ bs ++ concat keys → new_es ≡ es ++ ends_from (length bs) keys
+    → (new_bs ≡ concat (pieces bs 0 es ++ keys)) × (new_es ≡ ends_from 0 (pieces bs 0 es ++ keys))
+appended bs es new_bs new_es keys laid a b = (
+  a ∙ ap (λ z. z ++ concat keys) (sym laid.flat) ∙ sym (concat-append (pieces bs 0 es) keys),
+  b ∙ (λ i. sym laid.bounds i ++ ends_from (length (sym laid.flat i)) keys) ∙ ap (λ z. ends_from 0 (pieces bs 0 es) ++ ends_from z keys) (omega arith) ∙ sym (ends_from-append 0 (pieces bs 0 es) keys),
 )
+
+pub pushed : (bs es given new_bs new_es key : List ℕ) (end : ℕ) → IsLaid bs es → given ≡ es → new_bs ≡ bs ++ key → new_es ≡ given ++ end ∷ [] → end ≡ length new_bs
+    → (new_bs ≡ concat (pieces bs 0 es ++ key ∷ [])) × (new_es ≡ ends_from 0 (pieces bs 0 es ++ key ∷ []))
+pushed bs es given new_bs new_es key end laid g a b c =
+    let at : end ≡ length bs + length key = omega (arith, ap length a, length-append bs key) in
+    appended bs es new_bs new_es (key ∷ []) laid (a ∙ ap (λ z. bs ++ z) (sym (append-nil key))) (b ∙ (λ i. g i ++ at i ∷ []))
+
+-- a part of keys
+
+take_nil : (n : ℕ) (xs : List (List ℕ)) → xs ≡ [] → take n xs ≡ []
+take_nil zero xs e = refl
+take_nil (suc n) xs e = ap (take (suc n)) e
+
+take_take : (i j : ℕ) (xs : List (List ℕ)) → i ≤ j → take j xs ≡ take i xs ++ take (j - i) (drop i xs)
+take_take zero j xs h = let e : j ≡ j - 0 = omega arith in ap (λ n. take n xs) e
+take_take (suc i) zero xs h = absurd (omega arith)
+take_take (suc i) (suc j) [] h = sym (take_nil (suc j - suc i) [] refl)
+take_take (suc i) (suc j) (x ∷ xs) h =
+    let e : suc j - suc i ≡ j - i = omega arith in
+    ap (λ z. x ∷ z) (take_take i j xs (omega arith)) ∙ ap (λ n. x ∷ (take i xs ++ take n (drop i xs))) (sym e)
+
+drop_ends : (s : ℕ) (ks : List (List ℕ)) (i : ℕ) → drop i (ends_from s ks) ≡ ends_from (s + length (concat (take i ks))) (drop i ks)
+drop_ends s ks zero = ap (λ z. ends_from z ks) (omega arith)
+drop_ends s [] (suc i) = refl
+drop_ends s (k ∷ ks) (suc i) =
+    let e : s + length k + length (concat (take i ks)) ≡ s + length (concat (take (suc i) (k ∷ ks))) = omega (arith, length-append k (concat (take i ks))) in
+    drop_ends (s + length k) ks i ∙ ap (λ z. ends_from z (drop i ks)) e
+
+take_ends : (s : ℕ) (ks : List (List ℕ)) (n : ℕ) → take n (ends_from s ks) ≡ ends_from s (take n ks)
+take_ends s ks zero = refl
+take_ends s [] (suc n) = refl
+take_ends s (k ∷ ks) (suc n) = ap (λ z. (s + length k) ∷ z) (take_ends (s + length k) ks n)
+
+bytes_part : (ks : List (List ℕ)) (from to : ℕ) → from ≤ to → between (length (concat (take from ks))) (length (concat (take to ks))) (concat ks) ≡ concat (between from to ks)
+bytes_part ks from to h =
+    let whole : concat ks ≡ concat (take from ks) ++ concat (drop from ks) = ap concat (sym (take-append-drop from ks)) ∙ concat-append (take from ks) (drop from ks) in
+    let back : drop (length (concat (take from ks))) (concat ks) ≡ concat (drop from ks) = ap (drop (length (concat (take from ks)))) whole ∙ drop_at (concat (take from ks)) (concat (drop from ks)) (length (concat (take from ks))) refl in
+    let split : concat (take to ks) ≡ concat (take from ks) ++ concat (between from to ks) = ap concat (take_take from to ks h) ∙ concat-append (take from ks) (between from to ks) in
+    let n : length (concat (take to ks)) - length (concat (take from ks)) ≡ length (concat (between from to ks)) = omega (arith, ap length split, length-append (concat (take from ks)) (concat (between from to ks))) in
+    let rest : concat (drop from ks) ≡ concat (between from to ks) ++ concat (drop (to - from) (drop from ks)) = ap concat (sym (take-append-drop (to - from) (drop from ks))) ∙ concat-append (between from to ks) (drop (to - from) (drop from ks)) in
+    (λ i. take (n i) (back i)) ∙ ap (take (length (concat (between from to ks)))) rest ∙ take_at (concat (between from to ks)) (concat (drop (to - from) (drop from ks))) (length (concat (between from to ks))) refl
+
+ends_within : (low high s : ℕ) (ks : List (List ℕ)) → low ≤ s → s + length (concat ks) ≤ high → All (λ e. (low ≤ e) × (e ≤ high)) (ends_from s ks)
+ends_within low high s [] p q = All-nil (λ e. (low ≤ e) × (e ≤ high))
+ends_within low high s (k ∷ ks) p q =
+    let r : s + length k + length (concat ks) ≤ high = omega (arith, length-append k (concat ks)) in
+    All-cons (λ e. (low ≤ e) × (e ≤ high)) (s + length k) (ends_from (s + length k) ks) (omega arith, omega arith) (ends_within low high (s + length k) ks (omega arith) r)
+
+module _ (bs es : List ℕ) (laid : IsLaid bs es) (from to : ℕ) (h : from ≤ to) (k : to ≤ length es) where
+  from_is : start_of 0 es from ≡ length (concat (take from (pieces bs 0 es)))
+  from_is = place_is bs es laid from (omega arith)
+
+  to_is : start_of 0 es to ≡ length (concat (take to (pieces bs 0 es)))
+  to_is = place_is bs es laid to k
+
+  pub part_order : start_of 0 es from ≤ start_of 0 es to
+  part_order =
+      let ks = pieces bs 0 es in
+      let split : concat (take to (pieces bs 0 es)) ≡ concat (take from (pieces bs 0 es)) ++ concat (between from to (pieces bs 0 es)) = ap concat (take_take from to ks h) ∙ concat-append (take from ks) (between from to ks) in
+      omega (arith, from_is, to_is, ap length split, length-append (concat (take from ks)) (concat (between from to ks)))
+
+  part_bytes : between (start_of 0 es from) (start_of 0 es to) bs ≡ concat (between from to (pieces bs 0 es))
+  part_bytes = (λ i. between (from_is i) (to_is i) (sym laid.flat i)) ∙ bytes_part (pieces bs 0 es) from to h
+
+  part_ends : between from to es ≡ ends_from (start_of 0 es from) (between from to (pieces bs 0 es))
+  part_ends =
+      ap (between from to) (sym laid.bounds) ∙ ap (take (to - from)) (drop_ends 0 (pieces bs 0 es) from)
+      ∙ take_ends (0 + length (concat (take from (pieces bs 0 es)))) (drop from (pieces bs 0 es)) (to - from)
+      ∙ ap (λ z. ends_from z (between from to (pieces bs 0 es))) (omega (arith, from_is))
+
+  pub part_within : (read : List ℕ) (start base total : ℕ) → read ≡ es → start ≡ start_of 0 es from → base + length (between (start_of 0 es from) (start_of 0 es to) bs) ≤ total → All (λ e. (start ≤ e) × (e ≤ start + (total - base))) (between from to read)
+  part_within read start base total same at small =
+      let n : length (between (start_of 0 es from) (start_of 0 es to) bs) ≡ length (concat (between from to (pieces bs 0 es))) = ap length part_bytes in
+      All-same (λ e. (start ≤ e) × (e ≤ start + (total - base))) (between from to read) (ends_from (start_of 0 es from) (between from to (pieces bs 0 es))) (ap (between from to) same ∙ part_ends)
+      (ends_within start (start + (total - base)) (start_of 0 es from) (between from to (pieces bs 0 es)) (omega arith) (omega arith))
+
+  -- the arrays of a page behind which a part of this one is put
+  pub part_appended : (mine ends new_bs new_es read places given : List ℕ) (start stop base : ℕ) → IsLaid mine ends → read ≡ bs → places ≡ es → given ≡ ends → start ≡ start_of 0 es from → stop ≡ start_of 0 es to → base ≡ length mine
+      → new_bs ≡ mine ++ between start stop read → new_es ≡ given ++ map (λ e. e - start + base) (between from to places)
+      → (new_bs ≡ concat (pieces mine 0 ends ++ between from to (pieces bs 0 es))) × (new_es ≡ ends_from 0 (pieces mine 0 ends ++ between from to (pieces bs 0 es)))
+  part_appended mine ends new_bs new_es read places given start stop base own r p g s t b x y =
+      let keys = between from to (pieces bs 0 es) in
+      let moved : map (λ e. e - start + base) (between from to places) ≡ ends_from (length mine) keys =
+          ap (λ z. map (λ e. e - start + base) (between from to z)) p ∙ ap (map (λ e. e - start + base)) part_ends
+          ∙ ap (λ z. map (λ e. e - start + base) (ends_from z keys)) (omega arith) ∙ moved_ends start base 0 keys ∙ ap (λ z. ends_from z keys) (omega arith) in
+      appended mine ends new_bs new_es keys own (x ∙ (λ i. mine ++ between (s i) (t i) (r i)) ∙ ap (λ z. mine ++ z) part_bytes) (y ∙ (λ i. g i ++ moved i))

@@ -1,5 +1,4 @@
-mod Order
-mod Written
-mod ReadBack
 mod Laid
 mod Search
+mod Sorted
+mod Paging

@@ -1,11 +1,11 @@
 //! The key of a row.
-ghost use Rattle.std.specs.Prelude.{◌≡◌, IfOk, ◌==◌, false};
+ghost use Rattle.std.specs.Prelude.{◌≡◌, IfOk, false};
 ghost use Rattle.std.proofs.Common.{rules};
-ghost use Rattle.std.specs.Cmp.{partial_order_from_own_ties};
+ghost use Rattle.std.specs.Cmp.{eq_by_cmp_equiv, partial_order_from_total, partial_equiv_from_equiv};
+ghost use Rattle.std.specs.Cmp.Lexicographic.{nat_list_cmp_total};
 ghost use Rattle.std.specs.Cmp.Rules.{comparing};
-ghost use Rattle.std.specs.Ordering.{nat_cmp, as_partial_cmp};
-ghost use Rattle.std.specs.Cmp.Lexicographic.{slice_cmp, pointwise};
-ghost use Rattle.ent_page.specs.Key.{key_of, AreStorable};
+ghost use Rattle.std.specs.Ordering.{as_partial_cmp, eq_by_cmp};
+ghost use Rattle.ent_page.specs.Key.{key_cmp, key_of, AreStorable};
 
 use crate::writing::append_values;
 use ent_value::Value;
@@ -56,23 +56,23 @@ impl Key {
 }
 
 impl PartialEq for Key {
-    ghost eq = { pointwise ◌==◌ };
+    ghost eq = { eq_by_cmp key_cmp };
 
-    ghost laws = { Prim.search (comparing, rules) };
+    ghost laws = { partial_equiv_from_equiv (eq_by_cmp_equiv nat_list_cmp_total) };
 
     fn eq(&self, other: &Key) -> bool {
-        self.bytes.as_slice() == other.bytes.as_slice()
+        self.cmp(other) == Ordering::Equal
     }
 }
 
 impl Eq for Key {
-    ghost laws = { Prim.search (comparing, rules) };
+    ghost laws = { eq_by_cmp_equiv nat_list_cmp_total };
 }
 
 impl Ord for Key {
-    ghost cmp = { slice_cmp nat_cmp };
+    ghost cmp = { key_cmp };
 
-    ghost total = { Prim.search (comparing, rules) };
+    ghost total = { nat_list_cmp_total };
 
     ghost matches_partial_cmp = { Prim.search (comparing, rules) };
 
@@ -84,9 +84,9 @@ impl Ord for Key {
 }
 
 impl PartialOrd for Key {
-    ghost partial_cmp = { as_partial_cmp (slice_cmp nat_cmp) };
+    ghost partial_cmp = { as_partial_cmp key_cmp };
 
-    ghost laws = { partial_order_from_own_ties (Prim.search (comparing, rules)) (Prim.search (comparing, rules)) };
+    ghost laws = { partial_order_from_total nat_list_cmp_total };
 
     fn partial_cmp(&self, other: &Key) -> Option<Ordering> {
         Some(self.cmp(other))

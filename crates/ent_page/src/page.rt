@@ -87,8 +87,9 @@ impl Page {
         requires { index < length self.now }
         ensures { IfOk result (λ page. page ≡ remove self.now index) }
     {
+        let len = self.len();
         let mut page = self.part(alloc, 0, index)?;
-        page.append(self, index + 1, self.len())?;
+        page.append(self, index + 1, len)?;
         Ok(page)
     }
 
@@ -130,11 +131,13 @@ impl Page {
         ensures ok { OnOk result (self.new ≡ self.old ++ between from to other.now) }
         ensures err { OnErr result (self.new ≡ self.old) }
     {
-        self.ends.reserve(to - from)?;
         let start = start_at(&other.ends, from);
+        let stop = start_at(&other.ends, to);
         let base = self.bytes.len();
-        self.bytes.extend_from_slice(&other.bytes[start..start_at(&other.ends, to)])?;
-        push_ends(&mut self.ends, &other.ends[from..to], start, base);
+        self.ends.reserve(to - from)?;
+        let bytes = part_of(&other.bytes, start, stop);
+        self.bytes.extend_from_slice(bytes)?;
+        push_ends(&mut self.ends, part_of(&other.ends, from, to), start, base);
         Ok(())
     }
 
@@ -162,6 +165,15 @@ fn piece<'a>(bytes: &'a [u8], ends: &[usize], index: usize) -> &'a [u8]
     ensures { result.now ≡ between (start_of 0 ends.now index) (get_or ends.now index 0) bytes.now }
 {
     &bytes[start_at(ends, index)..ends[index]]
+}
+
+/// The elements from one index up to another.
+fn part_of<T>(elements: &[T], from: usize, to: usize) -> &[T]
+    requires order { from ≤ to }
+    requires range { to ≤ length elements.now }
+    ensures { result.now ≡ between from to elements.now }
+{
+    &elements[from..to]
 }
 
 /// Puts ends behind others, counted from a base where they were counted from a start.

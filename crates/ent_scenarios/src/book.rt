@@ -1,7 +1,8 @@
 //! Books and their reports: `== book`.
 use crate::reply::{put, put_number};
 use crate::streams::{SlowWriter, put_marks, put_taken, read_manner};
-use crate::words::{kinds, name, number, row, rows_of, value};
+use crate::values::read_rows;
+use crate::words::{kinds, name, number, rows_of, value};
 use anyhow::{Context, Result, bail};
 use ent_book::{Book, Fate, NamedTable, write_report};
 use ent_rel::Table;
@@ -38,16 +39,7 @@ pub(crate) fn reply(
     match call {
         ["report", words @ ..] => put_report(alloc, &draft.book, words, out),
         ["table", table, word, rows @ ..] => {
-            let kinds = kinds(alloc, word)?;
-            let rows = rows_of(alloc, rows, kinds.as_slice())?;
-            let table = NamedTable {
-                name: name(alloc, table)?,
-                table: Arc::new(
-                    alloc,
-                    Table::load(alloc, kinds, rows).ok().context("no table")?,
-                )?,
-            };
-            draft.book.tables.push(table)?;
+            draft.book.tables.push(table_of(alloc, table, word, rows)?)?;
             put_number(out, draft.book.tables.len())
         }
         ["count" | "set" | "rows", ..] => {
@@ -62,16 +54,24 @@ pub(crate) fn reply(
     }
 }
 
+fn table_of(alloc: Global, table: &str, word: &str, rows: &[&str]) -> Result<NamedTable> {
+    let name = name(alloc, table)?;
+    let kinds = kinds(alloc, word)?;
+    let rows = rows_of(alloc, rows, kinds.as_slice())?;
+    let table = Table::load(alloc, kinds, rows).ok().context("no table")?;
+    Ok(NamedTable {
+        name,
+        table: Arc::new(alloc, table)?,
+    })
+}
+
 fn answer(alloc: Global, call: &[&str]) -> Result<Answer> {
     match call {
         ["count", count] => Ok(Answer::Count(number(count)?)),
         ["set", word] => Ok(Answer::Value(value(alloc, word)?)),
         ["rows", words @ ..] => {
-            let mut rows = Sequence::new(alloc);
-            for word in words {
-                rows.push(row(alloc, word)?)?;
-            }
-            Ok(Answer::Rows(rows))
+            let rows = read_rows(alloc, words)?;
+            Ok(Answer::Rows(Sequence::from_vec(rows)))
         }
         _ => bail!("this is no answer"),
     }

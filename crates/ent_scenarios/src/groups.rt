@@ -4,6 +4,7 @@ use crate::words::{index, number};
 use anyhow::{Context, Result, bail};
 use ent_group::{Groups, MOST_MEMBERS, Members, Tx, cycle, few_pairs_name_few};
 use std::alloc::Global;
+use std::io::Write;
 
 pub(crate) fn reply_to_groups(
     alloc: Global,
@@ -13,30 +14,49 @@ pub(crate) fn reply_to_groups(
 ) -> Result<()> {
     match call {
         ["add", tx] => put(out, yes_or_no(add(groups, number(tx)?))),
-        ["merge", left, right] => put(out, yes_or_no(merge(groups, number(left)?, number(right)?))),
+        ["merge", left, right] => {
+            let (left, right) = (number(left)?, number(right)?);
+            put(out, yes_or_no(merge(groups, left, right)))
+        }
         ["remove", tx] => {
             groups.remove_group(number(tx)?);
             put_number(out, groups.len())
         }
+        _ => reply_of_groups(alloc, groups, call, out),
+    }
+}
+
+/// The reply to a call that changes nothing.
+fn reply_of_groups(alloc: Global, groups: &Groups, call: &[&str], out: &mut Vec<u8>) -> Result<()> {
+    match call {
         ["group", tx] => put_members(alloc, out, &groups.members(number(tx)?)),
         ["same", left, right] => {
-            let is_same = groups.same_group(number(left)?, number(right)?);
-            put(out, yes_or_no(is_same))
+            let (left, right) = (number(left)?, number(right)?);
+            put(out, yes_or_no(groups.same_group(left, right)))
         }
-        ["label", tx] => match groups.group_of(number(tx)?) {
-            Some(label) => put_list(alloc, out, &[label], ""),
-            None => put(out, "none"),
-        },
+        ["label", tx] => put_transaction(out, groups.group_of(number(tx)?)),
         ["contains", tx] => put(out, yes_or_no(groups.contains(number(tx)?))),
-        ["all"] => {
-            let mut all = Members::new();
-            for membership in groups.as_slice() {
-                push(&mut all, membership.member);
-            }
-            put_members(alloc, out, &all)
-        }
+        ["all"] => put_all(alloc, groups, out),
         ["is_empty"] => put(out, yes_or_no(groups.is_empty())),
         _ => bail!("groups know no such call"),
+    }
+}
+
+fn put_all(alloc: Global, groups: &Groups, out: &mut Vec<u8>) -> Result<()> {
+    let mut all = Members::new();
+    for membership in groups.as_slice() {
+        push(&mut all, membership.member);
+    }
+    put_members(alloc, out, &all)
+}
+
+pub(crate) fn put_transaction(out: &mut Vec<u8>, tx: Option<Tx>) -> Result<()> {
+    match tx {
+        Some(tx) => {
+            write!(out, "{tx}")?;
+            Ok(())
+        }
+        None => put(out, "nobody"),
     }
 }
 
@@ -85,21 +105,29 @@ pub(crate) fn reply_to_members(
         }
         ["push", tx] => put(out, yes_or_no(push(members, number(tx)?))),
         ["push_up_to", most] => {
-            for tx in 1..=number(most)? {
-                if !push(members, tx) {
-                    break;
-                }
-            }
+            push_up_to(members, number(most)?);
             put_number(out, members.len())
         }
+        _ => reply_of_members(members, call, out),
+    }
+}
+
+fn push_up_to(members: &mut Members, most: Tx) {
+    for tx in 1..=most {
+        if !push(members, tx) {
+            break;
+        }
+    }
+}
+
+/// The reply to a call that changes nothing.
+fn reply_of_members(members: &Members, call: &[&str], out: &mut Vec<u8>) -> Result<()> {
+    match call {
         ["len"] => put_number(out, members.len()),
         ["walk"] => put_number(out, members.iter().count()),
         ["is_empty"] => put(out, yes_or_no(members.is_empty())),
         ["is_full"] => put(out, yes_or_no(members.is_full())),
-        ["get", at] => match members.get(index(at)?) {
-            Some(tx) => put_list(alloc, out, &[tx], ""),
-            None => put(out, "nobody"),
-        },
+        ["get", at] => put_transaction(out, members.get(index(at)?)),
         ["contains", tx] => put(out, yes_or_no(members.contains(number(tx)?))),
         ["is_its_copy"] => put(out, yes_or_no(members.copy() == *members)),
         ["is_list_of", tx] => put(out, yes_or_no(Members::of(number(tx)?) == *members)),

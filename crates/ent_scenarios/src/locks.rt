@@ -1,5 +1,5 @@
 //! Locks on tables: `== locks`. A use is written `T:shared` or `T:exclusive`.
-use crate::groups::{push, put_members};
+use crate::groups::{push, put_members, put_transaction};
 use crate::reply::{put, put_list, put_number, yes_or_no};
 use crate::words::{name, number};
 use anyhow::{Context, Result, bail};
@@ -48,53 +48,86 @@ pub(crate) fn reply(
     out: &mut Vec<u8>,
 ) -> Result<()> {
     match call {
-        ["ask", tx, words @ ..] => {
-            let asked = read_asked(alloc, words)?;
-            match locks.ask(number(tx)?, asked.uses.as_slice(), &asked.pass)? {
-                Answer::Granted => put(out, "granted"),
-                Answer::Blocked(holder) => {
-                    put(out, "blocked ")?;
-                    put_list(alloc, out, &[holder], "")
-                }
-            }
-        }
+        ["ask", tx, words @ ..] => ask(alloc, locks, number(tx)?, words, out),
         ["drop", words @ ..] => {
-            let mut members = Members::new();
-            for word in words {
-                push(&mut members, number(word)?);
-            }
-            locks.drop_group(&members);
+            locks.drop_group(&read_members(words)?);
             put(out, "dropped")
         }
         _ => reply_of(alloc, locks, call, out),
     }
 }
 
+fn read_members(words: &[&str]) -> Result<Members> {
+    let mut members = Members::new();
+    for word in words {
+        push(&mut members, number(word)?);
+    }
+    Ok(members)
+}
+
+fn ask(
+    alloc: Global,
+    locks: &mut LockTable,
+    tx: Tx,
+    words: &[&str],
+    out: &mut Vec<u8>,
+) -> Result<()> {
+    let asked = read_asked(alloc, words)?;
+    match locks.ask(tx, asked.uses.as_slice(), &asked.pass)? {
+        Answer::Granted => put(out, "granted"),
+        Answer::Blocked(holder) => {
+            put(out, "blocked ")?;
+            put_transaction(out, Some(holder))
+        }
+    }
+}
+
 /// The reply to a call that changes nothing.
 fn reply_of(alloc: Global, locks: &LockTable, call: &[&str], out: &mut Vec<u8>) -> Result<()> {
     match call {
-        ["blocker", tx, words @ ..] => {
-            let asked = read_asked(alloc, words)?;
-            match locks.blocker(number(tx)?, asked.uses.as_slice(), &asked.pass) {
-                Some(holder) => put_list(alloc, out, &[holder], ""),
-                None => put(out, "nobody"),
-            }
+        ["blocker", tx, words @ ..] => put_blocker(alloc, locks, number(tx)?, words, out),
+        ["in_conflict", tx, words @ ..] => put_conflict(alloc, locks, number(tx)?, words, out),
+        ["holds", tx, word] => put_holds(alloc, locks, number(tx)?, word, out),
+        ["holders", table] => {
+            let table = name(alloc, table)?;
+            put_number(out, locks.holders(&table).len())
         }
-        ["in_conflict", tx, words @ ..] => {
-            let asked = read_asked(alloc, words)?;
-            put(
-                out,
-                yes_or_no(locks.in_conflict(number(tx)?, asked.uses.as_slice())),
-            )
-        }
-        ["holds", tx, word] => {
-            let (table, mode) = read_use(alloc, word)?;
-            put(out, yes_or_no(locks.holds(number(tx)?, &table, mode)))
-        }
-        ["holders", table] => put_number(out, locks.holders(&name(alloc, table)?).len()),
         ["uses", tx] => put_uses(alloc, locks, number(tx)?, out),
         _ => bail!("locks know no such call"),
     }
+}
+
+fn put_blocker(
+    alloc: Global,
+    locks: &LockTable,
+    tx: Tx,
+    words: &[&str],
+    out: &mut Vec<u8>,
+) -> Result<()> {
+    let asked = read_asked(alloc, words)?;
+    put_transaction(out, locks.blocker(tx, asked.uses.as_slice(), &asked.pass))
+}
+
+fn put_conflict(
+    alloc: Global,
+    locks: &LockTable,
+    tx: Tx,
+    words: &[&str],
+    out: &mut Vec<u8>,
+) -> Result<()> {
+    let asked = read_asked(alloc, words)?;
+    put(out, yes_or_no(locks.in_conflict(tx, asked.uses.as_slice())))
+}
+
+fn put_holds(
+    alloc: Global,
+    locks: &LockTable,
+    tx: Tx,
+    word: &str,
+    out: &mut Vec<u8>,
+) -> Result<()> {
+    let (table, mode) = read_use(alloc, word)?;
+    put(out, yes_or_no(locks.holds(tx, &table, mode)))
 }
 
 fn put_uses(alloc: Global, locks: &LockTable, tx: Tx, out: &mut Vec<u8>) -> Result<()> {

@@ -2,7 +2,7 @@
 use crate::reply::{put, put_number, yes_or_no};
 use crate::words::{index, unescaped};
 use anyhow::{Context, Result, bail};
-use ent_engine::{FaultLine, run};
+use ent_engine::{FaultLine, RunFault, run};
 use ent_value::Watched;
 use std::alloc::Global;
 use std::io;
@@ -136,34 +136,58 @@ pub(crate) fn reply(
 ) -> Result<()> {
     match call {
         ["reader", text, words @ ..] => {
-            streams.reader = reader(alloc, unescaped(alloc, text)?.as_str(), read_manner(words)?)?;
+            streams.reader = read_reader(alloc, text, words)?;
             put_marks(&streams.reader, out)
         }
         ["writer", words @ ..] => {
             streams.writer = Watched::new(SlowWriter::new(alloc, read_manner(words)?));
             put_marks(&streams.writer, out)
         }
-        ["read", most] => {
-            let mut buffer = vec![in alloc; 0; index(most)?]?;
-            let read = streams.reader.read(buffer.as_mut_slice()).ok();
-            put_moved(out, read)?;
-            put_marks(&streams.reader, out)
-        }
-        ["write", text] => {
-            let text = unescaped(alloc, text)?;
-            let written = streams.writer.write(text.as_bytes()).ok();
-            put_moved(out, written)?;
-            put_marks(&streams.writer, out)
-        }
-        ["flush"] => {
-            let flushed = streams.writer.flush().ok();
-            put_moved(out, flushed.map(|_| 0))?;
-            put_marks(&streams.writer, out)
-        }
+        ["read", most] => put_read(alloc, &mut streams.reader, index(most)?, out),
+        ["write", text] => put_written(alloc, &mut streams.writer, text, out),
+        ["flush"] => put_flushed(&mut streams.writer, out),
         ["taken"] => put_taken(out, streams.writer.get().taken()),
-        ["run"] => put_run(alloc, streams, out),
+        ["run"] => put_run(alloc, &mut streams.reader, &mut streams.writer, out),
         _ => bail!("streams know no such call"),
     }
+}
+
+fn read_reader(alloc: Global, text: &str, words: &[&str]) -> Result<Watched<SlowReader>> {
+    let text = unescaped(alloc, text)?;
+    reader(alloc, text.as_str(), read_manner(words)?)
+}
+
+fn put_read(
+    alloc: Global,
+    reader: &mut Watched<SlowReader>,
+    most: usize,
+    out: &mut Vec<u8>,
+) -> Result<()> {
+    let mut buffer = vec![in alloc; 0; most]?;
+    let read = reader.read(buffer.as_mut_slice()).ok();
+    put_moved(out, read)?;
+    put_marks(reader, out)
+}
+
+fn put_written(
+    alloc: Global,
+    writer: &mut Watched<SlowWriter>,
+    text: &str,
+    out: &mut Vec<u8>,
+) -> Result<()> {
+    let text = unescaped(alloc, text)?;
+    let written = writer.write(text.as_bytes()).ok();
+    put_moved(out, written)?;
+    put_marks(writer, out)
+}
+
+fn put_flushed(writer: &mut Watched<SlowWriter>, out: &mut Vec<u8>) -> Result<()> {
+    let moved = match writer.flush() {
+        Ok(()) => Some(0),
+        Err(_) => None,
+    };
+    put_moved(out, moved)?;
+    put_marks(writer, out)
 }
 
 fn put_moved(out: &mut Vec<u8>, moved: Option<usize>) -> Result<()> {
@@ -193,15 +217,25 @@ pub(crate) fn put_taken(out: &mut Vec<u8>, taken: &[u8]) -> Result<()> {
     Ok(())
 }
 
-/// Runs the engine over the reader and the writer, whose marks have to be unset.
-fn put_run(alloc: Global, streams: &mut Streams, out: &mut Vec<u8>) -> Result<()> {
-    let Streams { reader, writer } = streams;
+/// Runs the engine over a reader and a writer, whose marks have to be unset.
+fn put_run(
+    alloc: Global,
+    reader: &mut Watched<SlowReader>,
+    writer: &mut Watched<SlowWriter>,
+    out: &mut Vec<u8>,
+) -> Result<()> {
     if reader.has_failed() || reader.has_stalled() || writer.has_failed() || writer.has_stalled() {
         bail!("this stream has failed");
     }
-    match run(alloc, reader, writer).err() {
+    let fault = run(alloc, reader, writer).err();
+    put_fault(fault, out)?;
+    put_taken(out, writer.get().taken())
+}
+
+fn put_fault(fault: Option<RunFault>, out: &mut Vec<u8>) -> Result<()> {
+    match fault {
         Some(fault) => write!(out, "{}: ", FaultLine(fault))?,
         None => put(out, "ended: ")?,
     }
-    put_taken(out, writer.get().taken())
+    Ok(())
 }

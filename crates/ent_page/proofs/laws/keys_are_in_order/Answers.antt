@@ -1,5 +1,5 @@
-use Rattle.ent_page.proofs.Order.{key_order}
-use Rattle.ent_page.proofs.ReadBack.{row_back}
+use Rattle.ent_page.specs.Order.{key_order}
+use Rattle.ent_page.specs.ReadBack.{row_back}
 use Rattle.ent_page.proofs.laws.keys_are_in_order.Goals as goal
 
 pub returns-clause-order : goal.returns-clause-order

@@ -1,6 +1,6 @@
 use Rattle.std.proofs.Common.{◌∙◌, sym}
 use Rattle.ent_page.specs.Read.{row_from}
-use Rattle.ent_page.proofs.ReadBack.{row_back}
+use Rattle.ent_page.specs.ReadBack.{row_back}
 use Rattle.ent_page.proofs.reading.decode.Goals as goal
 
 pub returns : goal.returns

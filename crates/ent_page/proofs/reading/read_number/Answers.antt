@@ -1,7 +1,7 @@
 use Rattle.std.proofs.Common.{◌≡◌, ◌∙◌, ap, rules, arith, w64, to_z, of_z}
 use Rattle.std.specs.Int.{from_be_bytes}
 use Rattle.ent_page.specs.Read.{unlifted}
-use Rattle.ent_page.proofs.ReadBack.{number_long, number_short}
+use Rattle.ent_page.specs.ReadBack.{number_long, number_short}
 use Rattle.ent_page.proofs.reading.read_number.Goals as goal
 
 pub returns-in-Some-clause-value : goal.returns-in-Some-clause-value

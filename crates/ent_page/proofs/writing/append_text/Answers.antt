@@ -1,7 +1,7 @@
 use Rattle.std.proofs.Common.{◌≡◌, ◌++◌, ◌∷◌, [], sym, ◌∙◌, arith}
 use Rattle.std.proofs.lemmas.Grind.{common_steps}
 use Rattle.ent_page.specs.Key.{text_key}
-use Rattle.ent_page.proofs.Written.{plain}
+use Rattle.ent_page.specs.Written.{plain}
 use Rattle.ent_page.proofs.writing.append_text.Goals as goal
 
 pub returns : goal.returns

@@ -1,7 +1,7 @@
 use Rattle.std.proofs.Common.{◌≡◌, ◌+◌, ◌%◌, ◌^◌, ◌∙◌, ap, arith}
 use Rattle.std.specs.Int.{w64, cast_unsigned}
 use Rattle.std.proofs.lemmas.Int.{to_z-of_z}
-use Rattle.ent_page.proofs.Written.{bits_lifted}
+use Rattle.ent_page.specs.Written.{bits_lifted}
 use Rattle.ent_page.proofs.writing.lifted_bits.Goals as goal
 
 pub returns : goal.returns

@@ -13,7 +13,7 @@ use Rattle.ent_value.specs.Order.{exact_rows}
 use Rattle.ent_value.specs.declared.value.Value.{Value}
 use Rattle.ent_value.specs.declared.value.Value.TheVariants.{Int, Text}
 use Rattle.ent_page.specs.Key.{lifted, int_key, text_key, value_key, key_of, IsStorable, AreStorable, key_cmp}
-use Rattle.ent_page.proofs.Written.{text_key-suc}
+use Rattle.ent_page.specs.Written.{text_key-suc}
 
 then_assoc : (o p q : Ordering) → ordering_then o (ordering_then p q) ≡ ordering_then (ordering_then o p) q
 then_assoc Less p q = refl

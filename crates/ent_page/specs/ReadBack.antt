@@ -11,8 +11,8 @@ use Rattle.ent_value.specs.declared.value.Value.{Value}
 use Rattle.ent_value.specs.declared.value.Value.TheVariants.{Int, Text}
 use Rattle.ent_page.specs.Key.{lifted, int_key, text_key, value_key, key_of, IsStorable, AreStorable}
 use Rattle.ent_page.specs.Read.{text_from, past_text, unlifted, number_from, value_from, past_value, row_from}
-use Rattle.ent_page.proofs.Written.{not_zero, text_key-suc}
-use Rattle.ent_page.proofs.Order.{lifted_fits}
+use Rattle.ent_page.specs.Written.{not_zero, text_key-suc}
+use Rattle.ent_page.specs.Order.{lifted_fits}
 
 -- numbers
 

@@ -1,0 +1,151 @@
+//! Sets of keys in pages.
+ghost use Rattle.std.specs.Prelude.{◌≡◌, ◌<◌, ◌^◌, ◌==◌, ◌∷◌, [], ◌↔◌, IsTrue, IfOk};
+ghost use Rattle.ent_set.specs.Sets as set;
+
+use crate::key::Key;
+use crate::page::Page;
+use crate::pages::{are_same_keys, grown, pages_of, place_of, push_shared, shrunk, single, spliced};
+use std::alloc::{AllocError, Global};
+use std::marker::Model;
+use std::sync::Arc;
+
+/// A set of keys: an ordered list of pages, each ordered. Sets that come from one another share the pages that are
+/// the same in both. Contracts see the set.
+#[derive(Drop)]
+pub struct KeySet {
+    pages: Vec<Arc<Page>>,
+    len: usize,
+}
+
+impl Model for KeySet {
+    ghost use Rattle.std.specs.List.{flat_map};
+    ghost use Rattle.std.specs.Arc.{arc_value};
+    ghost use Rattle.std.specs.Coded.{coded_list, coded_ℕ};
+    ghost use Rattle.ent_set.specs.Sets as set;
+    ghost use Rattle.ent_page.specs.Key.{key_cmp};
+    ghost use Rattle.ent_page.specs.Paged.{IsPaged};
+
+    ghost Value = { set.Set key_cmp };
+
+    ghost coded = { set.code (coded_list coded_ℕ) };
+
+    ghost view = { λ s. set.from_list {R = key_cmp} (flat_map arc_value s.pages.items) };
+
+    ghost invariant = { λ s. IsPaged arc_value s.pages.items (flat_map arc_value s.pages.items) s.len };
+}
+
+impl KeySet {
+    /// The set of no key. It takes no memory.
+    pub fn new(alloc: Global) -> Self
+        ensures { result ≡ set.empty }
+    {
+        KeySet {
+            pages: Vec::new(alloc),
+            len: 0,
+        }
+    }
+
+    /// The set of some keys, of which doubles count once.
+    pub fn from_keys(alloc: Global, keys: Vec<Key>) -> Result<Self, AllocError>
+        ensures { IfOk result (λ s. s ≡ set.from_list keys.items) }
+    {
+        let mut keys = keys;
+        keys.as_mut_slice().sort(alloc)?;
+        keys.dedup();
+        let pages = pages_of(alloc, keys.as_slice())?;
+        Ok(KeySet {
+            pages,
+            len: keys.len(),
+        })
+    }
+
+    /// How many keys there are.
+    pub fn len(&self) -> usize
+        ensures { result ≡ set.len self.now }
+    {
+        self.len
+    }
+
+    pub fn is_empty(&self) -> bool
+        ensures { result ≡ (set.len self.now == 0) }
+    {
+        self.len == 0
+    }
+
+    /// Whether a key is in the set.
+    pub fn contains(&self, key: &[u8]) -> bool
+        ensures { result ≡ set.contains self.now key.now }
+    {
+        let pages = self.pages.as_slice();
+        let at = place_of(pages, key);
+        at < pages.len() && pages[at].search(key).is_ok()
+    }
+
+    /// The set with a key put in. All pages but one or two are shared.
+    pub fn with(&self, alloc: Global, key: &[u8]) -> Result<KeySet, AllocError>
+        requires { set.len self.now < 2 ^ 63 }
+        ensures { IfOk result (λ s. s ≡ set.insert self.now key.now) }
+    {
+        let pages = self.pages.as_slice();
+        let at = place_of(pages, key);
+        if at >= pages.len() {
+            let page = Page::new(alloc).with(alloc, 0, key)?;
+            return Ok(KeySet {
+                pages: single(alloc, page)?,
+                len: 1,
+            });
+        }
+        let page: &Page = &pages[at];
+        match page.search(key) {
+            Ok(_) => self.copy(alloc),
+            Err(index) => {
+                let others = grown(alloc, page, index, key)?;
+                Ok(KeySet {
+                    pages: spliced(alloc, pages, at, at + 1, others)?,
+                    len: self.len + 1,
+                })
+            }
+        }
+    }
+
+    /// The set without a key. All pages but one or two are shared.
+    pub fn without(&self, alloc: Global, key: &[u8]) -> Result<KeySet, AllocError>
+        ensures { IfOk result (λ s. s ≡ set.without_all self.now (key.now ∷ [])) }
+    {
+        let pages = self.pages.as_slice();
+        let at = place_of(pages, key);
+        if at >= pages.len() {
+            return self.copy(alloc);
+        }
+        let page: &Page = &pages[at];
+        match page.search(key) {
+            Ok(index) => {
+                let others = page.without(alloc, index)?;
+                Ok(KeySet {
+                    pages: shrunk(alloc, pages, at, others)?,
+                    len: self.len - 1,
+                })
+            }
+            Err(_) => self.copy(alloc),
+        }
+    }
+
+    /// Whether two sets are the same. It takes no memory.
+    pub fn is_same(&self, other: &KeySet) -> bool
+        ensures { IsTrue result ↔ (self.now ≡ other.now) }
+    {
+        self.len == other.len && are_same_keys(self.pages.as_slice(), other.pages.as_slice())
+    }
+
+    /// The same set; all pages are shared.
+    pub fn copy(&self, alloc: Global) -> Result<KeySet, AllocError>
+        ensures { IfOk result (λ s. s ≡ self.now) }
+    {
+        let mut pages = Vec::with_capacity(alloc, self.pages.len())?;
+        push_shared(&mut pages, self.pages.as_slice())?;
+        Ok(KeySet {
+            pages,
+            len: self.len,
+        })
+    }
+}
