@@ -89,7 +89,7 @@ fn append_table(
     out.push(b' ')?;
     append_number(alloc, out, table.len() as u64)?;
     out.push(b'\n')?;
-    let rows = table.ascending(alloc)?;
+    let rows = table.rows(alloc)?;
     append_rows(alloc, out, rows.as_slice())
 }
 
