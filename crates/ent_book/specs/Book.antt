@@ -11,4 +11,5 @@ table_names tables = map (λ table. table.name) tables
 -- the database of the tables: under each name the rows of the first table of that name
 abbrev pub tables_database : List NamedTable → Database
 tables_database [] name = set.empty
-tables_database (table ∷ tables) name = if same_name table.name name then (arc_value table.table).rows else tables_database tables name
+tables_database (table ∷ tables) name =
+    if same_name table.name name then (arc_value table.table).rows else tables_database tables name

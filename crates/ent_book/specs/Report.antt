@@ -46,7 +46,8 @@ answer_text (answers.Rows rows) = line (codes "rows " ++ decimal (length rows)) 
 -- answers in order of their statements, from a place on
 abbrev pub answers_text : ℕ → List Answer → List ℕ
 answers_text place [] = []
-answers_text place (answer ∷ more) = (decimal place ++ (codes " " ++ answer_text answer)) ++ answers_text (place + 1) more
+answers_text place (answer ∷ more) =
+    (decimal place ++ (codes " " ++ answer_text answer)) ++ answers_text (place + 1) more
 
 -- the answers of a transaction that committed
 abbrev pub fate_answers : Fate → List Answer
@@ -56,7 +57,8 @@ fate_answers (fates.Failed failure runs) = []
 
 -- a transaction: its fate, then its answers
 abbrev pub transaction_text : ℕ → Fate → List ℕ
-transaction_text tx fate = line (codes "tx " ++ (decimal tx ++ (codes " " ++ fate_text fate))) ++ answers_text 1 (fate_answers fate)
+transaction_text tx fate =
+    line (codes "tx " ++ (decimal tx ++ (codes " " ++ fate_text fate))) ++ answers_text 1 (fate_answers fate)
 
 -- transactions in order of their numbers, from a number on
 abbrev pub transactions_text : ℕ → List Fate → List ℕ
@@ -65,7 +67,8 @@ transactions_text tx (fate ∷ more) = transaction_text tx fate ++ transactions_
 
 -- a table: its name, how many rows it has, and these, ascending
 abbrev pub table_text : Name → Rows → List ℕ
-table_text name rows = line (codes "table " ++ (name ++ (codes " " ++ decimal (set.len rows)))) ++ rows_text (set.ascending rows)
+table_text name rows =
+    line (codes "table " ++ (name ++ (codes " " ++ decimal (set.len rows)))) ++ rows_text (set.ascending rows)
 
 -- names by their bytes
 abbrev pub by_bytes : List Name → List Name

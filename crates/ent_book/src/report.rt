@@ -2,7 +2,9 @@
 ghost use Rattle.std.specs.Prelude.{◌≡◌, ◌++◌, OnOk, IfOk, MatchOption, map};
 ghost use Rattle.ent_set.specs.Sets as set;
 ghost use Rattle.ent_book.specs.Book.{table_names, tables_database};
-ghost use Rattle.ent_book.specs.Report.{answers_text, transaction_text, transactions_text, table_text, rows_text, tables_text, report_text, by_bytes};
+ghost use Rattle.ent_book.specs.Report.{answers_text, transaction_text, transactions_text, table_text, rows_text};
+ghost use Rattle.ent_book.specs.Report.{tables_text, by_bytes};
+ghost use Rattle.ent_book.specs.Text.{book_text};
 
 use crate::append::{append_answer, append_fate, append_number, append_row_line};
 use crate::book::{Book, Fate, NamedTable};
@@ -57,7 +59,8 @@ fn append_transactions(alloc: Global, out: &mut Vec<u8>, fates: &[Fate]) -> Resu
 
 /// The first table of a name.
 fn table_named<'a>(tables: &'a [NamedTable], name: &Name) -> Option<&'a Table>
-    ensures { MatchOption result (tables_database tables.now name.now ≡ set.empty) (λ table. tables_database tables.now name.now ≡ table.now.rows) }
+    ensures { MatchOption result (tables_database tables.now name.now ≡ set.empty)
+        (λ table. tables_database tables.now name.now ≡ table.now.rows) }
 {
     for entry in tables {
         if entry.name == *name {
@@ -115,7 +118,8 @@ fn names_by_bytes(alloc: Global, tables: &[NamedTable]) -> Result<Vec<Name>, All
 }
 
 fn append_tables(alloc: Global, out: &mut Vec<u8>, tables: &[NamedTable]) -> Result<(), AllocError>
-    ensures { OnOk result (out.new.items ≡ out.old.items ++ tables_text (table_names tables.now) (tables_database tables.now)) }
+    ensures { OnOk result (out.new.items
+        ≡ out.old.items ++ tables_text (table_names tables.now) (tables_database tables.now)) }
 {
     let names = names_by_bytes(alloc, tables)?;
     for name in &names {
@@ -129,7 +133,7 @@ fn append_tables(alloc: Global, out: &mut Vec<u8>, tables: &[NamedTable]) -> Res
 
 /// The whole text of a book's report.
 pub(crate) fn report(alloc: Global, book: &Book) -> Result<Vec<u8>, AllocError>
-    ensures { IfOk result (λ text. text.items ≡ report_text (table_names book.now.tables) (tables_database book.now.tables) book.now.fates) }
+    ensures { IfOk result (λ text. text.items ≡ book_text book.now) }
 {
     let mut out = Vec::new(alloc);
     out.extend_from_slice(b"report 1\n")?;

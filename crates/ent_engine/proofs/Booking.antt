@@ -1,5 +1,6 @@
 -- The book of an input is that of its scripts run one after the other.
 use Rattle.std.proofs.Common.{◌≡◌, cond, List, [], ◌∷◌, length, map, None, Result, Ok, Err, refl, sym, ap, ◌∙◌, subst}
+use Rattle.std.proofs.lemmas.List.{length-map}
 use Rattle.std.specs.Prelude.{All}
 use Rattle.std.specs.List.{AllByRecursion}
 use Rattle.std.specs.Arc.{arc_value}
@@ -34,7 +35,6 @@ use Rattle.ent_book.specs.declared.book.Fate.{Fate}
 use Rattle.ent_engine.specs.Outcome.{outcomes, outcome_of}
 use Rattle.ent_engine.specs.Reading.{form_fault}
 use Rattle.ent_engine.specs.Tables.{plain_outcomes, outcome_of_tables}
-use Rattle.ent_engine.proofs.Loading.{length_map}
 use Rattle.ent_engine.proofs.Same.{none_before, EffectKept, as_outcome, same_outcome}
 
 -- tables under their names
@@ -111,7 +111,7 @@ ran_plain tables fates plain scripts rows opened e p r = e ∙ (λ i. plain_outc
 pub as_many : {A : Type 0} (f : A → Relation) (arcs : List A) (tables before : List Relation) (schemas : List TableSchema) → map f arcs ≡ tables → kinds_in tables ≡ kinds_in before
     → kinds_in before ≡ map schema_kinds schemas → length arcs ≡ length schemas
 as_many f arcs tables before schemas is same kinds_are =
-    sym (length_map f arcs) ∙ ap length is ∙ sym (length_map (λ (t : Relation). t.kinds) tables) ∙ ap length (same ∙ kinds_are) ∙ length_map schema_kinds schemas
+    sym (length-map arcs f) ∙ ap length is ∙ sym (length-map tables (λ (t : Relation). t.kinds)) ∙ ap length (same ∙ kinds_are) ∙ length-map schemas schema_kinds
 
 pub declared_names : (creates : List Create) → names_of (schemas_of creates) ≡ map (λ create. create.name.name) creates
 declared_names [] = refl

@@ -1,5 +1,6 @@
 -- Changes of one table, from what the table answers.
-use Rattle.std.proofs.Common.{◌≡◌, ℕ, Bool, true, false, cond, List, map, Option, Some, None, Result, Ok, Err, refl, ap, ◌∙◌, sym}
+use Rattle.std.proofs.Common.{◌≡◌, ℕ, Bool, true, false, cond, List, map, Option, Some, None, Result, Ok, Err, refl, ap}
+use Rattle.std.proofs.Common.{◌∙◌, sym}
 use Rattle.std.specs.Prelude.{IfOk, IsOk, nat_le}
 use Rattle.std.specs.Result.{is_ok}
 use Rattle.ent_set.specs.Sets as set
@@ -7,37 +8,28 @@ use Rattle.ent_value.specs.Value.{kinds_of}
 use Rattle.ent_value.specs.declared.value.Kind.{Kind}
 use Rattle.ent_value.specs.declared.value.Value.{Value}
 use Rattle.ent_value.specs.declared.refusal.Refusal.{Refusal}
-use Rattle.ent_value.specs.declared.refusal.Refusal.TheVariants as refusals
-use Rattle.ent_value.specs.Refusal.{◌>>=◌, Gives, Refuses}
+use Rattle.ent_value.specs.Refusal.{◌>>=◌, Gives}
 use Rattle.ent_rel.specs.Relation.{RowSet, full, bounded}
 use Rattle.ent_rel.specs.declared.fault.TheConstants.{ROW_LIMIT}
 use Rattle.ent_sql.specs.declared.tree.Expression.{Expression}
 use Rattle.ent_semantics.specs.declared.answer.Failure.{Failure}
 use Rattle.ent_semantics.specs.Database.{Environment}
-use Rattle.ent_semantics.specs.Statement.{or_overflow}
 use Rattle.ent_form.specs.declared.plain.PlainOperand.{PlainOperand}
 use Rattle.ent_form.specs.PlainMeaning.{plain_image, plain_kind, kind_with, kinds_bound}
-use Rattle.ent_engine.specs.declared.term.TermFault.{TermFault}
-use Rattle.ent_engine.specs.declared.term.TermFault.TheVariants.{Memory, Overflow}
-use Rattle.ent_engine.specs.Change.{or_full, term_refusal, image_or_overflow}
-use Rattle.ent_engine.specs.Evaluation.{Evaluates}
+use Rattle.ent_engine.specs.Change.{or_full, image_or_overflow}
+use Rattle.ent_engine.specs.Evaluation.{there_or_overflow}
 use Rattle.ent_engine.proofs.Kept.{kinds_of_image}
 
-pub image_made : (new : List Value) (meant : Option (List Value)) → Evaluates (Ok new) meant → or_overflow meant (λ row. Ok row) ≡ Ok new
-image_made new meant is = ap (λ m. or_overflow m (λ row. Ok row)) is
+-- what there is, from an answer that isn't an overflow
+pub there_is : {A : Type 0} (meant : Option A) (x : A) → there_or_overflow meant ≡ Ok x → meant ≡ Some x
+there_is None x is = absurd cc
+there_is (Some y) x is = let same : y ≡ x = cc in ap (λ z. Some z) same
 
-pub image_refused : (fault : TermFault) (meant : Option (List Value)) → Evaluates {X = List Value} (Err fault) meant → Refuses (term_refusal fault) (or_overflow meant (λ row. Ok row))
-image_refused Memory meant is = tt
-image_refused Overflow meant is = ap (λ m. or_overflow m (λ row. Ok row)) is
-
-image_some : (meant : Option (List Value)) (new : List Value) → or_overflow meant (λ row. Ok row) ≡ Ok new → meant ≡ Some new
-image_some None new is = absurd cc
-image_some (Some row) new is = let same : row ≡ new = cc in ap (λ r. Some r) same
-
-pub image_of_kinds : (environment : Environment) (image : List (Expression PlainOperand)) (row : List Value) (columns : List Kind) (answer : Result (List Value) (Refusal Failure))
+pub image_of_kinds :
+    (environment : Environment) (image : List (Expression PlainOperand)) (row : List Value) (columns : List Kind) (answer : Result (List Value) (Refusal Failure))
     → map (kind_with (plain_kind columns (kinds_bound environment))) image ≡ map Some columns → kinds_of row ≡ columns → Gives (λ new. new) answer (image_or_overflow (plain_image environment image) row)
     → IfOk answer (λ new. kinds_of new ≡ columns)
-image_of_kinds environment image row columns (Ok new) fits of_row is = kinds_of_image environment image row new columns fits of_row (image_some (plain_image environment image row) new is)
+image_of_kinds environment image row columns (Ok new) fits of_row is = kinds_of_image environment image row new columns fits of_row (there_is (plain_image environment image row) new is)
 image_of_kinds environment image row columns (Err fault) fits of_row is = tt
 
 -- rows that are not too many
@@ -48,9 +40,7 @@ within {X} {Y} rows x y fits = on (nat_le (set.len rows) ROW_LIMIT) fits
     on true p = refl
     on false p = absurd cc
 
-pub replaced : (meant : Result (ℕ × RowSet) Failure) (count : ℕ) (after : RowSet) (made : ℕ × RowSet) → meant ≡ Ok (count, after) → made ≡ (count, after) → IsOk (bounded after after) → (meant >>= λ change. or_full (bounded change.1 change)) ≡ Ok made
+pub replaced : (meant : Result (ℕ × RowSet) Failure) (count : ℕ) (after : RowSet) (made : ℕ × RowSet)
+    → meant ≡ Ok (count, after) → made ≡ (count, after) → IsOk (bounded after after)
+    → (meant >>= λ change. or_full (bounded change.1 change)) ≡ Ok made
 replaced meant count after made is so fits = ap (λ m. m >>= λ change. or_full (bounded change.1 change)) is ∙ within after after (count, after) fits ∙ ap (λ c. Ok c) (sym so)
-
-pub replace_refused : (refusal : Refusal Failure) (meant : Result (ℕ × RowSet) Failure) → Refuses refusal meant → Refuses refusal (meant >>= λ change. or_full (bounded change.1 change))
-replace_refused refusals.Memory meant is = tt
-replace_refused (refusals.Fault failure) meant is = ap (λ m. m >>= λ change. or_full (bounded change.1 change)) is

@@ -1,7 +1,7 @@
 -- What a reader gave, piece by piece.
-use Rattle.std.proofs.Common.{◌≡◌, ℕ, Bool, true, false, ◌-◌, ◌<◌, ◌≤◌, List, [], ◌++◌, length, take, Option, Some, None, refl, sym, ap, ◌∙◌, append_assoc, arith}
+use Rattle.std.proofs.Common.{◌≡◌, ℕ, ◌-◌, ◌<◌, ◌≤◌, List, [], ◌++◌, length, take, Option, Some, None, refl, sym, ap, ◌∙◌, append_assoc, arith}
 use Rattle.std.proofs.lemmas.List.{append-nil, length-append, length-take-le}
-use Rattle.std.specs.Prelude.{IfSome, ◌||◌}
+use Rattle.std.specs.Prelude.{IfSome}
 use Rattle.std.specs.Io.KnownBytes.{Consumes, IsAtEnd}
 
 pub nothing_read : (old : Option (List ℕ)) (bytes : List ℕ) → bytes ≡ [] → Consumes old old bytes
@@ -33,7 +33,3 @@ read_too_much (Some xs) None new bytes buffer n most le more h k = absurd h
 read_too_much (Some xs) (Some ys) None bytes buffer n most le more h k = absurd k
 read_too_much (Some xs) (Some ys) (Some zs) bytes buffer n most le more h k =
     omega (arith, ap length h, length-append bytes ys, ap length k, length-append (take n buffer) zs, length-take-le n buffer le)
-
-pub or-true : (b : Bool) → b || true ≡ true
-or-true true = refl
-or-true false = refl

@@ -10,18 +10,12 @@ use Rattle.ent_rel.specs.Change.{insertion, replacement}
 use Rattle.ent_rel.specs.declared.fault.TableFull.{TableFull}
 use Rattle.ent_semantics.specs.declared.answer.Failure.{Failure}
 use Rattle.ent_semantics.specs.declared.answer.Failure.TheVariants as failures
-use Rattle.ent_semantics.specs.Statement.{or_overflow}
 use Rattle.ent_engine.specs.declared.change.Changed.{Changed}
-use Rattle.ent_engine.specs.declared.term.TermFault.{TermFault}
-use Rattle.ent_engine.specs.declared.term.TermFault.TheVariants as terms
+use Rattle.ent_engine.specs.Evaluation.{there_or_overflow}
 
 abbrev pub table_refusal : Refusal TableFull → Refusal Failure
 table_refusal refusals.Memory = refusals.Memory
 table_refusal (refusals.Fault full) = refusals.Fault failures.TableFull
-
-abbrev pub term_refusal : TermFault → Refusal Failure
-term_refusal terms.Memory = refusals.Memory
-term_refusal terms.Overflow = refusals.Fault failures.Overflow
 
 -- a table that has no room fails
 abbrev pub or_full : {X : Type 0} → Result X TableFull → Result X Failure
@@ -33,11 +27,13 @@ insertion_of rows row = or_full (insertion rows row)
 
 -- a row without an image fails
 abbrev pub image_or_overflow : (List Value → Option (List Value)) → List Value → Result (List Value) Failure
-image_or_overflow image row = or_overflow (image row) (λ new. Ok new)
+image_or_overflow image row = there_or_overflow (image row)
 
 -- an overflow comes before a full table
-abbrev pub replacement_of : RowSet → (List Value → Bool) → (List Value → Option (List Value)) → Result (ℕ × RowSet) Failure
-replacement_of rows test image = replacement rows test (image_or_overflow image) >>= λ change. or_full (bounded change.1 change)
+abbrev pub replacement_of : RowSet → (List Value → Bool) → (List Value → Option (List Value))
+    → Result (ℕ × RowSet) Failure
+replacement_of rows test image =
+    replacement rows test (image_or_overflow image) >>= λ change. or_full (bounded change.1 change)
 
 -- how many rows a change concerned, and the rows that it left
 abbrev pub change_made : Changed → ℕ × RowSet

@@ -7,7 +7,8 @@ use Rattle.ent_engine.specs.declared.environment.Environment.{Environment as Hel
 -- an environment with further bindings, each over those before it
 abbrev pub with_bindings : Environment → List Binding → Environment
 with_bindings environment [] = environment
-with_bindings environment (binding ∷ later) = with_bindings (with_value environment binding.variable binding.value) later
+with_bindings environment (binding ∷ later) =
+    with_bindings (with_value environment binding.variable binding.value) later
 
 abbrev pub environment_of : Held → Environment
 environment_of held = with_bindings nothing_bound held.bindings

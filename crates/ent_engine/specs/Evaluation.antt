@@ -1,10 +1,8 @@
--- How an evaluation tells what is meant.
-use Rattle.std.specs.Prelude.{◌≡◌, Option, Some, None, Result, Ok, Err}
-use Rattle.ent_engine.specs.declared.term.TermFault.{TermFault}
-use Rattle.ent_engine.specs.declared.term.TermFault.TheVariants.{Memory, Overflow}
+-- What is worked out within 64 bits, or else is a failure.
+use Rattle.std.specs.Prelude.{Option, Result, Ok}
+use Rattle.ent_semantics.specs.declared.answer.Failure.{Failure}
+use Rattle.ent_semantics.specs.Statement.{or_overflow}
 
--- what was worked out is what is meant, and there is an overflow where nothing is; unless memory ran out
-abbrev pub Evaluates : {X : Type 0} → Result X TermFault → Option X → Type 0
-Evaluates (Ok x) meant = meant ≡ Some x
-Evaluates (Err Memory) meant = Unit {0}
-Evaluates (Err Overflow) meant = meant ≡ None
+-- what there is; an overflow where there is nothing
+abbrev pub there_or_overflow : {A : Type 0} → Option A → Result A Failure
+there_or_overflow meant = or_overflow meant (λ x. Ok x)

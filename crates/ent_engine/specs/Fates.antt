@@ -13,10 +13,16 @@ use Rattle.ent_book.specs.declared.book.Fate.TheVariants.{Committed, RolledBack,
 
 -- Statements are carried out one after the other up to one that can't be, for this failure.
 pub data FailsBy (declared : List Create) : Database → Environment → List Statement → Failure → Type 0 where
-  here : (database : Database) (environment : Environment) (statement : Statement) (more : List Statement) (failure : Failure)
-      → statement_meaning declared database environment statement ≡ Err failure → FailsBy declared database environment (statement ∷ more) failure
-  later : (database : Database) (environment : Environment) (statement : Statement) (more : List Statement) (effect : Effect) (failure : Failure)
-      → statement_meaning declared database environment statement ≡ Ok effect → FailsBy declared effect.database effect.environment more failure
+  here :
+      (database : Database) (environment : Environment) (statement : Statement) (more : List Statement)
+      (failure : Failure)
+      → statement_meaning declared database environment statement ≡ Err failure
+      → FailsBy declared database environment (statement ∷ more) failure
+  later :
+      (database : Database) (environment : Environment) (statement : Statement) (more : List Statement)
+      (effect : Effect) (failure : Failure)
+      → statement_meaning declared database environment statement ≡ Ok effect
+      → FailsBy declared effect.database effect.environment more failure
       → FailsBy declared database environment (statement ∷ more) failure
 
 -- What a fate says of a script, the database before it, and the one after. A script that committed has the answers and
@@ -26,7 +32,8 @@ abbrev pub IsFateOf : List Create → Script → Database → Fate → Database 
 IsFateOf declared script before (Committed number runs answers) after =
     (runs ≡ 1) × (script_run declared script before [] ≡ Some (record { database = after; answers = answers }))
 IsFateOf declared script before (RolledBack runs) after =
-    (runs ≡ 1) × (script.end ≡ ends.Rollback) × IsSome (statements_run declared script.statements before nothing_bound []) × (after ≡ before)
+    (runs ≡ 1) × (script.end ≡ ends.Rollback)
+    × IsSome (statements_run declared script.statements before nothing_bound []) × (after ≡ before)
 IsFateOf declared script before (Failed failure runs) after =
     (runs ≡ 1) × FailsBy declared before nothing_bound script.statements failure × (after ≡ before)
 

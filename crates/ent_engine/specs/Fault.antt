@@ -4,7 +4,8 @@ use Rattle.std.specs.Fmt.{decimal}
 use Rattle.ent_sql.specs.Fault.{code_of as sql_code_of, place_of as sql_place_of}
 use Rattle.ent_form.specs.Fault.{code_of as form_code_of, place_of as form_place_of}
 use Rattle.ent_engine.specs.declared.fault.RunFault.{RunFault}
-use Rattle.ent_engine.specs.declared.fault.RunFault.TheVariants.{NotUtf8, TooLong, Sql, Form, ReadFault, WriteFault, Memory}
+use Rattle.ent_engine.specs.declared.fault.RunFault.TheVariants.{NotUtf8, TooLong, Sql, Form, ReadFault, WriteFault}
+use Rattle.ent_engine.specs.declared.fault.RunFault.TheVariants.{Memory}
 
 abbrev pub code_of : RunFault → ℕ
 code_of (NotUtf8 place) = 100

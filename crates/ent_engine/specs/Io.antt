@@ -1,31 +1,54 @@
 -- What the reader and the writer of a run did.
-use Rattle.std.specs.Prelude.{◌≡◌, ℕ, Bool, true, ◌<◌, ◌++◌, ◌⊎◌, List, length, Option, IfSome}
+use Rattle.std.specs.Prelude.{◌≡◌, ℕ, Bool, true, false, ◌<◌, ◌++◌, ◌||◌, List, length, Option, IfSome, Result, Ok, Err}
 use Rattle.std.specs.Io.KnownBytes.{Appends, Keeps}
+use Rattle.ent_value.specs.Watched.{Stream}
 use Rattle.ent_engine.specs.declared.fault.RunFault.{RunFault}
-use Rattle.ent_engine.specs.declared.fault.RunFault.TheVariants.{NotUtf8, TooLong, Sql, Form, ReadFault, WriteFault, Memory}
+use Rattle.ent_engine.specs.declared.fault.RunFault.TheVariants.{NotUtf8, TooLong, Sql, Form, ReadFault, WriteFault}
+use Rattle.ent_engine.specs.declared.fault.RunFault.TheVariants.{Memory}
 use Rattle.ent_sql.specs.declared.tree.Input.{Input}
 use Rattle.ent_engine.specs.Outcome.{report_of}
-use Rattle.ent_engine.specs.Reading.{IsInput, most_bytes}
+use Rattle.ent_engine.specs.declared.reader.TheConstants.{MOST_BYTES}
+use Rattle.ent_engine.specs.Reading.{IsInput}
 
--- Reading to the end fails for want of memory, where there is too much, or where the reader failed.
-abbrev pub ReadingFails : Option (List ℕ) → Bool → RunFault → Type 0
-ReadingFails remaining failed TooLong = IfSome remaining (λ all. most_bytes < length all)
-ReadingFails remaining failed ReadFault = failed ≡ true
-ReadingFails remaining failed Memory = Unit {0}
-ReadingFails remaining failed (NotUtf8 place) = ⊥
-ReadingFails remaining failed (Sql fault) = ⊥
-ReadingFails remaining failed (Form fault) = ⊥
-ReadingFails remaining failed WriteFault = ⊥
+-- Reading to the end fails for want of memory, where there is too much, or where the reader fails.
+abbrev pub ReadingFails : Option (List ℕ) → RunFault → Type 0
+ReadingFails remaining TooLong = IfSome remaining (λ all. MOST_BYTES < length all)
+ReadingFails remaining ReadFault = Unit {0}
+ReadingFails remaining Memory = Unit {0}
+ReadingFails remaining (NotUtf8 place) = ⊥
+ReadingFails remaining (Sql fault) = ⊥
+ReadingFails remaining (Form fault) = ⊥
+ReadingFails remaining WriteFault = ⊥
 
--- a fault of the reader or the writer shows in the marks: it failed, or the writer took no byte
-abbrev pub IsMarked : Bool → Bool → Bool → RunFault → Type 0
-IsMarked read_failed write_failed write_stalled ReadFault = read_failed ≡ true
-IsMarked read_failed write_failed write_stalled WriteFault = (write_failed ≡ true) ⊎ (write_stalled ≡ true)
-IsMarked read_failed write_failed write_stalled (NotUtf8 place) = Unit {0}
-IsMarked read_failed write_failed write_stalled TooLong = Unit {0}
-IsMarked read_failed write_failed write_stalled (Sql fault) = Unit {0}
-IsMarked read_failed write_failed write_stalled (Form fault) = Unit {0}
-IsMarked read_failed write_failed write_stalled Memory = Unit {0}
+-- a fault of the reader
+abbrev pub is_read_fault : {X : Type 0} → Result X RunFault → Bool
+is_read_fault (Ok x) = false
+is_read_fault (Err ReadFault) = true
+is_read_fault (Err (NotUtf8 place)) = false
+is_read_fault (Err TooLong) = false
+is_read_fault (Err (Sql fault)) = false
+is_read_fault (Err (Form fault)) = false
+is_read_fault (Err WriteFault) = false
+is_read_fault (Err Memory) = false
+
+-- a fault of the writer
+abbrev pub is_write_fault : {X : Type 0} → Result X RunFault → Bool
+is_write_fault (Ok x) = false
+is_write_fault (Err WriteFault) = true
+is_write_fault (Err (NotUtf8 place)) = false
+is_write_fault (Err TooLong) = false
+is_write_fault (Err (Sql fault)) = false
+is_write_fault (Err (Form fault)) = false
+is_write_fault (Err ReadFault) = false
+is_write_fault (Err Memory) = false
+
+-- the mark of a reader that had none is set where its fault is answered, and nowhere else
+abbrev pub IsReaderMarkedBy : {X R : Type 0} → Result X RunFault → Stream R → Type 0
+IsReaderMarkedBy result reader = reader.failed ≡ is_read_fault result
+
+-- the marks of a writer that had none: one is set where its fault is answered, and none after all else
+abbrev pub IsWriterMarkedBy : {X W : Type 0} → Result X RunFault → Stream W → Type 0
+IsWriterMarkedBy result writer = (writer.failed || writer.stalled) ≡ is_write_fault result
 
 -- nothing is written but where the writer failed; then a beginning of some text
 abbrev pub IsSilent : Option (List ℕ) → Option (List ℕ) → RunFault → Type 0
@@ -37,10 +60,15 @@ IsSilent old new (Sql fault) = Keeps old new
 IsSilent old new (Form fault) = Keeps old new
 IsSilent old new Memory = Keeps old new
 
+-- what was written is the report of the input that these bytes are
+abbrev pub WritesReport : List ℕ → Option (List ℕ) → Option (List ℕ) → Type 0
+WritesReport bytes old new = (input : Input) × IsInput bytes input × Appends old new (report_of input)
+
 -- where the writer failed, what it took is a beginning of the report of the input
 abbrev pub WritesBeginning : List ℕ → Option (List ℕ) → Option (List ℕ) → RunFault → Type 0
 WritesBeginning bytes old new WriteFault =
-    (input : Input) × IsInput bytes input × ((front rest : List ℕ) × (report_of input ≡ front ++ rest) × Appends old new front)
+    (input : Input) × IsInput bytes input
+    × ((front rest : List ℕ) × (report_of input ≡ front ++ rest) × Appends old new front)
 WritesBeginning bytes old new ReadFault = Unit {0}
 WritesBeginning bytes old new (NotUtf8 place) = Unit {0}
 WritesBeginning bytes old new TooLong = Unit {0}

@@ -35,7 +35,8 @@ failure_of declared (statement ∷ more) database environment =
 -- A script that ran commits as the next. One that gives nothing leaves the database as it was: it failed where a
 -- statement couldn't be carried out, else it is rolled back.
 abbrev pub fated : Option Run → Option Failure → ℕ → Database → (ℕ → Database → Outcome) → Outcome
-fated (Some run) failure number database more = with_fate (Committed number 1 run.answers) (more (number + 1) run.database)
+fated (Some run) failure number database more =
+    with_fate (Committed number 1 run.answers) (more (number + 1) run.database)
 fated None (Some failure) number database more = with_fate (Failed failure 1) (more number database)
 fated None None number database more = with_fate (RolledBack 1) (more number database)
 
@@ -43,14 +44,17 @@ fated None None number database more = with_fate (RolledBack 1) (more number dat
 abbrev pub outcomes : List Create → List Script → ℕ → Database → Outcome
 outcomes declared [] number database = record { database = database; fates = [] }
 outcomes declared (script ∷ more) number database =
-    fated (script_run declared script database []) (failure_of declared script.statements database nothing_bound) number database (outcomes declared more)
+    fated (script_run declared script database []) (failure_of declared script.statements database nothing_bound)
+    number database (outcomes declared more)
 
 abbrev pub outcome_of : Input → Outcome
 outcome_of input = outcomes input.opening.tables input.scripts 1 (opening_database input.opening)
 
 -- the report of an input
 abbrev pub report_of : Input → List ℕ
-report_of input = report_text (map (λ create. create.name.name) input.opening.tables) (outcome_of input).database (outcome_of input).fates
+report_of input =
+    let outcome = outcome_of input in
+    report_text (map (λ create. create.name.name) input.opening.tables) outcome.database outcome.fates
 
 -- ---- the law above: the scripts that committed, run alone in order, give the same
 

@@ -9,7 +9,8 @@ use Rattle.ent_form.specs.declared.plain.Plain.{Plain}
 use Rattle.ent_form.specs.Catalogue.{schemas_of}
 use Rattle.ent_form.specs.Plain.{plain_script}
 use Rattle.ent_engine.specs.declared.fault.RunFault.{RunFault}
-use Rattle.ent_engine.specs.declared.fault.RunFault.TheVariants.{NotUtf8, TooLong, Sql, Form, ReadFault, WriteFault, Memory}
+use Rattle.ent_engine.specs.declared.fault.RunFault.TheVariants.{NotUtf8, TooLong, Sql, Form, ReadFault, WriteFault}
+use Rattle.ent_engine.specs.declared.fault.RunFault.TheVariants.{Memory}
 use Rattle.ent_engine.specs.Reading.{IsRefused}
 
 -- the tables that an input declares, and its scripts resolved

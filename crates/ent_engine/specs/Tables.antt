@@ -32,14 +32,16 @@ abbrev pub answered : Answer → Result PlainRun Failure → Result PlainRun Fai
 answered answer (Ok run) = Ok (record { tables = run.tables; answers = answer ∷ run.answers })
 answered answer (Err failure) = Err failure
 
-abbrev pub run_behind : Result PlainEffect Failure → (List Rows → Environment → Result PlainRun Failure) → Result PlainRun Failure
+abbrev pub run_behind : Result PlainEffect Failure → (List Rows → Environment → Result PlainRun Failure)
+    → Result PlainRun Failure
 run_behind (Ok effect) more = answered effect.answer (more effect.tables effect.environment)
 run_behind (Err failure) more = Err failure
 
 -- resolved statements one after the other
 abbrev pub plain_run : List PlainStatement → List Rows → Environment → Result PlainRun Failure
 plain_run [] tables environment = Ok (record { tables = tables; answers = [] })
-plain_run (statement ∷ more) tables environment = run_behind (plain_meaning tables environment statement) (plain_run more)
+plain_run (statement ∷ more) tables environment =
+    run_behind (plain_meaning tables environment statement) (plain_run more)
 
 -- the rows that scripts leave, and their fates
 pub record PlainOutcome : Type 0 where
@@ -49,17 +51,19 @@ pub record PlainOutcome : Type 0 where
 abbrev pub with_plain_fate : Fate → PlainOutcome → PlainOutcome
 with_plain_fate fate outcome = record { tables = outcome.tables; fates = fate ∷ outcome.fates }
 
--- A script that ran and ends with COMMIT commits as the next. One that ran and ends with ROLLBACK is rolled back; one that
--- couldn't be carried out fails, whatever its end. Both leave the tables as they were.
+-- A script that ran and ends with COMMIT commits as the next. One that ran and ends with ROLLBACK is rolled back; one
+-- that couldn't be carried out fails, whatever its end. Both leave the tables as they were.
 abbrev pub plain_fated : End → Result PlainRun Failure → ℕ → List Rows → (ℕ → List Rows → PlainOutcome) → PlainOutcome
-plain_fated Commit (Ok run) number tables more = with_plain_fate (Committed number 1 run.answers) (more (number + 1) run.tables)
+plain_fated Commit (Ok run) number tables more =
+    with_plain_fate (Committed number 1 run.answers) (more (number + 1) run.tables)
 plain_fated Rollback (Ok run) number tables more = with_plain_fate (RolledBack 1) (more number tables)
 plain_fated end (Err failure) number tables more = with_plain_fate (Failed failure 1) (more number tables)
 
 -- resolved scripts one after the other, the next commit having this number
 abbrev pub plain_outcomes : List Plain → ℕ → List Rows → PlainOutcome
 plain_outcomes [] number tables = record { tables = tables; fates = [] }
-plain_outcomes (script ∷ more) number tables = plain_fated script.end (plain_run script.statements tables nothing_bound) number tables (plain_outcomes more)
+plain_outcomes (script ∷ more) number tables =
+    plain_fated script.end (plain_run script.statements tables nothing_bound) number tables (plain_outcomes more)
 
 -- ---- what the code holds, seen so
 

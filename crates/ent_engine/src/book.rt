@@ -17,11 +17,11 @@ use crate::parse::Resolved;
 use crate::runner::run_scripts;
 use crate::tables::Tables;
 use ent_book::{Book, NamedTable};
-use ent_form::law::{
-    no_fault_fits, opening_rows_fit, opening_tables_mean_the_same, resolved_binds_the_same,
-    resolved_keeps_kinds, resolved_means_the_same,
+use ent_form::{
+    Catalogue, ColumnSchema, TableSchema, no_fault_fits, opening_rows, opening_rows_fit,
+    opening_tables_mean_the_same, resolved_binds_the_same, resolved_keeps_kinds,
+    resolved_means_the_same,
 };
-use ent_form::{Catalogue, ColumnSchema, TableSchema, opening_rows};
 use ent_rel::{Table, TableFull};
 use ent_sql::Opening;
 use ent_value::{Kind, Refusal, Sequence};
@@ -34,7 +34,8 @@ pub(crate) fn book_of(alloc: Global, resolved: &Resolved) -> Result<Book, AllocE
     requires formed { form_fault resolved.now.input ≡ None }
     ensures fates { IfOk result (λ book. book.fates ≡ (outcome_of resolved.now.input).fates) }
     ensures database { IfOk result (λ book. tables_database book.tables ≡ (outcome_of resolved.now.input).database) }
-    ensures names { IfOk result (λ book. table_names book.tables ≡ map (λ create. create.name.name) resolved.now.input.opening.tables) }
+    ensures names { IfOk result (λ book.
+        table_names book.tables ≡ map (λ create. create.name.name) resolved.now.input.opening.tables) }
 {
     resolved_means_the_same();
     resolved_keeps_kinds();
@@ -96,17 +97,19 @@ fn load_table(
     requires tables { catalogue.now.tables ≡ schemas_of opening.now.tables }
     requires formed { opening_fault opening.now ≡ None }
     requires number { slice_get catalogue.now.tables number ≡ Some schema.now }
-    ensures rows { IfOk result (λ table. table.rows ≡ set.from_list {R = row_cmp} (rows_named opening.now schema.now.name)) }
+    ensures rows { IfOk result (λ table.
+        table.rows ≡ set.from_list {R = row_cmp} (rows_named opening.now schema.now.name)) }
     ensures kinds { IfOk result (λ table. table.kinds ≡ schema_kinds schema.now) }
 {
     opening_rows_fit();
+    // Asked for its bound alone: an input has no more opening rows than a table may have.
     let _ = opening.rows.len();
     let kinds = kinds_of(alloc, schema.columns.as_slice())?;
     let rows = opening_rows(alloc, catalogue, number, opening)?;
     match Table::load(alloc, kinds, rows) {
         Ok(table) => Ok(table),
         Err(Refusal::Memory) => Err(AllocError),
-        // An input opens with at most 65,536 rows, so no table is too full.
+        // So no table is too full.
         Err(Refusal::Fault(TableFull)) => unreachable!(),
     }
 }

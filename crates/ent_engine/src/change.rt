@@ -4,19 +4,20 @@ ghost use Rattle.std.specs.Arc.{arc_value};
 ghost use Rattle.ent_value.specs.Refusal.{Gives};
 ghost use Rattle.ent_value.specs.Value.{kinds_of};
 ghost use Rattle.ent_rel.specs.Change.{changed_rows, application, deletion};
-ghost use Rattle.ent_form.specs.PlainMeaning.{known_kind, kind_with, kinds_bound, plain_kind, plain_known_value, plain_meets, plain_image};
-ghost use Rattle.ent_engine.specs.Change.{change_made, insertion_of, image_or_overflow, replacement_of, table_refusal, term_refusal};
+ghost use Rattle.ent_form.specs.PlainMeaning.{known_kind, kind_with, kinds_bound, plain_kind, plain_known_value};
+ghost use Rattle.ent_form.specs.PlainMeaning.{plain_meets, plain_image};
+ghost use Rattle.ent_engine.specs.Change.{change_made, insertion_of, image_or_overflow, replacement_of};
+ghost use Rattle.ent_engine.specs.Change.{table_refusal};
 ghost use Rattle.ent_engine.specs.Environment.{environment_of};
 
 use crate::environment::Environment;
 use crate::row::{image_row, known_row};
 use crate::select::meets;
-use crate::term::TermFault;
 use ent_form::{PlainOperand, PlainTest, PlainValue};
 use ent_rel::{Delta, Table, TableFull};
 use ent_semantics::Failure;
 use ent_sql::Expression;
-use ent_value::{Refusal, Row, Value};
+use ent_value::{Refusal, Row};
 use std::alloc::{AllocError, Global};
 use std::sync::Arc;
 
@@ -36,35 +37,12 @@ fn table_refusal(refusal: Refusal<TableFull>) -> Refusal<Failure>
     }
 }
 
-pub(crate) fn term_refusal(fault: TermFault) -> Refusal<Failure>
-    ensures { result ≡ term_refusal fault }
-{
-    match fault {
-        TermFault::Memory => Refusal::Memory,
-        TermFault::Overflow => Refusal::Fault(Failure::Overflow),
-    }
-}
-
-/// The image of a row, or why a statement fails that wants it.
-fn changed_row(
-    alloc: Global,
-    environment: &Environment,
-    image: &[Expression<PlainOperand>],
-    row: &[Value],
-) -> Result<Row, Refusal<Failure>>
-    ensures { Gives (λ new. new) result (image_or_overflow (plain_image (environment_of environment.now) image.now) row.now) }
-{
-    match image_row(alloc, environment, image, row) {
-        Ok(new) => Ok(new),
-        Err(fault) => Err(term_refusal(fault)),
-    }
-}
-
 /// A table after a change that fits it.
 fn applied(alloc: Global, table: &Table, count: u64, delta: &Delta) -> Result<Changed, AllocError>
     requires kinds { All (λ row. kinds_of row ≡ table.now.kinds) delta.now.added }
     requires fits { IsOk (application table.now.rows delta.now.removed delta.now.added) }
-    ensures made { IfOk result (λ changed. change_made changed ≡ (count, changed_rows table.now.rows delta.now.removed delta.now.added)) }
+    ensures made { IfOk result (λ changed.
+        change_made changed ≡ (count, changed_rows table.now.rows delta.now.removed delta.now.added)) }
     ensures kinds { IfOk result (λ changed. (arc_value changed.table).kinds ≡ table.now.kinds) }
 {
     match table.apply(alloc, delta) {
@@ -86,7 +64,8 @@ pub(crate) fn inserted(
     values: &[PlainValue],
 ) -> Result<Changed, Refusal<Failure>>
     requires { map (known_kind (kinds_bound (environment_of environment.now))) values.now ≡ map Some table.now.kinds }
-    ensures made { Gives change_made result (insertion_of table.now.rows (map (plain_known_value (environment_of environment.now)) values.now)) }
+    ensures made { let row = map (plain_known_value (environment_of environment.now)) values.now in
+        Gives change_made result (insertion_of table.now.rows row) }
     ensures kinds { IfOk result (λ changed. (arc_value changed.table).kinds ≡ table.now.kinds) }
 {
     let row = known_row(alloc, environment, values)?;
@@ -103,7 +82,8 @@ pub(crate) fn deleted(
     environment: &Environment,
     tests: &[PlainTest],
 ) -> Result<Changed, AllocError>
-    ensures made { IfOk result (λ changed. change_made changed ≡ deletion table.now.rows (plain_meets (environment_of environment.now) tests.now)) }
+    ensures made { IfOk result (λ changed.
+        change_made changed ≡ deletion table.now.rows (plain_meets (environment_of environment.now) tests.now)) }
     ensures kinds { IfOk result (λ changed. (arc_value changed.table).kinds ≡ table.now.kinds) }
 {
     let (count, delta) = table.delete_rows(alloc, |row| meets(environment, tests, row.values()))?;
@@ -118,21 +98,22 @@ pub(crate) fn updated(
     image: &[Expression<PlainOperand>],
     tests: &[PlainTest],
 ) -> Result<Changed, Refusal<Failure>>
-    requires { map (kind_with (plain_kind table.now.kinds (kinds_bound (environment_of environment.now)))) image.now ≡ map Some table.now.kinds }
-    ensures made { Gives change_made result (replacement_of table.now.rows (plain_meets (environment_of environment.now) tests.now) (plain_image (environment_of environment.now) image.now)) }
+    requires { let kind = plain_kind table.now.kinds (kinds_bound (environment_of environment.now)) in
+        map (kind_with kind) image.now ≡ map Some table.now.kinds }
+    ensures made { let bound = environment_of environment.now in
+        Gives change_made result
+        (replacement_of table.now.rows (plain_meets bound tests.now) (plain_image bound image.now)) }
     ensures kinds { IfOk result (λ changed. (arc_value changed.table).kinds ≡ table.now.kinds) }
 {
+    // Asked for what its contract tells: each row has these kinds, and so has its image.
     let _ = table.kinds();
-    let replaced = table.replace(
+    let (count, delta) = table.replace(
         alloc,
         |row| meets(environment, tests, row.values()),
         |row: &Row| -> Result<Row, Refusal<Failure>>
             ensures { let image = plain_image (environment_of environment.entry.now) image.entry.now in
                 Gives (λ new. new) result (image_or_overflow image row.now) }
-        { changed_row(alloc, environment, image, row.values()) },
-    );
-    match replaced {
-        Ok((count, delta)) => Ok(applied(alloc, table, count, &delta)?),
-        Err(refusal) => Err(refusal),
-    }
+        { image_row(alloc, environment, image, row.values()) },
+    )?;
+    Ok(applied(alloc, table, count, &delta)?)
 }

@@ -15,7 +15,7 @@ pub enum RunFault {
     /// The input isn't UTF-8; the place is the first byte of what is ill-formed.
     #[error("E100 at {0}: this isn't UTF-8")]
     NotUtf8(usize),
-    /// The input has more than 16,777,216 bytes.
+    /// The input has more bytes than [`crate::MOST_BYTES`].
     #[error("E105: the input is too long")]
     TooLong,
     /// The input's tokens or its grammar have a fault.
@@ -30,6 +30,7 @@ pub enum RunFault {
     /// The writer failed, or took no byte.
     #[error("E602: the report can't be written")]
     WriteFault,
+    /// Out of memory.
     #[error("E900: out of memory")]
     Memory,
 }
@@ -93,7 +94,7 @@ pub fn status_of(fault: &RunFault) -> u8
     }
 }
 
-/// The line that names a fault, without its end: `E305 at 26`, or `E900` where the fault has no place.
+/// The line that names a fault, without its end: `E302 at 26`, or `E900` where the fault has no place.
 #[derive(Clone, Copy, Debug)]
 pub struct FaultLine(pub RunFault);
 

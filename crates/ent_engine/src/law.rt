@@ -9,14 +9,22 @@ ghost use Rattle.ent_engine.specs.Outcome.{outcome_of, committed, commit_answers
 /// The scripts that commit, run alone in order of their commits, leave the database of the report and give its
 /// answers. Commits are numbered from 1, and each script has one fate.
 pub fn the_report_is_serial()
-    ensures serial { (input : Input) → scripts_run input.opening.tables (committed input.scripts (outcome_of input).fates) (opening_database input.opening)
-        ≡ Some (record { database = (outcome_of input).database; answers = commit_answers (outcome_of input).fates }) }
-    ensures numbered { (input : Input) → commit_numbers (outcome_of input).fates ≡ numbers_from 1 (commit_numbers (outcome_of input).fates) }
+    ensures serial { (input : Input)
+        → let outcome = outcome_of input in
+        let ran = committed input.scripts outcome.fates in
+        scripts_run input.opening.tables ran (opening_database input.opening)
+        ≡ Some (record { database = outcome.database; answers = commit_answers outcome.fates }) }
+    ensures numbered { (input : Input)
+        → let numbers = commit_numbers (outcome_of input).fates in
+        numbers ≡ numbers_from 1 numbers }
     ensures each { (input : Input) → length (outcome_of input).fates ≡ length input.scripts }
 {}
 
 /// Each script of an input has the fate that its own statements and its end give it, over the database that the scripts
 /// before it leave.
 pub fn fates_are_meant()
-    ensures { (input : Input) → HaveFates input.opening.tables input.scripts (opening_database input.opening) (outcome_of input).fates (outcome_of input).database }
+    ensures { (input : Input)
+        → let outcome = outcome_of input in
+        let before = opening_database input.opening in
+        HaveFates input.opening.tables input.scripts before outcome.fates outcome.database }
 {}

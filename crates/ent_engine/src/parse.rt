@@ -8,7 +8,8 @@ ghost use Rattle.ent_form.specs.FirstFault.{first_of, script_fault, unless};
 ghost use Rattle.ent_form.specs.Plain.{plain_script};
 ghost use Rattle.ent_form.specs.PlainMeaning.{schema_kinds};
 ghost use Rattle.ent_engine.specs.Parse.{IsResolved, IsRefusedAs, form_refusal};
-ghost use Rattle.ent_engine.specs.Reading.{IsInput, IsRefused, most_bytes};
+ghost use Rattle.ent_engine.specs.Reading.{IsInput, IsRefused};
+ghost use Rattle.ent_engine.specs.declared.reader.TheConstants.{MOST_BYTES};
 
 use crate::fault::RunFault;
 use ent_form::{Catalogue, FormFault, Plain, resolve};
@@ -27,9 +28,10 @@ pub(crate) struct Resolved {
 
 /// The input that bytes are, or its first fault.
 pub(crate) fn parse(alloc: Global, bytes: &[u8]) -> Result<Resolved, RunFault>
-    requires { length bytes.now ≤ most_bytes }
+    requires { length bytes.now ≤ MOST_BYTES }
     ensures input { IfOk result (λ resolved. IsInput bytes.now resolved.input) }
-    ensures resolved { IfOk result (λ resolved. IsResolved resolved.input resolved.catalogue.tables resolved.scripts.items) }
+    ensures resolved { IfOk result (λ resolved.
+        IsResolved resolved.input resolved.catalogue.tables resolved.scripts.items) }
     ensures refused { IfErr result (λ fault. IsRefusedAs bytes.now fault) }
 {
     let text = match str::from_utf8(bytes) {
@@ -70,7 +72,9 @@ fn resolve_all(
     catalogue: &Catalogue,
     scripts: &[Script],
 ) -> Result<Vec<Plain>, Refusal<FormFault>>
-    ensures exact { Gives (λ plain. plain.items) result (unless (first_of (script_fault catalogue.now.tables) scripts.now) (map (plain_script catalogue.now.tables) scripts.now)) }
+    ensures exact { let tables = catalogue.now.tables in
+        Gives (λ plain. plain.items) result
+        (unless (first_of (script_fault tables) scripts.now) (map (plain_script tables) scripts.now)) }
 {
     let mut resolved = Vec::with_capacity(alloc, scripts.len())?;
     for script in scripts {

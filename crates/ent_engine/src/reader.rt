@@ -1,15 +1,16 @@
 //! An input read whole.
 ghost use Rattle.std.specs.Prelude.{◌≡◌, ◌≤◌, ◌<◌, length, vec_len, IfOk, IfErr, IfSome};
-ghost use Rattle.ent_engine.specs.Reading.{most_bytes};
-ghost use Rattle.ent_engine.specs.Io.{ReadingFails};
+ghost use Rattle.ent_value.specs.Watched.{IsUnmarked};
+ghost use Rattle.ent_engine.specs.declared.reader.TheConstants.{MOST_BYTES};
+ghost use Rattle.ent_engine.specs.Io.{ReadingFails, IsReaderMarkedBy};
 
 use crate::fault::RunFault;
 use ent_value::Watched;
 use std::alloc::{AllocError, Global};
 use std::io::Read;
 
-/// The most bytes of an input.
-const MOST_BYTES: usize = 16_777_216;
+/// The most bytes that an input has.
+pub const MOST_BYTES: usize = 16_777_216;
 
 /// How many bytes are read at once.
 const CHUNK: usize = 65_536;
@@ -25,9 +26,11 @@ pub(crate) fn read_whole<R: Read>(
     alloc: Global,
     reader: &mut Watched<R>,
 ) -> Result<Vec<u8>, RunFault>
+    requires unmarked { IsUnmarked reader.old }
     ensures whole { IfOk result (λ bytes. IfSome (R.remaining reader.old.inner) (λ all. bytes.items ≡ all)) }
-    ensures short { IfOk result (λ bytes. length bytes.items ≤ most_bytes) }
-    ensures fault { IfErr result (λ fault. ReadingFails (R.remaining reader.old.inner) reader.new.failed fault) }
+    ensures short { IfOk result (λ bytes. length bytes.items ≤ MOST_BYTES) }
+    ensures fault { IfErr result (λ fault. ReadingFails (R.remaining reader.old.inner) fault) }
+    ensures marks { IsReaderMarkedBy result reader.new }
 {
     let mut chunk = zeros(alloc, CHUNK)?;
     read_pieces(alloc, reader, chunk.as_mut_slice())
@@ -39,10 +42,12 @@ fn read_pieces<R: Read>(
     reader: &mut Watched<R>,
     buffer: &mut [u8],
 ) -> Result<Vec<u8>, RunFault>
-    requires { 0 < length buffer.old }
+    requires room { 0 < length buffer.old }
+    requires unmarked { IsUnmarked reader.old }
     ensures whole { IfOk result (λ bytes. IfSome (R.remaining reader.old.inner) (λ all. bytes.items ≡ all)) }
-    ensures short { IfOk result (λ bytes. length bytes.items ≤ most_bytes) }
-    ensures fault { IfErr result (λ fault. ReadingFails (R.remaining reader.old.inner) reader.new.failed fault) }
+    ensures short { IfOk result (λ bytes. length bytes.items ≤ MOST_BYTES) }
+    ensures fault { IfErr result (λ fault. ReadingFails (R.remaining reader.old.inner) fault) }
+    ensures marks { IsReaderMarkedBy result reader.new }
 {
     let mut bytes = Vec::new(alloc);
     'reading: loop {

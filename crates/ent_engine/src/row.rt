@@ -1,14 +1,16 @@
 //! Rows that statements put in or show.
 ghost use Rattle.std.specs.Prelude.{◌≡◌, IfOk, map};
+ghost use Rattle.ent_value.specs.Refusal.{Gives};
 ghost use Rattle.ent_form.specs.PlainMeaning.{plain_known_value, plain_row, plain_image};
 ghost use Rattle.ent_engine.specs.Environment.{environment_of};
-ghost use Rattle.ent_engine.specs.Evaluation.{Evaluates};
+ghost use Rattle.ent_engine.specs.Change.{image_or_overflow};
 
 use crate::environment::Environment;
-use crate::term::{TermFault, known_value, operand_expression, operand_value};
+use crate::term::{known_value, operand_expression, operand_value};
 use ent_form::{PlainOperand, PlainValue};
+use ent_semantics::Failure;
 use ent_sql::Expression;
-use ent_value::{Row, Value};
+use ent_value::{Refusal, Row, Value};
 use std::alloc::{AllocError, Global};
 
 /// The row of known values.
@@ -44,14 +46,16 @@ pub(crate) fn item_row(
     Ok(Row::from_vec(values))
 }
 
-/// A row with each column changed to its expression's value, all being worked out over the row as it was.
+/// A row with each column changed to its expression's value, all being worked out over the row as it was; an overflow
+/// where one of them is.
 pub(crate) fn image_row(
     alloc: Global,
     environment: &Environment,
     image: &[Expression<PlainOperand>],
     row: &[Value],
-) -> Result<Row, TermFault>
-    ensures { Evaluates result (plain_image (environment_of environment.now) image.now row.now) }
+) -> Result<Row, Refusal<Failure>>
+    ensures { let image = plain_image (environment_of environment.now) image.now in
+        Gives (λ new. new) result (image_or_overflow image row.now) }
 {
     let mut values = Vec::with_capacity(alloc, image.len())?;
     for expression in image {

@@ -38,7 +38,8 @@ fn run_statements(
     statements: &[PlainStatement],
 ) -> Result<Sequence<Answer>, Refusal<Failure>>
     requires { AllFit (kinds_in tables.old) (kinds_bound (environment_of environment.old)) statements.now }
-    ensures meaning { Gives (λ answers. run_of tables.new answers) result (plain_run statements.now (rows_in tables.old) (environment_of environment.old)) }
+    ensures meaning { Gives (λ answers. run_of tables.new answers) result
+        (plain_run statements.now (rows_in tables.old) (environment_of environment.old)) }
     ensures kinds { kinds_in tables.new ≡ kinds_in tables.old }
     ensures undone { rolled_back (tx ∷ []) log.new tables.new ≡ rolled_back (tx ∷ []) log.old tables.old }
     ensures others { of_others (tx ∷ []) log.new ≡ of_others (tx ∷ []) log.old }
@@ -61,7 +62,8 @@ fn run_script(
 ) -> Result<Ending, AllocError>
     requires fits { AllFit (kinds_in tables.old) none_bound script.now.statements }
     requires unnoted { log.old ≡ [] }
-    ensures ending { IfOk result (λ ending. EndsAs ending script.now.end (plain_run script.now.statements (rows_in tables.old) nothing_bound) tables.old tables.new) }
+    ensures ending { let run = plain_run script.now.statements (rows_in tables.old) nothing_bound in
+        IfOk result (λ ending. EndsAs ending script.now.end run tables.old tables.new) }
     ensures kinds { kinds_in tables.new ≡ kinds_in tables.old }
     ensures err { OnErr result (tables.new ≡ tables.old) }
     ensures unnoted { log.new ≡ [] }

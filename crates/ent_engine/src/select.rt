@@ -54,7 +54,9 @@ fn item_rows(
     tests: &[PlainTest],
     rows: &[&Row],
 ) -> Result<Vec<Row>, AllocError>
-    ensures { IfOk result (λ found. found.items ≡ map (plain_row (environment_of environment.now) items.now) (filter (plain_meets (environment_of environment.now) tests.now) (map (λ row. row.now) rows.now))) }
+    ensures { let bound = environment_of environment.now in
+        let met = filter (plain_meets bound tests.now) (map (λ row. row.now) rows.now) in
+        IfOk result (λ found. found.items ≡ map (plain_row bound items.now) met) }
 {
     let mut found = Vec::new(alloc);
     for row in rows {
@@ -82,7 +84,8 @@ pub(crate) fn select(
     items: &[PlainOperand],
     tests: &[PlainTest],
 ) -> Result<Sequence<Row>, AllocError>
-    ensures { IfOk result (λ rows. rows ≡ set.ascending (plain_selection (environment_of environment.now) items.now tests.now table.now.rows)) }
+    ensures { let bound = environment_of environment.now in
+        IfOk result (λ rows. rows ≡ set.ascending (plain_selection bound items.now tests.now table.now.rows)) }
 {
     let rows = table.ascending(alloc)?;
     let found = item_rows(alloc, environment, items, tests, rows.as_slice())?;

@@ -9,11 +9,11 @@ ghost use Rattle.ent_form.specs.PlainMeaning.{Fits, kinds_bound, plain_bound_aft
 ghost use Rattle.ent_engine.specs.Environment.{environment_of};
 ghost use Rattle.ent_engine.specs.Tables.{kinds_in, rows_in, effect};
 
-use crate::change::{Changed, deleted, inserted, term_refusal, updated};
+use crate::change::{Changed, deleted, inserted, updated};
 use crate::environment::Environment;
 use crate::select::select;
 use crate::term::known_expression;
-use ent_form::{PlainStatement, PlainValue};
+use ent_form::{PlainStatement, PlainValue, resolved_keeps_kinds};
 use ent_rel::Table;
 use ent_semantics::{Answer, Failure};
 use ent_sql::Expression;
@@ -68,9 +68,11 @@ impl Tables {
         statement: &PlainStatement,
     ) -> Result<Answer, Refusal<Failure>>
         requires { Fits (kinds_in self.old) (kinds_bound (environment_of environment.old)) statement.now }
-        ensures meaning { Gives (λ answer. effect self.new (environment_of environment.new) answer) result (plain_meaning (rows_in self.old) (environment_of environment.old) statement.now) }
+        ensures meaning { Gives (λ answer. effect self.new (environment_of environment.new) answer) result
+            (plain_meaning (rows_in self.old) (environment_of environment.old) statement.now) }
         ensures kinds { kinds_in self.new ≡ kinds_in self.old }
-        ensures bound { OnOk result (kinds_bound (environment_of environment.new) ≡ plain_bound_after (kinds_bound (environment_of environment.old)) statement.now) }
+        ensures bound { OnOk result (kinds_bound (environment_of environment.new)
+            ≡ plain_bound_after (kinds_bound (environment_of environment.old)) statement.now) }
         ensures err { OnErr result (self.new ≡ self.old) }
         ensures undone { rolled_back (tx ∷ []) log.new self.new ≡ rolled_back (tx ∷ []) log.old self.old }
         ensures others { of_others (tx ∷ []) log.new ≡ of_others (tx ∷ []) log.old }
@@ -130,9 +132,11 @@ fn put(
 ) -> Result<Answer, Refusal<Failure>>
     requires { table < length tables.old }
     ensures answer { Gives (λ answer. answer) result (Ok (answers.Count changed.count)) }
-    ensures tables { OnOk result (map arc_value tables.new ≡ slice_set (map arc_value tables.old) table (arc_value changed.table)) }
+    ensures tables { OnOk result
+        (map arc_value tables.new ≡ slice_set (map arc_value tables.old) table (arc_value changed.table)) }
     ensures err { OnErr result (map arc_value tables.new ≡ map arc_value tables.old) }
-    ensures undone { rolled_back (tx ∷ []) log.new (map arc_value tables.new) ≡ rolled_back (tx ∷ []) log.old (map arc_value tables.old) }
+    ensures undone { rolled_back (tx ∷ []) log.new (map arc_value tables.new)
+        ≡ rolled_back (tx ∷ []) log.old (map arc_value tables.old) }
     ensures others { of_others (tx ∷ []) log.new ≡ of_others (tx ∷ []) log.old }
 {
     let before = mem::replace(&mut tables[table], changed.table);
@@ -152,15 +156,17 @@ fn set(
     variable: &Name,
     expression: &Expression<PlainValue>,
 ) -> Result<Answer, Refusal<Failure>>
-    ensures meaning { (tables : List Relation) → Gives (λ answer. effect tables (environment_of environment.new) answer) result
-        (plain_meaning (rows_in tables) (environment_of environment.old) (PlainStatement.Set variable.now expression.now)) }
-    ensures bound { OnOk result (kinds_bound (environment_of environment.new)
-        ≡ plain_bound_after (kinds_bound (environment_of environment.old)) (PlainStatement.Set variable.now expression.now)) }
+    ensures meaning { (tables : List Relation)
+        → let statement = PlainStatement.Set variable.now expression.now in
+        Gives (λ answer. effect tables (environment_of environment.new) answer) result
+        (plain_meaning (rows_in tables) (environment_of environment.old) statement) }
+    ensures bound { let statement = PlainStatement.Set variable.now expression.now in
+        OnOk result (kinds_bound (environment_of environment.new)
+        ≡ plain_bound_after (kinds_bound (environment_of environment.old)) statement) }
 {
-    let value = match known_expression(alloc, environment, expression) {
-        Ok(value) => value,
-        Err(fault) => return Err(term_refusal(fault)),
-    };
+    // What the value's kind is.
+    resolved_keeps_kinds();
+    let value = known_expression(alloc, environment, expression)?;
     environment.bind(variable.copy(alloc)?, value.copy(alloc)?)?;
     Ok(Answer::Value(value))
 }

@@ -1,40 +1,17 @@
 //! What values, operands and expressions are worth.
 ghost use Rattle.std.specs.Prelude.{◌≡◌, ◌+ℤ◌, ◌-ℤ◌};
+ghost use Rattle.ent_value.specs.Refusal.{Gives};
 ghost use Rattle.ent_semantics.specs.Term.{no_value, number_of, in_64_bits, expression_value};
 ghost use Rattle.ent_form.specs.PlainMeaning.{plain_known_value, plain_value};
 ghost use Rattle.ent_engine.specs.Environment.{environment_of};
-ghost use Rattle.ent_engine.specs.Evaluation.{Evaluates};
-ghost use Rattle.ent_engine.specs.declared.term.TermFault.TheVariants.{Memory};
+ghost use Rattle.ent_engine.specs.Evaluation.{there_or_overflow};
 
 use crate::environment::Environment;
 use ent_form::{PlainOperand, PlainValue};
+use ent_semantics::Failure;
 use ent_sql::Expression;
-use ent_value::Value;
-use std::alloc::{AllocError, AllocFailed, Global};
-
-/// Why a term or an image isn't worked out.
-#[derive(Drop)]
-pub(crate) enum TermFault {
-    Memory,
-    /// A sum or a difference is beyond 64 bits.
-    Overflow,
-}
-
-impl From<AllocError> for TermFault {
-    ghost from_gives = { λ _ fault. fault ≡ Memory };
-
-    fn from(_: AllocError) -> Self {
-        TermFault::Memory
-    }
-}
-
-impl<T: Drop> From<AllocFailed<T>> for TermFault {
-    ghost from_gives = { λ _ fault. fault ≡ Memory };
-
-    fn from(_: AllocFailed<T>) -> Self {
-        TermFault::Memory
-    }
-}
+use ent_value::{Refusal, Value};
+use std::alloc::Global;
 
 /// The value that is written, or that a host variable has; one that isn't bound stands for `none`.
 pub(crate) fn known_value<'a>(
@@ -67,7 +44,7 @@ pub(crate) fn operand_value<'a>(
     }
 }
 
-/// The number that a value is. No statement that is resolved adds or subtracts a text.
+/// The number that a value is; a text, which is of the wrong kind for a sum or a difference, counts as 0.
 fn number_of(value: &Value) -> i64
     ensures { result ≡ number_of value.now }
 {
@@ -77,21 +54,23 @@ fn number_of(value: &Value) -> i64
     }
 }
 
-fn sum(left: &Value, right: &Value) -> Result<Value, TermFault>
-    ensures { Evaluates result (in_64_bits (number_of left.now +ℤ number_of right.now)) }
+fn sum(left: &Value, right: &Value) -> Result<Value, Refusal<Failure>>
+    ensures { Gives (λ value. value) result
+        (there_or_overflow (in_64_bits (number_of left.now +ℤ number_of right.now))) }
 {
     match number_of(left).checked_add(number_of(right)) {
         Some(number) => Ok(Value::Int(number)),
-        None => Err(TermFault::Overflow),
+        None => Err(Refusal::Fault(Failure::Overflow)),
     }
 }
 
-fn difference(left: &Value, right: &Value) -> Result<Value, TermFault>
-    ensures { Evaluates result (in_64_bits (number_of left.now -ℤ number_of right.now)) }
+fn difference(left: &Value, right: &Value) -> Result<Value, Refusal<Failure>>
+    ensures { Gives (λ value. value) result
+        (there_or_overflow (in_64_bits (number_of left.now -ℤ number_of right.now))) }
 {
     match number_of(left).checked_sub(number_of(right)) {
         Some(number) => Ok(Value::Int(number)),
-        None => Err(TermFault::Overflow),
+        None => Err(Refusal::Fault(Failure::Overflow)),
     }
 }
 
@@ -100,8 +79,9 @@ pub(crate) fn known_expression(
     alloc: Global,
     environment: &Environment,
     expression: &Expression<PlainValue>,
-) -> Result<Value, TermFault>
-    ensures { Evaluates result (expression_value (plain_known_value (environment_of environment.now)) expression.now) }
+) -> Result<Value, Refusal<Failure>>
+    ensures { let known = plain_known_value (environment_of environment.now) in
+        Gives (λ value. value) result (there_or_overflow (expression_value known expression.now)) }
 {
     let none = Value::Int(0);
     match expression {
@@ -123,8 +103,9 @@ pub(crate) fn operand_expression(
     environment: &Environment,
     row: &[Value],
     expression: &Expression<PlainOperand>,
-) -> Result<Value, TermFault>
-    ensures { Evaluates result (expression_value (plain_value (environment_of environment.now) row.now) expression.now) }
+) -> Result<Value, Refusal<Failure>>
+    ensures { let value = plain_value (environment_of environment.now) row.now in
+        Gives (λ value. value) result (there_or_overflow (expression_value value expression.now)) }
 {
     let none = Value::Int(0);
     match expression {

@@ -2,5 +2,4 @@ mod Bindings
 mod Cuts
 mod Heads
 mod Membership
-mod Names
 mod Stands

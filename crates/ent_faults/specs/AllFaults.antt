@@ -30,7 +30,8 @@ use Rattle.ent_form.specs.declared.fault.FormFault.{FormFault}
 use Rattle.ent_form.specs.declared.fault.FormFault.TheVariants.{NoTable, NoColumn, Arity, WrongKind, Repeated}
 use Rattle.ent_form.specs.Catalogue.{schemas_of, table_named, column_kind, is_among}
 use Rattle.ent_form.specs.FirstFault.{Check}
-use Rattle.ent_form.specs.Kinds.{Bound, Lookup, same_kind, none_bound, values_in, operands_in, operand_kind, operand_place, expression_kind, expression_place, bound_after}
+use Rattle.ent_form.specs.Kinds.{Bound, Lookup, same_kind, none_bound, values_in, operands_in, operand_kind}
+use Rattle.ent_form.specs.Kinds.{operand_place, expression_kind, expression_place, bound_after}
 
 abbrev pub head_of : List FormFault → Check
 head_of [] = None
@@ -48,7 +49,8 @@ faults_at None fault faults = fault ∷ []
 abbrev pub repeated_names : List Name → List Identifier → List FormFault
 repeated_names earlier [] = []
 repeated_names earlier (identifier ∷ more) =
-    faults_where (is_among earlier identifier.name) (Repeated identifier.place) ++ repeated_names (earlier ++ identifier.name ∷ []) more
+    faults_where (is_among earlier identifier.name) (Repeated identifier.place)
+    ++ repeated_names (earlier ++ identifier.name ∷ []) more
 
 -- table by table: its name, then those of its columns
 abbrev pub declarations_faults : List Name → List Create → List FormFault
@@ -63,36 +65,44 @@ abbrev pub literals_faults : List ColumnSchema → List Literal → List FormFau
 literals_faults [] literals = []
 literals_faults (column ∷ columns) [] = []
 literals_faults (column ∷ columns) (literal ∷ literals) =
-    faults_where (not (same_kind column.kind (kind_of literal.value))) (WrongKind literal.place) ++ literals_faults columns literals
+    faults_where (not (same_kind column.kind (kind_of literal.value))) (WrongKind literal.place)
+    ++ literals_faults columns literals
 
 abbrev pub row_faults : TableSchema → OpeningRow → List FormFault
-row_faults table row = faults_where (not (length row.values == length table.columns)) (Arity row.place) ++ literals_faults table.columns row.values
+row_faults table row =
+    faults_where (not (length row.values == length table.columns)) (Arity row.place)
+    ++ literals_faults table.columns row.values
 
 abbrev pub opening_row_faults : List TableSchema → OpeningRow → List FormFault
-opening_row_faults tables row = faults_at (table_named tables row.table.name) (NoTable row.table.place) (λ table. row_faults table row)
+opening_row_faults tables row =
+    faults_at (table_named tables row.table.name) (NoTable row.table.place) (λ table. row_faults table row)
 
 abbrev pub term_faults : {A : Type 0} → Lookup A → A → List FormFault
 term_faults lookup term = faults_at (lookup.kind term) (lookup.missing term) (λ kind. [])
 
 abbrev pub kind_faults : {A : Type 0} → Lookup A → Kind → A → List FormFault
 kind_faults lookup wanted term =
-    faults_at (lookup.kind term) (lookup.missing term) (λ kind. faults_where (not (same_kind wanted kind)) (WrongKind (lookup.place term)))
+    faults_at (lookup.kind term) (lookup.missing term)
+    (λ kind. faults_where (not (same_kind wanted kind)) (WrongKind (lookup.place term)))
 
 abbrev pub expression_faults : {A : Type 0} → Lookup A → Expression A → List FormFault
 expression_faults lookup (Single term) = term_faults lookup term
 expression_faults lookup (Sum left right) = kind_faults lookup kinds.Int left ++ kind_faults lookup kinds.Int right
-expression_faults lookup (Difference left right) = kind_faults lookup kinds.Int left ++ kind_faults lookup kinds.Int right
+expression_faults lookup (Difference left right) =
+    kind_faults lookup kinds.Int left ++ kind_faults lookup kinds.Int right
 
 -- values and columns side by side
 abbrev pub values_faults : Bound → List ColumnSchema → List ValueSpecification → List FormFault
 values_faults bound [] values = []
 values_faults bound (column ∷ columns) [] = []
-values_faults bound (column ∷ columns) (value ∷ values) = kind_faults (values_in bound) column.kind value ++ values_faults bound columns values
+values_faults bound (column ∷ columns) (value ∷ values) =
+    kind_faults (values_in bound) column.kind value ++ values_faults bound columns values
 
 abbrev pub insert_faults : List TableSchema → Bound → Insert → List FormFault
 insert_faults tables bound insert =
     faults_at (table_named tables insert.table.name) (NoTable insert.table.place) (λ table.
-    faults_where (not (length insert.values == length table.columns)) (Arity insert.place) ++ values_faults bound table.columns insert.values)
+    faults_where (not (length insert.values == length table.columns)) (Arity insert.place)
+    ++ values_faults bound table.columns insert.values)
 
 -- kinds are compared where both are known
 abbrev pub kinds_faults : Option Kind → Option Kind → ℕ → List FormFault
@@ -104,7 +114,8 @@ abbrev pub test_faults : List ColumnSchema → Bound → Test → List FormFault
 test_faults columns bound test =
     term_faults (operands_in columns bound) test.left
     ++ (term_faults (operands_in columns bound) test.right
-    ++ kinds_faults (operand_kind columns bound test.left) (operand_kind columns bound test.right) (operand_place test.right))
+    ++ kinds_faults (operand_kind columns bound test.left) (operand_kind columns bound test.right)
+    (operand_place test.right))
 
 abbrev pub items_faults : List ColumnSchema → Bound → Items → List FormFault
 items_faults columns bound items.All = []
@@ -119,7 +130,8 @@ select_faults tables bound select =
 -- the table, then WHERE
 abbrev pub delete_faults : List TableSchema → Bound → Delete → List FormFault
 delete_faults tables bound delete =
-    faults_at (table_named tables delete.table.name) (NoTable delete.table.place) (λ table. flat_map (test_faults table.columns bound) delete.tests)
+    faults_at (table_named tables delete.table.name) (NoTable delete.table.place)
+    (λ table. flat_map (test_faults table.columns bound) delete.tests)
 
 -- what is assigned to a column that is there
 abbrev pub assignment_faults : List ColumnSchema → Bound → List Name → Assignment → List FormFault
@@ -127,18 +139,21 @@ assignment_faults columns bound earlier assignment =
     faults_at (column_kind columns assignment.column.name) (NoColumn assignment.column.place) (λ kind.
     faults_where (is_among earlier assignment.column.name) (Repeated assignment.column.place)
     ++ (expression_faults (operands_in columns bound) assignment.expression
-    ++ kinds_faults (Some kind) (expression_kind (operands_in columns bound) assignment.expression) (expression_place (operands_in columns bound) assignment.expression)))
+    ++ kinds_faults (Some kind) (expression_kind (operands_in columns bound) assignment.expression)
+    (expression_place (operands_in columns bound) assignment.expression)))
 
 abbrev pub assignments_faults : List ColumnSchema → Bound → List Name → List Assignment → List FormFault
 assignments_faults columns bound earlier [] = []
 assignments_faults columns bound earlier (assignment ∷ more) =
-    assignment_faults columns bound earlier assignment ++ assignments_faults columns bound (earlier ++ assignment.column.name ∷ []) more
+    assignment_faults columns bound earlier assignment
+    ++ assignments_faults columns bound (earlier ++ assignment.column.name ∷ []) more
 
 -- the table, then WHERE, then the assignments
 abbrev pub update_faults : List TableSchema → Bound → Update → List FormFault
 update_faults tables bound update =
     faults_at (table_named tables update.table.name) (NoTable update.table.place) (λ table.
-    flat_map (test_faults table.columns bound) update.tests ++ assignments_faults table.columns bound [] update.assignments)
+    flat_map (test_faults table.columns bound) update.tests
+    ++ assignments_faults table.columns bound [] update.assignments)
 
 abbrev pub statement_faults : List TableSchema → Bound → Statement → List FormFault
 statement_faults tables bound (statements.Insert insert) = insert_faults tables bound insert
@@ -150,11 +165,13 @@ statement_faults tables bound (statements.Select select) = select_faults tables 
 -- each statement with what those before it bind
 abbrev pub statements_faults : List TableSchema → Bound → List Statement → List FormFault
 statements_faults tables bound [] = []
-statements_faults tables bound (statement ∷ more) = statement_faults tables bound statement ++ statements_faults tables (bound_after bound statement) more
+statements_faults tables bound (statement ∷ more) =
+    statement_faults tables bound statement ++ statements_faults tables (bound_after bound statement) more
 
 abbrev pub script_faults : List TableSchema → Script → List FormFault
 script_faults tables script = statements_faults tables none_bound script.statements
 
 -- declarations, then opening rows
 abbrev pub opening_faults : Opening → List FormFault
-opening_faults opening = declarations_faults [] opening.tables ++ flat_map (opening_row_faults (schemas_of opening.tables)) opening.rows
+opening_faults opening =
+    declarations_faults [] opening.tables ++ flat_map (opening_row_faults (schemas_of opening.tables)) opening.rows

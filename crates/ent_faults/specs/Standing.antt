@@ -29,15 +29,18 @@ use Rattle.ent_semantics.specs.Database.{Name}
 use Rattle.ent_form.specs.declared.catalogue.ColumnSchema.{ColumnSchema}
 use Rattle.ent_form.specs.declared.catalogue.TableSchema.{TableSchema}
 use Rattle.ent_form.specs.declared.fault.FormFault.{FormFault}
-use Rattle.ent_form.specs.declared.fault.FormFault.TheVariants.{NoTable, NoColumn, Arity, WrongKind, NoHostVariable, Repeated}
+use Rattle.ent_form.specs.declared.fault.FormFault.TheVariants.{NoTable, NoColumn, Arity, WrongKind, NoHostVariable}
+use Rattle.ent_form.specs.declared.fault.FormFault.TheVariants.{Repeated}
 use Rattle.ent_form.specs.Catalogue.{schemas_of, table_named, names_of, column_names, column_kind}
-use Rattle.ent_form.specs.Kinds.{Bound, Lookup, none_bound, values_in, operands_in, operand_kind, operand_place, expression_kind, expression_place, bound_by}
+use Rattle.ent_form.specs.Kinds.{Bound, Lookup, none_bound, values_in, operands_in, operand_kind, operand_place}
+use Rattle.ent_form.specs.Kinds.{expression_kind, expression_place, bound_by}
 
 -- a name stands a second time among these
 abbrev pub IsRepetition : List Identifier → FormFault → Type 0
 IsRepetition identifiers fault =
     (before : List Identifier) × (second : Identifier) × (after : List Identifier)
-    × (identifiers ≡ before ++ second ∷ after) × Contains (map (λ first. first.name) before) second.name × (fault ≡ Repeated second.place)
+    × (identifiers ≡ before ++ second ∷ after) × Contains (map (λ first. first.name) before) second.name
+    × (fault ≡ Repeated second.place)
 
 -- a table is declared twice, or a column within its table
 abbrev pub IsDeclarationFault : List Create → FormFault → Type 0
@@ -49,7 +52,8 @@ IsDeclarationFault creates fault =
 abbrev pub IsRowFault : TableSchema → OpeningRow → FormFault → Type 0
 IsRowFault table row fault =
     (¬ (length row.values ≡ length table.columns) × (fault ≡ Arity row.place))
-    ⊎ Any (λ side. ¬ (side.0.kind ≡ kind_of side.1.value) × (fault ≡ WrongKind side.1.place)) (zip table.columns row.values)
+    ⊎ Any (λ side. ¬ (side.0.kind ≡ kind_of side.1.value) × (fault ≡ WrongKind side.1.place))
+    (zip table.columns row.values)
 
 -- no table has the name of what stands there, or there is a fault in what is said of the table
 abbrev pub IsTableFault : List TableSchema → Identifier → (TableSchema → Type 0) → FormFault → Type 0
@@ -63,25 +67,30 @@ IsOpeningRowFault tables row fault = IsTableFault tables row.table (λ table. Is
 -- a host variable that isn't bound
 abbrev pub IsValueFault : Bound → ValueSpecification → FormFault → Type 0
 IsValueFault bound (specifications.Literal literal) fault = ⊥
-IsValueFault bound (specifications.HostVariable variable) fault = (bound variable.name ≡ None) × (fault ≡ NoHostVariable variable.place)
+IsValueFault bound (specifications.HostVariable variable) fault =
+    (bound variable.name ≡ None) × (fault ≡ NoHostVariable variable.place)
 
 -- a term of another kind than is wanted
 abbrev pub IsOfWrongKind : {A : Type 0} → Lookup A → Kind → A → FormFault → Type 0
-IsOfWrongKind lookup wanted term fault = (kind : Kind) × (lookup.kind term ≡ Some kind) × ¬ (wanted ≡ kind) × (fault ≡ WrongKind (lookup.place term))
+IsOfWrongKind lookup wanted term fault =
+    (kind : Kind) × (lookup.kind term ≡ Some kind) × ¬ (wanted ≡ kind) × (fault ≡ WrongKind (lookup.place term))
 
 -- another number of values than the table has columns, a host variable that isn't bound, or a value of another kind
 abbrev pub IsValuesFault : Bound → TableSchema → Insert → FormFault → Type 0
 IsValuesFault bound table insert fault =
     (¬ (length insert.values ≡ length table.columns) × (fault ≡ Arity insert.place))
-    ⊎ Any (λ side. IsValueFault bound side.1 fault ⊎ IsOfWrongKind (values_in bound) side.0.kind side.1 fault) (zip table.columns insert.values)
+    ⊎ Any (λ side. IsValueFault bound side.1 fault ⊎ IsOfWrongKind (values_in bound) side.0.kind side.1 fault)
+    (zip table.columns insert.values)
 
 abbrev pub IsInsertFault : List TableSchema → Bound → Insert → FormFault → Type 0
-IsInsertFault tables bound insert fault = IsTableFault tables insert.table (λ table. IsValuesFault bound table insert fault) fault
+IsInsertFault tables bound insert fault =
+    IsTableFault tables insert.table (λ table. IsValuesFault bound table insert fault) fault
 
 -- a host variable that isn't bound, or a column that the table doesn't have
 abbrev pub IsOperandFault : List ColumnSchema → Bound → Operand → FormFault → Type 0
 IsOperandFault columns bound (operands.Value value) fault = IsValueFault bound value fault
-IsOperandFault columns bound (operands.Column column) fault = ¬ Contains (column_names columns) column.name × (fault ≡ NoColumn column.place)
+IsOperandFault columns bound (operands.Column column) fault =
+    ¬ Contains (column_names columns) column.name × (fault ≡ NoColumn column.place)
 
 -- the two kinds are known, and differ
 abbrev pub Differ : Option Kind → Option Kind → Type 0
@@ -92,19 +101,25 @@ abbrev pub IsTestFault : List ColumnSchema → Bound → Test → FormFault → 
 IsTestFault columns bound test fault =
     IsOperandFault columns bound test.left fault
     ⊎ (IsOperandFault columns bound test.right fault
-    ⊎ (Differ (operand_kind columns bound test.left) (operand_kind columns bound test.right) × (fault ≡ WrongKind (operand_place test.right))))
+    ⊎ (Differ (operand_kind columns bound test.left) (operand_kind columns bound test.right)
+    × (fault ≡ WrongKind (operand_place test.right))))
 
 abbrev pub IsItemFault : List ColumnSchema → Bound → Items → FormFault → Type 0
 IsItemFault columns bound items.All fault = ⊥
-IsItemFault columns bound (items.Listed listed) fault = Any (λ operand. IsOperandFault columns bound operand fault) listed
+IsItemFault columns bound (items.Listed listed) fault =
+    Any (λ operand. IsOperandFault columns bound operand fault) listed
 
 -- no table has the source's name, or a test or an item doesn't fit the table
 abbrev pub IsSelectFault : List TableSchema → Bound → Select → FormFault → Type 0
 IsSelectFault tables bound select fault =
-    IsTableFault tables select.source (λ table. Any (λ test. IsTestFault table.columns bound test fault) select.tests ⊎ IsItemFault table.columns bound select.items fault) fault
+    IsTableFault tables select.source (λ table.
+    Any (λ test. IsTestFault table.columns bound test fault) select.tests
+    ⊎ IsItemFault table.columns bound select.items fault) fault
 
 abbrev pub IsDeleteFault : List TableSchema → Bound → Delete → FormFault → Type 0
-IsDeleteFault tables bound delete fault = IsTableFault tables delete.table (λ table. Any (λ test. IsTestFault table.columns bound test fault) delete.tests) fault
+IsDeleteFault tables bound delete fault =
+    IsTableFault tables delete.table (λ table.
+    Any (λ test. IsTestFault table.columns bound test fault) delete.tests) fault
 
 -- a term isn't there, or a text stands beside `+` or `-`
 abbrev pub IsExpressionFault : {A : Type 0} → Lookup A → (A → FormFault → Type 0) → Expression A → FormFault → Type 0
@@ -123,30 +138,36 @@ IsAssignmentFault columns bound earlier assignment fault =
     ⊎ (Contains (column_names columns) assignment.column.name
     × ((Contains earlier assignment.column.name × (fault ≡ Repeated assignment.column.place))
     ⊎ (IsExpressionFault lookup (IsOperandFault columns bound) assignment.expression fault
-    ⊎ (Differ (column_kind columns assignment.column.name) (expression_kind lookup assignment.expression) × (fault ≡ WrongKind (expression_place lookup assignment.expression))))))
+    ⊎ (Differ (column_kind columns assignment.column.name) (expression_kind lookup assignment.expression)
+    × (fault ≡ WrongKind (expression_place lookup assignment.expression))))))
 
 -- one of the assignments has a fault, those before it being these
 abbrev pub IsAssignmentsFault : List ColumnSchema → Bound → List Assignment → FormFault → Type 0
 IsAssignmentsFault columns bound assignments fault =
     (before : List Assignment) × (assignment : Assignment) × (after : List Assignment)
-    × (assignments ≡ before ++ assignment ∷ after) × IsAssignmentFault columns bound (map (λ earlier. earlier.column.name) before) assignment fault
+    × (assignments ≡ before ++ assignment ∷ after)
+    × IsAssignmentFault columns bound (map (λ earlier. earlier.column.name) before) assignment fault
 
 abbrev pub IsUpdateFault : List TableSchema → Bound → Update → FormFault → Type 0
 IsUpdateFault tables bound update fault =
-    IsTableFault tables update.table (λ table. Any (λ test. IsTestFault table.columns bound test fault) update.tests ⊎ IsAssignmentsFault table.columns bound update.assignments fault) fault
+    IsTableFault tables update.table (λ table.
+    Any (λ test. IsTestFault table.columns bound test fault) update.tests
+    ⊎ IsAssignmentsFault table.columns bound update.assignments fault) fault
 
 abbrev pub IsStatementFault : List TableSchema → Bound → Statement → FormFault → Type 0
 IsStatementFault tables bound (statements.Insert insert) fault = IsInsertFault tables bound insert fault
 IsStatementFault tables bound (statements.Delete delete) fault = IsDeleteFault tables bound delete fault
 IsStatementFault tables bound (statements.Update update) fault = IsUpdateFault tables bound update fault
-IsStatementFault tables bound (statements.Set setting) fault = IsExpressionFault (values_in bound) (IsValueFault bound) setting.expression fault
+IsStatementFault tables bound (statements.Set setting) fault =
+    IsExpressionFault (values_in bound) (IsValueFault bound) setting.expression fault
 IsStatementFault tables bound (statements.Select select) fault = IsSelectFault tables bound select fault
 
 -- one of the statements has a fault, with what those before it bind
 abbrev pub IsScriptFault : List TableSchema → Script → FormFault → Type 0
 IsScriptFault tables script fault =
     (before : List Statement) × (statement : Statement) × (after : List Statement)
-    × (script.statements ≡ before ++ statement ∷ after) × IsStatementFault tables (bound_by none_bound before) statement fault
+    × (script.statements ≡ before ++ statement ∷ after)
+    × IsStatementFault tables (bound_by none_bound before) statement fault
 
 -- a SET of this host variable
 abbrev pub Sets : Name → Statement → Type 0
@@ -157,4 +178,6 @@ Sets name (statements.Set setting) = setting.variable.name ≡ name
 Sets name (statements.Select select) = ⊥
 
 abbrev pub IsOpeningFault : Opening → FormFault → Type 0
-IsOpeningFault opening fault = IsDeclarationFault opening.tables fault ⊎ Any (λ row. IsOpeningRowFault (schemas_of opening.tables) row fault) opening.rows
+IsOpeningFault opening fault =
+    IsDeclarationFault opening.tables fault
+    ⊎ Any (λ row. IsOpeningRowFault (schemas_of opening.tables) row fault) opening.rows

@@ -33,5 +33,6 @@ pub fn faults_are_those_that_stand()
 
 /// A host variable isn't bound exactly where no earlier statement of the script sets it.
 pub fn unbound_is_unset()
-    ensures { (before : List Statement) (name : Name) → ((bound_by none_bound before name ≡ None) ↔ ¬ (Any (Sets name) before)) }
+    ensures { (before : List Statement) (name : Name)
+        → ((bound_by none_bound before name ≡ None) ↔ ¬ (Any (Sets name) before)) }
 {}

@@ -4,10 +4,11 @@ use Rattle.std.specs.Prelude.{slice_set, if◌then◌else◌}
 use Rattle.ent_semantics.specs.Database.{Name, Rows, same_name, with_rows}
 use Rattle.ent_form.specs.Catalogue.{index_of}
 use Rattle.ent_form.specs.PlainMeaning.{table_rows, database_of}
-use Rattle.ent_form.proofs.Names.{equal_names, names_turned}
+use Rattle.ent_semantics.specs.Names.{equal_names, names_turned}
 
 -- a name's rows are those of its number
-pub database_at : (names : List Name) (tables : List Rows) (name : Name) → length tables ≡ length names → database_of names tables name ≡ table_rows tables (index_of names name)
+pub database_at : (names : List Name) (tables : List Rows) (name : Name) → length tables ≡ length names
+    → database_of names tables name ≡ table_rows tables (index_of names name)
 database_at [] [] name l = refl
 database_at [] (rows ∷ tables) name l = absurd (omega arith)
 database_at (first ∷ names) [] name l = absurd (omega arith)
@@ -23,7 +24,9 @@ choice false true x y e = cc
 choice false false x y e = refl
 
 -- other rows under a name are other rows at its number
-pub database_set : (names : List Name) (tables : List Rows) (name : Name) (new : Rows) (other : Name) → length tables ≡ length names → index_of names name < length tables → with_rows (database_of names tables) name new other ≡ database_of names (slice_set tables (index_of names name) new) other
+pub database_set : (names : List Name) (tables : List Rows) (name : Name) (new : Rows) (other : Name)
+    → length tables ≡ length names → index_of names name < length tables
+    → with_rows (database_of names tables) name new other ≡ database_of names (slice_set tables (index_of names name) new) other
 database_set [] [] name new other l here = absurd (omega arith)
 database_set [] (rows ∷ tables) name new other l here = absurd (omega arith)
 database_set (first ∷ names) [] name new other l here = absurd (omega arith)
@@ -37,13 +40,15 @@ database_set (first ∷ names) (rows ∷ tables) name new other l here =
     rest : Rows
     rest = database_of names tables other
 
-    at_first : same_name first name ≡ true → (if same_name other name then new else (if same_name first other then rows else rest)) ≡ (if same_name first other then new else rest)
+    at_first : same_name first name ≡ true
+        → (if same_name other name then new else (if same_name first other then rows else rest)) ≡ (if same_name first other then new else rest)
     at_first e =
         let same : same_name other name ≡ same_name first other = ap (same_name other) (sym (equal_names first name e)) ∙ names_turned other first in
         ap (λ (b : Bool). if b then new else (if same_name first other then rows else rest)) same
         ∙ elim (same_name first other) as (λ b. (if b then new else (if b then rows else rest)) ≡ (if b then new else rest)) [ true ↦ refl | false ↦ refl ]
 
-    behind : same_name first name ≡ false → {put : Rows} → (if same_name other name then new else rest) ≡ put → (if same_name other name then new else (if same_name first other then rows else rest)) ≡ (if same_name first other then rows else put)
+    behind : same_name first name ≡ false → {put : Rows} → (if same_name other name then new else rest) ≡ put
+        → (if same_name other name then new else (if same_name first other then rows else rest)) ≡ (if same_name first other then rows else put)
     behind e {put} so =
         elim (same_name first other) as (λ b. same_name first other ≡ b → (if same_name other name then new else (if b then rows else rest)) ≡ (if b then rows else put)) [
           | true ↦ λ same. let differs : same_name other name ≡ false = ap (λ x. same_name x name) (sym (equal_names first other same)) ∙ e in ap (λ (b : Bool). if b then new else rows) differs

@@ -1,10 +1,13 @@
 -- Rows of tables whose rows have the kinds of their columns.
-use Rattle.std.proofs.Common.{◌≡◌, ℕ, zero, suc, ◌<◌, Bool, true, false, not, ◌&&◌, ◌||◌, List, [], ◌∷◌, length, map, Option, Some, None, Result, Ok, Err, refl, sym, ap, subst, ◌∙◌, arith}
-use Rattle.std.specs.Prelude.{ℤ, ◌+ℤ◌, ◌-ℤ◌, is_some, slice_get, slice_index_or, slice_set, unwrap_or, IfOk, nat_le, if◌then◌else◌}
+use Rattle.std.proofs.Common.{◌≡◌, ℕ, zero, suc, ◌<◌, Bool, true, false, not, ◌&&◌, ◌||◌, List, [], ◌∷◌, length, map}
+use Rattle.std.proofs.Common.{Option, Some, None, Result, Ok, Err, refl, sym, ap, subst, ◌∙◌, arith}
+use Rattle.std.specs.Prelude.{ℤ, ◌+ℤ◌, ◌-ℤ◌, is_some, slice_get, slice_index_or, slice_set, unwrap_or, IfOk, nat_le}
+use Rattle.std.specs.Prelude.{if◌then◌else◌}
 use Rattle.std.specs.List.{AllByRecursion, list_all, list_any, filter_map, cons_option}
 use Rattle.std.specs.Option.{option_map, option_and_then}
 use Rattle.std.specs.Ordering.{eq_by_cmp}
 use Rattle.std.specs.Cmp.{Equal-is}
+use Rattle.std.proofs.lemmas.Bool.{and_parts, or_right}
 use Rattle.ent_set.specs.Sets as set
 use Rattle.ent_set.specs.Laws.{contains-ascending, contains-insert, contains-retain}
 use Rattle.ent_value.specs.Order.{rows_total, exact_rows, rows_equal}
@@ -20,7 +23,8 @@ use Rattle.ent_semantics.specs.declared.answer.Failure.{Failure}
 use Rattle.ent_semantics.specs.declared.answer.Failure.TheVariants.{TableFull}
 use Rattle.ent_semantics.specs.Change.{all_there}
 use Rattle.ent_semantics.specs.Database.{Name, Rows, Environment, same_name, with_value}
-use Rattle.ent_semantics.specs.Statement.{most_rows, or_overflow}
+use Rattle.ent_value.specs.declared.limits.TheConstants.{MOST_ROWS}
+use Rattle.ent_semantics.specs.Statement.{or_overflow}
 use Rattle.ent_semantics.specs.Term.{no_value, number_of, is_64_bits, in_64_bits, expression_value}
 use Rattle.ent_form.specs.declared.plain.PlainOperand.{PlainOperand}
 use Rattle.ent_form.specs.declared.plain.PlainOperand.TheVariants as plain
@@ -30,25 +34,31 @@ use Rattle.ent_form.specs.declared.plain.PlainTest.{PlainTest}
 use Rattle.ent_form.specs.declared.plain.PlainValue.{PlainValue}
 use Rattle.ent_form.specs.declared.plain.PlainValue.TheVariants as known
 use Rattle.ent_form.specs.Kinds.{with_kind}
-use Rattle.ent_form.specs.PlainMeaning.{PlainEffect, Fits, AreOfKinds, kinds_bound, known_kind, plain_kind, kind_with, plain_bound_after, plain_known_value, plain_value, plain_meets, plain_image, plain_matched, plain_unmatched, plain_updated, plain_changed, table_rows, plain_meaning}
+use Rattle.ent_form.specs.PlainMeaning.{PlainEffect, Fits, AreOfKinds, kinds_bound, known_kind, plain_kind, kind_with}
+use Rattle.ent_form.specs.PlainMeaning.{plain_bound_after, plain_known_value, plain_value, plain_meets, plain_image}
+use Rattle.ent_form.specs.PlainMeaning.{plain_matched, plain_unmatched, plain_updated, plain_changed, table_rows}
+use Rattle.ent_form.specs.PlainMeaning.{plain_meaning}
 
 -- every row of a set has these kinds
 abbrev pub OfKinds : List Kind → Rows → Type 0
 OfKinds kinds rows = (row : List Value) → set.contains rows row ≡ true → kinds_of row ≡ kinds
 
-pub length-AreOfKinds : (kinds : List (List Kind)) (tables : List Rows) → AreOfKinds kinds tables → length tables ≡ length kinds
+pub length-AreOfKinds : (kinds : List (List Kind)) (tables : List Rows) → AreOfKinds kinds tables
+    → length tables ≡ length kinds
 length-AreOfKinds [] [] h = refl
 length-AreOfKinds [] (rows ∷ tables) h = absurd h
 length-AreOfKinds (first ∷ kinds) [] h = absurd h
 length-AreOfKinds (first ∷ kinds) (rows ∷ tables) h = ap suc (length-AreOfKinds kinds tables h.1)
 
-pub AreOfKinds-at : (kinds : List (List Kind)) (tables : List Rows) (table : ℕ) → AreOfKinds kinds tables → table < length kinds → OfKinds (slice_index_or kinds table []) (table_rows tables table)
+pub AreOfKinds-at : (kinds : List (List Kind)) (tables : List Rows) (table : ℕ) → AreOfKinds kinds tables
+    → table < length kinds → OfKinds (slice_index_or kinds table []) (table_rows tables table)
 AreOfKinds-at [] tables table h l = absurd (omega arith)
 AreOfKinds-at (first ∷ kinds) [] table h l = absurd h
 AreOfKinds-at (first ∷ kinds) (rows ∷ tables) zero h l = h.0
 AreOfKinds-at (first ∷ kinds) (rows ∷ tables) (suc table) h l = AreOfKinds-at kinds tables table h.1 (omega arith)
 
-pub AreOfKinds-set : (kinds : List (List Kind)) (tables : List Rows) (table : ℕ) (new : Rows) → AreOfKinds kinds tables → table < length kinds → OfKinds (slice_index_or kinds table []) new → AreOfKinds kinds (slice_set tables table new)
+pub AreOfKinds-set : (kinds : List (List Kind)) (tables : List Rows) (table : ℕ) (new : Rows) → AreOfKinds kinds tables
+    → table < length kinds → OfKinds (slice_index_or kinds table []) new → AreOfKinds kinds (slice_set tables table new)
 AreOfKinds-set [] tables table new h l k = absurd (omega arith)
 AreOfKinds-set (first ∷ kinds) [] table new h l k = absurd h
 AreOfKinds-set (first ∷ kinds) (rows ∷ tables) zero new h l k = (k, h.1)
@@ -58,64 +68,63 @@ either : (left right : Bool) → (left || right) ≡ true → (left ≡ false �
 either true right e none = cc
 either false right e none = e
 
-pub OfKinds-insert : (kinds : List Kind) (rows : Rows) (row : List Value) → OfKinds kinds rows → kinds_of row ≡ kinds → OfKinds kinds (set.insert rows row)
+pub OfKinds-insert : (kinds : List Kind) (rows : Rows) (row : List Value) → OfKinds kinds rows → kinds_of row ≡ kinds
+    → OfKinds kinds (set.insert rows row)
 OfKinds-insert kinds rows row h k other e =
     elim (eq_by_cmp row_cmp other row) as (λ b. eq_by_cmp row_cmp other row ≡ b → kinds_of other ≡ kinds) [
       | true ↦ λ same. ap kinds_of (exact_rows other row ((Equal-is (row_cmp other row)).0 same)) ∙ k
       | false ↦ λ differs. h other (either _ _ (sym (contains-insert rows_total exact_rows rows row other) ∙ e) differs)
     ] refl
 
-answered_where : (enough : Bool) (effect : PlainEffect) (failure : Failure) (P : PlainEffect → Type 0) → P effect → IfOk (if enough then Ok effect else Err failure) P
+answered_where : (enough : Bool) (effect : PlainEffect) (failure : Failure) (P : PlainEffect → Type 0) → P effect
+    → IfOk (if enough then Ok effect else Err failure) P
 answered_where true effect failure P h = h
 answered_where false effect failure P h = tt
 
-and_left : (left right : Bool) → (left && right) ≡ true → left ≡ true
-and_left true right e = refl
-and_left false right e = cc
-
-and_right : (left right : Bool) → (left && right) ≡ true → right ≡ true
-and_right true right e = e
-and_right false right e = cc
-
 -- a row that is kept was there and passes
-pub retained : (rows : Rows) (test : List Value → Bool) (row : List Value) → set.contains (set.retain rows test) row ≡ true → (set.contains rows row ≡ true) × (test row ≡ true)
+pub retained : (rows : Rows) (test : List Value → Bool) (row : List Value)
+    → set.contains (set.retain rows test) row ≡ true → (set.contains rows row ≡ true) × (test row ≡ true)
 retained rows test row e =
     let both : (set.contains rows row && test row) ≡ true = sym (contains-retain rows_total rows test row (λ other same. ap test (sym (exact_rows row other same)))) ∙ e in
-    (and_left (set.contains rows row) (test row) both, and_right (set.contains rows row) (test row) both)
+    and_parts (set.contains rows row) (test row) both
 
-pub OfKinds-retain : (kinds : List Kind) (rows : Rows) (test : List Value → Bool) → OfKinds kinds rows → OfKinds kinds (set.retain rows test)
+pub OfKinds-retain : (kinds : List Kind) (rows : Rows) (test : List Value → Bool) → OfKinds kinds rows
+    → OfKinds kinds (set.retain rows test)
 OfKinds-retain kinds rows test h row e = h row (retained rows test row e).0
 
-OfKinds-insert_all : (kinds : List Kind) (rows : Rows) (more : List (List Value)) → OfKinds kinds rows → AllByRecursion (λ row. kinds_of row ≡ kinds) more → OfKinds kinds (set.insert_all rows more)
+OfKinds-insert_all : (kinds : List Kind) (rows : Rows) (more : List (List Value)) → OfKinds kinds rows
+    → AllByRecursion (λ row. kinds_of row ≡ kinds) more → OfKinds kinds (set.insert_all rows more)
 OfKinds-insert_all kinds rows [] h k = h
 OfKinds-insert_all kinds rows (row ∷ more) h k = OfKinds-insert_all kinds (set.insert rows row) more (OfKinds-insert kinds rows row h k.0) k.1
 
-or_true : (left right : Bool) → right ≡ true → (left || right) ≡ true
-or_true true right e = refl
-or_true false right e = e
-
-each_among : (P : List Value → Type 0) (rows : List (List Value)) → ((row : List Value) → list_any (eq_by_cmp row_cmp row) rows ≡ true → P row) → AllByRecursion P rows
+each_among : (P : List Value → Type 0) (rows : List (List Value))
+    → ((row : List Value) → list_any (eq_by_cmp row_cmp row) rows ≡ true → P row) → AllByRecursion P rows
 each_among P [] h = tt
 each_among P (row ∷ rows) h =
-    (h row (ap (λ b. b || list_any (eq_by_cmp row_cmp row) rows) (rows_equal.refl row)), each_among P rows (λ other e. h other (or_true (eq_by_cmp row_cmp other row) _ e)))
+    (h row (ap (λ b. b || list_any (eq_by_cmp row_cmp row) rows) (rows_equal.refl row)), each_among P rows (λ other e. h other (or_right (eq_by_cmp row_cmp other row) _ e)))
 
 -- what holds of every row of a set holds of each of its list
-pub each_ascending : (P : List Value → Type 0) (rows : Rows) → ((row : List Value) → set.contains rows row ≡ true → P row) → AllByRecursion P (set.ascending rows)
+pub each_ascending : (P : List Value → Type 0) (rows : Rows)
+    → ((row : List Value) → set.contains rows row ≡ true → P row) → AllByRecursion P (set.ascending rows)
 each_ascending P rows h = each_among P (set.ascending rows) (λ row e. h row (contains-ascending rows row ∙ e))
 
 -- a list of values is there where its first and the others are
-both_there : (first : Option Value) (more : Option (List Value)) (values : List Value) → option_and_then (λ value. option_map (λ values. value ∷ values) more) first ≡ Some values → (value : Value) × (rest : List Value) × (first ≡ Some value) × (more ≡ Some rest) × (values ≡ value ∷ rest)
+both_there : (first : Option Value) (more : Option (List Value)) (values : List Value)
+    → option_and_then (λ value. option_map (λ values. value ∷ values) more) first ≡ Some values
+    → (value : Value) × (rest : List Value) × (first ≡ Some value) × (more ≡ Some rest) × (values ≡ value ∷ rest)
 both_there None more values e = cc
 both_there (Some value) None values e = cc
 both_there (Some value) (Some rest) values e = (value, rest, refl, refl, cc)
 
 -- what goes on with what is there
-over_overflow : {A : Type 0} (there : Option A) (more : A → Result PlainEffect Failure) (P : PlainEffect → Type 0) → ((x : A) → there ≡ Some x → IfOk (more x) P) → IfOk (or_overflow there more) P
+over_overflow : {A : Type 0} (there : Option A) (more : A → Result PlainEffect Failure) (P : PlainEffect → Type 0)
+    → ((x : A) → there ≡ Some x → IfOk (more x) P) → IfOk (or_overflow there more) P
 over_overflow None more P h = tt
 over_overflow (Some x) more P h = h x refl
 
 -- a value has the kind that its host variable is bound to
-known_has : (environment : Environment) (kind : Kind) (value : PlainValue) → known_kind (kinds_bound environment) value ≡ Some kind → kind_of (plain_known_value environment value) ≡ kind
+known_has : (environment : Environment) (kind : Kind) (value : PlainValue)
+    → known_kind (kinds_bound environment) value ≡ Some kind → kind_of (plain_known_value environment value) ≡ kind
 known_has environment kind (known.Constant value) e = cc
 known_has environment kind (known.HostVariable variable) e =
     elim (environment variable) as (λ there. option_map kind_of there ≡ Some kind → kind_of (unwrap_or there no_value) ≡ kind) [
@@ -123,7 +132,9 @@ known_has environment kind (known.HostVariable variable) e =
       | Some value ↦ λ e. let some : Some (kind_of value) ≡ Some kind = e in cc
     ] e
 
-knowns_have : (environment : Environment) (kinds : List Kind) (values : List PlainValue) → map (known_kind (kinds_bound environment)) values ≡ map (λ (kind : Kind). Some kind) kinds → kinds_of (map (plain_known_value environment) values) ≡ kinds
+knowns_have : (environment : Environment) (kinds : List Kind) (values : List PlainValue)
+    → map (known_kind (kinds_bound environment)) values ≡ map (λ (kind : Kind). Some kind) kinds
+    → kinds_of (map (plain_known_value environment) values) ≡ kinds
 knowns_have environment [] [] e = refl
 knowns_have environment [] (value ∷ values) e = cc
 knowns_have environment (kind ∷ kinds) [] e = cc
@@ -133,31 +144,38 @@ knowns_have environment (kind ∷ kinds) (value ∷ values) e =
     λ i. known_has environment kind value one i ∷ knowns_have environment kinds values more i
 
 -- the value at a number has the kind at the number
-value_has : (kind : Kind) (row : List Value) (number : ℕ) → slice_get (kinds_of row) number ≡ Some kind → kind_of (slice_index_or row number no_value) ≡ kind
+value_has : (kind : Kind) (row : List Value) (number : ℕ) → slice_get (kinds_of row) number ≡ Some kind
+    → kind_of (slice_index_or row number no_value) ≡ kind
 value_has kind [] number e = cc
 value_has kind (value ∷ row) zero e = cc
 value_has kind (value ∷ row) (suc number) e = value_has kind row number e
 
 module _ (environment : Environment) (columns : List Kind) (row : List Value) (fitting : kinds_of row ≡ columns) where
-  term_has : (kind : Kind) (term : PlainOperand) → plain_kind columns (kinds_bound environment) term ≡ Some kind → kind_of (plain_value environment row term) ≡ kind
+  term_has : (kind : Kind) (term : PlainOperand) → plain_kind columns (kinds_bound environment) term ≡ Some kind
+      → kind_of (plain_value environment row term) ≡ kind
   term_has kind (plain.Value value) e = known_has environment kind value e
   term_has kind (plain.Column number) e = value_has kind row number (ap (λ kinds. slice_get kinds number) fitting ∙ e)
 
   -- a number within 64 bits is a number
-  number_has : (number : ℤ) (value : Value) (kind : Kind) → in_64_bits number ≡ Some value → Some kinds.Int ≡ Some kind → kind_of value ≡ kind
+  number_has : (number : ℤ) (value : Value) (kind : Kind) → in_64_bits number ≡ Some value → Some kinds.Int ≡ Some kind
+      → kind_of value ≡ kind
   number_has number value kind e k =
       elim (is_64_bits number) as (λ b. (if b then Some (Int number) else None) ≡ Some value → kind_of value ≡ kind) [
         | true ↦ λ e. let same : Int number ≡ value = cc in let wanted : kinds.Int ≡ kind = cc in ap kind_of (sym same) ∙ wanted
         | false ↦ λ e. let none : None ≡ Some value = e in cc
       ] e
 
-  expression_has : (kind : Kind) (value : Value) (expression : Expression PlainOperand) → kind_with (plain_kind columns (kinds_bound environment)) expression ≡ Some kind → expression_value (plain_value environment row) expression ≡ Some value → kind_of value ≡ kind
+  expression_has : (kind : Kind) (value : Value) (expression : Expression PlainOperand)
+      → kind_with (plain_kind columns (kinds_bound environment)) expression ≡ Some kind
+      → expression_value (plain_value environment row) expression ≡ Some value → kind_of value ≡ kind
   expression_has kind value (Single term) e f = let same : plain_value environment row term ≡ value = cc in ap kind_of (sym same) ∙ term_has kind term e
   expression_has kind value (Sum left right) e f = number_has (number_of (plain_value environment row left) +ℤ number_of (plain_value environment row right)) value kind f e
   expression_has kind value (Difference left right) e f = number_has (number_of (plain_value environment row left) -ℤ number_of (plain_value environment row right)) value kind f e
 
   -- an image has the kinds of its expressions
-  image_has : (image : List (Expression PlainOperand)) (kinds : List Kind) (values : List Value) → map (kind_with (plain_kind columns (kinds_bound environment))) image ≡ map (λ (kind : Kind). Some kind) kinds → all_there (map (expression_value (plain_value environment row)) image) ≡ Some values → kinds_of values ≡ kinds
+  image_has : (image : List (Expression PlainOperand)) (kinds : List Kind) (values : List Value)
+      → map (kind_with (plain_kind columns (kinds_bound environment))) image ≡ map (λ (kind : Kind). Some kind) kinds
+      → all_there (map (expression_value (plain_value environment row)) image) ≡ Some values → kinds_of values ≡ kinds
   image_has [] [] values e f = let none : [] ≡ values = cc in ap kinds_of (sym none)
   image_has [] (kind ∷ kinds) values e f = cc
   image_has (expression ∷ image) [] values e f = cc
@@ -167,7 +185,11 @@ module _ (environment : Environment) (columns : List Kind) (row : List Value) (f
       let found = both_there (expression_value (plain_value environment row) expression) (all_there (map (expression_value (plain_value environment row)) image)) values f in
       ap kinds_of found.4 ∙ (λ i. expression_has kind found.0 expression first found.2 i ∷ image_has image kinds found.1 more found.3 i)
 
-images_have : (environment : Environment) (image : List (Expression PlainOperand)) (kinds : List Kind) (rows : List (List Value)) → map (kind_with (plain_kind kinds (kinds_bound environment))) image ≡ map (λ (kind : Kind). Some kind) kinds → AllByRecursion (λ row. kinds_of row ≡ kinds) rows → AllByRecursion (λ row. kinds_of row ≡ kinds) (filter_map (plain_image environment image) rows)
+images_have :
+    (environment : Environment) (image : List (Expression PlainOperand)) (kinds : List Kind) (rows : List (List Value))
+    → map (kind_with (plain_kind kinds (kinds_bound environment))) image ≡ map (λ (kind : Kind). Some kind) kinds
+    → AllByRecursion (λ row. kinds_of row ≡ kinds) rows
+    → AllByRecursion (λ row. kinds_of row ≡ kinds) (filter_map (plain_image environment image) rows)
 images_have environment image kinds [] e h = tt
 images_have environment image kinds (row ∷ rows) e h =
     let rest = filter_map (plain_image environment image) rows in
@@ -176,11 +198,15 @@ images_have environment image kinds (row ∷ rows) e h =
       | Some values ↦ λ found. (image_has environment kinds row h.0 image kinds values e found, images_have environment image kinds rows e h.1)
     ] refl
 
-chosen_where : (enough : Bool) (kinds : List Kind) (rows after : Rows) → OfKinds kinds rows → (if enough then Some rows else None) ≡ Some after → OfKinds kinds after
+chosen_where : (enough : Bool) (kinds : List Kind) (rows after : Rows) → OfKinds kinds rows
+    → (if enough then Some rows else None) ≡ Some after → OfKinds kinds after
 chosen_where true kinds rows after h e = let same : rows ≡ after = cc in subst (OfKinds kinds) same h
 chosen_where false kinds rows after h e = cc
 
-updated_fit : (environment : Environment) (kinds : List Kind) (rows after : Rows) (image : List (Expression PlainOperand)) (tests : List PlainTest) → OfKinds kinds rows → map (kind_with (plain_kind kinds (kinds_bound environment))) image ≡ map (λ (kind : Kind). Some kind) kinds
+updated_fit :
+    (environment : Environment) (kinds : List Kind) (rows after : Rows) (image : List (Expression PlainOperand)) (tests : List PlainTest)
+    → OfKinds kinds rows
+    → map (kind_with (plain_kind kinds (kinds_bound environment))) image ≡ map (λ (kind : Kind). Some kind) kinds
     → plain_updated environment image tests rows ≡ Some after → OfKinds kinds after
 updated_fit environment kinds rows after image tests h e is =
     let matched = plain_matched environment tests rows in
@@ -194,11 +220,13 @@ module _ (kinds : List (List Kind)) (tables : List Rows) (environment : Environm
   abbrev Keeps : PlainEffect → Type 0
   Keeps effect = AreOfKinds kinds effect.tables
 
-  changed_kept : (table count : ℕ) (rows : Rows) → table < length kinds → OfKinds (slice_index_or kinds table []) rows → IfOk (plain_changed tables environment table count rows) Keeps
+  changed_kept : (table count : ℕ) (rows : Rows) → table < length kinds → OfKinds (slice_index_or kinds table []) rows
+      → IfOk (plain_changed tables environment table count rows) Keeps
   changed_kept table count rows there fit =
-      answered_where (nat_le (set.len rows) most_rows) (record { tables = slice_set tables table rows; environment = environment; answer = answers.Count count }) TableFull Keeps (AreOfKinds-set kinds tables table rows h there fit)
+      answered_where (nat_le (set.len rows) MOST_ROWS) (record { tables = slice_set tables table rows; environment = environment; answer = answers.Count count }) TableFull Keeps (AreOfKinds-set kinds tables table rows h there fit)
 
-  pub kinds_kept : (statement : PlainStatement) → Fits kinds (kinds_bound environment) statement → IfOk (plain_meaning tables environment statement) Keeps
+  pub kinds_kept : (statement : PlainStatement) → Fits kinds (kinds_bound environment) statement
+      → IfOk (plain_meaning tables environment statement) Keeps
   kinds_kept (resolved.Select table shown tests) fits = h
   kinds_kept (resolved.Set variable expression) fits =
       over_overflow (expression_value (plain_known_value environment) expression) (λ value. Ok (record { tables = tables; environment = with_value environment variable value; answer = answers.Value value })) Keeps (λ value _. h)
@@ -219,7 +247,8 @@ module _ (kinds : List (List Kind)) (tables : List Rows) (environment : Environm
       (λ after is. changed_kept table count after fits.0 (updated_fit environment columns rows after image tests (AreOfKinds-at kinds tables table h fits.0) fits.1 is))
 
 -- a known value has the kind that is known, or stands for a number
-known_or : (environment : Environment) (value : PlainValue) → kind_of (plain_known_value environment value) ≡ unwrap_or (known_kind (kinds_bound environment) value) kinds.Int
+known_or : (environment : Environment) (value : PlainValue)
+    → kind_of (plain_known_value environment value) ≡ unwrap_or (known_kind (kinds_bound environment) value) kinds.Int
 known_or environment (known.Constant value) = refl
 known_or environment (known.HostVariable variable) =
     elim (environment variable) as (λ there. kind_of (unwrap_or there no_value) ≡ unwrap_or (option_map kind_of there) kinds.Int) [
@@ -234,13 +263,16 @@ number_kind number value e =
       | false ↦ λ e. let none : None ≡ Some value = e in cc
     ] e
 
-set_kind : (environment : Environment) (expression : Expression PlainValue) (value : Value) → expression_value (plain_known_value environment) expression ≡ Some value → kind_of value ≡ unwrap_or (kind_with (known_kind (kinds_bound environment)) expression) kinds.Int
+set_kind : (environment : Environment) (expression : Expression PlainValue) (value : Value)
+    → expression_value (plain_known_value environment) expression ≡ Some value
+    → kind_of value ≡ unwrap_or (kind_with (known_kind (kinds_bound environment)) expression) kinds.Int
 set_kind environment (Single term) value e = let same : plain_known_value environment term ≡ value = cc in ap kind_of (sym same) ∙ known_or environment term
 set_kind environment (Sum left right) value e = number_kind (number_of (plain_known_value environment left) +ℤ number_of (plain_known_value environment right)) value e
 set_kind environment (Difference left right) value e = number_kind (number_of (plain_known_value environment left) -ℤ number_of (plain_known_value environment right)) value e
 
 -- another value of a host variable is another kind of it
-value_bound : (environment : Environment) (variable : Name) (value : Value) → kinds_bound (with_value environment variable value) ≡ with_kind (kinds_bound environment) variable (kind_of value)
+value_bound : (environment : Environment) (variable : Name) (value : Value)
+    → kinds_bound (with_value environment variable value) ≡ with_kind (kinds_bound environment) variable (kind_of value)
 value_bound environment variable value i other =
     (elim (same_name variable other) as (λ b. option_map kind_of (if b then Some value else environment other) ≡ (if b then Some (kind_of value) else option_map kind_of (environment other))) [
       | true ↦ refl
@@ -258,12 +290,12 @@ module _ (tables : List Rows) (environment : Environment) where
       let rows = table_rows tables table in
       let row = map (plain_known_value environment) values in
       let new = set.insert rows row in
-      answered_where (nat_le (set.len new) most_rows) (record { tables = slice_set tables table new; environment = environment; answer = answers.Count (if set.contains rows row then 0 else 1) }) TableFull (Binds (resolved.Insert table values)) refl
+      answered_where (nat_le (set.len new) MOST_ROWS) (record { tables = slice_set tables table new; environment = environment; answer = answers.Count (if set.contains rows row then 0 else 1) }) TableFull (Binds (resolved.Insert table values)) refl
   bound_kept (resolved.Update table image tests) =
       let rows = table_rows tables table in
       let count = set.len (plain_matched environment tests rows) in
       over_overflow (plain_updated environment image tests rows) (λ after. plain_changed tables environment table count after) (Binds (resolved.Update table image tests))
-      (λ after _. answered_where (nat_le (set.len after) most_rows) (record { tables = slice_set tables table after; environment = environment; answer = answers.Count count }) TableFull (Binds (resolved.Update table image tests)) refl)
+      (λ after _. answered_where (nat_le (set.len after) MOST_ROWS) (record { tables = slice_set tables table after; environment = environment; answer = answers.Count count }) TableFull (Binds (resolved.Update table image tests)) refl)
   bound_kept (resolved.Set variable expression) =
       over_overflow (expression_value (plain_known_value environment) expression) (λ value. Ok (record { tables = tables; environment = with_value environment variable value; answer = answers.Value value })) (Binds (resolved.Set variable expression))
       (λ value is. value_bound environment variable value ∙ ap (with_kind (kinds_bound environment) variable) (set_kind environment expression value is))

@@ -1,6 +1,5 @@
 pub mod Steps
 pub mod Declared
-pub mod Names
 pub mod Assigning
 pub mod Fitting
 pub mod ByNumber

@@ -1,5 +1,6 @@
 -- The opening tables.
-use Rattle.std.proofs.Common.{◌≡◌, ℕ, suc, ◌<◌, true, false, cond, ◌||◌, List, [], ◌∷◌, length, map, None, refl, sym, ap, subst, ◌∙◌, arith}
+use Rattle.std.proofs.Common.{◌≡◌, ℕ, suc, ◌<◌, true, false, cond, ◌||◌, List, [], ◌∷◌, length, map, None, refl, sym}
+use Rattle.std.proofs.Common.{ap, subst, ◌∙◌, arith}
 use Rattle.std.specs.Prelude.{slice_index_or, if◌then◌else◌}
 use Rattle.std.specs.List.{AllByRecursion, filter}
 use Rattle.std.proofs.lemmas.List.{length-map, get_or-map}
@@ -19,20 +20,24 @@ use Rattle.ent_form.specs.PlainMeaning.{RowFits, AreOfKinds, schema_kinds, table
 use Rattle.ent_form.proofs.Fitting.{first_none, later_none, opening_row_fits}
 use Rattle.ent_form.proofs.Distinct.{name_number}
 use Rattle.ent_form.proofs.KindsKept.{OfKinds, OfKinds-insert}
-use Rattle.ent_form.proofs.Names.{equal_names}
+use Rattle.ent_semantics.specs.Names.{equal_names}
 
 -- an opening row fits its table
 abbrev pub Fit : List TableSchema → OpeningRow → Type 0
 Fit schemas row = RowFits (map schema_kinds schemas) (index_of (names_of schemas) row.table.name) (row_of row)
 
-rows_fit : (schemas : List TableSchema) (rows : List OpeningRow) → first_of (opening_row_fault schemas) rows ≡ None → AllByRecursion (Fit schemas) rows
+rows_fit : (schemas : List TableSchema) (rows : List OpeningRow) → first_of (opening_row_fault schemas) rows ≡ None
+    → AllByRecursion (Fit schemas) rows
 rows_fit schemas [] e = tt
 rows_fit schemas (row ∷ rows) e = (opening_row_fits schemas row (first_none (opening_row_fault schemas row) _ e), rows_fit schemas rows (later_none (opening_row_fault schemas row) _ e))
 
-pub opening_fits : (opening : Opening) → opening_fault opening ≡ None → AllByRecursion (Fit (schemas_of opening.tables)) opening.rows
+pub opening_fits : (opening : Opening) → opening_fault opening ≡ None
+    → AllByRecursion (Fit (schemas_of opening.tables)) opening.rows
 opening_fits opening e = rows_fit (schemas_of opening.tables) opening.rows (later_none (declarations_fault [] opening.tables) _ e)
 
-named_fit : (schemas : List TableSchema) (name : Name) (kinds : List Kind) (rows : List OpeningRow) → slice_index_or (map schema_kinds schemas) (index_of (names_of schemas) name) [] ≡ kinds → AllByRecursion (Fit schemas) rows
+named_fit : (schemas : List TableSchema) (name : Name) (kinds : List Kind) (rows : List OpeningRow)
+    → slice_index_or (map schema_kinds schemas) (index_of (names_of schemas) name) [] ≡ kinds
+    → AllByRecursion (Fit schemas) rows
     → AllByRecursion (λ row. kinds_of row ≡ kinds) (map row_of (filter (λ row. same_name row.table.name name) rows))
 named_fit schemas name kinds [] is h = tt
 named_fit schemas name kinds (row ∷ rows) is h =
@@ -42,24 +47,29 @@ named_fit schemas name kinds (row ∷ rows) is h =
       | false ↦ λ _. named_fit schemas name kinds rows is h.1
     ] refl
 
-pub table_fits : (opening : Opening) (table : ℕ) → opening_fault opening ≡ None → table < length (schemas_of opening.tables)
+pub table_fits : (opening : Opening) (table : ℕ) → opening_fault opening ≡ None
+    → table < length (schemas_of opening.tables)
     → AllByRecursion (λ row. kinds_of row ≡ slice_index_or (map schema_kinds (schemas_of opening.tables)) table []) (rows_named opening (slice_index_or (names_of (schemas_of opening.tables)) table []))
 table_fits opening table e l =
     let schemas = schemas_of opening.tables in
     let at : index_of (names_of schemas) (slice_index_or (names_of schemas) table []) ≡ table = name_number opening.tables table (first_none (declarations_fault [] opening.tables) _ e) l in
     named_fit schemas (slice_index_or (names_of schemas) table []) (slice_index_or (map schema_kinds schemas) table []) opening.rows (ap (λ n. slice_index_or (map schema_kinds schemas) n []) at) (opening_fits opening e)
 
-OfKinds-from_list : (kinds : List Kind) (rows : List (List Value)) → AllByRecursion (λ row. kinds_of row ≡ kinds) rows → OfKinds kinds (set.from_list rows)
+OfKinds-from_list : (kinds : List Kind) (rows : List (List Value)) → AllByRecursion (λ row. kinds_of row ≡ kinds) rows
+    → OfKinds kinds (set.from_list rows)
 OfKinds-from_list kinds [] h = λ other e. let none : set.contains (set.empty {R = row_cmp}) other ≡ false = contains-empty row_cmp other in cc
 OfKinds-from_list kinds (row ∷ rows) h = OfKinds-insert kinds (set.from_list rows) row (OfKinds-from_list kinds rows h.1) h.0
 
-AreOfKinds-from_each : (kinds : List (List Kind)) (tables : List Rows) → length tables ≡ length kinds → ((table : ℕ) → table < length kinds → OfKinds (slice_index_or kinds table []) (table_rows tables table)) → AreOfKinds kinds tables
+AreOfKinds-from_each : (kinds : List (List Kind)) (tables : List Rows) → length tables ≡ length kinds
+    → ((table : ℕ) → table < length kinds → OfKinds (slice_index_or kinds table []) (table_rows tables table))
+    → AreOfKinds kinds tables
 AreOfKinds-from_each [] [] l h = tt
 AreOfKinds-from_each [] (rows ∷ tables) l h = absurd (omega arith)
 AreOfKinds-from_each (first ∷ kinds) [] l h = absurd (omega arith)
 AreOfKinds-from_each (first ∷ kinds) (rows ∷ tables) l h = (h 0 (omega arith), AreOfKinds-from_each kinds tables (omega arith) (λ table k. h (suc table) (omega arith)))
 
-pub tables_fit : (opening : Opening) → opening_fault opening ≡ None → AreOfKinds (map schema_kinds (schemas_of opening.tables)) (opening_tables opening)
+pub tables_fit : (opening : Opening) → opening_fault opening ≡ None
+    → AreOfKinds (map schema_kinds (schemas_of opening.tables)) (opening_tables opening)
 tables_fit opening e =
     let schemas = schemas_of opening.tables in
     let rows : Name → Rows = λ name. set.from_list (rows_named opening name) in
@@ -71,7 +81,8 @@ tables_fit opening e =
     subst (OfKinds (slice_index_or (map schema_kinds schemas) table [])) (sym here) (OfKinds-from_list (slice_index_or (map schema_kinds schemas) table []) (rows_named opening (slice_index_or (names_of schemas) table [])) (table_fits opening table e (omega arith))))
 
 -- sets under names: each name has its set, and every other name has no rows
-database_map : (names : List Name) (rows : Name → Rows) (name : Name) → database_of names (map rows names) name ≡ (if is_among names name then rows name else set.empty)
+database_map : (names : List Name) (rows : Name → Rows) (name : Name)
+    → database_of names (map rows names) name ≡ (if is_among names name then rows name else set.empty)
 database_map [] rows name = refl
 database_map (first ∷ names) rows name =
     elim (same_name first name) as (λ b. same_name first name ≡ b → (if b then rows first else database_of names (map rows names) name) ≡ (if (b || is_among names name) then rows name else set.empty)) [
@@ -87,7 +98,9 @@ among_from_index (first ∷ names) name l =
       | false ↦ λ more. among_from_index names name (omega arith)
     ] l
 
-none_named : (schemas : List TableSchema) (name : Name) (rows : List OpeningRow) → is_among (names_of schemas) name ≡ false → AllByRecursion (Fit schemas) rows → filter (λ row. same_name row.table.name name) rows ≡ []
+none_named : (schemas : List TableSchema) (name : Name) (rows : List OpeningRow)
+    → is_among (names_of schemas) name ≡ false → AllByRecursion (Fit schemas) rows
+    → filter (λ row. same_name row.table.name name) rows ≡ []
 none_named schemas name [] none h = refl
 none_named schemas name (row ∷ rows) none h =
     let more : List OpeningRow = filter (λ row. same_name row.table.name name) rows in
@@ -99,7 +112,8 @@ none_named schemas name (row ∷ rows) none h =
       | false ↦ λ _. none_named schemas name rows none h.1
     ] refl
 
-pub opened_same : (opening : Opening) → opening_fault opening ≡ None → (name : Name) → opening_database opening name ≡ database_of (names_of (schemas_of opening.tables)) (opening_tables opening) name
+pub opened_same : (opening : Opening) → opening_fault opening ≡ None → (name : Name)
+    → opening_database opening name ≡ database_of (names_of (schemas_of opening.tables)) (opening_tables opening) name
 opened_same opening e name =
     let names = names_of (schemas_of opening.tables) in
     let rows : Name → Rows = λ name. set.from_list (rows_named opening name) in

@@ -86,3 +86,6 @@ module _ {A : Type 0} (lookup : Lookup A) where
   found_place (Single term) = refl
   found_place (Sum left right) = refl
   found_place (Difference left right) = refl
+
+-- what an expression over terms that were looked up says
+pub ruleset founds = (found_fault, found_kind, found_place)

@@ -1,5 +1,6 @@
 -- The faults of an input's form, and which comes first.
-use Rattle.std.specs.Prelude.{ℕ, Bool, List, [], ◌∷◌, ◌++◌, map, length, Option, Some, None, Result, Ok, Err, if◌then◌else◌, ◌==◌}
+use Rattle.std.specs.Prelude.{ℕ, Bool, List, [], ◌∷◌, ◌++◌, map, length, Option, Some, None, Result, Ok, Err}
+use Rattle.std.specs.Prelude.{if◌then◌else◌, ◌==◌}
 use Rattle.ent_value.specs.Value.{kind_of}
 use Rattle.ent_value.specs.declared.value.Kind.{Kind}
 use Rattle.ent_value.specs.declared.value.Kind.TheVariants as kinds
@@ -28,7 +29,8 @@ use Rattle.ent_form.specs.declared.catalogue.TableSchema.{TableSchema}
 use Rattle.ent_form.specs.declared.fault.FormFault.{FormFault}
 use Rattle.ent_form.specs.declared.fault.FormFault.TheVariants.{NoTable, NoColumn, Arity, WrongKind, Repeated}
 use Rattle.ent_form.specs.Catalogue.{schemas_of, table_named, column_kind, is_among}
-use Rattle.ent_form.specs.Kinds.{Bound, Lookup, same_kind, none_bound, values_in, operands_in, operand_kind, operand_place, operand_missing, expression_kind, expression_place, bound_after}
+use Rattle.ent_form.specs.Kinds.{Bound, Lookup, same_kind, none_bound, values_in, operands_in, operand_kind}
+use Rattle.ent_form.specs.Kinds.{operand_place, operand_missing, expression_kind, expression_place, bound_after}
 
 -- a fault that may be there
 abbrev pub Check : Type 0
@@ -51,7 +53,9 @@ first_of check (x ∷ xs) = check x before first_of check xs
 -- the first name that stands among those before it
 abbrev pub repeated : List Name → List Identifier → Check
 repeated earlier [] = None
-repeated earlier (identifier ∷ more) = refused_where (is_among earlier identifier.name) (Repeated identifier.place) before repeated (earlier ++ identifier.name ∷ []) more
+repeated earlier (identifier ∷ more) =
+    refused_where (is_among earlier identifier.name) (Repeated identifier.place)
+    before repeated (earlier ++ identifier.name ∷ []) more
 
 -- declarations in order: the name of a table, then those of its columns
 abbrev pub declarations_fault : List Name → List Create → Check
@@ -71,7 +75,8 @@ abbrev pub literals_fault : List ColumnSchema → List Literal → Check
 literals_fault [] literals = None
 literals_fault (column ∷ columns) [] = None
 literals_fault (column ∷ columns) (literal ∷ literals) =
-    (if same_kind column.kind (kind_of literal.value) then None else Some (WrongKind literal.place)) before literals_fault columns literals
+    (if same_kind column.kind (kind_of literal.value) then None else Some (WrongKind literal.place))
+    before literals_fault columns literals
 
 -- the number of literals, then their kinds
 abbrev pub row_fault : TableSchema → OpeningRow → Check
@@ -81,7 +86,8 @@ row_fault table row =
 
 -- the table, then the row
 abbrev pub opening_row_fault : List TableSchema → OpeningRow → Check
-opening_row_fault tables row = where_there (table_named tables row.table.name) (NoTable row.table.place) (λ table. row_fault table row)
+opening_row_fault tables row =
+    where_there (table_named tables row.table.name) (NoTable row.table.place) (λ table. row_fault table row)
 
 -- a term is looked up
 abbrev pub term_fault : {A : Type 0} → Lookup A → A → Check
@@ -90,19 +96,22 @@ term_fault lookup term = where_there (lookup.kind term) (lookup.missing term) (�
 -- a term is looked up, and has this kind
 abbrev pub kind_fault : {A : Type 0} → Lookup A → Kind → A → Check
 kind_fault lookup wanted term =
-    where_there (lookup.kind term) (lookup.missing term) (λ kind. if same_kind wanted kind then None else Some (WrongKind (lookup.place term)))
+    where_there (lookup.kind term) (lookup.missing term)
+    (λ kind. if same_kind wanted kind then None else Some (WrongKind (lookup.place term)))
 
 -- a term alone is looked up; the terms of a sum or a difference, one after the other, are looked up and are numbers
 abbrev pub expression_fault : {A : Type 0} → Lookup A → Expression A → Check
 expression_fault lookup (Single term) = term_fault lookup term
 expression_fault lookup (Sum left right) = kind_fault lookup kinds.Int left before kind_fault lookup kinds.Int right
-expression_fault lookup (Difference left right) = kind_fault lookup kinds.Int left before kind_fault lookup kinds.Int right
+expression_fault lookup (Difference left right) =
+    kind_fault lookup kinds.Int left before kind_fault lookup kinds.Int right
 
 -- values and columns side by side: each value is looked up, and has the column's kind
 abbrev pub values_fault : Bound → List ColumnSchema → List ValueSpecification → Check
 values_fault bound [] values = None
 values_fault bound (column ∷ columns) [] = None
-values_fault bound (column ∷ columns) (value ∷ values) = kind_fault (values_in bound) column.kind value before values_fault bound columns values
+values_fault bound (column ∷ columns) (value ∷ values) =
+    kind_fault (values_in bound) column.kind value before values_fault bound columns values
 
 -- the table, the number of values, then each of them
 abbrev pub insert_fault : List TableSchema → Bound → Insert → Check
@@ -131,7 +140,8 @@ select_fault tables bound select =
 -- the table, then WHERE
 abbrev pub delete_fault : List TableSchema → Bound → Delete → Check
 delete_fault tables bound delete =
-    where_there (table_named tables delete.table.name) (NoTable delete.table.place) (λ table. first_of (test_fault table.columns bound) delete.tests)
+    where_there (table_named tables delete.table.name) (NoTable delete.table.place)
+    (λ table. first_of (test_fault table.columns bound) delete.tests)
 
 -- an expression has this kind, where it has one
 abbrev pub assigned_kind_fault : Kind → Option Kind → ℕ → Check
@@ -144,18 +154,21 @@ assignment_fault columns bound earlier assignment =
     where_there (column_kind columns assignment.column.name) (NoColumn assignment.column.place) (λ kind.
     refused_where (is_among earlier assignment.column.name) (Repeated assignment.column.place)
     before expression_fault (operands_in columns bound) assignment.expression
-    before assigned_kind_fault kind (expression_kind (operands_in columns bound) assignment.expression) (expression_place (operands_in columns bound) assignment.expression))
+    before assigned_kind_fault kind (expression_kind (operands_in columns bound) assignment.expression)
+    (expression_place (operands_in columns bound) assignment.expression))
 
 abbrev pub assignments_fault : List ColumnSchema → Bound → List Name → List Assignment → Check
 assignments_fault columns bound earlier [] = None
 assignments_fault columns bound earlier (assignment ∷ more) =
-    assignment_fault columns bound earlier assignment before assignments_fault columns bound (earlier ++ assignment.column.name ∷ []) more
+    assignment_fault columns bound earlier assignment
+    before assignments_fault columns bound (earlier ++ assignment.column.name ∷ []) more
 
 -- the table, then WHERE, then the assignments
 abbrev pub update_fault : List TableSchema → Bound → Update → Check
 update_fault tables bound update =
     where_there (table_named tables update.table.name) (NoTable update.table.place) (λ table.
-    first_of (test_fault table.columns bound) update.tests before assignments_fault table.columns bound [] update.assignments)
+    first_of (test_fault table.columns bound) update.tests
+    before assignments_fault table.columns bound [] update.assignments)
 
 abbrev pub statement_fault : List TableSchema → Bound → Statement → Check
 statement_fault tables bound (statements.Insert insert) = insert_fault tables bound insert
@@ -167,14 +180,16 @@ statement_fault tables bound (statements.Select select) = select_fault tables bo
 -- statements one after the other, each with what those before it bind
 abbrev pub statements_fault : List TableSchema → Bound → List Statement → Check
 statements_fault tables bound [] = None
-statements_fault tables bound (statement ∷ more) = statement_fault tables bound statement before statements_fault tables (bound_after bound statement) more
+statements_fault tables bound (statement ∷ more) =
+    statement_fault tables bound statement before statements_fault tables (bound_after bound statement) more
 
 abbrev pub script_fault : List TableSchema → Script → Check
 script_fault tables script = statements_fault tables none_bound script.statements
 
 -- declarations, then opening rows
 abbrev pub opening_fault : Opening → Check
-opening_fault opening = declarations_fault [] opening.tables before first_of (opening_row_fault (schemas_of opening.tables)) opening.rows
+opening_fault opening =
+    declarations_fault [] opening.tables before first_of (opening_row_fault (schemas_of opening.tables)) opening.rows
 
 -- an answer where there is no fault
 abbrev pub unless : {A : Type 0} → Check → A → Result A FormFault

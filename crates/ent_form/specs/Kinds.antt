@@ -48,7 +48,8 @@ value_kind bound (specifications.HostVariable variable) = bound variable.name
 
 -- values that are written, and host variables that are bound
 abbrev pub values_in : Bound → Lookup ValueSpecification
-values_in bound = record { kind = value_kind bound; place = value_place; missing = λ value. NoHostVariable (value_place value) }
+values_in bound =
+    record { kind = value_kind bound; place = value_place; missing = λ value. NoHostVariable (value_place value) }
 
 abbrev pub operand_kind : List ColumnSchema → Bound → Operand → Option Kind
 operand_kind columns bound (operands.Value value) = value_kind bound value
@@ -64,7 +65,8 @@ operand_missing (operands.Column column) = NoColumn column.place
 
 -- values, and the columns of a table
 abbrev pub operands_in : List ColumnSchema → Bound → Lookup Operand
-operands_in columns bound = record { kind = operand_kind columns bound; place = operand_place; missing = operand_missing }
+operands_in columns bound =
+    record { kind = operand_kind columns bound; place = operand_place; missing = operand_missing }
 
 -- the kind of a term alone; a sum and a difference are numbers
 abbrev pub expression_kind : {A : Type 0} → Lookup A → Expression A → Option Kind
@@ -83,7 +85,8 @@ abbrev pub bound_after : Bound → Statement → Bound
 bound_after bound (statements.Insert insert) = bound
 bound_after bound (statements.Delete delete) = bound
 bound_after bound (statements.Update update) = bound
-bound_after bound (statements.Set setting) = with_kind bound setting.variable.name (unwrap_or (expression_kind (values_in bound) setting.expression) kinds.Int)
+bound_after bound (statements.Set setting) =
+    with_kind bound setting.variable.name (unwrap_or (expression_kind (values_in bound) setting.expression) kinds.Int)
 bound_after bound (statements.Select select) = bound
 
 -- what statements bind, one after the other

@@ -47,15 +47,23 @@ plain_expression term (Difference left right) = Difference (term left) (term rig
 abbrev pub assigned : List Name → List Assignment → ℕ → Expression PlainOperand
 assigned columns [] number = Single (plain.Column number)
 assigned columns (assignment ∷ more) number =
-    if index_of columns assignment.column.name == number then plain_expression (plain_operand columns) assignment.expression else assigned columns more number
+    if index_of columns assignment.column.name == number
+    then plain_expression (plain_operand columns) assignment.expression
+    else assigned columns more number
 
 -- the expressions of the columns from a number on, as many as there are names
 abbrev pub image_from : List Name → List Assignment → ℕ → List Name → List (Expression PlainOperand)
 image_from columns assignments number [] = []
-image_from columns assignments number (name ∷ names) = assigned columns assignments number ∷ image_from columns assignments (suc number) names
+image_from columns assignments number (name ∷ names) =
+    assigned columns assignments number ∷ image_from columns assignments (suc number) names
 
 abbrev pub plain_test : List Name → Test → PlainTest
-plain_test columns test = record { left = plain_operand columns test.left; comparison = test.comparison; right = plain_operand columns test.right }
+plain_test columns test =
+    record {
+      left = plain_operand columns test.left;
+      comparison = test.comparison;
+      right = plain_operand columns test.right;
+    }
 
 -- the columns from a number on, as many as there are names
 abbrev pub columns_from : ℕ → List Name → List PlainOperand
@@ -71,16 +79,21 @@ abbrev pub columns_named : List TableSchema → Name → List Name
 columns_named tables table = option_map_or (λ schema. column_names schema.columns) (table_named tables table) []
 
 abbrev pub plain_statement : List TableSchema → Statement → PlainStatement
-plain_statement tables (statements.Insert insert) = resolved.Insert (index_of (names_of tables) insert.table.name) (map plain_known insert.values)
+plain_statement tables (statements.Insert insert) =
+    resolved.Insert (index_of (names_of tables) insert.table.name) (map plain_known insert.values)
 plain_statement tables (statements.Delete delete) =
-    resolved.Delete (index_of (names_of tables) delete.table.name) (map (plain_test (columns_named tables delete.table.name)) delete.tests)
+    resolved.Delete (index_of (names_of tables) delete.table.name)
+    (map (plain_test (columns_named tables delete.table.name)) delete.tests)
 plain_statement tables (statements.Update update) =
     let columns = columns_named tables update.table.name in
-    resolved.Update (index_of (names_of tables) update.table.name) (image_from columns update.assignments 0 columns) (map (plain_test columns) update.tests)
-plain_statement tables (statements.Set setting) = resolved.Set setting.variable.name (plain_expression plain_known setting.expression)
+    resolved.Update (index_of (names_of tables) update.table.name) (image_from columns update.assignments 0 columns)
+    (map (plain_test columns) update.tests)
+plain_statement tables (statements.Set setting) =
+    resolved.Set setting.variable.name (plain_expression plain_known setting.expression)
 plain_statement tables (statements.Select select) =
     let columns = columns_named tables select.source.name in
-    resolved.Select (index_of (names_of tables) select.source.name) (plain_items columns select.items) (map (plain_test columns) select.tests)
+    resolved.Select (index_of (names_of tables) select.source.name) (plain_items columns select.items)
+    (map (plain_test columns) select.tests)
 
 abbrev pub plain_script : List TableSchema → Script → Plain
 plain_script tables script = record { statements = map (plain_statement tables) script.statements; end = script.end }

@@ -1,5 +1,6 @@
 -- What resolved statements mean, over the rows of tables in the order of their declaration.
-use Rattle.std.specs.Prelude.{◌≡◌, ℕ, ◌<◌, Bool, true, not, List, [], ◌∷◌, map, length, Option, Some, None, Result, Ok, Err, is_some, nat_le, slice_get, slice_index_or, slice_set, unwrap_or, if◌then◌else◌}
+use Rattle.std.specs.Prelude.{◌≡◌, ℕ, ◌<◌, Bool, true, not, List, [], ◌∷◌, map, length, Option, Some, None, Result, Ok}
+use Rattle.std.specs.Prelude.{Err, is_some, nat_le, slice_get, slice_index_or, slice_set, unwrap_or, if◌then◌else◌}
 use Rattle.std.specs.List.{list_all, filter, filter_map}
 use Rattle.std.specs.Option.{option_map}
 use Rattle.ent_set.specs.Sets as set
@@ -17,7 +18,8 @@ use Rattle.ent_semantics.specs.declared.answer.Failure.TheVariants.{TableFull}
 use Rattle.ent_semantics.specs.Change.{all_there}
 use Rattle.ent_semantics.specs.Database.{Name, Rows, Database, Environment, same_name, with_value}
 use Rattle.ent_semantics.specs.Selection.{compares}
-use Rattle.ent_semantics.specs.Statement.{Effect, most_rows, or_overflow}
+use Rattle.ent_value.specs.declared.limits.TheConstants.{MOST_ROWS}
+use Rattle.ent_semantics.specs.Statement.{Effect, or_overflow}
 use Rattle.ent_semantics.specs.Term.{no_value, expression_value}
 use Rattle.ent_form.specs.declared.catalogue.TableSchema.{TableSchema}
 use Rattle.ent_form.specs.declared.plain.PlainOperand.{PlainOperand}
@@ -40,7 +42,9 @@ plain_value environment row (plain.Value value) = plain_known_value environment 
 plain_value environment row (plain.Column number) = slice_index_or row number no_value
 
 abbrev pub plain_passes : Environment → List Value → PlainTest → Bool
-plain_passes environment row test = compares test.comparison (value_cmp (plain_value environment row test.left) (plain_value environment row test.right))
+plain_passes environment row test =
+    compares test.comparison
+    (value_cmp (plain_value environment row test.left) (plain_value environment row test.right))
 
 abbrev pub plain_meets : Environment → List PlainTest → List Value → Bool
 plain_meets environment tests row = list_all (plain_passes environment row) tests
@@ -50,7 +54,8 @@ plain_row environment shown row = map (plain_value environment row) shown
 
 -- the item rows of the rows that meet every test
 abbrev pub plain_selection : Environment → List PlainOperand → List PlainTest → Rows → Rows
-plain_selection environment shown tests rows = set.from_list (map (plain_row environment shown) (filter (plain_meets environment tests) (set.ascending rows)))
+plain_selection environment shown tests rows =
+    set.from_list (map (plain_row environment shown) (filter (plain_meets environment tests) (set.ascending rows)))
 
 -- a row with each column changed to its expression's value; nothing where one is beyond 64 bits
 abbrev pub plain_image : Environment → List (Expression PlainOperand) → List Value → Option (List Value)
@@ -69,7 +74,8 @@ abbrev pub plain_updated : Environment → List (Expression PlainOperand) → Li
 plain_updated environment image tests rows =
     let old = set.ascending (plain_matched environment tests rows) in
     if list_all (λ row. is_some (plain_image environment image row)) old
-    then Some (set.insert_all (plain_unmatched environment tests rows) (filter_map (plain_image environment image) old)) else None
+    then Some (set.insert_all (plain_unmatched environment tests rows) (filter_map (plain_image environment image) old))
+    else None
 
 -- the rows of the tables after a statement, the environment after it, and its answer
 pub record PlainEffect : Type 0 where
@@ -84,7 +90,7 @@ table_rows tables table = slice_index_or tables table set.empty
 -- a table gets other rows, and count answers how many it concerned; too many rows are a failure
 abbrev pub plain_changed : List Rows → Environment → ℕ → ℕ → Rows → Result PlainEffect Failure
 plain_changed tables environment table count rows =
-    if nat_le (set.len rows) most_rows
+    if nat_le (set.len rows) MOST_ROWS
     then Ok (record { tables = slice_set tables table rows; environment = environment; answer = answers.Count count })
     else Err TableFull
 
@@ -102,7 +108,8 @@ plain_meaning tables environment (resolved.Delete table tests) =
     })
 plain_meaning tables environment (resolved.Update table image tests) =
     let rows = table_rows tables table in
-    or_overflow (plain_updated environment image tests rows) (λ after. plain_changed tables environment table (set.len (plain_matched environment tests rows)) after)
+    or_overflow (plain_updated environment image tests rows)
+    (λ after. plain_changed tables environment table (set.len (plain_matched environment tests rows)) after)
 plain_meaning tables environment (resolved.Set variable expression) =
     or_overflow (expression_value (plain_known_value environment) expression) (λ value.
     Ok (record { tables = tables; environment = with_value environment variable value; answer = answers.Value value }))
@@ -125,7 +132,8 @@ opening_tables opening = map (λ name. set.from_list (rows_named opening name)) 
 
 -- the effect of a resolved statement, seen by names
 abbrev pub effect_of : List Name → Result PlainEffect Failure → Result Effect Failure
-effect_of names (Ok effect) = Ok (record { database = database_of names effect.tables; environment = effect.environment; answer = effect.answer })
+effect_of names (Ok effect) =
+    Ok (record { database = database_of names effect.tables; environment = effect.environment; answer = effect.answer })
 effect_of names (Err failure) = Err failure
 
 -- the kinds of a table's columns
@@ -156,7 +164,8 @@ abbrev pub plain_bound_after : Bound → PlainStatement → Bound
 plain_bound_after bound (resolved.Insert table values) = bound
 plain_bound_after bound (resolved.Delete table tests) = bound
 plain_bound_after bound (resolved.Update table image tests) = bound
-plain_bound_after bound (resolved.Set variable expression) = with_kind bound variable (unwrap_or (kind_with (known_kind bound) expression) kinds.Int)
+plain_bound_after bound (resolved.Set variable expression) =
+    with_kind bound variable (unwrap_or (kind_with (known_kind bound) expression) kinds.Int)
 plain_bound_after bound (resolved.Select table shown tests) = bound
 
 -- a statement names a table that is there, and the row or the image that it puts in has the kinds of the table's
@@ -174,7 +183,8 @@ Fits tables bound (resolved.Select table shown tests) = table < length tables
 -- each statement fits with what those before it bind
 abbrev pub AllFit : List (List Kind) → Bound → List PlainStatement → Type 0
 AllFit tables bound [] = Unit {0}
-AllFit tables bound (statement ∷ more) = Fits tables bound statement × AllFit tables (plain_bound_after bound statement) more
+AllFit tables bound (statement ∷ more) =
+    Fits tables bound statement × AllFit tables (plain_bound_after bound statement) more
 
 -- a row has the kinds of the columns of a table that is there
 abbrev pub RowFits : List (List Kind) → ℕ → List Value → Type 0
@@ -185,4 +195,5 @@ abbrev pub AreOfKinds : List (List Kind) → List Rows → Type 0
 AreOfKinds [] [] = Unit {0}
 AreOfKinds [] (rows ∷ tables) = ⊥
 AreOfKinds (first ∷ kinds) [] = ⊥
-AreOfKinds (first ∷ kinds) (rows ∷ tables) = ((row : List Value) → set.contains rows row ≡ true → kinds_of row ≡ first) × AreOfKinds kinds tables
+AreOfKinds (first ∷ kinds) (rows ∷ tables) =
+    ((row : List Value) → set.contains rows row ≡ true → kinds_of row ≡ first) × AreOfKinds kinds tables

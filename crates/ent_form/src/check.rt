@@ -4,7 +4,8 @@ ghost use Rattle.std.specs.List.{list_any};
 ghost use Rattle.ent_semantics.specs.Database.{same_name};
 ghost use Rattle.ent_form.specs.Bindings.{bound_in};
 ghost use Rattle.ent_form.specs.Kinds.{operands_in, expression_kind, expression_place};
-ghost use Rattle.ent_form.specs.FirstFault.{first_of, values_fault, test_fault, items_fault, term_fault, ◌before◌, expression_fault, assigned_kind_fault, assignment_fault, assignments_fault};
+ghost use Rattle.ent_form.specs.FirstFault.{first_of, values_fault, test_fault, items_fault, term_fault, ◌before◌};
+ghost use Rattle.ent_form.specs.FirstFault.{expression_fault, assigned_kind_fault, assignment_fault, assignments_fault};
 
 use crate::binding::Bindings;
 use crate::catalogue::{ColumnSchema, TableSchema};
@@ -111,7 +112,7 @@ fn assigned_kind_fault(wanted: Kind, kind: Option<Kind>, place: usize) -> Option
 }
 
 /// The fault of what is assigned to a column of this kind: its terms, then its kind.
-#[tactic(auto, using(crate::proofs::Steps::found_fault, crate::proofs::Steps::found_kind, crate::proofs::Steps::found_place))]
+#[tactic(auto, using(crate::proofs::Steps::founds))]
 fn right_side_fault(
     table: &TableSchema,
     bindings: &Bindings,
@@ -119,7 +120,9 @@ fn right_side_fault(
     expression: &Expression<Operand>,
 ) -> Option<FormFault>
     ensures { let lookup = operands_in table.now.columns (bound_in bindings.now) in
-        result ≡ (expression_fault lookup expression.now before assigned_kind_fault wanted (expression_kind lookup expression.now) (expression_place lookup expression.now)) }
+        let kind = expression_kind lookup expression.now in
+        let place = expression_place lookup expression.now in
+        result ≡ (expression_fault lookup expression.now before assigned_kind_fault wanted kind place) }
 {
     let terms = operand_terms(table, bindings, expression);
     if let Some(fault) = expression_fault(&terms) {
@@ -135,7 +138,8 @@ fn assignment_fault(
     earlier: &[Assignment],
     assignment: &Assignment,
 ) -> Option<FormFault>
-    ensures { result ≡ assignment_fault table.now.columns (bound_in bindings.now) (map (λ assignment. assignment.column.name) earlier.now) assignment.now }
+    ensures { let assigned = map (λ assignment. assignment.column.name) earlier.now in
+        result ≡ assignment_fault table.now.columns (bound_in bindings.now) assigned assignment.now }
 {
     let column = &assignment.column;
     let Some((_, wanted)) = table.column_named(&column.name) else {

@@ -15,7 +15,9 @@ ghost use Rattle.ent_form.specs.Catalogue.{schemas_of, names_of, index_of};
 ghost use Rattle.ent_form.specs.Kinds.{Bound, none_bound, bound_after};
 ghost use Rattle.ent_form.specs.FirstFault.{declarations_fault, opening_fault, statement_fault, script_fault};
 ghost use Rattle.ent_form.specs.Plain.{plain_statement, plain_script, rows_named};
-ghost use Rattle.ent_form.specs.PlainMeaning.{Fits, AllFit, RowFits, AreOfKinds, schema_kinds, kinds_bound, plain_bound_after, plain_meaning, table_rows, database_of, opening_tables, effect_of};
+ghost use Rattle.ent_form.specs.PlainMeaning.{Fits, AllFit, RowFits, AreOfKinds, schema_kinds, kinds_bound};
+ghost use Rattle.ent_form.specs.PlainMeaning.{plain_bound_after, plain_meaning, table_rows, database_of};
+ghost use Rattle.ent_form.specs.PlainMeaning.{opening_tables, effect_of};
 
 /// Scripts without a fault name tables that are there, and the rows and the images that they put in have the kinds of
 /// their table's columns.
@@ -31,8 +33,9 @@ pub fn opening_rows_fit()
     ensures each { (opening : Opening)
         → opening_fault opening ≡ None
         → let schemas = schemas_of opening.tables in
-        AllByRecursion (λ row. RowFits (map schema_kinds schemas) (index_of (names_of schemas) row.table.name) (row_of row))
-        opening.rows }
+        let kinds = map schema_kinds schemas in
+        let number = index_of (names_of schemas) in
+        AllByRecursion (λ row. RowFits kinds (number row.table.name) (row_of row)) opening.rows }
     ensures of_table { (opening : Opening) (table : ℕ)
         → opening_fault opening ≡ None
         → table < length (schemas_of opening.tables)
@@ -67,10 +70,11 @@ pub fn opening_tables_mean_the_same()
         → opening_database opening ≡ database_of (names_of (schemas_of opening.tables)) (opening_tables opening) }
 {}
 
-/// Over tables that are declared without a fault, a statement without a fault means what it means resolved, over the
-/// same rows under their tables' names.
+/// Over tables that are declared without a fault, whose rows have the kinds of their columns, a statement without a
+/// fault means what it means resolved, over the same rows under their tables' names.
 pub fn resolved_means_the_same()
-    ensures { (creates : List Create) (tables : List Rows) (bound : Bound) (environment : Environment) (statement : Statement)
+    ensures { (creates : List Create) (tables : List Rows)
+        → (bound : Bound) (environment : Environment) (statement : Statement)
         → declarations_fault [] creates ≡ None
         → AreOfKinds (map schema_kinds (schemas_of creates)) tables
         → statement_fault (schemas_of creates) bound statement ≡ None
@@ -82,7 +86,8 @@ pub fn resolved_means_the_same()
 /// A resolved statement that fits leaves tables whose rows have the kinds of their columns; whether it fits or not, the
 /// kinds of the values that are bound after it are those that are known from its text.
 pub fn resolved_keeps_kinds()
-    ensures tables { (kinds : List (List Kind)) (tables : List Rows) (environment : Environment) (statement : PlainStatement)
+    ensures tables { (kinds : List (List Kind)) (tables : List Rows)
+        → (environment : Environment) (statement : PlainStatement)
         → AreOfKinds kinds tables
         → Fits kinds (kinds_bound environment) statement
         → IfOk (plain_meaning tables environment statement) (λ effect. AreOfKinds kinds effect.tables) }

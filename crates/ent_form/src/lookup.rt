@@ -1,7 +1,8 @@
 //! Terms of statements, looked up.
 ghost use Rattle.std.specs.Prelude.{◌≡◌, None};
 ghost use Rattle.ent_form.specs.Bindings.{bound_in};
-ghost use Rattle.ent_form.specs.Kinds.{values_in, operands_in, value_place, operand_place, operand_missing, expression_kind, expression_place};
+ghost use Rattle.ent_form.specs.Kinds.{values_in, operands_in, value_place, operand_place, operand_missing};
+ghost use Rattle.ent_form.specs.Kinds.{expression_kind, expression_place};
 ghost use Rattle.ent_form.specs.Lookup.{found_in, looked_up};
 ghost use Rattle.ent_form.specs.FirstFault.{term_fault, kind_fault, expression_fault};
 ghost use Rattle.ent_form.specs.Plain.{plain_expression};
@@ -109,7 +110,8 @@ pub(crate) fn operand_terms(
     bindings: &Bindings,
     expression: &Expression<Operand>,
 ) -> Expression<Found>
-    ensures { result ≡ plain_expression (found_in (operands_in table.now.columns (bound_in bindings.now))) expression.now }
+    ensures { let lookup = operands_in table.now.columns (bound_in bindings.now) in
+        result ≡ plain_expression (found_in lookup) expression.now }
 {
     match expression {
         Expression::Single(term) => Expression::Single(operand(table, bindings, term)),

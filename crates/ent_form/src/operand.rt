@@ -1,7 +1,8 @@
 //! The parts of statements, resolved against the columns of a table.
 ghost use Rattle.std.specs.Prelude.{◌≡◌, IfOk, map};
 ghost use Rattle.ent_form.specs.Catalogue.{column_names};
-ghost use Rattle.ent_form.specs.Plain.{plain_known, plain_operand, plain_expression, assigned, image_from, plain_test, columns_from, plain_items};
+ghost use Rattle.ent_form.specs.Plain.{plain_known, plain_operand, plain_expression, assigned, image_from, plain_test};
+ghost use Rattle.ent_form.specs.Plain.{columns_from, plain_items};
 
 use crate::catalogue::TableSchema;
 use crate::plain::{PlainOperand, PlainTest, PlainValue};
@@ -71,7 +72,8 @@ fn operand_expression(
     table: &TableSchema,
     expression: &Expression<Operand>,
 ) -> Result<Expression<PlainOperand>, AllocError>
-    ensures { IfOk result (λ plain. plain ≡ plain_expression (plain_operand (column_names table.now.columns)) expression.now) }
+    ensures { IfOk result (λ plain.
+        plain ≡ plain_expression (plain_operand (column_names table.now.columns)) expression.now) }
 {
     Ok(match expression {
         Expression::Single(term) => Expression::Single(plain_operand(alloc, table, term)?),
@@ -109,7 +111,8 @@ pub(crate) fn image(
     table: &TableSchema,
     assignments: &[Assignment],
 ) -> Result<Sequence<Expression<PlainOperand>>, AllocError>
-    ensures { IfOk result (λ image. let names = column_names table.now.columns in image ≡ image_from names assignments.now 0 names) }
+    ensures { let names = column_names table.now.columns in
+        IfOk result (λ image. image ≡ image_from names assignments.now 0 names) }
 {
     let count = table.columns.len();
     let mut image = Vec::with_capacity(alloc, count)?;

@@ -1,5 +1,7 @@
 -- Members of a run, each with the label of its group.
-use Rattle.std.specs.Prelude.{◌≡◌, ℕ, ◌<◌, ◌≤◌, ◌==◌, ◌⊎◌, Bool, not, if◌then◌else◌, List, [], ◌∷◌, length, map, All, AllPairs, Option, None, Some}
+use Rattle.ent_group.specs.declared.members.TheConstants.{MOST_MEMBERS}
+use Rattle.std.specs.Prelude.{◌≡◌, ℕ, ◌<◌, ◌≤◌, ◌==◌, ◌⊎◌, Bool, not, if◌then◌else◌, List, [], ◌∷◌, length, map, All}
+use Rattle.std.specs.Prelude.{AllPairs, Option, None, Some}
 use Rattle.std.specs.Option.{option_map}
 use Rattle.ent_group.specs.declared.groups.Membership.{Membership}
 
@@ -51,6 +53,6 @@ abbrev pub IsNamed : List Membership → Type 0
 IsNamed ms = All (λ m. group_of ms m.group ≡ Some m.group) ms
 
 pub record IsGrouping (ms : List Membership) : Type 0 where
-  pub bound : length ms ≤ 64
+  pub bound : length ms ≤ MOST_MEMBERS
   pub by_number : IsByNumber ms
   pub named : IsNamed ms

@@ -1,5 +1,7 @@
 -- Who waits for whom, over others too.
-use Rattle.std.specs.Prelude.{◌≡◌, ◌≢◌, ℕ, ◌<◌, ◌≤◌, max, List, ◌∷◌, Option, None, Some, length, All, AllPairs, Contains, slice_index}
+use Rattle.ent_group.specs.declared.members.TheConstants.{MOST_MEMBERS}
+use Rattle.std.specs.Prelude.{◌≡◌, ◌≢◌, ℕ, ◌<◌, ◌≤◌, max, List, ◌∷◌, Option, None, Some, length, All, AllPairs}
+use Rattle.std.specs.Prelude.{Contains, slice_index}
 use Rattle.ent_group.specs.Cycle.{waiters_of, links_to}
 
 -- those who wait, each once
@@ -7,7 +9,7 @@ pub record AreWaiters (waits : List (ℕ × ℕ)) (waiters : List ℕ) : Type 0 
   pub distinct : AllPairs (λ x y. x ≢ y) waiters
   pub each : All (Contains (waiters_of waits)) waiters
   pub all : All (λ p. Contains waiters p.0) waits
-  pub bound : length waiters ≤ 64
+  pub bound : length waiters ≤ MOST_MEMBERS
 
 -- a number stands at a place of a list
 abbrev pub IsAt : List ℕ → ℕ → ℕ → Type 0

@@ -1,9 +1,11 @@
 //! The groups of a run's transactions.
-ghost use Rattle.std.specs.Prelude.{◌≡◌, ℕ, ◌+◌, ◌-◌, ◌<◌, ◌≤◌, ◌==◌, ◌⊎◌, ◌↔◌, [], length, map, filter, take, insert, count_by, nat_lt, IsTrue, IsSome, IsNone, Contains, if◌then◌else◌};
+ghost use Rattle.std.specs.Prelude.{◌≡◌, ℕ, ◌+◌, ◌-◌, ◌<◌, ◌≤◌, ◌==◌, ◌⊎◌, ◌↔◌, [], length, map, filter, take};
+ghost use Rattle.std.specs.Prelude.{insert, count_by, nat_lt, IsTrue, IsSome, IsNone, Contains, if◌then◌else◌};
 ghost use Rattle.std.specs.List.Sorted.{IsStrictlyIncreasing};
-ghost use Rattle.ent_group.specs.Groups.{group_of, moved_label, relabelled, numbers_of, is_of, is_of_another, SameGroup, InEither, Relabels, IsByNumber};
+ghost use Rattle.ent_group.specs.Groups.{group_of, moved_label, relabelled, numbers_of, is_of, is_of_another};
+ghost use Rattle.ent_group.specs.Groups.{SameGroup, InEither, Relabels, IsByNumber};
 
-use crate::members::{Members, Tx};
+use crate::members::{MOST_MEMBERS, Members, Tx};
 use std::marker::Model;
 
 /// A member of a run with the label of its group. Two members are of one group where they have one label.
@@ -13,16 +15,17 @@ pub struct Membership {
     pub group: Tx,
 }
 
-/// The members of a run, up to 64, each in one group. It takes no memory, so no call of it can fail.
+/// The members of a run, up to [`MOST_MEMBERS`], each in one group. It takes no memory, so no call of it can fail.
 #[derive(Debug, Drop)]
 pub struct Groups {
-    memberships: [Membership; 64],
+    memberships: [Membership; MOST_MEMBERS],
     len: usize,
 }
 
 impl Model for Groups {
     ghost use Rattle.std.specs.Prelude.{List, take, ◌≤◌};
     ghost use Rattle.ent_group.specs.declared.groups.Membership.{Membership as Entry};
+    ghost use Rattle.ent_group.specs.declared.members.TheConstants.{MOST_MEMBERS};
 
     ghost Value = { List Entry };
 
@@ -30,7 +33,7 @@ impl Model for Groups {
 
     ghost view = { λ g. take g.len g.memberships };
 
-    ghost invariant = { λ g. (g.len ≤ 64) × IsGrouping (take g.len g.memberships) };
+    ghost invariant = { λ g. (g.len ≤ MOST_MEMBERS) × IsGrouping (take g.len g.memberships) };
 }
 
 impl Groups {
@@ -43,14 +46,14 @@ impl Groups {
             group: 0,
         };
         Groups {
-            memberships: [nobody; 64],
+            memberships: [nobody; MOST_MEMBERS],
             len: 0,
         }
     }
 
     pub fn len(&self) -> usize
         ensures len { result ≡ length self.now }
-        ensures bound { length self.now ≤ 64 }
+        ensures bound { length self.now ≤ MOST_MEMBERS }
     {
         self.as_slice().len()
     }
@@ -65,7 +68,7 @@ impl Groups {
     pub fn as_slice(&self) -> &[Membership]
         ensures list { result.now ≡ self.now }
         ensures by_number { IsByNumber self.now }
-        ensures bound { length self.now ≤ 64 }
+        ensures bound { length self.now ≤ MOST_MEMBERS }
     {
         &self.memberships[..self.len]
     }
@@ -108,7 +111,7 @@ impl Groups {
     /// Makes a transaction a member, in a group of its own; [`contains`](Groups::contains) tests whether it is one
     /// already, and [`len`](Groups::len) whether there is room.
     pub fn add(&mut self, tx: Tx)
-        requires room { length self.old < 64 }
+        requires room { length self.old < MOST_MEMBERS }
         requires not_in { IsNone (group_of self.old tx) }
         ensures labels { (x : ℕ) → group_of self.new x ≡ (if tx == x then Some tx else group_of self.old x) }
         ensures classes { (x y : ℕ) → SameGroup self.new x y ↔ (SameGroup self.old x y ⊎ ((x ≡ tx) × (y ≡ tx))) }
@@ -132,7 +135,8 @@ impl Groups {
         requires left_in { IsSome (group_of self.old left) }
         requires right_in { IsSome (group_of self.old right) }
         ensures labels { Relabels self.old self.new left right }
-        ensures classes { (x y : ℕ) → SameGroup self.new x y ↔ (SameGroup self.old x y ⊎ (InEither self.old left right x × InEither self.old left right y)) }
+        ensures classes { (x y : ℕ) → SameGroup self.new x y
+            ↔ (SameGroup self.old x y ⊎ (InEither self.old left right x × InEither self.old left right y)) }
         ensures members { numbers_of self.new ≡ numbers_of self.old }
     {
         if let (Some(kept), Some(gone)) = (self.group_of(left), self.group_of(right)) {
@@ -164,7 +168,7 @@ fn label_of(memberships: &[Membership], tx: Tx) -> Option<Tx>
 
 /// The members of the group with a label.
 fn labelled(memberships: &[Membership], group: Tx) -> Members
-    requires { length memberships.now ≤ 64 }
+    requires { length memberships.now ≤ MOST_MEMBERS }
     ensures { result ≡ numbers_of (filter (is_of group) memberships.now) }
 {
     let mut members = Members::new();
@@ -226,6 +230,3 @@ fn keep_others(memberships: &mut [Membership], len: usize, group: Tx) -> usize
     }
     kept
 }
-
-#[cfg(test)]
-mod tests;

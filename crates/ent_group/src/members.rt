@@ -1,5 +1,6 @@
-//! Up to 64 transactions, in a fixed array.
-ghost use Rattle.std.specs.Prelude.{◌≡◌, ◌<◌, ◌≤◌, ◌==◌, ◌∷◌, ◌++◌, ◌↔◌, [], length, IsTrue, Contains, slice_get, false};
+//! A few transactions, in a fixed array.
+ghost use Rattle.std.specs.Prelude.{◌≡◌, ◌<◌, ◌≤◌, ◌==◌, ◌∷◌, ◌++◌, ◌↔◌, [], length, IsTrue, Contains, slice_get};
+ghost use Rattle.std.specs.Prelude.{false};
 ghost use Rattle.std.specs.List.{list_any};
 ghost use Rattle.std.specs.Slice.Iter.{iter_rest};
 ghost use Rattle.std.specs.Cmp.Rules.{comparing};
@@ -15,21 +16,22 @@ pub type Tx = u64;
 /// The most transactions that a run has, and a list of its members holds.
 pub const MOST_MEMBERS: usize = 64;
 
-/// A list of up to 64 transactions. It takes no memory, so no call of it can fail.
+/// A list of up to [`MOST_MEMBERS`] transactions. It takes no memory, so no call of it can fail.
 #[derive(Debug, Drop)]
 pub struct Members {
-    numbers: [u64; 64],
+    numbers: [Tx; MOST_MEMBERS],
     len: usize,
 }
 
 impl Model for Members {
     ghost use Rattle.std.specs.Prelude.{List, ℕ, take, ◌≤◌};
+    ghost use Rattle.ent_group.specs.declared.members.TheConstants.{MOST_MEMBERS};
 
     ghost Value = { List ℕ };
 
     ghost view = { λ m. take m.len m.numbers };
 
-    ghost invariant = { λ m. m.len ≤ 64 };
+    ghost invariant = { λ m. m.len ≤ MOST_MEMBERS };
 }
 
 impl Members {
@@ -38,7 +40,7 @@ impl Members {
         ensures { result ≡ [] }
     {
         Members {
-            numbers: [0; 64],
+            numbers: [0; MOST_MEMBERS],
             len: 0,
         }
     }
@@ -54,7 +56,7 @@ impl Members {
 
     pub fn len(&self) -> usize
         ensures len { result ≡ length self.now }
-        ensures bound { length self.now ≤ 64 }
+        ensures bound { length self.now ≤ MOST_MEMBERS }
     {
         self.as_slice().len()
     }
@@ -65,17 +67,17 @@ impl Members {
         self.len == 0
     }
 
-    /// Whether the list holds 64 transactions, so that none can be put to it.
+    /// Whether the list holds [`MOST_MEMBERS`] transactions, so that none can be put to it.
     pub fn is_full(&self) -> bool
-        ensures full { IsTrue result ↔ (length self.now ≡ 64) }
-        ensures bound { length self.now ≤ 64 }
+        ensures full { IsTrue result ↔ (length self.now ≡ MOST_MEMBERS) }
+        ensures bound { length self.now ≤ MOST_MEMBERS }
     {
         self.len == MOST_MEMBERS
     }
 
     /// Puts a transaction at the end; [`is_full`](Members::is_full) tests whether there is room.
     pub fn push(&mut self, tx: Tx)
-        requires { length self.old < 64 }
+        requires { length self.old < MOST_MEMBERS }
         ensures { self.new ≡ self.old ++ tx ∷ [] }
     {
         self.numbers[self.len] = tx;
@@ -98,7 +100,7 @@ impl Members {
 
     pub fn as_slice(&self) -> &[Tx]
         ensures list { result.now ≡ self.now }
-        ensures bound { length self.now ≤ 64 }
+        ensures bound { length self.now ≤ MOST_MEMBERS }
     {
         &self.numbers[..self.len]
     }
@@ -132,6 +134,3 @@ impl PartialEq for Members {
 impl Eq for Members {
     ghost laws = { Prim.search (comparing, rules) };
 }
-
-#[cfg(test)]
-mod tests;

@@ -3,7 +3,7 @@ use Rattle.std.proofs.Common.{◌≡◌, ◌≢◌, ℕ, zero, suc, ◌≤◌, �
 use Rattle.std.specs.Prelude.{Contains, IsTrue, Option, None, Some, ◌↔◌}
 use Rattle.std.specs.List.{list_any}
 use Rattle.std.specs.FinSet as finite
-use Rattle.std.proofs.lemmas.Bool.{eqb-true, eq-eqb, ne_eqb}
+use Rattle.std.proofs.lemmas.Bool.{eqb-true, eq-eqb, ne_eqb, or_left, or_right}
 use Rattle.std.proofs.lemmas.List.Elements.{Contains-append_right}
 use Rattle.ent_lock.specs.declared.mode.Mode.{Mode}
 use Rattle.ent_lock.specs.declared.holders.Holder.{Holder}
@@ -173,13 +173,6 @@ conflict_cases held v a asked (table, mode, theirs, (suc k, within, e), there, c
 or_cases : (a b : Bool) → (a || b) ≡ true → (a ≡ true) ⊎ (b ≡ true)
 or_cases true b e = inl refl
 or_cases false b e = inr e
-
-or_left : (a b : Bool) → a ≡ true → (a || b) ≡ true
-or_left a b e = λ i. e i || b
-
-or_right : (a b : Bool) → b ≡ true → (a || b) ≡ true
-or_right true b e = refl
-or_right false b e = e
 
 added_back : (held : Uses) (tx : ℕ) (asked : List (List ℕ × Mode)) (v : ℕ) (table : List ℕ) (mode : Mode) → Holds (with_uses held tx asked) v table mode → Holds held v table mode ⊎ ((v ≡ tx) × Contains asked (table, mode))
 added_back held tx [] v table mode h = inl h

@@ -6,6 +6,7 @@ use Rattle.std.specs.Ordering.{nat_cmp, ordering_then}
 use Rattle.std.specs.Cmp.Lexicographic.{slice_cmp}
 use Rattle.std.specs.declared.cmp.Ordering.{Ordering}
 use Rattle.std.specs.declared.cmp.Ordering.TheVariants.{Less}
+use Rattle.std.proofs.lemmas.Bool.{or_left, or_right}
 use Rattle.std.proofs.lemmas.Cmp.{nat_list_cmp_total, tied_itself}
 use Rattle.std.proofs.lemmas.List.Elements.{All-nil, All-cons, All-head, All-tail, All-append, Contains-append_left, Contains-append_right, Contains-append_cases}
 use Rattle.std.proofs.lemmas.List.Kept.{AllPairs-cons}
@@ -55,13 +56,6 @@ of_table tx table mode t has =
 of_either : (tx : ℕ) (table : List ℕ) (mode : Mode) (t : TableUses) → Contains (use_of tx mode t) (table, mode) → Contains (use_of tx Shared t ++ use_of tx Exclusive t) (table, mode)
 of_either tx table Shared t inside = Contains-append_left (use_of tx Shared t) (use_of tx Exclusive t) (table, Shared) inside
 of_either tx table Exclusive t inside = Contains-append_right (use_of tx Shared t) (use_of tx Exclusive t) (table, Exclusive) inside
-
-or_left : (a b : Bool) → a ≡ true → (a || b) ≡ true
-or_left a b e = λ i. e i || b
-
-or_right : (a b : Bool) → b ≡ true → (a || b) ≡ true
-or_right true b e = refl
-or_right false b e = e
 
 in_tables : (tx : ℕ) (table : List ℕ) (mode : Mode) (ts : List TableUses) → Contains (uses_of tx ts) (table, mode) → list_any (has_in (the_use tx table mode)) ts ≡ true
 in_tables tx table mode [] (k, within, e) = absurd (omega arith)

@@ -1,7 +1,8 @@
 //! The locks of all tables.
 ghost use Rattle.std.specs.Prelude.{◌≡◌, ◌≢◌, ℕ, ◌↔◌, IsTrue, IfOk, OnErr, Contains};
 ghost use Rattle.std.specs.FinSet as set;
-ghost use Rattle.ent_lock.specs.Use.{Holds, InConflict, InConflictAt, Blocks, IsLeast, IsLeastIfAny, AddsUses, DropsUses, AreUsesOf, IsByTable};
+ghost use Rattle.ent_lock.specs.Use.{Holds, InConflict, InConflictAt, Blocks, IsLeast, IsLeastIfAny, AddsUses};
+ghost use Rattle.ent_lock.specs.Use.{DropsUses, AreUsesOf, IsByTable};
 
 use crate::holders::{Holder, is_held, least_in_way, lesser};
 use crate::mode::Mode;
@@ -55,13 +56,14 @@ impl LockTable {
 
     /// The transactions that hold a table, and how, in no order.
     pub fn holders(&self, table: &Name) -> &[Holder]
-        ensures { (tx : ℕ) (mode : Mode) → Contains result.now (record { holder = tx; mode = mode }) ↔ Holds self.now tx table.now mode }
+        ensures { (tx : ℕ) (mode : Mode)
+            → Contains result.now (record { holder = tx; mode = mode }) ↔ Holds self.now tx table.now mode }
     {
         holders_of(&self.tables, table)
     }
 
-    /// The uses of a transaction: its tables by name, each with its mode, and where it holds one in both modes the shared
-    /// use first.
+    /// The uses of a transaction: its tables by name, each with its mode, and where it holds one in both modes the
+    /// shared use first.
     pub fn uses(&self, alloc: Global, tx: Tx) -> Result<Vec<(Name, Mode)>, AllocError>
         ensures held { IfOk result (λ uses. AreUsesOf self.now tx uses.items) }
         ensures by_table { IfOk result (λ uses. IsByTable uses.items) }
@@ -118,7 +120,8 @@ impl LockTable {
     ) -> Result<Answer, AllocError>
         ensures granted { result ≡ Ok Answer.Granted → AddsUses self.old self.new tx asked.now }
         ensures free { result ≡ Ok Answer.Granted → (v : ℕ) → ¬ Blocks self.old tx asked.now pass.now v }
-        ensures blocked { (v : ℕ) → result ≡ Ok (Answer.Blocked v) → IsLeast (Blocks self.old tx asked.now pass.now) v }
+        ensures blocked { (v : ℕ) → result ≡ Ok (Answer.Blocked v)
+            → IsLeast (Blocks self.old tx asked.now pass.now) v }
         ensures unchanged { (result ≢ Ok Answer.Granted) → self.new ≡ self.old }
     {
         if let Some(holder) = self.blocker(tx, asked, pass) {
@@ -135,6 +138,3 @@ impl LockTable {
         drop_members(&mut self.tables, members);
     }
 }
-
-#[cfg(test)]
-mod tests;

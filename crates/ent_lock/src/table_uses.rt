@@ -1,5 +1,6 @@
 //! The uses of each table, by name.
-ghost use Rattle.std.specs.Prelude.{◌≡◌, ℕ, ◌<◌, ◌≤◌, ◌==◌, ◌||◌, ◌↔◌, ◌++◌, [], length, map, filter, not, IsTrue, OnOk, OnErr, IfOk, IfErr, Contains, slice_index_or};
+ghost use Rattle.std.specs.Prelude.{◌≡◌, ℕ, ◌<◌, ◌≤◌, ◌==◌, ◌||◌, ◌↔◌, ◌++◌, [], length, map, filter, not, IsTrue};
+ghost use Rattle.std.specs.Prelude.{OnOk, OnErr, IfOk, IfErr, Contains, slice_index_or};
 ghost use Rattle.std.specs.FinSet as set;
 ghost use Rattle.ent_lock.specs.Use.{with_uses, Holds};
 ghost use Rattle.ent_lock.specs.Layout.{held_in, IsByName, IsAt, IsGapFor, is_use_of_none, use_of, uses_of};
@@ -29,7 +30,8 @@ pub fn place_of(tables: &[TableUses], table: &Name) -> Result<usize, usize>
 /// The holders of a table.
 pub fn holders_of<'a>(tables: &'a [TableUses], table: &Name) -> &'a [Holder]
     requires { IsByName tables.now }
-    ensures { (tx : ℕ) (mode : Mode) → Contains result.now (record { holder = tx; mode = mode }) ↔ Holds (held_in tables.now) tx table.now mode }
+    ensures { (tx : ℕ) (mode : Mode)
+        → Contains result.now (record { holder = tx; mode = mode }) ↔ Holds (held_in tables.now) tx table.now mode }
 {
     match place_of(tables, table) {
         Ok(at) => tables[at].holders.as_slice(),
@@ -75,8 +77,10 @@ pub fn add_use(
 ) -> Result<bool, AllocError>
     requires { IsByName tables.old.items }
     ensures by_name { IsByName tables.new.items }
-    ensures ok { OnOk result (held_in tables.new.items ≡ set.insert (held_in tables.old.items) (record { holder = tx; table = table.now; mode = mode })) }
-    ensures is_new { IfOk result (λ is_new. is_new ≡ not (set.contains (held_in tables.old.items) (record { holder = tx; table = table.now; mode = mode }))) }
+    ensures ok { OnOk result (held_in tables.new.items
+        ≡ set.insert (held_in tables.old.items) (record { holder = tx; table = table.now; mode = mode })) }
+    ensures is_new { IfOk result (λ is_new. is_new
+        ≡ not (set.contains (held_in tables.old.items) (record { holder = tx; table = table.now; mode = mode }))) }
     ensures err { OnErr result (held_in tables.new.items ≡ held_in tables.old.items) }
 {
     let holder = Holder { holder: tx, mode };
@@ -100,7 +104,8 @@ pub fn add_use(
 pub fn remove_use(tables: &mut Vec<TableUses>, tx: Tx, table: &Name, mode: Mode)
     requires { IsByName tables.old.items }
     ensures by_name { IsByName tables.new.items }
-    ensures held { held_in tables.new.items ≡ set.remove (held_in tables.old.items) (record { holder = tx; table = table.now; mode = mode }) }
+    ensures held { held_in tables.new.items
+        ≡ set.remove (held_in tables.old.items) (record { holder = tx; table = table.now; mode = mode }) }
 {
     if let Ok(at) = place_of(tables, table) {
         remove_holder(&mut tables[at].holders, tx, mode);

@@ -4,9 +4,6 @@
 //! lists the rows. An example is an input and its report.
 #![tactic(auto)]
 
-mod streams;
-
-use crate::streams::{FailingReader, FailingWriter};
 use anyhow::{Context, Result, ensure};
 use ent_engine::{FaultLine, RunFault, run, status_of};
 use ent_value::Watched;
@@ -29,8 +26,6 @@ fn main(rt: HostRuntime) -> Result<()> {
     println!(rt; "4 examples")?;
     check_longest(rt.alloc())?;
     println!(rt; "the longest input, and one byte more")?;
-    check_failing_streams(rt.alloc())?;
-    println!(rt; "failing streams")?;
     Ok(())
 }
 
@@ -39,7 +34,7 @@ fn run_over(alloc: Global, input: &[u8]) -> Outcome {
     let mut writer = Watched::new(Vec::new(alloc));
     let fault = run(alloc, &mut reader, &mut writer).err();
     Outcome {
-        output: writer.inner,
+        output: writer.into_inner(),
         fault,
     }
 }
@@ -98,26 +93,5 @@ fn check_longest(alloc: Global) -> Result<()> {
     let longer = run_over(alloc, spaces.as_slice());
     ensure!(longer.fault == Some(RunFault::TooLong), "a longer input");
     ensure!(longer.output.is_empty(), "a longer input is answered");
-    Ok(())
-}
-
-const INSERTING: &[u8] =
-    b"CREATE TABLE T (a INT); BEGIN TRANSACTION; INSERT INTO T VALUES (7); SELECT * FROM T; COMMIT;";
-
-/// A reader and a writer that fail in mid-stream.
-fn check_failing_streams(alloc: Global) -> Result<()> {
-    let mut reader = Watched::new(FailingReader::new(INSERTING));
-    let mut writer = Watched::new(Vec::new(alloc));
-    let unread = run(alloc, &mut reader, &mut writer).err();
-    ensure!(unread == Some(RunFault::ReadFault), "a failing reader");
-    ensure!(writer.inner.is_empty(), "a report of what was not read");
-    let mut reader = Watched::new(INSERTING);
-    let mut writer = Watched::new(FailingWriter::new(alloc));
-    let unwritten = run(alloc, &mut reader, &mut writer).err();
-    ensure!(unwritten == Some(RunFault::WriteFault), "a failing writer");
-    ensure!(
-        writer.inner.taken() == b"report 1\ntx 1 co".as_slice(),
-        "no beginning of the report"
-    );
     Ok(())
 }

@@ -52,4 +52,5 @@ row_of row = map (λ literal. literal.value) row.values
 
 -- each table holds the opening rows that name it
 abbrev pub opening_database : Opening → Database
-opening_database opening table = set.from_list (map row_of (filter (λ row. same_name row.table.name table) opening.rows))
+opening_database opening table =
+    set.from_list (map row_of (filter (λ row. same_name row.table.name table) opening.rows))

@@ -4,3 +4,4 @@ pub mod Selection
 pub mod Change
 pub mod Statement
 pub mod Serial
+pub mod Names

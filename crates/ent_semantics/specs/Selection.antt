@@ -8,6 +8,7 @@ use Rattle.ent_value.specs.Value.{value_cmp}
 use Rattle.ent_value.specs.declared.value.Value.{Value}
 use Rattle.ent_sql.specs.declared.tree.Comparison.{Comparison}
 use Rattle.ent_sql.specs.declared.tree.Comparison.TheVariants as comparisons
+use Rattle.ent_sql.specs.declared.tree.Operand.{Operand}
 use Rattle.ent_sql.specs.declared.tree.Test.{Test}
 use Rattle.ent_sql.specs.declared.tree.Items.{Items}
 use Rattle.ent_sql.specs.declared.tree.Items.TheVariants as items
@@ -24,13 +25,15 @@ pub record Source : Type 0 where
 abbrev pub cells_of : Name → List Name → List Value → List Cell
 cells_of source [] values = []
 cells_of source (column ∷ columns) [] = []
-cells_of source (column ∷ columns) (value ∷ values) = record { source = source; column = column; value = value } ∷ cells_of source columns values
+cells_of source (column ∷ columns) (value ∷ values) =
+    record { source = source; column = column; value = value } ∷ cells_of source columns values
 
 -- one row of each source, in all ways, sources side by side
 abbrev pub combinations : List Source → List (List Cell)
 combinations [] = [] ∷ []
 combinations (source ∷ more) =
-    flat_map (λ row. map (λ cells. cells_of source.name source.columns row ++ cells) (combinations more)) (set.ascending source.rows)
+    flat_map (λ row. map (λ cells. cells_of source.name source.columns row ++ cells) (combinations more))
+    (set.ascending source.rows)
 
 abbrev pub compares : Comparison → Ordering → Bool
 compares comparisons.Equal order = is_eq order
@@ -41,7 +44,9 @@ compares comparisons.Greater order = is_gt order
 compares comparisons.GreaterOrEqual order = is_ge order
 
 abbrev pub passes : Environment → List Cell → Test → Bool
-passes environment cells test = compares test.comparison (value_cmp (operand_value environment cells test.left) (operand_value environment cells test.right))
+passes environment cells test =
+    let value : Operand → Value = operand_value environment cells in
+    compares test.comparison (value_cmp (value test.left) (value test.right))
 
 -- every test of a WHERE holds
 abbrev pub meets : Environment → List Test → List Cell → Bool
@@ -53,4 +58,5 @@ item_row environment items.All cells = map (λ cell. cell.value) cells
 item_row environment (items.Listed listed) cells = map (operand_value environment cells) listed
 
 abbrev pub selection : Environment → Items → List Test → List Source → Rows
-selection environment shown tests sources = set.from_list (map (item_row environment shown) (filter (meets environment tests) (combinations sources)))
+selection environment shown tests sources =
+    set.from_list (map (item_row environment shown) (filter (meets environment tests) (combinations sources)))

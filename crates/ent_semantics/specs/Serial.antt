@@ -34,7 +34,8 @@ abbrev pub statements_run : List Create → List Statement → Database → Envi
 statements_run declared [] database environment [] = Some (record { database = database; answers = [] })
 statements_run declared [] database environment (valuation ∷ oracle) = None
 statements_run declared (statement ∷ more) database environment oracle =
-    after (statement_meaning declared database environment statement) (λ database environment. statements_run declared more database environment oracle)
+    after (statement_meaning declared database environment statement)
+    (λ database environment. statements_run declared more database environment oracle)
 
 -- COMMIT keeps what was run; ROLLBACK gives nothing
 abbrev pub ended : End → Option Run → Option Run
@@ -43,7 +44,8 @@ ended Rollback run = None
 
 -- a script from a database, nothing bound yet
 abbrev pub script_run : List Create → Script → Database → List Valuation → Option Run
-script_run declared script database oracle = ended script.end (statements_run declared script.statements database nothing_bound oracle)
+script_run declared script database oracle =
+    ended script.end (statements_run declared script.statements database nothing_bound oracle)
 
 -- the database that scripts leave, and the answers of each
 pub record Runs : Type 0 where
@@ -57,4 +59,5 @@ ran_first answers runs = record { database = runs.database; answers = answers �
 abbrev pub scripts_run : List Create → List (Script × List Valuation) → Database → Option Runs
 scripts_run declared [] database = Some (record { database = database; answers = [] })
 scripts_run declared (first ∷ more) database =
-    option_and_then (λ run. option_map (ran_first run.answers) (scripts_run declared more run.database)) (script_run declared first.0 database first.1)
+    option_and_then (λ run. option_map (ran_first run.answers) (scripts_run declared more run.database))
+    (script_run declared first.0 database first.1)

@@ -1,5 +1,6 @@
 -- What values, operands and expressions of statements are worth.
-use Rattle.std.specs.Prelude.{ℤ, pos, negsuc, ◌+ℤ◌, ◌-ℤ◌, Bool, List, [], ◌∷◌, Option, Some, None, nat_lt, unwrap_or, if◌then◌else◌}
+use Rattle.std.specs.Prelude.{ℤ, pos, negsuc, ◌+ℤ◌, ◌-ℤ◌, ℕ, Bool, List, [], ◌∷◌, Option, Some, None, nat_lt, unwrap_or}
+use Rattle.std.specs.Prelude.{if◌then◌else◌}
 use Rattle.ent_value.specs.declared.value.Value.{Value}
 use Rattle.ent_value.specs.declared.value.Value.TheVariants.{Int, Text}
 use Rattle.ent_sql.specs.declared.tree.ValueSpecification.{ValueSpecification}
@@ -16,7 +17,8 @@ pub record Cell : Type 0 where
   pub column : Name
   pub value : Value
 
--- A name that is nowhere stands for 0. No statement that is let through has one.
+-- A name that is nowhere stands for 0, so that each operand has a value. Which statements are let through isn't said
+-- here: a statement with such a name has a fault of form.
 abbrev pub no_value : Value
 no_value = Int (pos 0)
 
@@ -34,15 +36,19 @@ abbrev pub operand_value : Environment → List Cell → Operand → Value
 operand_value environment cells (operands.Value value) = known_value environment value
 operand_value environment cells (operands.Column column) = column_value cells column.name
 
--- the number that a value is; no statement that is let through adds or subtracts a text
+-- the number that a value is; a text, which is of the wrong kind for a sum or a difference, counts as 0
 abbrev pub number_of : Value → ℤ
 number_of (Int number) = number
 number_of (Text text) = pos 0
 
+-- as many numbers as there are from 0 on within 64 bits with a sign, and as many below 0
+abbrev pub half_of_64_bits : ℕ
+half_of_64_bits = 9223372036854775808
+
 -- within 64 bits with a sign: negsuc n is the number below -n
 abbrev pub is_64_bits : ℤ → Bool
-is_64_bits (pos n) = nat_lt n 9223372036854775808
-is_64_bits (negsuc n) = nat_lt n 9223372036854775808
+is_64_bits (pos n) = nat_lt n half_of_64_bits
+is_64_bits (negsuc n) = nat_lt n half_of_64_bits
 
 -- a number within 64 bits, else nothing
 abbrev pub in_64_bits : ℤ → Option Value

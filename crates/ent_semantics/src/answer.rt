@@ -17,6 +17,6 @@ pub enum Answer {
 pub enum Failure {
     /// A sum or a difference is beyond 64 bits.
     Overflow,
-    /// More than 65,536 rows would stand in a table.
+    /// More rows than [`ent_value::MOST_ROWS`] would stand in a table.
     TableFull,
 }

@@ -1,7 +1,10 @@
-//! What entangled SQL means: the definitions that a reader has to believe. They speak of the tree of an input and of
-//! finite sets; no code is behind them.
+//! What entangled SQL means: the definitions that a reader has to believe.
+//!
+//! They speak of the tree of an input and of finite sets, never of the code: a statement goes from a database and an
+//! environment to those after it and an [`Answer`], or to a [`Failure`], and scripts run alone, one after the other. No
+//! code is behind them; contracts above compare what the program answers with what they say.
 #![tactic(auto)]
 
-pub mod answer;
+mod answer;
 
 pub use answer::{Answer, Failure};

@@ -1,19 +1,5 @@
-//! Tests of the crates below, against values that are known from outside.
+//! Tests of lists and texts, which no input and no scenario reaches alone.
 #![tactic(auto)]
 
 #[cfg(test)]
 mod collections;
-#[cfg(test)]
-mod forms;
-#[cfg(test)]
-mod reports;
-#[cfg(test)]
-mod samples;
-#[cfg(test)]
-mod streams;
-#[cfg(test)]
-mod tables;
-#[cfg(test)]
-mod values;
-#[cfg(test)]
-mod watching;

@@ -1,7 +1,10 @@
 -- Reserved words.
 use Rattle.std.specs.Prelude.{ℕ, List, codes}
 use Rattle.ent_text.specs.declared.keyword.Keyword.{Keyword}
-use Rattle.ent_text.specs.declared.keyword.Keyword.TheVariants.{And, Answer, As, Begin, Choose, Commit, Create, Delete, From, In, Insert, Int, Into, Rollback, Runs, Select, Set, Table, Text, Transaction, Update, Values, Where, Within}
+use Rattle.ent_text.specs.declared.keyword.Keyword.TheVariants.{And, Answer, As, Begin, Choose, Commit, Create}
+use Rattle.ent_text.specs.declared.keyword.Keyword.TheVariants.{Delete, From, In, Insert, Int, Into, Rollback, Runs}
+use Rattle.ent_text.specs.declared.keyword.Keyword.TheVariants.{Select, Set, Table, Text, Transaction, Update, Values}
+use Rattle.ent_text.specs.declared.keyword.Keyword.TheVariants.{Where, Within}
 
 abbrev pub keyword_text : Keyword → List ℕ
 keyword_text And = codes "AND"

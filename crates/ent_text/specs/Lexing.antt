@@ -1,17 +1,25 @@
 -- How the tokens of a text are read from left to right, up to its first fault: a function that gives what `Reading`
 -- speaks of, as its laws say.
-use Rattle.std.specs.Prelude.{ℕ, zero, suc, ◌+◌, ◌-◌, ◌*◌, Bool, true, false, ◌&&◌, List, [], ◌∷◌, length, drop, Option, Some, None, Result, Ok, Err, nat_lt, ◌==◌, if◌then◌else◌, slice_index}
+use Rattle.std.specs.Prelude.{ℕ, zero, suc, ◌+◌, ◌-◌, ◌*◌, Bool, true, false, ◌&&◌, List, [], ◌∷◌, length, drop}
+use Rattle.std.specs.Prelude.{Option, Some, None, Result, Ok, Err, nat_lt, ◌==◌, if◌then◌else◌, slice_index}
 use Rattle.std.specs.List.{find, take_while, prefix_len}
 use Rattle.std.specs.Option.{option_map_or}
 use Rattle.std.specs.Char.{is_ascii_alphabetic, is_ascii_digit, is_ascii_control, to_ascii_uppercase}
 use Rattle.ent_value.specs.Refusal.{◌>>=◌}
 use Rattle.ent_value.specs.Name.{is_word_byte}
+use Rattle.ent_value.specs.declared.name.TheConstants.{LONGEST_NAME}
+use Rattle.ent_value.specs.declared.text.TheConstants.{LONGEST_TEXT}
 use Rattle.ent_text.specs.Keyword.{keyword_text}
 use Rattle.ent_text.specs.declared.keyword.Keyword.{Keyword}
-use Rattle.ent_text.specs.declared.keyword.Keyword.TheVariants.{And, Answer, As, Begin, Choose, Commit, Create, Delete, From, In, Insert, Int, Into, Rollback, Runs, Select, Set, Table, Text, Transaction, Update, Values, Where, Within}
+use Rattle.ent_text.specs.declared.keyword.Keyword.TheVariants.{And, Answer, As, Begin, Choose, Commit, Create}
+use Rattle.ent_text.specs.declared.keyword.Keyword.TheVariants.{Delete, From, In, Insert, Int, Into, Rollback, Runs}
+use Rattle.ent_text.specs.declared.keyword.Keyword.TheVariants.{Select, Set, Table, Text, Transaction, Update, Values}
+use Rattle.ent_text.specs.declared.keyword.Keyword.TheVariants.{Where, Within}
 use Rattle.ent_text.specs.Spelling.{is_blank, is_in_line}
 use Rattle.ent_text.specs.declared.symbol.Symbol.{Symbol}
-use Rattle.ent_text.specs.declared.symbol.Symbol.TheVariants.{Open, Close, Comma, Semicolon, Dot, Star, Plus, Minus, Equal, NotEqual, Less, LessOrEqual, Greater, GreaterOrEqual}
+use Rattle.ent_text.specs.declared.symbol.Symbol.TheVariants.{Open, Close, Comma, Semicolon, Dot, Star, Plus, Minus}
+use Rattle.ent_text.specs.declared.symbol.Symbol.TheVariants.{Equal, NotEqual, Less, LessOrEqual, Greater}
+use Rattle.ent_text.specs.declared.symbol.Symbol.TheVariants.{GreaterOrEqual}
 use Rattle.ent_text.specs.declared.fault.TextFault.{TextFault}
 use Rattle.ent_text.specs.declared.fault.TextFault.TheVariants.{BadChar, OpenText, NumberTooLarge, TextTooLong}
 use Rattle.ent_text.specs.declared.token.Token.{Token}
@@ -45,14 +53,14 @@ word_kind word = option_map_or (λ keyword. Word keyword) (keyword_of word) (Nam
 unfoldable pub word_at : ℕ → List ℕ → Result Piece TextFault
 word_at place bytes =
     let word = take_while is_word_byte bytes in
-    if nat_lt 63 (length word) then Err (TextTooLong place) else Ok (Some (word_kind word), after is_word_byte bytes)
+    if nat_lt LONGEST_NAME (length word) then Err (TextTooLong place) else Ok (Some (word_kind word), after is_word_byte bytes)
 
 -- an `@`, and a word directly behind it
 unfoldable pub host_variable_at : ℕ → List ℕ → Result Piece TextFault
 host_variable_at place bytes =
     let behind = drop 1 bytes in
     let word = take_while is_word_byte behind in
-    if is_ascii_alphabetic (slice_index behind 0) then (if nat_lt 63 (length word) then Err (TextTooLong place) else Ok (Some (HostVariable word), after is_word_byte behind))
+    if is_ascii_alphabetic (slice_index behind 0) then (if nat_lt LONGEST_NAME (length word) then Err (TextTooLong place) else Ok (Some (HostVariable word), after is_word_byte behind))
     else Err (BadChar place)
 
 -- the number that digits go on to
@@ -80,7 +88,7 @@ quoted_at quote place (b ∷ c ∷ bytes) =
 unfoldable pub text_at : ℕ → List ℕ → Result Piece TextFault
 text_at place bytes = do
   text ← quoted_at place (place + 1) (drop 1 bytes)
-  if nat_lt 255 (length text.0) then Err (TextTooLong place) else Ok (Some (Literal text.0), text.1)
+  if nat_lt LONGEST_TEXT (length text.0) then Err (TextTooLong place) else Ok (Some (Literal text.0), text.1)
 
 -- the longest symbol that the two bytes begin, and its length
 unfoldable pub symbol_of : ℕ → ℕ → Option (Symbol × ℕ)

@@ -2,6 +2,8 @@
 use Rattle.std.specs.Prelude.{◌≡◌, ◌≢◌, ◌⊎◌, ℕ, ◌+◌, ◌<◌, List, [], ◌∷◌, ◌++◌, length, Option, IsTrue}
 use Rattle.std.specs.Char.{is_ascii_control}
 use Rattle.ent_value.specs.Print.{doubled}
+use Rattle.ent_value.specs.declared.name.TheConstants.{LONGEST_NAME}
+use Rattle.ent_value.specs.declared.text.TheConstants.{LONGEST_TEXT}
 use Rattle.ent_text.specs.declared.fault.TextFault.{TextFault}
 use Rattle.ent_text.specs.declared.fault.TextFault.TheVariants.{BadChar, OpenText, NumberTooLarge, TextTooLong}
 use Rattle.ent_text.specs.declared.token.Token.{Token}
@@ -46,10 +48,10 @@ IsOpen bytes = (content : List ℕ) × (bytes ≡ 39 ∷ doubled content) × IsP
 -- a word, a host variable or a text beyond its limit
 abbrev pub IsTooLong : TokenKind → Type 0
 IsTooLong (Word keyword) = ⊥
-IsTooLong (Name word) = 63 < length word
-IsTooLong (HostVariable word) = 63 < length word
+IsTooLong (Name word) = LONGEST_NAME < length word
+IsTooLong (HostVariable word) = LONGEST_NAME < length word
 IsTooLong (Number n) = ⊥
-IsTooLong (Literal text) = 255 < length text
+IsTooLong (Literal text) = LONGEST_TEXT < length text
 IsTooLong (Sign symbol) = ⊥
 
 -- what stands at this place has this fault

@@ -1,10 +1,13 @@
 -- What spells a token, and which spelling is the longest that could stand at a place.
-use Rattle.std.specs.Prelude.{◌≡◌, ℕ, ◌≤◌, List, [], ◌∷◌, ◌++◌, map, length, Option, Some, None, ◌⊎◌, Bool, not, ◌||◌, ◌==◌, IsTrue, IsFalse, slice_index, ⊤}
+use Rattle.std.specs.Prelude.{◌≡◌, ℕ, ◌≤◌, List, [], ◌∷◌, ◌++◌, map, length, Option, Some, None, ◌⊎◌, Bool, not, ◌||◌}
+use Rattle.std.specs.Prelude.{◌==◌, IsTrue, IsFalse, slice_index, ⊤}
 use Rattle.std.specs.List.{list_all, list_any}
 use Rattle.std.specs.Char.{is_ascii_alphabetic, is_ascii_control, to_ascii_uppercase}
 use Rattle.std.specs.Str.Parse.{IsNumeral, digits_value}
 use Rattle.ent_value.specs.Name.{is_word_byte}
 use Rattle.ent_value.specs.Print.{quoted}
+use Rattle.ent_value.specs.declared.name.TheConstants.{LONGEST_NAME}
+use Rattle.ent_value.specs.declared.text.TheConstants.{LONGEST_TEXT}
 use Rattle.ent_text.specs.declared.keyword.Keyword.{Keyword}
 use Rattle.ent_text.specs.declared.token.TokenKind.{TokenKind}
 use Rattle.ent_text.specs.declared.token.TokenKind.TheVariants.{Word, Name, HostVariable, Number, Literal, Sign}
@@ -37,10 +40,10 @@ Spells bytes (Sign symbol) = SpellsSymbol bytes symbol
 -- bytes
 abbrev pub IsWithinLimit : TokenKind → Type 0
 IsWithinLimit (Word keyword) = ⊤
-IsWithinLimit (Name word) = length word ≤ 63
-IsWithinLimit (HostVariable word) = length word ≤ 63
+IsWithinLimit (Name word) = length word ≤ LONGEST_NAME
+IsWithinLimit (HostVariable word) = length word ≤ LONGEST_NAME
 IsWithinLimit (Number n) = n ≤ 9223372036854775807
-IsWithinLimit (Literal text) = length text ≤ 255
+IsWithinLimit (Literal text) = length text ≤ LONGEST_TEXT
 IsWithinLimit (Sign symbol) = ⊤
 
 -- space, tab, CR, LF

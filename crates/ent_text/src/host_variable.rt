@@ -7,7 +7,7 @@ use crate::bytes::{byte_at, tail};
 use crate::fault::TextFault;
 use crate::token::TokenKind;
 use crate::word::word_len;
-use ent_value::{Name, Refusal};
+use ent_value::{LONGEST_NAME, Name, Refusal};
 use std::alloc::Global;
 
 /// The host variable that these bytes begin, the first being its `@`, and the bytes behind it.
@@ -25,7 +25,7 @@ pub(crate) fn host_variable_at(
         return Err(Refusal::Fault(TextFault::BadChar(place)));
     }
     let (word, rest) = behind.split_at(word_len(behind));
-    if word.len() > 63 {
+    if word.len() > LONGEST_NAME {
         return Err(Refusal::Fault(TextFault::TextTooLong(place)));
     }
     Ok((Some(TokenKind::HostVariable(Name::new(alloc, word)?)), rest))

@@ -7,14 +7,20 @@ ghost use Rattle.ent_text.specs.declared.token.Token.{Token};
 
 /// Every text has one list of tokens or one first fault, and never both.
 pub fn one_reading()
-    ensures some { (text : List ℕ) → ((tokens : List Token) × AreTokens text tokens) ⊎ ((fault : TextFault) × HasFault text fault) }
-    ensures tokens { (text : List ℕ) (these those : List Token) → AreTokens text these → AreTokens text those → these ≡ those }
-    ensures fault { (text : List ℕ) (this that : TextFault) → HasFault text this → HasFault text that → this ≡ that }
-    ensures either { (text : List ℕ) (tokens : List Token) (fault : TextFault) → AreTokens text tokens → ¬ (HasFault text fault) }
+    ensures some { (text : List ℕ)
+        → ((tokens : List Token) × AreTokens text tokens) ⊎ ((fault : TextFault) × HasFault text fault) }
+    ensures tokens { (text : List ℕ) (these those : List Token)
+        → AreTokens text these → AreTokens text those → these ≡ those }
+    ensures fault { (text : List ℕ) (this that : TextFault)
+        → HasFault text this → HasFault text that → this ≡ that }
+    ensures either { (text : List ℕ) (tokens : List Token) (fault : TextFault)
+        → AreTokens text tokens → ¬ (HasFault text fault) }
 {}
 
 /// `tokens_of` gives exactly the tokens of a text, and else exactly its first fault.
 pub fn reader_is_exact()
-    ensures tokens { (text : List ℕ) (tokens : List Token) → (tokens_of text ≡ Ok tokens) ↔ AreTokens text tokens }
-    ensures fault { (text : List ℕ) (fault : TextFault) → (tokens_of text ≡ Err fault) ↔ HasFault text fault }
+    ensures tokens { (text : List ℕ) (tokens : List Token)
+        → (tokens_of text ≡ Ok tokens) ↔ AreTokens text tokens }
+    ensures fault { (text : List ℕ) (fault : TextFault)
+        → (tokens_of text ≡ Err fault) ↔ HasFault text fault }
 {}

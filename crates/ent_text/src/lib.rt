@@ -1,26 +1,28 @@
 //! The tokens of a text of entangled SQL.
+//!
+//! A text has one list of tokens or one first fault, with their places in bytes. A caller may rely on it that
+//! [`tokens`] gives exactly these: the longest tokens from the left, in order, each spelled by the bytes between its
+//! places.
 #![tactic(auto)]
 
-pub mod bytes;
-pub mod comment;
-pub mod fault;
-pub mod host_variable;
-pub mod keyword;
-pub mod laws;
-pub mod numeral;
-pub mod piece;
-pub mod quoted;
-pub mod symbol;
-pub mod token;
-pub mod tokenizer;
-pub mod word;
+mod bytes;
+mod comment;
+mod fault;
+mod host_variable;
+mod keyword;
+mod laws;
+mod numeral;
+mod piece;
+mod quoted;
+mod symbol;
+mod token;
+mod tokenizer;
+mod word;
 
 pub use fault::TextFault;
 pub use keyword::Keyword;
+pub use laws::{one_reading, reader_is_exact};
 pub use numeral::Numeral;
 pub use symbol::Symbol;
 pub use token::{Token, TokenKind};
 pub use tokenizer::tokens;
-
-#[cfg(test)]
-mod tests;

@@ -15,7 +15,7 @@ use crate::quoted::quoted_at;
 use crate::symbol::symbol_of;
 use crate::token::TokenKind;
 use crate::word::word_at;
-use ent_value::{Refusal, Text};
+use ent_value::{LONGEST_TEXT, Refusal, Text};
 use std::alloc::Global;
 
 fn is_blank(byte: u8) -> bool
@@ -76,7 +76,7 @@ fn text_at(
     ensures { Gives (λ x. (x.0, x.1.now)) result (text_at place bytes.now) }
 {
     let (text, rest) = quoted_at(alloc, place, place + 1, tail(bytes, 1))?;
-    if text.len() > 255 {
+    if text.len() > LONGEST_TEXT {
         return Err(Refusal::Fault(TextFault::TextTooLong(place)));
     }
     Ok((Some(TokenKind::Literal(Text::from_vec(text))), rest))

@@ -9,8 +9,7 @@ ghost use Rattle.ent_text.specs.Lexing.{word_at, word_kind};
 use crate::fault::TextFault;
 use crate::keyword::keyword_of;
 use crate::token::TokenKind;
-use ent_value::name::is_word_byte;
-use ent_value::{Name, Refusal};
+use ent_value::{LONGEST_NAME, Name, Refusal, is_word_byte};
 use std::alloc::Global;
 
 /// How many letters, digits and `_` stand in front.
@@ -42,7 +41,7 @@ pub(crate) fn word_at(
     ensures { Gives (λ x. (x.0, x.1.now)) result (word_at place bytes.now) }
 {
     let (word, rest) = bytes.split_at(word_len(bytes));
-    if word.len() > 63 {
+    if word.len() > LONGEST_NAME {
         return Err(Refusal::Fault(TextFault::TextTooLong(place)));
     }
     Ok((Some(word_kind(alloc, word)?), rest))

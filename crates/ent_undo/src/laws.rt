@@ -1,5 +1,6 @@
 //! What the log tells of the writes that were noted in it.
-ghost use Rattle.ent_undo.specs.Writes.{RollsBackEach, RollsBackToFirstWrite, KeepsOtherTables, UndoesWrites, TellsOnceNoted, TellsOnceForgotten, TellsOnceRolledBack};
+ghost use Rattle.ent_undo.specs.Writes.{RollsBackEach, RollsBackToFirstWrite, KeepsOtherTables, UndoesWrites};
+ghost use Rattle.ent_undo.specs.Writes.{TellsOnceNoted, TellsOnceForgotten, TellsOnceRolledBack};
 
 /// What a rollback gives, in terms of the writes of a history, where each write of the transactions was noted with
 /// the table as it stood then. A table that one of them wrote stands as it did before the first of their writes of it,

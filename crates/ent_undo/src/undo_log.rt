@@ -20,7 +20,8 @@ struct UndoRecord {
 
 /// Exchanges the table of a record with the one that stands at its index, if the index is below the number of tables.
 fn exchange(undo: &mut UndoRecord, tables: &mut [Arc<Table>])
-    ensures tables { map arc_value tables.new ≡ slice_set (map arc_value tables.old) undo.old.table (arc_value undo.old.before) }
+    ensures tables { map arc_value tables.new
+        ≡ slice_set (map arc_value tables.old) undo.old.table (arc_value undo.old.before) }
     ensures tx { undo.new.tx ≡ undo.old.tx }
 {
     if undo.table < tables.len() {
@@ -31,7 +32,8 @@ fn exchange(undo: &mut UndoRecord, tables: &mut [Arc<Table>])
 /// Puts the tables of these transactions' records back, newest first. What stood in their places goes into the
 /// records.
 fn put_back(records: &mut [UndoRecord], members: &[u64], tables: &mut [Arc<Table>])
-    ensures tables { map arc_value tables.new ≡ rolled_back members.now (changes_in records.old) (map arc_value tables.old) }
+    ensures tables { map arc_value tables.new
+        ≡ rolled_back members.now (changes_in records.old) (map arc_value tables.old) }
     ensures others { of_others members.now (changes_in records.new) ≡ of_others members.now (changes_in records.old) }
 {
     for index in (0..records.len()).rev() {
@@ -90,7 +92,8 @@ impl UndoLog {
         table: usize,
         before: Arc<Table>,
     ) -> Result<(), AllocFailed<Arc<Table>>>
-        ensures ok { OnOk result (self.new ≡ self.old ++ record { tx = tx; table = table; before = arc_value before } ∷ []) }
+        ensures ok { OnOk result (self.new
+            ≡ self.old ++ record { tx = tx; table = table; before = arc_value before } ∷ []) }
         ensures err { OnErr result (self.new ≡ self.old) }
         ensures returned { IfErr result (λ refused. refused.value ≡ before) }
     {
@@ -130,6 +133,3 @@ impl UndoLog {
         remove_records(&mut self.records, members);
     }
 }
-
-#[cfg(test)]
-mod tests;

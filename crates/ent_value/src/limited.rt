@@ -3,6 +3,7 @@ ghost use Rattle.std.specs.Prelude.{◌≡◌, [], ◌∷◌, ◌++◌, ◌==◌
 ghost use Rattle.std.specs.Slice.Iter.{iter_rest};
 ghost use Rattle.std.specs.Option.{option_copied};
 
+use crate::sequence::Sequence;
 use std::alloc::{AllocFailed, Global};
 use std::marker::Model;
 use std::slice::Iter;
@@ -10,7 +11,7 @@ use std::slice::Iter;
 /// A list of at most `LIMIT` elements, which contracts see as that list.
 #[derive(Drop)]
 pub struct Limited<T, const LIMIT: usize> {
-    elements: Vec<T>,
+    elements: Sequence<T>,
 }
 
 impl<T, const LIMIT: usize> Model for Limited<T, LIMIT> {
@@ -18,9 +19,9 @@ impl<T, const LIMIT: usize> Model for Limited<T, LIMIT> {
 
     ghost Value = { List T };
 
-    ghost view = { λ l. l.elements.items };
+    ghost view = { λ l. l.elements };
 
-    ghost invariant = { λ l. length l.elements.items ≤ LIMIT };
+    ghost invariant = { λ l. length l.elements ≤ LIMIT };
 }
 
 impl<T, const LIMIT: usize> Limited<T, LIMIT> {
@@ -29,7 +30,7 @@ impl<T, const LIMIT: usize> Limited<T, LIMIT> {
         ensures { result ≡ [] }
     {
         Limited {
-            elements: Vec::new(alloc),
+            elements: Sequence::new(alloc),
         }
     }
 

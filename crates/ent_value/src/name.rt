@@ -16,8 +16,8 @@ use std::marker::Model;
 /// The most bytes that a name has.
 pub const LONGEST_NAME: usize = 63;
 
-/// A name: an ASCII letter, then letters, digits and `_`, at most 63 bytes in all. Case matters, and names are
-/// ordered by their bytes.
+/// A name: an ASCII letter, then letters, digits and `_`, at most [`LONGEST_NAME`] bytes in all. Case matters,
+/// and names are ordered by their bytes.
 #[derive(Debug, Drop)]
 pub struct Name {
     word: Text,

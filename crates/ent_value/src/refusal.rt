@@ -1,6 +1,6 @@
 //! Why a call that takes memory refuses what it was given.
 ghost use Rattle.std.specs.Prelude.{◌≡◌};
-ghost use Rattle.ent_value.specs.declared.refusal.Refusal.TheVariants.{Memory};
+ghost use Rattle.ent_value.specs.declared.refusal.Refusal.TheVariants.{Memory, Fault};
 
 use std::alloc::{AllocError, AllocFailed};
 
@@ -9,6 +9,21 @@ use std::alloc::{AllocError, AllocFailed};
 pub enum Refusal<F> {
     Memory,
     Fault(F),
+}
+
+impl<F> Refusal<F> {
+    /// The refusal with another fault in the place of this one; Memory stays Memory.
+    pub fn map<G, M: FnOnce(F) -> G>(self, other: M) -> Refusal<G>
+        requires { (fault : F) → self ≡ Fault fault → M.pre other fault }
+        ensures memory { self ≡ Memory → result ≡ Memory }
+        ensures fault { (fault : F) → self ≡ Fault fault
+            → (mapped : G) × (result ≡ Fault mapped) × M.post other fault mapped }
+    {
+        match self {
+            Refusal::Memory => Refusal::Memory,
+            Refusal::Fault(fault) => Refusal::Fault(other(fault)),
+        }
+    }
 }
 
 impl<F: Drop> From<AllocError> for Refusal<F> {

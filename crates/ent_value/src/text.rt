@@ -10,10 +10,10 @@ use std::alloc::{AllocError, Global};
 use std::cmp::Ordering;
 use std::marker::Model;
 
-/// The most bytes of a text.
+/// The most bytes of a text's content.
 pub const LONGEST_TEXT: usize = 255;
 
-/// A text of at most 255 bytes, kept and compared as its bytes of UTF-8.
+/// A text of at most [`LONGEST_TEXT`] bytes, kept and compared as its bytes of UTF-8.
 #[derive(Debug, Drop)]
 pub struct Text {
     content: Vec<u8>,
@@ -21,12 +21,13 @@ pub struct Text {
 
 impl Model for Text {
     ghost use Rattle.std.specs.Prelude.{ℕ, ◌≤◌, List, length};
+    ghost use Rattle.ent_value.specs.declared.text.TheConstants.{LONGEST_TEXT};
 
     ghost Value = { List ℕ };
 
     ghost view = { λ t. t.content.items };
 
-    ghost invariant = { λ t. length t.content.items ≤ 255 };
+    ghost invariant = { λ t. length t.content.items ≤ LONGEST_TEXT };
 }
 
 impl Text {

@@ -1,34 +1,71 @@
 //! A reader or a writer that remembers its failures.
-ghost use Rattle.std.specs.Prelude.{◌≡◌, true, false, OnOk, OnErr, ◌<◌, length, IfOk, IfErr, if◌then◌else◌, ◌&&◌, ◌||◌, ◌==◌, nat_lt, is_err, not, Ok};
+ghost use Rattle.std.specs.Prelude.{◌≡◌, true, length, ◌&&◌, ◌||◌, ◌==◌, is_err, not, Ok};
 ghost use Rattle.std.specs.Io.{ReadsAtMost, WritesAtMost};
 ghost use Rattle.std.specs.Io.KnownBytes.{ReadConsumes, WriteAppends, Keeps};
-ghost use Rattle.ent_value.specs.Watched.{takes_nothing};
+ghost use Rattle.ent_value.specs.Watched.{IsUnmarked, takes_nothing};
 
 use std::io;
 use std::io::{Read, Write};
+use std::marker::Model;
 
-/// A reader or a writer, with a mark whether it failed.
+/// A reader or a writer with two marks: that it failed, and that it stalled. The marks are unset at first, and only
+/// this type's own reads and writes set them, so that a mark tells what happened. Contracts see `inner`, `failed` and
+/// `stalled`.
 #[derive(Drop)]
 pub struct Watched<T> {
-    pub inner: T,
-    /// A read, a write or a flush answered an error.
-    pub failed: bool,
-    /// A write of one byte or more took none.
-    pub stalled: bool,
+    inner: T,
+    failed: bool,
+    stalled: bool,
+}
+
+impl<T> Model for Watched<T> {
+    ghost use Rattle.ent_value.specs.Watched.{Stream};
+
+    ghost Value = { Stream T };
+
+    ghost view = { λ w. record { inner = w.inner; failed = w.failed; stalled = w.stalled } };
 }
 
 impl<T> Watched<T> {
     /// A reader or a writer that hasn't failed yet.
     pub fn new(inner: T) -> Self
         ensures inner { result.inner ≡ inner }
-        ensures failed { result.failed ≡ false }
-        ensures stalled { result.stalled ≡ false }
+        ensures unmarked { IsUnmarked result }
     {
         Watched {
             inner,
             failed: false,
             stalled: false,
         }
+    }
+
+    /// The reader or the writer.
+    pub fn get(&self) -> &T
+        ensures { result.now ≡ self.now.inner }
+    {
+        &self.inner
+    }
+
+    /// The reader or the writer, given back.
+    pub fn into_inner(self) -> T
+        ensures { result ≡ self.inner }
+    {
+        let Watched { inner, .. } = self;
+        inner
+    }
+
+    /// Whether a read, a write or a flush answered an error.
+    pub fn has_failed(&self) -> bool
+        ensures { result ≡ self.now.failed }
+    {
+        self.failed
+    }
+
+    /// Whether a write of one byte or more took none.
+    pub fn has_stalled(&self) -> bool
+        ensures { result ≡ self.now.stalled }
+    {
+        self.stalled
     }
 }
 

@@ -1,13 +1,13 @@
 use Rattle.std.proofs.Common.{◌≡◌, ◌++◌, ℕ, List, length}
 use Rattle.std.specs.Io.KnownBytes.{Appends}
+use Rattle.ent_value.specs.Watched.{IsUnmarked}
 use Rattle.ent_book.proofs.write.write_whole.Given as goal
 
 -- what was taken is a beginning of the text, and nothing failed
 abbrev pub invariant-loop-rest : goal.invariant-loop-rest
 invariant-loop-rest g l = record {
   beginning : (front : List ℕ) × (l.text ≡ front ++ l.rest) × Appends (g.W.Write.contents l.initial.writer.inner) (g.W.Write.contents l.writer.inner) front;
-  unfailed : l.writer.failed ≡ l.initial.writer.failed;
-  unstalled : l.writer.stalled ≡ l.initial.writer.stalled;
+  unmarked : IsUnmarked l.writer;
 }
 
 abbrev pub decreases-loop-rest : goal.decreases-loop-rest

@@ -3,9 +3,8 @@ use Rattle.std.specs.List.{filter}
 use Rattle.std.proofs.lemmas.List.{take_all}
 use Rattle.ent_value.specs.declared.value.Value.{Value}
 use Rattle.ent_form.specs.PlainMeaning.{plain_row, plain_meets}
-use Rattle.ent_set.specs.Steps.{map_filter_step}
 use Rattle.ent_engine.specs.Environment.{environment_of}
-use Rattle.ent_engine.proofs.Fusion.{map_filter-map}
+use Rattle.ent_engine.proofs.Fusion.{map_filter-map, map_filter_step}
 use Rattle.ent_engine.proofs.select.item_rows.Goals as goal
 use Rattle.ent_engine.proofs.select.item_rows.Goals.{then-meets+in_ok-item_row+in_ok-push, else-meets}
 

@@ -1,7 +1,8 @@
 use Rattle.std.proofs.Common.{◌≡◌, refl, ◌∷◌, [], ap, sym, ◌∙◌, map, subst, slice_set, get_or}
 use Rattle.std.specs.Arc.{arc_value}
 use Rattle.ent_undo.specs.Change.{rolled_back}
-use Rattle.ent_engine.proofs.Meanings.{map-set, table_at, length_map_lt}
+use Rattle.std.proofs.lemmas.List.{map-set}
+use Rattle.ent_engine.proofs.Meanings.{table_at, length_map_lt}
 use Rattle.ent_engine.proofs.Undone.{noted_and_made, put_back}
 use Rattle.ent_engine.proofs.tables.put.Goals as goal
 

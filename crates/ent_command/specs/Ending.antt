@@ -1,0 +1,16 @@
+-- The exit status of a command.
+use Rattle.std.specs.Prelude.{ℕ, Result, Ok, Err}
+use Rattle.ent_engine.specs.declared.fault.RunFault.{RunFault}
+use Rattle.ent_engine.specs.Fault.{status}
+use Rattle.ent_command.specs.declared.ending.Ending.{Ending}
+use Rattle.ent_command.specs.declared.ending.Ending.TheVariants.{Done, Misused, Faulty}
+
+abbrev pub status_of : Ending → ℕ
+status_of Done = 0
+status_of Misused = 2
+status_of (Faulty fault) = status fault
+
+-- how a command ends whose run ended so
+abbrev pub ending_of : {X : Type 0} → Result X RunFault → Ending
+ending_of (Ok x) = Done
+ending_of (Err fault) = Faulty fault

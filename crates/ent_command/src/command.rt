@@ -1,0 +1,80 @@
+//! The words of the command line, and what they ask for.
+ghost use Rattle.std.specs.Prelude.{◌≡◌};
+ghost use Rattle.std.specs.Process.{exit_status};
+
+use crate::ending::Ending;
+use clap::error::ErrorKind;
+use clap::{Command, Error};
+use ent_engine::{FaultLine, RunFault};
+use ent_value::Watched;
+use std::alloc::{AllocError, Global};
+use std::env::Env;
+use std::process::ExitCode;
+use std::{env, io};
+
+/// The program: reads its command line, and runs the scripts of standard input where it asks for that. A fault is one
+/// line on standard error.
+pub fn entangle<R: Env + AllocGlobal + Input + Print + Eprint>(rt: &R) -> ExitCode {
+    let ending = match words_of(rt) {
+        Ok(words) => match read_command_line(rt.alloc(), words.as_slice()) {
+            Ok(()) => Ending::from(run(rt)),
+            Err(fault) => show_command_line(rt, &fault),
+        },
+        Err(ending) => ending,
+    };
+    if let Ending::Faulty(fault) = ending {
+        let _ = eprintln!(rt; "{}", FaultLine(fault));
+    }
+    ending.exit_code()
+}
+
+/// The words of the command line. One that isn't UTF-8 is a fault of the command line, and is said.
+fn words_of<R: Env + AllocGlobal + Eprint>(rt: &R) -> Result<Vec<String>, Ending> {
+    let words = env::args(rt).and_then(|words| Ok(words.collect(rt.alloc())?));
+    words.map_err(|fault| {
+        if fault.kind() == io::ErrorKind::OutOfMemory {
+            return Ending::Faulty(RunFault::Memory);
+        }
+        let _ = eprintln!(rt; "error: an argument isn't UTF-8");
+        Ending::Misused
+    })
+}
+
+fn command<'a>(alloc: Global) -> Result<Command<'a>, AllocError> {
+    let run = Command::new(alloc, "run").about(
+        "Reads tables, opening rows and scripts from standard input, runs the scripts and writes their report",
+    );
+    Command::new(alloc, "entangle")
+        .about("An in-memory transaction manager for entangled SQL")
+        .subcommand_required(true)
+        .subcommand(run)
+}
+
+/// Whether the command line asks for a run; else its fault, or the help that it asks for.
+fn read_command_line<'a>(alloc: Global, words: &'a [String]) -> Result<(), Error> {
+    command(alloc)?.try_get_matches_from(words)?;
+    Ok(())
+}
+
+/// Shows what is wrong with the command line, or the help that it asks for; where the help can't be written, that is a
+/// fault of the writer.
+fn show_command_line<R: Print + Eprint>(rt: &R, fault: &Error) -> Ending {
+    if fault.kind() == ErrorKind::OutOfMemory {
+        return Ending::Faulty(RunFault::Memory);
+    }
+    let shown = fault.print(rt);
+    if fault.use_stderr() {
+        Ending::Misused
+    } else if shown.is_err() {
+        Ending::Faulty(RunFault::WriteFault)
+    } else {
+        Ending::Done
+    }
+}
+
+/// Runs the scripts of standard input.
+fn run<R: AllocGlobal + Input + Print>(rt: &R) -> Result<(), RunFault> {
+    let mut reader = Watched::new(rt.reader());
+    let mut writer = Watched::new(io::writer(rt));
+    ent_engine::run(rt.alloc(), &mut reader, &mut writer)
+}

@@ -1,0 +1,158 @@
+//! Groups of transactions, lists of them, and cycles: `== groups`, `== members`, `== cycles`.
+use crate::reply::{put, put_list, put_number, yes_or_no};
+use crate::words::{index, number};
+use anyhow::{Context, Result, bail};
+use ent_group::{Groups, MOST_MEMBERS, Members, Tx, cycle, few_pairs_name_few};
+use std::alloc::Global;
+use std::io::Write;
+
+pub(crate) fn reply_to_groups(
+    alloc: Global,
+    groups: &mut Groups,
+    call: &[&str],
+    out: &mut Vec<u8>,
+) -> Result<()> {
+    match call {
+        ["add", tx] => put(out, yes_or_no(add(groups, number(tx)?))),
+        ["merge", left, right] => {
+            let (left, right) = (number(left)?, number(right)?);
+            put(out, yes_or_no(merge(groups, left, right)))
+        }
+        ["remove", tx] => {
+            groups.remove_group(number(tx)?);
+            put_number(out, groups.len())
+        }
+        _ => reply_of_groups(alloc, groups, call, out),
+    }
+}
+
+/// The reply to a call that changes nothing.
+fn reply_of_groups(alloc: Global, groups: &Groups, call: &[&str], out: &mut Vec<u8>) -> Result<()> {
+    match call {
+        ["group", tx] => put_members(alloc, out, &groups.members(number(tx)?)),
+        ["same", left, right] => {
+            let (left, right) = (number(left)?, number(right)?);
+            put(out, yes_or_no(groups.same_group(left, right)))
+        }
+        ["label", tx] => put_transaction(out, groups.group_of(number(tx)?)),
+        ["contains", tx] => put(out, yes_or_no(groups.contains(number(tx)?))),
+        ["all"] => put_all(alloc, groups, out),
+        ["is_empty"] => put(out, yes_or_no(groups.is_empty())),
+        _ => bail!("groups know no such call"),
+    }
+}
+
+fn put_all(alloc: Global, groups: &Groups, out: &mut Vec<u8>) -> Result<()> {
+    let mut all = Members::new();
+    for membership in groups.as_slice() {
+        push(&mut all, membership.member);
+    }
+    put_members(alloc, out, &all)
+}
+
+pub(crate) fn put_transaction(out: &mut Vec<u8>, tx: Option<Tx>) -> Result<()> {
+    match tx {
+        Some(tx) => {
+            write!(out, "{tx}")?;
+            Ok(())
+        }
+        None => put(out, "nobody"),
+    }
+}
+
+/// Adds a transaction where it is no member and there is room.
+fn add(groups: &mut Groups, tx: Tx) -> bool {
+    let can = groups.len() < MOST_MEMBERS && !groups.contains(tx);
+    if can {
+        groups.add(tx);
+    }
+    can
+}
+
+fn merge(groups: &mut Groups, left: Tx, right: Tx) -> bool {
+    let can = groups.contains(left) && groups.contains(right);
+    if can {
+        groups.merge(left, right);
+    }
+    can
+}
+
+pub(crate) fn push(members: &mut Members, tx: Tx) -> bool {
+    let can = !members.is_full();
+    if can {
+        members.push(tx);
+    }
+    can
+}
+
+pub(crate) fn put_members(alloc: Global, out: &mut Vec<u8>, members: &Members) -> Result<()> {
+    if members.is_empty() {
+        return put(out, "nobody");
+    }
+    put_list(alloc, out, members.as_slice(), " ")
+}
+
+pub(crate) fn reply_to_members(
+    alloc: Global,
+    members: &mut Members,
+    call: &[&str],
+    out: &mut Vec<u8>,
+) -> Result<()> {
+    match call {
+        ["of", tx] => {
+            *members = Members::of(number(tx)?);
+            put_members(alloc, out, members)
+        }
+        ["push", tx] => put(out, yes_or_no(push(members, number(tx)?))),
+        ["push_up_to", most] => {
+            push_up_to(members, number(most)?);
+            put_number(out, members.len())
+        }
+        _ => reply_of_members(members, call, out),
+    }
+}
+
+fn push_up_to(members: &mut Members, most: Tx) {
+    for tx in 1..=most {
+        if !push(members, tx) {
+            break;
+        }
+    }
+}
+
+/// The reply to a call that changes nothing.
+fn reply_of_members(members: &Members, call: &[&str], out: &mut Vec<u8>) -> Result<()> {
+    match call {
+        ["len"] => put_number(out, members.len()),
+        ["walk"] => put_number(out, members.iter().count()),
+        ["is_empty"] => put(out, yes_or_no(members.is_empty())),
+        ["is_full"] => put(out, yes_or_no(members.is_full())),
+        ["get", at] => put_transaction(out, members.get(index(at)?)),
+        ["contains", tx] => put(out, yes_or_no(members.contains(number(tx)?))),
+        ["is_its_copy"] => put(out, yes_or_no(members.copy() == *members)),
+        ["is_list_of", tx] => put(out, yes_or_no(Members::of(number(tx)?) == *members)),
+        _ => bail!("lists of members know no such call"),
+    }
+}
+
+/// The cycle of pairs, as `1>2 2>1`.
+pub(crate) fn reply_to_cycles(alloc: Global, line: &str, out: &mut Vec<u8>) -> Result<()> {
+    let mut pairs = Vec::new(alloc);
+    for word in line.split_whitespace() {
+        let (waiter, awaited) = word.split_once('>').context("a pair is written 1>2")?;
+        pairs.push((number(waiter)?, number(awaited)?))?;
+    }
+    put_cycle(alloc, out, pairs.as_slice())
+}
+
+/// Shows the cycle of at most 32 pairs, which name at most 64 transactions.
+fn put_cycle(alloc: Global, out: &mut Vec<u8>, pairs: &[(Tx, Tx)]) -> Result<()> {
+    if pairs.len() > 32 {
+        bail!("these pairs are too many");
+    }
+    few_pairs_name_few();
+    match cycle(pairs) {
+        Some(members) => put_members(alloc, out, &members),
+        None => put(out, "no cycle"),
+    }
+}

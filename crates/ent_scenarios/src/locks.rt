@@ -1,0 +1,152 @@
+//! Locks on tables: `== locks`. A use is written `T:shared` or `T:exclusive`.
+use crate::groups::{push, put_members, put_transaction};
+use crate::reply::{put, put_list, put_number, yes_or_no};
+use crate::words::{name, number};
+use anyhow::{Context, Result, bail};
+use ent_group::{Members, Tx};
+use ent_lock::{Answer, LockTable, Mode};
+use ent_value::Name;
+use std::alloc::Global;
+
+/// The uses that a call names, and the transactions behind its word `pass`.
+#[derive(Drop)]
+struct Asked {
+    uses: Vec<(Name, Mode)>,
+    pass: Members,
+}
+
+fn read_use(alloc: Global, word: &str) -> Result<(Name, Mode)> {
+    let (table, mode) = word.split_once(':').context("a use is written T:shared")?;
+    let mode = match mode {
+        "shared" => Mode::Shared,
+        "exclusive" => Mode::Exclusive,
+        _ => bail!("this is no mode"),
+    };
+    Ok((name(alloc, table)?, mode))
+}
+
+fn read_asked(alloc: Global, words: &[&str]) -> Result<Asked> {
+    let mut uses = Vec::new(alloc);
+    let mut pass = Members::new();
+    let mut is_passing = false;
+    for word in words {
+        if *word == "pass" {
+            is_passing = true;
+        } else if is_passing {
+            push(&mut pass, number(word)?);
+        } else {
+            uses.push(read_use(alloc, word)?)?;
+        }
+    }
+    Ok(Asked { uses, pass })
+}
+
+pub(crate) fn reply(
+    alloc: Global,
+    locks: &mut LockTable,
+    call: &[&str],
+    out: &mut Vec<u8>,
+) -> Result<()> {
+    match call {
+        ["ask", tx, words @ ..] => ask(alloc, locks, number(tx)?, words, out),
+        ["drop", words @ ..] => {
+            locks.drop_group(&read_members(words)?);
+            put(out, "dropped")
+        }
+        _ => reply_of(alloc, locks, call, out),
+    }
+}
+
+fn read_members(words: &[&str]) -> Result<Members> {
+    let mut members = Members::new();
+    for word in words {
+        push(&mut members, number(word)?);
+    }
+    Ok(members)
+}
+
+fn ask(
+    alloc: Global,
+    locks: &mut LockTable,
+    tx: Tx,
+    words: &[&str],
+    out: &mut Vec<u8>,
+) -> Result<()> {
+    let asked = read_asked(alloc, words)?;
+    match locks.ask(tx, asked.uses.as_slice(), &asked.pass)? {
+        Answer::Granted => put(out, "granted"),
+        Answer::Blocked(holder) => {
+            put(out, "blocked ")?;
+            put_transaction(out, Some(holder))
+        }
+    }
+}
+
+/// The reply to a call that changes nothing.
+fn reply_of(alloc: Global, locks: &LockTable, call: &[&str], out: &mut Vec<u8>) -> Result<()> {
+    match call {
+        ["blocker", tx, words @ ..] => put_blocker(alloc, locks, number(tx)?, words, out),
+        ["in_conflict", tx, words @ ..] => put_conflict(alloc, locks, number(tx)?, words, out),
+        ["holds", tx, word] => put_holds(alloc, locks, number(tx)?, word, out),
+        ["holders", table] => {
+            let table = name(alloc, table)?;
+            put_number(out, locks.holders(&table).len())
+        }
+        ["uses", tx] => put_uses(alloc, locks, number(tx)?, out),
+        _ => bail!("locks know no such call"),
+    }
+}
+
+fn put_blocker(
+    alloc: Global,
+    locks: &LockTable,
+    tx: Tx,
+    words: &[&str],
+    out: &mut Vec<u8>,
+) -> Result<()> {
+    let asked = read_asked(alloc, words)?;
+    put_transaction(out, locks.blocker(tx, asked.uses.as_slice(), &asked.pass))
+}
+
+fn put_conflict(
+    alloc: Global,
+    locks: &LockTable,
+    tx: Tx,
+    words: &[&str],
+    out: &mut Vec<u8>,
+) -> Result<()> {
+    let asked = read_asked(alloc, words)?;
+    put(out, yes_or_no(locks.in_conflict(tx, asked.uses.as_slice())))
+}
+
+fn put_holds(
+    alloc: Global,
+    locks: &LockTable,
+    tx: Tx,
+    word: &str,
+    out: &mut Vec<u8>,
+) -> Result<()> {
+    let (table, mode) = read_use(alloc, word)?;
+    put(out, yes_or_no(locks.holds(tx, &table, mode)))
+}
+
+fn put_uses(alloc: Global, locks: &LockTable, tx: Tx, out: &mut Vec<u8>) -> Result<()> {
+    let uses = locks.uses(alloc, tx)?;
+    if uses.is_empty() {
+        return put_members(alloc, out, &Members::new());
+    }
+    let mut before = "";
+    for (table, mode) in uses.as_slice() {
+        put(out, before)?;
+        put_list(alloc, out, &[table], "")?;
+        put(
+            out,
+            match mode {
+                Mode::Shared => ":shared",
+                Mode::Exclusive => ":exclusive",
+            },
+        )?;
+        before = " ";
+    }
+    Ok(())
+}

@@ -1,0 +1,80 @@
+//! What the calls of a scenario speak of.
+use crate::book::Draft;
+use crate::groups::{reply_to_cycles, reply_to_groups, reply_to_members};
+use crate::streams::Streams;
+use crate::undo::Tables;
+use crate::{book, forms, locks, streams, table, tokens, trees, undo, values};
+use anyhow::{Context, Result, bail};
+use ent_group::{Groups, Members};
+use ent_lock::LockTable;
+use ent_rel::Table;
+use std::alloc::Global;
+
+/// What is called, as the line `== ..` before the calls names it.
+#[derive(Drop)]
+enum Stage {
+    Tokens,
+    Trees,
+    Forms,
+    Values,
+    Table(Table),
+    Undo(Tables),
+    Groups(Groups),
+    Members(Members),
+    Cycles,
+    Locks(LockTable),
+    Book(Draft),
+    Streams(Streams),
+}
+
+fn set_stage(alloc: Global, name: &str) -> Result<Stage> {
+    Ok(match name {
+        "tokens" => Stage::Tokens,
+        "trees" => Stage::Trees,
+        "forms" => Stage::Forms,
+        "values" => Stage::Values,
+        "table" => Stage::Table(Table::new(alloc, Vec::new(alloc))),
+        "undo" => Stage::Undo(Tables::new(alloc)),
+        "groups" => Stage::Groups(Groups::new()),
+        "members" => Stage::Members(Members::new()),
+        "cycles" => Stage::Cycles,
+        "locks" => Stage::Locks(LockTable::new(alloc)),
+        "book" => Stage::Book(Draft::new(alloc)),
+        "streams" => Stage::Streams(Streams::new(alloc)?),
+        _ => bail!("nothing is called {name}"),
+    })
+}
+
+fn reply(alloc: Global, stage: &mut Stage, line: &str, out: &mut Vec<u8>) -> Result<()> {
+    let words: Vec<&str> = line.split(' ').collect(alloc)?;
+    let call = words.as_slice();
+    match stage {
+        Stage::Tokens => tokens::reply(alloc, line, out),
+        Stage::Trees => trees::reply(alloc, line, out),
+        Stage::Forms => forms::reply(alloc, line, out),
+        Stage::Values => values::reply(alloc, call, out),
+        Stage::Table(table) => table::reply(alloc, table, call, out),
+        Stage::Undo(tables) => undo::reply(alloc, tables, call, out),
+        Stage::Groups(groups) => reply_to_groups(alloc, groups, call, out),
+        Stage::Members(members) => reply_to_members(alloc, members, call, out),
+        Stage::Cycles => reply_to_cycles(alloc, line, out),
+        Stage::Locks(locks) => locks::reply(alloc, locks, call, out),
+        Stage::Book(draft) => book::reply(alloc, draft, call, out),
+        Stage::Streams(streams) => streams::reply(alloc, streams, call, out),
+    }
+}
+
+/// The replies to a scenario's calls, a line each.
+pub(crate) fn replies(alloc: Global, text: &str) -> Result<String> {
+    let mut out = Vec::new(alloc);
+    let mut now = Stage::Tokens;
+    for line in text.lines() {
+        if let Some(name) = line.strip_prefix("== ") {
+            now = set_stage(alloc, name)?;
+        } else {
+            reply(alloc, &mut now, line, &mut out).context(format_args!("{line}"))?;
+            out.push(b'\n')?;
+        }
+    }
+    String::from_utf8(out).context("the replies aren't UTF-8")
+}

@@ -1,0 +1,215 @@
+//! A table and its changes: `== table`.
+ghost use Rattle.std.specs.Prelude.{◌≡◌, All, IfOk};
+ghost use Rattle.ent_value.specs.Value.{kinds_of};
+
+use crate::reply::{Show, put, put_list, put_number, yes_or_no};
+use crate::values::put_kind;
+use crate::words::{index, kinds, row_of, rows_of};
+use anyhow::{Context, Result, bail};
+use ent_rel::{Delta, ReplaceFault, Table, TableFault};
+use ent_value::{Kind, Row, Sequence, Value};
+use std::alloc::Global;
+
+pub(crate) fn reply(
+    alloc: Global,
+    table: &mut Table,
+    call: &[&str],
+    out: &mut Vec<u8>,
+) -> Result<()> {
+    match call {
+        ["new", word] => {
+            *table = Table::new(alloc, kinds(alloc, word)?);
+            put_number(out, table.len())
+        }
+        ["load", word, rows @ ..] => {
+            let kinds = kinds(alloc, word)?;
+            let rows = rows_of(alloc, rows, kinds.as_slice())?;
+            let loaded = Table::load(alloc, kinds, rows);
+            put_changed(table, loaded, out)
+        }
+        ["fill", from, to] => {
+            let loaded = filled(alloc, index(from)?, index(to)?)?;
+            put_changed(table, loaded, out)
+        }
+        ["copy"] => {
+            *table = table.copy(alloc)?;
+            put_number(out, table.len())
+        }
+        ["insert", word] => insert(alloc, table, word, out),
+        ["delete_above", least] => delete(alloc, table, least, out),
+        ["replace_above", least, word] => replace(alloc, table, least, word, out),
+        ["change", removed, added] => change(alloc, table, removed, added, out),
+        _ => reply_of(alloc, table, call, out),
+    }
+}
+
+/// The reply to a call that changes nothing.
+fn reply_of(alloc: Global, table: &Table, call: &[&str], out: &mut Vec<u8>) -> Result<()> {
+    match call {
+        ["rows"] => put_list(alloc, out, table.ascending(alloc)?.as_slice(), " "),
+        ["walk"] => put_number(out, table.iter().count()),
+        ["is_empty"] => put(out, yes_or_no(table.is_empty())),
+        ["contains", word] => {
+            let row = row_of(alloc, word, table.kinds())?;
+            put(out, yes_or_no(table.contains(&row)))
+        }
+        ["kinds"] => {
+            let mut before = "";
+            for kind in table.kinds() {
+                put(out, before)?;
+                put_kind(out, *kind)?;
+                before = " ";
+            }
+            Ok(())
+        }
+        ["is_table_of", rows @ ..] => {
+            let kinds = Vec::from_slice(alloc, table.kinds())?;
+            let rows = rows_of(alloc, rows, kinds.as_slice())?;
+            let other = Table::load(alloc, kinds, rows).ok().context("no table")?;
+            put(out, yes_or_no(table.is_same(&other)))
+        }
+        _ => bail!("tables know no such call"),
+    }
+}
+
+/// Puts a table in another's place, and replies how many rows it has; or replies that there is none.
+fn put_changed(
+    table: &mut Table,
+    changed: Result<Table, TableFault>,
+    out: &mut Vec<u8>,
+) -> Result<()> {
+    match changed {
+        Ok(changed) => {
+            *table = changed;
+            put_number(out, table.len())
+        }
+        Err(TableFault::TableFull) => put(out, "full"),
+        Err(TableFault::Memory) => bail!("memory ran out"),
+    }
+}
+
+/// Loads a table of the numbers from one up to another.
+fn filled(alloc: Global, from: usize, to: usize) -> Result<Result<Table, TableFault>> {
+    let mut kinds = Vec::new(alloc);
+    kinds.push(Kind::Int)?;
+    let rows = number_rows(alloc, from, to, kinds.as_slice())?;
+    Ok(Table::load(alloc, kinds, rows))
+}
+
+fn number_rows(alloc: Global, from: usize, to: usize, kinds: &[Kind]) -> Result<Vec<Row>>
+    ensures { IfOk result (λ rows. All (λ row. kinds_of row ≡ kinds.now) rows.items) }
+{
+    let mut rows = Vec::new(alloc);
+    for number in from..to {
+        let text = format!(in alloc; "({number})")?;
+        rows.push(row_of(alloc, text.as_str(), kinds)?)?;
+    }
+    Ok(rows)
+}
+
+/// The number that a row begins with, else 0.
+fn number_of(row: &Row) -> i64 {
+    match row.values() {
+        [Value::Int(number), ..] => *number,
+        _ => 0,
+    }
+}
+
+/// Replies the count of a change, and makes it, by a copy of what it says.
+fn put_count(
+    alloc: Global,
+    table: &mut Table,
+    count: u64,
+    delta: &Delta,
+    out: &mut Vec<u8>,
+) -> Result<()>
+    requires { All (λ row. kinds_of row ≡ table.old.kinds) delta.now.added }
+{
+    let copy = delta.copy(alloc)?;
+    let changed = table.apply(alloc, &copy);
+    put(out, "count ")?;
+    put_list(alloc, out, &[count], "")?;
+    put(out, ", rows ")?;
+    put_changed(table, changed, out)
+}
+
+fn insert(alloc: Global, table: &mut Table, word: &str, out: &mut Vec<u8>) -> Result<()> {
+    let row = row_of(alloc, word, table.kinds())?;
+    match table.insert(alloc, &row) {
+        Ok((count, delta)) => put_count(alloc, table, count, &delta, out),
+        Err(TableFault::TableFull) => put(out, "full"),
+        Err(TableFault::Memory) => bail!("memory ran out"),
+    }
+}
+
+/// Deletes the rows that begin with a number above one.
+fn delete(alloc: Global, table: &mut Table, least: &str, out: &mut Vec<u8>) -> Result<()> {
+    let least = least.parse::<i64>().context("this is no number")?;
+    let (count, delta) = table.delete_rows(alloc, |row| number_of(row) > least)?;
+    put_count(alloc, table, count, &delta, out)
+}
+
+/// Replaces the rows that begin with a number above one, each by one row; or by none, for the word `fault`.
+fn replace(
+    alloc: Global,
+    table: &mut Table,
+    least: &str,
+    word: &str,
+    out: &mut Vec<u8>,
+) -> Result<()> {
+    let least = least.parse::<i64>().context("this is no number")?;
+    if word == "fault" {
+        return put_fault_of_change(alloc, table, least, out);
+    }
+    let image = row_of(alloc, word, table.kinds())?;
+    let replaced = table.replace(alloc, |row| number_of(row) > least, |_| image.copy(alloc));
+    match replaced {
+        Ok((count, delta)) => put_count(alloc, table, count, &delta, out),
+        Err(ReplaceFault::TableFull) => put(out, "full"),
+        Err(_) => bail!("memory ran out"),
+    }
+}
+
+/// Replies the fault of a change that finds no image for a row: that row's number.
+fn put_fault_of_change(alloc: Global, table: &Table, least: i64, out: &mut Vec<u8>) -> Result<()> {
+    let replaced = table.replace(
+        alloc,
+        |row| number_of(row) > least,
+        |row| Err::<Row, i64>(number_of(row)),
+    );
+    match replaced {
+        Ok((count, _)) => put_list(alloc, out, &[count], ""),
+        Err(ReplaceFault::Change(number)) => {
+            put(out, "fault of ")?;
+            Value::Int(number).show(alloc, out)
+        }
+        Err(ReplaceFault::TableFull) => put(out, "full"),
+        Err(ReplaceFault::Memory) => bail!("memory ran out"),
+    }
+}
+
+/// Makes a change that takes one row out, and puts one in; a `-` stands for none.
+fn change(
+    alloc: Global,
+    table: &mut Table,
+    removed: &str,
+    added: &str,
+    out: &mut Vec<u8>,
+) -> Result<()> {
+    let delta = Delta {
+        removed: Sequence::from_vec(listed(alloc, removed, table.kinds())?),
+        added: Sequence::from_vec(listed(alloc, added, table.kinds())?),
+    };
+    let changed = table.apply(alloc, &delta);
+    put_changed(table, changed, out)
+}
+
+fn listed(alloc: Global, word: &str, kinds: &[Kind]) -> Result<Vec<Row>>
+    ensures { IfOk result (λ rows. All (λ row. kinds_of row ≡ kinds.now) rows.items) }
+{
+    if word == "-" {
+        rows_of(alloc, &[], kinds)
+    } else {
+        rows_of(alloc, &[word], kinds)
+    }
+}

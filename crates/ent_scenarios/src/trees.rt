@@ -1,0 +1,207 @@
+//! The tree of an input: `== trees`, then an input a line. A name or a value is shown with its place behind an `@`, a
+//! host variable with a `:` before its name.
+use crate::reply::{Show, put, put_list, put_number};
+use crate::values::put_kind;
+use crate::words::unescaped;
+use anyhow::Result;
+use ent_sql::{
+    Assignment, Column, Create, End, Expression, Identifier, Input, Items, Literal, OpeningRow,
+    Operand, Script, Statement, Test, ValueSpecification, parse_input,
+};
+use ent_value::Refusal;
+use std::alloc::Global;
+use std::io::Write;
+
+pub(crate) fn reply(alloc: Global, line: &str, out: &mut Vec<u8>) -> Result<()> {
+    let text = unescaped(alloc, line)?;
+    match parse_input(alloc, text.as_str()) {
+        Ok(input) => put_input(alloc, &input, out)?,
+        Err(Refusal::Fault(fault)) => write!(out, "E{} at {}", fault.code(), fault.place())?,
+        Err(Refusal::Memory) => put(out, "E900")?,
+    }
+    Ok(())
+}
+
+fn put_input(alloc: Global, input: &Input, out: &mut Vec<u8>) -> Result<()> {
+    put(out, "input;")?;
+    for create in input.opening.tables.as_slice() {
+        create.show(alloc, out)?;
+    }
+    for row in input.opening.rows.as_slice() {
+        row.show(alloc, out)?;
+    }
+    for script in input.scripts.as_slice() {
+        script.show(alloc, out)?;
+    }
+    Ok(())
+}
+
+impl Show for Identifier {
+    fn show(&self, alloc: Global, out: &mut Vec<u8>) -> Result<()> {
+        self.name.show(alloc, out)?;
+        put_place(out, self.place)
+    }
+}
+
+fn put_place(out: &mut Vec<u8>, place: usize) -> Result<()> {
+    put(out, "@")?;
+    put_number(out, place)
+}
+
+impl Show for Literal {
+    fn show(&self, alloc: Global, out: &mut Vec<u8>) -> Result<()> {
+        self.value.show(alloc, out)?;
+        put_place(out, self.place)
+    }
+}
+
+impl Show for Column {
+    fn show(&self, alloc: Global, out: &mut Vec<u8>) -> Result<()> {
+        self.name.show(alloc, out)?;
+        put(out, " ")?;
+        put_kind(out, self.kind)
+    }
+}
+
+impl Show for Create {
+    fn show(&self, alloc: Global, out: &mut Vec<u8>) -> Result<()> {
+        put(out, " create ")?;
+        self.name.show(alloc, out)?;
+        put(out, " (")?;
+        put_list(alloc, out, self.columns.as_slice(), ", ")?;
+        put(out, ");")
+    }
+}
+
+impl Show for OpeningRow {
+    fn show(&self, alloc: Global, out: &mut Vec<u8>) -> Result<()> {
+        put(out, " row ")?;
+        self.table.show(alloc, out)?;
+        put_values(alloc, out, self.place, self.values.as_slice())
+    }
+}
+
+fn put_values<T: Show>(alloc: Global, out: &mut Vec<u8>, place: usize, values: &[T]) -> Result<()> {
+    put(out, " (")?;
+    put_place(out, place)?;
+    put(out, " ")?;
+    put_list(alloc, out, values, ", ")?;
+    put(out, ");")
+}
+
+impl Show for ValueSpecification {
+    fn show(&self, alloc: Global, out: &mut Vec<u8>) -> Result<()> {
+        match self {
+            ValueSpecification::Literal(literal) => literal.show(alloc, out),
+            ValueSpecification::HostVariable(variable) => {
+                put(out, ":")?;
+                variable.show(alloc, out)
+            }
+        }
+    }
+}
+
+impl Show for Operand {
+    fn show(&self, alloc: Global, out: &mut Vec<u8>) -> Result<()> {
+        match self {
+            Operand::Value(value) => value.show(alloc, out),
+            Operand::Column(column) => column.show(alloc, out),
+        }
+    }
+}
+
+impl<T: Show> Show for Expression<T> {
+    fn show(&self, alloc: Global, out: &mut Vec<u8>) -> Result<()> {
+        match self {
+            Expression::Single(term) => term.show(alloc, out),
+            Expression::Sum(left, right) => put_list(alloc, out, &[left, right], " + "),
+            Expression::Difference(left, right) => put_list(alloc, out, &[left, right], " - "),
+        }
+    }
+}
+
+impl Show for Test {
+    fn show(&self, alloc: Global, out: &mut Vec<u8>) -> Result<()> {
+        self.left.show(alloc, out)?;
+        write!(out, " {:?} ", self.comparison)?;
+        self.right.show(alloc, out)
+    }
+}
+
+impl Show for Assignment {
+    fn show(&self, alloc: Global, out: &mut Vec<u8>) -> Result<()> {
+        self.column.show(alloc, out)?;
+        put(out, " = ")?;
+        self.expression.show(alloc, out)
+    }
+}
+
+/// The conditions of a statement, and its end.
+pub(crate) fn put_tests<T: Show>(alloc: Global, out: &mut Vec<u8>, tests: &[T]) -> Result<()> {
+    if !tests.is_empty() {
+        put(out, " where ")?;
+        put_list(alloc, out, tests, ", ")?;
+    }
+    put(out, ";")
+}
+
+impl Show for Statement {
+    fn show(&self, alloc: Global, out: &mut Vec<u8>) -> Result<()> {
+        match self {
+            Statement::Insert(insert) => {
+                put(out, " insert ")?;
+                insert.table.show(alloc, out)?;
+                put_values(alloc, out, insert.place, insert.values.as_slice())
+            }
+            Statement::Delete(delete) => {
+                put(out, " delete ")?;
+                delete.table.show(alloc, out)?;
+                put_tests(alloc, out, delete.tests.as_slice())
+            }
+            Statement::Update(update) => {
+                put(out, " update ")?;
+                update.table.show(alloc, out)?;
+                put(out, " set ")?;
+                put_list(alloc, out, update.assignments.as_slice(), ", ")?;
+                put_tests(alloc, out, update.tests.as_slice())
+            }
+            Statement::Set(set) => {
+                put(out, " set :")?;
+                set.variable.show(alloc, out)?;
+                put(out, " = ")?;
+                set.expression.show(alloc, out)?;
+                put(out, ";")
+            }
+            Statement::Select(select) => {
+                put(out, " select ")?;
+                match &select.items {
+                    Items::All => put(out, "*")?,
+                    Items::Listed(items) => put_list(alloc, out, items.as_slice(), ", ")?,
+                }
+                put(out, " from ")?;
+                select.source.show(alloc, out)?;
+                put_tests(alloc, out, select.tests.as_slice())
+            }
+        }
+    }
+}
+
+pub(crate) fn put_end(out: &mut Vec<u8>, end: End) -> Result<()> {
+    put(
+        out,
+        match end {
+            End::Commit => " commit;",
+            End::Rollback => " rollback;",
+        },
+    )
+}
+
+impl Show for Script {
+    fn show(&self, alloc: Global, out: &mut Vec<u8>) -> Result<()> {
+        put(out, " begin;")?;
+        for statement in self.statements.as_slice() {
+            statement.show(alloc, out)?;
+        }
+        put_end(out, self.end)
+    }
+}

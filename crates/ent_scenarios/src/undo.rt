@@ -1,0 +1,94 @@
+//! Tables of numbers and the undo log of their changes: `== undo`.
+use crate::reply::{put, put_number};
+use crate::words::{index, numbers, rows_of};
+use anyhow::{Context, Result, bail};
+use ent_rel::Table;
+use ent_undo::{UndoLog, log_tells_of_writes};
+use ent_value::{Kind, print_row};
+use std::alloc::Global;
+use std::mem;
+use std::sync::Arc;
+
+/// Tables of one column of numbers, and the log of what was written.
+#[derive(Drop)]
+pub(crate) struct Tables {
+    tables: Vec<Arc<Table>>,
+    log: UndoLog,
+}
+
+impl Tables {
+    pub(crate) fn new(alloc: Global) -> Self {
+        log_tells_of_writes();
+        Tables {
+            tables: Vec::new(alloc),
+            log: UndoLog::new(alloc),
+        }
+    }
+}
+
+fn table_of(alloc: Global, words: &[&str]) -> Result<Arc<Table>> {
+    let mut kinds = Vec::new(alloc);
+    kinds.push(Kind::Int)?;
+    let rows = rows_of(alloc, words, kinds.as_slice())?;
+    let table = Table::load(alloc, kinds, rows).ok().context("no table")?;
+    Ok(Arc::new(alloc, table)?)
+}
+
+pub(crate) fn reply(
+    alloc: Global,
+    tables: &mut Tables,
+    call: &[&str],
+    out: &mut Vec<u8>,
+) -> Result<()> {
+    match call {
+        ["table", rows @ ..] => {
+            let table = table_of(alloc, rows)?;
+            tables.tables.push(table)?;
+        }
+        ["write", tx, at, rows @ ..] => {
+            write(alloc, tables, tx.parse::<u64>()?, index(at)?, rows)?;
+        }
+        ["roll_back", members @ ..] => {
+            let members = numbers(alloc, members)?;
+            let Tables { tables, log } = tables;
+            log.roll_back(members.as_slice(), tables.as_mut_slice());
+        }
+        ["roll_back_one", tx] => {
+            let Tables { tables, log } = tables;
+            log.roll_back_one(tx.parse::<u64>()?, tables.as_mut_slice());
+        }
+        ["forget", members @ ..] => {
+            let members = numbers(alloc, members)?;
+            tables.log.forget(members.as_slice());
+        }
+        _ => bail!("the undo log knows no such call"),
+    }
+    put_tables(alloc, tables.tables.as_slice(), out)
+}
+
+/// Puts a table in another's place, which is noted.
+fn write(alloc: Global, tables: &mut Tables, tx: u64, at: usize, rows: &[&str]) -> Result<()> {
+    let after = table_of(alloc, rows)?;
+    if at >= tables.tables.len() {
+        bail!("there is no such table");
+    }
+    let before = mem::replace(&mut tables.tables[at], after);
+    tables.log.note(tx, at, before)?;
+    Ok(())
+}
+
+/// Each table by its index, with its rows.
+fn put_tables(alloc: Global, tables: &[Arc<Table>], out: &mut Vec<u8>) -> Result<()> {
+    let mut before = "";
+    for (at, table) in tables.iter().enumerate() {
+        put(out, before)?;
+        put_number(out, at)?;
+        put(out, ":")?;
+        for row in table.ascending(alloc)? {
+            put(out, " ")?;
+            print_row(alloc, out, row)?;
+        }
+        before = "; ";
+    }
+    Ok(())
+}
