@@ -70,8 +70,8 @@ fn table_named<'a>(tables: &'a [NamedTable], name: &Name) -> Option<&'a Table>
     None
 }
 
-fn append_rows(alloc: Global, out: &mut Vec<u8>, rows: &[&Row]) -> Result<(), AllocError>
-    ensures { OnOk result (out.new.items ≡ out.old.items ++ rows_text (map (λ row. row.now) rows.now)) }
+fn append_rows(alloc: Global, out: &mut Vec<u8>, rows: &[Row]) -> Result<(), AllocError>
+    ensures { OnOk result (out.new.items ≡ out.old.items ++ rows_text rows.now) }
 {
     for row in rows {
         append_row_line(alloc, out, row)?;

@@ -14,7 +14,7 @@ use Rattle.std.proofs.lemmas.List.Elements.{All-from_recursion, recursion_from_A
 use Rattle.std.proofs.lemmas.Map.Lookups.{CmpEqualImpliesEq, exact_bytes}
 use Rattle.std.proofs.lemmas.Map.Keys.{IsDistinct-from_sorted}
 use Rattle.ent_set.specs.Sets as set
-use Rattle.ent_set.specs.Laws.{same_set, contains-from_list, contains-insert, contains-without_all, contains-empty, len_grows_all, contains-ascending, from_list-ascending, from_list-filter, any_map, any_same_set, len-distinct, ascending-from_list, is_sorted_from}
+use Rattle.ent_set.specs.Laws.{same_set, contains-from_list, contains-insert, contains-without_all, contains-empty, len-insert, contains-ascending, from_list-ascending, from_list-filter, any_map, any_same_set, len-distinct, ascending-from_list, is_sorted_from}
 use Rattle.std.proofs.lemmas.List.{take_more, map-append}
 use Rattle.ent_value.specs.Value.{row_cmp, kind_of, kinds_of}
 use Rattle.ent_value.specs.Order.{rows_total, exact_rows, rows_equal}
@@ -257,8 +257,14 @@ without_other kinds s row have other = same_set rows_total exact_rows _ _ (λ q.
     by q false f true h = ap (λ b. b && not (eq_by_cmp row_cmp q row || false)) f ∙ sym f
     by q true f true h = absurd (other (ap kinds_of (sym (same_rows q row h)) ∙ have q f))
 
+len_grows : (s : RowSet) (rows : List (List Value)) → set.len s ≤ set.len (set.insert_all s rows)
+len_grows s [] = omega arith
+len_grows s (row ∷ rows) =
+    let more = len_grows (set.insert s row) rows in
+    elim (set.contains s row) as (λ b. set.len (set.insert s row) ≡ (if b then set.len s else set.len s + 1) → set.len s ≤ set.len (set.insert_all (set.insert s row) rows)) [ true ↦ λ e. omega arith | false ↦ λ e. omega arith ] (len-insert rows_total exact_rows s row)
+
 pub no_more : (kinds : List Kind) (s : KeySet) (rows : List (List Value)) → HoldRows kinds s → ROW_LIMIT < set.len s → bounded (set.insert_all (rows_of kinds s) rows) (set.insert_all (rows_of kinds s) rows) ≡ Err full
-no_more kinds s rows hold many = bounded_beyond (set.insert_all (rows_of kinds s) rows) (set.insert_all (rows_of kinds s) rows) (omega (arith, len_grows_all rows_total exact_rows (rows_of kinds s) rows, len_rows kinds s hold))
+no_more kinds s rows hold many = bounded_beyond (set.insert_all (rows_of kinds s) rows) (set.insert_all (rows_of kinds s) rows) (omega (arith, len_grows (rows_of kinds s) rows, len_rows kinds s hold))
 
 pub from_here : {X : Type 0} (xs : List X) (i : ℕ) (x : X) → i < length xs → x ≡ get_or xs i x → drop i xs ≡ x ∷ drop (i + 1) xs
 from_here [] i x lt is = absurd (omega arith)

@@ -6,8 +6,8 @@ use crate::reply::{Show, put, put_list, put_number, yes_or_no};
 use crate::values::put_kind;
 use crate::words::{index, kinds, row_of, rows_of};
 use anyhow::{Context, Result, bail};
-use ent_rel::{Delta, ReplaceFault, Table, TableFault};
-use ent_value::{Kind, Row, Sequence, Value};
+use ent_rel::{Delta, Table, TableFull};
+use ent_value::{Kind, Refusal, Row, Sequence, Value};
 use std::alloc::Global;
 
 pub(crate) fn reply(
@@ -46,8 +46,8 @@ pub(crate) fn reply(
 /// The reply to a call that changes nothing.
 fn reply_of(alloc: Global, table: &Table, call: &[&str], out: &mut Vec<u8>) -> Result<()> {
     match call {
-        ["rows"] => put_list(alloc, out, table.ascending(alloc)?.as_slice(), " "),
-        ["walk"] => put_number(out, table.iter().count()),
+        ["rows"] => put_list(alloc, out, table.rows(alloc)?.as_slice(), " "),
+        ["walk"] => put_number(out, table.rows(alloc)?.len()),
         ["is_empty"] => put(out, yes_or_no(table.is_empty())),
         ["contains", word] => {
             let row = row_of(alloc, word, table.kinds())?;
@@ -75,7 +75,7 @@ fn reply_of(alloc: Global, table: &Table, call: &[&str], out: &mut Vec<u8>) -> R
 /// Puts a table in another's place, and replies how many rows it has; or replies that there is none.
 fn put_changed(
     table: &mut Table,
-    changed: Result<Table, TableFault>,
+    changed: Result<Table, Refusal<TableFull>>,
     out: &mut Vec<u8>,
 ) -> Result<()> {
     match changed {
@@ -83,13 +83,13 @@ fn put_changed(
             *table = changed;
             put_number(out, table.len())
         }
-        Err(TableFault::TableFull) => put(out, "full"),
-        Err(TableFault::Memory) => bail!("memory ran out"),
+        Err(Refusal::Fault(TableFull)) => put(out, "full"),
+        Err(Refusal::Memory) => bail!("memory ran out"),
     }
 }
 
 /// Loads a table of the numbers from one up to another.
-fn filled(alloc: Global, from: usize, to: usize) -> Result<Result<Table, TableFault>> {
+fn filled(alloc: Global, from: usize, to: usize) -> Result<Result<Table, Refusal<TableFull>>> {
     let mut kinds = Vec::new(alloc);
     kinds.push(Kind::Int)?;
     let rows = number_rows(alloc, from, to, kinds.as_slice())?;
@@ -137,8 +137,8 @@ fn insert(alloc: Global, table: &mut Table, word: &str, out: &mut Vec<u8>) -> Re
     let row = row_of(alloc, word, table.kinds())?;
     match table.insert(alloc, &row) {
         Ok((count, delta)) => put_count(alloc, table, count, &delta, out),
-        Err(TableFault::TableFull) => put(out, "full"),
-        Err(TableFault::Memory) => bail!("memory ran out"),
+        Err(Refusal::Fault(TableFull)) => put(out, "full"),
+        Err(Refusal::Memory) => bail!("memory ran out"),
     }
 }
 
@@ -162,10 +162,13 @@ fn replace(
         return put_fault_of_change(alloc, table, least, out);
     }
     let image = row_of(alloc, word, table.kinds())?;
-    let replaced = table.replace(alloc, |row| number_of(row) > least, |_| image.copy(alloc));
+    let replaced = table.replace(
+        alloc,
+        |row| number_of(row) > least,
+        |_| -> Result<Row, Refusal<TableFull>> { Ok(image.copy(alloc)?) },
+    );
     match replaced {
         Ok((count, delta)) => put_count(alloc, table, count, &delta, out),
-        Err(ReplaceFault::TableFull) => put(out, "full"),
         Err(_) => bail!("memory ran out"),
     }
 }
@@ -175,16 +178,15 @@ fn put_fault_of_change(alloc: Global, table: &Table, least: i64, out: &mut Vec<u
     let replaced = table.replace(
         alloc,
         |row| number_of(row) > least,
-        |row| Err::<Row, i64>(number_of(row)),
+        |row| Err::<Row, Refusal<i64>>(Refusal::Fault(number_of(row))),
     );
     match replaced {
         Ok((count, _)) => put_list(alloc, out, &[count], ""),
-        Err(ReplaceFault::Change(number)) => {
+        Err(Refusal::Fault(number)) => {
             put(out, "fault of ")?;
             Value::Int(number).show(alloc, out)
         }
-        Err(ReplaceFault::TableFull) => put(out, "full"),
-        Err(ReplaceFault::Memory) => bail!("memory ran out"),
+        Err(Refusal::Memory) => bail!("memory ran out"),
     }
 }
 
