@@ -18,7 +18,7 @@ use Rattle.ent_form.specs.declared.plain.PlainOperand.{PlainOperand}
 use Rattle.ent_form.specs.PlainMeaning.{plain_image, plain_kind, kind_with, kinds_bound}
 use Rattle.ent_engine.specs.Change.{or_full, image_or_overflow}
 use Rattle.ent_engine.specs.Evaluation.{there_or_overflow}
-use Rattle.ent_engine.proofs.Kept.{kinds_of_image}
+use Rattle.ent_form.specs.KnownKinds.{kinds_of_image}
 
 -- what there is, from an answer that isn't an overflow
 pub there_is : {A : Type 0} (meant : Option A) (x : A) → there_or_overflow meant ≡ Ok x → meant ≡ Some x

@@ -1,5 +1,4 @@
 pub mod Bindings
-pub mod Kept
 pub mod Changes
 pub mod Undone
 pub mod Runs

@@ -37,6 +37,7 @@ pub(crate) fn book_of(alloc: Global, resolved: &Resolved) -> Result<Book, AllocE
     ensures names { IfOk result (λ book.
         table_names book.tables ≡ map (λ create. create.name.name) resolved.now.input.opening.tables) }
 {
+    // Laws: what the input means is what its resolved scripts mean, over tables whose rows have their kinds.
     resolved_means_the_same();
     resolved_keeps_kinds();
     resolved_binds_the_same();
@@ -101,6 +102,7 @@ fn load_table(
         table.rows ≡ set.from_list {R = row_cmp} (rows_named opening.now schema.now.name)) }
     ensures kinds { IfOk result (λ table. table.kinds ≡ schema_kinds schema.now) }
 {
+    // A law: the rows have the kinds of the table's columns.
     opening_rows_fit();
     // Asked for its bound alone: an input has no more opening rows than a table may have.
     let _ = opening.rows.len();

@@ -164,7 +164,7 @@ fn set(
         OnOk result (kinds_bound (environment_of environment.new)
         ≡ plain_bound_after (kinds_bound (environment_of environment.old)) statement) }
 {
-    // What the value's kind is.
+    // A law: the value has the kind that is known from the text.
     resolved_keeps_kinds();
     let value = known_expression(alloc, environment, expression)?;
     environment.bind(variable.copy(alloc)?, value.copy(alloc)?)?;

@@ -1,10 +1,10 @@
 -- Rows of tables whose rows have the kinds of their columns.
 use Rattle.std.proofs.Common.{◌≡◌, ℕ, zero, suc, ◌<◌, Bool, true, false, not, ◌&&◌, ◌||◌, List, [], ◌∷◌, length, map}
 use Rattle.std.proofs.Common.{Option, Some, None, Result, Ok, Err, refl, sym, ap, subst, ◌∙◌, arith}
-use Rattle.std.specs.Prelude.{ℤ, ◌+ℤ◌, ◌-ℤ◌, is_some, slice_get, slice_index_or, slice_set, unwrap_or, IfOk, nat_le}
+use Rattle.std.specs.Prelude.{◌+ℤ◌, ◌-ℤ◌, is_some, slice_index_or, slice_set, unwrap_or, IfOk, nat_le}
 use Rattle.std.specs.Prelude.{if◌then◌else◌}
 use Rattle.std.specs.List.{AllByRecursion, list_all, list_any, filter_map, cons_option}
-use Rattle.std.specs.Option.{option_map, option_and_then}
+use Rattle.std.specs.Option.{option_map}
 use Rattle.std.specs.Ordering.{eq_by_cmp}
 use Rattle.std.specs.Cmp.{Equal-is}
 use Rattle.std.proofs.lemmas.Bool.{and_parts, or_right}
@@ -15,27 +15,25 @@ use Rattle.ent_value.specs.Value.{row_cmp, kind_of, kinds_of}
 use Rattle.ent_value.specs.declared.value.Kind.{Kind}
 use Rattle.ent_value.specs.declared.value.Kind.TheVariants as kinds
 use Rattle.ent_value.specs.declared.value.Value.{Value}
-use Rattle.ent_value.specs.declared.value.Value.TheVariants.{Int}
 use Rattle.ent_sql.specs.declared.tree.Expression.{Expression}
 use Rattle.ent_sql.specs.declared.tree.Expression.TheVariants.{Single, Sum, Difference}
 use Rattle.ent_semantics.specs.declared.answer.Answer.TheVariants as answers
 use Rattle.ent_semantics.specs.declared.answer.Failure.{Failure}
 use Rattle.ent_semantics.specs.declared.answer.Failure.TheVariants.{TableFull}
-use Rattle.ent_semantics.specs.Change.{all_there}
 use Rattle.ent_semantics.specs.Database.{Name, Rows, Environment, same_name, with_value}
 use Rattle.ent_value.specs.declared.limits.TheConstants.{MOST_ROWS}
 use Rattle.ent_semantics.specs.Statement.{or_overflow}
-use Rattle.ent_semantics.specs.Term.{no_value, number_of, is_64_bits, in_64_bits, expression_value}
+use Rattle.ent_semantics.specs.Term.{no_value, number_of, expression_value}
 use Rattle.ent_form.specs.declared.plain.PlainOperand.{PlainOperand}
-use Rattle.ent_form.specs.declared.plain.PlainOperand.TheVariants as plain
 use Rattle.ent_form.specs.declared.plain.PlainStatement.{PlainStatement}
 use Rattle.ent_form.specs.declared.plain.PlainStatement.TheVariants as resolved
 use Rattle.ent_form.specs.declared.plain.PlainTest.{PlainTest}
 use Rattle.ent_form.specs.declared.plain.PlainValue.{PlainValue}
 use Rattle.ent_form.specs.declared.plain.PlainValue.TheVariants as known
 use Rattle.ent_form.specs.Kinds.{with_kind}
+use Rattle.ent_form.specs.KnownKinds.{kind_of_number, kinds_of_known, kinds_of_image}
 use Rattle.ent_form.specs.PlainMeaning.{PlainEffect, Fits, AreOfKinds, kinds_bound, known_kind, plain_kind, kind_with}
-use Rattle.ent_form.specs.PlainMeaning.{plain_bound_after, plain_known_value, plain_value, plain_meets, plain_image}
+use Rattle.ent_form.specs.PlainMeaning.{plain_bound_after, plain_known_value, plain_meets, plain_image}
 use Rattle.ent_form.specs.PlainMeaning.{plain_matched, plain_unmatched, plain_updated, plain_changed, table_rows}
 use Rattle.ent_form.specs.PlainMeaning.{plain_meaning}
 
@@ -108,82 +106,11 @@ pub each_ascending : (P : List Value → Type 0) (rows : Rows)
     → ((row : List Value) → set.contains rows row ≡ true → P row) → AllByRecursion P (set.ascending rows)
 each_ascending P rows h = each_among P (set.ascending rows) (λ row e. h row (contains-ascending rows row ∙ e))
 
--- a list of values is there where its first and the others are
-both_there : (first : Option Value) (more : Option (List Value)) (values : List Value)
-    → option_and_then (λ value. option_map (λ values. value ∷ values) more) first ≡ Some values
-    → (value : Value) × (rest : List Value) × (first ≡ Some value) × (more ≡ Some rest) × (values ≡ value ∷ rest)
-both_there None more values e = cc
-both_there (Some value) None values e = cc
-both_there (Some value) (Some rest) values e = (value, rest, refl, refl, cc)
-
 -- what goes on with what is there
 over_overflow : {A : Type 0} (there : Option A) (more : A → Result PlainEffect Failure) (P : PlainEffect → Type 0)
     → ((x : A) → there ≡ Some x → IfOk (more x) P) → IfOk (or_overflow there more) P
 over_overflow None more P h = tt
 over_overflow (Some x) more P h = h x refl
-
--- a value has the kind that its host variable is bound to
-known_has : (environment : Environment) (kind : Kind) (value : PlainValue)
-    → known_kind (kinds_bound environment) value ≡ Some kind → kind_of (plain_known_value environment value) ≡ kind
-known_has environment kind (known.Constant value) e = cc
-known_has environment kind (known.HostVariable variable) e =
-    elim (environment variable) as (λ there. option_map kind_of there ≡ Some kind → kind_of (unwrap_or there no_value) ≡ kind) [
-      | None ↦ λ e. let none : None ≡ Some kind = e in cc
-      | Some value ↦ λ e. let some : Some (kind_of value) ≡ Some kind = e in cc
-    ] e
-
-knowns_have : (environment : Environment) (kinds : List Kind) (values : List PlainValue)
-    → map (known_kind (kinds_bound environment)) values ≡ map (λ (kind : Kind). Some kind) kinds
-    → kinds_of (map (plain_known_value environment) values) ≡ kinds
-knowns_have environment [] [] e = refl
-knowns_have environment [] (value ∷ values) e = cc
-knowns_have environment (kind ∷ kinds) [] e = cc
-knowns_have environment (kind ∷ kinds) (value ∷ values) e =
-    let one : known_kind (kinds_bound environment) value ≡ Some kind = cc in
-    let more : map (known_kind (kinds_bound environment)) values ≡ map (λ (kind : Kind). Some kind) kinds = cc in
-    λ i. known_has environment kind value one i ∷ knowns_have environment kinds values more i
-
--- the value at a number has the kind at the number
-value_has : (kind : Kind) (row : List Value) (number : ℕ) → slice_get (kinds_of row) number ≡ Some kind
-    → kind_of (slice_index_or row number no_value) ≡ kind
-value_has kind [] number e = cc
-value_has kind (value ∷ row) zero e = cc
-value_has kind (value ∷ row) (suc number) e = value_has kind row number e
-
-module _ (environment : Environment) (columns : List Kind) (row : List Value) (fitting : kinds_of row ≡ columns) where
-  term_has : (kind : Kind) (term : PlainOperand) → plain_kind columns (kinds_bound environment) term ≡ Some kind
-      → kind_of (plain_value environment row term) ≡ kind
-  term_has kind (plain.Value value) e = known_has environment kind value e
-  term_has kind (plain.Column number) e = value_has kind row number (ap (λ kinds. slice_get kinds number) fitting ∙ e)
-
-  -- a number within 64 bits is a number
-  number_has : (number : ℤ) (value : Value) (kind : Kind) → in_64_bits number ≡ Some value → Some kinds.Int ≡ Some kind
-      → kind_of value ≡ kind
-  number_has number value kind e k =
-      elim (is_64_bits number) as (λ b. (if b then Some (Int number) else None) ≡ Some value → kind_of value ≡ kind) [
-        | true ↦ λ e. let same : Int number ≡ value = cc in let wanted : kinds.Int ≡ kind = cc in ap kind_of (sym same) ∙ wanted
-        | false ↦ λ e. let none : None ≡ Some value = e in cc
-      ] e
-
-  expression_has : (kind : Kind) (value : Value) (expression : Expression PlainOperand)
-      → kind_with (plain_kind columns (kinds_bound environment)) expression ≡ Some kind
-      → expression_value (plain_value environment row) expression ≡ Some value → kind_of value ≡ kind
-  expression_has kind value (Single term) e f = let same : plain_value environment row term ≡ value = cc in ap kind_of (sym same) ∙ term_has kind term e
-  expression_has kind value (Sum left right) e f = number_has (number_of (plain_value environment row left) +ℤ number_of (plain_value environment row right)) value kind f e
-  expression_has kind value (Difference left right) e f = number_has (number_of (plain_value environment row left) -ℤ number_of (plain_value environment row right)) value kind f e
-
-  -- an image has the kinds of its expressions
-  image_has : (image : List (Expression PlainOperand)) (kinds : List Kind) (values : List Value)
-      → map (kind_with (plain_kind columns (kinds_bound environment))) image ≡ map (λ (kind : Kind). Some kind) kinds
-      → all_there (map (expression_value (plain_value environment row)) image) ≡ Some values → kinds_of values ≡ kinds
-  image_has [] [] values e f = let none : [] ≡ values = cc in ap kinds_of (sym none)
-  image_has [] (kind ∷ kinds) values e f = cc
-  image_has (expression ∷ image) [] values e f = cc
-  image_has (expression ∷ image) (kind ∷ kinds) values e f =
-      let first : kind_with (plain_kind columns (kinds_bound environment)) expression ≡ Some kind = cc in
-      let more : map (kind_with (plain_kind columns (kinds_bound environment))) image ≡ map (λ (kind : Kind). Some kind) kinds = cc in
-      let found = both_there (expression_value (plain_value environment row) expression) (all_there (map (expression_value (plain_value environment row)) image)) values f in
-      ap kinds_of found.4 ∙ (λ i. expression_has kind found.0 expression first found.2 i ∷ image_has image kinds found.1 more found.3 i)
 
 images_have :
     (environment : Environment) (image : List (Expression PlainOperand)) (kinds : List Kind) (rows : List (List Value))
@@ -195,7 +122,7 @@ images_have environment image kinds (row ∷ rows) e h =
     let rest = filter_map (plain_image environment image) rows in
     elim (plain_image environment image row) as (λ there. plain_image environment image row ≡ there → AllByRecursion (λ row. kinds_of row ≡ kinds) (cons_option there rest)) [
       | None ↦ λ _. images_have environment image kinds rows e h.1
-      | Some values ↦ λ found. (image_has environment kinds row h.0 image kinds values e found, images_have environment image kinds rows e h.1)
+      | Some values ↦ λ found. (kinds_of_image environment image row values kinds e h.0 found, images_have environment image kinds rows e h.1)
     ] refl
 
 chosen_where : (enough : Bool) (kinds : List Kind) (rows after : Rows) → OfKinds kinds rows
@@ -238,7 +165,7 @@ module _ (kinds : List (List Kind)) (tables : List Rows) (environment : Environm
       let columns = slice_index_or kinds table [] in
       let rows = table_rows tables table in
       let row = map (plain_known_value environment) values in
-      changed_kept table (if set.contains rows row then 0 else 1) (set.insert rows row) fits.0 (OfKinds-insert columns rows row (AreOfKinds-at kinds tables table h fits.0) (knowns_have environment columns values fits.1))
+      changed_kept table (if set.contains rows row then 0 else 1) (set.insert rows row) fits.0 (OfKinds-insert columns rows row (AreOfKinds-at kinds tables table h fits.0) (kinds_of_known environment values columns fits.1))
   kinds_kept (resolved.Update table image tests) fits =
       let columns = slice_index_or kinds table [] in
       let rows = table_rows tables table in
@@ -256,19 +183,12 @@ known_or environment (known.HostVariable variable) =
       | Some value ↦ refl
     ]
 
-number_kind : (number : ℤ) (value : Value) → in_64_bits number ≡ Some value → kind_of value ≡ kinds.Int
-number_kind number value e =
-    elim (is_64_bits number) as (λ b. (if b then Some (Int number) else None) ≡ Some value → kind_of value ≡ kinds.Int) [
-      | true ↦ λ e. let same : Int number ≡ value = cc in ap kind_of (sym same)
-      | false ↦ λ e. let none : None ≡ Some value = e in cc
-    ] e
-
 set_kind : (environment : Environment) (expression : Expression PlainValue) (value : Value)
     → expression_value (plain_known_value environment) expression ≡ Some value
     → kind_of value ≡ unwrap_or (kind_with (known_kind (kinds_bound environment)) expression) kinds.Int
 set_kind environment (Single term) value e = let same : plain_known_value environment term ≡ value = cc in ap kind_of (sym same) ∙ known_or environment term
-set_kind environment (Sum left right) value e = number_kind (number_of (plain_known_value environment left) +ℤ number_of (plain_known_value environment right)) value e
-set_kind environment (Difference left right) value e = number_kind (number_of (plain_known_value environment left) -ℤ number_of (plain_known_value environment right)) value e
+set_kind environment (Sum left right) value e = kind_of_number (number_of (plain_known_value environment left) +ℤ number_of (plain_known_value environment right)) value e
+set_kind environment (Difference left right) value e = kind_of_number (number_of (plain_known_value environment left) -ℤ number_of (plain_known_value environment right)) value e
 
 -- another value of a host variable is another kind of it
 value_bound : (environment : Environment) (variable : Name) (value : Value)

@@ -6,3 +6,4 @@ pub mod Lookup
 pub mod FirstFault
 pub mod Plain
 pub mod PlainMeaning
+pub mod KnownKinds

@@ -13,12 +13,14 @@ use ent_sql::{Column, Create, Opening};
 use ent_value::{Kind, Name, Refusal, Sequence};
 use std::alloc::{AllocError, Global};
 
+/// A column: its name, and the kind of its values.
 #[derive(Drop)]
 pub struct ColumnSchema {
     pub name: Name,
     pub kind: Kind,
 }
 
+/// A table: its name, and its columns in the order of a row's values.
 #[derive(Drop)]
 pub struct TableSchema {
     pub name: Name,

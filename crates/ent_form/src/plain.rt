@@ -17,6 +17,7 @@ pub enum PlainOperand {
     Column(usize),
 }
 
+/// A test of a WHERE: its two sides, and how they are compared.
 #[derive(Drop)]
 pub struct PlainTest {
     pub left: PlainOperand,
