@@ -46,8 +46,7 @@ pub(crate) fn reply(
 /// The reply to a call that changes nothing.
 fn reply_of(alloc: Global, table: &Table, call: &[&str], out: &mut Vec<u8>) -> Result<()> {
     match call {
-        ["rows"] => put_list(alloc, out, table.ascending(alloc)?.as_slice(), " "),
-        ["walk"] => put_number(out, table.iter().count()),
+        ["rows"] => put_list(alloc, out, table.rows(alloc)?.as_slice(), " "),
         ["is_empty"] => put(out, yes_or_no(table.is_empty())),
         ["contains", word] => {
             let row = row_of(alloc, word, table.kinds())?;
