@@ -70,8 +70,8 @@ fn table_named<'a>(tables: &'a [NamedTable], name: &Name) -> Option<&'a Table>
     None
 }
 
-fn append_rows(alloc: Global, out: &mut Vec<u8>, rows: &[&Row]) -> Result<(), AllocError>
-    ensures { OnOk result (out.new.items ≡ out.old.items ++ rows_text (map (λ row. row.now) rows.now)) }
+fn append_rows(alloc: Global, out: &mut Vec<u8>, rows: &[Row]) -> Result<(), AllocError>
+    ensures { OnOk result (out.new.items ≡ out.old.items ++ rows_text rows.now) }
 {
     for row in rows {
         append_row_line(alloc, out, row)?;
@@ -92,7 +92,7 @@ fn append_table(
     out.push(b' ')?;
     append_number(alloc, out, table.len() as u64)?;
     out.push(b'\n')?;
-    let rows = table.ascending(alloc)?;
+    let rows = table.rows(alloc)?;
     append_rows(alloc, out, rows.as_slice())
 }
 

@@ -52,10 +52,10 @@ fn item_rows(
     environment: &Environment,
     items: &[PlainOperand],
     tests: &[PlainTest],
-    rows: &[&Row],
+    rows: &[Row],
 ) -> Result<Vec<Row>, AllocError>
     ensures { let bound = environment_of environment.now in
-        let met = filter (plain_meets bound tests.now) (map (λ row. row.now) rows.now) in
+        let met = filter (plain_meets bound tests.now) rows.now in
         IfOk result (λ found. found.items ≡ map (plain_row bound items.now) met) }
 {
     let mut found = Vec::new(alloc);
@@ -87,7 +87,7 @@ pub(crate) fn select(
     ensures { let bound = environment_of environment.now in
         IfOk result (λ rows. rows ≡ set.ascending (plain_selection bound items.now tests.now table.now.rows)) }
 {
-    let rows = table.ascending(alloc)?;
+    let rows = table.rows(alloc)?;
     let found = item_rows(alloc, environment, items, tests, rows.as_slice())?;
     Ok(Sequence::from_vec(ascending(found)?))
 }

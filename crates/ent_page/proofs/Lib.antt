@@ -2,3 +2,4 @@ mod Laid
 mod Search
 mod Sorted
 mod Paging
+mod Fronts

@@ -3,7 +3,9 @@ ghost use Rattle.std.specs.Prelude.{◌≡◌, ◌<◌, ◌^◌, ◌==◌, ◌�
 ghost use Rattle.ent_set.specs.Sets as set;
 
 use crate::key::Key;
+use crate::key_cursor::KeyCursor;
 use crate::page::Page;
+use crate::probe::Probe;
 use crate::pages::{are_same_keys, grown, pages_of, place_of, push_shared, shrunk, single, spliced};
 use std::alloc::{AllocError, Global};
 use std::marker::Model;
@@ -73,8 +75,8 @@ impl KeySet {
     }
 
     /// Whether a key is in the set.
-    pub fn contains(&self, key: &[u8]) -> bool
-        ensures { result ≡ set.contains self.now key.now }
+    pub fn contains<P: Probe>(&self, key: &P) -> bool
+        ensures { result ≡ set.contains self.now (P.bytes key.now) }
     {
         let pages = self.pages.as_slice();
         let at = place_of(pages, key);
@@ -82,14 +84,14 @@ impl KeySet {
     }
 
     /// The set with a key put in. All pages but one or two are shared.
-    pub fn with(&self, alloc: Global, key: &[u8]) -> Result<KeySet, AllocError>
+    pub fn with(&self, alloc: Global, key: &Key) -> Result<KeySet, AllocError>
         requires { set.len self.now < 2 ^ 63 }
         ensures { IfOk result (λ s. s ≡ set.insert self.now key.now) }
     {
         let pages = self.pages.as_slice();
         let at = place_of(pages, key);
         if at >= pages.len() {
-            let page = Page::new(alloc).with(alloc, 0, key)?;
+            let page = Page::new(alloc).with(alloc, 0, key.as_bytes())?;
             return Ok(KeySet {
                 pages: single(alloc, page)?,
                 len: 1,
@@ -99,7 +101,7 @@ impl KeySet {
         match page.search(key) {
             Ok(_) => self.copy(alloc),
             Err(index) => {
-                let others = grown(alloc, page, index, key)?;
+                let others = grown(alloc, page, index, key.as_bytes())?;
                 Ok(KeySet {
                     pages: spliced(alloc, pages, at, at + 1, others)?,
                     len: self.len + 1,
@@ -109,7 +111,7 @@ impl KeySet {
     }
 
     /// The set without a key. All pages but one or two are shared.
-    pub fn without(&self, alloc: Global, key: &[u8]) -> Result<KeySet, AllocError>
+    pub fn without(&self, alloc: Global, key: &Key) -> Result<KeySet, AllocError>
         ensures { IfOk result (λ s. s ≡ set.without_all self.now (key.now ∷ [])) }
     {
         let pages = self.pages.as_slice();
@@ -128,6 +130,13 @@ impl KeySet {
             }
             Err(_) => self.copy(alloc),
         }
+    }
+
+    /// A walk over the keys, ascending.
+    pub fn cursor(&self) -> KeyCursor<'_>
+        ensures { result ≡ set.ascending self.now }
+    {
+        KeyCursor::new(self.pages.as_slice())
     }
 
     /// Whether two sets are the same. It takes no memory.

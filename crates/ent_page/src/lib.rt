@@ -7,6 +7,7 @@ mod key_set;
 mod laws;
 mod page;
 mod pages;
+mod probe;
 mod reading;
 mod writing;
 
@@ -16,4 +17,5 @@ pub use key_set::KeySet;
 pub use laws::keys_are_in_order;
 pub use page::Page;
 pub use pages::PAGE_LIMIT;
+pub use probe::Probe;
 pub use reading::decode;

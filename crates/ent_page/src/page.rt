@@ -3,6 +3,7 @@ ghost use Rattle.std.specs.Prelude.{◌≡◌, ◌+◌, ◌-◌, ◌<◌, ◌≤
 ghost use Rattle.std.specs.List.{insert, remove, between};
 ghost use Rattle.ent_page.specs.Layout.{start_of, Ascends, AreBelow, AreAbove};
 
+use crate::probe::Probe;
 use std::alloc::{AllocError, Global};
 use std::cmp::Ordering;
 use std::marker::Model;
@@ -52,17 +53,17 @@ impl Page {
     }
 
     /// The index of a key, or where it would stand in a page whose keys ascend.
-    pub fn search(&self, key: &[u8]) -> Result<usize, usize>
-        ensures found { IfOk result (λ i. (i < length self.now) × (get_or self.now i [] ≡ key.now)) }
+    pub fn search<P: Probe>(&self, key: &P) -> Result<usize, usize>
+        ensures found { IfOk result (λ i. (i < length self.now) × (get_or self.now i [] ≡ P.bytes key.now)) }
         ensures range { IfErr result (λ i. i ≤ length self.now) }
-        ensures below { IfErr result (λ i. Ascends self.now → AreBelow self.now key.now i) }
-        ensures above { IfErr result (λ i. Ascends self.now → AreAbove self.now key.now i) }
+        ensures below { IfErr result (λ i. Ascends self.now → AreBelow self.now (P.bytes key.now) i) }
+        ensures above { IfErr result (λ i. Ascends self.now → AreAbove self.now (P.bytes key.now) i) }
     {
         let mut low = 0;
         let mut high = self.len();
         while low < high {
             let middle = low + (high - low) / 2;
-            match self.key(middle).cmp(key) {
+            match key.against(self.key(middle)) {
                 Ordering::Less => low = middle + 1,
                 Ordering::Equal => return Ok(middle),
                 Ordering::Greater => high = middle,

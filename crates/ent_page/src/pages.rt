@@ -10,6 +10,7 @@ ghost use Rattle.ent_page.specs.Paged.{IsSized, AllBelow, AllAbove};
 use crate::key::Key;
 use crate::key_cursor::KeyCursor;
 use crate::page::Page;
+use crate::probe::Probe;
 use std::alloc::{AllocError, Global};
 use std::cmp::Ordering;
 use std::sync::Arc;
@@ -24,12 +25,12 @@ const PAGE_FILL: usize = 128;
 const JOIN_LIMIT: usize = 192;
 
 /// The place of the page in which a key stands, if it stands in any; 0 where there is no page.
-pub(crate) fn place_of(pages: &[Arc<Page>], key: &[u8]) -> usize
+pub(crate) fn place_of<P: Probe>(pages: &[Arc<Page>], key: &P) -> usize
     requires sized { AllByRecursion (λ page. IsSized (arc_value page)) pages.now }
     requires sorted { IsStrictlySortedBy key_cmp (flat_map arc_value pages.now) }
     ensures range { 0 < length pages.now → result < length pages.now }
-    ensures below { AllBelow (flat_map arc_value (take result pages.now)) key.now }
-    ensures above { AllAbove (flat_map arc_value (drop (result + 1) pages.now)) key.now }
+    ensures below { AllBelow (flat_map arc_value (take result pages.now)) (P.bytes key.now) }
+    ensures above { AllAbove (flat_map arc_value (drop (result + 1) pages.now)) (P.bytes key.now) }
 {
     let mut low = 0;
     let mut high = pages.len();
@@ -45,11 +46,11 @@ pub(crate) fn place_of(pages: &[Arc<Page>], key: &[u8]) -> usize
 }
 
 /// Whether the first key of a page is above a key.
-fn first_is_above(page: &Page, key: &[u8]) -> bool
+fn first_is_above<P: Probe>(page: &Page, key: &P) -> bool
     requires { 0 < length page.now }
-    ensures { IsTrue result ↔ (key_cmp (get_or page.now 0 []) key.now ≡ Greater) }
+    ensures { IsTrue result ↔ (key_cmp (get_or page.now 0 []) (P.bytes key.now) ≡ Greater) }
 {
-    page.key(0).cmp(key) == Ordering::Greater
+    key.against(page.key(0)) == Ordering::Greater
 }
 
 /// Sorted keys in pages.

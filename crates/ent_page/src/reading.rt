@@ -10,8 +10,7 @@ use std::alloc::{AllocError, Global};
 
 /// The row of these kinds that has this key. Bytes that are no key of these kinds give some row.
 pub fn decode(alloc: Global, kinds: &[Kind], key: &[u8]) -> Result<Row, AllocError>
-    ensures { (row : List Cell) → kinds_of row ≡ kinds.now → AreStorable row → key.now ≡ key_of row
-        → IfOk result (λ r. r ≡ row) }
+    ensures { IfOk result (λ row. row ≡ row_from kinds.now key.now) }
 {
     Ok(Row::from_vec(read_values(alloc, kinds, key)?))
 }

@@ -26,7 +26,7 @@ fn append_value(out: &mut Vec<u8>, value: &Value) -> Result<(), AllocError>
     }
 }
 
-fn int_bytes(number: i64) -> [u8; 8]
+pub(crate) fn int_bytes(number: i64) -> [u8; 8]
     ensures { result ≡ int_key number }
 {
     lifted_bits(number).to_be_bytes()

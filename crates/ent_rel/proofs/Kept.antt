@@ -1,77 +1,33 @@
--- What follows from what a table keeps of its list of rows.
-use Rattle.std.proofs.Common.{◌≡◌, ℕ, zero, suc, ◌+◌, ◌<◌, ◌≤◌, Bool, true, false, List, [], ◌∷◌, length, refl, sym, ap, ◌∙◌, arith, get_or}
-use Rattle.std.specs.Prelude.{◌||◌}
-use Rattle.std.specs.List.{IsDistinct, list_any}
-use Rattle.std.specs.List.Sorted.{IsSorted, IsStrictlySortedBy, IsBinarySearchResult, IsSearchInRange}
-use Rattle.std.specs.Ordering.{eq_by_cmp, is_lt, is_eq, ordering_reverse}
-use Rattle.std.specs.Result.{is_ok}
-use Rattle.std.specs.Prelude.{Result, Ok, Err}
-use Rattle.std.specs.declared.cmp.Ordering.TheVariants.{Less}
-use Rattle.std.proofs.lemmas.List.Folds.{list_any_none}
-use Rattle.std.proofs.Common.{inl, inr, ◌⊎◌}
-use Rattle.std.proofs.lemmas.List.Sorted.{searchable_from_sorted}
-use Rattle.std.proofs.lemmas.Map.Keys.{IsDistinct-from_sorted}
+-- Tables by what they keep.
+use Rattle.std.proofs.Common.{◌≡◌, ℕ, List, [], ◌∷◌, map, refl, sym, ap, ◌∙◌}
+use Rattle.std.specs.List.{AllByRecursion}
 use Rattle.ent_set.specs.Sets as set
-use Rattle.ent_set.specs.Laws.{ascending-from_list, is_sorted_from}
+use Rattle.ent_set.specs.Laws.{from_list-ascending}
 use Rattle.ent_value.specs.declared.value.Value.{Value}
 use Rattle.ent_value.specs.declared.value.Kind.{Kind}
-use Rattle.ent_value.specs.Value.{row_cmp}
-use Rattle.ent_value.specs.Order.{rows_total, exact_rows}
+use Rattle.ent_page.specs.Key.{key_of}
+use Rattle.ent_page.specs.Read.{row_from}
+use Rattle.ent_page.specs.Rows.{IsKey}
 use Rattle.ent_rel.specs.Relation.{Relation}
-use Rattle.ent_rel.specs.Kept.{IsKept}
+use Rattle.ent_rel.specs.Kept.{KeySet, listed_rows, rows_of, HoldRows, IsKept}
+use Rattle.ent_rel.proofs.Keyed.{keys_total, keys_exact, all_keys, ascending_rows}
 
-pub distinct_rows : {kinds : List Kind} {rows : List (List Value)} → IsKept kinds rows → IsDistinct (eq_by_cmp row_cmp) rows
-distinct_rows {kinds} {rows} kept = IsDistinct-from_sorted row_cmp rows kept.ascending
+keys_again : (kinds : List Kind) (ks : List (List ℕ)) → AllByRecursion (IsKey kinds) ks → map key_of (map (row_from kinds) ks) ≡ ks
+keys_again kinds [] all = refl
+keys_again kinds (k ∷ ks) all = λ i. all.0.again i ∷ keys_again kinds ks all.1 i
 
--- a table's list is its set, ascending
-pub rows_ascend : {kinds : List Kind} {rows : List (List Value)} → IsKept kinds rows → rows ≡ set.ascending (set.from_list {R = row_cmp} rows)
-rows_ascend {kinds} {rows} kept = sym (ascending-from_list rows_total exact_rows rows (is_sorted_from row_cmp rows kept.ascending))
-
-not_below : (x y : List Value) → row_cmp x y ≡ Less → is_lt (row_cmp y x) ≡ false
-not_below x y below = ap is_lt (rows_total.antisymm y x ∙ ap ordering_reverse below)
-
--- each row below those after it, so none above the next
-pub sorted_rows : (rows : List (List Value)) → IsStrictlySortedBy row_cmp rows → IsSorted row_cmp rows
-unfolding IsStrictlySortedBy
-sorted_rows [] strict k d low h = absurd (omega arith)
-sorted_rows (x ∷ []) strict k d low h = absurd (omega arith)
-sorted_rows (x ∷ y ∷ rows) strict zero d low h = not_below x y strict.0.0
-sorted_rows (x ∷ y ∷ rows) strict (suc k) d low h =
-    let next : suc k + 1 ≡ suc (k + 1) = omega arith in
-    ap (λ (n : ℕ). is_lt (row_cmp (get_or (x ∷ y ∷ rows) n d) (get_or (y ∷ rows) k d))) next ∙ sorted_rows (y ∷ rows) strict.1 k d (omega arith) (omega arith)
-
-below_or_not : (k i : ℕ) → (k < i) ⊎ (i ≤ k)
-below_or_not k zero = inr (omega arith)
-below_or_not zero (suc i) = inl (omega arith)
-below_or_not (suc k) (suc i) = elim (below_or_not k i) [ inl lt ↦ inl (omega arith) | inr ge ↦ inr (omega arith) ]
-
-any_at : (p : List Value → Bool) (rows : List (List Value)) (i : ℕ) (d : List Value) → i < length rows → p (get_or rows i d) ≡ true → list_any p rows ≡ true
-any_at p [] i d h is = absurd (omega arith)
-any_at p (x ∷ rows) zero d h is = ap (λ b. b || list_any p rows) is
-any_at p (x ∷ rows) (suc i) d h is = or_right (p x) (list_any p rows) (any_at p rows i d (omega arith) is)
-  where
-    or_right : (a b : Bool) → b ≡ true → (a || b) ≡ true
-    or_right true b h = refl
-    or_right false b h = h
-
--- what a binary search finds is there, and what it does not find is not
-pub searched : (rows : List (List Value)) (row : List Value) (r : Result ℕ ℕ) → IsSorted row_cmp rows → IsSearchInRange r (length rows) → IsBinarySearchResult (λ y. row_cmp y row) rows r → is_ok r ≡ list_any (λ other. eq_by_cmp row_cmp other row) rows
-searched rows row (Ok i) sorted within here = sym (any_at (λ other. eq_by_cmp row_cmp other row) rows i row within (ap is_eq (here row)))
-searched rows row (Err i) sorted within apart =
-    let sides = apart (searchable_from_sorted rows_total (λ x. x) rows row sorted) in
-    sym (list_any_none (λ other. eq_by_cmp row_cmp other row) rows (λ k d h. elim (below_or_not k i) [ inl lt ↦ ap is_eq (sides.0 k d (omega arith) lt) | inr ge ↦ ap is_eq (sides.1 k d ge h) ]))
-
-pub nil_ascends : IsStrictlySortedBy row_cmp []
-unfolding IsStrictlySortedBy
-nil_ascends = tt
-
--- tables are the same where their kinds and their lists are
-module _ (kinds others : List Kind) (rows more : List (List Value)) (left right : Relation) (one : record { kinds = kinds; rows = set.from_list rows } ≡ left) (two : record { kinds = others; rows = set.from_list more } ≡ right) (kept : IsKept kinds rows) (kept_more : IsKept others more) where
+-- tables are the same where their kinds and their keys are
+module _ (kinds others : List Kind) (keys more : KeySet) (left right : Relation) (one : record { kinds = kinds; rows = rows_of kinds keys } ≡ left) (two : record { kinds = others; rows = rows_of others more } ≡ right) (kept : IsKept kinds keys) (kept_more : IsKept others more) where
   pub same_kinds : left ≡ right → kinds ≡ others
   same_kinds e = ap (λ (t : Relation). t.kinds) (one ∙ e ∙ sym two)
 
-  pub same_lists : left ≡ right → rows ≡ more
-  same_lists e = rows_ascend kept ∙ ap (λ (t : Relation). set.ascending t.rows) (one ∙ e ∙ sym two) ∙ sym (rows_ascend kept_more)
+  pub same_key_sets : left ≡ right → keys ≡ more
+  same_key_sets e =
+      sym (from_list-ascending keys_total keys_exact keys)
+      ∙ ap (λ ks. set.from_list ks) (sym (keys_again kinds (set.ascending keys) (all_keys kinds keys kept.fitting))
+      ∙ ap (map key_of) (sym (ascending_rows kinds keys kept.fitting) ∙ ap (λ (t : Relation). set.ascending t.rows) (one ∙ e ∙ sym two) ∙ ascending_rows others more kept_more.fitting)
+      ∙ keys_again others (set.ascending more) (all_keys others more kept_more.fitting))
+      ∙ from_list-ascending keys_total keys_exact more
 
-  pub same_tables : kinds ≡ others → rows ≡ more → left ≡ right
-  same_tables e f = sym one ∙ (λ i. record { kinds = e i; rows = set.from_list (f i) }) ∙ two
+  pub same_tables : kinds ≡ others → keys ≡ more → left ≡ right
+  same_tables e f = sym one ∙ (λ i. record { kinds = e i; rows = rows_of (e i) (f i) }) ∙ two

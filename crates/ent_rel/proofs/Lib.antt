@@ -1,6 +1,6 @@
 pub mod Lists
 pub mod Parts
+pub mod Keyed
 pub mod Meanings
 pub mod Kept
-pub mod Ascending
 pub mod RowByRow

@@ -4,13 +4,12 @@
 mod change;
 mod copies;
 mod fault;
+mod keys;
+mod kinds;
 mod laws;
-mod rows;
-mod search;
 mod table;
 
 pub use change::Delta;
 pub use fault::{ROW_LIMIT, TableFull};
 pub use laws::changes_by_row;
-pub use rows::Rows;
 pub use table::Table;

@@ -1,44 +1,44 @@
 //! A table over a list of its rows in ascending order.
-ghost use Rattle.std.specs.Prelude.{◌≡◌, ◌≤◌, ◌==◌, [], Bool, List, Result, IfOk, IsOk, IsTrue, ◌↔◌, map, All};
-ghost use Rattle.std.specs.List.{IsDistinct};
-ghost use Rattle.std.specs.Ordering.{eq_by_cmp};
+ghost use Rattle.std.specs.Prelude.{◌≡◌, ◌≤◌, ◌==◌, Bool, List, Result, IfOk, IsOk, IsTrue, ◌↔◌, All, length};
 ghost use Rattle.ent_set.specs.Sets as set;
 ghost use Rattle.ent_value.specs.Refusal.{Gives};
 ghost use Rattle.ent_value.specs.Value.{row_cmp, kinds_of};
 ghost use Rattle.ent_value.specs.declared.value.Value.{Value as Cell};
 ghost use Rattle.ent_rel.specs.Relation.{HaveKinds, bounded};
-ghost use Rattle.ent_rel.specs.Rows.{rows_left};
 ghost use Rattle.ent_rel.specs.Change.{changed_rows, insertion, deletion, replacement, application};
 ghost use Rattle.ent_rel.specs.Closure.{Computes, Changes, KeepsKinds};
 
 use crate::change::Delta;
-use crate::copies::{copies_of, copies_where, images};
+use crate::copies::{copies_where, images};
 use crate::fault::{ROW_LIMIT, TableFull};
-use crate::rows::Rows;
-use crate::search::{are_same_kinds, are_same_rows, is_among};
+use crate::keys::{keys_of, keys_with, keys_without};
+use crate::kinds::{are_same_kinds, have_kinds};
+use ent_page::{KeySet, decode};
 use ent_value::{Kind, Refusal, Row, Sequence};
 use std::alloc::{AllocError, Global};
 use std::marker::Model;
 
 /// A finite set of at most [`ROW_LIMIT`] rows, each of the table's kinds. Contracts see the kinds and the set.
+///
+/// A table keeps its rows as keys in an ordered list of pages. Tables that come from one another share the pages that
+/// are the same in both.
 #[derive(Drop)]
 pub struct Table {
     kinds: Vec<Kind>,
-    rows: Vec<Row>,
+    keys: KeySet,
 }
 
 impl Model for Table {
-    ghost use Rattle.ent_set.specs.Sets as set;
     ghost use Rattle.ent_rel.specs.Relation.{Relation, coded_relation};
-    ghost use Rattle.ent_rel.specs.Kept.{IsKept};
+    ghost use Rattle.ent_rel.specs.Kept.{rows_of, IsKept};
 
     ghost Value = { Relation };
 
     ghost coded = { coded_relation };
 
-    ghost view = { λ t. record { kinds = t.kinds.items; rows = set.from_list t.rows.items } };
+    ghost view = { λ t. record { kinds = t.kinds.items; rows = rows_of t.kinds.items t.keys } };
 
-    ghost invariant = { λ t. IsKept t.kinds.items t.rows.items };
+    ghost invariant = { λ t. IsKept t.kinds.items t.keys };
 }
 
 impl Table {
@@ -46,24 +46,21 @@ impl Table {
     pub fn new(alloc: Global, kinds: Vec<Kind>) -> Self
         ensures { result ≡ record { kinds = kinds.items; rows = set.empty } }
     {
-        let rows = Vec::new(alloc);
-        Table { kinds, rows }
+        let keys = KeySet::new(alloc);
+        Table { kinds, keys }
     }
 
-    /// The table of these rows, which are moved and put in order, and of which doubles count once. `TableFull` where
-    /// more than [`ROW_LIMIT`] are distinct. With a fault the rows are lost.
+    /// The table of these rows, of which doubles count once. `TableFull` where more than [`ROW_LIMIT`] are distinct.
     pub fn load(alloc: Global, kinds: Vec<Kind>, rows: Vec<Row>) -> Result<Self, Refusal<TableFull>>
         requires { All (λ row. kinds_of row ≡ kinds.items) rows.items }
         ensures { let rows = set.from_list {R = row_cmp} rows.items in
             Gives (λ table. table) result (bounded rows record { kinds = kinds.items; rows = rows }) }
     {
-        let mut rows = rows;
-        rows.as_mut_slice().sort(alloc)?;
-        rows.dedup();
-        if rows.len() > ROW_LIMIT {
+        let keys = KeySet::from_keys(alloc, keys_of(alloc, rows.as_slice())?)?;
+        if keys.len() > ROW_LIMIT {
             return Err(Refusal::Fault(TableFull));
         }
-        Ok(Table { kinds, rows })
+        Ok(Table { kinds, keys })
     }
 
     /// The kinds of the columns, which each row has.
@@ -79,36 +76,33 @@ impl Table {
         ensures len { result ≡ set.len self.now.rows }
         ensures limit { result ≤ ROW_LIMIT }
     {
-        self.rows.len()
+        self.keys.len()
     }
 
     pub fn is_empty(&self) -> bool
         ensures { result ≡ (set.len self.now.rows == 0) }
     {
-        self.rows.is_empty()
+        self.keys.is_empty()
     }
 
-    /// Whether a row is in the table.
+    /// Whether a row is in the table. It takes no memory.
     pub fn contains(&self, row: &Row) -> bool
         ensures { result ≡ set.contains self.now.rows row.now }
     {
-        is_among(&self.rows, row)
-    }
-
-    /// The rows, each once, in some order.
-    pub fn iter(&self) -> Rows<'_>
-        ensures rows { set.from_list (rows_left result) ≡ self.now.rows }
-        ensures distinct { IsDistinct (eq_by_cmp row_cmp) (rows_left result) }
-        ensures kinds { All (λ row. kinds_of row ≡ self.now.kinds) (rows_left result) }
-    {
-        Rows::new(self.rows.as_slice())
+        have_kinds(row.values(), &self.kinds) && self.keys.contains(row)
     }
 
     /// The rows in ascending order.
-    pub fn ascending(&self, alloc: Global) -> Result<Vec<&Row>, AllocError>
-        ensures { IfOk result (λ rows. map (λ row. row.now) rows.items ≡ set.ascending self.now.rows) }
+    pub fn rows(&self, alloc: Global) -> Result<Vec<Row>, AllocError>
+        ensures rows { IfOk result (λ rows. rows.items ≡ set.ascending self.now.rows) }
+        ensures limit { IfOk result (λ rows. length rows.items ≤ ROW_LIMIT) }
     {
-        self.rows.iter().collect(alloc)
+        let mut rows = Vec::with_capacity(alloc, self.keys.len())?;
+        let mut cursor = self.keys.cursor();
+        while let Some(key) = cursor.next_key() {
+            rows.push(decode(alloc, &self.kinds, key)?)?;
+        }
+        Ok(rows)
     }
 
     /// What putting a row in would change: no row where it is there. The change fits: `apply` never
@@ -157,7 +151,8 @@ impl Table {
         ensures kinds { IfOk result (λ r. All (λ row. kinds_of row ≡ self.now.kinds) r.1.added) }
         ensures fits { IfOk result (λ r. IsOk (application self.now.rows r.1.removed r.1.added)) }
     {
-        let removed = copies_where(alloc, self.rows.as_slice(), test)?;
+        let rows = self.rows(alloc)?;
+        let removed = copies_where(alloc, rows.as_slice(), test)?;
         Ok((
             removed.len() as u64,
             Delta {
@@ -186,7 +181,8 @@ impl Table {
         ensures kinds { IfOk result (λ r. All (λ row. kinds_of row ≡ self.now.kinds) r.1.added) }
         ensures fits { IfOk result (λ r. IsOk (application self.now.rows r.1.removed r.1.added)) }
     {
-        let removed = copies_where(alloc, self.rows.as_slice(), test)?;
+        let rows = self.rows(alloc)?;
+        let removed = copies_where(alloc, rows.as_slice(), test)?;
         let added = images(alloc, removed.as_slice(), change)?;
         let count = removed.len() as u64;
         Ok((
@@ -198,7 +194,7 @@ impl Table {
         ))
     }
 
-    /// The table after a change. The change's rows are copied.
+    /// The table after a change. It makes anew the pages that change and shares the others.
     pub fn apply(&self, alloc: Global, delta: &Delta) -> Result<Table, Refusal<TableFull>>
         requires { All (λ row. kinds_of row ≡ self.now.kinds) delta.now.added }
         ensures rows { Gives (λ table. table.rows) result
@@ -206,27 +202,25 @@ impl Table {
         ensures kinds { IfOk result (λ table. table.kinds ≡ self.now.kinds) }
     {
         let kinds = Vec::from_slice(alloc, self.kinds.as_slice())?;
-        let mut removed = copies_of(alloc, delta.removed.as_slice())?;
-        removed.sort_unstable();
-        let mut rows = copies_where(alloc, self.rows.as_slice(), |row| !is_among(&removed, row))?;
-        for row in delta.added.as_slice() {
-            rows.push(row.copy(alloc)?)?;
-        }
-        Table::load(alloc, kinds, rows)
+        let keys = self.keys.copy(alloc)?;
+        let keys = keys_without(alloc, &kinds, keys, delta.removed.as_slice())?;
+        let keys = keys_with(alloc, &kinds, keys, delta.added.as_slice())?;
+        Ok(Table { kinds, keys })
     }
 
     /// Whether two tables are the same, kinds and rows. It takes no memory.
     pub fn is_same(&self, other: &Table) -> bool
         ensures { IsTrue result ↔ (self.now ≡ other.now) }
     {
-        are_same_kinds(&self.kinds, &other.kinds) && are_same_rows(&self.rows, &other.rows)
+        are_same_kinds(&self.kinds, &other.kinds) && self.keys.is_same(&other.keys)
     }
 
+    /// The same table; all pages are shared.
     pub fn copy(&self, alloc: Global) -> Result<Table, AllocError>
         ensures { IfOk result (λ table. table ≡ self.now) }
     {
         let kinds = Vec::from_slice(alloc, self.kinds.as_slice())?;
-        let rows = copies_of(alloc, self.rows.as_slice())?;
-        Ok(Table { kinds, rows })
+        let keys = self.keys.copy(alloc)?;
+        Ok(Table { kinds, keys })
     }
 }

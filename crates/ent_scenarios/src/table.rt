@@ -6,8 +6,8 @@ use crate::reply::{Show, put, put_list, put_number, yes_or_no};
 use crate::values::put_kind;
 use crate::words::{index, kinds, row_of, rows_of};
 use anyhow::{Context, Result, bail};
-use ent_rel::{Delta, ReplaceFault, Table, TableFault};
-use ent_value::{Kind, Row, Sequence, Value};
+use ent_rel::{Delta, Table, TableFull};
+use ent_value::{Kind, Refusal, Row, Sequence, Value};
 use std::alloc::Global;
 
 pub(crate) fn reply(
@@ -75,7 +75,7 @@ fn reply_of(alloc: Global, table: &Table, call: &[&str], out: &mut Vec<u8>) -> R
 /// Puts a table in another's place, and replies how many rows it has; or replies that there is none.
 fn put_changed(
     table: &mut Table,
-    changed: Result<Table, TableFault>,
+    changed: Result<Table, Refusal<TableFull>>,
     out: &mut Vec<u8>,
 ) -> Result<()> {
     match changed {
@@ -83,13 +83,13 @@ fn put_changed(
             *table = changed;
             put_number(out, table.len())
         }
-        Err(TableFault::TableFull) => put(out, "full"),
-        Err(TableFault::Memory) => bail!("memory ran out"),
+        Err(Refusal::Fault(TableFull)) => put(out, "full"),
+        Err(Refusal::Memory) => bail!("memory ran out"),
     }
 }
 
 /// Loads a table of the numbers from one up to another.
-fn filled(alloc: Global, from: usize, to: usize) -> Result<Result<Table, TableFault>> {
+fn filled(alloc: Global, from: usize, to: usize) -> Result<Result<Table, Refusal<TableFull>>> {
     let mut kinds = Vec::new(alloc);
     kinds.push(Kind::Int)?;
     let rows = number_rows(alloc, from, to, kinds.as_slice())?;
@@ -137,8 +137,8 @@ fn insert(alloc: Global, table: &mut Table, word: &str, out: &mut Vec<u8>) -> Re
     let row = row_of(alloc, word, table.kinds())?;
     match table.insert(alloc, &row) {
         Ok((count, delta)) => put_count(alloc, table, count, &delta, out),
-        Err(TableFault::TableFull) => put(out, "full"),
-        Err(TableFault::Memory) => bail!("memory ran out"),
+        Err(Refusal::Fault(TableFull)) => put(out, "full"),
+        Err(Refusal::Memory) => bail!("memory ran out"),
     }
 }
 
@@ -162,12 +162,23 @@ fn replace(
         return put_fault_of_change(alloc, table, least, out);
     }
     let image = row_of(alloc, word, table.kinds())?;
-    let replaced = table.replace(alloc, |row| number_of(row) > least, |_| image.copy(alloc));
+    let replaced = table.replace(
+        alloc,
+        |row| number_of(row) > least,
+        |_| copied(alloc, &image),
+    );
     match replaced {
         Ok((count, delta)) => put_count(alloc, table, count, &delta, out),
-        Err(ReplaceFault::TableFull) => put(out, "full"),
-        Err(_) => bail!("memory ran out"),
+        Err(Refusal::Fault(number)) => put_fault(alloc, number, out),
+        Err(Refusal::Memory) => bail!("memory ran out"),
     }
+}
+
+/// An image of a row, which has no fault.
+fn copied(alloc: Global, image: &Row) -> Result<Row, Refusal<i64>>
+    ensures { IfOk result (λ copy. copy ≡ image.now) }
+{
+    Ok(image.copy(alloc)?)
 }
 
 /// Replies the fault of a change that finds no image for a row: that row's number.
@@ -175,17 +186,18 @@ fn put_fault_of_change(alloc: Global, table: &Table, least: i64, out: &mut Vec<u
     let replaced = table.replace(
         alloc,
         |row| number_of(row) > least,
-        |row| Err::<Row, i64>(number_of(row)),
+        |row| Err(Refusal::Fault(number_of(row))),
     );
     match replaced {
         Ok((count, _)) => put_list(alloc, out, &[count], ""),
-        Err(ReplaceFault::Change(number)) => {
-            put(out, "fault of ")?;
-            Value::Int(number).show(alloc, out)
-        }
-        Err(ReplaceFault::TableFull) => put(out, "full"),
-        Err(ReplaceFault::Memory) => bail!("memory ran out"),
+        Err(Refusal::Fault(number)) => put_fault(alloc, number, out),
+        Err(Refusal::Memory) => bail!("memory ran out"),
     }
+}
+
+fn put_fault(alloc: Global, number: i64, out: &mut Vec<u8>) -> Result<()> {
+    put(out, "fault of ")?;
+    Value::Int(number).show(alloc, out)
 }
 
 /// Makes a change that takes one row out, and puts one in; a `-` stands for none.

@@ -84,7 +84,7 @@ fn put_tables(alloc: Global, tables: &[Arc<Table>], out: &mut Vec<u8>) -> Result
         put(out, before)?;
         put_number(out, at)?;
         put(out, ":")?;
-        for row in table.ascending(alloc)? {
+        for row in table.rows(alloc)?.as_slice() {
             put(out, " ")?;
             print_row(alloc, out, row)?;
         }

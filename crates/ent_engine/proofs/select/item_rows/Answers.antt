@@ -1,10 +1,10 @@
-use Rattle.std.proofs.Common.{◌≡◌, Bor, Bool, List, ap, sym, ◌∙◌, cond, ◌∷◌, [], ◌++◌, map, arith}
+use Rattle.std.proofs.Common.{◌≡◌, Bool, List, ap, sym, ◌∙◌, cond, ◌∷◌, [], ◌++◌, map, arith}
 use Rattle.std.specs.List.{filter}
 use Rattle.std.proofs.lemmas.List.{take_all}
 use Rattle.ent_value.specs.declared.value.Value.{Value}
 use Rattle.ent_form.specs.PlainMeaning.{plain_row, plain_meets}
 use Rattle.ent_engine.specs.Environment.{environment_of}
-use Rattle.ent_engine.proofs.Fusion.{map_filter-map, map_filter_step}
+use Rattle.ent_engine.proofs.Fusion.{map_filter_step}
 use Rattle.ent_engine.proofs.select.item_rows.Goals as goal
 use Rattle.ent_engine.proofs.select.item_rows.Goals.{then-meets+in_ok-item_row+in_ok-push, else-meets}
 
@@ -12,8 +12,8 @@ pub loop-row-preserved : goal.loop-row-preserved
 loop-row-preserved c =
     let x = c.row-item.result in
     let kept = c.loop-row.found.items in
-    let f : Bor (List Value) → List Value = λ row. plain_row (environment_of c.args.environment.now) c.args.items.now row.now in
-    let p : Bor (List Value) → Bool = λ row. plain_meets (environment_of c.args.environment.now) c.args.tests.now row.now in
+    let f : List Value → List Value = plain_row (environment_of c.args.environment.now) c.args.items.now in
+    let p : List Value → Bool = plain_meets (environment_of c.args.environment.now) c.args.tests.now in
     let says : c.meets.result ≡ p x = c.meets.ensures ∙ ap (plain_meets (environment_of c.args.environment.now) c.args.tests.now) c.values.ensures in
     map_filter_step f p c.args.rows.now kept _ c.loop-row.row-index x (omega arith) c.row-item.is c.loop-row.invariant (elim c.if-meets.branch [
       | then-meets+in_ok-item_row+in_ok-push w ↦
@@ -24,5 +24,4 @@ loop-row-preserved c =
 pub returns : goal.returns
 returns c =
     c.loop-row.invariant
-    ∙ ap (λ rows. map (λ row. plain_row (environment_of c.args.environment.now) c.args.items.now row.now) (filter (λ row. plain_meets (environment_of c.args.environment.now) c.args.tests.now row.now) rows)) (take_all c.loop-row.row-index c.args.rows.now (omega arith))
-    ∙ sym (map_filter-map (plain_row (environment_of c.args.environment.now) c.args.items.now) (plain_meets (environment_of c.args.environment.now) c.args.tests.now) (λ row. row.now) c.args.rows.now)
+    ∙ ap (λ rows. map (plain_row (environment_of c.args.environment.now) c.args.items.now) (filter (plain_meets (environment_of c.args.environment.now) c.args.tests.now) rows)) (take_all c.loop-row.row-index c.args.rows.now (omega arith))

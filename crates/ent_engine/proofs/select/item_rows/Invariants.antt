@@ -7,4 +7,4 @@ use Rattle.ent_engine.proofs.select.item_rows.Given as goal
 -- the item rows so far
 abbrev pub invariant-loop-row : goal.invariant-loop-row
 invariant-loop-row l =
-    l.found.items ≡ map (λ row. plain_row (environment_of l.environment) l.items row.now) (filter (λ row. plain_meets (environment_of l.environment) l.tests row.now) (take l.row-index l.rows))
+    l.found.items ≡ map (plain_row (environment_of l.environment) l.items) (filter (plain_meets (environment_of l.environment) l.tests) (take l.row-index l.rows))

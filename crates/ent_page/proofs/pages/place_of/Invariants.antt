@@ -6,12 +6,12 @@ use Rattle.ent_page.proofs.pages.place_of.Given as goal
 
 -- the page is not before the last of low, and before high
 abbrev pub invariant-loop-low : goal.invariant-loop-low
-invariant-loop-low l = record {
+invariant-loop-low g l = record {
   order : l.low ≤ l.high;
   range : l.high ≤ length l.pages;
-  below : 0 < l.low → AllBelow (flat_map arc_value (take (l.low - 1) l.pages)) l.key;
-  above : AllAbove (flat_map arc_value (drop l.high l.pages)) l.key;
+  below : 0 < l.low → AllBelow (flat_map arc_value (take (l.low - 1) l.pages)) (g.P.Probe.bytes l.key);
+  above : AllAbove (flat_map arc_value (drop l.high l.pages)) (g.P.Probe.bytes l.key);
 }
 
 abbrev pub decreases-loop-low : goal.decreases-loop-low
-decreases-loop-low l = l.high - l.low
+decreases-loop-low g l = l.high - l.low

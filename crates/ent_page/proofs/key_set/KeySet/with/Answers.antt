@@ -13,7 +13,7 @@ use Rattle.ent_page.proofs.key_set.KeySet.with.Goals as goal
 
 pub invariant_of-result : goal.invariant_of-result
 invariant_of-result c =
-    let one : flat_map arc_value c.in_ok-single.field-0.items ≡ c.args.key.now ∷ [] = c.in_ok-single.ensures.keys ∙ c.in_ok-page.ensures ∙ ap (λ p. insert p 0 c.args.key.now) c.new.ensures in
+    let one : flat_map arc_value c.in_ok-single.field-0.items ≡ c.args.key.now ∷ [] = c.in_ok-single.ensures.keys ∙ c.in_ok-page.ensures ∙ (λ i. insert (c.new.ensures i) 0 (c.as_bytes.ensures i)) in
     record {
       sized = c.in_ok-single.ensures.sized;
       sorted = subst (IsStrictlySortedBy key_cmp) (sym one) (one_sorted c.args.key.now);
@@ -34,7 +34,7 @@ invariant_of-result-in-Err c =
     let le = rw c.deref-page.ensures at c.in-Err.ensures.range in
     let b = (rw c.deref-page.ensures at c.in-Err.ensures.below) (ascends (arc_value x) up) in
     let a = (rw c.deref-page.ensures at c.in-Err.ensures.above) (ascends (arc_value x) up) in
-    let grown = rw c.deref-page.ensures at c.in_ok-others-in-Err.ensures.keys in
+    let grown = rw c.as_bytes-in-Err.ensures at (rw c.deref-page.ensures at c.in_ok-others-in-Err.ensures.keys) in
     record {
       sized = c.in_ok-spliced-in-Err.ensures.sized;
       sorted = put_sorted arc_value ps c.place_of-at.result x c.args.key.now (omega arith) c.index-pages-at.is sorted c.place_of-at.ensures.below c.place_of-at.ensures.above c.in-Err.index le b a (flat_map arc_value c.in_ok-others-in-Err.others.items) new c.in_ok-spliced-in-Err.ensures.keys grown;
@@ -64,6 +64,6 @@ returns-in_ok-spliced-in-Err c =
     let le = rw c.deref-page.ensures at c.in-Err.ensures.range in
     let b = (rw c.deref-page.ensures at c.in-Err.ensures.below) (ascends (arc_value x) up) in
     let a = (rw c.deref-page.ensures at c.in-Err.ensures.above) (ascends (arc_value x) up) in
-    let grown = rw c.deref-page.ensures at c.in_ok-others-in-Err.ensures.keys in
+    let grown = rw c.as_bytes-in-Err.ensures at (rw c.deref-page.ensures at c.in_ok-others-in-Err.ensures.keys) in
     put_set arc_value ps c.place_of-at.result x c.args.key.now (omega arith) c.index-pages-at.is sorted c.place_of-at.ensures.below c.place_of-at.ensures.above c.in-Err.index le b a (flat_map arc_value c.in_ok-others-in-Err.others.items) new c.in_ok-spliced-in-Err.ensures.keys grown
     ∙ ap (λ s. set.insert s c.args.key.now) (ap (λ zs. set.from_list {R = key_cmp} (flat_map arc_value zs)) same ∙ c.self.view_is)

@@ -1,24 +1,38 @@
-use Rattle.std.proofs.Common.{◌∙◌, arith}
-use Rattle.ent_rel.proofs.Ascending.{moved_from, deduped, loaded, loaded_full, loaded_kept}
+use Rattle.std.proofs.Common.{◌≡◌, ap, subst, sym, ◌∙◌, arith, map, All, Ok}
+use Rattle.ent_set.specs.Sets as set
+use Rattle.ent_value.specs.Value.{row_cmp}
+use Rattle.ent_page.specs.Key.{key_of, AreStorable}
+use Rattle.ent_rel.specs.Relation.{Relation}
+use Rattle.ent_rel.proofs.Keyed.{rows_load, hold_load, len_rows}
+use Rattle.ent_rel.proofs.Meanings.{bounded_within, bounded_beyond}
 use Rattle.ent_rel.proofs.table.Table.load.Goals as goal
 
 pub returns-then-len-gt-ROW_LIMIT : goal.returns-then-len-gt-ROW_LIMIT
 returns-then-len-gt-ROW_LIMIT c =
+    let kinds = c.args.kinds.items in
     let rows = c.args.rows.items in
-    let sorted = c.sort.new.self in
-    loaded_full rows sorted c.dedup.new.self.items (moved_from rows c.as_mut_slice.result.now sorted c.as_mut_slice.ensures.value c.in_ok-sort.ensures.permutation) c.in_ok-sort.ensures.sorted
-    (deduped c.args.rows.len sorted rows c.dedup.new.self.items (c.in_ok-sort.ensures.len ∙ c.as_mut_slice.ensures.len) c.dedup.ensures.filtered) c.args.kinds.items (omega arith)
+    let same = c.as_slice.ensures.value in
+    let made = c.in_ok-keys.ensures ∙ ap (λ ks. set.from_list ks) (c.in_ok-keys_of.ensures.keys ∙ ap (map key_of) same) in
+    let fits = subst (λ rs. All AreStorable rs) same c.in_ok-keys_of.ensures.stored in
+    let is = rows_load kinds rows c.in_ok-keys.keys made c.requires fits in
+    bounded_beyond {X = Relation} (set.from_list {R = row_cmp} rows) (record { kinds = kinds; rows = set.from_list rows }) (omega (arith, len_rows kinds c.in_ok-keys.keys (hold_load kinds rows c.in_ok-keys.keys made c.requires fits), ap set.len is))
 
 pub invariant_of-result : goal.invariant_of-result
 invariant_of-result c =
+    let kinds = c.args.kinds.items in
     let rows = c.args.rows.items in
-    let sorted = c.sort.new.self in
-    loaded_kept rows sorted c.dedup.new.self.items (moved_from rows c.as_mut_slice.result.now sorted c.as_mut_slice.ensures.value c.in_ok-sort.ensures.permutation) c.in_ok-sort.ensures.sorted
-    (deduped c.args.rows.len sorted rows c.dedup.new.self.items (c.in_ok-sort.ensures.len ∙ c.as_mut_slice.ensures.len) c.dedup.ensures.filtered) c.args.kinds.items c.requires (omega arith)
+    let same = c.as_slice.ensures.value in
+    let made = c.in_ok-keys.ensures ∙ ap (λ ks. set.from_list ks) (c.in_ok-keys_of.ensures.keys ∙ ap (map key_of) same) in
+    let fits = subst (λ rs. All AreStorable rs) same c.in_ok-keys_of.ensures.stored in
+    record { fitting = hold_load kinds rows c.in_ok-keys.keys made c.requires fits; limit = omega arith }
 
 pub returns : goal.returns
 returns c =
+    let kinds = c.args.kinds.items in
     let rows = c.args.rows.items in
-    let sorted = c.sort.new.self in
-    loaded rows sorted c.dedup.new.self.items (moved_from rows c.as_mut_slice.result.now sorted c.as_mut_slice.ensures.value c.in_ok-sort.ensures.permutation) c.in_ok-sort.ensures.sorted
-    (deduped c.args.rows.len sorted rows c.dedup.new.self.items (c.in_ok-sort.ensures.len ∙ c.as_mut_slice.ensures.len) c.dedup.ensures.filtered) c.args.kinds.items (omega arith)
+    let same = c.as_slice.ensures.value in
+    let made = c.in_ok-keys.ensures ∙ ap (λ ks. set.from_list ks) (c.in_ok-keys_of.ensures.keys ∙ ap (map key_of) same) in
+    let fits = subst (λ rs. All AreStorable rs) same c.in_ok-keys_of.ensures.stored in
+    let is = rows_load kinds rows c.in_ok-keys.keys made c.requires fits in
+    bounded_within {X = Relation} (set.from_list {R = row_cmp} rows) (record { kinds = kinds; rows = set.from_list rows }) (omega (arith, len_rows kinds c.in_ok-keys.keys (hold_load kinds rows c.in_ok-keys.keys made c.requires fits), ap set.len is))
+    ∙ (λ i. Ok (record { kinds = kinds; rows = sym is i }))
