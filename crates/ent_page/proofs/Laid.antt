@@ -192,6 +192,6 @@ module _ (bs es : List ℕ) (laid : IsLaid bs es) (from to : ℕ) (h : from ≤ 
   part_appended mine ends new_bs new_es read places given start stop base own r p g s t b x y =
       let keys = between from to (pieces bs 0 es) in
       let moved : map (λ e. e - start + base) (between from to places) ≡ ends_from (length mine) keys =
-          ap (λ z. map (λ e. e - start + base) (between from to z)) p ∙ ap (map (λ e. e - start + base)) part_ends
-          ∙ ap (λ z. map (λ e. e - start + base) (ends_from z keys)) (omega arith) ∙ moved_ends start base 0 keys ∙ ap (λ z. ends_from z keys) (omega arith) in
+      ap (λ z. map (λ e. e - start + base) (between from to z)) p ∙ ap (map (λ e. e - start + base)) part_ends
+      ∙ ap (λ z. map (λ e. e - start + base) (ends_from z keys)) (omega arith) ∙ moved_ends start base 0 keys ∙ ap (λ z. ends_from z keys) (omega arith) in
       appended mine ends new_bs new_es keys own (x ∙ (λ i. mine ++ between (s i) (t i) (r i)) ∙ ap (λ z. mine ++ z) part_bytes) (y ∙ (λ i. g i ++ moved i))

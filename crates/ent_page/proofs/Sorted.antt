@@ -215,9 +215,9 @@ apart_or_same q key b c one is = by (eq_by_cmp key_cmp q key) one is
 pub set_cut : (xs ys : List (List ℕ)) (key : List ℕ) → IsStrictlySortedBy key_cmp (xs ++ key ∷ ys) → set.from_list {R = key_cmp} (xs ++ ys) ≡ set.without_all (set.from_list (xs ++ key ∷ ys)) (key ∷ [])
 set_cut xs ys key sorted = same_set keys_total keys_exact _ _ (λ q.
     let gone : eq_by_cmp key_cmp q key ≡ true → list_any (eq_by_cmp key_cmp q) (xs ++ ys) ≡ false = λ e.
-        let same : q ≡ key = keys_exact q key ((eq_is (key_cmp q key)) e) in
-        ap (λ k. list_any (eq_by_cmp key_cmp k) (xs ++ ys)) same ∙ any_over (eq_by_cmp key_cmp key) xs ys
-        ∙ (λ i. none_below xs key (sorted_below xs ys key sorted) i || none_above ys key (sorted_above ys key (sorted_back xs (key ∷ ys) sorted)) i) in
+    let same : q ≡ key = keys_exact q key ((eq_is (key_cmp q key)) e) in
+    ap (λ k. list_any (eq_by_cmp key_cmp k) (xs ++ ys)) same ∙ any_over (eq_by_cmp key_cmp key) xs ys
+    ∙ (λ i. none_below xs key (sorted_below xs ys key sorted) i || none_above ys key (sorted_above ys key (sorted_back xs (key ∷ ys) sorted)) i) in
     contains-from_list keys_total keys_exact (xs ++ ys) q
     ∙ apart_or_same q key (list_any (eq_by_cmp key_cmp q) (xs ++ key ∷ ys)) (list_any (eq_by_cmp key_cmp q) (xs ++ ys)) gone (any_middle (eq_by_cmp key_cmp q) xs ys key)
     ∙ sym (contains-without_all keys_total keys_exact (set.from_list (xs ++ key ∷ ys)) (key ∷ []) q ∙ ap (λ b. b && not (eq_by_cmp key_cmp q key || false)) (contains-from_list keys_total keys_exact (xs ++ key ∷ ys) q)))

@@ -5,8 +5,10 @@ ghost use Rattle.ent_set.specs.Sets as set;
 use crate::key::Key;
 use crate::key_cursor::KeyCursor;
 use crate::page::Page;
+use crate::pages::{
+    are_same_keys, grown, pages_of, place_of, push_shared, shrunk, single, spliced,
+};
 use crate::probe::Probe;
-use crate::pages::{are_same_keys, grown, pages_of, place_of, push_shared, shrunk, single, spliced};
 use std::alloc::{AllocError, Global};
 use std::marker::Model;
 use std::sync::Arc;

@@ -173,7 +173,7 @@ filter_rows : (kinds : List Kind) (row : List Value) → kinds_of row ≡ kinds 
 filter_rows kinds row same fits [] all = refl
 filter_rows kinds row same fits (k ∷ ks) all =
     let alike : eq_by_cmp key_cmp k (key_of row) ≡ eq_by_cmp row_cmp (row_from kinds k) row =
-        ap is_eq (same_order kinds k (key_of row) all.0 (key_of_row kinds row same fits) ∙ ap (row_cmp (row_from kinds k)) (row_again kinds row same fits)) in
+    ap is_eq (same_order kinds k (key_of row) all.0 (key_of_row kinds row same fits) ∙ ap (row_cmp (row_from kinds k)) (row_again kinds row same fits)) in
     by (eq_by_cmp key_cmp k (key_of row)) (eq_by_cmp row_cmp (row_from kinds k) row) alike (filter (λ k. not (eq_by_cmp key_cmp k (key_of row) || false)) ks) (filter (λ r. not (eq_by_cmp row_cmp r row || false)) (map (row_from kinds) ks)) (filter_rows kinds row same fits ks all.1)
   where
     by : (a b : Bool) → a ≡ b → (xs : List (List ℕ)) (ys : List (List Value)) → map (row_from kinds) xs ≡ ys

@@ -202,9 +202,9 @@ impl Table {
         ensures kinds { IfOk result (λ table. table.kinds ≡ self.now.kinds) }
     {
         let kinds = Vec::from_slice(alloc, self.kinds.as_slice())?;
-        let keys = self.keys.copy(alloc)?;
-        let keys = keys_without(alloc, &kinds, keys, delta.removed.as_slice())?;
-        let keys = keys_with(alloc, &kinds, keys, delta.added.as_slice())?;
+        let whole = self.keys.copy(alloc)?;
+        let left = keys_without(alloc, &kinds, whole, delta.removed.as_slice())?;
+        let keys = keys_with(alloc, &kinds, left, delta.added.as_slice())?;
         Ok(Table { kinds, keys })
     }
 

@@ -24,7 +24,7 @@ loop-low-preserved g c =
     let mid = c.loop-low.low + (c.loop-low.high - c.loop-low.low) / 2 in
     let x = c.index-pages-middle.result in
     let not_above : key_cmp (get_or (arc_value c.index-pages-middle.result) 0 []) (g.P.Probe.bytes c.args.key.now) ≡ Greater → ⊥ = λ more.
-        (let no : false ≡ true = sym c.if-first_is_above.false ∙ c.first_is_above.ensures.1 (rw c.deref.ensures more) in cc) in
+    (let no : false ≡ true = sym c.if-first_is_above.false ∙ c.first_is_above.ensures.1 (rw c.deref.ensures more) in cc) in
     let same : c.loop-low.low + (c.loop-low.high - c.loop-low.low) / 2 ≡ c.loop-low.low + (c.loop-low.high - c.loop-low.low) / 2 + 1 - 1 = omega arith in
     record {
       order = omega arith;

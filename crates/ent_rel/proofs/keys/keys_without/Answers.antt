@@ -30,7 +30,7 @@ loop-row-preserved c =
           }
       | else-have_kinds w ↦
           let other : kinds_of c.row-item.result ≡ c.args.kinds.now → ⊥ = λ same.
-              (let no' : false ≡ true = sym w.if-have_kinds.false ∙ c.have_kinds.ensures.kinds.1 (ap kinds_of c.values.ensures ∙ same) in cc) in
+          (let no' : false ≡ true = sym w.if-have_kinds.false ∙ c.have_kinds.ensures.kinds.1 (ap kinds_of c.values.ensures ∙ same) in cc) in
           let have = have_kinds kinds (listed_rows kinds c.loop-row.keys) (listed_fit kinds c.loop-row.keys c.loop-row.invariant.hold) in
           record {
             rows = ap (λ s. set.without_all s (drop (i + 1) rows)) (ap (rows_of kinds) w.keys-is ∙ sym (without_other kinds (rows_of kinds c.loop-row.keys) x have other))

@@ -12,7 +12,7 @@ invariant_of-result c =
     let keys = c.args.keys.items in
     let sorted = c.sort.new.self in
     let strictly = loaded_sorted keys sorted c.dedup.new.self.items (moved_from keys c.as_mut_slice.result.now sorted c.as_mut_slice.ensures.value c.in_ok-sort.ensures.permutation) c.in_ok-sort.ensures.sorted
-        (deduped c.args.keys.len sorted keys c.dedup.new.self.items (c.in_ok-sort.ensures.len ∙ c.as_mut_slice.ensures.len) c.dedup.ensures.filtered) in
+    (deduped c.args.keys.len sorted keys c.dedup.new.self.items (c.in_ok-sort.ensures.len ∙ c.as_mut_slice.ensures.len) c.dedup.ensures.filtered) in
     let flat = c.in_ok-pages.ensures.keys ∙ c.as_slice.ensures.value in
     record {
       sized = c.in_ok-pages.ensures.sized;
@@ -26,4 +26,4 @@ returns c =
     let sorted = c.sort.new.self in
     ap (λ ks. set.from_list {R = key_cmp} ks) (c.in_ok-pages.ensures.keys ∙ c.as_slice.ensures.value)
     ∙ loaded_set keys sorted c.dedup.new.self.items (moved_from keys c.as_mut_slice.result.now sorted c.as_mut_slice.ensures.value c.in_ok-sort.ensures.permutation) c.in_ok-sort.ensures.sorted
-        (deduped c.args.keys.len sorted keys c.dedup.new.self.items (c.in_ok-sort.ensures.len ∙ c.as_mut_slice.ensures.len) c.dedup.ensures.filtered)
+    (deduped c.args.keys.len sorted keys c.dedup.new.self.items (c.in_ok-sort.ensures.len ∙ c.as_mut_slice.ensures.len) c.dedup.ensures.filtered)

@@ -14,9 +14,9 @@ returns-then-self-other c =
     let others = flat_map arc_value c.other.inside.pages.items in (
       λ same. sym c.self.view_is ∙ ap (λ ks. set.from_list {R = key_cmp} ks) (ap (flat_map arc_value) (sym c.as_slice.ensures.value) ∙ c.are_same_keys.ensures.0 same ∙ ap (flat_map arc_value) c.as_slice-then-self-other.ensures.value) ∙ c.other.view_is,
       λ e. c.are_same_keys.ensures.1 (
-        ap (flat_map arc_value) c.as_slice.ensures.value
-        ∙ sym (ascending_is mine c.self.invariant.sorted) ∙ ap set.ascending (c.self.view_is ∙ e ∙ sym c.other.view_is) ∙ ascending_is others c.other.invariant.sorted
-        ∙ ap (flat_map arc_value) (sym c.as_slice-then-self-other.ensures.value)),
+          ap (flat_map arc_value) c.as_slice.ensures.value
+          ∙ sym (ascending_is mine c.self.invariant.sorted) ∙ ap set.ascending (c.self.view_is ∙ e ∙ sym c.other.view_is) ∙ ascending_is others c.other.invariant.sorted
+          ∙ ap (flat_map arc_value) (sym c.as_slice-then-self-other.ensures.value)),
     )
 
 pub returns-else-self-other : goal.returns-else-self-other

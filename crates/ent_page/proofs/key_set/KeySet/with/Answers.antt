@@ -49,8 +49,8 @@ returns-in-Ok c =
     let x = c.index-pages-at.result in
     let sorted = subst (λ zs. IsStrictlySortedBy key_cmp (flat_map arc_value zs)) (sym same) c.self.invariant.sorted in
     let there : set.contains c.args.self.now c.args.key.now ≡ true =
-        sym (ap (λ zs. set.contains (set.from_list {R = key_cmp} (flat_map arc_value zs)) c.args.key.now) same ∙ ap (λ s. set.contains s c.args.key.now) c.self.view_is)
-        ∙ sym (contains_is arc_value ps c.place_of-at.result x c.args.key.now (omega arith) c.index-pages-at.is sorted c.place_of-at.ensures.below c.place_of-at.ensures.above (Ok c.in-Ok.field-0) (rw c.deref-page.ensures at c.in-Ok.ensures.found) tt tt tt) in
+    sym (ap (λ zs. set.contains (set.from_list {R = key_cmp} (flat_map arc_value zs)) c.args.key.now) same ∙ ap (λ s. set.contains s c.args.key.now) c.self.view_is)
+    ∙ sym (contains_is arc_value ps c.place_of-at.result x c.args.key.now (omega arith) c.index-pages-at.is sorted c.place_of-at.ensures.below c.place_of-at.ensures.above (Ok c.in-Ok.field-0) (rw c.deref-page.ensures at c.in-Ok.ensures.found) tt tt tt) in
     subst (λ t. IfOk c.copy.result (λ s. s ≡ t)) (sym (insert_there keys_total keys_exact c.args.self.now c.args.key.now there)) c.copy.ensures
 
 pub returns-in_ok-spliced-in-Err : goal.returns-in_ok-spliced-in-Err

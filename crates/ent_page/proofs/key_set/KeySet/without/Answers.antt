@@ -15,7 +15,7 @@ pub returns-then-at-pages : goal.returns-then-at-pages
 returns-then-at-pages c =
     let none = nothing_there c.as_slice-pages.result.now c.place_of-at.result c.place_of-at.ensures.range (omega arith) in
     let absent : set.contains c.args.self.now c.args.key.now ≡ false =
-        ap (λ s. set.contains s c.args.key.now) (sym c.self.view_is) ∙ ap (λ zs. set.contains (set.from_list {R = key_cmp} (flat_map arc_value zs)) c.args.key.now) (sym c.as_slice-pages.ensures.value ∙ none) ∙ contains-empty key_cmp c.args.key.now in
+    ap (λ s. set.contains s c.args.key.now) (sym c.self.view_is) ∙ ap (λ zs. set.contains (set.from_list {R = key_cmp} (flat_map arc_value zs)) c.args.key.now) (sym c.as_slice-pages.ensures.value ∙ none) ∙ contains-empty key_cmp c.args.key.now in
     subst (λ t. IfOk c.copy.result (λ s. s ≡ t)) (set_kept c.args.self.now c.args.key.now absent) c.copy.ensures
 
 pub invariant_of-result : goal.invariant_of-result
@@ -54,7 +54,7 @@ returns-in-Err c =
     let sorted = subst (λ zs. IsStrictlySortedBy key_cmp (flat_map arc_value zs)) (sym same) c.self.invariant.sorted in
     let up = page_sorted arc_value ps c.place_of-at.result x c.args.key.now (omega arith) c.index-pages-at.is sorted in
     let absent : set.contains c.args.self.now c.args.key.now ≡ false =
-        sym (ap (λ zs. set.contains (set.from_list {R = key_cmp} (flat_map arc_value zs)) c.args.key.now) same ∙ ap (λ s. set.contains s c.args.key.now) c.self.view_is)
-        ∙ absent_at arc_value ps c.place_of-at.result x c.args.key.now (omega arith) c.index-pages-at.is sorted c.place_of-at.ensures.below c.place_of-at.ensures.above c.in-Err.field-0 (rw c.deref-page.ensures at c.in-Err.ensures.range)
-        ((rw c.deref-page.ensures at c.in-Err.ensures.below) (ascends (arc_value x) up)) ((rw c.deref-page.ensures at c.in-Err.ensures.above) (ascends (arc_value x) up)) in
+    sym (ap (λ zs. set.contains (set.from_list {R = key_cmp} (flat_map arc_value zs)) c.args.key.now) same ∙ ap (λ s. set.contains s c.args.key.now) c.self.view_is)
+    ∙ absent_at arc_value ps c.place_of-at.result x c.args.key.now (omega arith) c.index-pages-at.is sorted c.place_of-at.ensures.below c.place_of-at.ensures.above c.in-Err.field-0 (rw c.deref-page.ensures at c.in-Err.ensures.range)
+    ((rw c.deref-page.ensures at c.in-Err.ensures.below) (ascends (arc_value x) up)) ((rw c.deref-page.ensures at c.in-Err.ensures.above) (ascends (arc_value x) up)) in
     subst (λ t. IfOk c.copy-in-Err.result (λ s. s ≡ t)) (set_kept c.args.self.now c.args.key.now absent) c.copy-in-Err.ensures

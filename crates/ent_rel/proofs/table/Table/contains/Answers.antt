@@ -19,7 +19,7 @@ pub returns-else-have_kinds : goal.returns-else-have_kinds
 returns-else-have_kinds c =
     let kinds = c.self.inside.kinds.items in
     let other : kinds_of c.args.row.now ≡ c.self.inside.kinds.items → ⊥ = λ same.
-        (let no' : false ≡ true = sym c.if-have_kinds.false ∙ c.have_kinds.ensures.kinds.1 (ap kinds_of c.values.ensures ∙ same ∙ sym c.deref.ensures.value) in cc) in
+    (let no' : false ≡ true = sym c.if-have_kinds.false ∙ c.have_kinds.ensures.kinds.1 (ap kinds_of c.values.ensures ∙ same ∙ sym c.deref.ensures.value) in cc) in
     c.if-have_kinds.false
     ∙ sym (ap (λ (t : Relation). set.contains t.rows c.args.row.now) (sym c.self.view_is)
     ∙ other_absent kinds (rows_of kinds c.self.inside.keys) c.args.row.now (have_kinds kinds (listed_rows kinds c.self.inside.keys) (listed_fit kinds c.self.inside.keys c.self.invariant.fitting)) other)
