@@ -10,7 +10,7 @@ use Rattle.ent_value.specs.declared.value.Value.{Value}
 use Rattle.ent_value.specs.declared.refusal.Refusal.{Refusal}
 use Rattle.ent_value.specs.Refusal.{◌>>=◌, Gives}
 use Rattle.ent_rel.specs.Relation.{RowSet, full, bounded}
-use Rattle.ent_rel.specs.declared.fault.TheConstants.{ROW_LIMIT}
+use Rattle.ent_value.specs.declared.limits.TheConstants.{MOST_ROWS}
 use Rattle.ent_sql.specs.declared.tree.Expression.{Expression}
 use Rattle.ent_semantics.specs.declared.answer.Failure.{Failure}
 use Rattle.ent_semantics.specs.Database.{Environment}
@@ -34,7 +34,7 @@ image_of_kinds environment image row columns (Err fault) fits of_row is = tt
 
 -- rows that are not too many
 within : {X Y : Type 0} (rows : RowSet) (x : X) (y : Y) → IsOk (bounded rows x) → or_full (bounded rows y) ≡ Ok y
-within {X} {Y} rows x y fits = on (nat_le (set.len rows) ROW_LIMIT) fits
+within {X} {Y} rows x y fits = on (nat_le (set.len rows) MOST_ROWS) fits
   where
     on : (b : Bool) → is_ok (cond b (Ok x) (Err full)) ≡ true → or_full (cond b (Ok y) (Err full)) ≡ Ok y
     on true p = refl

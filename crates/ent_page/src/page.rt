@@ -1,5 +1,6 @@
 //! Keys one after another in one list of bytes.
-ghost use Rattle.std.specs.Prelude.{◌≡◌, ◌+◌, ◌-◌, ◌<◌, ◌≤◌, ◌++◌, ◌∷◌, [], ◌↔◌, IsTrue, IfOk, IfErr, OnOk, OnErr, length, get_or, take, drop, map, ℕ, ◌^◌, All, vec_len, vec_capacity};
+ghost use Rattle.std.specs.Prelude.{◌≡◌, ◌+◌, ◌-◌, ◌<◌, ◌≤◌, ◌++◌, ◌∷◌, [], ◌↔◌, IsTrue, IfOk, IfErr, OnOk, OnErr};
+ghost use Rattle.std.specs.Prelude.{length, get_or, take, drop, map, ℕ, ◌^◌, All, vec_len, vec_capacity};
 ghost use Rattle.std.specs.List.{insert, remove, between};
 ghost use Rattle.ent_page.specs.Layout.{start_of, Ascends, AreBelow, AreAbove};
 

@@ -1,5 +1,6 @@
 //! Ordered lists of pages.
-ghost use Rattle.std.specs.Prelude.{◌≡◌, ◌+◌, ◌<◌, ◌≤◌, ◌++◌, ◌↔◌, [], IsTrue, IfOk, OnOk, length, map, take, drop, get_or};
+ghost use Rattle.std.specs.Prelude.{◌≡◌, ◌+◌, ◌<◌, ◌≤◌, ◌++◌, ◌↔◌, [], IsTrue, IfOk, OnOk, length};
+ghost use Rattle.std.specs.Prelude.{map, take, drop, get_or};
 ghost use Rattle.std.specs.List.{flat_map, insert, AllByRecursion};
 ghost use Rattle.std.specs.List.Sorted.{IsStrictlySortedBy};
 ghost use Rattle.std.specs.Arc.{arc_value};
@@ -148,7 +149,8 @@ pub(crate) fn spliced(
     requires sized { AllByRecursion (λ page. IsSized (arc_value page)) pages.now }
     requires others { AllByRecursion (λ page. IsSized (arc_value page)) others.items }
     ensures keys { IfOk result (λ spliced. flat_map arc_value spliced.items
-        ≡ flat_map arc_value (take from pages.now) ++ (flat_map arc_value others.items ++ flat_map arc_value (drop to pages.now))) }
+        ≡ flat_map arc_value (take from pages.now)
+        ++ (flat_map arc_value others.items ++ flat_map arc_value (drop to pages.now))) }
     ensures sized { IfOk result (λ pages. AllByRecursion (λ page. IsSized (arc_value page)) pages.items) }
 {
     let mut spliced = Vec::with_capacity(alloc, pages.len() - to + from + others.len())?;

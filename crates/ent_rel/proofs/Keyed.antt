@@ -25,7 +25,7 @@ use Rattle.ent_page.specs.Read.{row_from}
 use Rattle.ent_page.specs.Order.{key_order}
 use Rattle.ent_page.specs.Rows.{IsKey, row_again, key_of_row}
 use Rattle.ent_rel.specs.Relation.{RowSet, HaveKinds, full, bounded}
-use Rattle.ent_rel.specs.declared.fault.TheConstants.{ROW_LIMIT}
+use Rattle.ent_value.specs.declared.limits.TheConstants.{MOST_ROWS}
 use Rattle.ent_rel.proofs.Lists.{same_rows}
 use Rattle.ent_rel.proofs.Meanings.{bounded_beyond}
 use Rattle.ent_rel.specs.Kept.{KeySet, listed_rows, rows_of, HoldRows}
@@ -263,7 +263,7 @@ len_grows s (row ∷ rows) =
     let more = len_grows (set.insert s row) rows in
     elim (set.contains s row) as (λ b. set.len (set.insert s row) ≡ (if b then set.len s else set.len s + 1) → set.len s ≤ set.len (set.insert_all (set.insert s row) rows)) [ true ↦ λ e. omega arith | false ↦ λ e. omega arith ] (len-insert rows_total exact_rows s row)
 
-pub no_more : (kinds : List Kind) (s : KeySet) (rows : List (List Value)) → HoldRows kinds s → ROW_LIMIT < set.len s → bounded (set.insert_all (rows_of kinds s) rows) (set.insert_all (rows_of kinds s) rows) ≡ Err full
+pub no_more : (kinds : List Kind) (s : KeySet) (rows : List (List Value)) → HoldRows kinds s → MOST_ROWS < set.len s → bounded (set.insert_all (rows_of kinds s) rows) (set.insert_all (rows_of kinds s) rows) ≡ Err full
 no_more kinds s rows hold many = bounded_beyond (set.insert_all (rows_of kinds s) rows) (set.insert_all (rows_of kinds s) rows) (omega (arith, len_grows (rows_of kinds s) rows, len_rows kinds s hold))
 
 pub from_here : {X : Type 0} (xs : List X) (i : ℕ) (x : X) → i < length xs → x ≡ get_or xs i x → drop i xs ≡ x ∷ drop (i + 1) xs

@@ -23,28 +23,28 @@ use Rattle.ent_rel.specs.Relation.{RowSet, Relation, full, bounded}
 use Rattle.ent_rel.specs.Part.{IsPart}
 use Rattle.ent_rel.specs.Change.{insertion, deletion, application, changed_rows, replacement, images_of}
 use Rattle.ent_rel.specs.declared.fault.TableFull.{TableFull}
-use Rattle.ent_rel.specs.declared.fault.TheConstants.{ROW_LIMIT}
+use Rattle.ent_value.specs.declared.limits.TheConstants.{MOST_ROWS}
 use Rattle.ent_rel.proofs.Lists.{from_append}
 use Rattle.ent_rel.proofs.Parts.{stays, len-changed}
 
-pub bounded_within : {X : Type 0} (s : RowSet) (x : X) → set.len s ≤ ROW_LIMIT → bounded s x ≡ Ok x
+pub bounded_within : {X : Type 0} (s : RowSet) (x : X) → set.len s ≤ MOST_ROWS → bounded s x ≡ Ok x
 bounded_within s x h = ap (λ b. cond b (Ok x) (Err full)) (le-leb _ _ h)
 
-pub bounded_beyond : {X : Type 0} (s : RowSet) (x : X) → ROW_LIMIT < set.len s → bounded s x ≡ Err full
+pub bounded_beyond : {X : Type 0} (s : RowSet) (x : X) → MOST_ROWS < set.len s → bounded s x ≡ Err full
 bounded_beyond s x h = ap (λ b. cond b (Ok x) (Err full)) (lt-leb _ _ h)
 
-pub insertion_there : (s : RowSet) (row : List Value) → set.contains s row ≡ true → set.len s ≤ ROW_LIMIT → insertion s row ≡ Ok (0, s)
+pub insertion_there : (s : RowSet) (row : List Value) → set.contains s row ≡ true → set.len s ≤ MOST_ROWS → insertion s row ≡ Ok (0, s)
 insertion_there s row here small =
     (λ i. bounded (insert_there rows_total exact_rows s row here i) (cond (here i) 0 1, insert_there rows_total exact_rows s row here i)) ∙ bounded_within s (0, s) small
 
 len_more : (s : RowSet) (row : List Value) → set.contains s row ≡ false → set.len (set.insert s row) ≡ set.len s + 1
 len_more s row absent = len-insert rows_total exact_rows s row ∙ ap (λ b. cond b (set.len s) (set.len s + 1)) absent
 
-pub insertion_more : (s : RowSet) (row : List Value) → set.contains s row ≡ false → set.len s < ROW_LIMIT → insertion s row ≡ Ok (1, set.insert s row)
+pub insertion_more : (s : RowSet) (row : List Value) → set.contains s row ≡ false → set.len s < MOST_ROWS → insertion s row ≡ Ok (1, set.insert s row)
 insertion_more s row absent small =
     ap (λ b. bounded (set.insert s row) (cond b 0 1, set.insert s row)) absent ∙ bounded_within (set.insert s row) (1, set.insert s row) (omega (arith, len_more s row absent))
 
-pub insertion_full : (s : RowSet) (row : List Value) → set.contains s row ≡ false → ROW_LIMIT ≤ set.len s → insertion s row ≡ Err full
+pub insertion_full : (s : RowSet) (row : List Value) → set.contains s row ≡ false → MOST_ROWS ≤ set.len s → insertion s row ≡ Err full
 insertion_full s row absent much =
     ap (λ b. bounded (set.insert s row) (cond b 0 1, set.insert s row)) absent ∙ bounded_beyond (set.insert s row) (1, set.insert s row) (omega (arith, len_more s row absent))
 
@@ -64,18 +64,18 @@ deletion_filter rows passes distinct i = (len_retain rows passes distinct i, sym
 pub without_rows : (rows removed : List (List Value)) → set.from_list {R = row_cmp} (filter (stays removed) rows) ≡ set.without_all (set.from_list rows) removed
 without_rows = without-list rows_total exact_rows
 
-pub apply_within : (s : RowSet) (removed added : List (List Value)) → set.len (changed_rows s removed added) ≤ ROW_LIMIT → application s removed added ≡ Ok (changed_rows s removed added)
+pub apply_within : (s : RowSet) (removed added : List (List Value)) → set.len (changed_rows s removed added) ≤ MOST_ROWS → application s removed added ≡ Ok (changed_rows s removed added)
 apply_within s removed added h = bounded_within (changed_rows s removed added) (changed_rows s removed added) h
 
 -- Changes that fit.
 
-pub fits_none : (s : RowSet) → set.len s ≤ ROW_LIMIT → IsOk (application s [] [])
+pub fits_none : (s : RowSet) → set.len s ≤ MOST_ROWS → IsOk (application s [] [])
 fits_none s h = ap is_ok (apply_within s [] [] (rw (changed_none s) h))
 
-pub fits_added : (s : RowSet) (row : List Value) → set.contains s row ≡ false → set.len s < ROW_LIMIT → IsOk (application s [] (row ∷ []))
+pub fits_added : (s : RowSet) (row : List Value) → set.contains s row ≡ false → set.len s < MOST_ROWS → IsOk (application s [] (row ∷ []))
 fits_added s row absent h = ap is_ok (apply_within s [] (row ∷ []) (rw (changed_added s row) (omega (arith, len_more s row absent))))
 
-pub fits_part : (s : RowSet) (rows removed added : List (List Value)) → set.from_list rows ≡ s → IsDistinct (eq_by_cmp row_cmp) rows → length rows ≤ ROW_LIMIT → IsPart rows removed → length added ≤ length removed → IsOk (application s removed added)
+pub fits_part : (s : RowSet) (rows removed added : List (List Value)) → set.from_list rows ≡ s → IsDistinct (eq_by_cmp row_cmp) rows → length rows ≤ MOST_ROWS → IsPart rows removed → length added ≤ length removed → IsOk (application s removed added)
 fits_part s rows removed added view distinct small part le =
     let P : RowSet → Type 0 = λ t. IsOk (application t removed added) in
     subst P view (ap is_ok (apply_within (set.from_list rows) removed added (omega (arith, len-changed rows removed added distinct part le))))
@@ -119,15 +119,15 @@ kinds_ok false kinds rows t e = absurd cc
 -- the table that a load made of the changed rows, as the table after the change
 pub loaded_after : (kinds : List Kind) (rows : List (List Value)) (s : RowSet) (removed added : List (List Value)) (r : Result Relation (Refusal TableFull)) → set.from_list rows ≡ changed_rows s removed added → Gives {X = Relation} (λ t. t) r (bounded (set.from_list {R = row_cmp} rows) (record { kinds = kinds; rows = set.from_list rows })) → Gives {X = Relation} (λ t. t.rows) r (application s removed added)
 loaded_after kinds rows s removed added (Ok t) same gives =
-    let e : bounded (changed_rows s removed added) (set.from_list {R = row_cmp} rows) ≡ Ok t.rows = (λ i. bounded (sym same i) (set.from_list {R = row_cmp} rows)) ∙ rows_ok (nat_le (set.len (set.from_list {R = row_cmp} rows)) ROW_LIMIT) kinds (set.from_list rows) t gives in
+    let e : bounded (changed_rows s removed added) (set.from_list {R = row_cmp} rows) ≡ Ok t.rows = (λ i. bounded (sym same i) (set.from_list {R = row_cmp} rows)) ∙ rows_ok (nat_le (set.len (set.from_list {R = row_cmp} rows)) MOST_ROWS) kinds (set.from_list rows) t gives in
     ap (bounded (changed_rows s removed added)) (sym same) ∙ e
 loaded_after kinds rows s removed added (Err Memory) same gives = tt
 loaded_after kinds rows s removed added (Err (Fault fault)) same gives =
-    let none : bounded (set.from_list {R = row_cmp} rows) (changed_rows s removed added) ≡ Err fault = both_full (nat_le (set.len (set.from_list {R = row_cmp} rows)) ROW_LIMIT) (record { kinds = kinds; rows = set.from_list rows }) (changed_rows s removed added) fault gives in
+    let none : bounded (set.from_list {R = row_cmp} rows) (changed_rows s removed added) ≡ Err fault = both_full (nat_le (set.len (set.from_list {R = row_cmp} rows)) MOST_ROWS) (record { kinds = kinds; rows = set.from_list rows }) (changed_rows s removed added) fault gives in
     (λ i. bounded (sym same i) (changed_rows s removed added)) ∙ none
 
 pub loaded_kinds : (kinds own : List Kind) (rows : List (List Value)) (r : Result Relation (Refusal TableFull)) → kinds ≡ own → Gives {X = Relation} (λ t. t) r (bounded (set.from_list {R = row_cmp} rows) (record { kinds = kinds; rows = set.from_list rows })) → IfOk r (λ t. t.kinds ≡ own)
-loaded_kinds kinds own rows (Ok t) same gives = sym (kinds_ok (nat_le (set.len (set.from_list {R = row_cmp} rows)) ROW_LIMIT) kinds (set.from_list rows) t gives) ∙ same
+loaded_kinds kinds own rows (Ok t) same gives = sym (kinds_ok (nat_le (set.len (set.from_list {R = row_cmp} rows)) MOST_ROWS) kinds (set.from_list rows) t gives) ∙ same
 loaded_kinds kinds own rows (Err fault) same gives = tt
 
 -- the rows that a list in another order takes out are the same

@@ -14,7 +14,7 @@ use Rattle.ent_rel.specs.Relation.{RowSet, full}
 use Rattle.ent_rel.specs.ByRow.{InsertsOne, DeletesMatches, ReplacesMatches, ChangesRows, IsImage}
 use Rattle.ent_value.specs.Refusal.{◌>>=◌}
 use Rattle.ent_rel.specs.Change.{images_of}
-use Rattle.ent_rel.specs.declared.fault.TheConstants.{ROW_LIMIT}
+use Rattle.ent_value.specs.declared.limits.TheConstants.{MOST_ROWS}
 use Rattle.ent_rel.proofs.Lists.{same_rows}
 
 cond_is : {X : Type 0} (b : Bool) (x y : X) → cond b (Ok x) (Err full) ≡ Ok y → x ≡ y
@@ -39,7 +39,7 @@ stays_where rows test q = contains-retain rows_total rows test q (λ x e. sym (a
 
 pub inserts_one : InsertsOne
 inserts_one rows after row count e q =
-    let is : (cond (set.contains rows row) 0 1, set.insert rows row) ≡ (count, after) = cond_is (nat_le (set.len (set.insert rows row)) ROW_LIMIT) (cond (set.contains rows row) 0 1, set.insert rows row) (count, after) e in
+    let is : (cond (set.contains rows row) 0 1, set.insert rows row) ≡ (count, after) = cond_is (nat_le (set.len (set.insert rows row)) MOST_ROWS) (cond (set.contains rows row) 0 1, set.insert rows row) (count, after) e in
     let told : set.contains after q ≡ (eq_by_cmp row_cmp q row || set.contains rows q) = ap (λ s. set.contains s q) (sym (ap (λ p. p.1) is)) ∙ contains-insert rows_total exact_rows rows row q in (
       λ here. elim (or_cases (eq_by_cmp row_cmp q row) (set.contains rows q) (sym told ∙ here)) [ inl same ↦ inl (same_rows q row same) | inr old ↦ inr old ],
       λ either. told ∙ elim either [ inl same ↦ ap (λ b. b || set.contains rows q) (ap (λ r. eq_by_cmp row_cmp q r) (sym same) ∙ rows_equal.refl q) | inr old ↦ or_right _ _ old ],

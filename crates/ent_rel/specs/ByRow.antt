@@ -13,19 +13,24 @@ InsertsOne = (rows after : RowSet) (row : List Value) (count : ℕ) → insertio
 -- after a deletion: those that stood and do not match
 abbrev pub DeletesMatches : Type 0
 DeletesMatches = (rows : RowSet) (test : List Value → Bool)
-    → (q : List Value) → IsTrue (set.contains (deletion rows test).1 q) ↔ (IsTrue (set.contains rows q) × IsFalse (test q))
+    → (q : List Value)
+    → IsTrue (set.contains (deletion rows test).1 q) ↔ (IsTrue (set.contains rows q) × IsFalse (test q))
 
 -- a row is the image of a row that stood and matches
-abbrev pub IsImage : {E : Type 0} → RowSet → (List Value → Bool) → (List Value → Result (List Value) E) → List Value → Type 0
+abbrev pub IsImage : {E : Type 0} → RowSet → (List Value → Bool) → (List Value → Result (List Value) E) → List Value
+    → Type 0
 IsImage rows test image q = (old : List Value) × IsTrue (set.contains rows old) × IsTrue (test old) × (image old ≡ Ok q)
 
 -- after a replacement: those that stood and do not match, and the images of those that match
 abbrev pub ReplacesMatches : Type 0 → Type 0
-ReplacesMatches E = (rows after : RowSet) (test : List Value → Bool) (image : List Value → Result (List Value) E) (count : ℕ)
+ReplacesMatches E =
+    (rows after : RowSet) (test : List Value → Bool) (image : List Value → Result (List Value) E) (count : ℕ)
     → replacement rows test image ≡ Ok (count, after)
-    → (q : List Value) → IsTrue (set.contains after q) ↔ (IsImage rows test image q ⊎ (IsTrue (set.contains rows q) × IsFalse (test q)))
+    → (q : List Value) → IsTrue (set.contains after q)
+    ↔ (IsImage rows test image q ⊎ (IsTrue (set.contains rows q) × IsFalse (test q)))
 
 -- after any change: the added rows, and those that stood and were not removed
 abbrev pub ChangesRows : Type 0
 ChangesRows = (rows : RowSet) (removed added : List (List Value))
-    → (q : List Value) → IsTrue (set.contains (changed_rows rows removed added) q) ↔ (Contains added q ⊎ (IsTrue (set.contains rows q) × (Contains removed q → ⊥)))
+    → (q : List Value) → IsTrue (set.contains (changed_rows rows removed added) q)
+    ↔ (Contains added q ⊎ (IsTrue (set.contains rows q) × (Contains removed q → ⊥)))

@@ -25,13 +25,15 @@ abbrev pub deletion : RowSet → (List Value → Bool) → ℕ × RowSet
 deletion rows test = (set.len (set.retain rows test), set.retain rows (λ row. not (test row)))
 
 -- the images of rows in their order, or the fault of the first that has none
-abbrev pub images_of : {E : Type 0} → (List Value → Result (List Value) E) → List (List Value) → Result (List (List Value)) E
+abbrev pub images_of : {E : Type 0} → (List Value → Result (List Value) E) → List (List Value)
+    → Result (List (List Value)) E
 images_of image [] = Ok []
 images_of image (row ∷ rows) = image row >>= λ new. images_of image rows >>= λ others. Ok (new ∷ others)
 
--- The rows that do not match together with the images of those that do, and how many match; or the fault of the first row,
--- in ascending order, that matches and has none. No more rows stand then than before.
-abbrev pub replacement : {E : Type 0} → RowSet → (List Value → Bool) → (List Value → Result (List Value) E) → Result (ℕ × RowSet) E
+-- The rows that do not match together with the images of those that do, and how many match; or the fault of the first
+-- row, in ascending order, that matches and has none. No more rows stand then than before.
+abbrev pub replacement : {E : Type 0} → RowSet → (List Value → Bool) → (List Value → Result (List Value) E)
+    → Result (ℕ × RowSet) E
 replacement rows test image =
     let matched = set.retain rows test in
     images_of image (set.ascending matched) >>= λ images.

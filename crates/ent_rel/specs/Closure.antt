@@ -12,18 +12,24 @@ use Rattle.ent_value.specs.declared.value.Kind.{Kind}
 use Rattle.ent_rel.specs.Relation.{RowSet}
 
 -- on each row of the set the closure answers this test
-abbrev pub Computes : {F : Type 0} → Shared F (Bor (List Value) × Unit {0}) Bool → F → RowSet → (List Value → Bool) → Type 0
+abbrev pub Computes : {F : Type 0} → Shared F (Bor (List Value) × Unit {0}) Bool → F → RowSet → (List Value → Bool)
+    → Type 0
 Computes calls closure rows test =
-    (row : List Value) (answer : Bool) → IsTrue (set.contains rows row) → FnReturnsAt calls closure row answer → answer ≡ test row
+    (row : List Value) (answer : Bool) → IsTrue (set.contains rows row) → FnReturnsAt calls closure row answer
+    → answer ≡ test row
 
 -- on each row of the set the closure gives its image or its fault, unless memory runs out
-abbrev pub Changes : {F E : Type 0} → Shared F (Bor (List Value) × Unit {0}) (Result (List Value) (Refusal E)) → F → RowSet → (List Value → Result (List Value) E) → Type 0
+abbrev pub Changes : {F E : Type 0} → Shared F (Bor (List Value) × Unit {0}) (Result (List Value) (Refusal E)) → F
+    → RowSet → (List Value → Result (List Value) E) → Type 0
 Changes {F} {E} calls closure rows image =
-    (row : List Value) (answer : Result (List Value) (Refusal E)) → IsTrue (set.contains rows row) → FnReturnsAt calls closure row answer
+    (row : List Value) (answer : Result (List Value) (Refusal E)) → IsTrue (set.contains rows row)
+    → FnReturnsAt calls closure row answer
     → Gives (λ new. new) answer (image row)
 
 -- what the closure gives for a row of the set has these kinds
-abbrev pub KeepsKinds : {F E : Type 0} → Shared F (Bor (List Value) × Unit {0}) (Result (List Value) E) → F → RowSet → List Kind → Type 0
+abbrev pub KeepsKinds : {F E : Type 0} → Shared F (Bor (List Value) × Unit {0}) (Result (List Value) E) → F → RowSet
+    → List Kind → Type 0
 KeepsKinds {F} {E} calls closure rows kinds =
-    (row : List Value) (answer : Result (List Value) E) → IsTrue (set.contains rows row) → FnReturnsAt calls closure row answer
+    (row : List Value) (answer : Result (List Value) E) → IsTrue (set.contains rows row)
+    → FnReturnsAt calls closure row answer
     → IfOk answer (λ new. kinds_of new ≡ kinds)

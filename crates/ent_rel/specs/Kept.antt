@@ -8,7 +8,7 @@ use Rattle.ent_page.specs.Key.{key_cmp}
 use Rattle.ent_page.specs.Read.{row_from}
 use Rattle.ent_page.specs.Rows.{IsKey}
 use Rattle.ent_rel.specs.Relation.{RowSet}
-use Rattle.ent_rel.specs.declared.fault.TheConstants.{ROW_LIMIT}
+use Rattle.ent_value.specs.declared.limits.TheConstants.{MOST_ROWS}
 
 abbrev pub KeySet : Type 0
 KeySet = set.Set key_cmp
@@ -27,4 +27,4 @@ HoldRows kinds keys = (key : List ℕ) → IsTrue (set.contains keys key) → Is
 -- each key is that of a row of the table's kinds, and there are not too many
 pub record IsKept (kinds : List Kind) (keys : KeySet) : Type 0 where
   pub fitting : HoldRows kinds keys
-  pub limit : set.len keys ≤ ROW_LIMIT
+  pub limit : set.len keys ≤ MOST_ROWS

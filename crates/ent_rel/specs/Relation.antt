@@ -9,7 +9,7 @@ use Rattle.ent_value.specs.declared.value.Value.TheVariants.{Int, Text}
 use Rattle.ent_value.specs.declared.value.Kind.{Kind}
 use Rattle.ent_value.specs.declared.value.Kind.TheVariants as kinds
 use Rattle.ent_rel.specs.declared.fault.TableFull.{TableFull}
-use Rattle.ent_rel.specs.declared.fault.TheConstants.{ROW_LIMIT}
+use Rattle.ent_value.specs.declared.limits.TheConstants.{MOST_ROWS}
 
 -- a finite set of rows, in the order of rows
 abbrev pub RowSet : Type 0
@@ -29,7 +29,7 @@ full = record {}
 
 -- x, where these rows are not too many for a table
 abbrev pub bounded : {X : Type 0} → RowSet → X → Result X TableFull
-bounded rows x = if nat_le (set.len rows) ROW_LIMIT then Ok x else Err full
+bounded rows x = if nat_le (set.len rows) MOST_ROWS then Ok x else Err full
 
 -- How a relation is stored as a number.
 
@@ -68,4 +68,5 @@ coded_rows = set.code (coded_list coded_value)
 
 abbrev pub coded_relation : Coded Relation
 coded_relation =
-    code_by (List Kind × RowSet) (coded× (coded_list coded_kind) coded_rows) (λ r. (r.kinds, r.rows)) (λ p. record { kinds = p.0; rows = p.1 }) (λ _. refl)
+    code_by (List Kind × RowSet) (coded× (coded_list coded_kind) coded_rows) (λ r. (r.kinds, r.rows))
+    (λ p. record { kinds = p.0; rows = p.1 }) (λ _. refl)

@@ -2,10 +2,7 @@
 
 use thiserror::Error;
 
-/// The most rows that a table holds.
-pub const ROW_LIMIT: usize = 65_536;
-
-/// More than [`ROW_LIMIT`] rows would stand.
+/// More than [`ent_value::MOST_ROWS`] rows would stand.
 #[derive(Debug, Drop, Error)]
 #[error("E310: table full")]
 pub struct TableFull;

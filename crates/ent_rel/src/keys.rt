@@ -7,10 +7,10 @@ ghost use Rattle.ent_page.specs.Key.{key_of, AreStorable};
 ghost use Rattle.ent_rel.specs.Relation.{bounded};
 ghost use Rattle.ent_rel.specs.Kept.{rows_of, HoldRows};
 
-use crate::fault::{ROW_LIMIT, TableFull};
+use crate::fault::TableFull;
 use crate::kinds::have_kinds;
 use ent_page::{Key, KeySet};
-use ent_value::{Kind, Refusal, Row};
+use ent_value::{Kind, MOST_ROWS, Refusal, Row};
 use std::alloc::{AllocError, Global};
 
 /// The keys of rows.
@@ -58,17 +58,17 @@ pub(crate) fn keys_with(
     ensures rows { let after = set.insert_all (rows_of kinds.now keys) rows.now in
         Gives (λ grown. rows_of kinds.now grown) result (bounded after after) }
     ensures hold { IfOk result (λ grown. HoldRows kinds.now grown) }
-    ensures limit { IfOk result (λ grown. set.len grown ≤ ROW_LIMIT) }
+    ensures limit { IfOk result (λ grown. set.len grown ≤ MOST_ROWS) }
 {
     let mut keys = keys;
     for row in rows {
-        if keys.len() > ROW_LIMIT {
+        if keys.len() > MOST_ROWS {
             return Err(Refusal::Fault(TableFull));
         }
         let key = Key::of(alloc, row.values())?;
         keys = keys.with(alloc, &key)?;
     }
-    if keys.len() > ROW_LIMIT {
+    if keys.len() > MOST_ROWS {
         return Err(Refusal::Fault(TableFull));
     }
     Ok(keys)

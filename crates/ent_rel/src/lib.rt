@@ -1,4 +1,8 @@
 //! Tables: finite sets of rows of stated kinds, and the changes of them.
+//!
+//! A caller may rely on the set equations: what a call answers is said of kinds and a set of rows, and of no order,
+//! page or key. A change makes a new table, and the one that it came from stays as it was; `TableFull` comes exactly
+//! where more rows would stand than a table holds.
 #![tactic(auto)]
 
 mod change;
@@ -10,6 +14,6 @@ mod laws;
 mod table;
 
 pub use change::Delta;
-pub use fault::{ROW_LIMIT, TableFull};
+pub use fault::TableFull;
 pub use laws::changes_by_row;
 pub use table::Table;

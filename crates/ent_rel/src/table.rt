@@ -10,15 +10,15 @@ ghost use Rattle.ent_rel.specs.Closure.{Computes, Changes, KeepsKinds};
 
 use crate::change::Delta;
 use crate::copies::{copies_where, images};
-use crate::fault::{ROW_LIMIT, TableFull};
+use crate::fault::TableFull;
 use crate::keys::{keys_of, keys_with, keys_without};
 use crate::kinds::{are_same_kinds, have_kinds};
 use ent_page::{KeySet, decode};
-use ent_value::{Kind, Refusal, Row, Sequence};
+use ent_value::{Kind, MOST_ROWS, Refusal, Row, Sequence};
 use std::alloc::{AllocError, Global};
 use std::marker::Model;
 
-/// A finite set of at most [`ROW_LIMIT`] rows, each of the table's kinds. Contracts see the kinds and the set.
+/// A finite set of at most [`MOST_ROWS`] rows, each of the table's kinds. Contracts see the kinds and the set.
 ///
 /// A table keeps its rows as keys in an ordered list of pages. Tables that come from one another share the pages that
 /// are the same in both.
@@ -50,14 +50,14 @@ impl Table {
         Table { kinds, keys }
     }
 
-    /// The table of these rows, of which doubles count once. `TableFull` where more than [`ROW_LIMIT`] are distinct.
+    /// The table of these rows, of which doubles count once. `TableFull` where more than [`MOST_ROWS`] are distinct.
     pub fn load(alloc: Global, kinds: Vec<Kind>, rows: Vec<Row>) -> Result<Self, Refusal<TableFull>>
         requires { All (λ row. kinds_of row ≡ kinds.items) rows.items }
         ensures { let rows = set.from_list {R = row_cmp} rows.items in
             Gives (λ table. table) result (bounded rows record { kinds = kinds.items; rows = rows }) }
     {
         let keys = KeySet::from_keys(alloc, keys_of(alloc, rows.as_slice())?)?;
-        if keys.len() > ROW_LIMIT {
+        if keys.len() > MOST_ROWS {
             return Err(Refusal::Fault(TableFull));
         }
         Ok(Table { kinds, keys })
@@ -74,7 +74,7 @@ impl Table {
     /// How many rows there are.
     pub fn len(&self) -> usize
         ensures len { result ≡ set.len self.now.rows }
-        ensures limit { result ≤ ROW_LIMIT }
+        ensures limit { result ≤ MOST_ROWS }
     {
         self.keys.len()
     }
@@ -95,7 +95,7 @@ impl Table {
     /// The rows in ascending order.
     pub fn rows(&self, alloc: Global) -> Result<Vec<Row>, AllocError>
         ensures rows { IfOk result (λ rows. rows.items ≡ set.ascending self.now.rows) }
-        ensures limit { IfOk result (λ rows. length rows.items ≤ ROW_LIMIT) }
+        ensures limit { IfOk result (λ rows. length rows.items ≤ MOST_ROWS) }
     {
         let mut rows = Vec::with_capacity(alloc, self.keys.len())?;
         let mut cursor = self.keys.cursor();
@@ -126,7 +126,7 @@ impl Table {
                 },
             ));
         }
-        if len >= ROW_LIMIT {
+        if len >= MOST_ROWS {
             return Err(Refusal::Fault(TableFull));
         }
         added.push(row.copy(alloc)?)?;
@@ -147,7 +147,8 @@ impl Table {
     ) -> Result<(u64, Delta), AllocError>
         requires { F.IsAlwaysCallable test }
         ensures change { (passes : List Cell → Bool) → Computes F.Fn test self.now.rows passes
-            → IfOk result (λ r. (r.0, changed_rows self.now.rows r.1.removed r.1.added) ≡ deletion self.now.rows passes) }
+            → IfOk result (λ r.
+            (r.0, changed_rows self.now.rows r.1.removed r.1.added) ≡ deletion self.now.rows passes) }
         ensures kinds { IfOk result (λ r. All (λ row. kinds_of row ≡ self.now.kinds) r.1.added) }
         ensures fits { IfOk result (λ r. IsOk (application self.now.rows r.1.removed r.1.added)) }
     {

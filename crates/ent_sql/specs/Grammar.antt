@@ -11,6 +11,8 @@ use Rattle.ent_sql.specs.declared.fault.SqlFault.{SqlFault}
 use Rattle.ent_sql.specs.declared.fault.SqlFault.TheVariants.{Text, Unexpected}
 use Rattle.ent_value.specs.declared.value.Kind.TheVariants as sorts
 use Rattle.ent_value.specs.declared.value.Kind.{Kind}
+use Rattle.ent_sql.specs.declared.tree.TheConstants.{MOST_TABLES, MOST_OPENING_ROWS, MOST_SCRIPTS}
+use Rattle.ent_sql.specs.declared.tree.TheConstants.{MOST_STATEMENTS, MOST_PARTS}
 use Rattle.ent_sql.specs.declared.tree.Column.{Column}
 use Rattle.ent_sql.specs.declared.tree.Create.{Create}
 use Rattle.ent_value.specs.declared.value.Value.TheVariants as values
@@ -76,7 +78,7 @@ create_at end ts = do
   ts ← word_at words.Table end ts
   name ← name_at end ts
   ts ← sign_at signs.Open end name.1
-  columns ← listed_at is_comma is_name column_at end 16 ts
+  columns ← listed_at is_comma is_name column_at end MOST_PARTS ts
   ts ← sign_at signs.Close end columns.1
   ts ← sign_at signs.Semicolon end ts
   Ok (record { name = name.0; columns = columns.0 }, ts)
@@ -121,7 +123,7 @@ row_at divides starts part end ts = do
   ts ← word_at words.Values end table.1
   let place = place_of end ts
   ts ← sign_at signs.Open end ts
-  values ← listed_at divides starts part end 16 ts
+  values ← listed_at divides starts part end MOST_PARTS ts
   ts ← sign_at signs.Close end values.1
   ts ← sign_at signs.Semicolon end ts
   Ok ((table.0, place, values.0), ts)
@@ -205,11 +207,11 @@ test_at end ts = do
 unfoldable pub items_at : ℕ → List Token → Read Items
 items_at end ts =
     if begins_with_sign signs.Star ts then Ok (All, drop 1 ts)
-    else (listed_at is_comma is_operand operand_at end 16 ts >>= λ items. Ok (Listed items.0, items.1))
+    else (listed_at is_comma is_operand operand_at end MOST_PARTS ts >>= λ items. Ok (Listed items.0, items.1))
 
 -- [ WHERE test { AND test } ]
 unfoldable pub tests_at : ℕ → List Token → Read (List Test)
-tests_at end ts = if begins_with_word words.Where ts then listed_at is_and is_operand test_at end 16 (drop 1 ts) else Ok ([], ts)
+tests_at end ts = if begins_with_word words.Where ts then listed_at is_and is_operand test_at end MOST_PARTS (drop 1 ts) else Ok ([], ts)
 
 -- SELECT items FROM name [ WHERE tests ] ";"
 unfoldable pub select_at : ℕ → List Token → Read Select
@@ -246,7 +248,7 @@ update_at end ts = do
   ts ← word_at words.Update end ts
   table ← name_at end ts
   ts ← word_at words.Set end table.1
-  assignments ← listed_at is_comma is_name assignment_at end 16 ts
+  assignments ← listed_at is_comma is_name assignment_at end MOST_PARTS ts
   tests ← tests_at end assignments.1
   ts ← sign_at signs.Semicolon end tests.1
   Ok (record { table = table.0; assignments = assignments.0; tests = tests.0 }, ts)
@@ -286,7 +288,7 @@ script_at end ts = do
   ts ← word_at words.Begin end ts
   ts ← word_at words.Transaction end ts
   ts ← sign_at signs.Semicolon end ts
-  statements ← many_at is_statement statement_at end 64 ts
+  statements ← many_at is_statement statement_at end MOST_STATEMENTS ts
   ended ← end_at end statements.1
   ts ← sign_at signs.Semicolon end ended.1
   Ok (record { statements = statements.0; end = ended.0 }, ts)
@@ -303,9 +305,9 @@ is_begin kind = is_word words.Begin kind
 -- { create } { opening row } { script }
 unfoldable pub input_of : ℕ → List Token → Result Input SqlFault
 input_of end ts = do
-  tables ← many_at is_create create_at end 64 ts
-  rows ← many_at is_insert opening_row_at end 65536 tables.1
-  scripts ← many_at is_begin script_at end 10000 rows.1
+  tables ← many_at is_create create_at end MOST_TABLES ts
+  rows ← many_at is_insert opening_row_at end MOST_OPENING_ROWS tables.1
+  scripts ← many_at is_begin script_at end MOST_SCRIPTS rows.1
   if length scripts.1 == 0 then Ok (record { opening = record { tables = tables.0; rows = rows.0 }; scripts = scripts.0 }) else Err (Unexpected (place_of end scripts.1))
 
 abbrev pub with_tokens : {A : Type 0} → Result (List Token) TextFault → (List Token → Result A SqlFault) → Result A SqlFault

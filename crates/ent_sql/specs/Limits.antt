@@ -1,5 +1,7 @@
 -- How many there may be of each thing in an input.
 use Rattle.std.specs.Prelude.{ℕ, ◌≤◌, List, [], ◌∷◌, length}
+use Rattle.ent_sql.specs.declared.tree.TheConstants.{MOST_TABLES, MOST_OPENING_ROWS, MOST_SCRIPTS}
+use Rattle.ent_sql.specs.declared.tree.TheConstants.{MOST_STATEMENTS, MOST_PARTS}
 use Rattle.ent_sql.specs.declared.tree.Create.{Create}
 use Rattle.ent_sql.specs.declared.tree.OpeningRow.{OpeningRow}
 use Rattle.ent_sql.specs.declared.tree.Insert.{Insert}
@@ -22,34 +24,34 @@ Each holds (x ∷ xs) = holds x × Each holds xs
 abbrev pub AtMost : {A : Type 0} → ℕ → (A → Type 0) → List A → Type 0
 AtMost limit holds xs = (length xs ≤ limit) × Each holds xs
 
--- 16 columns at most
+-- no more columns than there may be
 abbrev pub FewColumns : Create → Type 0
-FewColumns c = length c.columns ≤ 16
+FewColumns c = length c.columns ≤ MOST_PARTS
 
--- 16 literals at most
+-- no more literals
 abbrev pub FewLiterals : OpeningRow → Type 0
-FewLiterals r = length r.values ≤ 16
+FewLiterals r = length r.values ≤ MOST_PARTS
 
--- 16 values at most
+-- no more values
 abbrev pub FewValues : Insert → Type 0
-FewValues i = length i.values ≤ 16
+FewValues i = length i.values ≤ MOST_PARTS
 
--- 16 items at most
+-- no more items
 abbrev pub FewItems : Items → Type 0
 FewItems All = Unit {0}
-FewItems (Listed xs) = length xs ≤ 16
+FewItems (Listed xs) = length xs ≤ MOST_PARTS
 
--- 16 items and 16 conditions at most
+-- no more items, and no more conditions
 abbrev pub FewParts : Select → Type 0
-FewParts s = FewItems s.items × (length s.tests ≤ 16)
+FewParts s = FewItems s.items × (length s.tests ≤ MOST_PARTS)
 
--- 16 conditions at most
+-- no more conditions
 abbrev pub FewTests : Delete → Type 0
-FewTests d = length d.tests ≤ 16
+FewTests d = length d.tests ≤ MOST_PARTS
 
--- 16 assignments and 16 conditions at most
+-- no more assignments, and no more conditions
 abbrev pub FewAssignments : Update → Type 0
-FewAssignments u = (length u.assignments ≤ 16) × (length u.tests ≤ 16)
+FewAssignments u = (length u.assignments ≤ MOST_PARTS) × (length u.tests ≤ MOST_PARTS)
 
 abbrev pub IsShort : Statement → Type 0
 IsShort (statements.Insert i) = FewValues i
@@ -58,10 +60,13 @@ IsShort (statements.Update u) = FewAssignments u
 IsShort (statements.Set s) = Unit {0}
 IsShort (statements.Select s) = FewParts s
 
--- 64 statements at most before the end
+-- no more statements before the end
 abbrev pub FewStatements : Script → Type 0
-FewStatements s = AtMost 64 IsShort s.statements
+FewStatements s = AtMost MOST_STATEMENTS IsShort s.statements
 
--- 64 tables, 65,536 opening rows and 10,000 scripts at most
+-- no more tables, opening rows and scripts
 abbrev pub WithinLimits : Input → Type 0
-WithinLimits i = AtMost 64 FewColumns i.opening.tables × AtMost 65536 FewLiterals i.opening.rows × AtMost 10000 FewStatements i.scripts
+WithinLimits i =
+    AtMost MOST_TABLES FewColumns i.opening.tables
+    × AtMost MOST_OPENING_ROWS FewLiterals i.opening.rows
+    × AtMost MOST_SCRIPTS FewStatements i.scripts

@@ -26,7 +26,8 @@ pub fn parse_input(alloc: Global, text: &str) -> Result<Input, Refusal<SqlFault>
     ensures meaning { Gives (λ input. input) result (reading text.now) }
     ensures said { IfOk result (λ input. Says text.now input) }
     ensures nothing_said { (fault : SqlFault) → result ≡ Err (Fault fault) → SaysNothing text.now }
-    ensures token_fault { (fault : TextFault) → result ≡ Err (Fault (SqlFault.Text fault)) → tokens_of text.now ≡ Err fault }
+    ensures token_fault { (fault : TextFault)
+        → result ≡ Err (Fault (SqlFault.Text fault)) → tokens_of text.now ≡ Err fault }
     ensures unexpected { (place : ℕ) → result ≡ Err (Fault (SqlFault.Unexpected place)) → CantFollow text.now place }
     ensures too_many { (place : ℕ) → result ≡ Err (Fault (SqlFault.TooMany place)) → IsTooMuch text.now place }
 {
@@ -42,9 +43,12 @@ pub fn parse_input(alloc: Global, text: &str) -> Result<Input, Refusal<SqlFault>
 pub fn reading_is_exact()
     ensures input { (text : List ℕ) (input : Input) → (reading text ≡ Ok input) ↔ Says text input }
     ensures single { (text : List ℕ) (one other : Input) → Says text one → Says text other → one ≡ other }
-    ensures token_fault { (text : List ℕ) (fault : TextFault) → (reading text ≡ Err (SqlFault.Text fault)) ↔ (tokens_of text ≡ Err fault) }
-    ensures unexpected { (text : List ℕ) (place : ℕ) → (reading text ≡ Err (SqlFault.Unexpected place)) ↔ CantFollow text place }
-    ensures too_many { (text : List ℕ) (place : ℕ) → (reading text ≡ Err (SqlFault.TooMany place)) ↔ IsTooMuch text place }
+    ensures token_fault { (text : List ℕ) (fault : TextFault)
+        → (reading text ≡ Err (SqlFault.Text fault)) ↔ (tokens_of text ≡ Err fault) }
+    ensures unexpected { (text : List ℕ) (place : ℕ)
+        → (reading text ≡ Err (SqlFault.Unexpected place)) ↔ CantFollow text place }
+    ensures too_many { (text : List ℕ) (place : ℕ)
+        → (reading text ≡ Err (SqlFault.TooMany place)) ↔ IsTooMuch text place }
 {}
 
 impl Item for Create {
@@ -57,6 +61,7 @@ impl Item for Create {
     ghost reads = { create_at };
 
     fn is_divider(tokens: &[Token]) -> bool {
+        // nothing divides them, whatever comes
         let _ = tokens;
         false
     }
@@ -84,6 +89,7 @@ impl Item for OpeningRow {
     ghost reads = { opening_row_at };
 
     fn is_divider(tokens: &[Token]) -> bool {
+        // nothing divides them, whatever comes
         let _ = tokens;
         false
     }
@@ -111,6 +117,7 @@ impl Item for Script {
     ghost reads = { script_at };
 
     fn is_divider(tokens: &[Token]) -> bool {
+        // nothing divides them, whatever comes
         let _ = tokens;
         false
     }

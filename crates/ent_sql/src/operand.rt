@@ -2,7 +2,8 @@
 ghost use Rattle.std.specs.Prelude.{◌≡◌};
 ghost use Rattle.ent_value.specs.Refusal.{Gives};
 ghost use Rattle.ent_sql.specs.Front.{begins, is_name};
-ghost use Rattle.ent_sql.specs.Grammar.{literal_at, negative_at, variable_at, value_at, operand_at, comparison_at, comparison_of, test_at, is_literal, is_variable, is_value, is_operand};
+ghost use Rattle.ent_sql.specs.Grammar.{literal_at, negative_at, variable_at, value_at, operand_at, comparison_at};
+ghost use Rattle.ent_sql.specs.Grammar.{comparison_of, test_at, is_literal, is_variable, is_value, is_operand};
 
 use crate::fault::SqlFault;
 use crate::front::{begins_with_sign, begins_with_word, name_at, unexpected};

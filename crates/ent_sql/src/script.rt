@@ -50,6 +50,7 @@ impl Item for Statement {
     ghost reads = { statement_at };
 
     fn is_divider(tokens: &[Token]) -> bool {
+        // nothing divides them, whatever comes
         let _ = tokens;
         false
     }

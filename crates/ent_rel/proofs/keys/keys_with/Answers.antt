@@ -10,8 +10,8 @@ use Rattle.ent_rel.proofs.Keyed.{rows_insert, hold_insert, no_more, from_here, l
 use Rattle.ent_rel.proofs.Meanings.{bounded_within}
 use Rattle.ent_rel.proofs.keys.keys_with.Goals as goal
 
-pub returns-then-len-gt-ROW_LIMIT-clause-rows : goal.returns-then-len-gt-ROW_LIMIT-clause-rows
-returns-then-len-gt-ROW_LIMIT-clause-rows c =
+pub returns-then-len-gt-MOST_ROWS-clause-rows : goal.returns-then-len-gt-MOST_ROWS-clause-rows
+returns-then-len-gt-MOST_ROWS-clause-rows c =
     ap (λ s. bounded s s) (sym c.loop-row.invariant.rows) ∙ no_more c.args.kinds.now c.loop-row.keys (drop c.loop-row.row-index c.args.rows.now) c.loop-row.invariant.hold (omega arith)
 
 pub loop-row-preserved : goal.loop-row-preserved
@@ -29,8 +29,8 @@ loop-row-preserved c =
       hold = subst (λ s. HoldRows kinds s) (sym made) (hold_insert kinds c.loop-row.keys x same fits c.loop-row.invariant.hold);
     }
 
-pub returns-then-len-gt-ROW_LIMIT-2-clause-rows : goal.returns-then-len-gt-ROW_LIMIT-2-clause-rows
-returns-then-len-gt-ROW_LIMIT-2-clause-rows c =
+pub returns-then-len-gt-MOST_ROWS-2-clause-rows : goal.returns-then-len-gt-MOST_ROWS-2-clause-rows
+returns-then-len-gt-MOST_ROWS-2-clause-rows c =
     ap (λ s. bounded s s) (sym c.loop-row.invariant.rows) ∙ no_more c.args.kinds.now c.loop-row.keys (drop c.loop-row.row-index c.args.rows.now) c.loop-row.invariant.hold (omega arith)
 
 pub returns-clause-rows : goal.returns-clause-rows

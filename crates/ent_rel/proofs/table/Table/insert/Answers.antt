@@ -7,8 +7,8 @@ returns-then-contains-clause-change c =
     insertion_there _ _ (sym c.contains.ensures ∙ c.if-contains.true) (omega arith)
     ∙ ap (λ s. Ok (0, s)) (rw (c.new.ensures, c.new-added.ensures) (sym (changed_none _)))
 
-pub returns-then-len-ge-ROW_LIMIT-clause-change : goal.returns-then-len-ge-ROW_LIMIT-clause-change
-returns-then-len-ge-ROW_LIMIT-clause-change c = insertion_full _ _ (sym c.contains.ensures ∙ c.if-contains.false) (omega arith)
+pub returns-then-len-ge-MOST_ROWS-clause-change : goal.returns-then-len-ge-MOST_ROWS-clause-change
+returns-then-len-ge-MOST_ROWS-clause-change c = insertion_full _ _ (sym c.contains.ensures ∙ c.if-contains.false) (omega arith)
 
 pub returns-clause-change : goal.returns-clause-change
 returns-clause-change c =

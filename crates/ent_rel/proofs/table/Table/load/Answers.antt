@@ -7,8 +7,8 @@ use Rattle.ent_rel.proofs.Keyed.{rows_load, hold_load, len_rows}
 use Rattle.ent_rel.proofs.Meanings.{bounded_within, bounded_beyond}
 use Rattle.ent_rel.proofs.table.Table.load.Goals as goal
 
-pub returns-then-len-gt-ROW_LIMIT : goal.returns-then-len-gt-ROW_LIMIT
-returns-then-len-gt-ROW_LIMIT c =
+pub returns-then-len-gt-MOST_ROWS : goal.returns-then-len-gt-MOST_ROWS
+returns-then-len-gt-MOST_ROWS c =
     let kinds = c.args.kinds.items in
     let rows = c.args.rows.items in
     let same = c.as_slice.ensures.value in
