@@ -1,4 +1,8 @@
 //! Rows as keys: bytes whose order is the order of rows; and sets of keys in pages.
+//!
+//! A key is read back as the row that it was made of, and a page that stands in a set is never changed. A caller may
+//! rely on equations alone: those of a [`Page`] speak of a list of keys, those of a [`KeySet`] of a finite set of them,
+//! whatever its pages.
 #![tactic(auto)]
 
 mod key;
