@@ -2,7 +2,7 @@
 use Rattle.std.specs.Prelude.{List, [], ◌∷◌, map, if◌then◌else◌}
 use Rattle.std.specs.Arc.{arc_value}
 use Rattle.ent_set.specs.Sets as set
-use Rattle.ent_semantics.specs.Database.{Name, Database, same_name}
+use Rattle.ent_plain_semantics.specs.Database.{Name, Database, same_name}
 use Rattle.ent_book.specs.declared.book.NamedTable.{NamedTable}
 
 abbrev pub table_names : List NamedTable → List Name

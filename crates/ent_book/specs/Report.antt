@@ -7,11 +7,11 @@ use Rattle.std.specs.Cmp.Lexicographic.{slice_cmp}
 use Rattle.ent_set.specs.Sets as set
 use Rattle.ent_value.specs.Print.{value_text, row_text}
 use Rattle.ent_value.specs.declared.value.Value.{Value}
-use Rattle.ent_semantics.specs.declared.answer.Answer.{Answer}
-use Rattle.ent_semantics.specs.declared.answer.Answer.TheVariants as answers
-use Rattle.ent_semantics.specs.declared.answer.Failure.{Failure}
-use Rattle.ent_semantics.specs.declared.answer.Failure.TheVariants as failures
-use Rattle.ent_semantics.specs.Database.{Name, Rows, Database}
+use Rattle.ent_plain_semantics.specs.declared.answer.Answer.{Answer}
+use Rattle.ent_plain_semantics.specs.declared.answer.Answer.TheVariants as answers
+use Rattle.ent_plain_semantics.specs.declared.answer.Failure.{Failure}
+use Rattle.ent_plain_semantics.specs.declared.answer.Failure.TheVariants as failures
+use Rattle.ent_plain_semantics.specs.Database.{Name, Rows, Database}
 use Rattle.ent_book.specs.declared.book.Fate.{Fate}
 use Rattle.ent_book.specs.declared.book.Fate.TheVariants as fates
 

@@ -4,7 +4,7 @@ ghost use Rattle.std.specs.Fmt.{decimal};
 ghost use Rattle.ent_book.specs.Report.{row_line, failure_text, after_text, fate_text, answer_text, rows_text};
 
 use crate::book::Fate;
-use ent_semantics::{Answer, Failure};
+use ent_plain_semantics::{Answer, Failure};
 use ent_value::{Row, print_row, print_value};
 use std::alloc::{AllocError, Global};
 

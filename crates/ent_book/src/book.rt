@@ -1,6 +1,6 @@
 //! What a run of scripts came to.
 use ent_rel::Table;
-use ent_semantics::{Answer, Failure};
+use ent_plain_semantics::{Answer, Failure};
 use ent_value::{Name, Sequence};
 use std::sync::Arc;
 

@@ -9,7 +9,7 @@ ghost use Rattle.ent_book.specs.Text.{book_text};
 use crate::append::{append_answer, append_fate, append_number, append_row_line};
 use crate::book::{Book, Fate, NamedTable};
 use ent_rel::Table;
-use ent_semantics::Answer;
+use ent_plain_semantics::Answer;
 use ent_value::{Name, Row};
 use std::alloc::{AllocError, Global};
 

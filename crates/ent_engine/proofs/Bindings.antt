@@ -2,7 +2,7 @@
 use Rattle.std.proofs.Common.{◌≡◌, ℕ, ◌+◌, ◌<◌, List, [], ◌∷◌, ◌++◌, length, take, get_or, cond, Option, Some, refl, sym, ap, ◌∙◌}
 use Rattle.std.proofs.lemmas.List.{take_more}
 use Rattle.ent_value.specs.declared.value.Value.{Value}
-use Rattle.ent_semantics.specs.Database.{Name, Environment, same_name, nothing_bound, with_value}
+use Rattle.ent_plain_semantics.specs.Database.{Name, Environment, same_name, nothing_bound, with_value}
 use Rattle.ent_engine.specs.declared.environment.Binding.{Binding}
 use Rattle.ent_engine.specs.Environment.{with_bindings}
 

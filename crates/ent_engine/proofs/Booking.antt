@@ -7,30 +7,30 @@ use Rattle.std.specs.Arc.{arc_value}
 use Rattle.std.proofs.lemmas.List.Elements.{All-from_recursion}
 use Rattle.ent_rel.specs.Relation.{Relation}
 use Rattle.ent_value.specs.declared.value.Kind.{Kind}
-use Rattle.ent_sql.specs.declared.tree.Create.{Create}
-use Rattle.ent_sql.specs.declared.tree.Input.{Input}
-use Rattle.ent_sql.specs.declared.tree.Script.{Script}
-use Rattle.ent_semantics.specs.Database.{Name, Rows, same_name}
-use Rattle.ent_form.specs.declared.catalogue.TableSchema.{TableSchema}
-use Rattle.ent_form.specs.declared.plain.Plain.{Plain}
-use Rattle.ent_form.specs.Catalogue.{schemas_of, names_of}
-use Rattle.ent_form.specs.FirstFault.{first_of, script_fault}
-use Rattle.ent_form.specs.Plain.{plain_script}
-use Rattle.ent_form.specs.Kinds.{Bound, none_bound, bound_after}
-use Rattle.ent_form.specs.PlainMeaning.{Fits, AllFit, database_of, kinds_bound, plain_bound_after, schema_kinds}
+use Rattle.ent_plain_sql.specs.declared.tree.Create.{Create}
+use Rattle.ent_plain_sql.specs.declared.tree.Input.{Input}
+use Rattle.ent_plain_sql.specs.declared.tree.Script.{Script}
+use Rattle.ent_plain_semantics.specs.Database.{Name, Rows, same_name}
+use Rattle.ent_plain_form.specs.declared.catalogue.TableSchema.{TableSchema}
+use Rattle.ent_plain_form.specs.declared.plain.Plain.{Plain}
+use Rattle.ent_plain_form.specs.Catalogue.{schemas_of, names_of}
+use Rattle.ent_plain_form.specs.FirstFault.{first_of, script_fault}
+use Rattle.ent_plain_form.specs.Plain.{plain_script}
+use Rattle.ent_plain_form.specs.Kinds.{Bound, none_bound, bound_after}
+use Rattle.ent_plain_form.specs.PlainMeaning.{Fits, AllFit, database_of, kinds_bound, plain_bound_after, schema_kinds}
 use Rattle.ent_book.specs.declared.book.NamedTable.{NamedTable}
 use Rattle.ent_book.specs.Book.{table_names, tables_database}
 use Rattle.ent_engine.specs.Tables.{rows_in, kinds_in}
 use Rattle.std.specs.Prelude.{IfOk}
-use Rattle.ent_sql.specs.declared.tree.Opening.{Opening}
-use Rattle.ent_sql.specs.declared.tree.Statement.{Statement}
-use Rattle.ent_semantics.specs.declared.answer.Failure.{Failure}
-use Rattle.ent_semantics.specs.Database.{Environment, opening_database}
-use Rattle.ent_semantics.specs.Statement.{statement_meaning}
-use Rattle.ent_form.specs.declared.plain.PlainStatement.{PlainStatement}
-use Rattle.ent_form.specs.FirstFault.{declarations_fault, opening_fault, opening_row_fault, statement_fault}
-use Rattle.ent_form.specs.Plain.{plain_statement}
-use Rattle.ent_form.specs.PlainMeaning.{PlainEffect, plain_meaning, effect_of, opening_tables, AreOfKinds}
+use Rattle.ent_plain_sql.specs.declared.tree.Opening.{Opening}
+use Rattle.ent_plain_sql.specs.declared.tree.Statement.{Statement}
+use Rattle.ent_plain_semantics.specs.declared.answer.Failure.{Failure}
+use Rattle.ent_plain_semantics.specs.Database.{Environment, opening_database}
+use Rattle.ent_plain_semantics.specs.Statement.{statement_meaning}
+use Rattle.ent_plain_form.specs.declared.plain.PlainStatement.{PlainStatement}
+use Rattle.ent_plain_form.specs.FirstFault.{declarations_fault, opening_fault, opening_row_fault, statement_fault}
+use Rattle.ent_plain_form.specs.Plain.{plain_statement}
+use Rattle.ent_plain_form.specs.PlainMeaning.{PlainEffect, plain_meaning, effect_of, opening_tables, AreOfKinds}
 use Rattle.ent_book.specs.declared.book.Fate.{Fate}
 use Rattle.ent_engine.specs.Outcome.{outcomes, outcome_of}
 use Rattle.ent_engine.specs.Reading.{form_fault}

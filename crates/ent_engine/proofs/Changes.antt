@@ -11,14 +11,14 @@ use Rattle.ent_value.specs.declared.refusal.Refusal.{Refusal}
 use Rattle.ent_value.specs.Refusal.{◌>>=◌, Gives}
 use Rattle.ent_rel.specs.Relation.{RowSet, full, bounded}
 use Rattle.ent_value.specs.declared.limits.TheConstants.{MOST_ROWS}
-use Rattle.ent_sql.specs.declared.tree.Expression.{Expression}
-use Rattle.ent_semantics.specs.declared.answer.Failure.{Failure}
-use Rattle.ent_semantics.specs.Database.{Environment}
-use Rattle.ent_form.specs.declared.plain.PlainOperand.{PlainOperand}
-use Rattle.ent_form.specs.PlainMeaning.{plain_image, plain_kind, kind_with, kinds_bound}
+use Rattle.ent_plain_sql.specs.declared.tree.Expression.{Expression}
+use Rattle.ent_plain_semantics.specs.declared.answer.Failure.{Failure}
+use Rattle.ent_plain_semantics.specs.Database.{Environment}
+use Rattle.ent_plain_form.specs.declared.plain.PlainOperand.{PlainOperand}
+use Rattle.ent_plain_form.specs.PlainMeaning.{plain_image, plain_kind, kind_with, kinds_bound}
 use Rattle.ent_engine.specs.Change.{or_full, image_or_overflow}
 use Rattle.ent_engine.specs.Evaluation.{there_or_overflow}
-use Rattle.ent_form.specs.KnownKinds.{kinds_of_image}
+use Rattle.ent_plain_form.specs.KnownKinds.{kinds_of_image}
 
 -- what there is, from an answer that isn't an overflow
 pub there_is : {A : Type 0} (meant : Option A) (x : A) → there_or_overflow meant ≡ Ok x → meant ≡ Some x

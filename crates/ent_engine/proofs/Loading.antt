@@ -20,13 +20,13 @@ use Rattle.ent_rel.specs.declared.fault.TableFull.{TableFull}
 use Rattle.ent_value.specs.Refusal.{Refuses}
 use Rattle.ent_value.specs.declared.refusal.Refusal.{Refusal}
 use Rattle.ent_value.specs.declared.refusal.Refusal.TheVariants.{Memory, Fault}
-use Rattle.ent_sql.specs.declared.tree.OpeningRow.{OpeningRow}
-use Rattle.ent_sql.specs.declared.tree.Opening.{Opening}
-use Rattle.ent_semantics.specs.Database.{Name, same_name, row_of}
-use Rattle.ent_form.specs.declared.catalogue.TableSchema.{TableSchema}
-use Rattle.ent_form.specs.Catalogue.{schemas_of, names_of}
-use Rattle.ent_form.specs.Plain.{rows_named}
-use Rattle.ent_form.specs.PlainMeaning.{schema_kinds, opening_tables}
+use Rattle.ent_plain_sql.specs.declared.tree.OpeningRow.{OpeningRow}
+use Rattle.ent_plain_sql.specs.declared.tree.Opening.{Opening}
+use Rattle.ent_plain_semantics.specs.Database.{Name, same_name, row_of}
+use Rattle.ent_plain_form.specs.declared.catalogue.TableSchema.{TableSchema}
+use Rattle.ent_plain_form.specs.Catalogue.{schemas_of, names_of}
+use Rattle.ent_plain_form.specs.Plain.{rows_named}
+use Rattle.ent_plain_form.specs.PlainMeaning.{schema_kinds, opening_tables}
 use Rattle.ent_engine.proofs.Meanings.{map_at}
 
 got : {A : Type 0} (xs : List A) (i : ℕ) (x : A) → slice_get xs i ≡ Some x → (i < length xs) × (x ≡ get_or xs i x)

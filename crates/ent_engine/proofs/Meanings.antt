@@ -13,20 +13,20 @@ use Rattle.ent_value.specs.declared.refusal.Refusal.TheVariants as refusals
 use Rattle.ent_value.specs.Refusal.{◌>>=◌, Gives, Refuses}
 use Rattle.ent_rel.specs.Relation.{Relation, RowSet, full, bounded}
 use Rattle.ent_rel.specs.Change.{deletion, replacement, images_of}
-use Rattle.ent_sql.specs.declared.tree.Expression.{Expression}
-use Rattle.ent_semantics.specs.declared.answer.Answer.{Answer}
-use Rattle.ent_semantics.specs.declared.answer.Answer.TheVariants as answers
-use Rattle.ent_semantics.specs.declared.answer.Failure.{Failure}
-use Rattle.ent_semantics.specs.declared.answer.Failure.TheVariants.{Overflow, TableFull}
-use Rattle.ent_semantics.specs.Database.{Environment}
-use Rattle.ent_semantics.specs.Statement.{or_overflow}
-use Rattle.ent_form.specs.declared.plain.PlainOperand.{PlainOperand}
-use Rattle.ent_form.specs.declared.plain.PlainTest.{PlainTest}
-use Rattle.ent_form.specs.declared.plain.PlainValue.{PlainValue}
-use Rattle.ent_form.specs.declared.plain.PlainStatement.{PlainStatement}
-use Rattle.ent_form.specs.declared.plain.PlainStatement.TheVariants as resolved
-use Rattle.ent_form.specs.PlainMeaning.{PlainEffect, plain_known_value, plain_meets, plain_image, plain_meaning}
-use Rattle.ent_form.specs.PlainMeaning.{plain_selection, table_rows}
+use Rattle.ent_plain_sql.specs.declared.tree.Expression.{Expression}
+use Rattle.ent_plain_semantics.specs.declared.answer.Answer.{Answer}
+use Rattle.ent_plain_semantics.specs.declared.answer.Answer.TheVariants as answers
+use Rattle.ent_plain_semantics.specs.declared.answer.Failure.{Failure}
+use Rattle.ent_plain_semantics.specs.declared.answer.Failure.TheVariants.{Overflow, TableFull}
+use Rattle.ent_plain_semantics.specs.Database.{Environment}
+use Rattle.ent_plain_semantics.specs.Statement.{or_overflow}
+use Rattle.ent_plain_form.specs.declared.plain.PlainOperand.{PlainOperand}
+use Rattle.ent_plain_form.specs.declared.plain.PlainTest.{PlainTest}
+use Rattle.ent_plain_form.specs.declared.plain.PlainValue.{PlainValue}
+use Rattle.ent_plain_form.specs.declared.plain.PlainStatement.{PlainStatement}
+use Rattle.ent_plain_form.specs.declared.plain.PlainStatement.TheVariants as resolved
+use Rattle.ent_plain_form.specs.PlainMeaning.{PlainEffect, plain_known_value, plain_meets, plain_image, plain_meaning}
+use Rattle.ent_plain_form.specs.PlainMeaning.{plain_selection, table_rows}
 use Rattle.ent_engine.specs.Change.{or_full, insertion_of, image_or_overflow, replacement_of}
 use Rattle.ent_engine.specs.Tables.{rows_in, kinds_in, effect}
 

@@ -2,15 +2,15 @@
 use Rattle.std.proofs.Common.{◌≡◌, ℕ, ◌+◌, List, [], ◌∷◌, Option, Some, None, Result, Ok, Err, refl, sym, ◌∙◌, ap, subst}
 use Rattle.std.specs.Prelude.{IsSome}
 use Rattle.std.specs.Option.{option_map}
-use Rattle.ent_sql.specs.declared.tree.Create.{Create}
-use Rattle.ent_sql.specs.declared.tree.End.{End}
-use Rattle.ent_sql.specs.declared.tree.End.TheVariants as ends
-use Rattle.ent_sql.specs.declared.tree.Script.{Script}
-use Rattle.ent_sql.specs.declared.tree.Statement.{Statement}
-use Rattle.ent_semantics.specs.declared.answer.Failure.{Failure}
-use Rattle.ent_semantics.specs.Database.{Database, Environment, nothing_bound}
-use Rattle.ent_semantics.specs.Statement.{Effect, statement_meaning}
-use Rattle.ent_semantics.specs.Serial.{Run, answered_first, after, ended, statements_run}
+use Rattle.ent_plain_sql.specs.declared.tree.Create.{Create}
+use Rattle.ent_plain_sql.specs.declared.tree.End.{End}
+use Rattle.ent_plain_sql.specs.declared.tree.End.TheVariants as ends
+use Rattle.ent_plain_sql.specs.declared.tree.Script.{Script}
+use Rattle.ent_plain_sql.specs.declared.tree.Statement.{Statement}
+use Rattle.ent_plain_semantics.specs.declared.answer.Failure.{Failure}
+use Rattle.ent_plain_semantics.specs.Database.{Database, Environment, nothing_bound}
+use Rattle.ent_plain_semantics.specs.Statement.{Effect, statement_meaning}
+use Rattle.ent_plain_semantics.specs.Serial.{Run, answered_first, after, ended, statements_run}
 use Rattle.ent_engine.specs.Fates.{FailsBy, here, later, HaveFates}
 use Rattle.ent_engine.specs.Outcome.{failure_behind, failure_of, fated, outcomes}
 

@@ -2,12 +2,12 @@
 use Rattle.std.proofs.Common.{◌≡◌, ℕ, ◌+◌, List, [], ◌∷◌, ◌++◌, Result, Ok, Err, refl, sym, ap, ◌∙◌, append_assoc}
 use Rattle.std.specs.Prelude.{IsOk}
 use Rattle.ent_rel.specs.Relation.{Relation}
-use Rattle.ent_sql.specs.declared.tree.End.{End}
-use Rattle.ent_sql.specs.declared.tree.End.TheVariants.{Commit, Rollback}
-use Rattle.ent_semantics.specs.declared.answer.Answer.{Answer}
-use Rattle.ent_semantics.specs.declared.answer.Failure.{Failure}
-use Rattle.ent_semantics.specs.Database.{Rows, Environment}
-use Rattle.ent_form.specs.declared.plain.PlainStatement.{PlainStatement}
+use Rattle.ent_plain_sql.specs.declared.tree.End.{End}
+use Rattle.ent_plain_sql.specs.declared.tree.End.TheVariants.{Commit, Rollback}
+use Rattle.ent_plain_semantics.specs.declared.answer.Answer.{Answer}
+use Rattle.ent_plain_semantics.specs.declared.answer.Failure.{Failure}
+use Rattle.ent_plain_semantics.specs.Database.{Rows, Environment}
+use Rattle.ent_plain_form.specs.declared.plain.PlainStatement.{PlainStatement}
 use Rattle.ent_book.specs.declared.book.Fate.{Fate}
 use Rattle.ent_book.specs.declared.book.Fate.TheVariants.{Committed, RolledBack, Failed}
 use Rattle.ent_engine.specs.Tables.{PlainRun, PlainOutcome, answered, with_plain_fate, plain_run, plain_fated, rows_in, run_of}

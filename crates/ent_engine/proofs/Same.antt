@@ -2,21 +2,21 @@
 use Rattle.std.proofs.Common.{◌≡◌, ℕ, ◌+◌, List, [], ◌∷◌, map, Option, Some, None, Result, Ok, Err, refl, sym, ap, ◌∙◌, subst}
 use Rattle.std.specs.Option.{option_map}
 use Rattle.ent_value.specs.declared.value.Kind.{Kind}
-use Rattle.ent_sql.specs.declared.tree.Create.{Create}
-use Rattle.ent_sql.specs.declared.tree.End.{End}
-use Rattle.ent_sql.specs.declared.tree.End.TheVariants.{Commit, Rollback}
-use Rattle.ent_sql.specs.declared.tree.Script.{Script}
-use Rattle.ent_sql.specs.declared.tree.Statement.{Statement}
-use Rattle.ent_semantics.specs.declared.answer.Answer.{Answer}
-use Rattle.ent_semantics.specs.declared.answer.Failure.{Failure}
-use Rattle.ent_semantics.specs.Database.{Name, Rows, Environment, nothing_bound}
-use Rattle.ent_semantics.specs.Statement.{statement_meaning}
-use Rattle.ent_semantics.specs.Serial.{Run, statements_run, ended, answered_first}
-use Rattle.ent_form.specs.declared.catalogue.TableSchema.{TableSchema}
-use Rattle.ent_form.specs.FirstFault.{Check, ◌before◌, first_of, statement_fault, statements_fault, script_fault}
-use Rattle.ent_form.specs.Kinds.{Bound, none_bound, bound_after}
-use Rattle.ent_form.specs.Plain.{plain_statement, plain_script}
-use Rattle.ent_form.specs.PlainMeaning.{PlainEffect, plain_meaning, database_of, effect_of, kinds_bound, plain_bound_after, Fits, AllFit, AreOfKinds}
+use Rattle.ent_plain_sql.specs.declared.tree.Create.{Create}
+use Rattle.ent_plain_sql.specs.declared.tree.End.{End}
+use Rattle.ent_plain_sql.specs.declared.tree.End.TheVariants.{Commit, Rollback}
+use Rattle.ent_plain_sql.specs.declared.tree.Script.{Script}
+use Rattle.ent_plain_sql.specs.declared.tree.Statement.{Statement}
+use Rattle.ent_plain_semantics.specs.declared.answer.Answer.{Answer}
+use Rattle.ent_plain_semantics.specs.declared.answer.Failure.{Failure}
+use Rattle.ent_plain_semantics.specs.Database.{Name, Rows, Environment, nothing_bound}
+use Rattle.ent_plain_semantics.specs.Statement.{statement_meaning}
+use Rattle.ent_plain_semantics.specs.Serial.{Run, statements_run, ended, answered_first}
+use Rattle.ent_plain_form.specs.declared.catalogue.TableSchema.{TableSchema}
+use Rattle.ent_plain_form.specs.FirstFault.{Check, ◌before◌, first_of, statement_fault, statements_fault, script_fault}
+use Rattle.ent_plain_form.specs.Kinds.{Bound, none_bound, bound_after}
+use Rattle.ent_plain_form.specs.Plain.{plain_statement, plain_script}
+use Rattle.ent_plain_form.specs.PlainMeaning.{PlainEffect, plain_meaning, database_of, effect_of, kinds_bound, plain_bound_after, Fits, AllFit, AreOfKinds}
 use Rattle.ent_book.specs.declared.book.Fate.TheVariants.{Committed, RolledBack, Failed}
 use Rattle.ent_engine.specs.Outcome.{Outcome, with_fate, fated, failure_of, outcomes}
 use Rattle.ent_engine.specs.Tables.{PlainRun, PlainOutcome, answered, run_behind, plain_run, plain_fated, plain_outcomes}

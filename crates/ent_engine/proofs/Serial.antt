@@ -1,11 +1,11 @@
 -- The scripts that commit, run alone in order, leave the same database and give the same answers.
 use Rattle.std.proofs.Common.{◌≡◌, ℕ, ◌+◌, List, [], ◌∷◌, length, Option, Some, None, refl, ap, arith}
 use Rattle.std.specs.Option.{option_map}
-use Rattle.ent_sql.specs.declared.tree.Create.{Create}
-use Rattle.ent_sql.specs.declared.tree.Script.{Script}
-use Rattle.ent_semantics.specs.declared.answer.Failure.{Failure}
-use Rattle.ent_semantics.specs.Database.{Database, nothing_bound}
-use Rattle.ent_semantics.specs.Serial.{Run, Runs, ran_first, script_run, scripts_run}
+use Rattle.ent_plain_sql.specs.declared.tree.Create.{Create}
+use Rattle.ent_plain_sql.specs.declared.tree.Script.{Script}
+use Rattle.ent_plain_semantics.specs.declared.answer.Failure.{Failure}
+use Rattle.ent_plain_semantics.specs.Database.{Database, nothing_bound}
+use Rattle.ent_plain_semantics.specs.Serial.{Run, Runs, ran_first, script_run, scripts_run}
 use Rattle.ent_engine.specs.Outcome.{Outcome, failure_of, fated, outcomes, committed, commit_answers, commit_numbers, numbers_from}
 
 abbrev runs_of : Outcome → Runs

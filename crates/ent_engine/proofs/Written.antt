@@ -2,8 +2,8 @@
 use Rattle.std.proofs.Common.{◌≡◌, ℕ, List, ◌++◌, map, Option, Some, None, sym, ◌∙◌, subst}
 use Rattle.std.specs.Prelude.{IfSome}
 use Rattle.std.specs.Io.KnownBytes.{Appends}
-use Rattle.ent_sql.specs.declared.tree.Input.{Input}
-use Rattle.ent_semantics.specs.Database.{Name, Database}
+use Rattle.ent_plain_sql.specs.declared.tree.Input.{Input}
+use Rattle.ent_plain_semantics.specs.Database.{Name, Database}
 use Rattle.ent_book.specs.declared.book.Fate.{Fate}
 use Rattle.ent_book.specs.Report.{report_text}
 use Rattle.ent_engine.specs.Outcome.{outcome_of, report_of}

@@ -8,8 +8,8 @@ use Rattle.ent_value.specs.declared.refusal.Refusal.TheVariants as refusals
 use Rattle.ent_rel.specs.Relation.{RowSet, bounded}
 use Rattle.ent_rel.specs.Change.{insertion, replacement}
 use Rattle.ent_rel.specs.declared.fault.TableFull.{TableFull}
-use Rattle.ent_semantics.specs.declared.answer.Failure.{Failure}
-use Rattle.ent_semantics.specs.declared.answer.Failure.TheVariants as failures
+use Rattle.ent_plain_semantics.specs.declared.answer.Failure.{Failure}
+use Rattle.ent_plain_semantics.specs.declared.answer.Failure.TheVariants as failures
 use Rattle.ent_engine.specs.declared.change.Changed.{Changed}
 use Rattle.ent_engine.specs.Evaluation.{there_or_overflow}
 

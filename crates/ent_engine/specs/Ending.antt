@@ -1,9 +1,9 @@
 -- How a script ended.
 use Rattle.std.specs.Prelude.{◌≡◌, List, Result, Ok, Err, IsOk}
 use Rattle.ent_rel.specs.Relation.{Relation}
-use Rattle.ent_semantics.specs.declared.answer.Failure.{Failure}
-use Rattle.ent_sql.specs.declared.tree.End.{End}
-use Rattle.ent_sql.specs.declared.tree.End.TheVariants.{Commit, Rollback}
+use Rattle.ent_plain_semantics.specs.declared.answer.Failure.{Failure}
+use Rattle.ent_plain_sql.specs.declared.tree.End.{End}
+use Rattle.ent_plain_sql.specs.declared.tree.End.TheVariants.{Commit, Rollback}
 use Rattle.ent_engine.specs.declared.runner.Ending.{Ending}
 use Rattle.ent_engine.specs.declared.runner.Ending.TheVariants.{Committed, RolledBack, Failed}
 use Rattle.ent_engine.specs.Tables.{PlainRun, run_of}

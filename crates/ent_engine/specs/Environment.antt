@@ -1,6 +1,6 @@
 -- What the bindings that the code holds say of host variables.
 use Rattle.std.specs.Prelude.{List, [], ◌∷◌}
-use Rattle.ent_semantics.specs.Database.{Environment, nothing_bound, with_value}
+use Rattle.ent_plain_semantics.specs.Database.{Environment, nothing_bound, with_value}
 use Rattle.ent_engine.specs.declared.environment.Binding.{Binding}
 use Rattle.ent_engine.specs.declared.environment.Environment.{Environment as Held}
 

@@ -1,13 +1,13 @@
 -- What the fate of a script says of it.
 use Rattle.std.specs.Prelude.{◌≡◌, List, [], ◌∷◌, Some, Ok, Err, IsSome}
-use Rattle.ent_sql.specs.declared.tree.Create.{Create}
-use Rattle.ent_sql.specs.declared.tree.End.TheVariants as ends
-use Rattle.ent_sql.specs.declared.tree.Script.{Script}
-use Rattle.ent_sql.specs.declared.tree.Statement.{Statement}
-use Rattle.ent_semantics.specs.declared.answer.Failure.{Failure}
-use Rattle.ent_semantics.specs.Database.{Database, Environment, nothing_bound}
-use Rattle.ent_semantics.specs.Statement.{Effect, statement_meaning}
-use Rattle.ent_semantics.specs.Serial.{script_run, statements_run}
+use Rattle.ent_plain_sql.specs.declared.tree.Create.{Create}
+use Rattle.ent_plain_sql.specs.declared.tree.End.TheVariants as ends
+use Rattle.ent_plain_sql.specs.declared.tree.Script.{Script}
+use Rattle.ent_plain_sql.specs.declared.tree.Statement.{Statement}
+use Rattle.ent_plain_semantics.specs.declared.answer.Failure.{Failure}
+use Rattle.ent_plain_semantics.specs.Database.{Database, Environment, nothing_bound}
+use Rattle.ent_plain_semantics.specs.Statement.{Effect, statement_meaning}
+use Rattle.ent_plain_semantics.specs.Serial.{script_run, statements_run}
 use Rattle.ent_book.specs.declared.book.Fate.{Fate}
 use Rattle.ent_book.specs.declared.book.Fate.TheVariants.{Committed, RolledBack, Failed}
 

@@ -1,8 +1,8 @@
 -- The number, the place and the exit status of a fault.
 use Rattle.std.specs.Prelude.{ℕ, List, [], ◌++◌, codes, Option, Some, None}
 use Rattle.std.specs.Fmt.{decimal}
-use Rattle.ent_sql.specs.Fault.{code_of as sql_code_of, place_of as sql_place_of}
-use Rattle.ent_form.specs.Fault.{code_of as form_code_of, place_of as form_place_of}
+use Rattle.ent_plain_sql.specs.Fault.{code_of as sql_code_of, place_of as sql_place_of}
+use Rattle.ent_plain_form.specs.Fault.{code_of as form_code_of, place_of as form_place_of}
 use Rattle.ent_engine.specs.declared.fault.RunFault.{RunFault}
 use Rattle.ent_engine.specs.declared.fault.RunFault.TheVariants.{NotUtf8, TooLong, Sql, Form, ReadFault, WriteFault}
 use Rattle.ent_engine.specs.declared.fault.RunFault.TheVariants.{Memory}

@@ -5,7 +5,7 @@ use Rattle.ent_value.specs.Watched.{Stream}
 use Rattle.ent_engine.specs.declared.fault.RunFault.{RunFault}
 use Rattle.ent_engine.specs.declared.fault.RunFault.TheVariants.{NotUtf8, TooLong, Sql, Form, ReadFault, WriteFault}
 use Rattle.ent_engine.specs.declared.fault.RunFault.TheVariants.{Memory}
-use Rattle.ent_sql.specs.declared.tree.Input.{Input}
+use Rattle.ent_plain_sql.specs.declared.tree.Input.{Input}
 use Rattle.ent_engine.specs.Outcome.{report_of}
 use Rattle.ent_engine.specs.declared.reader.TheConstants.{MOST_BYTES}
 use Rattle.ent_engine.specs.Reading.{IsInput}

@@ -1,14 +1,14 @@
 -- What becomes of the scripts of an input, each run alone to its end, in order.
 use Rattle.std.specs.Prelude.{ℕ, ◌+◌, List, [], ◌∷◌, map, Option, Some, None, Result, Ok, Err}
-use Rattle.ent_sql.specs.declared.tree.Create.{Create}
-use Rattle.ent_sql.specs.declared.tree.Input.{Input}
-use Rattle.ent_sql.specs.declared.tree.Script.{Script}
-use Rattle.ent_sql.specs.declared.tree.Statement.{Statement}
-use Rattle.ent_semantics.specs.declared.answer.Answer.{Answer}
-use Rattle.ent_semantics.specs.declared.answer.Failure.{Failure}
-use Rattle.ent_semantics.specs.Database.{Database, Environment, nothing_bound, opening_database}
-use Rattle.ent_semantics.specs.Statement.{Effect, statement_meaning}
-use Rattle.ent_semantics.specs.Serial.{Valuation, Run, script_run}
+use Rattle.ent_plain_sql.specs.declared.tree.Create.{Create}
+use Rattle.ent_plain_sql.specs.declared.tree.Input.{Input}
+use Rattle.ent_plain_sql.specs.declared.tree.Script.{Script}
+use Rattle.ent_plain_sql.specs.declared.tree.Statement.{Statement}
+use Rattle.ent_plain_semantics.specs.declared.answer.Answer.{Answer}
+use Rattle.ent_plain_semantics.specs.declared.answer.Failure.{Failure}
+use Rattle.ent_plain_semantics.specs.Database.{Database, Environment, nothing_bound, opening_database}
+use Rattle.ent_plain_semantics.specs.Statement.{Effect, statement_meaning}
+use Rattle.ent_plain_semantics.specs.Serial.{Valuation, Run, script_run}
 use Rattle.ent_book.specs.declared.book.Fate.{Fate}
 use Rattle.ent_book.specs.declared.book.Fate.TheVariants.{Committed, RolledBack, Failed}
 use Rattle.ent_book.specs.Report.{report_text}

@@ -2,12 +2,12 @@
 use Rattle.std.specs.Prelude.{◌≡◌, ℕ, List, map}
 use Rattle.ent_value.specs.declared.refusal.Refusal.{Refusal}
 use Rattle.ent_value.specs.declared.refusal.Refusal.TheVariants as refusals
-use Rattle.ent_sql.specs.declared.tree.Input.{Input}
-use Rattle.ent_form.specs.declared.catalogue.TableSchema.{TableSchema}
-use Rattle.ent_form.specs.declared.fault.FormFault.{FormFault}
-use Rattle.ent_form.specs.declared.plain.Plain.{Plain}
-use Rattle.ent_form.specs.Catalogue.{schemas_of}
-use Rattle.ent_form.specs.Plain.{plain_script}
+use Rattle.ent_plain_sql.specs.declared.tree.Input.{Input}
+use Rattle.ent_plain_form.specs.declared.catalogue.TableSchema.{TableSchema}
+use Rattle.ent_plain_form.specs.declared.fault.FormFault.{FormFault}
+use Rattle.ent_plain_form.specs.declared.plain.Plain.{Plain}
+use Rattle.ent_plain_form.specs.Catalogue.{schemas_of}
+use Rattle.ent_plain_form.specs.Plain.{plain_script}
 use Rattle.ent_engine.specs.declared.fault.RunFault.{RunFault}
 use Rattle.ent_engine.specs.declared.fault.RunFault.TheVariants.{NotUtf8, TooLong, Sql, Form, ReadFault, WriteFault}
 use Rattle.ent_engine.specs.declared.fault.RunFault.TheVariants.{Memory}

@@ -1,10 +1,10 @@
 -- Which bytes are an input, and why others are refused.
 use Rattle.std.specs.Prelude.{◌≡◌, ℕ, ◌<◌, ◌≤◌, List, length, Some, None, Ok, Err}
 use Rattle.std.specs.Str.{IsUtf8, IsValidUpTo}
-use Rattle.ent_sql.specs.declared.tree.Input.{Input}
-use Rattle.ent_sql.specs.Grammar.{reading}
-use Rattle.ent_form.specs.Catalogue.{schemas_of}
-use Rattle.ent_form.specs.FirstFault.{Check, ◌before◌, first_of, opening_fault, script_fault}
+use Rattle.ent_plain_sql.specs.declared.tree.Input.{Input}
+use Rattle.ent_plain_sql.specs.Grammar.{reading}
+use Rattle.ent_plain_form.specs.Catalogue.{schemas_of}
+use Rattle.ent_plain_form.specs.FirstFault.{Check, ◌before◌, first_of, opening_fault, script_fault}
 use Rattle.ent_engine.specs.declared.reader.TheConstants.{MOST_BYTES}
 use Rattle.ent_engine.specs.declared.fault.RunFault.{RunFault}
 use Rattle.ent_engine.specs.declared.fault.RunFault.TheVariants.{NotUtf8, TooLong, Sql, Form, ReadFault, WriteFault}

@@ -2,14 +2,14 @@
 use Rattle.std.specs.Prelude.{ℕ, ◌+◌, List, [], ◌∷◌, map, Result, Ok, Err}
 use Rattle.ent_value.specs.declared.value.Kind.{Kind}
 use Rattle.ent_rel.specs.Relation.{Relation}
-use Rattle.ent_semantics.specs.declared.answer.Answer.{Answer}
-use Rattle.ent_semantics.specs.declared.answer.Failure.{Failure}
-use Rattle.ent_sql.specs.declared.tree.End.{End}
-use Rattle.ent_sql.specs.declared.tree.End.TheVariants.{Commit, Rollback}
-use Rattle.ent_semantics.specs.Database.{Rows, Environment, nothing_bound}
-use Rattle.ent_form.specs.declared.plain.Plain.{Plain}
-use Rattle.ent_form.specs.declared.plain.PlainStatement.{PlainStatement}
-use Rattle.ent_form.specs.PlainMeaning.{PlainEffect, plain_meaning}
+use Rattle.ent_plain_semantics.specs.declared.answer.Answer.{Answer}
+use Rattle.ent_plain_semantics.specs.declared.answer.Failure.{Failure}
+use Rattle.ent_plain_sql.specs.declared.tree.End.{End}
+use Rattle.ent_plain_sql.specs.declared.tree.End.TheVariants.{Commit, Rollback}
+use Rattle.ent_plain_semantics.specs.Database.{Rows, Environment, nothing_bound}
+use Rattle.ent_plain_form.specs.declared.plain.Plain.{Plain}
+use Rattle.ent_plain_form.specs.declared.plain.PlainStatement.{PlainStatement}
+use Rattle.ent_plain_form.specs.PlainMeaning.{PlainEffect, plain_meaning}
 use Rattle.ent_book.specs.declared.book.Fate.{Fate}
 use Rattle.ent_book.specs.declared.book.Fate.TheVariants.{Committed, RolledBack, Failed}
 

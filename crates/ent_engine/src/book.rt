@@ -3,10 +3,10 @@ ghost use Rattle.std.specs.Prelude.{◌≡◌, List, None, Some, length, map, If
 ghost use Rattle.std.specs.Arc.{arc_value};
 ghost use Rattle.ent_set.specs.Sets as set;
 ghost use Rattle.ent_value.specs.Value.{row_cmp};
-ghost use Rattle.ent_form.specs.Catalogue.{schemas_of, names_of};
-ghost use Rattle.ent_form.specs.FirstFault.{opening_fault};
-ghost use Rattle.ent_form.specs.Plain.{rows_named};
-ghost use Rattle.ent_form.specs.PlainMeaning.{schema_kinds, opening_tables};
+ghost use Rattle.ent_plain_form.specs.Catalogue.{schemas_of, names_of};
+ghost use Rattle.ent_plain_form.specs.FirstFault.{opening_fault};
+ghost use Rattle.ent_plain_form.specs.Plain.{rows_named};
+ghost use Rattle.ent_plain_form.specs.PlainMeaning.{schema_kinds, opening_tables};
 ghost use Rattle.ent_book.specs.Book.{table_names, tables_database};
 ghost use Rattle.ent_engine.specs.Parse.{IsResolved};
 ghost use Rattle.ent_engine.specs.Outcome.{outcome_of};
@@ -17,13 +17,13 @@ use crate::parse::Resolved;
 use crate::runner::run_scripts;
 use crate::tables::Tables;
 use ent_book::{Book, NamedTable};
-use ent_form::{
+use ent_plain_form::{
     Catalogue, ColumnSchema, TableSchema, no_fault_fits, opening_rows, opening_rows_fit,
     opening_tables_mean_the_same, resolved_binds_the_same, resolved_keeps_kinds,
     resolved_means_the_same,
 };
 use ent_rel::{Table, TableFull};
-use ent_sql::Opening;
+use ent_plain_sql::Opening;
 use ent_value::{Kind, Refusal, Sequence};
 use std::alloc::{AllocError, Global};
 use std::sync::Arc;

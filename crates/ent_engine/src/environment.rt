@@ -1,7 +1,7 @@
 //! The host variables that a script has set.
 ghost use Rattle.std.specs.Prelude.{◌≡◌, OnOk, OnErr};
 ghost use Rattle.std.specs.Option.{option_copied};
-ghost use Rattle.ent_semantics.specs.Database.{nothing_bound, with_value};
+ghost use Rattle.ent_plain_semantics.specs.Database.{nothing_bound, with_value};
 ghost use Rattle.ent_engine.specs.Environment.{environment_of};
 
 use ent_value::{Name, Sequence, Value};

@@ -3,8 +3,8 @@ ghost use Rattle.std.specs.Prelude.{◌≡◌, Some};
 ghost use Rattle.ent_engine.specs.Fault.{code_of, place_of, status, line_text};
 ghost use Rattle.ent_engine.specs.declared.fault.RunFault.TheVariants.{Memory};
 
-use ent_form::FormFault;
-use ent_sql::SqlFault;
+use ent_plain_form::FormFault;
+use ent_plain_sql::SqlFault;
 use std::alloc::{AllocError, AllocFailed};
 use std::fmt;
 use thiserror::Error;

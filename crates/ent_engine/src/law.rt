@@ -1,8 +1,8 @@
 //! What a report says of the scripts, beyond how it was made.
 ghost use Rattle.std.specs.Prelude.{◌≡◌, Some, length};
-ghost use Rattle.ent_sql.specs.declared.tree.Input.{Input};
-ghost use Rattle.ent_semantics.specs.Database.{opening_database};
-ghost use Rattle.ent_semantics.specs.Serial.{scripts_run};
+ghost use Rattle.ent_plain_sql.specs.declared.tree.Input.{Input};
+ghost use Rattle.ent_plain_semantics.specs.Database.{opening_database};
+ghost use Rattle.ent_plain_semantics.specs.Serial.{scripts_run};
 ghost use Rattle.ent_engine.specs.Fates.{HaveFates};
 ghost use Rattle.ent_engine.specs.Outcome.{outcome_of, committed, commit_answers, commit_numbers, numbers_from};
 

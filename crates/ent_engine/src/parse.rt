@@ -2,18 +2,18 @@
 ghost use Rattle.std.specs.Prelude.{◌≡◌, ◌≤◌, ◌++◌, List, length, map, IfOk, IfErr, Ok};
 ghost use Rattle.std.specs.List.{AllByRecursion};
 ghost use Rattle.ent_value.specs.Refusal.{Gives};
-ghost use Rattle.ent_sql.specs.Grammar.{reading};
-ghost use Rattle.ent_form.specs.Catalogue.{schemas_of};
-ghost use Rattle.ent_form.specs.FirstFault.{first_of, script_fault, unless};
-ghost use Rattle.ent_form.specs.Plain.{plain_script};
-ghost use Rattle.ent_form.specs.PlainMeaning.{schema_kinds};
+ghost use Rattle.ent_plain_sql.specs.Grammar.{reading};
+ghost use Rattle.ent_plain_form.specs.Catalogue.{schemas_of};
+ghost use Rattle.ent_plain_form.specs.FirstFault.{first_of, script_fault, unless};
+ghost use Rattle.ent_plain_form.specs.Plain.{plain_script};
+ghost use Rattle.ent_plain_form.specs.PlainMeaning.{schema_kinds};
 ghost use Rattle.ent_engine.specs.Parse.{IsResolved, IsRefusedAs, form_refusal};
 ghost use Rattle.ent_engine.specs.Reading.{IsInput, IsRefused};
 ghost use Rattle.ent_engine.specs.declared.reader.TheConstants.{MOST_BYTES};
 
 use crate::fault::RunFault;
-use ent_form::{Catalogue, FormFault, Plain, resolve};
-use ent_sql::{Input, Script, parse_input};
+use ent_plain_form::{Catalogue, FormFault, Plain, resolve};
+use ent_plain_sql::{Input, Script, parse_input};
 use ent_value::Refusal;
 use std::alloc::Global;
 use std::str;

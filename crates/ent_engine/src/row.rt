@@ -1,15 +1,15 @@
 //! Rows that statements put in or show.
 ghost use Rattle.std.specs.Prelude.{◌≡◌, IfOk, map};
 ghost use Rattle.ent_value.specs.Refusal.{Gives};
-ghost use Rattle.ent_form.specs.PlainMeaning.{plain_known_value, plain_row, plain_image};
+ghost use Rattle.ent_plain_form.specs.PlainMeaning.{plain_known_value, plain_row, plain_image};
 ghost use Rattle.ent_engine.specs.Environment.{environment_of};
 ghost use Rattle.ent_engine.specs.Change.{image_or_overflow};
 
 use crate::environment::Environment;
 use crate::term::{known_value, operand_expression, operand_value};
-use ent_form::{PlainOperand, PlainValue};
-use ent_semantics::Failure;
-use ent_sql::Expression;
+use ent_plain_form::{PlainOperand, PlainValue};
+use ent_plain_semantics::Failure;
+use ent_plain_sql::Expression;
 use ent_value::{Refusal, Row, Value};
 use std::alloc::{AllocError, Global};
 

@@ -2,9 +2,9 @@
 ghost use Rattle.std.specs.Prelude.{◌≡◌, [], ◌∷◌, List, All, OnErr, IfOk};
 ghost use Rattle.ent_value.specs.Refusal.{Gives};
 ghost use Rattle.ent_undo.specs.Change.{of_others, rolled_back};
-ghost use Rattle.ent_semantics.specs.Database.{nothing_bound};
-ghost use Rattle.ent_form.specs.Kinds.{none_bound};
-ghost use Rattle.ent_form.specs.PlainMeaning.{AllFit, kinds_bound};
+ghost use Rattle.ent_plain_semantics.specs.Database.{nothing_bound};
+ghost use Rattle.ent_plain_form.specs.Kinds.{none_bound};
+ghost use Rattle.ent_plain_form.specs.PlainMeaning.{AllFit, kinds_bound};
 ghost use Rattle.ent_engine.specs.Ending.{EndsAs};
 ghost use Rattle.ent_engine.specs.Environment.{environment_of};
 ghost use Rattle.ent_engine.specs.Tables.{kinds_in, rows_in, plain_run, plain_outcomes, run_of, outcome_of_tables};
@@ -12,9 +12,9 @@ ghost use Rattle.ent_engine.specs.Tables.{kinds_in, rows_in, plain_run, plain_ou
 use crate::environment::Environment;
 use crate::tables::Tables;
 use ent_book::Fate;
-use ent_form::{Plain, PlainStatement};
-use ent_semantics::{Answer, Failure};
-use ent_sql::End;
+use ent_plain_form::{Plain, PlainStatement};
+use ent_plain_semantics::{Answer, Failure};
+use ent_plain_sql::End;
 use ent_undo::UndoLog;
 use ent_value::{Refusal, Sequence};
 use std::alloc::{AllocError, Global};

@@ -1,15 +1,15 @@
 //! What values, operands and expressions are worth.
 ghost use Rattle.std.specs.Prelude.{◌≡◌, ◌+ℤ◌, ◌-ℤ◌};
 ghost use Rattle.ent_value.specs.Refusal.{Gives};
-ghost use Rattle.ent_semantics.specs.Term.{no_value, number_of, in_64_bits, expression_value};
-ghost use Rattle.ent_form.specs.PlainMeaning.{plain_known_value, plain_value};
+ghost use Rattle.ent_plain_semantics.specs.Term.{no_value, number_of, in_64_bits, expression_value};
+ghost use Rattle.ent_plain_form.specs.PlainMeaning.{plain_known_value, plain_value};
 ghost use Rattle.ent_engine.specs.Environment.{environment_of};
 ghost use Rattle.ent_engine.specs.Evaluation.{there_or_overflow};
 
 use crate::environment::Environment;
-use ent_form::{PlainOperand, PlainValue};
-use ent_semantics::Failure;
-use ent_sql::Expression;
+use ent_plain_form::{PlainOperand, PlainValue};
+use ent_plain_semantics::Failure;
+use ent_plain_sql::Expression;
 use ent_value::{Refusal, Value};
 use std::alloc::Global;
 

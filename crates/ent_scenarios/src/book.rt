@@ -6,7 +6,7 @@ use crate::words::{kinds, name, number, rows_of, value};
 use anyhow::{Context, Result, bail};
 use ent_book::{Book, Fate, NamedTable, write_report};
 use ent_rel::Table;
-use ent_semantics::{Answer, Failure};
+use ent_plain_semantics::{Answer, Failure};
 use ent_value::{Sequence, Watched};
 use std::alloc::Global;
 use std::sync::Arc;

@@ -4,11 +4,11 @@ use crate::trees::{put_end, put_tests};
 use crate::values::put_kind;
 use crate::words::unescaped;
 use anyhow::Result;
-use ent_form::{
+use ent_plain_form::{
     Catalogue, FormFault, Plain, PlainOperand, PlainStatement, PlainTest, PlainValue, TableSchema,
     opening_rows, resolve,
 };
-use ent_sql::{Input, Opening, parse_input};
+use ent_plain_sql::{Input, Opening, parse_input};
 use ent_value::Refusal;
 use std::alloc::Global;
 use std::io::Write;

@@ -4,7 +4,7 @@ use crate::reply::{Show, put, put_list, put_number};
 use crate::values::put_kind;
 use crate::words::unescaped;
 use anyhow::Result;
-use ent_sql::{
+use ent_plain_sql::{
     Assignment, Column, Create, End, Expression, Identifier, Input, Items, Literal, OpeningRow,
     Operand, Script, Statement, Test, ValueSpecification, parse_input,
 };

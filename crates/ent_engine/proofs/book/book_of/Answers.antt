@@ -1,9 +1,9 @@
 use Rattle.std.proofs.Common.{◌∙◌, sym, ap, map, length}
 use Rattle.std.specs.Arc.{arc_value}
-use Rattle.ent_form.specs.Catalogue.{schemas_of, names_of}
-use Rattle.ent_form.specs.FirstFault.{opening_fault, first_of, script_fault}
-use Rattle.ent_form.specs.Plain.{plain_script}
-use Rattle.ent_form.specs.PlainMeaning.{schema_kinds, database_of, opening_tables}
+use Rattle.ent_plain_form.specs.Catalogue.{schemas_of, names_of}
+use Rattle.ent_plain_form.specs.FirstFault.{opening_fault, first_of, script_fault}
+use Rattle.ent_plain_form.specs.Plain.{plain_script}
+use Rattle.ent_plain_form.specs.PlainMeaning.{schema_kinds, database_of, opening_tables}
 use Rattle.ent_engine.specs.Outcome.{Outcome}
 use Rattle.ent_engine.specs.Tables.{PlainOutcome}
 use Rattle.ent_engine.proofs.Same.{none_before}

@@ -2,7 +2,7 @@ use Rattle.std.proofs.Common.{◌∙◌, ap, map, arith, length}
 use Rattle.std.proofs.lemmas.List.{take_all}
 use Rattle.ent_set.specs.Sets as set
 use Rattle.ent_value.specs.Value.{row_cmp}
-use Rattle.ent_form.specs.Plain.{rows_named}
+use Rattle.ent_plain_form.specs.Plain.{rows_named}
 use Rattle.ent_engine.specs.Tables.{rows_in}
 use Rattle.ent_engine.proofs.Loading.{opened}
 use Rattle.ent_engine.proofs.book.load.Goals as goal

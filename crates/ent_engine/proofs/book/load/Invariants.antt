@@ -2,8 +2,8 @@ use Rattle.std.proofs.Common.{◌≡◌, map, take}
 use Rattle.std.specs.Arc.{arc_value}
 use Rattle.ent_set.specs.Sets as set
 use Rattle.ent_value.specs.Value.{row_cmp}
-use Rattle.ent_form.specs.Plain.{rows_named}
-use Rattle.ent_form.specs.PlainMeaning.{schema_kinds}
+use Rattle.ent_plain_form.specs.Plain.{rows_named}
+use Rattle.ent_plain_form.specs.PlainMeaning.{schema_kinds}
 use Rattle.ent_engine.specs.Tables.{kinds_in, rows_in}
 use Rattle.ent_engine.proofs.book.load.Given as goal
 

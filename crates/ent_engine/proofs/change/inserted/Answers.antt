@@ -1,7 +1,7 @@
 use Rattle.std.proofs.Common.{ap, ◌∙◌}
 use Rattle.ent_value.specs.Value.{kinds_of}
 use Rattle.ent_engine.specs.Environment.{environment_of}
-use Rattle.ent_form.specs.KnownKinds.{kinds_of_known}
+use Rattle.ent_plain_form.specs.KnownKinds.{kinds_of_known}
 use Rattle.ent_engine.proofs.change.inserted.Goals as goal
 
 pub insert-requires : goal.insert-requires

@@ -1,5 +1,5 @@
 use Rattle.std.proofs.Common.{rules}
-use Rattle.ent_form.specs.PlainMeaning.{plain_meets, plain_image}
+use Rattle.ent_plain_form.specs.PlainMeaning.{plain_meets, plain_image}
 use Rattle.ent_engine.specs.Change.{image_or_overflow}
 use Rattle.ent_engine.specs.Environment.{environment_of}
 use Rattle.ent_engine.proofs.Changes.{image_of_kinds, replaced}

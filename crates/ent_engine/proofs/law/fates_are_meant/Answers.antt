@@ -1,4 +1,4 @@
-use Rattle.ent_semantics.specs.Database.{opening_database}
+use Rattle.ent_plain_semantics.specs.Database.{opening_database}
 use Rattle.ent_engine.proofs.Meant.{fates_meant}
 use Rattle.ent_engine.proofs.law.fates_are_meant.Goals as goal
 

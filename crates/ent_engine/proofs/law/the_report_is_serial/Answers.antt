@@ -1,4 +1,4 @@
-use Rattle.ent_semantics.specs.Database.{opening_database}
+use Rattle.ent_plain_semantics.specs.Database.{opening_database}
 use Rattle.ent_engine.proofs.Serial.{outcomes_are_serial, commits_are_numbered, each_has_a_fate}
 use Rattle.ent_engine.proofs.law.the_report_is_serial.Goals as goal
 

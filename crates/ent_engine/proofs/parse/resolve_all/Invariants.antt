@@ -1,6 +1,6 @@
 use Rattle.std.proofs.Common.{◌≡◌, map, take, drop}
-use Rattle.ent_form.specs.FirstFault.{first_of, script_fault}
-use Rattle.ent_form.specs.Plain.{plain_script}
+use Rattle.ent_plain_form.specs.FirstFault.{first_of, script_fault}
+use Rattle.ent_plain_form.specs.Plain.{plain_script}
 use Rattle.ent_engine.proofs.parse.resolve_all.Given as goal
 
 -- no script so far has a fault, and these are resolved

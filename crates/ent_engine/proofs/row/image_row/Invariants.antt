@@ -1,6 +1,6 @@
 use Rattle.std.proofs.Common.{◌≡◌, ◌++◌, drop}
 use Rattle.std.specs.Option.{option_map}
-use Rattle.ent_form.specs.PlainMeaning.{plain_image}
+use Rattle.ent_plain_form.specs.PlainMeaning.{plain_image}
 use Rattle.ent_engine.specs.Environment.{environment_of}
 use Rattle.ent_engine.proofs.row.image_row.Given as goal
 

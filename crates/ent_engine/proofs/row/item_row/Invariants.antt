@@ -1,6 +1,6 @@
 use Rattle.std.proofs.Common.{◌≡◌, take}
-use Rattle.ent_semantics.specs.Term.{no_value}
-use Rattle.ent_form.specs.PlainMeaning.{plain_row}
+use Rattle.ent_plain_semantics.specs.Term.{no_value}
+use Rattle.ent_plain_form.specs.PlainMeaning.{plain_row}
 use Rattle.ent_engine.specs.Environment.{environment_of}
 use Rattle.ent_engine.proofs.row.item_row.Given as goal
 

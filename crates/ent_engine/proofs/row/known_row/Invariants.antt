@@ -1,6 +1,6 @@
 use Rattle.std.proofs.Common.{◌≡◌, map, take}
-use Rattle.ent_semantics.specs.Term.{no_value}
-use Rattle.ent_form.specs.PlainMeaning.{plain_known_value}
+use Rattle.ent_plain_semantics.specs.Term.{no_value}
+use Rattle.ent_plain_form.specs.PlainMeaning.{plain_known_value}
 use Rattle.ent_engine.specs.Environment.{environment_of}
 use Rattle.ent_engine.proofs.row.known_row.Given as goal
 

@@ -1,6 +1,6 @@
 use Rattle.std.proofs.Common.{ap}
 use Rattle.std.specs.Prelude.{is_ok}
-use Rattle.ent_semantics.specs.Database.{nothing_bound}
+use Rattle.ent_plain_semantics.specs.Database.{nothing_bound}
 use Rattle.ent_engine.specs.Environment.{environment_of}
 use Rattle.ent_engine.specs.Tables.{kinds_in, rows_in}
 use Rattle.ent_engine.proofs.Runs.{ran_as}

@@ -1,6 +1,6 @@
 use Rattle.std.proofs.Common.{◌≡◌, ◌∷◌, [], drop}
 use Rattle.ent_undo.specs.Change.{of_others, rolled_back}
-use Rattle.ent_form.specs.PlainMeaning.{AllFit, kinds_bound}
+use Rattle.ent_plain_form.specs.PlainMeaning.{AllFit, kinds_bound}
 use Rattle.ent_engine.specs.Environment.{environment_of}
 use Rattle.ent_engine.specs.Tables.{kinds_in, rows_in, plain_run}
 use Rattle.ent_engine.proofs.Runs.{with_answers}

@@ -2,7 +2,7 @@ use Rattle.std.proofs.Common.{◌≡◌, Bool, List, ap, sym, ◌∙◌, cond, �
 use Rattle.std.specs.List.{filter}
 use Rattle.std.proofs.lemmas.List.{take_all}
 use Rattle.ent_value.specs.declared.value.Value.{Value}
-use Rattle.ent_form.specs.PlainMeaning.{plain_row, plain_meets}
+use Rattle.ent_plain_form.specs.PlainMeaning.{plain_row, plain_meets}
 use Rattle.ent_engine.specs.Environment.{environment_of}
 use Rattle.ent_engine.proofs.Fusion.{map_filter_step}
 use Rattle.ent_engine.proofs.select.item_rows.Goals as goal

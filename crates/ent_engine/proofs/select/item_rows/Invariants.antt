@@ -1,6 +1,6 @@
 use Rattle.std.proofs.Common.{◌≡◌, map, take}
 use Rattle.std.specs.List.{filter}
-use Rattle.ent_form.specs.PlainMeaning.{plain_row, plain_meets}
+use Rattle.ent_plain_form.specs.PlainMeaning.{plain_row, plain_meets}
 use Rattle.ent_engine.specs.Environment.{environment_of}
 use Rattle.ent_engine.proofs.select.item_rows.Given as goal
 

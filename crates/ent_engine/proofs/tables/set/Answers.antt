@@ -1,9 +1,9 @@
 use Rattle.std.proofs.Common.{◌≡◌, [], Some, ap, ◌∙◌}
-use Rattle.ent_semantics.specs.Database.{with_value}
-use Rattle.ent_semantics.specs.Term.{expression_value}
-use Rattle.ent_form.specs.declared.plain.PlainStatement.{PlainStatement}
-use Rattle.ent_form.specs.declared.plain.PlainStatement.TheVariants as resolved
-use Rattle.ent_form.specs.PlainMeaning.{kinds_bound, plain_bound_after, plain_known_value}
+use Rattle.ent_plain_semantics.specs.Database.{with_value}
+use Rattle.ent_plain_semantics.specs.Term.{expression_value}
+use Rattle.ent_plain_form.specs.declared.plain.PlainStatement.{PlainStatement}
+use Rattle.ent_plain_form.specs.declared.plain.PlainStatement.TheVariants as resolved
+use Rattle.ent_plain_form.specs.PlainMeaning.{kinds_bound, plain_bound_after, plain_known_value}
 use Rattle.ent_engine.specs.Environment.{environment_of}
 use Rattle.ent_engine.proofs.Changes.{there_is}
 use Rattle.ent_engine.proofs.tables.set.Goals as goal

@@ -1,5 +1,5 @@
 use Rattle.std.proofs.Common.{ap, ◌∙◌}
-use Rattle.ent_semantics.specs.Database.{nothing_bound}
+use Rattle.ent_plain_semantics.specs.Database.{nothing_bound}
 use Rattle.ent_engine.specs.Environment.{with_bindings}
 use Rattle.ent_engine.proofs.Bindings.{with_bindings-push}
 use Rattle.ent_engine.proofs.environment.Environment.bind.Goals as goal

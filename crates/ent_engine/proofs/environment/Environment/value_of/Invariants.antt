@@ -1,6 +1,6 @@
 use Rattle.std.proofs.Common.{◌≡◌, take}
 use Rattle.std.specs.Option.{option_copied}
-use Rattle.ent_semantics.specs.Database.{nothing_bound}
+use Rattle.ent_plain_semantics.specs.Database.{nothing_bound}
 use Rattle.ent_engine.specs.Environment.{with_bindings}
 use Rattle.ent_engine.proofs.environment.Environment.value_of.Given as goal
 

@@ -3,8 +3,8 @@ use Rattle.std.specs.Arc.{arc_value}
 use Rattle.std.specs.Vec.{with_items}
 use Rattle.std.proofs.lemmas.Result.{err_from_is_err_and}
 use Rattle.ent_value.specs.Refusal.{Gives}
-use Rattle.ent_form.specs.declared.plain.PlainStatement.{PlainStatement}
-use Rattle.ent_form.specs.PlainMeaning.{Fits, known_kind, kind_with, kinds_bound, plain_kind, plain_meaning}
+use Rattle.ent_plain_form.specs.declared.plain.PlainStatement.{PlainStatement}
+use Rattle.ent_plain_form.specs.PlainMeaning.{Fits, known_kind, kind_with, kinds_bound, plain_kind, plain_meaning}
 use Rattle.ent_engine.specs.Environment.{environment_of}
 use Rattle.ent_engine.specs.Tables.{kinds_in, rows_in, effect}
 use Rattle.ent_engine.proofs.Meanings.{table_found, kinds_here, inserted_so, deleted_so, updated_so, selected_so, change_done, change_keeps_kinds, change_refused, refilled, change_put, kinds_put}

@@ -1,0 +1,14 @@
+use Rattle.std.proofs.Common.{◌≡◌, ◌+◌, length}
+use Rattle.ent_plain_sql.specs.List.{many_at}
+use Rattle.ent_plain_sql.proofs.Loops.{Many}
+use Rattle.ent_plain_sql.proofs.list.many.Given as goal
+
+-- what was read and what is read on are all
+abbrev pub invariant-things : goal.invariant-things
+invariant-things g l = let t = g.T.Item in record {
+  room : l.left + length l.items ≡ g.row.LIMIT;
+  whole : Many t.starts t.reads l.end l.items l.left l.rest (many_at t.starts t.reads l.end g.row.LIMIT l.tokens);
+}
+
+abbrev pub decreases-things : goal.decreases-things
+decreases-things g l = l.left

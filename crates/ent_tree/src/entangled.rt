@@ -1,0 +1,47 @@
+//! Entangled SELECT: an answer for its own script that depends on the answers of others.
+use crate::limits::MOST_PARTS;
+use crate::operand::{Identifier, Test, ValueSpecification};
+use crate::select::Select;
+use ent_value::Limited;
+
+/// A known value, or a written variable, to which the answer gives a value.
+#[derive(Drop)]
+pub enum Term {
+    Value(ValueSpecification),
+    Variable(Identifier),
+}
+
+/// A term of the select list, and the host variable that is bound to its value after the answer.
+#[derive(Drop)]
+pub struct EntangledItem {
+    pub term: Term,
+    pub binds: Option<Identifier>,
+}
+
+/// Terms side by side, with or without parentheses.
+#[derive(Drop)]
+pub struct Tuple {
+    /// Where its first token stands: the `(` where there is one, else the first term.
+    pub place: usize,
+    pub terms: Limited<Term, MOST_PARTS>,
+}
+
+/// A condition of an entangled statement.
+#[derive(Drop)]
+pub enum Condition {
+    /// `tuple IN (SELECT ..)`: the tuple is a row of the result.
+    InSelect(Tuple, Select),
+    /// `tuple IN ANSWER relation`: a postcondition.
+    InAnswer(Tuple, Identifier),
+    Test(Test<Term>),
+}
+
+/// `SELECT items INTO ANSWER relation, ANSWER relation .. WHERE conditions CHOOSE 1`
+#[derive(Drop)]
+pub struct Entangled {
+    pub items: Limited<EntangledItem, MOST_PARTS>,
+    /// Where INTO stands.
+    pub place: usize,
+    pub relations: Limited<Identifier, MOST_PARTS>,
+    pub conditions: Limited<Condition, MOST_PARTS>,
+}

@@ -1,0 +1,26 @@
+//! The tree of an input: what the whole language says, as values.
+//!
+//! An [`Input`] is tables, opening rows and scripts. Each name, value and tuple keeps where it stands, a byte offset
+//! from the input's start, and no list is longer than its limit.
+#![tactic(auto)]
+
+mod declaration;
+mod entangled;
+mod limits;
+mod operand;
+mod script;
+mod select;
+mod statement;
+
+pub use declaration::{Column, Create, Opening, OpeningRow};
+pub use entangled::{Condition, Entangled, EntangledItem, Term, Tuple};
+pub use limits::{
+    DEFAULT_RUNS, MOST_OPENING_ROWS, MOST_PARTS, MOST_RUNS, MOST_SCRIPTS, MOST_SOURCES,
+    MOST_STATEMENTS, MOST_TABLES,
+};
+pub use operand::{
+    ColumnReference, Comparison, Expression, Identifier, Literal, Operand, Test, ValueSpecification,
+};
+pub use script::{End, Input, Script, Statement};
+pub use select::{Items, Select, Source};
+pub use statement::{Assignment, Delete, Insert, Set, Update};

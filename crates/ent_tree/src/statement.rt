@@ -1,0 +1,42 @@
+//! Statements that change a table or bind a host variable.
+use crate::limits::MOST_PARTS;
+use crate::operand::{Expression, Identifier, Operand, Test, ValueSpecification};
+use ent_value::Limited;
+
+/// `INSERT INTO table VALUES (values)`
+#[derive(Drop)]
+pub struct Insert {
+    pub table: Identifier,
+    /// Where the `(` behind VALUES stands.
+    pub place: usize,
+    pub values: Limited<ValueSpecification, MOST_PARTS>,
+}
+
+/// `DELETE FROM table WHERE tests`
+#[derive(Drop)]
+pub struct Delete {
+    pub table: Identifier,
+    pub tests: Limited<Test<Operand>, MOST_PARTS>,
+}
+
+/// `column = expression` in an UPDATE.
+#[derive(Drop)]
+pub struct Assignment {
+    pub column: Identifier,
+    pub expression: Expression<Operand>,
+}
+
+/// `UPDATE table SET assignments WHERE tests`
+#[derive(Drop)]
+pub struct Update {
+    pub table: Identifier,
+    pub assignments: Limited<Assignment, MOST_PARTS>,
+    pub tests: Limited<Test<Operand>, MOST_PARTS>,
+}
+
+/// `SET variable = expression` The variable stands where its `@` does, and is named without it.
+#[derive(Drop)]
+pub struct Set {
+    pub variable: Identifier,
+    pub expression: Expression<ValueSpecification>,
+}
