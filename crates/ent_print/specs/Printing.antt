@@ -1,5 +1,5 @@
 -- The text of a script, and how it comes about lexeme by lexeme.
-use Rattle.std.specs.Prelude.{ℕ, Bool, false, List, [], ◌∷◌, ◌++◌}
+use Rattle.std.specs.Prelude.{ℕ, Bool, List, [], ◌∷◌, ◌++◌}
 use Rattle.ent_tree.specs.declared.script.Script.{Script}
 use Rattle.ent_print.specs.Lexeme.{Lexeme, lexeme_text, line_end, space, wants_behind, text_of}
 use Rattle.ent_print.specs.Spelling.{script_spelling}

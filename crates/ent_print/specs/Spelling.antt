@@ -1,5 +1,5 @@
 -- The lexemes that spell each part of a script, from left to right. Places are no part of them.
-use Rattle.std.specs.Prelude.{ℕ, ℤ, pos, negsuc, suc, List, [], ◌∷◌, ◌++◌, Option, Some, None}
+use Rattle.std.specs.Prelude.{pos, negsuc, suc, List, [], ◌∷◌, ◌++◌, Option, Some, None}
 use Rattle.std.specs.List.{flat_map}
 use Rattle.ent_value.specs.declared.value.Value.{Value}
 use Rattle.ent_value.specs.declared.value.Value.TheVariants as values
@@ -92,9 +92,12 @@ abbrev pub qualifier_spelling : Option Identifier → List Lexeme
 qualifier_spelling None = []
 qualifier_spelling (Some qualifier) = name qualifier ∷ sign symbols.Dot ∷ []
 
+abbrev pub column_spelling : ColumnReference → List Lexeme
+column_spelling reference = qualifier_spelling reference.qualifier ++ name reference.column ∷ []
+
 abbrev pub operand_spelling : Operand → List Lexeme
 operand_spelling (operands.Value value) = specification_spelling value
-operand_spelling (operands.Column reference) = qualifier_spelling reference.qualifier ++ name reference.column ∷ []
+operand_spelling (operands.Column reference) = column_spelling reference
 
 abbrev pub expression_spelling : {A : Type 0} → (A → List Lexeme) → Expression A → List Lexeme
 expression_spelling spelling (Single term) = spelling term
@@ -215,6 +218,7 @@ end_word ends.Rollback = keywords.Rollback
 -- the number of runs always stands there
 abbrev pub script_spelling : Script → List Lexeme
 script_spelling script =
-    word keywords.Begin ∷ word keywords.Transaction ∷ word keywords.Within ∷ Token (Number script.within) ∷ word keywords.Runs
+    word keywords.Begin ∷ word keywords.Transaction ∷ word keywords.Within ∷ Token (Number script.within) ∷ word
+    keywords.Runs
     ∷ sign symbols.Semicolon ∷ (flat_map line_spelling script.statements
     ++ word (end_word script.end) ∷ sign symbols.Semicolon ∷ [])

@@ -45,10 +45,7 @@ pub(crate) fn print_comma_list<T: Spelled>(
 }
 
 /// Conditions, each behind an AND.
-fn print_behind_ands<T: Spelled>(
-    printer: &mut Printer,
-    conditions: &[T],
-) -> Result<(), AllocError>
+fn print_behind_ands<T: Spelled>(printer: &mut Printer, conditions: &[T]) -> Result<(), AllocError>
     ensures { OnOk result (printer.new
         ≡ with_lexemes printer.old (each_behind (word And) T.spelling conditions.now)) }
 {
