@@ -1,8 +1,10 @@
 //! Entangled SELECT: an answer for its own script that depends on the answers of others.
+use crate::duplicate::Duplicate;
 use crate::limits::MOST_PARTS;
 use crate::operand::{Identifier, Test, ValueSpecification};
 use crate::select::Select;
 use ent_value::Limited;
+use std::alloc::{AllocError, Global};
 
 /// A known value, or a written variable, to which the answer gives a value.
 #[derive(Drop)]
@@ -44,4 +46,58 @@ pub struct Entangled {
     pub place: usize,
     pub relations: Limited<Identifier, MOST_PARTS>,
     pub conditions: Limited<Condition, MOST_PARTS>,
+}
+
+impl Duplicate for Term {
+    fn copy(&self, alloc: Global) -> Result<Self, AllocError> {
+        match self {
+            Term::Value(value) => Ok(Term::Value(value.copy(alloc)?)),
+            Term::Variable(variable) => Ok(Term::Variable(variable.copy(alloc)?)),
+        }
+    }
+}
+
+impl Duplicate for EntangledItem {
+    fn copy(&self, alloc: Global) -> Result<Self, AllocError> {
+        Ok(EntangledItem {
+            term: self.term.copy(alloc)?,
+            binds: self.binds.copy(alloc)?,
+        })
+    }
+}
+
+impl Duplicate for Tuple {
+    fn copy(&self, alloc: Global) -> Result<Self, AllocError> {
+        Ok(Tuple {
+            place: self.place,
+            terms: self.terms.copy(alloc)?,
+        })
+    }
+}
+
+impl Duplicate for Condition {
+    fn copy(&self, alloc: Global) -> Result<Self, AllocError> {
+        match self {
+            Condition::InSelect(tuple, select) => Ok(Condition::InSelect(
+                tuple.copy(alloc)?,
+                select.copy(alloc)?,
+            )),
+            Condition::InAnswer(tuple, relation) => Ok(Condition::InAnswer(
+                tuple.copy(alloc)?,
+                relation.copy(alloc)?,
+            )),
+            Condition::Test(test) => Ok(Condition::Test(test.copy(alloc)?)),
+        }
+    }
+}
+
+impl Duplicate for Entangled {
+    fn copy(&self, alloc: Global) -> Result<Self, AllocError> {
+        Ok(Entangled {
+            items: self.items.copy(alloc)?,
+            place: self.place,
+            relations: self.relations.copy(alloc)?,
+            conditions: self.conditions.copy(alloc)?,
+        })
+    }
 }

@@ -1,5 +1,7 @@
 //! Names, values and what is made of them.
+use crate::duplicate::Duplicate;
 use ent_value::{Name, Value};
+use std::alloc::{AllocError, Global};
 
 /// A name, and where it stands.
 #[derive(Drop)]
@@ -62,4 +64,79 @@ pub struct Test<T> {
     pub left: T,
     pub comparison: Comparison,
     pub right: T,
+}
+
+impl Duplicate for Identifier {
+    fn copy(&self, alloc: Global) -> Result<Self, AllocError> {
+        Ok(Identifier {
+            name: self.name.copy(alloc)?,
+            place: self.place,
+        })
+    }
+}
+
+impl Duplicate for Literal {
+    fn copy(&self, alloc: Global) -> Result<Self, AllocError> {
+        Ok(Literal {
+            value: self.value.copy(alloc)?,
+            place: self.place,
+        })
+    }
+}
+
+impl Duplicate for ValueSpecification {
+    fn copy(&self, alloc: Global) -> Result<Self, AllocError> {
+        match self {
+            ValueSpecification::Literal(literal) => Ok(ValueSpecification::Literal(literal.copy(
+                alloc,
+            )?)),
+            ValueSpecification::HostVariable(variable) => Ok(ValueSpecification::HostVariable(
+                variable.copy(alloc)?,
+            )),
+        }
+    }
+}
+
+impl Duplicate for ColumnReference {
+    fn copy(&self, alloc: Global) -> Result<Self, AllocError> {
+        Ok(ColumnReference {
+            qualifier: self.qualifier.copy(alloc)?,
+            column: self.column.copy(alloc)?,
+        })
+    }
+}
+
+impl Duplicate for Operand {
+    fn copy(&self, alloc: Global) -> Result<Self, AllocError> {
+        match self {
+            Operand::Value(value) => Ok(Operand::Value(value.copy(alloc)?)),
+            Operand::Column(reference) => Ok(Operand::Column(reference.copy(alloc)?)),
+        }
+    }
+}
+
+impl<T: Duplicate + Drop> Duplicate for Expression<T> {
+    fn copy(&self, alloc: Global) -> Result<Self, AllocError> {
+        match self {
+            Expression::Single(term) => Ok(Expression::Single(term.copy(alloc)?)),
+            Expression::Sum(left, right) => Ok(Expression::Sum(
+                left.copy(alloc)?,
+                right.copy(alloc)?,
+            )),
+            Expression::Difference(left, right) => Ok(Expression::Difference(
+                left.copy(alloc)?,
+                right.copy(alloc)?,
+            )),
+        }
+    }
+}
+
+impl<T: Duplicate + Drop> Duplicate for Test<T> {
+    fn copy(&self, alloc: Global) -> Result<Self, AllocError> {
+        Ok(Test {
+            left: self.left.copy(alloc)?,
+            comparison: self.comparison,
+            right: self.right.copy(alloc)?,
+        })
+    }
 }

@@ -1,10 +1,12 @@
 //! Scripts, and inputs of them.
 use crate::declaration::Opening;
+use crate::duplicate::Duplicate;
 use crate::entangled::Entangled;
 use crate::limits::{MOST_SCRIPTS, MOST_STATEMENTS};
 use crate::select::Select;
 use crate::statement::{Delete, Insert, Set, Update};
 use ent_value::Limited;
+use std::alloc::{AllocError, Global};
 
 #[derive(Drop)]
 pub enum Statement {
@@ -37,4 +39,36 @@ pub struct Script {
 pub struct Input {
     pub opening: Opening,
     pub scripts: Limited<Script, MOST_SCRIPTS>,
+}
+
+impl Duplicate for Statement {
+    fn copy(&self, alloc: Global) -> Result<Self, AllocError> {
+        match self {
+            Statement::Select(select) => Ok(Statement::Select(select.copy(alloc)?)),
+            Statement::Entangled(entangled) => Ok(Statement::Entangled(entangled.copy(alloc)?)),
+            Statement::Insert(insert) => Ok(Statement::Insert(insert.copy(alloc)?)),
+            Statement::Delete(delete) => Ok(Statement::Delete(delete.copy(alloc)?)),
+            Statement::Update(update) => Ok(Statement::Update(update.copy(alloc)?)),
+            Statement::Set(set) => Ok(Statement::Set(set.copy(alloc)?)),
+        }
+    }
+}
+
+impl Duplicate for Script {
+    fn copy(&self, alloc: Global) -> Result<Self, AllocError> {
+        Ok(Script {
+            within: self.within,
+            statements: self.statements.copy(alloc)?,
+            end: self.end,
+        })
+    }
+}
+
+impl Duplicate for Input {
+    fn copy(&self, alloc: Global) -> Result<Self, AllocError> {
+        Ok(Input {
+            opening: self.opening.copy(alloc)?,
+            scripts: self.scripts.copy(alloc)?,
+        })
+    }
 }

@@ -1,7 +1,9 @@
 //! SELECT over tables.
+use crate::duplicate::Duplicate;
 use crate::limits::{MOST_PARTS, MOST_SOURCES};
 use crate::operand::{Identifier, Operand, Test};
 use ent_value::Limited;
+use std::alloc::{AllocError, Global};
 
 /// A table that a SELECT reads, and the name that it goes by there if it isn't its own.
 #[derive(Drop)]
@@ -23,4 +25,32 @@ pub struct Select {
     pub items: Items,
     pub sources: Limited<Source, MOST_SOURCES>,
     pub tests: Limited<Test<Operand>, MOST_PARTS>,
+}
+
+impl Duplicate for Source {
+    fn copy(&self, alloc: Global) -> Result<Self, AllocError> {
+        Ok(Source {
+            table: self.table.copy(alloc)?,
+            alias: self.alias.copy(alloc)?,
+        })
+    }
+}
+
+impl Duplicate for Items {
+    fn copy(&self, alloc: Global) -> Result<Self, AllocError> {
+        match self {
+            Items::All => Ok(Items::All),
+            Items::Listed(listed) => Ok(Items::Listed(listed.copy(alloc)?)),
+        }
+    }
+}
+
+impl Duplicate for Select {
+    fn copy(&self, alloc: Global) -> Result<Self, AllocError> {
+        Ok(Select {
+            items: self.items.copy(alloc)?,
+            sources: self.sources.copy(alloc)?,
+            tests: self.tests.copy(alloc)?,
+        })
+    }
 }
