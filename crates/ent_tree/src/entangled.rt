@@ -2,6 +2,7 @@
 use crate::duplicate::Duplicate;
 use crate::limits::MOST_PARTS;
 use crate::operand::{Identifier, Test, ValueSpecification};
+use crate::same::Same;
 use crate::select::Select;
 use ent_value::Limited;
 use std::alloc::{AllocError, Global};
@@ -99,5 +100,62 @@ impl Duplicate for Entangled {
             relations: self.relations.copy(alloc)?,
             conditions: self.conditions.copy(alloc)?,
         })
+    }
+}
+
+impl Same for Term {
+    fn is_same(&self, other: &Term) -> bool {
+        match self {
+            Term::Value(mine) => match other {
+                Term::Value(theirs) => mine.is_same(theirs),
+                _ => false,
+            },
+            Term::Variable(mine) => match other {
+                Term::Variable(theirs) => mine.is_same(theirs),
+                _ => false,
+            },
+        }
+    }
+}
+
+impl Same for EntangledItem {
+    fn is_same(&self, other: &EntangledItem) -> bool {
+        self.term.is_same(&other.term) && self.binds.is_same(&other.binds)
+    }
+}
+
+impl Same for Tuple {
+    fn is_same(&self, other: &Tuple) -> bool {
+        self.place == other.place && self.terms.is_same(&other.terms)
+    }
+}
+
+impl Same for Condition {
+    fn is_same(&self, other: &Condition) -> bool {
+        match self {
+            Condition::InSelect(tuple, select) => match other {
+                Condition::InSelect(first, second) => tuple.is_same(first)
+                    && select.is_same(second),
+                _ => false,
+            },
+            Condition::InAnswer(tuple, relation) => match other {
+                Condition::InAnswer(first, second) => tuple.is_same(first)
+                    && relation.is_same(second),
+                _ => false,
+            },
+            Condition::Test(mine) => match other {
+                Condition::Test(theirs) => mine.is_same(theirs),
+                _ => false,
+            },
+        }
+    }
+}
+
+impl Same for Entangled {
+    fn is_same(&self, other: &Entangled) -> bool {
+        self.items.is_same(&other.items)
+            && self.place == other.place
+            && self.relations.is_same(&other.relations)
+            && self.conditions.is_same(&other.conditions)
     }
 }

@@ -9,6 +9,7 @@ mod duplicate;
 mod entangled;
 mod limits;
 mod operand;
+mod same;
 mod script;
 mod select;
 mod statement;
@@ -23,6 +24,7 @@ pub use limits::{
 pub use operand::{
     ColumnReference, Comparison, Expression, Identifier, Literal, Operand, Test, ValueSpecification,
 };
+pub use same::Same;
 pub use script::{End, Input, Script, Statement};
 pub use select::{Items, Select, Source};
 pub use statement::{Assignment, Delete, Insert, Set, Update};

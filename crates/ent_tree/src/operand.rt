@@ -1,5 +1,6 @@
 //! Names, values and what is made of them.
 use crate::duplicate::Duplicate;
+use crate::same::Same;
 use ent_value::{Name, Value};
 use std::alloc::{AllocError, Global};
 
@@ -138,5 +139,82 @@ impl<T: Duplicate + Drop> Duplicate for Test<T> {
             comparison: self.comparison,
             right: self.right.copy(alloc)?,
         })
+    }
+}
+
+impl Same for Identifier {
+    fn is_same(&self, other: &Identifier) -> bool {
+        self.name.is_same(&other.name) && self.place == other.place
+    }
+}
+
+impl Same for Literal {
+    fn is_same(&self, other: &Literal) -> bool {
+        self.value.is_same(&other.value) && self.place == other.place
+    }
+}
+
+impl Same for ValueSpecification {
+    fn is_same(&self, other: &ValueSpecification) -> bool {
+        match self {
+            ValueSpecification::Literal(mine) => match other {
+                ValueSpecification::Literal(theirs) => mine.is_same(theirs),
+                _ => false,
+            },
+            ValueSpecification::HostVariable(mine) => match other {
+                ValueSpecification::HostVariable(theirs) => mine.is_same(theirs),
+                _ => false,
+            },
+        }
+    }
+}
+
+impl<T: Same> Same for Expression<T> {
+    fn is_same(&self, other: &Expression<T>) -> bool {
+        match self {
+            Expression::Single(mine) => match other {
+                Expression::Single(theirs) => mine.is_same(theirs),
+                _ => false,
+            },
+            Expression::Sum(left, right) => match other {
+                Expression::Sum(first, second) => left.is_same(first) && right.is_same(second),
+                _ => false,
+            },
+            Expression::Difference(left, right) => match other {
+                Expression::Difference(first, second) => {
+                    left.is_same(first) && right.is_same(second)
+                }
+                _ => false,
+            },
+        }
+    }
+}
+
+impl Same for ColumnReference {
+    fn is_same(&self, other: &ColumnReference) -> bool {
+        self.qualifier.is_same(&other.qualifier) && self.column.is_same(&other.column)
+    }
+}
+
+impl Same for Operand {
+    fn is_same(&self, other: &Operand) -> bool {
+        match self {
+            Operand::Value(mine) => match other {
+                Operand::Value(theirs) => mine.is_same(theirs),
+                _ => false,
+            },
+            Operand::Column(mine) => match other {
+                Operand::Column(theirs) => mine.is_same(theirs),
+                _ => false,
+            },
+        }
+    }
+}
+
+impl<T: Same> Same for Test<T> {
+    fn is_same(&self, other: &Test<T>) -> bool {
+        self.left.is_same(&other.left)
+            && self.comparison == other.comparison
+            && self.right.is_same(&other.right)
     }
 }

@@ -3,6 +3,7 @@ use crate::declaration::Opening;
 use crate::duplicate::Duplicate;
 use crate::entangled::Entangled;
 use crate::limits::{MOST_SCRIPTS, MOST_STATEMENTS};
+use crate::same::Same;
 use crate::select::Select;
 use crate::statement::{Delete, Insert, Set, Update};
 use ent_value::Limited;
@@ -70,5 +71,44 @@ impl Duplicate for Input {
             opening: self.opening.copy(alloc)?,
             scripts: self.scripts.copy(alloc)?,
         })
+    }
+}
+
+impl Same for Statement {
+    fn is_same(&self, other: &Statement) -> bool {
+        match self {
+            Statement::Select(mine) => match other {
+                Statement::Select(theirs) => mine.is_same(theirs),
+                _ => false,
+            },
+            Statement::Entangled(mine) => match other {
+                Statement::Entangled(theirs) => mine.is_same(theirs),
+                _ => false,
+            },
+            Statement::Insert(mine) => match other {
+                Statement::Insert(theirs) => mine.is_same(theirs),
+                _ => false,
+            },
+            Statement::Delete(mine) => match other {
+                Statement::Delete(theirs) => mine.is_same(theirs),
+                _ => false,
+            },
+            Statement::Update(mine) => match other {
+                Statement::Update(theirs) => mine.is_same(theirs),
+                _ => false,
+            },
+            Statement::Set(mine) => match other {
+                Statement::Set(theirs) => mine.is_same(theirs),
+                _ => false,
+            },
+        }
+    }
+}
+
+impl Same for Script {
+    fn is_same(&self, other: &Script) -> bool {
+        self.within == other.within
+            && self.statements.is_same(&other.statements)
+            && self.end == other.end
     }
 }

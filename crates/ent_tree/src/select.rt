@@ -2,6 +2,7 @@
 use crate::duplicate::Duplicate;
 use crate::limits::{MOST_PARTS, MOST_SOURCES};
 use crate::operand::{Identifier, Operand, Test};
+use crate::same::Same;
 use ent_value::Limited;
 use std::alloc::{AllocError, Global};
 
@@ -52,5 +53,31 @@ impl Duplicate for Select {
             sources: self.sources.copy(alloc)?,
             tests: self.tests.copy(alloc)?,
         })
+    }
+}
+
+impl Same for Source {
+    fn is_same(&self, other: &Source) -> bool {
+        self.table.is_same(&other.table) && self.alias.is_same(&other.alias)
+    }
+}
+
+impl Same for Items {
+    fn is_same(&self, other: &Items) -> bool {
+        match self {
+            Items::All => matches!(other, Items::All),
+            Items::Listed(mine) => match other {
+                Items::Listed(theirs) => mine.is_same(theirs),
+                _ => false,
+            },
+        }
+    }
+}
+
+impl Same for Select {
+    fn is_same(&self, other: &Select) -> bool {
+        self.items.is_same(&other.items)
+            && self.sources.is_same(&other.sources)
+            && self.tests.is_same(&other.tests)
     }
 }

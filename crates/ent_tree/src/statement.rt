@@ -2,6 +2,7 @@
 use crate::duplicate::Duplicate;
 use crate::limits::MOST_PARTS;
 use crate::operand::{Expression, Identifier, Operand, Test, ValueSpecification};
+use crate::same::Same;
 use ent_value::Limited;
 use std::alloc::{AllocError, Global};
 
@@ -87,5 +88,39 @@ impl Duplicate for Set {
             variable: self.variable.copy(alloc)?,
             expression: self.expression.copy(alloc)?,
         })
+    }
+}
+
+impl Same for Insert {
+    fn is_same(&self, other: &Insert) -> bool {
+        self.table.is_same(&other.table)
+            && self.place == other.place
+            && self.values.is_same(&other.values)
+    }
+}
+
+impl Same for Delete {
+    fn is_same(&self, other: &Delete) -> bool {
+        self.table.is_same(&other.table) && self.tests.is_same(&other.tests)
+    }
+}
+
+impl Same for Assignment {
+    fn is_same(&self, other: &Assignment) -> bool {
+        self.column.is_same(&other.column) && self.expression.is_same(&other.expression)
+    }
+}
+
+impl Same for Update {
+    fn is_same(&self, other: &Update) -> bool {
+        self.table.is_same(&other.table)
+            && self.assignments.is_same(&other.assignments)
+            && self.tests.is_same(&other.tests)
+    }
+}
+
+impl Same for Set {
+    fn is_same(&self, other: &Set) -> bool {
+        self.variable.is_same(&other.variable) && self.expression.is_same(&other.expression)
     }
 }
