@@ -1,0 +1,14 @@
+use Rattle.ent_semantics.proofs.Framed.{statement_same, grounding_same, run_same}
+use Rattle.ent_semantics.proofs.law.statements_keep_to_their_uses.Goals as goal
+
+-- src/law.rt:22:1
+pub returns-clause-reads : goal.returns-clause-reads
+returns-clause-reads c = statement_same
+
+-- src/law.rt:22:1
+pub returns-clause-grounds : goal.returns-clause-grounds
+returns-clause-grounds c = grounding_same
+
+-- src/law.rt:22:1
+pub returns-clause-runs : goal.returns-clause-runs
+returns-clause-runs c = run_same
