@@ -1,0 +1,15 @@
+//! Statements in the form in which they are matched and carried out.
+//!
+//! A table is its number in the order of declaration, a column its number in the row of a statement's sources side by
+//! side, a written variable its number in the order of first appearance. `K` is what is known before any row is read:
+//! in a resolved statement a [`Known`], in a closed one, whose host variables have given way to their values, a
+//! [`ent_value::Value`]. Both have one meaning, over what a `K` is worth.
+#![tactic(auto)]
+
+mod entangled;
+mod operand;
+mod statement;
+
+pub use entangled::{Atom, Binding, Entangled, Membership, Term};
+pub use operand::{Known, Operand};
+pub use statement::{Select, Statement};

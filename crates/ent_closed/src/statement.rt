@@ -1,0 +1,39 @@
+//! Statements over tables by their number.
+use crate::entangled::Entangled;
+use crate::operand::Operand;
+use ent_tree::{Expression, MOST_PARTS, MOST_SOURCES, Test};
+use ent_value::{Limited, Name, Sequence};
+
+/// The items of the combinations of the sources' rows that meet every test.
+#[derive(Drop)]
+pub struct Select<K> {
+    /// The tables, by number.
+    pub sources: Limited<usize, MOST_SOURCES>,
+    pub items: Sequence<Operand<K>>,
+    pub tests: Limited<Test<Operand<K>>, MOST_PARTS>,
+}
+
+/// A statement over tables by their number, counted from 0 in the order of declaration.
+#[derive(Drop)]
+pub enum Statement<K> {
+    Select(Select<K>),
+    Entangled(Entangled<K>),
+    Insert {
+        table: usize,
+        values: Limited<K, MOST_PARTS>,
+    },
+    Delete {
+        table: usize,
+        tests: Limited<Test<Operand<K>>, MOST_PARTS>,
+    },
+    /// An image is an expression for each column, in order; a column that isn't assigned is its own.
+    Update {
+        table: usize,
+        image: Limited<Expression<Operand<K>>, MOST_PARTS>,
+        tests: Limited<Test<Operand<K>>, MOST_PARTS>,
+    },
+    Set {
+        variable: Name,
+        expression: Expression<K>,
+    },
+}

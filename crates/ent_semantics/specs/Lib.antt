@@ -1,0 +1,11 @@
+pub mod Database
+pub mod Names
+pub mod Term
+pub mod Selection
+pub mod Change
+pub mod Effect
+pub mod Entangled
+pub mod Statement
+pub mod Serial
+pub mod Joint
+pub mod Book
