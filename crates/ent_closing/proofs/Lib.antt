@@ -1,1 +1,2 @@
 mod Bindings
+mod Meanings

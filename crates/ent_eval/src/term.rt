@@ -1,9 +1,8 @@
 //! What operands and expressions are worth.
-ghost use Rattle.std.specs.Prelude.{◌≡◌, ◌+ℤ◌, ◌-ℤ◌, ◌++◌};
+ghost use Rattle.std.specs.Prelude.{◌≡◌, ◌+ℤ◌, ◌-ℤ◌, ◌++◌, slice_index_or};
 ghost use Rattle.ent_value.specs.Refusal.{Gives};
 ghost use Rattle.ent_semantics.specs.Term.{no_value, number_of, in_64_bits, expression_value};
-ghost use Rattle.ent_closed.specs.Form.{operand_worth};
-ghost use Rattle.ent_eval.specs.Worth.{itself, there_or_overflow};
+ghost use Rattle.ent_eval.specs.Worth.{itself, value_in, there_or_overflow};
 
 use ent_closed::Operand;
 use ent_semantics::Failure;
@@ -11,8 +10,7 @@ use ent_tree::Expression;
 use ent_value::{Refusal, Value};
 use std::alloc::Global;
 
-/// The value of an operand over a row whose values stand in two parts, side by side; a column that isn't there stands
-/// for `none`.
+/// The value of an operand over a row that stands in two parts; a column that isn't there stands for `none`.
 pub(crate) fn operand_value<'a>(
     front: &'a [Value],
     rest: &'a [Value],
@@ -20,17 +18,27 @@ pub(crate) fn operand_value<'a>(
     none: &'a Value,
 ) -> &'a Value
     requires { none.now ≡ no_value }
-    ensures { result.now ≡ operand_worth itself (front.now ++ rest.now) operand.now }
+    ensures { result.now ≡ value_in (front.now ++ rest.now) operand.now }
 {
     match operand {
         Operand::Known(value) => value,
-        Operand::Column(number) => {
-            if *number < front.len() {
-                &front[*number]
-            } else {
-                rest.get(*number - front.len()).unwrap_or(none)
-            }
-        }
+        Operand::Column(number) => column_value(front, rest, *number, none),
+    }
+}
+
+/// The value at a number in a row that stands in two parts.
+fn column_value<'a>(
+    front: &'a [Value],
+    rest: &'a [Value],
+    number: usize,
+    none: &'a Value,
+) -> &'a Value
+    ensures { result.now ≡ slice_index_or (front.now ++ rest.now) number none.now }
+{
+    if number < front.len() {
+        &front[number]
+    } else {
+        rest.get(number - front.len()).unwrap_or(none)
     }
 }
 
@@ -85,18 +93,18 @@ pub(crate) fn operand_expression(
     expression: &Expression<Operand<Value>>,
 ) -> Result<Value, Refusal<Failure>>
     ensures { Gives (λ value. value) result
-        (there_or_overflow (expression_value (operand_worth itself row.now) expression.now)) }
+        (there_or_overflow (expression_value (value_in row.now) expression.now)) }
 {
     let none = Value::Int(0);
     match expression {
-        Expression::Single(term) => Ok(operand_value(row, &[], term, &none).copy(alloc)?),
+        Expression::Single(term) => Ok(operand_value(&[], row, term, &none).copy(alloc)?),
         Expression::Sum(left, right) => sum(
-            operand_value(row, &[], left, &none),
-            operand_value(row, &[], right, &none),
+            operand_value(&[], row, left, &none),
+            operand_value(&[], row, right, &none),
         ),
         Expression::Difference(left, right) => difference(
-            operand_value(row, &[], left, &none),
-            operand_value(row, &[], right, &none),
+            operand_value(&[], row, left, &none),
+            operand_value(&[], row, right, &none),
         ),
     }
 }
