@@ -1,5 +1,5 @@
 -- Pages and the keys that they hold.
-use Rattle.std.proofs.Common.{◌≡◌, ℕ, zero, suc, ◌+◌, ◌<◌, ◌≤◌, false, List, [], ◌∷◌, ◌++◌, map, length, take, drop, get_or, sym, refl, ap, subst, ◌∙◌, arith}
+use Rattle.std.proofs.Common.{◌≡◌, ℕ, zero, suc, ◌+◌, ◌-◌, ◌<◌, ◌≤◌, false, append-nil, List, [], ◌∷◌, ◌++◌, map, length, take, drop, get_or, sym, refl, ap, subst, ◌∙◌, arith}
 use Rattle.std.specs.Prelude.{Result, Ok, Err, IfOk, IfErr}
 use Rattle.std.specs.Result.{is_ok}
 use Rattle.std.specs.List.{AllByRecursion, flat_map, insert, remove}
@@ -96,6 +96,28 @@ module _ {X : Type 0} (f : X → List (List ℕ)) where
   pub two_at : (ps : List X) (i : ℕ) (y : X) (page : List (List ℕ)) → i + 1 < length ps → y ≡ get_or ps (i + 1) y → page ++ flat_map f (drop (i + 1) ps) ≡ (page ++ f y) ++ flat_map f (drop (i + 2) ps)
   two_at ps i y page lt is =
       ap (λ z. page ++ z) (flat_from ps (i + 1) y lt is ∙ ap (λ n. f y ++ flat_map f (drop n ps)) (let e : i + 1 + 1 ≡ i + 2 = omega arith in e)) ∙ sym (append_assoc page (f y) (flat_map f (drop (i + 2) ps)))
+
+  take_last : (ps : List X) (n : ℕ) (y : X) → n < length ps → y ≡ get_or ps n y → take (n + 1) ps ≡ take n ps ++ y ∷ []
+  take_last [] n y lt is = absurd (omega arith)
+  take_last (p ∷ ps) zero y lt is = ap (λ z. z ∷ []) (sym is)
+  take_last (p ∷ ps) (suc n) y lt is =
+      ap (λ m. take m (p ∷ ps)) (let e : suc n + 1 ≡ suc (n + 1) = omega arith in e)
+      ∙ ap (λ z. p ∷ z) (take_last ps n y (omega arith) is)
+
+  -- a page joined with the one before it
+  pub before_at : (ps : List X) (at : ℕ) (y : X) (page others rest : List (List ℕ)) → 0 < at → at ≤ length ps
+      → y ≡ get_or ps (at - 1) y → others ≡ f y ++ page
+      → flat_map f (take (at - 1) ps) ++ (others ++ rest) ≡ flat_map f (take at ps) ++ (page ++ rest)
+  before_at ps at y page others rest more le is e =
+      let n : at - 1 + 1 ≡ at = omega arith in
+      let all : flat_map f (take at ps) ≡ flat_map f (take (at - 1) ps) ++ f y =
+      ap (λ m. flat_map f (take m ps)) (sym n)
+      ∙ ap (flat_map f) (take_last ps (at - 1) y (omega arith) is) ∙ flat_map-append f (take (at - 1) ps) (y ∷ [])
+      ∙ ap (λ z. flat_map f (take (at - 1) ps) ++ z) (append-nil (f y)) in
+      ap (λ z. flat_map f (take (at - 1) ps) ++ (z ++ rest)) e
+      ∙ ap (λ z. flat_map f (take (at - 1) ps) ++ z) (append_assoc (f y) page rest)
+      ∙ sym (append_assoc (flat_map f (take (at - 1) ps)) (f y) (page ++ rest))
+      ∙ ap (λ z. z ++ (page ++ rest)) (sym all)
 
   -- two lists of pages go on alike where they go on alike behind pages that hold the same
   pub same_step : (ps qs : List X) (i : ℕ) (x y : X) → i < length ps → i < length qs → x ≡ get_or ps i x
