@@ -196,7 +196,8 @@ pub(crate) fn count_keys(pages: &[Arc<Page>]) -> usize
     count
 }
 
-/// Whether pages hold the same keys. Pages are compared whole up to the first two that differ, and from there key by key.
+/// Whether pages hold the same keys. Pages are compared whole up to the first two that differ, and from
+/// there key by key.
 pub(crate) fn are_same_keys(left: &[Arc<Page>], right: &[Arc<Page>]) -> bool
     ensures { IsTrue result ↔ (flat_map arc_value left.now ≡ flat_map arc_value right.now) }
 {
