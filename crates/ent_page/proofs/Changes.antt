@@ -368,7 +368,8 @@ take-at : (keys : List (List ℕ)) (at : ℕ) (key : List ℕ) → at < length k
 take-at [] at key lt is = absurd (omega arith)
 take-at (k ∷ keys) zero key lt is = ap (λ z. z ∷ []) (sym is)
 take-at (k ∷ keys) (suc at) key lt is =
-    ap (λ n. take n (k ∷ keys)) (let e : suc at + 1 ≡ suc (at + 1) = omega arith in e) ∙ ap (λ z. k ∷ z) (take-at keys at key (omega arith) is)
+    ap (λ n. take n (k ∷ keys)) (let e : suc at + 1 ≡ suc (at + 1) = omega arith in e)
+    ∙ ap (λ z. k ∷ z) (take-at keys at key (omega arith) is)
 
 pub below_next : (keys : List (List ℕ)) (bound key : List ℕ) (at : ℕ) → at < length keys → key ≡ get_or keys at key
     → AllBelow (take at keys) bound → key_cmp key bound ≡ Less → AllBelow (take (at + 1) keys) bound
