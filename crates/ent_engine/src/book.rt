@@ -22,8 +22,8 @@ use ent_plain_form::{
     opening_tables_mean_the_same, resolved_binds_the_same, resolved_keeps_kinds,
     resolved_means_the_same,
 };
-use ent_rel::{Table, TableFull};
 use ent_plain_sql::Opening;
+use ent_rel::{Table, TableFull};
 use ent_value::{Kind, Refusal, Sequence};
 use std::alloc::{AllocError, Global};
 use std::sync::Arc;
@@ -110,9 +110,11 @@ fn load_table(
     let rows = opening_rows(alloc, catalogue, number, opening)?;
     match Table::load(alloc, kinds, rows) {
         Ok(table) => Ok(table),
-        Err(Refusal::Memory) => Err(AllocError),
-        // So no table is too full.
-        Err(Refusal::Fault(TableFull)) => unreachable!(),
+        Err(refused) => match refused.refusal {
+            Refusal::Memory => Err(AllocError),
+            // So no table is too full.
+            Refusal::Fault(TableFull) => unreachable!(),
+        },
     }
 }
 

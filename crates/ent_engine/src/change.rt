@@ -4,6 +4,7 @@ ghost use Rattle.std.specs.Arc.{arc_value};
 ghost use Rattle.ent_value.specs.Refusal.{Gives};
 ghost use Rattle.ent_value.specs.Value.{kinds_of};
 ghost use Rattle.ent_rel.specs.Change.{changed_rows, application, deletion};
+ghost use Rattle.ent_plain_semantics.specs.declared.answer.Failure.TheVariants as failures;
 ghost use Rattle.ent_plain_form.specs.PlainMeaning.{known_kind, kind_with, kinds_bound, plain_kind, plain_known_value};
 ghost use Rattle.ent_plain_form.specs.PlainMeaning.{plain_meets, plain_image};
 ghost use Rattle.ent_engine.specs.Change.{change_made, insertion_of, image_or_overflow, replacement_of};
@@ -14,9 +15,9 @@ use crate::environment::Environment;
 use crate::row::{image_row, known_row};
 use crate::select::meets;
 use ent_plain_form::{PlainOperand, PlainTest, PlainValue};
-use ent_rel::{Delta, Table, TableFull};
 use ent_plain_semantics::Failure;
 use ent_plain_sql::Expression;
+use ent_rel::{Delta, Table, TableFull};
 use ent_value::{Refusal, Row};
 use std::alloc::{AllocError, Global};
 use std::sync::Arc;
@@ -31,10 +32,11 @@ pub(crate) struct Changed {
 fn table_refusal(refusal: Refusal<TableFull>) -> Refusal<Failure>
     ensures { result ≡ table_refusal refusal }
 {
-    match refusal {
-        Refusal::Memory => Refusal::Memory,
-        Refusal::Fault(TableFull) => Refusal::Fault(Failure::TableFull),
-    }
+    refusal.map(
+        |_: TableFull| -> Failure
+            ensures { result ≡ failures.TableFull }
+        { Failure::TableFull },
+    )
 }
 
 /// A table after a change that fits it.

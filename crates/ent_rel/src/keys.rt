@@ -2,7 +2,7 @@
 ghost use Rattle.std.specs.Prelude.{◌≡◌, ◌≤◌, IfOk, map, All};
 ghost use Rattle.ent_set.specs.Sets as set;
 ghost use Rattle.ent_value.specs.Refusal.{Gives};
-ghost use Rattle.ent_value.specs.Value.{kinds_of};
+ghost use Rattle.ent_value.specs.Value.{row_cmp, kinds_of};
 ghost use Rattle.ent_page.specs.Key.{key_of, AreStorable};
 ghost use Rattle.ent_rel.specs.Relation.{bounded};
 ghost use Rattle.ent_rel.specs.Kept.{rows_of, HoldRows};
@@ -21,6 +21,25 @@ pub(crate) fn keys_of(alloc: Global, rows: &[Row]) -> Result<Vec<Key>, AllocErro
     let mut keys = Vec::with_capacity(alloc, rows.len())?;
     for row in rows {
         keys.push(Key::of(alloc, row.values())?)?;
+    }
+    Ok(keys)
+}
+
+/// The set of the keys of rows; `TableFull` where there would be too many.
+pub(crate) fn keys_loaded(
+    alloc: Global,
+    kinds: &[Kind],
+    rows: &[Row],
+) -> Result<KeySet, Refusal<TableFull>>
+    requires { All (λ row. kinds_of row ≡ kinds.now) rows.now }
+    ensures rows { let all = set.from_list {R = row_cmp} rows.now in
+        Gives (λ keys. rows_of kinds.now keys) result (bounded all all) }
+    ensures hold { IfOk result (λ keys. HoldRows kinds.now keys) }
+    ensures limit { IfOk result (λ keys. set.len keys ≤ MOST_ROWS) }
+{
+    let keys = KeySet::from_keys(alloc, keys_of(alloc, rows)?)?;
+    if keys.len() > MOST_ROWS {
+        return Err(Refusal::Fault(TableFull));
     }
     Ok(keys)
 }

@@ -14,6 +14,6 @@ mod laws;
 mod table;
 
 pub use change::Delta;
-pub use fault::TableFull;
+pub use fault::{LoadRefused, TableFull};
 pub use laws::changes_by_row;
 pub use table::Table;

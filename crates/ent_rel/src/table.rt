@@ -1,7 +1,8 @@
 //! A table over a list of its rows in ascending order.
-ghost use Rattle.std.specs.Prelude.{◌≡◌, ◌≤◌, ◌==◌, Bool, List, Result, IfOk, IsOk, IsTrue, ◌↔◌, All, length};
+ghost use Rattle.std.specs.Prelude.{◌≡◌, ◌≤◌, ◌==◌, Bool, List, Result, Ok, IfOk, IfErr, IsOk, IsTrue, ◌↔◌, All};
+ghost use Rattle.std.specs.Prelude.{length};
 ghost use Rattle.ent_set.specs.Sets as set;
-ghost use Rattle.ent_value.specs.Refusal.{Gives};
+ghost use Rattle.ent_value.specs.Refusal.{Gives, Refuses};
 ghost use Rattle.ent_value.specs.Value.{row_cmp, kinds_of};
 ghost use Rattle.ent_value.specs.declared.value.Value.{Value as Cell};
 ghost use Rattle.ent_rel.specs.Relation.{HaveKinds, bounded};
@@ -10,8 +11,8 @@ ghost use Rattle.ent_rel.specs.Closure.{Computes, Changes, KeepsKinds};
 
 use crate::change::Delta;
 use crate::copies::{copies_where, images};
-use crate::fault::TableFull;
-use crate::keys::{keys_of, keys_with, keys_without};
+use crate::fault::{LoadRefused, TableFull};
+use crate::keys::{keys_loaded, keys_with, keys_without};
 use crate::kinds::{are_same_kinds, have_kinds};
 use ent_page::{KeySet, decode};
 use ent_value::{Kind, MOST_ROWS, Refusal, Row, Sequence};
@@ -50,17 +51,20 @@ impl Table {
         Table { kinds, keys }
     }
 
-    /// The table of these rows, of which doubles count once. `TableFull` where more than [`MOST_ROWS`] are distinct.
-    pub fn load(alloc: Global, kinds: Vec<Kind>, rows: Vec<Row>) -> Result<Self, Refusal<TableFull>>
+    /// The table of these rows, of which doubles count once. `TableFull` where more than [`MOST_ROWS`] are distinct;
+    /// rows that make no table come back.
+    pub fn load(alloc: Global, kinds: Vec<Kind>, rows: Vec<Row>) -> Result<Self, LoadRefused>
         requires { All (λ row. kinds_of row ≡ kinds.items) rows.items }
-        ensures { let rows = set.from_list {R = row_cmp} rows.items in
-            Gives (λ table. table) result (bounded rows record { kinds = kinds.items; rows = rows }) }
+        ensures table { let all = set.from_list {R = row_cmp} rows.items in
+            IfOk result (λ table. bounded all record { kinds = kinds.items; rows = all } ≡ Ok table) }
+        ensures refusal { let all = set.from_list {R = row_cmp} rows.items in
+            IfErr result (λ refused. Refuses refused.refusal (bounded all all)) }
+        ensures rows { IfErr result (λ refused. refused.rows.items ≡ rows.items) }
     {
-        let keys = KeySet::from_keys(alloc, keys_of(alloc, rows.as_slice())?)?;
-        if keys.len() > MOST_ROWS {
-            return Err(Refusal::Fault(TableFull));
+        match keys_loaded(alloc, &kinds, rows.as_slice()) {
+            Ok(keys) => Ok(Table { kinds, keys }),
+            Err(refusal) => Err(LoadRefused { rows, refusal }),
         }
-        Ok(Table { kinds, keys })
     }
 
     /// The kinds of the columns, which each row has.

@@ -275,7 +275,8 @@ module _ {K : Type 0} {R : K → K → Ordering} (o : IsTotalOrder R) (same : fi
 
   -- ---- lists of one set
 
-  one_passing : (t : K → Bool) (xs : List K) → list_any t xs ≡ true
+  -- an element of a list that passes
+  pub one_passing : (t : K → Bool) (xs : List K) → list_any t xs ≡ true
       → (x : K) × (t x ≡ true) × (list_any (eq_by_cmp R x) xs ≡ true)
   one_passing t [] h = cc
   one_passing t (x ∷ xs) h =
@@ -287,7 +288,8 @@ module _ {K : Type 0} {R : K → K → Ordering} (o : IsTotalOrder R) (same : fi
             (w.0, w.1, ap (λ b. eq_by_cmp R w.0 x || b) w.2 ∙ or-true _)
       ] refl h
 
-  passes_where : (t : K → Bool) (x : K) → t x ≡ true → (ys : List K)
+  -- where an element of a list passes, some element does
+  pub passes_where : (t : K → Bool) (x : K) → t x ≡ true → (ys : List K)
       → list_any (eq_by_cmp R x) ys ≡ true → list_any t ys ≡ true
   passes_where t x h [] e = cc
   passes_where t x h (y ∷ ys) e =
