@@ -1,12 +1,15 @@
 //! Sets of keys in pages.
+ghost use Rattle.std.specs.List.{filter};
 ghost use Rattle.std.specs.Prelude.{◌≡◌, ◌<◌, ◌^◌, ◌==◌, ◌∷◌, [], ◌↔◌, IsTrue, IfOk};
 ghost use Rattle.ent_set.specs.Sets as set;
+ghost use Rattle.ent_page.specs.Front.{begins_with};
 
 use crate::key::Key;
 use crate::key_cursor::KeyCursor;
 use crate::page::Page;
 use crate::pages::{
     are_same_keys, grown, pages_of, place_of, push_shared, shrunk, single, spliced,
+    walk_from,
 };
 use crate::probe::Probe;
 use std::alloc::{AllocError, Global};
@@ -139,6 +142,14 @@ impl KeySet {
         ensures { result ≡ set.ascending self.now }
     {
         KeyCursor::new(self.pages.as_slice())
+    }
+
+    /// A walk over the keys that begin with these bytes, ascending. The first is found by halving.
+    pub fn beginning_with(&self, front: Key) -> KeyCursor<'_>
+        ensures { result ≡ filter (begins_with front) (set.ascending self.now) }
+    {
+        let walk = walk_from(self.pages.as_slice(), &front);
+        KeyCursor::beginning_with(walk, front)
     }
 
     /// Whether two sets are the same. It takes no memory.

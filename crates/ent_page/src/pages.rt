@@ -7,10 +7,11 @@ ghost use Rattle.std.specs.Arc.{arc_value};
 ghost use Rattle.std.specs.declared.cmp.Ordering.TheVariants.{Greater};
 ghost use Rattle.ent_page.specs.Key.{key_cmp};
 ghost use Rattle.ent_page.specs.Paged.{IsSized, AllBelow, AllAbove};
+ghost use Rattle.ent_page.specs.Front.{StartsAt};
 
 use crate::key::Key;
-use crate::key_cursor::KeyCursor;
 use crate::page::Page;
+use crate::page_cursor::PageCursor;
 use crate::probe::Probe;
 use std::alloc::{AllocError, Global};
 use std::cmp::Ordering;
@@ -52,6 +53,24 @@ fn first_is_above<P: Probe>(page: &Page, key: &P) -> bool
     ensures { IsTrue result ↔ (key_cmp (get_or page.now 0 []) (P.bytes key.now) ≡ Greater) }
 {
     key.against(page.key(0)) == Ordering::Greater
+}
+
+/// A walk over the keys from the first that is not below a key.
+pub(crate) fn walk_from<'a>(pages: &'a [Arc<Page>], key: &Key) -> PageCursor<'a>
+    requires sized { AllByRecursion (λ page. IsSized (arc_value page)) pages.now }
+    requires sorted { IsStrictlySortedBy key_cmp (flat_map arc_value pages.now) }
+    ensures { StartsAt key.now (flat_map arc_value pages.now) result }
+{
+    let at = place_of(pages, key);
+    if at >= pages.len() {
+        return PageCursor::new(pages);
+    }
+    let page: &Page = &pages[at];
+    let index = match page.search(key) {
+        Ok(index) => index,
+        Err(index) => index,
+    };
+    PageCursor::from_index(&pages[at..], index)
 }
 
 /// Sorted keys in pages.
@@ -174,8 +193,8 @@ pub(crate) fn push_shared(new: &mut Vec<Arc<Page>>, pages: &[Arc<Page>]) -> Resu
 pub(crate) fn are_same_keys(left: &[Arc<Page>], right: &[Arc<Page>]) -> bool
     ensures { IsTrue result ↔ (flat_map arc_value left.now ≡ flat_map arc_value right.now) }
 {
-    let mut mine = KeyCursor::new(left);
-    let mut others = KeyCursor::new(right);
+    let mut mine = PageCursor::new(left);
+    let mut others = PageCursor::new(right);
     while let Some(key) = mine.next_key() {
         match others.next_key() {
             Some(other) => {
