@@ -3,3 +3,5 @@ mod Search
 mod Sorted
 mod Paging
 mod Fronts
+mod Cells
+mod Beginnings

@@ -1,10 +1,10 @@
 -- Pages and the keys that they hold.
-use Rattle.std.proofs.Common.{◌≡◌, ℕ, zero, suc, ◌+◌, ◌-◌, ◌<◌, ◌≤◌, Bool, true, false, List, [], ◌∷◌, ◌++◌, map, length, take, drop, get_or, sym, refl, ap, subst, ◌∙◌, arith}
+use Rattle.std.proofs.Common.{◌≡◌, ℕ, zero, suc, ◌+◌, ◌<◌, ◌≤◌, false, List, [], ◌∷◌, ◌++◌, map, length, take, drop, get_or, sym, refl, ap, subst, ◌∙◌, arith}
 use Rattle.std.specs.Prelude.{Result, Ok, Err, IfOk, IfErr}
 use Rattle.std.specs.Result.{is_ok}
 use Rattle.std.specs.List.{AllByRecursion, flat_map, insert, remove}
 use Rattle.std.specs.List.Sorted.{IsStrictlySortedBy}
-use Rattle.std.specs.declared.cmp.Ordering.TheVariants.{Less, Equal, Greater}
+use Rattle.std.specs.declared.cmp.Ordering.TheVariants.{Less, Greater}
 use Rattle.std.proofs.lemmas.List.{append_assoc, length-append, map-append, take-append-drop}
 use Rattle.std.proofs.lemmas.List.Concat.{flat_map-append}
 use Rattle.std.specs.List.{dedup}
@@ -19,8 +19,8 @@ use Rattle.ent_set.specs.Sets as set
 use Rattle.ent_set.specs.Laws.{len-distinct, ascending-from_list, is_sorted_from, ascending-from_sorted, from_list-ascending}
 use Rattle.ent_page.specs.Key.{key_cmp}
 use Rattle.ent_page.specs.Layout.{Ascends, AreBelow, AreAbove}
-use Rattle.ent_page.specs.Paged.{IsSized, AllBelow, AllAbove, IsPaged, keys_left}
-use Rattle.ent_page.proofs.Sorted.{keys_total, keys_exact, all_both, all_take, all_drop, all_at, sorted_back, sorted_front, sorted_below, sorted_above, sorted_put, sorted_cut, below_more, above_more, flip, ascends, below_taken, above_left, inserted_at, removed_at, taken_out, set_put, set_cut, set_kept, absent, present}
+use Rattle.ent_page.specs.Paged.{IsSized, AllBelow, AllAbove}
+use Rattle.ent_page.proofs.Sorted.{keys_total, keys_exact, all_both, all_take, all_drop, all_at, sorted_back, sorted_front, sorted_below, sorted_above, sorted_put, sorted_cut, below_more, above_more, flip, ascends, below_taken, above_left, inserted_at, removed_at, taken_out, set_put, set_cut, absent, present}
 
 head_is : (page : List (List ℕ)) → 0 < length page → page ≡ get_or page 0 [] ∷ drop 1 page
 head_is [] h = absurd (omega arith)
@@ -140,10 +140,10 @@ module _ {X : Type 0} (f : X → List (List ℕ)) where
         ∙ sym (append_assoc (flat_map f (take at ps)) (take i (f x)) (drop i (f x) ++ flat_map f (drop (at + 1) ps)))
 
     module _ (below : AllBelow (flat_map f (take at ps)) key) (above : AllAbove (flat_map f (drop (at + 1) ps)) key) where
-      gap_below : (i : ℕ) → i ≤ length (f x) → AreBelow (f x) key i → AllBelow (flat_map f (take at ps) ++ take i (f x)) key
+      pub gap_below : (i : ℕ) → i ≤ length (f x) → AreBelow (f x) key i → AllBelow (flat_map f (take at ps) ++ take i (f x)) key
       gap_below i le h = all_both (λ k. key_cmp k key ≡ Less) (flat_map f (take at ps)) (take i (f x)) below (below_taken (f x) key i le h)
 
-      gap_above : (i : ℕ) → AreAbove (f x) key i → AllAbove (drop i (f x) ++ flat_map f (drop (at + 1) ps)) key
+      pub gap_above : (i : ℕ) → AreAbove (f x) key i → AllAbove (drop i (f x) ++ flat_map f (drop (at + 1) ps)) key
       gap_above i h = all_both (λ k. key_cmp key k ≡ Less) (drop i (f x)) (flat_map f (drop (at + 1) ps)) (above_left (f x) key i h) above
 
       pub absent_at : (i : ℕ) → i ≤ length (f x) → AreBelow (f x) key i → AreAbove (f x) key i → set.contains (set.from_list {R = key_cmp} (flat_map f ps)) key ≡ false

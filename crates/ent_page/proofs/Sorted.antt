@@ -8,7 +8,6 @@ use Rattle.std.specs.declared.cmp.Ordering.{Ordering}
 use Rattle.std.specs.declared.cmp.Ordering.TheVariants.{Less, Equal, Greater}
 use Rattle.std.specs.Cmp.{IsTotalOrder}
 use Rattle.std.proofs.lemmas.Cmp.{nat_list_cmp_total}
-use Rattle.std.proofs.lemmas.List.{take-append-drop}
 use Rattle.std.proofs.lemmas.Map.Lookups.{CmpEqualImpliesEq, exact_bytes}
 use Rattle.std.proofs.lemmas.Map.Keys.{Less-from_sorted}
 use Rattle.ent_set.specs.Sets as set
@@ -69,7 +68,7 @@ all_drop P (suc n) (x ∷ xs) h = all_drop P n xs h.1
 pub flip : (x y : List ℕ) → key_cmp x y ≡ Greater → key_cmp y x ≡ Less
 flip x y h = keys_total.antisymm y x ∙ ap ordering_reverse h
 
-flip_less : (x y : List ℕ) → key_cmp x y ≡ Less → key_cmp y x ≡ Greater
+pub flip_less : (x y : List ℕ) → key_cmp x y ≡ Less → key_cmp y x ≡ Greater
 flip_less x y h = keys_total.antisymm y x ∙ ap ordering_reverse h
 
 pub sorted_back : (xs ys : List (List ℕ)) → IsStrictlySortedBy key_cmp (xs ++ ys) → IsStrictlySortedBy key_cmp ys

@@ -1,5 +1,5 @@
 -- The order of keys is the order of rows.
-use Rattle.std.proofs.Common.{◌≡◌, ℕ, ℤ, pos, negsuc, zero, suc, ◌+◌, ◌-◌, ◌*◌, ◌/◌, ◌%◌, ◌^◌, ◌<◌, ◌≤◌, List, [], ◌∷◌, ◌++◌, FitsSigned, sym, refl, ap, ◌∙◌, arith}
+use Rattle.std.proofs.Common.{◌≡◌, ℕ, ℤ, pos, negsuc, zero, suc, ◌+◌, ◌-◌, ◌*◌, ◌/◌, ◌%◌, ◌^◌, ◌<◌, ◌≤◌, List, [], ◌∷◌, ◌++◌, FitsSigned, append-nil, sym, refl, ap, ◌∙◌, arith}
 use Rattle.std.specs.Int.{w64, bytes_high_first, byte_at}
 use Rattle.std.specs.Ordering.{nat_cmp, int_cmp, ordering_then}
 use Rattle.std.specs.declared.cmp.Ordering.{Ordering}
@@ -119,11 +119,22 @@ front_number a b x y h k =
 
 -- values, and rows
 
-front_value : (v w : Value) (x y : List ℕ) → kind_of v ≡ kind_of w → IsStorable v → IsStorable w → key_cmp (value_key v ++ x) (value_key w ++ y) ≡ ordering_then (value_cmp v w) (key_cmp x y)
+pub front_value : (v w : Value) (x y : List ℕ) → kind_of v ≡ kind_of w → IsStorable v → IsStorable w → key_cmp (value_key v ++ x) (value_key w ++ y) ≡ ordering_then (value_cmp v w) (key_cmp x y)
 front_value (Int a) (Int b) x y e h k = front_number a b x y h k
 front_value (Int a) (Text t) x y e h k = cc
 front_value (Text s) (Int b) x y e h k = cc
 front_value (Text s) (Text t) x y e h k = front_text s t x y
+
+then_equal : (o : Ordering) → ordering_then o Equal ≡ o
+then_equal Less = refl
+then_equal Equal = refl
+then_equal Greater = refl
+
+pub value_order : (v w : Value) → kind_of v ≡ kind_of w → IsStorable v → IsStorable w
+    → key_cmp (value_key v) (value_key w) ≡ value_cmp v w
+value_order v w e h k =
+    (λ i. key_cmp (sym (append-nil (value_key v)) i) (sym (append-nil (value_key w)) i))
+    ∙ front_value v w [] [] e h k ∙ then_equal (value_cmp v w)
 
 pub key_order : (r s : List Value) → kinds_of r ≡ kinds_of s → AreStorable r → AreStorable s → key_cmp (key_of r) (key_of s) ≡ row_cmp r s
 key_order [] [] e h k = refl

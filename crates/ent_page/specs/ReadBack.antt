@@ -67,11 +67,11 @@ past_back (suc b ∷ t) rest =
 
 -- values and rows
 
-value_back : (v : Value) (rest : List ℕ) → IsStorable v → value_from (kind_of v) (value_key v ++ rest) ≡ v
+pub value_back : (v : Value) (rest : List ℕ) → IsStorable v → value_from (kind_of v) (value_key v ++ rest) ≡ v
 value_back (Int n) rest h = ap (λ z. Int z) (number_back n rest h)
 value_back (Text t) rest h = ap (λ z. Text z) (ap (take 255) (text_back t rest) ∙ take_all 255 t h)
 
-past_value_back : (v : Value) (rest : List ℕ) → past_value (kind_of v) (value_key v ++ rest) ≡ rest
+pub past_value_back : (v : Value) (rest : List ℕ) → past_value (kind_of v) (value_key v ++ rest) ≡ rest
 past_value_back (Int n) rest = past_number n rest
 past_value_back (Text t) rest = past_back t rest
 

@@ -84,10 +84,15 @@ impl<'a> Ord for Cell<'a> {
     ghost matches_eq = { Prim.search (comparing, rules) };
 
     fn cmp(&self, other: &Cell<'a>) -> Ordering {
-        match (self.kind, other.kind) {
-            (Kind::Int, Kind::Text) => Ordering::Less,
-            (Kind::Text, Kind::Int) => Ordering::Greater,
-            _ => self.bytes.cmp(other.bytes),
+        match self.kind {
+            Kind::Int => match other.kind {
+                Kind::Int => self.bytes.cmp(other.bytes),
+                Kind::Text => Ordering::Less,
+            },
+            Kind::Text => match other.kind {
+                Kind::Int => Ordering::Greater,
+                Kind::Text => self.bytes.cmp(other.bytes),
+            },
         }
     }
 }

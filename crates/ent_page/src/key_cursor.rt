@@ -40,7 +40,7 @@ impl<'a> KeyCursor<'a> {
 
     /// A walk up to the first key that doesn't begin with these bytes.
     pub(crate) fn beginning_with(pages: PageCursor<'a>, front: Key) -> Self
-        ensures { result ≡ take_while (begins_with front) pages }
+        ensures { result ≡ take_while (begins_with front) pages.entry }
     {
         KeyCursor {
             pages,

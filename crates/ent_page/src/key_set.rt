@@ -8,8 +8,7 @@ use crate::key::Key;
 use crate::key_cursor::KeyCursor;
 use crate::page::Page;
 use crate::pages::{
-    are_same_keys, grown, pages_of, place_of, push_shared, shrunk, single, spliced,
-    walk_from,
+    are_same_keys, grown, pages_of, place_of, push_shared, shrunk, single, spliced, walk_from,
 };
 use crate::probe::Probe;
 use std::alloc::{AllocError, Global};

@@ -28,7 +28,11 @@ fn read_values(alloc: Global, kinds: &[Kind], key: &[u8]) -> Result<Vec<Value>, 
     Ok(values)
 }
 
-pub(crate) fn read_value(alloc: Global, kind: Kind, bytes: &[u8]) -> Result<(Value, &[u8]), AllocError>
+pub(crate) fn read_value(
+    alloc: Global,
+    kind: Kind,
+    bytes: &[u8],
+) -> Result<(Value, &[u8]), AllocError>
     ensures value { IfOk result (λ r. r.0 ≡ value_from kind bytes.now) }
     ensures rest { IfOk result (λ r. r.1.now ≡ past_value kind bytes.now) }
 {

@@ -1,4 +1,4 @@
-use Rattle.std.proofs.Common.{ap, sym, ◌∙◌, arith, true, false, ◌≡◌}
+use Rattle.std.proofs.Common.{sym, ◌∙◌, arith, true, false, ◌≡◌}
 use Rattle.ent_page.proofs.Fronts.{other_front, front_taken, front_long}
 use Rattle.ent_page.proofs.probe.past.Goals as goal
 

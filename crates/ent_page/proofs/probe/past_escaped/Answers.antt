@@ -1,5 +1,5 @@
-use Rattle.std.proofs.Common.{◌++◌, ◌+◌, drop, ap, sym, ◌∙◌, arith, get_or}
-use Rattle.ent_page.specs.Key.{byte_key, text_key, key_cmp}
+use Rattle.std.proofs.Common.{◌+◌, drop, ap, sym, ◌∙◌, arith, get_or}
+use Rattle.ent_page.specs.Key.{byte_key, text_key}
 use Rattle.ent_page.proofs.Fronts.{text_of, past_none, from_place}
 use Rattle.ent_page.proofs.probe.past_escaped.Goals as goal
 

@@ -1,4 +1,4 @@
-use Rattle.std.proofs.Common.{ap, sym, ◌∙◌, ◌∷◌, [], arith}
+use Rattle.std.proofs.Common.{sym, ◌∙◌, ◌∷◌, []}
 use Rattle.ent_page.specs.Key.{text_key}
 use Rattle.ent_page.specs.Written.{plain}
 use Rattle.ent_page.proofs.Fronts.{past_more, past_none}

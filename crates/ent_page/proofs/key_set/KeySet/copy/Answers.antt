@@ -1,6 +1,5 @@
-use Rattle.std.proofs.Common.{◌≡◌, ap, sym, subst, ◌∙◌, List, ℕ, length}
+use Rattle.std.proofs.Common.{ap, sym, subst, ◌∙◌, length}
 use Rattle.std.specs.Arc.{arc_value}
-use Rattle.std.specs.List.{flat_map}
 use Rattle.std.specs.List.Sorted.{IsStrictlySortedBy}
 use Rattle.ent_set.specs.Sets as set
 use Rattle.ent_page.specs.Key.{key_cmp}

@@ -1,12 +1,12 @@
-use Rattle.std.proofs.Common.{◌≡◌, ◌+◌, ◌++◌, ◌∷◌, [], IfOk, List, ℕ, ap, refl, sym, subst, ◌∙◌, length, take, drop, arith}
+use Rattle.std.proofs.Common.{◌≡◌, ◌+◌, ◌∷◌, [], IfOk, ap, sym, subst, ◌∙◌, length, arith}
 use Rattle.std.specs.Arc.{arc_value}
 use Rattle.std.specs.List.{flat_map, insert}
 use Rattle.std.specs.List.Sorted.{IsStrictlySortedBy}
 use Rattle.ent_set.specs.Sets as set
-use Rattle.ent_set.specs.Laws.{insert_there, contains-empty}
+use Rattle.ent_set.specs.Laws.{insert_there}
 use Rattle.ent_page.specs.Key.{key_cmp}
-use Rattle.ent_page.proofs.Sorted.{keys_total, keys_exact, one_sorted, set_kept}
-use Rattle.ent_page.proofs.Paging.{nothing_there, contains_is, absent_at, page_sorted, count_set, put_sorted, put_set, put_length, cut_sorted, cut_set, cut_length}
+use Rattle.ent_page.proofs.Sorted.{keys_total, keys_exact, one_sorted}
+use Rattle.ent_page.proofs.Paging.{contains_is, page_sorted, count_set, put_sorted, put_set, put_length}
 use Rattle.ent_page.proofs.Sorted.{ascends}
 use Rattle.std.specs.Prelude.{true, Ok}
 use Rattle.ent_page.proofs.key_set.KeySet.with.Goals as goal

@@ -1,4 +1,4 @@
-use Rattle.std.proofs.Common.{◌++◌, ◌∷◌, [], length, ap, sym, ◌∙◌, arith}
+use Rattle.std.proofs.Common.{◌++◌, ◌∷◌, [], ap, ◌∙◌}
 use Rattle.ent_page.specs.Layout.{pieces}
 use Rattle.ent_page.proofs.Laid.{pushed, shown, made}
 use Rattle.ent_page.proofs.page.Page.push.Goals as goal
