@@ -4,3 +4,5 @@ pub mod Keyed
 pub mod Meanings
 pub mod Kept
 pub mod RowByRow
+pub mod Walks
+pub mod Fronts

@@ -11,9 +11,12 @@ mod fault;
 mod keys;
 mod kinds;
 mod laws;
+mod matches;
+mod row_cursor;
 mod table;
 
 pub use change::Delta;
 pub use fault::{LoadRefused, TableFull};
 pub use laws::changes_by_row;
+pub use row_cursor::RowCursor;
 pub use table::Table;

@@ -1,6 +1,6 @@
 //! A table over a list of its rows in ascending order.
 ghost use Rattle.std.specs.Prelude.{◌≡◌, ◌≤◌, ◌==◌, Bool, List, Result, Ok, IfOk, IfErr, IsOk, IsTrue, ◌↔◌, All};
-ghost use Rattle.std.specs.Prelude.{length};
+ghost use Rattle.std.specs.Prelude.{length, take, filter};
 ghost use Rattle.ent_set.specs.Sets as set;
 ghost use Rattle.ent_value.specs.Refusal.{Gives, Refuses};
 ghost use Rattle.ent_value.specs.Value.{row_cmp, kinds_of};
@@ -8,14 +8,16 @@ ghost use Rattle.ent_value.specs.declared.value.Value.{Value as Cell};
 ghost use Rattle.ent_rel.specs.Relation.{HaveKinds, bounded};
 ghost use Rattle.ent_rel.specs.Change.{changed_rows, insertion, deletion, replacement, application};
 ghost use Rattle.ent_rel.specs.Closure.{Computes, Changes, KeepsKinds};
+ghost use Rattle.ent_rel.specs.First.{has_first};
 
 use crate::change::Delta;
 use crate::copies::{copies_where, images};
 use crate::fault::{LoadRefused, TableFull};
 use crate::keys::{keys_loaded, keys_with, keys_without};
 use crate::kinds::{are_same_kinds, have_kinds};
-use ent_page::{KeySet, decode};
-use ent_value::{Kind, MOST_ROWS, Refusal, Row, Sequence};
+use crate::row_cursor::RowCursor;
+use ent_page::{Key, KeySet, decode, first_values_are_fronts};
+use ent_value::{Kind, MOST_ROWS, Refusal, Row, Sequence, Value};
 use std::alloc::{AllocError, Global};
 use std::marker::Model;
 
@@ -94,6 +96,24 @@ impl Table {
         ensures { result ≡ set.contains self.now.rows row.now }
     {
         have_kinds(row.values(), &self.kinds) && self.keys.contains(row)
+    }
+
+    /// A walk over the rows in ascending order. It takes no memory.
+    pub fn cursor(&self) -> RowCursor<'_>
+        ensures { result ≡ set.ascending self.now.rows }
+    {
+        RowCursor::new(&self.kinds, self.keys.cursor())
+    }
+
+    /// A walk over the rows whose first values are these, ascending. The first of them is found by halving.
+    pub fn look_up(&self, alloc: Global, values: &[Value]) -> Result<RowCursor<'_>, AllocError>
+        requires { kinds_of values.now ≡ take (length values.now) self.now.kinds }
+        ensures { IfOk result (λ found. found ≡ filter (has_first values.now) (set.ascending self.now.rows)) }
+    {
+        // A law: these rows are those whose keys begin with the key of the values.
+        first_values_are_fronts();
+        let front = Key::of(alloc, values)?;
+        Ok(RowCursor::new(&self.kinds, self.keys.beginning_with(front)))
     }
 
     /// The rows in ascending order.
