@@ -6,3 +6,4 @@ pub mod Kept
 pub mod RowByRow
 pub mod Walks
 pub mod Fronts
+pub mod Found

@@ -16,6 +16,7 @@ mod row_cursor;
 mod table;
 
 pub use change::Delta;
+pub use ent_page::{Cell, KnownValue, StoredRow};
 pub use fault::{LoadRefused, TableFull};
 pub use laws::changes_by_row;
 pub use row_cursor::RowCursor;

@@ -1,6 +1,6 @@
 //! A table over a list of its rows in ascending order.
 ghost use Rattle.std.specs.Prelude.{◌≡◌, ◌≤◌, ◌==◌, Bool, List, Result, Ok, IfOk, IfErr, IsOk, IsTrue, ◌↔◌, All};
-ghost use Rattle.std.specs.Prelude.{length, take, filter};
+ghost use Rattle.std.specs.Prelude.{length, take, filter, ◌&&◌};
 ghost use Rattle.ent_set.specs.Sets as set;
 ghost use Rattle.ent_value.specs.Refusal.{Gives, Refuses};
 ghost use Rattle.ent_value.specs.Value.{row_cmp, kinds_of};
@@ -9,14 +9,16 @@ ghost use Rattle.ent_rel.specs.Relation.{HaveKinds, bounded};
 ghost use Rattle.ent_rel.specs.Change.{changed_rows, insertion, deletion, replacement, application};
 ghost use Rattle.ent_rel.specs.Closure.{Computes, Changes, KeepsKinds};
 ghost use Rattle.ent_rel.specs.First.{has_first};
+ghost use Rattle.ent_rel.specs.Part.{IsPart};
 
 use crate::change::Delta;
 use crate::copies::{copies_where, images};
 use crate::fault::{LoadRefused, TableFull};
 use crate::keys::{keys_loaded, keys_with, keys_without};
 use crate::kinds::{are_same_kinds, have_kinds};
+use crate::matches::matches;
 use crate::row_cursor::RowCursor;
-use ent_page::{Key, KeySet, decode, first_values_are_fronts};
+use ent_page::{Key, KeySet, StoredRow, decode, first_values_are_fronts};
 use ent_value::{Kind, MOST_ROWS, Refusal, Row, Sequence, Value};
 use std::alloc::{AllocError, Global};
 use std::marker::Model;
@@ -208,6 +210,90 @@ impl Table {
     {
         let rows = self.rows(alloc)?;
         let removed = copies_where(alloc, rows.as_slice(), test)?;
+        let added = images(alloc, removed.as_slice(), change)?;
+        let count = removed.len() as u64;
+        Ok((
+            count,
+            Delta {
+                removed: Sequence::from_vec(removed),
+                added: Sequence::from_vec(added),
+            },
+        ))
+    }
+
+    /// Of the rows with these first values those that pass a test.
+    fn matches<F: Fn(&StoredRow<'_>) -> bool>(
+        &self,
+        alloc: Global,
+        values: &[Value],
+        test: F,
+    ) -> Result<Vec<Row>, AllocError>
+        requires test { F.IsAlwaysCallable test }
+        requires first { kinds_of values.now ≡ take (length values.now) self.now.kinds }
+        ensures passing { (passes : List Cell → Bool) → Computes F.Fn test self.now.rows passes
+            → let matches : List Cell → Bool = λ row. has_first values.now row && passes row in
+            IfOk result (λ found. found.items ≡ filter matches (set.ascending self.now.rows)) }
+        ensures part { IfOk result (λ found. IsPart (set.ascending self.now.rows) found.items) }
+        ensures limit { set.len self.now.rows ≤ MOST_ROWS }
+    {
+        // Asked for its bound alone.
+        let _ = self.len();
+        matches(alloc, self.look_up(alloc, values)?, test)
+    }
+
+    /// What taking out the rows with these first values that pass a test would change. The test sees each row where it
+    /// stands. The change fits.
+    pub fn delete_where<F: Fn(&StoredRow<'_>) -> bool>(
+        &self,
+        alloc: Global,
+        values: &[Value],
+        test: F,
+    ) -> Result<(u64, Delta), AllocError>
+        requires test { F.IsAlwaysCallable test }
+        requires first { kinds_of values.now ≡ take (length values.now) self.now.kinds }
+        ensures change { (passes : List Cell → Bool) → Computes F.Fn test self.now.rows passes
+            → let matches : List Cell → Bool = λ row. has_first values.now row && passes row in IfOk result (λ r.
+            (r.0, changed_rows self.now.rows r.1.removed r.1.added) ≡ deletion self.now.rows matches) }
+        ensures kinds { IfOk result (λ r. All (λ row. kinds_of row ≡ self.now.kinds) r.1.added) }
+        ensures fits { IfOk result (λ r. IsOk (application self.now.rows r.1.removed r.1.added)) }
+    {
+        let removed = self.matches(alloc, values, test)?;
+        Ok((
+            removed.len() as u64,
+            Delta {
+                removed: Sequence::from_vec(removed),
+                added: Sequence::new(alloc),
+            },
+        ))
+    }
+
+    /// What putting its image in the place of each row with these first values that passes a test would change, or the
+    /// fault of the first such row, in ascending order, that has no image. The change fits, as that of `replace`.
+    pub fn replace_where<
+        E: Drop,
+        F: Fn(&StoredRow<'_>) -> bool,
+        G: Fn(&Row) -> Result<Row, Refusal<E>>,
+    >(
+        &self,
+        alloc: Global,
+        values: &[Value],
+        test: F,
+        change: G,
+    ) -> Result<(u64, Delta), Refusal<E>>
+        requires test { F.IsAlwaysCallable test }
+        requires change { G.IsAlwaysCallable change }
+        requires first { kinds_of values.now ≡ take (length values.now) self.now.kinds }
+        requires kinds { KeepsKinds G.Fn change self.now.rows self.now.kinds }
+        ensures change { (passes : List Cell → Bool) (image : List Cell → Result (List Cell) E)
+            → Computes F.Fn test self.now.rows passes
+            → Changes G.Fn change self.now.rows image
+            → let matches : List Cell → Bool = λ row. has_first values.now row && passes row in
+            Gives (λ r. (r.0, changed_rows self.now.rows r.1.removed r.1.added))
+            result (replacement self.now.rows matches image) }
+        ensures kinds { IfOk result (λ r. All (λ row. kinds_of row ≡ self.now.kinds) r.1.added) }
+        ensures fits { IfOk result (λ r. IsOk (application self.now.rows r.1.removed r.1.added)) }
+    {
+        let removed = self.matches(alloc, values, test)?;
         let added = images(alloc, removed.as_slice(), change)?;
         let count = removed.len() as u64;
         Ok((
