@@ -119,7 +119,7 @@ pub(crate) fn updated(
     let (count, delta) = table.replace_where(
         alloc,
         first.as_slice(),
-        |row: &StoredRow<'_>| prepared.meets(row),
+        |old: &StoredRow<'_>| prepared.meets(old),
         |row: &Row| -> Result<Row, Refusal<Failure>>
             ensures { let image = plain_image (environment_of environment.entry.now) image.entry.now in
                 Gives (λ new. new) result (image_or_overflow image row.now) }

@@ -257,11 +257,11 @@ impl Table {
         ensures kinds { IfOk result (λ r. All (λ row. kinds_of row ≡ self.now.kinds) r.1.added) }
         ensures fits { IfOk result (λ r. IsOk (application self.now.rows r.1.removed r.1.added)) }
     {
-        let removed = self.matches(alloc, values, test)?;
+        let matched = self.matches(alloc, values, test)?;
         Ok((
-            removed.len() as u64,
+            matched.len() as u64,
             Delta {
-                removed: Sequence::from_vec(removed),
+                removed: Sequence::from_vec(matched),
                 added: Sequence::new(alloc),
             },
         ))
@@ -293,13 +293,13 @@ impl Table {
         ensures kinds { IfOk result (λ r. All (λ row. kinds_of row ≡ self.now.kinds) r.1.added) }
         ensures fits { IfOk result (λ r. IsOk (application self.now.rows r.1.removed r.1.added)) }
     {
-        let removed = self.matches(alloc, values, test)?;
-        let added = images(alloc, removed.as_slice(), change)?;
-        let count = removed.len() as u64;
+        let matched = self.matches(alloc, values, test)?;
+        let added = images(alloc, matched.as_slice(), change)?;
+        let count = matched.len() as u64;
         Ok((
             count,
             Delta {
-                removed: Sequence::from_vec(removed),
+                removed: Sequence::from_vec(matched),
                 added: Sequence::from_vec(added),
             },
         ))
