@@ -93,14 +93,14 @@ walked front keys last sorted start =
 
 -- ---- where a walk starts
 
-apart : (k key : List ℕ) → key_cmp key k ≡ Less → key_cmp k key ≡ Less → ⊥
+pub apart : (k key : List ℕ) → key_cmp key k ≡ Less → key_cmp k key ≡ Less → ⊥
 apart k key less more = let e : Less ≡ Greater = sym more ∙ flip_less key k less in cc
 
-none_below : (keys : List (List ℕ)) (key : List ℕ) → AllAbove keys key → NoneBelow keys key
-none_below [] key h = tt
-none_below (k ∷ keys) key h = (apart k key h.0, none_below keys key h.1)
+pub none_below_all : (keys : List (List ℕ)) (key : List ℕ) → AllAbove keys key → NoneBelow keys key
+none_below_all [] key h = tt
+none_below_all (k ∷ keys) key h = (apart k key h.0, none_below_all keys key h.1)
 
-not_itself : (key : List ℕ) → key_cmp key key ≡ Less → ⊥
+pub not_itself : (key : List ℕ) → key_cmp key key ≡ Less → ⊥
 not_itself key e = apart key key e e
 
 module _ {X : Type 0} (f : X → List (List ℕ)) (ps : List X) (at : ℕ) (x : X) (key : List ℕ) (lt : at < length ps) (is : x ≡ get_or ps at x) (sorted : IsStrictlySortedBy key_cmp (flat_map f ps))
@@ -119,7 +119,7 @@ module _ {X : Type 0} (f : X → List (List ℕ)) (ps : List X) (at : ℕ) (x : 
         before = before;
         all = all ∙ ap (λ z. before ++ z) (sym walk_is);
         below = sorted_below before behind key ordered;
-        from = subst (λ z. NoneBelow z key) (sym walk_is) (not_itself key, none_below behind key (sorted_above behind key (sorted_back before (key ∷ behind) ordered)));
+        from = subst (λ z. NoneBelow z key) (sym walk_is) (not_itself key, none_below_all behind key (sorted_above behind key (sorted_back before (key ∷ behind) ordered)));
       }
 
   pub starts_behind : (i : ℕ) (tail : List X) (walk : List (List ℕ)) → tail ≡ drop at ps → walk ≡ keys_left f tail i → i ≤ length (f x) → (Ascends (f x) → AreBelow (f x) key i) → (Ascends (f x) → AreAbove (f x) key i) → StartsAt key (flat_map f ps) walk
@@ -130,5 +130,5 @@ module _ {X : Type 0} (f : X → List (List ℕ)) (ps : List X) (at : ℕ) (x : 
         before = flat_map f (take at ps) ++ take i (f x);
         all = gap_at f ps at x key lt is sorted i ∙ ap (λ z. (flat_map f (take at ps) ++ take i (f x)) ++ z) (sym walk_is);
         below = gap_below f ps at x key lt is sorted below above i le (b up);
-        from = subst (λ z. NoneBelow z key) (sym walk_is) (none_below (drop i (f x) ++ flat_map f (drop (at + 1) ps)) key (gap_above f ps at x key lt is sorted below above i (a up)));
+        from = subst (λ z. NoneBelow z key) (sym walk_is) (none_below_all (drop i (f x) ++ flat_map f (drop (at + 1) ps)) key (gap_above f ps at x key lt is sorted below above i (a up)));
       }

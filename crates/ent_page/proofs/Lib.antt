@@ -5,3 +5,4 @@ mod Paging
 mod Fronts
 mod Cells
 mod Beginnings
+mod Changes

@@ -5,7 +5,7 @@ use Rattle.std.specs.Result.{is_ok}
 use Rattle.std.specs.List.{AllByRecursion, flat_map, insert, remove}
 use Rattle.std.specs.List.Sorted.{IsStrictlySortedBy}
 use Rattle.std.specs.declared.cmp.Ordering.TheVariants.{Less, Greater}
-use Rattle.std.proofs.lemmas.List.{append_assoc, length-append, map-append, take-append-drop}
+use Rattle.std.proofs.lemmas.List.{append_assoc, append_cancel_left, length-append, map-append, take-append-drop}
 use Rattle.std.proofs.lemmas.List.Concat.{flat_map-append}
 use Rattle.std.specs.List.{dedup}
 use Rattle.std.specs.List.Sorted.{IsSorted, IsPermutation}
@@ -83,9 +83,30 @@ module _ {X : Type 0} (f : X → List (List ℕ)) where
   pub flat_at : (ps : List X) (i : ℕ) (x : X) → i < length ps → x ≡ get_or ps i x → flat_map f ps ≡ flat_map f (take i ps) ++ (f x ++ flat_map f (drop (i + 1) ps))
   flat_at ps i x lt is = flat_parts ps i ∙ ap (λ z. flat_map f (take i ps) ++ z) (flat_from ps i x lt is)
 
+  pub count_within : (ps : List X) (i : ℕ) (x : X) → i < length ps → x ≡ get_or ps i x
+      → length (flat_map f (take i ps)) + length (f x) ≤ length (flat_map f ps)
+  count_within ps i x lt is =
+      omega (
+        arith,
+        ap length (flat_at ps i x lt is),
+        length-append (flat_map f (take i ps)) (f x ++ flat_map f (drop (i + 1) ps)),
+        length-append (f x) (flat_map f (drop (i + 1) ps)),
+      )
+
   pub two_at : (ps : List X) (i : ℕ) (y : X) (page : List (List ℕ)) → i + 1 < length ps → y ≡ get_or ps (i + 1) y → page ++ flat_map f (drop (i + 1) ps) ≡ (page ++ f y) ++ flat_map f (drop (i + 2) ps)
   two_at ps i y page lt is =
       ap (λ z. page ++ z) (flat_from ps (i + 1) y lt is ∙ ap (λ n. f y ++ flat_map f (drop n ps)) (let e : i + 1 + 1 ≡ i + 2 = omega arith in e)) ∙ sym (append_assoc page (f y) (flat_map f (drop (i + 2) ps)))
+
+  -- two lists of pages go on alike where they go on alike behind pages that hold the same
+  pub same_step : (ps qs : List X) (i : ℕ) (x y : X) → i < length ps → i < length qs → x ≡ get_or ps i x
+      → y ≡ get_or qs i y → f x ≡ f y → (whole : Type 0)
+      → ((flat_map f (drop i ps) ≡ flat_map f (drop i qs) → whole) × (whole → flat_map f (drop i ps) ≡ flat_map f (drop i qs)))
+      → ((flat_map f (drop (i + 1) ps) ≡ flat_map f (drop (i + 1) qs) → whole) × (whole → flat_map f (drop (i + 1) ps) ≡ flat_map f (drop (i + 1) qs)))
+  same_step ps qs i x y lp lq xp yq e whole h = (
+    λ r. h.0 (flat_from ps i x lp xp ∙ (λ j. e j ++ r j) ∙ sym (flat_from qs i y lq yq)),
+    λ w. append_cancel_left (f x) (flat_map f (drop (i + 1) ps)) (flat_map f (drop (i + 1) qs)) (
+        sym (flat_from ps i x lp xp) ∙ h.1 w ∙ flat_from qs i y lq yq ∙ ap (λ z. z ++ flat_map f (drop (i + 1) qs)) (sym e)),
+  )
 
   -- ---- a page whose first key is compared with another
 

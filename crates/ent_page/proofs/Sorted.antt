@@ -150,7 +150,7 @@ taken_out (k ∷ ks) (suc i) key lt is = ap (λ z. k ∷ z) (taken_out ks i key 
 
 -- ---- as sets
 
-any_over : (p : List ℕ → Bool) (xs ys : List (List ℕ)) → list_any p (xs ++ ys) ≡ (list_any p xs || list_any p ys)
+pub any_over : (p : List ℕ → Bool) (xs ys : List (List ℕ)) → list_any p (xs ++ ys) ≡ (list_any p xs || list_any p ys)
 any_over p [] ys = refl
 any_over p (x ∷ xs) ys = ap (λ b. p x || b) (any_over p xs ys) ∙ assoc (p x) (list_any p xs) (list_any p ys)
   where
@@ -172,11 +172,11 @@ set_put xs ys key = same_set keys_total keys_exact _ _ (λ q.
     ∙ ap (λ b. eq_by_cmp key_cmp q key || b) (sym (contains-from_list keys_total keys_exact (xs ++ ys) q))
     ∙ sym (contains-insert keys_total keys_exact (set.from_list (xs ++ ys)) key q))
 
-none_below : (xs : List (List ℕ)) (key : List ℕ) → AllBelow xs key → list_any (eq_by_cmp key_cmp key) xs ≡ false
+pub none_below : (xs : List (List ℕ)) (key : List ℕ) → AllBelow xs key → list_any (eq_by_cmp key_cmp key) xs ≡ false
 none_below [] key h = refl
 none_below (x ∷ xs) key h = (λ i. is_eq (flip_less x key h.0 i) || list_any (eq_by_cmp key_cmp key) xs) ∙ none_below xs key h.1
 
-none_above : (ys : List (List ℕ)) (key : List ℕ) → AllAbove ys key → list_any (eq_by_cmp key_cmp key) ys ≡ false
+pub none_above : (ys : List (List ℕ)) (key : List ℕ) → AllAbove ys key → list_any (eq_by_cmp key_cmp key) ys ≡ false
 none_above [] key h = refl
 none_above (y ∷ ys) key h = (λ i. is_eq (h.0 i) || list_any (eq_by_cmp key_cmp key) ys) ∙ none_above ys key h.1
 
@@ -185,7 +185,7 @@ pub absent : (xs ys : List (List ℕ)) (key : List ℕ) → AllBelow xs key → 
 absent xs ys key below above =
     contains-from_list keys_total keys_exact (xs ++ ys) key ∙ any_over (eq_by_cmp key_cmp key) xs ys ∙ (λ i. none_below xs key below i || none_above ys key above i)
 
-same_key : (key : List ℕ) → eq_by_cmp key_cmp key key ≡ true
+pub same_key : (key : List ℕ) → eq_by_cmp key_cmp key key ≡ true
 same_key key = by (key_cmp key key) refl
   where
     by : (o : Ordering) → key_cmp key key ≡ o → is_eq (key_cmp key key) ≡ true

@@ -3,6 +3,7 @@ pub mod Read
 pub mod Layout
 pub mod Paged
 pub mod Front
+pub mod Changed
 pub mod Written
 pub mod Order
 pub mod ReadBack

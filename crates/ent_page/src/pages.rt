@@ -1,5 +1,5 @@
 //! Ordered lists of pages.
-ghost use Rattle.std.specs.Prelude.{◌≡◌, ◌+◌, ◌<◌, ◌≤◌, ◌++◌, ◌↔◌, [], IsTrue, IfOk, OnOk, length};
+ghost use Rattle.std.specs.Prelude.{◌≡◌, ◌+◌, ◌<◌, ◌≤◌, ◌^◌, ◌++◌, ◌↔◌, [], IsTrue, IfOk, OnOk, length};
 ghost use Rattle.std.specs.Prelude.{map, take, drop, get_or};
 ghost use Rattle.std.specs.List.{flat_map, insert, AllByRecursion};
 ghost use Rattle.std.specs.List.Sorted.{IsStrictlySortedBy};
@@ -11,6 +11,7 @@ ghost use Rattle.ent_page.specs.Front.{StartsAt};
 
 use crate::key::Key;
 use crate::page::Page;
+use crate::page_builder::PageBuilder;
 use crate::page_cursor::PageCursor;
 use crate::probe::Probe;
 use std::alloc::{AllocError, Global};
@@ -21,10 +22,10 @@ use std::sync::Arc;
 pub const PAGE_LIMIT: usize = 256;
 
 /// How many keys a page gets that is made of sorted keys.
-const PAGE_FILL: usize = 128;
+pub(crate) const PAGE_FILL: usize = 128;
 
 /// Neighbours that have no more keys together than this become one page.
-const JOIN_LIMIT: usize = 192;
+pub(crate) const JOIN_LIMIT: usize = 192;
 
 /// The place of the page in which a key stands, if it stands in any; 0 where there is no page.
 pub(crate) fn place_of<P: Probe>(pages: &[Arc<Page>], key: &P) -> usize
@@ -78,19 +79,11 @@ pub(crate) fn pages_of(alloc: Global, keys: &[Key]) -> Result<Vec<Arc<Page>>, Al
     ensures keys { IfOk result (λ pages. flat_map arc_value pages.items ≡ keys.now) }
     ensures sized { IfOk result (λ pages. AllByRecursion (λ page. IsSized (arc_value page)) pages.items) }
 {
-    let mut pages = Vec::new(alloc);
-    let mut page = Page::new(alloc);
+    let mut out = PageBuilder::new(alloc);
     for key in keys {
-        if page.len() >= PAGE_FILL {
-            pages.push(Arc::new(alloc, page)?)?;
-            page = Page::new(alloc);
-        }
-        page.push(key.as_bytes())?;
+        out.push(alloc, key.as_bytes())?;
     }
-    if page.len() > 0 {
-        pages.push(Arc::new(alloc, page)?)?;
-    }
-    Ok(pages)
+    out.finish(alloc)
 }
 
 /// A list of one page.
@@ -189,8 +182,32 @@ pub(crate) fn push_shared(new: &mut Vec<Arc<Page>>, pages: &[Arc<Page>]) -> Resu
     Ok(())
 }
 
-/// Whether pages hold the same keys.
+/// How many keys pages hold.
+pub(crate) fn count_keys(pages: &[Arc<Page>]) -> usize
+    requires { length (flat_map arc_value pages.now) < 2 ^ 64 }
+    ensures { result ≡ length (flat_map arc_value pages.now) }
+{
+    let mut count = 0;
+    for page in pages {
+        count += page.len();
+    }
+    count
+}
+
+/// Whether pages hold the same keys. Pages are compared whole up to the first two that differ, and from there key by key.
 pub(crate) fn are_same_keys(left: &[Arc<Page>], right: &[Arc<Page>]) -> bool
+    ensures { IsTrue result ↔ (flat_map arc_value left.now ≡ flat_map arc_value right.now) }
+{
+    let both = left.len().min(right.len());
+    let mut same = 0;
+    while same < both && left[same].is_same(&right[same]) {
+        same += 1;
+    }
+    are_same_walks(&left[same..], &right[same..])
+}
+
+/// Whether pages hold the same keys, compared key by key.
+fn are_same_walks(left: &[Arc<Page>], right: &[Arc<Page>]) -> bool
     ensures { IsTrue result ↔ (flat_map arc_value left.now ≡ flat_map arc_value right.now) }
 {
     let mut mine = PageCursor::new(left);
