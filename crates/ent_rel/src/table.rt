@@ -14,7 +14,7 @@ ghost use Rattle.ent_rel.specs.Part.{IsPart};
 use crate::change::Delta;
 use crate::copies::{copies_where, images};
 use crate::fault::{LoadRefused, TableFull};
-use crate::keys::{keys_loaded, keys_with, keys_without};
+use crate::keys::{keys_changed, keys_loaded};
 use crate::kinds::{are_same_kinds, have_kinds};
 use crate::matches::matches;
 use crate::row_cursor::RowCursor;
@@ -313,9 +313,8 @@ impl Table {
         ensures kinds { IfOk result (λ table. table.kinds ≡ self.now.kinds) }
     {
         let kinds = Vec::from_slice(alloc, self.kinds.as_slice())?;
-        let whole = self.keys.copy(alloc)?;
-        let left = keys_without(alloc, &kinds, whole, delta.removed.as_slice())?;
-        let keys = keys_with(alloc, &kinds, left, delta.added.as_slice())?;
+        let (removed, added) = (delta.removed.as_slice(), delta.added.as_slice());
+        let keys = keys_changed(alloc, &kinds, &self.keys, removed, added)?;
         Ok(Table { kinds, keys })
     }
 
