@@ -1,1 +1,2 @@
 pub mod Lexemes
+pub mod Reading

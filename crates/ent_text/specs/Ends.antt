@@ -6,8 +6,8 @@ use Rattle.ent_text.specs.declared.symbol.Symbol.TheVariants.{Less, Greater, Min
 use Rattle.ent_text.specs.declared.token.TokenKind.{TokenKind}
 use Rattle.ent_text.specs.declared.token.TokenKind.TheVariants.{Word, Name, HostVariable, Number, Literal, Sign}
 
--- letters, digits and `_` go on words and host variables, digits numbers, a quote texts, `>` and `=` the symbol `<`, `=`
--- the symbol `>`; and a `-` behind a `-` makes a comment of both
+-- letters, digits and `_` go on words and host variables, digits numbers, a quote texts, `>` and `=` the symbol `<`,
+-- `=` the symbol `>`; and a `-` behind a `-` makes a comment of both
 abbrev pub goes_on : TokenKind → ℕ → Bool
 goes_on (Word keyword) b = is_word_byte b
 goes_on (Name word) b = is_word_byte b
