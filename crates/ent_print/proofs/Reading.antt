@@ -48,7 +48,7 @@ read_token ends bytes behind kind kinds spelled small e others place =
     omega (arith, length-append bytes behind) in (
       record { kind = kind; start = place; end = place + length bytes } ∷ rest.0,
       token place bytes behind kind rest.0 (place + length (bytes ++ behind)) [] spelled (ends bytes behind kind
-      spelled e)
+          spelled e)
           small (subst (λ (n : ℕ). Reads (place + length bytes) behind rest.0 n []) end rest.1),
       ap (λ (ks : List TokenKind). kind ∷ ks) rest.2,
     )

@@ -5,7 +5,8 @@ ghost use Rattle.ent_print.specs.Lexeme.{Lexeme, text_of};
 ghost use Rattle.ent_print.specs.Spelling.{script_spelling};
 ghost use Rattle.ent_print.specs.Printing.{script_text};
 ghost use Rattle.ent_print.specs.Reading.{kinds_of, CanBeRead, IsReadable, HasKinds};
-ghost use Rattle.std.specs.Prelude.{List};
+ghost use Rattle.std.specs.Prelude.{◌≡◌, List};
+ghost use Rattle.ent_tree.specs.Places.{unplaced_script};
 
 use ent_text::pieces_end;
 
@@ -22,3 +23,8 @@ pub fn printed_script_is_read()
 {
     printed_text_is_read();
 }
+
+/// A script is printed alike wherever its parts stand.
+pub fn places_do_not_show()
+    ensures { (script : Script) → script_spelling (unplaced_script script) ≡ script_spelling script }
+{}

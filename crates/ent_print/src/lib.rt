@@ -13,5 +13,5 @@ mod spelled;
 mod statement;
 mod symbol;
 
-pub use laws::{printed_script_is_read, printed_text_is_read};
+pub use laws::{places_do_not_show, printed_script_is_read, printed_text_is_read};
 pub use script::print_script;
