@@ -13,3 +13,4 @@ pub mod Quiet
 pub mod Run
 pub mod Step
 pub mod Reached
+pub mod Play
