@@ -14,3 +14,4 @@ pub mod Run
 pub mod Step
 pub mod Reached
 pub mod Play
+pub mod Writers

@@ -7,4 +7,4 @@
 
 mod law;
 
-pub use law::refusals_change_nothing;
+pub use law::{refusals_change_nothing, two_writers_deadlock};
