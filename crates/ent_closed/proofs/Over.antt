@@ -134,7 +134,8 @@ module _ {K J : Type 0} (other : K → J) (worth : J → Value) where
 -- ---- closing
 
 pub closed_grounding : (environment : Environment) (tables : Tables) (entangled : Entangled Known)
-    (valuation : Valuation) → is_form_grounding (λ value. value) tables (closed_entangled environment entangled) valuation
+    (valuation : Valuation)
+    → is_form_grounding (λ value. value) tables (closed_entangled environment entangled) valuation
     ≡ is_form_grounding (known_worth environment) tables entangled valuation
 closed_grounding environment tables entangled valuation =
     grounding_same (known_worth environment) (λ value. value) tables entangled valuation

@@ -10,7 +10,6 @@ ghost use Rattle.ent_closed.specs.declared.operand.Known.{Known};
 ghost use Rattle.ent_closed.specs.declared.statement.Statement.{Statement};
 
 /// A resolved statement means what it means closed; an entangled one has the same groundings, heads and posts.
-#[tactic(auto, using(crate::proofs::Over::closed_meaning, crate::proofs::Over::closed_grounding, crate::proofs::Over::closed_heads, crate::proofs::Over::closed_posts,))]
 pub fn closing_keeps_the_meaning()
     ensures meaning { (statement : Statement Known) (valuation : Valuation) (tables : Tables)
         → (environment : Environment)

@@ -1,5 +1,6 @@
 -- A statement reads its used tables alone, and changes its exclusive ones alone.
-use Rattle.std.proofs.Common.{◌≡◌, ℕ, Bool, true, false, cond, ◌||◌, List, [], ◌∷◌, ◌++◌, refl, sym, ap, subst, ◌∙◌, map}
+use Rattle.std.proofs.Common.{◌≡◌, ℕ, Bool, true, false, cond, ◌||◌, List, [], ◌∷◌, ◌++◌, map, refl, sym, ap, subst}
+use Rattle.std.proofs.Common.{◌∙◌}
 use Rattle.std.proofs.Common.{Option, Some, None, Result, Ok, Err}
 use Rattle.std.specs.Prelude.{nat_le, if◌then◌else◌, ◌&&◌, ◌==◌, length}
 use Rattle.std.specs.List.{list_all, flat_map}
@@ -169,7 +170,8 @@ conditions_same : (some : Name → Bool) (declared : List Create) (environment :
 conditions_same some declared environment worth first second [] covers agree = refl
 conditions_same some declared environment worth first second (condition ∷ more) covers agree =
     let here = condition_same some declared environment worth first second condition
-    (λ name there. covers name (among_left (condition_tables condition) (flat_map condition_tables more) name there)) agree
+    (λ name there. covers name (among_left (condition_tables condition) (flat_map condition_tables more) name there))
+    agree
     in
     let rest = conditions_same some declared environment worth first second more
     (λ name there. covers name (among_right (condition_tables condition) (flat_map condition_tables more) name there))
@@ -188,7 +190,8 @@ pub grounding_same : (some : Name → Bool) (declared : List Create) (environmen
     → is_grounding declared first environment entangled valuation
     ≡ is_grounding declared second environment entangled valuation
 grounding_same some declared environment entangled valuation first second covers agree =
-    ap (λ b. (length valuation == length (written_variables entangled)) && b) (conditions_same some declared environment (term_worth environment entangled valuation) first second
+    ap (λ b. (length valuation == length (written_variables entangled)) && b)
+    (conditions_same some declared environment (term_worth environment entangled valuation) first second
     entangled.conditions (λ name there. covers name (used_shared (statements.Entangled entangled) name there)) agree)
 
 pub statement_same : (some : Name → Bool) (declared : List Create) (statement : Statement) (valuation : Valuation)

@@ -19,7 +19,6 @@ ghost use Rattle.ent_semantics.specs.Uses.{Agree, Covers, CoversAll, EffectsAlik
 
 /// A statement reads its used tables alone, and so does a grounding of an entangled one; it changes its exclusive
 /// tables alone. Two databases that are alike in each table are the same.
-#[tactic(auto, using(crate::proofs::Framed::statement_same, crate::proofs::Framed::grounding_same, crate::proofs::Framed::statement_other, crate::proofs::Framed::run_same, crate::proofs::Framed::same_database,))]
 pub fn statements_keep_to_their_uses()
     ensures reads { (some : Name → Bool) (declared : List Create) (statement : Statement) (valuation : Valuation)
         → (environment : Environment) (first second : Database)

@@ -1,0 +1,4 @@
+pub mod Idle
+pub mod Inserted
+pub mod Ring
+pub mod WritersPlay
