@@ -1,0 +1,5 @@
+pub mod Fault
+pub mod Catalogue
+pub mod Kinds
+pub mod Bindings
+pub mod OpeningFault

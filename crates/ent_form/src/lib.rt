@@ -1,0 +1,11 @@
+//! Declared tables, and statements with each name resolved to a number.
+#![tactic(auto)]
+
+mod binding;
+mod catalogue;
+mod declaration;
+mod fault;
+mod row;
+
+pub use catalogue::{Catalogue, ColumnSchema, TableSchema};
+pub use fault::FormFault;
