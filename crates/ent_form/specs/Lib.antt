@@ -3,3 +3,7 @@ pub mod Catalogue
 pub mod Kinds
 pub mod Bindings
 pub mod OpeningFault
+pub mod Steps
+pub mod Scope
+pub mod Lookup
+pub mod Ordinary
