@@ -8,8 +8,8 @@ ghost use Rattle.ent_form.specs.OpeningFault.{opening_fault, unless};
 use crate::declaration::declarations_fault;
 use crate::fault::FormFault;
 use crate::row::rows_fault;
-use ent_tree::{Column, Create, Opening};
-use ent_value::{Kind, Name, Refusal, Sequence};
+use ent_tree::{Column, Create, MOST_PARTS, Opening};
+use ent_value::{Kind, Limited, Name, Refusal, Sequence};
 use std::alloc::{AllocError, Global};
 
 /// A column: its name, and the kind of its values.
@@ -23,7 +23,7 @@ pub struct ColumnSchema {
 #[derive(Drop)]
 pub struct TableSchema {
     pub name: Name,
-    pub columns: Sequence<ColumnSchema>,
+    pub columns: Limited<ColumnSchema, MOST_PARTS>,
 }
 
 /// The tables that an input declares, in order.
@@ -90,13 +90,14 @@ fn column_schema(alloc: Global, column: &Column) -> Result<ColumnSchema, AllocEr
 fn table_schema(alloc: Global, create: &Create) -> Result<TableSchema, AllocError>
     ensures { IfOk result (λ schema. schema ≡ table_schema create.now) }
 {
-    let mut columns = Vec::with_capacity(alloc, create.columns.len())?;
+    let _limit = create.columns.len();
+    let mut columns = Limited::new(alloc);
     for column in create.columns.as_slice() {
         columns.push(column_schema(alloc, column)?)?;
     }
     Ok(TableSchema {
         name: create.name.name.copy(alloc)?,
-        columns: Sequence::from_vec(columns),
+        columns,
     })
 }
 

@@ -6,6 +6,7 @@ mod catalogue;
 mod declaration;
 mod fault;
 mod row;
+mod scope;
 
 pub use catalogue::{Catalogue, ColumnSchema, TableSchema};
 pub use fault::FormFault;

@@ -3,4 +3,4 @@ use Rattle.ent_form.specs.Catalogue.{column_schema}
 use Rattle.ent_form.proofs.catalogue.table_schema.Given as goal
 
 abbrev pub invariant-loop-column : goal.invariant-loop-column
-invariant-loop-column l = l.columns.items ≡ map column_schema (take l.column-index l.column-items)
+invariant-loop-column l = l.columns ≡ map column_schema (take l.column-index l.column-items)
