@@ -63,6 +63,12 @@ operand_in scope bound (operands.Column reference) =
 abbrev pub operands_in : Scope → Bound → Lookup Operand (ResolvedOperand Known)
 operands_in scope bound = record { find = operand_in scope bound; place = operand_place }
 
+-- where an expression stands: where its first term does
+abbrev pub expression_place : {A : Type 0} → (A → ℕ) → Expression A → ℕ
+expression_place place (Single term) = place term
+expression_place place (Sum left right) = place left
+expression_place place (Difference left right) = place left
+
 module _ {A B : Type 0} where
   -- a term of any kind
   abbrev pub term_in : Lookup A B → A → Result B FormFault
@@ -92,9 +98,3 @@ module _ {A B : Type 0} where
       kind_in lookup kinds.Int left >>= λ left.
       kind_in lookup kinds.Int right >>= λ right.
       Ok (Difference left right, kinds.Int)
-
-  -- where an expression stands: where its first term does
-  abbrev pub expression_place : Lookup A B → Expression A → ℕ
-  expression_place lookup (Single term) = lookup.place term
-  expression_place lookup (Sum left right) = lookup.place left
-  expression_place lookup (Difference left right) = lookup.place left

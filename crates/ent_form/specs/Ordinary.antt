@@ -96,7 +96,7 @@ assignment_in lookup columns assigned assignment =
     there (column_named columns assignment.column.name) (NoColumn assignment.column.place) >>= λ column.
     demand (not (is_assigned assigned column.0)) (Repeated assignment.column.place)
     (expression_in lookup assignment.expression >>= λ expression.
-    demand (same_kind column.1 expression.1) (WrongKind (expression_place lookup assignment.expression))
+    demand (same_kind column.1 expression.1) (WrongKind (expression_place lookup.place assignment.expression))
     (Ok (slice_set assigned column.0 (Some expression.0))))
 
 abbrev pub assignments_from : Lookup TreeOperand (Operand Known) → List ColumnSchema → Assigned → List Assignment

@@ -1,14 +1,14 @@
--- Sources and columns that were looked up, without references.
+-- SeenSources and columns that were looked up, without references.
 use Rattle.std.specs.Prelude.{List, map}
 use Rattle.ent_semantics.specs.Database.{Name}
 use Rattle.ent_form.specs.declared.scope.SeenColumn.{SeenColumn}
-use Rattle.ent_form.specs.declared.scope.Sources.{Sources}
+use Rattle.ent_form.specs.declared.scope.SeenSources.{SeenSources}
 use Rattle.ent_form.specs.Scope.{Scope, Visible, visible}
 
 abbrev pub seen : SeenColumn → Visible
 seen column = visible column.source.now column.schema.now
 
-abbrev pub scope_of : Sources → Scope
+abbrev pub scope_of : SeenSources → Scope
 scope_of sources =
     record {
       tables = sources.tables;

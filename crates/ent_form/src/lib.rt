@@ -5,6 +5,7 @@ mod binding;
 mod catalogue;
 mod declaration;
 mod fault;
+mod lookup;
 mod row;
 mod scope;
 
