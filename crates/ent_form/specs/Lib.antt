@@ -5,6 +5,6 @@ pub mod Bindings
 pub mod OpeningFault
 pub mod Steps
 pub mod Scope
-pub mod Seen
 pub mod Lookup
 pub mod Ordinary
+pub mod Seen

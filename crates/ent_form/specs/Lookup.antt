@@ -80,7 +80,7 @@ module _ {A B : Type 0} where
       lookup.find term >>= λ found. demand (same_kind wanted found.1) (WrongKind (lookup.place term)) (Ok found.0)
 
   -- both sides are looked up before their kinds are compared
-  abbrev pub test_in : Lookup A B → Test A → Result (Test B) FormFault
+  unfoldable pub test_in : Lookup A B → Test A → Result (Test B) FormFault
   test_in lookup test =
       lookup.find test.left >>= λ left.
       lookup.find test.right >>= λ right.

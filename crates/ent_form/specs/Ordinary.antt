@@ -1,7 +1,7 @@
 -- Ordinary statements resolved: the form, or the first fault. Each goes over its table or its sources first, then over
 -- its WHERE from left to right, then over the rest from left to right.
-use Rattle.std.specs.Prelude.{ℕ, suc, not, is_some, List, [], ◌∷◌, ◌++◌, map, length, slice_get, slice_set, unwrap_or}
-use Rattle.std.specs.Prelude.{Bool, Option, Some, None, Result, Ok, Err, ◌==◌}
+use Rattle.std.specs.Prelude.{ℕ, suc, not, List, [], ◌∷◌, ◌++◌, map, length, slice_set}
+use Rattle.std.specs.Prelude.{Result, Ok, ◌==◌}
 use Rattle.ent_value.specs.Refusal.{◌>>=◌}
 use Rattle.ent_value.specs.declared.value.Kind.{Kind}
 use Rattle.ent_tree.specs.declared.operand.Expression.{Expression}
@@ -27,11 +27,22 @@ use Rattle.ent_form.specs.declared.catalogue.ColumnSchema.{ColumnSchema}
 use Rattle.ent_form.specs.declared.catalogue.TableSchema.{TableSchema}
 use Rattle.ent_form.specs.declared.fault.FormFault.{FormFault}
 use Rattle.ent_form.specs.declared.fault.FormFault.TheVariants.{NoColumn, Arity, WrongKind, Repeated}
-use Rattle.ent_form.specs.Catalogue.{column_named}
+use Rattle.ent_semantics.specs.Database.{Name}
+use Rattle.ent_form.specs.Catalogue.{column_named, is_among}
 use Rattle.ent_form.specs.Kinds.{Bound, same_kind, with_kind}
 use Rattle.ent_form.specs.Lookup.{Lookup, values_in, operands_in, kind_in, test_in, expression_in, expression_place}
 use Rattle.ent_form.specs.Scope.{Scope, Visible, sources_in, table_in, table_scope}
-use Rattle.ent_form.specs.Steps.{there, demand, each}
+use Rattle.ent_form.specs.Steps.{there, demand}
+
+-- the tests of a WHERE from left to right, behind those before
+abbrev pub tests_from : Lookup TreeOperand (Operand Known) → List (Test (Operand Known)) → List (Test TreeOperand)
+    → Result (List (Test (Operand Known))) FormFault
+tests_from lookup made [] = Ok made
+tests_from lookup made (test ∷ more) = test_in lookup test >>= λ form. tests_from lookup (made ++ form ∷ []) more
+
+abbrev pub tests_in : Lookup TreeOperand (Operand Known) → List (Test TreeOperand)
+    → Result (List (Test (Operand Known))) FormFault
+tests_in lookup tests = tests_from lookup [] tests
 
 -- the items of a SELECT, and the kind of each
 abbrev pub Shown : Type 0
@@ -50,15 +61,18 @@ abbrev pub columns_from : ℕ → List Visible → List (Operand Known)
 columns_from number [] = []
 columns_from number (column ∷ columns) = Column number ∷ columns_from (suc number) columns
 
+abbrev pub all_shown : Scope → Shown
+all_shown scope = (columns_from 0 scope.columns, map (λ column. column.kind) scope.columns)
+
 abbrev pub items_in : Scope → Bound → Items → Result Shown FormFault
-items_in scope bound items.All = Ok (columns_from 0 scope.columns, map (λ column. column.kind) scope.columns)
+items_in scope bound items.All = Ok (all_shown scope)
 items_in scope bound (items.Listed listed) = items_from (operands_in scope bound) ([], []) listed
 
 -- a SELECT, and the kinds of its items
-abbrev pub select_in : List TableSchema → Bound → TreeSelect → Result (Select Known × List Kind) FormFault
+unfoldable pub select_in : List TableSchema → Bound → TreeSelect → Result (Select Known × List Kind) FormFault
 select_in tables bound select =
     sources_in tables select.sources >>= λ scope.
-    each (test_in (operands_in scope bound)) select.tests >>= λ tests.
+    tests_in (operands_in scope bound) select.tests >>= λ tests.
     items_in scope bound select.items >>= λ shown.
     Ok (record { sources = scope.tables; items = shown.0; tests = tests }, shown.1)
 
@@ -70,60 +84,58 @@ row_from bound made (column ∷ columns) (value ∷ values) =
     kind_in (values_in bound) column.kind value >>= λ known. row_from bound (made ++ known ∷ []) columns values
 
 -- the table, the number of values, then each of them
-abbrev pub insert_in : List TableSchema → Bound → Insert → Result (Statement Known) FormFault
+unfoldable pub insert_in : List TableSchema → Bound → Insert → Result (Statement Known) FormFault
 insert_in tables bound insert =
     table_in tables insert.table >>= λ table.
     demand (length insert.values == length table.1.columns) (Arity insert.place)
     (row_from bound [] table.1.columns insert.values >>= λ values. Ok (statements.Insert table.0 values))
 
-abbrev pub delete_in : List TableSchema → Bound → Delete → Result (Statement Known) FormFault
+unfoldable pub delete_in : List TableSchema → Bound → Delete → Result (Statement Known) FormFault
 delete_in tables bound delete =
     table_in tables delete.table >>= λ table.
-    each (test_in (operands_in (table_scope delete.table.name table) bound)) delete.tests >>= λ tests.
+    tests_in (operands_in (table_scope delete.table.name table) bound) delete.tests >>= λ tests.
     Ok (statements.Delete table.0 tests)
 
--- for each column of a table what is assigned to it, where something is
-abbrev pub Assigned : Type 0
-Assigned = List (Option (Expression (Operand Known)))
+-- The image of a row: an expression for each column.
+abbrev pub Image : Type 0
+Image = List (Expression (Operand Known))
 
-abbrev pub is_assigned : Assigned → ℕ → Bool
-is_assigned assigned number = is_some (unwrap_or (slice_get assigned number) None)
+-- a column that isn't assigned is its own; numbers are counted from a number on
+abbrev pub own_from : ℕ → List ColumnSchema → Image
+own_from number [] = []
+own_from number (column ∷ columns) = Single (Column number) ∷ own_from (suc number) columns
 
--- the column is there, then it is new, then what is assigned to it, then the kinds of both
-abbrev pub assignment_in : Lookup TreeOperand (Operand Known) → List ColumnSchema → Assigned → Assignment
-    → Result Assigned FormFault
-assignment_in lookup columns assigned assignment =
+-- the column is there, then it isn't among those before, then what is assigned to it, then the kinds of both
+unfoldable pub assignment_in : Lookup TreeOperand (Operand Known) → List ColumnSchema → List Name → Image → Assignment
+    → Result Image FormFault
+assignment_in lookup columns earlier image assignment =
     there (column_named columns assignment.column.name) (NoColumn assignment.column.place) >>= λ column.
-    demand (not (is_assigned assigned column.0)) (Repeated assignment.column.place)
+    demand (not (is_among earlier assignment.column.name)) (Repeated assignment.column.place)
     (expression_in lookup assignment.expression >>= λ expression.
     demand (same_kind column.1 expression.1) (WrongKind (expression_place lookup.place assignment.expression))
-    (Ok (slice_set assigned column.0 (Some expression.0))))
+    (Ok (slice_set image column.0 expression.0)))
 
-abbrev pub assignments_from : Lookup TreeOperand (Operand Known) → List ColumnSchema → Assigned → List Assignment
-    → Result Assigned FormFault
-assignments_from lookup columns assigned [] = Ok assigned
-assignments_from lookup columns assigned (assignment ∷ more) =
-    assignment_in lookup columns assigned assignment >>= λ assigned. assignments_from lookup columns assigned more
+abbrev pub assignments_from : Lookup TreeOperand (Operand Known) → List ColumnSchema → List Name → Image → List Assignment
+    → Result Image FormFault
+assignments_from lookup columns earlier image [] = Ok image
+assignments_from lookup columns earlier image (assignment ∷ more) =
+    assignment_in lookup columns earlier image assignment >>= λ image.
+    assignments_from lookup columns (earlier ++ assignment.column.name ∷ []) image more
 
--- a column that isn't assigned is its own
-abbrev pub image_from : ℕ → Assigned → List (Expression (Operand Known))
-image_from number [] = []
-image_from number (expression ∷ more) =
-    unwrap_or expression (Single (Column number)) ∷ image_from (suc number) more
+-- the image that the assignments make of a row of these columns
+unfoldable pub image_in : Lookup TreeOperand (Operand Known) → List ColumnSchema → List Assignment → Result Image FormFault
+image_in lookup columns assignments = assignments_from lookup columns [] (own_from 0 columns) assignments
 
-abbrev pub none_assigned : List ColumnSchema → Assigned
-none_assigned columns = map (λ column. None) columns
-
-abbrev pub update_in : List TableSchema → Bound → Update → Result (Statement Known) FormFault
+unfoldable pub update_in : List TableSchema → Bound → Update → Result (Statement Known) FormFault
 update_in tables bound update =
     table_in tables update.table >>= λ table.
     let lookup = operands_in (table_scope update.table.name table) bound in
-    each (test_in lookup) update.tests >>= λ tests.
-    assignments_from lookup table.1.columns (none_assigned table.1.columns) update.assignments >>= λ assigned.
-    Ok (statements.Update table.0 (image_from 0 assigned) tests)
+    tests_in lookup update.tests >>= λ tests.
+    image_in lookup table.1.columns update.assignments >>= λ image.
+    Ok (statements.Update table.0 image tests)
 
 -- a SET, and what is bound after it
-abbrev pub set_in : Bound → Set → Result (Statement Known × Bound) FormFault
+unfoldable pub set_in : Bound → Set → Result (Statement Known × Bound) FormFault
 set_in bound set =
     expression_in (values_in bound) set.expression >>= λ found.
     Ok (statements.Set set.variable.name found.0, with_kind bound set.variable.name found.1)

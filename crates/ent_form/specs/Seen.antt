@@ -3,6 +3,8 @@ use Rattle.std.specs.Prelude.{List, map}
 use Rattle.ent_semantics.specs.Database.{Name}
 use Rattle.ent_form.specs.declared.scope.SeenColumn.{SeenColumn}
 use Rattle.ent_form.specs.declared.scope.SeenSources.{SeenSources}
+use Rattle.ent_form.specs.declared.select.Shown.{Shown as SeenShown}
+use Rattle.ent_form.specs.Ordinary.{Shown}
 use Rattle.ent_form.specs.Scope.{Scope, Visible, visible}
 
 abbrev pub seen : SeenColumn → Visible
@@ -15,3 +17,6 @@ scope_of sources =
       names = map (λ name. name.now) sources.names.items;
       columns = map seen sources.columns.items;
     }
+
+abbrev pub shown_of : SeenShown → Shown
+shown_of shown = (shown.items, shown.kinds)

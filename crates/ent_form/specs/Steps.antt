@@ -1,6 +1,5 @@
 -- Steps of resolving, each of which gives a form or a fault. The first fault ends it.
-use Rattle.std.specs.Prelude.{Bool, List, [], ◌∷◌, ◌++◌, Option, Some, None, Result, Ok, Err, if◌then◌else◌}
-use Rattle.ent_value.specs.Refusal.{◌>>=◌}
+use Rattle.std.specs.Prelude.{Bool, Option, Some, None, Result, Ok, Err, if◌then◌else◌}
 use Rattle.ent_form.specs.declared.fault.FormFault.{FormFault}
 
 -- what is there, or the fault where it isn't
@@ -11,11 +10,3 @@ there None fault = Err fault
 -- goes on where the test holds; else the fault
 abbrev pub demand : {A : Type 0} → Bool → FormFault → Result A FormFault → Result A FormFault
 demand test fault more = if test then more else Err fault
-
--- a step for each thing of a list, from left to right, behind what was made before
-abbrev pub each_from : {A B : Type 0} → List B → (A → Result B FormFault) → List A → Result (List B) FormFault
-each_from made step [] = Ok made
-each_from made step (x ∷ xs) = step x >>= λ y. each_from (made ++ y ∷ []) step xs
-
-abbrev pub each : {A B : Type 0} → (A → Result B FormFault) → List A → Result (List B) FormFault
-each step xs = each_from [] step xs

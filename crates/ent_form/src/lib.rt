@@ -3,11 +3,13 @@
 
 mod binding;
 mod catalogue;
+mod change;
 mod declaration;
 mod fault;
 mod lookup;
 mod row;
 mod scope;
+mod select;
 
 pub use catalogue::{Catalogue, ColumnSchema, TableSchema};
 pub use fault::FormFault;

@@ -121,6 +121,7 @@ fn operand_of_kind(
 }
 
 /// Both sides of a test are looked up before their kinds are compared.
+#[tactic(auto, unfolding(crate::specs::Lookup::test_in))]
 pub(crate) fn test(
     alloc: Global,
     sources: &SeenSources<'_>,

@@ -49,7 +49,7 @@ fn source_place(source: &Source) -> usize
 }
 
 /// Whether one of these names is this one.
-fn is_among(names: &[&Name], name: &Name) -> bool
+pub(crate) fn is_among(names: &[&Name], name: &Name) -> bool
     ensures { result ≡ is_among (map (λ other. other.now) names.now) name.now }
 {
     for other in names {
