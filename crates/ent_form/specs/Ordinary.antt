@@ -30,7 +30,8 @@ use Rattle.ent_form.specs.declared.fault.FormFault.TheVariants.{NoColumn, Arity,
 use Rattle.ent_semantics.specs.Database.{Name}
 use Rattle.ent_form.specs.Catalogue.{column_named, is_among}
 use Rattle.ent_form.specs.Kinds.{Bound, same_kind, with_kind}
-use Rattle.ent_form.specs.Lookup.{Lookup, values_in, operands_in, kind_in, test_in, expression_in, expression_place}
+use Rattle.ent_form.specs.Lookup.{Lookup, values_in, operand_place, operands_in, kind_in, test_in, expression_in}
+use Rattle.ent_form.specs.Lookup.{expression_place}
 use Rattle.ent_form.specs.Scope.{Scope, Visible, sources_in, table_in, table_scope}
 use Rattle.ent_form.specs.Steps.{there, demand}
 
@@ -40,9 +41,8 @@ abbrev pub tests_from : Lookup TreeOperand (Operand Known) → List (Test (Opera
 tests_from lookup made [] = Ok made
 tests_from lookup made (test ∷ more) = test_in lookup test >>= λ form. tests_from lookup (made ++ form ∷ []) more
 
-abbrev pub tests_in : Lookup TreeOperand (Operand Known) → List (Test TreeOperand)
-    → Result (List (Test (Operand Known))) FormFault
-tests_in lookup tests = tests_from lookup [] tests
+unfoldable pub tests_in : Scope → Bound → List (Test TreeOperand) → Result (List (Test (Operand Known))) FormFault
+tests_in scope bound tests = tests_from (operands_in scope bound) [] tests
 
 -- the items of a SELECT, and the kind of each
 abbrev pub Shown : Type 0
@@ -72,7 +72,7 @@ items_in scope bound (items.Listed listed) = items_from (operands_in scope bound
 unfoldable pub select_in : List TableSchema → Bound → TreeSelect → Result (Select Known × List Kind) FormFault
 select_in tables bound select =
     sources_in tables select.sources >>= λ scope.
-    tests_in (operands_in scope bound) select.tests >>= λ tests.
+    tests_in scope bound select.tests >>= λ tests.
     items_in scope bound select.items >>= λ shown.
     Ok (record { sources = scope.tables; items = shown.0; tests = tests }, shown.1)
 
@@ -93,7 +93,7 @@ insert_in tables bound insert =
 unfoldable pub delete_in : List TableSchema → Bound → Delete → Result (Statement Known) FormFault
 delete_in tables bound delete =
     table_in tables delete.table >>= λ table.
-    tests_in (operands_in (table_scope delete.table.name table) bound) delete.tests >>= λ tests.
+    tests_in (table_scope delete.table.name table) bound delete.tests >>= λ tests.
     Ok (statements.Delete table.0 tests)
 
 -- The image of a row: an expression for each column.
@@ -106,32 +106,32 @@ own_from number [] = []
 own_from number (column ∷ columns) = Single (Column number) ∷ own_from (suc number) columns
 
 -- the column is there, then it isn't among those before, then what is assigned to it, then the kinds of both
-unfoldable pub assignment_in : Lookup TreeOperand (Operand Known) → List ColumnSchema → List Name → Image → Assignment
+unfoldable pub assignment_in : Scope → Bound → List ColumnSchema → List Name → Image → Assignment
     → Result Image FormFault
-assignment_in lookup columns earlier image assignment =
+assignment_in scope bound columns earlier image assignment =
     there (column_named columns assignment.column.name) (NoColumn assignment.column.place) >>= λ column.
     demand (not (is_among earlier assignment.column.name)) (Repeated assignment.column.place)
-    (expression_in lookup assignment.expression >>= λ expression.
-    demand (same_kind column.1 expression.1) (WrongKind (expression_place lookup.place assignment.expression))
+    (expression_in (operands_in scope bound) assignment.expression >>= λ expression.
+    demand (same_kind column.1 expression.1) (WrongKind (expression_place operand_place assignment.expression))
     (Ok (slice_set image column.0 expression.0)))
 
-abbrev pub assignments_from : Lookup TreeOperand (Operand Known) → List ColumnSchema → List Name → Image → List Assignment
+abbrev pub assignments_from : Scope → Bound → List ColumnSchema → List Name → Image → List Assignment
     → Result Image FormFault
-assignments_from lookup columns earlier image [] = Ok image
-assignments_from lookup columns earlier image (assignment ∷ more) =
-    assignment_in lookup columns earlier image assignment >>= λ image.
-    assignments_from lookup columns (earlier ++ assignment.column.name ∷ []) image more
+assignments_from scope bound columns earlier image [] = Ok image
+assignments_from scope bound columns earlier image (assignment ∷ more) =
+    assignment_in scope bound columns earlier image assignment >>= λ image.
+    assignments_from scope bound columns (earlier ++ assignment.column.name ∷ []) image more
 
 -- the image that the assignments make of a row of these columns
-unfoldable pub image_in : Lookup TreeOperand (Operand Known) → List ColumnSchema → List Assignment → Result Image FormFault
-image_in lookup columns assignments = assignments_from lookup columns [] (own_from 0 columns) assignments
+unfoldable pub image_in : Scope → Bound → List ColumnSchema → List Assignment → Result Image FormFault
+image_in scope bound columns assignments = assignments_from scope bound columns [] (own_from 0 columns) assignments
 
 unfoldable pub update_in : List TableSchema → Bound → Update → Result (Statement Known) FormFault
 update_in tables bound update =
     table_in tables update.table >>= λ table.
-    let lookup = operands_in (table_scope update.table.name table) bound in
-    tests_in lookup update.tests >>= λ tests.
-    image_in lookup table.1.columns update.assignments >>= λ image.
+    let scope = table_scope update.table.name table in
+    tests_in scope bound update.tests >>= λ tests.
+    image_in scope bound table.1.columns update.assignments >>= λ image.
     Ok (statements.Update table.0 image tests)
 
 -- a SET, and what is bound after it

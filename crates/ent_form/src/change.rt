@@ -2,7 +2,6 @@
 ghost use Rattle.std.specs.Prelude.{◌≡◌, ◌++◌, [], IfOk, OnOk, length, map};
 ghost use Rattle.ent_value.specs.Refusal.{Gives};
 ghost use Rattle.ent_form.specs.Bindings.{bound_in};
-ghost use Rattle.ent_form.specs.Lookup.{operands_in};
 ghost use Rattle.ent_form.specs.Ordinary.{row_from, insert_in, delete_in, own_from, assignment_in, image_in, update_in, set_in};
 ghost use Rattle.ent_form.specs.Seen.{scope_of};
 
@@ -100,10 +99,10 @@ fn assign(
     assignment: &Assignment,
 ) -> Result<(), Refusal<FormFault>>
     requires { length image.old.items ≡ length table.now.columns }
-    ensures assigned { let lookup = operands_in (scope_of sources.now) (bound_in bindings.now) in
-        let names = map (λ name. name.now) earlier.now in
+    ensures assigned { let names = map (λ name. name.now) earlier.now in
         Gives (λ _. image.new.items) result
-        (assignment_in lookup table.now.columns names image.old.items assignment.now) }
+        (assignment_in (scope_of sources.now) (bound_in bindings.now) table.now.columns names image.old.items
+        assignment.now) }
     ensures length { OnOk result (length image.new.items ≡ length image.old.items) }
 {
     let column = &assignment.column;
@@ -123,7 +122,7 @@ fn assign(
 }
 
 /// An expression for each column of the table, in order.
-#[tactic(auto, unfolding(crate::specs::Ordinary::image_in))]
+#[tactic(auto, using(crate::proofs::Columns::own_length), unfolding(crate::specs::Ordinary::image_in))]
 fn image(
     alloc: Global,
     sources: &SeenSources<'_>,
@@ -131,8 +130,8 @@ fn image(
     table: &TableSchema,
     assignments: &[Assignment],
 ) -> Result<Vec<Expression<ResolvedOperand<Known>>>, Refusal<FormFault>>
-    ensures { let lookup = operands_in (scope_of sources.now) (bound_in bindings.now) in
-        Gives (λ image. image.items) result (image_in lookup table.now.columns assignments.now) }
+    ensures { Gives (λ image. image.items) result
+        (image_in (scope_of sources.now) (bound_in bindings.now) table.now.columns assignments.now) }
 {
     let mut earlier = Vec::new(alloc);
     let mut image = own_image(alloc, table)?;

@@ -24,14 +24,14 @@ pub(crate) struct Shown {
 }
 
 /// The tests of a WHERE, from left to right.
+#[tactic(auto, unfolding(crate::specs::Ordinary::tests_in))]
 pub(crate) fn tests(
     alloc: Global,
     sources: &SeenSources<'_>,
     bindings: &Bindings,
     tests: &Limited<Test<Operand>, MOST_PARTS>,
 ) -> Result<Limited<Test<ResolvedOperand<Known>>, MOST_PARTS>, Refusal<FormFault>>
-    ensures { let lookup = operands_in (scope_of sources.now) (bound_in bindings.now) in
-        Gives (λ forms. forms) result (tests_in lookup tests.now) }
+    ensures { Gives (λ forms. forms) result (tests_in (scope_of sources.now) (bound_in bindings.now) tests.now) }
 {
     let _limit = tests.len();
     let mut forms = Limited::new(alloc);
