@@ -7,4 +7,6 @@ pub mod Steps
 pub mod Scope
 pub mod Lookup
 pub mod Ordinary
+pub mod Entangled
+pub mod Form
 pub mod Seen
