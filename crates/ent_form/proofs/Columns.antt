@@ -2,7 +2,7 @@
 use Rattle.std.specs.Prelude.{if◌then◌else◌}
 use Rattle.std.specs.Option.{option_map_or}
 use Rattle.std.proofs.Common.{◌≡◌, ℕ, suc, ◌+◌, ◌<◌, Bool, true, false, List, [], ◌∷◌, length, Some, Result, Ok, ◌⊎◌}
-use Rattle.std.proofs.Common.{inl, inr, refl, sym, ap, ◌∙◌, arith, Option}
+use Rattle.std.proofs.Common.{inl, inr, refl, sym, ap, arith, Option}
 use Rattle.ent_value.specs.declared.value.Kind.{Kind}
 use Rattle.ent_tree.specs.declared.entangled.Term.{Term as TreeTerm}
 use Rattle.ent_tree.specs.declared.operand.ValueSpecification.{ValueSpecification}
@@ -16,8 +16,8 @@ use Rattle.ent_form.specs.Entangled.{members_from}
 use Rattle.ent_form.specs.Kinds.{Bound}
 use Rattle.ent_form.specs.Ordinary.{row_from, own_from}
 
-first_same : (a b : ℕ) (j k : Kind) → Some (a, j) ≡ Some (b, k) → a ≡ b
-first_same a b j k e = ap (λ (found : Option (ℕ × Kind)). option_map_or (λ (pair : ℕ × Kind). pair.0) found 0) e
+first_same : (x y : ℕ × Kind) → Some x ≡ Some y → x.0 ≡ y.0
+first_same x y e = ap (λ (found : Option (ℕ × Kind)). option_map_or (λ (pair : ℕ × Kind). pair.0) found x.0) e
 
 -- a column that is found stands among the columns
 column_within_from : (number : ℕ) (columns : List ColumnSchema) (name : Name) (found : ℕ) (kind : Kind)
@@ -28,7 +28,7 @@ column_within_from number (column ∷ columns) name found kind e =
     (λ (b : Bool). Some (found, kind) ≡ (if b then Some (number, column.kind) else column_from (suc number) columns name)
     → found < number + length (column ∷ columns)) [
       | true ↦ λ here.
-          let same : found ≡ number = first_same found number kind column.kind here in omega arith
+          let same : found ≡ number = first_same (found, kind) (number, column.kind) here in omega arith
       | false ↦ λ later. let within = column_within_from (suc number) columns name found kind later in omega arith
     ] e
 

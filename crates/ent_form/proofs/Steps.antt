@@ -31,7 +31,6 @@ bound_more bindings name found i binding h is so =
     ∙ ap (λ (b : Bound). b name) (sym (bound_push none_bound (take i bindings) binding))
     ∙ ap (λ bs. bound_from none_bound bs name) (sym next)
 
-
 -- what was found, as a list of at most one
 abbrev pub found_list : {A : Type 0} → Option A → List A
 found_list None = []

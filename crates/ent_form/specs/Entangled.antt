@@ -225,5 +225,5 @@ entangled_in tables bound entangled =
         tests = others.1;
         binds = offer.binds;
       },
-      bound_from bound offer.bound
+      bound_from bound offer.bound,
     )

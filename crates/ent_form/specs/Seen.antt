@@ -1,6 +1,5 @@
 -- SeenSources and columns that were looked up, without references.
-use Rattle.std.specs.Prelude.{List, map}
-use Rattle.ent_semantics.specs.Database.{Name}
+use Rattle.std.specs.Prelude.{map}
 use Rattle.ent_form.specs.declared.entangled.SeenOffer.{SeenOffer}
 use Rattle.ent_form.specs.declared.scope.SeenColumn.{SeenColumn}
 use Rattle.ent_form.specs.declared.scope.SeenSources.{SeenSources}

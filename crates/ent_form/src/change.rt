@@ -13,7 +13,9 @@ use crate::row::same_kind;
 use crate::scope::{SeenSources, is_among, table_source};
 use crate::select::tests;
 use ent_closed::{Known, Operand as ResolvedOperand, Statement as ResolvedStatement};
-use ent_tree::{Assignment, Delete, Expression, Insert, MOST_PARTS, Set, Update, ValueSpecification};
+use ent_tree::{
+    Assignment, Delete, Expression, Insert, MOST_PARTS, Set, Update, ValueSpecification,
+};
 use ent_value::{Limited, Name, Refusal, Sequence};
 use std::alloc::{AllocError, Global};
 
@@ -136,7 +138,9 @@ fn image(
     let mut earlier = Vec::new(alloc);
     let mut image = own_image(alloc, table)?;
     for assignment in assignments {
-        assign(alloc, sources, bindings, table, &earlier, &mut image, assignment)?;
+        assign(
+            alloc, sources, bindings, table, &earlier, &mut image, assignment,
+        )?;
         earlier.push(&assignment.column.name)?;
     }
     Ok(image)
@@ -157,7 +161,13 @@ pub(crate) fn update(
     };
     let sources = table_source(alloc, &update.table.name, table, schema)?;
     let tests = tests(alloc, &sources, bindings, &update.tests)?;
-    let image = image(alloc, &sources, bindings, schema, update.assignments.as_slice())?;
+    let image = image(
+        alloc,
+        &sources,
+        bindings,
+        schema,
+        update.assignments.as_slice(),
+    )?;
     Ok(ResolvedStatement::Update {
         table,
         image: Sequence::from_vec(image),

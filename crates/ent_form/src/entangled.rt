@@ -16,10 +16,10 @@ use crate::membership::memberships;
 use crate::row::same_kind;
 use crate::scope::is_among;
 use crate::variable::{number_of, variables};
-use ent_closed::{Atom, Binding as Bind, Entangled as ResolvedEntangled, Known, Term as ResolvedTerm};
-use ent_tree::{
-    Condition, Entangled, EntangledItem, Identifier, MOST_PARTS, Term, Test, Tuple,
+use ent_closed::{
+    Atom, Binding as Bind, Entangled as ResolvedEntangled, Known, Term as ResolvedTerm,
 };
+use ent_tree::{Condition, Entangled, EntangledItem, Identifier, MOST_PARTS, Term, Test, Tuple};
 use ent_value::{Kind, Limited, Name, Refusal, Sequence};
 use std::alloc::{AllocError, Global};
 

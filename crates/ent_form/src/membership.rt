@@ -99,7 +99,14 @@ fn membership(
     if tuple.terms.len() != wanted.len() {
         return Err(Refusal::Fault(FormFault::Arity(tuple.place)));
     }
-    let terms = members(alloc, names, bindings, kinds, wanted.as_slice(), &tuple.terms)?;
+    let terms = members(
+        alloc,
+        names,
+        bindings,
+        kinds,
+        wanted.as_slice(),
+        &tuple.terms,
+    )?;
     Ok(Membership {
         terms,
         select: form,

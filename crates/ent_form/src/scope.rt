@@ -74,7 +74,10 @@ fn refers_to(reference: &ColumnReference, column: &SeenColumn<'_>) -> bool
 }
 
 /// The one column that a reference may mean.
-fn only_column(columns: &[SeenColumn<'_>], reference: &ColumnReference) -> Result<(usize, Kind), FormFault>
+fn only_column(
+    columns: &[SeenColumn<'_>],
+    reference: &ColumnReference,
+) -> Result<(usize, Kind), FormFault>
     ensures { result ≡ only_one (referred_from 0 (map seen columns.now) reference.now) reference.now.column.place }
 {
     let mut found = None;
@@ -90,7 +93,10 @@ fn only_column(columns: &[SeenColumn<'_>], reference: &ColumnReference) -> Resul
 }
 
 /// The number and the kind of the column that a reference means: its qualifier, where it has one, is there first.
-pub(crate) fn column(sources: &SeenSources<'_>, reference: &ColumnReference) -> Result<(usize, Kind), FormFault>
+pub(crate) fn column(
+    sources: &SeenSources<'_>,
+    reference: &ColumnReference,
+) -> Result<(usize, Kind), FormFault>
     ensures { result ≡ column_in (scope_of sources.now) reference.now }
 {
     if let Some(qualifier) = &reference.qualifier {

@@ -53,10 +53,7 @@ fn note_items<'a>(names: &mut Vec<&'a Name>, items: &'a [EntangledItem]) -> Resu
     Ok(())
 }
 
-fn note_condition<'a>(
-    names: &mut Vec<&'a Name>,
-    condition: &'a Condition,
-) -> Result<(), AllocError>
+fn note_condition<'a>(names: &mut Vec<&'a Name>, condition: &'a Condition) -> Result<(), AllocError>
     ensures { OnOk result (map (λ other. other.now) names.new.items
         ≡ noted_condition (map (λ other. other.now) names.old.items) condition.now) }
 {

@@ -1,4 +1,4 @@
-use Rattle.std.proofs.Common.{◌≡◌, ◌++◌, map, take, drop}
+use Rattle.std.proofs.Common.{◌≡◌, ◌++◌, map, drop}
 use Rattle.ent_form.specs.Ordinary.{columns_from}
 use Rattle.ent_form.specs.Seen.{seen}
 use Rattle.ent_form.proofs.select.every_column.Given as goal
