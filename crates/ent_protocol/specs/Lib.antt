@@ -1,0 +1,15 @@
+pub mod Job
+pub mod State
+pub mod Uses
+pub mod Member
+pub mod Rollback
+pub mod Commit
+pub mod Waits
+pub mod Event
+pub mod Begin
+pub mod Finish
+pub mod PoolEvents
+pub mod Quiet
+pub mod Run
+pub mod Step
+pub mod Reached
