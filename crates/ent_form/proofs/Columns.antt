@@ -25,7 +25,8 @@ column_within_from : (number : ℕ) (columns : List ColumnSchema) (name : Name) 
 column_within_from number [] name found kind e = cc
 column_within_from number (column ∷ columns) name found kind e =
     elim (same_name column.name name) as
-    (λ (b : Bool). Some (found, kind) ≡ (if b then Some (number, column.kind) else column_from (suc number) columns name)
+    (λ (b : Bool). Some (found, kind) ≡ (if b then Some (number, column.kind) else column_from (suc number) columns
+        name)
     → found < number + length (column ∷ columns)) [
       | true ↦ λ here.
           let same : found ≡ number = first_same (found, kind) (number, column.kind) here in omega arith

@@ -30,14 +30,17 @@ module _ (lookup : Lookup TreeOperand (Operand Known)) where
   tests_refused made xs i x total Memory h is e so = tt
   tests_refused made xs i x total (Fault fault) h is e so =
       sym so ∙ tests_at made xs i x h is
-      ∙ ap (λ (r : Result (Test (Operand Known)) FormFault). r >>= λ y. tests_from lookup (made ++ y ∷ []) (drop (i + 1) xs)) e
+      ∙ ap (λ (r : Result (Test (Operand Known)) FormFault). r >>= λ y. tests_from lookup (made ++ y ∷ [])
+          (drop (i + 1) xs)) e
 
   -- what one test gives goes behind what was made
-  pub tests_passed : (made new : List (Test (Operand Known))) (xs : List (Test TreeOperand)) (i : ℕ) (x : Test TreeOperand)
+  pub tests_passed : (made new : List (Test (Operand Known))) (xs : List (Test TreeOperand)) (i : ℕ)
+      (x : Test TreeOperand)
       → (y : Test (Operand Known)) (total : Result (List (Test (Operand Known))) FormFault)
       → i < length xs → x ≡ get_or xs i x → test_in lookup x ≡ Ok y → new ≡ made ++ y ∷ []
       → tests_from lookup made (drop i xs) ≡ total → tests_from lookup new (drop (i + 1) xs) ≡ total
   tests_passed made new xs i x y total h is e grown so =
       ap (λ ys. tests_from lookup ys (drop (i + 1) xs)) grown
-      ∙ sym (ap (λ (r : Result (Test (Operand Known)) FormFault). r >>= λ y. tests_from lookup (made ++ y ∷ []) (drop (i + 1) xs)) e)
+      ∙ sym (ap (λ (r : Result (Test (Operand Known)) FormFault). r >>= λ y. tests_from lookup (made ++ y ∷ [])
+          (drop (i + 1) xs)) e)
       ∙ sym (tests_at made xs i x h is) ∙ so

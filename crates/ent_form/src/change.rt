@@ -2,7 +2,8 @@
 ghost use Rattle.std.specs.Prelude.{◌≡◌, ◌++◌, [], IfOk, OnOk, length, map};
 ghost use Rattle.ent_value.specs.Refusal.{Gives};
 ghost use Rattle.ent_form.specs.Bindings.{bound_in};
-ghost use Rattle.ent_form.specs.Ordinary.{row_from, insert_in, delete_in, own_from, assignment_in, image_in, update_in, set_in};
+ghost use Rattle.ent_form.specs.Ordinary.{row_from, insert_in, delete_in, own_from, assignment_in, image_in};
+ghost use Rattle.ent_form.specs.Ordinary.{update_in, set_in};
 ghost use Rattle.ent_form.specs.Seen.{scope_of};
 
 use crate::binding::Bindings;

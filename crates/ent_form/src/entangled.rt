@@ -195,7 +195,8 @@ fn offers(
     items: &Limited<EntangledItem, MOST_PARTS>,
 ) -> Result<SeenOffer, Refusal<FormFault>>
     ensures { Gives offer_of result
-        (offer_from (map (λ name. name.now) names.now) (bound_in kinds.now) (bound_in bindings.now) no_offer items.now) }
+        (offer_from (map (λ name. name.now) names.now) (bound_in kinds.now) (bound_in bindings.now) no_offer
+        items.now) }
 {
     let _limit = items.len();
     let mut offered = SeenOffer {
@@ -263,7 +264,8 @@ fn post(
     relation: &Identifier,
 ) -> Result<Atom<Known>, Refusal<FormFault>>
     ensures { Gives (λ post. post) result
-        (post_in (map (λ name. name.now) names.now) (bound_in kinds.now) (bound_in bindings.now) tuple.now relation.now) }
+        (post_in (map (λ name. name.now) names.now) (bound_in kinds.now) (bound_in bindings.now) tuple.now
+        relation.now) }
 {
     let terms = atom_terms(alloc, names, kinds, bindings, &tuple.terms)?;
     Ok(Atom {

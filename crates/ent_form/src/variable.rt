@@ -1,7 +1,7 @@
 //! The written variables of an entangled statement.
 ghost use Rattle.std.specs.Prelude.{◌≡◌, OnOk, IfOk, map};
-ghost use Rattle.ent_form.specs.Entangled.{index_of, noted, noted_terms, noted_items, noted_condition, noted_conditions};
-ghost use Rattle.ent_form.specs.Entangled.{variables_of};
+ghost use Rattle.ent_form.specs.Entangled.{index_of, noted, noted_terms, noted_items, noted_condition};
+ghost use Rattle.ent_form.specs.Entangled.{noted_conditions, variables_of};
 
 use crate::scope::is_among;
 use ent_tree::{Condition, Entangled, EntangledItem, Term};

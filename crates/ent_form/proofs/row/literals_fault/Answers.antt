@@ -7,4 +7,6 @@ use Rattle.ent_form.proofs.row.literals_fault.Goals as goal
 pub returns : goal.returns
 returns c =
     let left = c.loop-column.column-iterator in
-    literals_end (iter_rest (zip_first left)) (iter_rest (zip_second left)) _ (either_empty_from_Zip left c.next.new.self c.next.result c.in-None.is c.next.ensures.steps) c.loop-column.invariant.2
+    literals_end (iter_rest (zip_first left)) (iter_rest (zip_second left)) _
+        (either_empty_from_Zip left c.next.new.self c.next.result c.in-None.is c.next.ensures.steps)
+        c.loop-column.invariant.2

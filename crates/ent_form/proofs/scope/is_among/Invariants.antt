@@ -4,4 +4,5 @@ use Rattle.ent_form.proofs.scope.is_among.Given as goal
 
 -- the name is looked for among the rest
 abbrev pub invariant-loop-other : goal.invariant-loop-other
-invariant-loop-other l = is_among (map (λ other. other.now) (drop l.other-index l.names)) l.name ≡ is_among (map (λ other. other.now) l.names) l.name
+invariant-loop-other l = is_among (map (λ other. other.now) (drop l.other-index l.names)) l.name
+    ≡ is_among (map (λ other. other.now) l.names) l.name

@@ -7,4 +7,5 @@ use Rattle.ent_form.proofs.select.listed_items.Given as goal
 
 -- behind those before, the items that are left give what all of them give
 abbrev pub invariant-loop-item : goal.invariant-loop-item
-invariant-loop-item l = items_from (operands_in (scope_of l.sources) (bound_in l.bindings)) (l.items, l.kinds) (drop l.item-index l.listed) ≡ items_from (operands_in (scope_of l.sources) (bound_in l.bindings)) ([], []) l.listed
+invariant-loop-item l = items_from (operands_in (scope_of l.sources) (bound_in l.bindings)) (l.items, l.kinds)
+    (drop l.item-index l.listed) ≡ items_from (operands_in (scope_of l.sources) (bound_in l.bindings)) ([], []) l.listed
