@@ -1,0 +1,2 @@
+mod Bindings
+mod Meanings
