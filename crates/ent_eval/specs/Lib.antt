@@ -1,2 +1,3 @@
 pub mod Worth
 pub mod Combined
+pub mod Tables
