@@ -1,6 +1,4 @@
-use Rattle.std.proofs.Common.{rules, ◌≡◌, ◌++◌, ap, sym, ◌∙◌, arith}
-use Rattle.std.proofs.lemmas.List.{take_all}
-use Rattle.std.specs.List.{flat_map}
+use Rattle.std.proofs.Common.{rules, ◌++◌, ◌∙◌, arith}
 use Rattle.ent_eval.specs.Combined.{combined, shown_of}
 use Rattle.ent_eval.proofs.Combinations.{one_row_more, whole_found}
 use Rattle.ent_eval.proofs.select.+search.Goals as goal

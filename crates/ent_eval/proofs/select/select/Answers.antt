@@ -1,4 +1,4 @@
-use Rattle.std.proofs.Common.{◌≡◌, [], ◌++◌, map, ap, sym, ◌∙◌}
+use Rattle.std.proofs.Common.{[], ◌++◌, map, ap, ◌∙◌}
 use Rattle.std.specs.Arc.{arc_value}
 use Rattle.ent_set.specs.Sets as set
 use Rattle.ent_value.specs.Value.{row_cmp}
