@@ -58,7 +58,7 @@ module _ {K : Type 0} where
   abbrev pub form_rows : (K → Value) → Tables → Select K → Rows
   form_rows worth tables select =
       let value = operand_worth worth in
-      selection value select.tests (λ row. map (value row) select.items)
+      selection (meets value select.tests) (λ row. map (value row) select.items)
       (map (λ number. slice_index_or tables number set.empty) select.sources)
 
   -- the fact that an atom is under a valuation

@@ -7,9 +7,11 @@
 #![tactic(auto)]
 
 mod entangled;
+mod law;
 mod operand;
 mod statement;
 
 pub use entangled::{Atom, Binding, Entangled, Membership, Term};
+pub use law::closing_keeps_the_meaning;
 pub use operand::{Known, Operand};
 pub use statement::{Select, Statement};

@@ -9,3 +9,6 @@ pub mod Statement
 pub mod Serial
 pub mod Joint
 pub mod Book
+pub mod Uses
+pub mod Further
+pub mod Kinds

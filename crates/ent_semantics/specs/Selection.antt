@@ -38,9 +38,9 @@ holds value test = compares test.comparison (value_cmp (value test.left) (value 
 abbrev pub meets : {A : Type 0} → Worth A → List (Test A) → List Value → Bool
 meets worth tests row = list_all (holds (worth row)) tests
 
--- what is shown of each combination that meets every test
-abbrev pub selection : {A : Type 0} → Worth A → List (Test A) → (List Value → List Value) → List Rows → Rows
-selection worth tests shown sources = set.from_list (map shown (filter (meets worth tests) (combinations sources)))
+-- what is shown of each combination that matches
+abbrev pub selection : (List Value → Bool) → (List Value → List Value) → List Rows → Rows
+selection matches shown sources = set.from_list (map shown (filter matches (combinations sources)))
 
 -- what is shown of a row: all of it, or the items
 abbrev pub item_row : Worth Operand → Items → List Value → List Value
@@ -59,4 +59,4 @@ select_worth declared environment select = operand_value environment (source_col
 abbrev pub select_rows : List Create → Database → Environment → Select → Rows
 select_rows declared database environment select =
     let worth = select_worth declared environment select in
-    selection worth select.tests (item_row worth select.items) (source_rows database select)
+    selection (meets worth select.tests) (item_row worth select.items) (source_rows database select)

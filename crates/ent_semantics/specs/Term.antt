@@ -40,7 +40,8 @@ source_name source = alias_or source.alias source.table.name
 
 -- the columns of a table under the name that it goes by
 abbrev pub table_columns : List Create → Name → Name → List SourceColumn
-table_columns declared table name = map (λ column. record { source = name; column = column }) (columns_of declared table)
+table_columns declared table name =
+    map (λ column. record { source = name; column = column }) (columns_of declared table)
 
 -- the columns of the sources, side by side
 abbrev pub source_columns : List Create → List Source → List SourceColumn

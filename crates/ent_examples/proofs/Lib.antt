@@ -1,0 +1,4 @@
+pub mod Lists
+pub mod Good
+pub mod Refused
+pub mod Pools

@@ -1,0 +1,51 @@
+-- The friends' pool is safe, and with a third it isn't.
+use Rattle.std.proofs.Common.{◌≡◌, ℕ, [], ◌∷◌, refl}
+use Rattle.std.proofs.Common.{arith}
+use Rattle.std.specs.Prelude.{Contains}
+use Rattle.ent_coordination.specs.Pool.{CanMeet, IsSafe, IsUnsafeAt, HasHeadFor, Unify}
+use Rattle.ent_examples.specs.Friends.{Mickey, Minnie, flight_122}
+use Rattle.ent_examples.specs.Pool.{friend, flies_as, with_third}
+use Rattle.ent_value.specs.declared.value.Kind.TheVariants as kinds
+
+-- under flight 122 the first one's post is a head of a statement of the second one's name
+unify : Unify (kinds.Int ∷ []) (flies_as Minnie) (kinds.Int ∷ []) (flies_as Minnie)
+unify =
+    record {
+      values = flight_122 ∷ [];
+      of_kinds = (refl, tt);
+      other_values = flight_122 ∷ [];
+      of_other_kinds = (refl, tt);
+      one_fact = refl;
+    }
+
+meets : (tx : ℕ) → CanMeet (friend 1 Mickey Minnie) 0 (friend tx Minnie Mickey)
+meets tx =
+    record {
+      post = flies_as Minnie;
+      is_post = refl;
+      head = flies_as Minnie;
+      is_head = (0, omega arith, refl);
+      unify = unify;
+    }
+
+has : (tx : ℕ) → Contains with_third (friend tx Minnie Mickey) → HasHeadFor with_third 1 0 tx
+has tx there =
+    record {
+      asker = friend 1 Mickey Minnie;
+      asks = (0, omega arith, refl);
+      asker_is = refl;
+      partner = friend tx Minnie Mickey;
+      offers = there;
+      partner_is = refl;
+      meets = meets tx;
+    }
+
+pub third_unsafe : IsUnsafeAt with_third (record { asker = 1; index = 0; first = 2; second = 3 })
+third_unsafe = (omega arith, has 2 (1, omega arith, refl), has 3 (2, omega arith, refl))
+
+pub third_not_safe : IsSafe with_third → ⊥
+third_not_safe h = different (h (friend 1 Mickey Minnie) (friend 2 Minnie Mickey) (friend 3 Minnie Mickey) 0
+    (0, omega arith, refl) (1, omega arith, refl) (2, omega arith, refl) (meets 2) (meets 3))
+  where
+    different : ◌≡◌ {A = ℕ} 2 3 → ⊥
+    different e = omega arith

@@ -1,0 +1,2 @@
+pub mod Friends
+pub mod Pool
