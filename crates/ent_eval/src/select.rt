@@ -3,7 +3,7 @@ ghost use Rattle.std.specs.Prelude.{◌≡◌, [], ◌∷◌, ◌++◌, IfOk, On
 ghost use Rattle.std.specs.Arc.{arc_value};
 ghost use Rattle.ent_set.specs.Sets as set;
 ghost use Rattle.ent_value.specs.Value.{row_cmp};
-ghost use Rattle.ent_semantics.specs.Selection.{selection};
+ghost use Rattle.ent_semantics.specs.Selection.{meets, selection};
 ghost use Rattle.ent_eval.specs.Combined.{combined, shown_of};
 ghost use Rattle.ent_eval.specs.Tables.{rows_in};
 ghost use Rattle.ent_eval.specs.Worth.{value_in};
@@ -86,7 +86,7 @@ pub(crate) fn select(
     sources: &[Arc<Table>],
 ) -> Result<Sequence<Row>, AllocError>
     ensures { IfOk result (λ rows. rows ≡ set.ascending
-        (selection value_in select.now.tests (λ row. map (value_in row) select.now.items)
+        (selection (meets value_in select.now.tests) (λ row. map (value_in row) select.now.items)
         (rows_in (map arc_value sources.now)))) }
 {
     let sources = rows_of(alloc, sources)?;
