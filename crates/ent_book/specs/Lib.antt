@@ -1,4 +1,3 @@
-pub mod Book
 pub mod Report
-pub mod Text
+pub mod Tables
 pub mod Write

@@ -1,0 +1,3 @@
+pub mod Lexeme
+pub mod Spelling
+pub mod Printing
