@@ -5,3 +5,4 @@ pub mod Kinds
 pub mod Change
 pub mod Meant
 pub mod Evaluated
+pub mod Job

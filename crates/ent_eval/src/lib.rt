@@ -6,11 +6,15 @@
 
 mod change;
 mod condition;
+mod done;
 mod evaluation;
+mod job;
 mod outcome;
 mod row;
 mod select;
 mod term;
 
+pub use done::{NotDone, OneDone};
 pub use evaluation::evaluate;
+pub use job::OneJob;
 pub use outcome::Outcome;
