@@ -14,7 +14,7 @@ use Rattle.ent_closed.specs.declared.operand.Operand.{Operand}
 use Rattle.ent_eval.specs.Combined.{combined, shown_of}
 use Rattle.ent_eval.specs.Worth.{value_in}
 
-shown_of-append : (items : List (Operand Value)) (tests : List (Test (Operand Value))) (xs ys : List (List Value))
+pub shown_of-append : (items : List (Operand Value)) (tests : List (Test (Operand Value))) (xs ys : List (List Value))
     → shown_of items tests (xs ++ ys) ≡ shown_of items tests xs ++ shown_of items tests ys
 shown_of-append items tests xs ys =
     ap (map (λ row. map (value_in row) items)) (filter-append (meets value_in tests) xs ys)

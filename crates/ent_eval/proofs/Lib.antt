@@ -1,3 +1,4 @@
 mod Changes
 mod Combinations
+mod Fronts
 mod Images

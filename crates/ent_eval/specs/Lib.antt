@@ -1,5 +1,6 @@
 pub mod Worth
 pub mod Combined
+pub mod Early
 pub mod Tables
 pub mod Kinds
 pub mod Change

@@ -8,7 +8,7 @@ ghost use Rattle.ent_eval.specs.Combined.{combined, shown_of};
 ghost use Rattle.ent_eval.specs.Tables.{rows_in};
 ghost use Rattle.ent_eval.specs.Worth.{value_in};
 
-use crate::condition::meets;
+use crate::condition::{may_meet, meets};
 use crate::row::{item_row, joined};
 use ent_closed::Select;
 use ent_rel::Table;
@@ -48,6 +48,9 @@ fn search(
     match sources.split_first() {
         None => show(alloc, select, front, rest, found),
         Some((rows, more)) => {
+            if !may_meet(select.tests.as_slice(), front, rest) {
+                return Ok(());
+            }
             let joined = joined(alloc, front, rest)?;
             let begun = joined.values();
             for row in rows.as_slice() {
