@@ -1,2 +1,1 @@
 mod Bindings
-mod Meanings

@@ -1,3 +1,1 @@
 pub mod Environment
-pub mod Closed
-pub mod Kept

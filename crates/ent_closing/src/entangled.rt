@@ -12,9 +12,10 @@ use std::alloc::{AllocError, Global};
 impl Closing for Atom<Known> {
     type Closed = Atom<Value>;
 
-    ghost use Rattle.ent_closing.specs.Closed.{closed_atom};
+    ghost use Rattle.ent_closed.specs.Closing.{atom_over};
+    ghost use Rattle.ent_closed.specs.Form.{known_worth};
 
-    ghost closing = { closed_atom };
+    ghost closing = { λ environment atom. atom_over (known_worth environment) atom };
 
     fn closed(&self, alloc: Global, environment: &Environment) -> Result<Atom<Value>, AllocError> {
         let relation = self.relation.copy(alloc)?;
@@ -26,9 +27,10 @@ impl Closing for Atom<Known> {
 impl Closing for Membership<Known> {
     type Closed = Membership<Value>;
 
-    ghost use Rattle.ent_closing.specs.Closed.{closed_membership};
+    ghost use Rattle.ent_closed.specs.Closing.{membership_over};
+    ghost use Rattle.ent_closed.specs.Form.{known_worth};
 
-    ghost closing = { closed_membership };
+    ghost closing = { λ environment membership. membership_over (known_worth environment) membership };
 
     fn closed(
         &self,
@@ -44,9 +46,10 @@ impl Closing for Membership<Known> {
 impl Closing for Binding<Known> {
     type Closed = Binding<Value>;
 
-    ghost use Rattle.ent_closing.specs.Closed.{closed_binding};
+    ghost use Rattle.ent_closed.specs.Closing.{binding_over};
+    ghost use Rattle.ent_closed.specs.Form.{known_worth};
 
-    ghost closing = { closed_binding };
+    ghost closing = { λ environment binding. binding_over (known_worth environment) binding };
 
     fn closed(
         &self,
@@ -62,9 +65,10 @@ impl Closing for Binding<Known> {
 impl Closing for Entangled<Known> {
     type Closed = Entangled<Value>;
 
-    ghost use Rattle.ent_closing.specs.Closed.{closed_entangled};
+    ghost use Rattle.ent_closed.specs.Closing.{entangled_over};
+    ghost use Rattle.ent_closed.specs.Form.{known_worth};
 
-    ghost closing = { closed_entangled };
+    ghost closing = { λ environment entangled. entangled_over (known_worth environment) entangled };
 
     fn closed(
         &self,

@@ -5,10 +5,8 @@ mod closing;
 mod copies;
 mod entangled;
 mod environment;
-mod laws;
 mod operand;
 mod statement;
 
 pub use environment::Environment;
-pub use laws::closing_keeps_meaning;
 pub use statement::closed;

@@ -33,9 +33,10 @@ impl Closing for Known {
 impl Closing for Operand<Known> {
     type Closed = Operand<Value>;
 
-    ghost use Rattle.ent_closing.specs.Closed.{closed_operand};
+    ghost use Rattle.ent_closed.specs.Closing.{operand_over};
+    ghost use Rattle.ent_closed.specs.Form.{known_worth};
 
-    ghost closing = { closed_operand };
+    ghost closing = { λ environment operand. operand_over (known_worth environment) operand };
 
     fn closed(
         &self,
@@ -52,9 +53,10 @@ impl Closing for Operand<Known> {
 impl Closing for Term<Known> {
     type Closed = Term<Value>;
 
-    ghost use Rattle.ent_closing.specs.Closed.{closed_term};
+    ghost use Rattle.ent_closed.specs.Closing.{term_over};
+    ghost use Rattle.ent_closed.specs.Form.{known_worth};
 
-    ghost closing = { closed_term };
+    ghost closing = { λ environment term. term_over (known_worth environment) term };
 
     fn closed(&self, alloc: Global, environment: &Environment) -> Result<Term<Value>, AllocError> {
         match self {
@@ -67,9 +69,9 @@ impl Closing for Term<Known> {
 impl<T: Closing> Closing for Test<T> {
     type Closed = Test<T::Closed>;
 
-    ghost use Rattle.ent_closing.specs.Closed.{test_of};
+    ghost use Rattle.ent_closed.specs.Closing.{test_over};
 
-    ghost closing = { λ environment test. test_of (T.closing environment) test };
+    ghost closing = { λ environment test. test_over (T.closing environment) test };
 
     fn closed(
         &self,
@@ -89,9 +91,9 @@ impl<T: Closing> Closing for Test<T> {
 impl<T: Closing> Closing for Expression<T> {
     type Closed = Expression<T::Closed>;
 
-    ghost use Rattle.ent_closing.specs.Closed.{expression_of};
+    ghost use Rattle.ent_closed.specs.Closing.{expression_over};
 
-    ghost closing = { λ environment expression. expression_of (T.closing environment) expression };
+    ghost closing = { λ environment expression. expression_over (T.closing environment) expression };
 
     fn closed(
         &self,

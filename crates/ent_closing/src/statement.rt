@@ -2,23 +2,23 @@
 ghost use Rattle.std.specs.Prelude.{◌≡◌, IfOk};
 ghost use Rattle.ent_semantics.specs.Entangled.{Valuation};
 ghost use Rattle.ent_closed.specs.Form.{Tables, known_worth, closed_worth, form_meaning};
-ghost use Rattle.ent_closing.specs.Closed.{closed_statement};
+ghost use Rattle.ent_closed.specs.Closing.{closed};
 ghost use Rattle.ent_closing.specs.Environment.{environment_of};
 
 use crate::closing::{Closing, closed_list, closed_sequence};
 use crate::copies::list_copy;
 use crate::environment::Environment;
-use crate::laws::closing_keeps_meaning;
-use ent_closed::{Known, Select, Statement};
+use ent_closed::{Known, Select, Statement, closing_keeps_the_meaning};
 use ent_value::Value;
 use std::alloc::{AllocError, Global};
 
 impl Closing for Select<Known> {
     type Closed = Select<Value>;
 
-    ghost use Rattle.ent_closing.specs.Closed.{closed_select};
+    ghost use Rattle.ent_closed.specs.Closing.{select_over};
+    ghost use Rattle.ent_closed.specs.Form.{known_worth};
 
-    ghost closing = { closed_select };
+    ghost closing = { λ environment select. select_over (known_worth environment) select };
 
     fn closed(
         &self,
@@ -39,9 +39,10 @@ impl Closing for Select<Known> {
 impl Closing for Statement<Known> {
     type Closed = Statement<Value>;
 
-    ghost use Rattle.ent_closing.specs.Closed.{closed_statement};
+    ghost use Rattle.ent_closed.specs.Closing.{statement_over};
+    ghost use Rattle.ent_closed.specs.Form.{known_worth};
 
-    ghost closing = { closed_statement };
+    ghost closing = { λ environment statement. statement_over (known_worth environment) statement };
 
     fn closed(
         &self,
@@ -96,12 +97,12 @@ pub fn closed(
     statement: &Statement<Known>,
     environment: &Environment,
 ) -> Result<Statement<Value>, AllocError>
-    ensures closed { IfOk result (λ closed. closed ≡ closed_statement (environment_of environment.now) statement.now) }
+    ensures closed { IfOk result (λ made. made ≡ closed (environment_of environment.now) statement.now) }
     ensures meaning { let bound = environment_of environment.now in
-        IfOk result (λ closed. (valuation : Valuation) (tables : Tables)
-        → form_meaning closed_worth closed valuation tables bound
+        IfOk result (λ made. (valuation : Valuation) (tables : Tables)
+        → form_meaning closed_worth made valuation tables bound
         ≡ form_meaning known_worth statement.now valuation tables bound) }
 {
-    closing_keeps_meaning();
+    closing_keeps_the_meaning();
     statement.closed(alloc, environment)
 }

@@ -3,11 +3,12 @@ ghost use Rattle.std.specs.Prelude.{◌≡◌, [], ◌∷◌, ◌++◌, IfOk, On
 ghost use Rattle.std.specs.Arc.{arc_value};
 ghost use Rattle.ent_set.specs.Sets as set;
 ghost use Rattle.ent_value.specs.Value.{row_cmp};
-ghost use Rattle.ent_semantics.specs.Selection.{selection};
+ghost use Rattle.ent_semantics.specs.Selection.{meets, selection};
 ghost use Rattle.ent_eval.specs.Combined.{combined, shown_of};
+ghost use Rattle.ent_eval.specs.Tables.{rows_in};
 ghost use Rattle.ent_eval.specs.Worth.{value_in};
 
-use crate::condition::meets;
+use crate::condition::{may_meet, meets};
 use crate::row::{item_row, joined};
 use ent_closed::Select;
 use ent_rel::Table;
@@ -47,9 +48,13 @@ fn search(
     match sources.split_first() {
         None => show(alloc, select, front, rest, found),
         Some((rows, more)) => {
-            let front = joined(alloc, front, rest)?;
+            if !may_meet(select.tests.as_slice(), front, rest) {
+                return Ok(());
+            }
+            let joined = joined(alloc, front, rest)?;
+            let begun = joined.values();
             for row in rows.as_slice() {
-                search(alloc, select, front.values(), row.values(), more, found)?;
+                search(alloc, select, begun, row.values(), more, found)?;
             }
             Ok(())
         }
@@ -59,7 +64,7 @@ fn search(
 /// The rows of tables, each ascending.
 fn rows_of(alloc: Global, tables: &[Arc<Table>]) -> Result<Vec<Sequence<Row>>, AllocError>
     ensures { IfOk result (λ sources.
-        sources.items ≡ map (λ table. set.ascending (arc_value table).rows) tables.now) }
+        sources.items ≡ map (λ rows. set.ascending rows) (rows_in (map arc_value tables.now))) }
 {
     let mut sources = Vec::with_capacity(alloc, tables.len())?;
     for table in tables {
@@ -84,8 +89,8 @@ pub(crate) fn select(
     sources: &[Arc<Table>],
 ) -> Result<Sequence<Row>, AllocError>
     ensures { IfOk result (λ rows. rows ≡ set.ascending
-        (selection value_in select.now.tests (λ row. map (value_in row) select.now.items)
-        (map (λ table. (arc_value table).rows) sources.now))) }
+        (selection (meets value_in select.now.tests) (λ row. map (value_in row) select.now.items)
+        (rows_in (map arc_value sources.now)))) }
 {
     let sources = rows_of(alloc, sources)?;
     let mut found = Vec::new(alloc);

@@ -1,7 +1,9 @@
 //! What operands and expressions are worth.
-ghost use Rattle.std.specs.Prelude.{◌≡◌, ◌+ℤ◌, ◌-ℤ◌, ◌++◌, slice_index_or};
+ghost use Rattle.std.specs.Prelude.{◌≡◌, ◌+ℤ◌, ◌-ℤ◌, ◌++◌, slice_get, slice_index_or};
+ghost use Rattle.std.specs.Option.{option_copied};
 ghost use Rattle.ent_value.specs.Refusal.{Gives};
 ghost use Rattle.ent_semantics.specs.Term.{no_value, number_of, in_64_bits, expression_value};
+ghost use Rattle.ent_eval.specs.Early.{value_there};
 ghost use Rattle.ent_eval.specs.Worth.{itself, value_in, there_or_overflow};
 
 use ent_closed::Operand;
@@ -26,6 +28,20 @@ pub(crate) fn operand_value<'a>(
     }
 }
 
+/// The value of an operand over the front of a row, which stands in two parts, where it is there.
+pub(crate) fn operand_there<'a>(
+    front: &'a [Value],
+    rest: &'a [Value],
+    operand: &'a Operand<Value>,
+) -> Option<&'a Value>
+    ensures { option_copied result ≡ value_there (front.now ++ rest.now) operand.now }
+{
+    match operand {
+        Operand::Known(value) => Some(value),
+        Operand::Column(number) => column_there(front, rest, *number),
+    }
+}
+
 /// The value at a number in a row that stands in two parts.
 fn column_value<'a>(
     front: &'a [Value],
@@ -39,6 +55,17 @@ fn column_value<'a>(
         &front[number]
     } else {
         rest.get(number - front.len()).unwrap_or(none)
+    }
+}
+
+/// The value at a number in a row that stands in two parts, where it is there.
+fn column_there<'a>(front: &'a [Value], rest: &'a [Value], number: usize) -> Option<&'a Value>
+    ensures { option_copied result ≡ slice_get (front.now ++ rest.now) number }
+{
+    if number < front.len() {
+        front.get(number)
+    } else {
+        rest.get(number - front.len())
     }
 }
 
