@@ -23,7 +23,8 @@ abbrev pub AreSized : {X : Type 0} → (X → List (List ℕ)) → List X → Li
 AreSized keys_of pages page = AllByRecursion (λ p. IsSized (keys_of p)) pages × (length page ≤ PAGE_LIMIT)
 
 -- each page of a list has its size, and its keys are these: each below the next, and this many
-pub record IsPaged {X : Type 0} (keys_of : X → List (List ℕ)) (pages : List X) (keys : List (List ℕ)) (len : ℕ) : Type 0 where
+pub record IsPaged {X : Type 0} (keys_of : X → List (List ℕ)) (pages : List X) (keys : List (List ℕ))
+    (len : ℕ) : Type 0 where
   pub sized : AllByRecursion (λ page. IsSized (keys_of page)) pages
   pub sorted : IsStrictlySortedBy key_cmp keys
   pub count : len ≡ length keys

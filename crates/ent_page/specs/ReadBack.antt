@@ -1,5 +1,6 @@
 -- What is read of a key is what was written.
-use Rattle.std.proofs.Common.{◌≡◌, ℕ, ℤ, pos, negsuc, zero, suc, ◌+◌, ◌-◌, ◌%◌, ◌^◌, ◌<◌, ◌≤◌, List, [], ◌∷◌, ◌++◌, length, take, drop, FitsSigned, true, false, sym, refl, ap, ◌∙◌, arith}
+use Rattle.std.proofs.Common.{◌≡◌, ℕ, ℤ, pos, negsuc, zero, suc, ◌+◌, ◌-◌, ◌%◌, ◌^◌, ◌<◌, ◌≤◌, List, [], ◌∷◌, ◌++◌}
+use Rattle.std.proofs.Common.{length, take, drop, FitsSigned, true, false, sym, refl, ap, ◌∙◌, arith}
 use Rattle.std.specs.Prelude.{if◌then◌else◌, nat_lt}
 use Rattle.std.specs.Int.{w64, from_be_bytes, cast_signed}
 use Rattle.std.proofs.lemmas.Bool.Decides.{nat_tests}
@@ -54,7 +55,8 @@ text_back [] rest = refl
 text_back (zero ∷ t) rest = ap (λ z. 0 ∷ z) (text_back t rest)
 text_back (suc b ∷ t) rest =
     ap (λ z. text_from false (z ++ rest)) (text_key-suc b t)
-    ∙ ap (λ z. if z then text_from true (text_key t ++ rest) else (suc b ∷ text_from false (text_key t ++ rest))) (not_zero b)
+    ∙ ap (λ z. if z then text_from true (text_key t ++ rest) else (suc b ∷ text_from false (text_key t ++ rest)))
+    (not_zero b)
     ∙ ap (λ z. suc b ∷ z) (text_back t rest)
 
 past_back : (t rest : List ℕ) → past_text false (text_key t ++ rest) ≡ rest

@@ -66,7 +66,16 @@ impl<'a> PartialEq for Cell<'a> {
     ghost laws = { partial_equiv_from_equiv (eq_by_cmp_equiv values_total) };
 
     fn eq(&self, other: &Cell<'a>) -> bool {
-        self.cmp(other) == Ordering::Equal
+        match self.kind {
+            Kind::Int => match other.kind {
+                Kind::Int => self.bytes == other.bytes,
+                Kind::Text => false,
+            },
+            Kind::Text => match other.kind {
+                Kind::Int => false,
+                Kind::Text => self.bytes == other.bytes,
+            },
+        }
     }
 }
 

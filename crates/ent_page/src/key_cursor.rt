@@ -1,5 +1,5 @@
 //! A walk over keys in pages.
-ghost use Rattle.std.specs.Prelude.{◌≡◌, ◌∷◌, [], MatchOption, Option};
+ghost use Rattle.std.specs.Prelude.{◌≡◌, ◌∷◌, [], MatchOption};
 ghost use Rattle.std.specs.List.{flat_map, take_while};
 ghost use Rattle.std.specs.Arc.{arc_value};
 ghost use Rattle.ent_page.specs.Front.{begins_with, has_front};

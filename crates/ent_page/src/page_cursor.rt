@@ -16,8 +16,7 @@ pub(crate) struct PageCursor<'a> {
 }
 
 impl<'a> Model for PageCursor<'a> {
-    ghost use Rattle.std.specs.Prelude.{ℕ, List, drop};
-    ghost use Rattle.std.specs.List.{flat_map};
+    ghost use Rattle.std.specs.Prelude.{ℕ, List};
     ghost use Rattle.std.specs.Arc.{arc_value};
     ghost use Rattle.ent_page.specs.Paged.{keys_left};
 

@@ -138,12 +138,14 @@ pub(crate) fn shrunk(
     if len == 0 {
         return spliced(alloc, pages, at, at + 1, Vec::new(alloc));
     }
-    if at + 1 < pages.len() {
-        let next: &Page = &pages[at + 1];
-        if next.len() <= JOIN_LIMIT - len.min(JOIN_LIMIT) {
-            let joined = page.joined(alloc, next)?;
-            return spliced(alloc, pages, at, at + 2, single(alloc, joined)?);
-        }
+    let room = JOIN_LIMIT - len.min(JOIN_LIMIT);
+    if at + 1 < pages.len() && pages[at + 1].len() <= room {
+        let joined = page.joined(alloc, &pages[at + 1])?;
+        return spliced(alloc, pages, at, at + 2, single(alloc, joined)?);
+    }
+    if at > 0 && pages[at - 1].len() <= room {
+        let joined = pages[at - 1].joined(alloc, &page)?;
+        return spliced(alloc, pages, at - 1, at + 1, single(alloc, joined)?);
     }
     spliced(alloc, pages, at, at + 1, single(alloc, page)?)
 }
@@ -194,7 +196,8 @@ pub(crate) fn count_keys(pages: &[Arc<Page>]) -> usize
     count
 }
 
-/// Whether pages hold the same keys. Pages are compared whole up to the first two that differ, and from there key by key.
+/// Whether pages hold the same keys. Pages are compared whole up to the first two that differ, and from
+/// there key by key.
 pub(crate) fn are_same_keys(left: &[Arc<Page>], right: &[Arc<Page>]) -> bool
     ensures { IsTrue result ↔ (flat_map arc_value left.now ≡ flat_map arc_value right.now) }
 {

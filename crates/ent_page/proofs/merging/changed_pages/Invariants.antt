@@ -6,4 +6,5 @@ use Rattle.ent_page.proofs.merging.changed_pages.Given as goal
 
 abbrev pub invariant-loop-at : goal.invariant-loop-at
 invariant-loop-at l =
-    IsUnderWay (flat_map arc_value l.pages) l.removed-2 l.added-2 [] l.out (flat_map arc_value (drop l.at l.pages)) l.removed l.added
+    IsUnderWay (flat_map arc_value l.pages) l.removed-2 l.added-2 [] l.out (flat_map arc_value (drop l.at l.pages))
+    l.removed l.added

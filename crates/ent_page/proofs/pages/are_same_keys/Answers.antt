@@ -10,7 +10,8 @@ loop-same-preserved c =
       range = omega arith;
       left = c.loop-same.invariant.left;
       right = c.loop-same.invariant.right;
-      rest = same_step arc_value c.args.left.now c.args.right.now c.loop-same.same c.index-left-same.result c.index-right-same.result
+      rest = same_step arc_value c.args.left.now c.args.right.now c.loop-same.same c.index-left-same.result
+          c.index-right-same.result
           (omega (arith, c.loop-same.invariant.left)) (omega (arith, c.loop-same.invariant.right))
           c.index-left-same.is c.index-right-same.is same _ c.loop-same.invariant.rest;
     }

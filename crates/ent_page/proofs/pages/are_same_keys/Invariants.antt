@@ -10,7 +10,8 @@ invariant-loop-same l = record {
   range : l.same ≤ l.both;
   left : l.both ≤ length l.left;
   right : l.both ≤ length l.right;
-  rest : (flat_map arc_value (drop l.same l.left) ≡ flat_map arc_value (drop l.same l.right)) ↔ (flat_map arc_value l.left ≡ flat_map arc_value l.right);
+  rest : (flat_map arc_value (drop l.same l.left) ≡ flat_map arc_value (drop l.same l.right)) ↔
+      (flat_map arc_value l.left ≡ flat_map arc_value l.right);
 }
 
 abbrev pub decreases-loop-same : goal.decreases-loop-same

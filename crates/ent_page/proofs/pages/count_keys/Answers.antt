@@ -6,5 +6,13 @@ use Rattle.ent_page.proofs.pages.count_keys.Goals as goal
 pub overflow_add-count : goal.overflow_add-count
 overflow_add-count c =
     record {
-      fits = omega (arith, count_within arc_value c.args.pages.now c.loop-page.page-index c.page-item.result (omega arith) c.page-item.is, c.loop-page.invariant, c.len-count.ensures, ap length c.deref.ensures, c.requires);
+      fits = omega (
+        arith,
+        count_within arc_value c.args.pages.now c.loop-page.page-index c.page-item.result
+            (omega arith) c.page-item.is,
+        c.loop-page.invariant,
+        c.len-count.ensures,
+        ap length c.deref.ensures,
+        c.requires,
+      );
     }

@@ -11,5 +11,7 @@ pub returns : goal.returns
 returns c =
     let keys = flat_map arc_value c.self.inside.pages.items in
     c.beginning_with.ensures
-    ∙ walked c.args.front keys c.walk_from-walk.result c.self.invariant.sorted (rw c.as_slice.ensures.value at c.walk_from-walk.ensures)
-    ∙ ap (filter (begins_with c.args.front)) (sym (ascending_is keys c.self.invariant.sorted) ∙ ap set.ascending c.self.view_is)
+    ∙ walked c.args.front keys c.walk_from-walk.result c.self.invariant.sorted
+    (rw c.as_slice.ensures.value at c.walk_from-walk.ensures)
+    ∙ ap (filter (begins_with c.args.front)) (sym (ascending_is keys c.self.invariant.sorted)
+    ∙ ap set.ascending c.self.view_is)
