@@ -1,5 +1,5 @@
 -- Rows by their keys.
-use Rattle.std.proofs.Common.{◌≡◌, ℕ, zero, suc, ◌+◌, ◌<◌, ◌≤◌, take, drop, get_or, ◌++◌, Bool, true, false, List, [], ◌∷◌, length, map, refl, sym, ap, subst, ◌∙◌, arith, T, IsTrue, not}
+use Rattle.std.proofs.Common.{◌≡◌, ℕ, zero, suc, ◌+◌, ◌-◌, ◌<◌, ◌≤◌, take, drop, get_or, ◌++◌, Bool, true, false, List, [], ◌∷◌, length, map, refl, sym, ap, subst, ◌∙◌, arith, T, IsTrue, not}
 use Rattle.std.specs.Prelude.{◌||◌, ◌&&◌, if◌then◌else◌, All, Err}
 use Rattle.std.specs.List.{AllByRecursion, list_any, filter, IsDistinct}
 use Rattle.std.specs.List.Sorted.{IsStrictlySortedBy}
@@ -15,7 +15,7 @@ use Rattle.std.proofs.lemmas.Map.Lookups.{CmpEqualImpliesEq, exact_bytes}
 use Rattle.std.proofs.lemmas.Map.Keys.{IsDistinct-from_sorted}
 use Rattle.ent_set.specs.Sets as set
 use Rattle.ent_set.specs.Laws.{same_set, contains-from_list, contains-insert, contains-without_all, contains-empty, len-insert, contains-ascending, from_list-ascending, from_list-filter, any_map, any_same_set, len-distinct, ascending-from_list, is_sorted_from, without-append, without-nothing}
-use Rattle.std.proofs.lemmas.List.{take_more, map-append}
+use Rattle.std.proofs.lemmas.List.{take_more, take_all, map-append}
 use Rattle.ent_value.specs.Value.{row_cmp, kind_of, kinds_of}
 use Rattle.ent_value.specs.Order.{rows_total, exact_rows, rows_equal}
 use Rattle.ent_value.specs.declared.value.Value.{Value}
@@ -304,6 +304,15 @@ module _ (kinds : List Kind) (s : KeySet) (removed added : List (List Value)) (g
   hold_merged =
       subst (λ t. HoldRows kinds t) (sym is)
       (hold_insert_all kinds (set.without_all s gone) added (recursion_from_All (λ row. kinds_of row ≡ kinds) added same) (recursion_from_All AreStorable added fits) (hold_without kinds s gone hold))
+
+-- a list by its first element and the others
+pub first_and_others : {X : Type 0} (xs : List X) (x : X) → 1 ≤ length xs → x ≡ get_or xs 0 x → x ∷ take (length xs - 1) (drop 1 xs) ≡ xs
+first_and_others [] x h is = absurd (omega arith)
+first_and_others (y ∷ ys) x h is = λ i. is i ∷ take_all (length (y ∷ ys) - 1) ys (omega arith) i
+
+pub none_in : {X : Type 0} (xs : List X) → length xs ≡ 0 → xs ≡ []
+none_in [] h = refl
+none_in (x ∷ xs) h = absurd (omega arith)
 
 -- ---- kinds and keys of more and more values
 

@@ -110,6 +110,31 @@ fn keys_to_remove(alloc: Global, kinds: &[Kind], rows: &[Row]) -> Result<Vec<Key
     Ok(keys)
 }
 
+/// Keys with those of some rows put in, row by row; `TableFull` where there would be too many.
+fn keys_added(
+    alloc: Global,
+    kinds: &[Kind],
+    keys: &KeySet,
+    rows: &[Row],
+) -> Result<KeySet, Refusal<TableFull>>
+    requires hold { HoldRows kinds.now keys.now }
+    requires limit { set.len keys.now ≤ MOST_ROWS }
+    requires kinds { All (λ row. kinds_of row ≡ kinds.now) rows.now }
+    ensures rows { let after = set.insert_all (rows_of kinds.now keys.now) rows.now in
+        Gives (λ grown. rows_of kinds.now grown) result (bounded after after) }
+    ensures hold { IfOk result (λ grown. HoldRows kinds.now grown) }
+    ensures limit { IfOk result (λ grown. set.len grown ≤ MOST_ROWS) }
+{
+    match rows {
+        [] => keys_with(alloc, kinds, keys.copy(alloc)?, rows),
+        [first, others @ ..] => {
+            // The list of pages is shared once for the first row, and not a second time for a copy before it.
+            let key = Key::of(alloc, first.values())?;
+            keys_with(alloc, kinds, keys.with(alloc, &key)?, others)
+        }
+    }
+}
+
 /// Keys without those of some rows and then with those of others, in one pass.
 fn keys_merged(
     alloc: Global,
@@ -154,6 +179,9 @@ pub(crate) fn keys_changed(
 {
     if removed.len() > FEW_ROWS || added.len() > FEW_ROWS {
         return keys_merged(alloc, kinds, keys, removed, added);
+    }
+    if removed.is_empty() {
+        return keys_added(alloc, kinds, keys, added);
     }
     let left = keys_without(alloc, kinds, keys.copy(alloc)?, removed)?;
     keys_with(alloc, kinds, left, added)
