@@ -10,14 +10,15 @@ ghost use Rattle.ent_tree.specs.Places.{unplaced_script};
 
 use ent_text::pieces_end;
 
-/// The tokens of a printed text are those that spell its lexemes, in order, whatever the lexemes are.
+/// The tokens of a printed text are those that spell its lexemes, in order, where each lexeme can stand in a text.
 pub fn printed_text_is_read()
     ensures { (lexemes : List Lexeme) → All CanBeRead lexemes → HasKinds (text_of lexemes) (kinds_of lexemes) }
 {
     pieces_end();
 }
 
-/// The tokens of a printed script are those that spell it, in order.
+/// The tokens of a printed script are those that spell it, in order, where no name is a reserved word, no text has a
+/// control character and no number is beyond its limit.
 pub fn printed_script_is_read()
     ensures { (script : Script) → IsReadable script → HasKinds (script_text script) (kinds_of (script_spelling script)) }
 {
