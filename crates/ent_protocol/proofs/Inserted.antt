@@ -1,5 +1,5 @@
 -- What an INSERT into a table without rows comes to.
-use Rattle.std.proofs.Common.{◌≡◌, ℕ, ◌+◌, Bool, true, false, cond, List, [], ◌∷◌, refl, sym, ap, subst, ◌∙◌, Ok, Err}
+use Rattle.std.proofs.Common.{◌≡◌, ℕ, ◌+◌, Bool, true, false, cond, List, [], ◌∷◌, map, refl, sym, ap, subst, ◌∙◌, Ok, Err}
 use Rattle.std.specs.Prelude.{nat_le, slice_index_or, slice_set}
 use Rattle.ent_set.specs.Laws.{contains-empty, len-empty, len-insert, without-nothing}
 use Rattle.ent_set.specs.Sets as set
@@ -14,25 +14,38 @@ use Rattle.ent_closed.specs.declared.statement.Statement.TheVariants as forms
 use Rattle.ent_closed.specs.Form.{Tables, closed_worth, form_meaning}
 use Rattle.ent_protocol.specs.Job.{IsEffect, Changed}
 
-module _ (table : ℕ) (value : Value) (tables : Tables) where
+module _ (table : ℕ) (values : List Value) (tables : Tables) where
   abbrev rows : Rows
   rows = slice_index_or tables table set.empty
 
   abbrev row : List Value
-  row = value ∷ []
+  row = map (λ value. value) values
 
   abbrev Comes : Bool → Bool → Type 0
   Comes is_there fits =
-      IsEffect (forms.Insert table (value ∷ [])) tables (cond fits (Ok (record {
+      IsEffect (forms.Insert table values) tables (cond fits (Ok (record {
         database = slice_set tables table (set.insert rows row);
         environment = nothing_bound;
         answer = answers.Count (cond is_there 0 1);
       })) (Err TableFull)) (Changed 1 [] (row ∷ []))
 
+  -- a row that isn't there, where there is room
+  pub another_row : set.contains rows row ≡ false → nat_le (set.len (set.insert rows row)) MOST_ROWS ≡ true
+      → ((other : Rows) → slice_index_or (slice_set tables table other) table set.empty ≡ other)
+      → IsEffect (forms.Insert table values) tables
+      (form_meaning closed_worth (forms.Insert table values) [] tables nothing_bound) (Changed 1 [] (row ∷ []))
+  another_row absent fits found =
+      subst (λ b. Comes b (nat_le (set.len (set.insert rows row)) MOST_ROWS)) (sym absent)
+      (subst (λ b. Comes false b) (sym fits) (
+        refl,
+        found (set.insert rows row)
+            ∙ ap (λ kept. set.insert kept row) (sym (without-nothing rows_total exact_rows rows)),
+      ))
+
   pub new_row : rows ≡ set.empty
       → ((other : Rows) → slice_index_or (slice_set tables table other) table set.empty ≡ other)
-      → IsEffect (forms.Insert table (value ∷ [])) tables
-      (form_meaning closed_worth (forms.Insert table (value ∷ [])) [] tables nothing_bound) (Changed 1 [] (row ∷ []))
+      → IsEffect (forms.Insert table values) tables
+      (form_meaning closed_worth (forms.Insert table values) [] tables nothing_bound) (Changed 1 [] (row ∷ []))
   new_row none found =
       subst (λ b. Comes b (nat_le (set.len (set.insert rows row)) MOST_ROWS)) (sym absent)
       (subst (λ b. Comes false b) (sym fits) (

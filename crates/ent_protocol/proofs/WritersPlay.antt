@@ -32,7 +32,7 @@ use Rattle.ent_protocol.proofs.Ring.{waits_itself}
 abbrev inserts : ℕ → ℕ → Statement Value
 inserts tx table = forms.Insert table (Int (pos tx) ∷ [])
 
-abbrev fresh : ℕ → Member
+abbrev pub fresh : ℕ → Member
 fresh tx =
     record {
       tx = tx;
@@ -140,10 +140,10 @@ deadlock =
 -- ---- the play
 
 evaluated_in_A : IsEvaluated (done 1 1 0)
-evaluated_in_A = new_row 0 (Int (pos 1)) (tables_of (job 1 1 0).tables) refl (λ other. refl)
+evaluated_in_A = new_row 0 (Int (pos 1) ∷ []) (tables_of (job 1 1 0).tables) refl (λ other. refl)
 
 evaluated_in_B : (tx place : ℕ) → IsEvaluated (done tx place 1)
-evaluated_in_B tx place = new_row 1 (Int (pos tx)) (tables_of (job tx place 1).tables) refl (λ other. refl)
+evaluated_in_B tx place = new_row 1 (Int (pos tx) ∷ []) (tables_of (job tx place 1).tables) refl (λ other. refl)
 
 taken : (tx place table : ℕ) → IsTaken (job tx place table) (job tx place table ∷ []) []
 taken tx place table = record { before = []; behind = []; is_there = refl; others = refl }

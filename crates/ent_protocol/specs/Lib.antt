@@ -15,3 +15,4 @@ pub mod Step
 pub mod Reached
 pub mod Play
 pub mod Writers
+pub mod Partners

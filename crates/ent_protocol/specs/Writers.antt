@@ -91,7 +91,8 @@ done tx place table =
 abbrev pub count_1 : Reply ℕ
 count_1 = events.Stepped (answers.Count 1)
 
--- The first takes A, the second B; then each waits for the other. The greater one is rolled back, and the other goes on.
+-- The first takes A, the second B; then each waits for the other. The greater one is rolled back, and the other goes
+-- on.
 abbrev pub two_writers : List (Event × Reply ℕ)
 two_writers =
     (events.Submit (writer 1 (codes "A") (codes "B")), events.Submitted 1)

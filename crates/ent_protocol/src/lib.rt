@@ -7,4 +7,4 @@
 
 mod law;
 
-pub use law::{refusals_change_nothing, two_writers_deadlock};
+pub use law::{partner_passes_a_prepared_lock, refusals_change_nothing, two_writers_deadlock};
