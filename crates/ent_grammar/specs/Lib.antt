@@ -5,3 +5,4 @@ pub mod List
 pub mod Grammar
 pub mod Spelling
 pub mod Foresight
+pub mod FirstFault
