@@ -113,9 +113,9 @@ never_both (c ∷ cs) ds k e h g =
 
 -- ---- what a token gives
 
-so : {A : Type 0} (b : Bool) (x : A) → b ≡ true → if_so b x ≡ Some x
-so true x e = refl
-so false x e = absurd cc
+pub is_so : {A : Type 0} (b : Bool) (x : A) → b ≡ true → if_so b x ≡ Some x
+is_so true x e = refl
+is_so false x e = absurd cc
 
 so_of : {A : Type 0} (b : Bool) (x y : A) → if_so b x ≡ Some y → b ≡ true
 so_of true x y e = refl
@@ -135,13 +135,13 @@ given_is _ _ p x e = absurd cc
 
 -- what is of the class gives something
 pub is_given : (c : Class) (k : TokenKind) (p : ℕ) → is c k ≡ true → (x : Given c) × (given c k p ≡ Some x)
-is_given (word w) (kinds.Word v) p e = (p, so (same_word v w) p e)
-is_given (sign s) (kinds.Sign v) p e = (p, so (same_sign v s) p e)
+is_given (word w) (kinds.Word v) p e = (p, is_so (same_word v w) p e)
+is_given (sign s) (kinds.Sign v) p e = (p, is_so (same_sign v s) p e)
 is_given name (kinds.Name n) p e = ((n, p), refl)
 is_given variable (kinds.HostVariable n) p e = ((n, p), refl)
 is_given number (kinds.Number n) p e = ((n, p), refl)
-is_given positive (kinds.Number n) p e = ((n, p), so _ (n, p) e)
-is_given one (kinds.Number n) p e = (p, so _ p e)
+is_given positive (kinds.Number n) p e = ((n, p), is_so _ (n, p) e)
+is_given one (kinds.Number n) p e = (p, is_so _ p e)
 is_given text (kinds.Literal n) p e = ((n, p), refl)
 is_given _ _ p e = absurd cc
 
