@@ -1,3 +1,4 @@
 pub mod Classes
 pub mod Tongue
 pub mod Picks
+pub mod Openings

@@ -40,7 +40,7 @@ sample_given positive = refl
 sample_given one = refl
 sample_given text = refl
 
-sample_single : (c : Class) → Single c (sample_of c) (sample_token c ∷ [])
+pub sample_single : (c : Class) → Single c (sample_of c) (sample_token c ∷ [])
 unfolding sample_token
 sample_single c = record { token = sample_token c; whole = refl; is_given = sample_given c }
 
