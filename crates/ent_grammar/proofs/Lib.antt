@@ -2,3 +2,4 @@ pub mod Classes
 pub mod Tongue
 pub mod Picks
 pub mod Openings
+pub mod Lists
