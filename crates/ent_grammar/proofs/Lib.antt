@@ -3,3 +3,4 @@ pub mod Tongue
 pub mod Picks
 pub mod Openings
 pub mod Lists
+pub mod Dividers

@@ -25,10 +25,10 @@ no_things : {A : Type 0} (entry : Tongue A) (room : ℕ) (kept : Bool) (xs : Lis
 no_things {A} entry room kept xs ts h = subst (λ (ys : List A). Lists entry room kept ys ts) (sym h.0) (h.1, λ e. omega arith)
 
 -- a thing, and a list of things
-abbrev Things : {A : Type 0} → Tongue A → ℕ → Tongue (List A)
+abbrev pub Things : {A : Type 0} → Tongue A → ℕ → Tongue (List A)
 Things entry room = linked entry (λ x. linked (Lists entry room) (λ xs kept ys ts. (ys ≡ x ∷ xs) × nothing ts))
 
-one_more : {A : Type 0} (entry : Tongue A) (room : ℕ) (kept : Bool) (ys : List A) (ts : List Token) → Things entry room kept ys ts → Lists entry (suc room) kept ys ts
+pub one_more : {A : Type 0} (entry : Tongue A) (room : ℕ) (kept : Bool) (ys : List A) (ts : List Token) → Things entry room kept ys ts → Lists entry (suc room) kept ys ts
 one_more {A} entry room kept ys ts h =
     let x = h.0 in
     let k = h.1.second in
@@ -44,18 +44,18 @@ one_more {A} entry room kept ys ts h =
     }, λ e. omega (arith, k.1.first.1 e))
 
 -- a list that ends here
-ends_says : {A : Type 0} (entry : Tongue A) (room : ℕ) (test : TokenKind → Bool) (whole : ℕ → List Token → Read (List A)) → ((e : ℕ) (us : List Token) → begins test us ≡ false → whole e us ≡ Ok ([], us))
+pub ends_says : {A : Type 0} (entry : Tongue A) (room : ℕ) (test : TokenKind → Bool) (whole : ℕ → List Token → Read (List A)) → ((e : ℕ) (us : List Token) → begins test us ≡ false → whole e us ≡ Ok ([], us))
     → (e : ℕ) (ts : List Token) → begins test ts ≡ false → Says_so (Lists entry room) whole e ts (Ok ([], ts))
 ends_says {A} entry room test whole same e ts is =
     tested (λ kept (ys : List A) us. (ys ≡ []) × nothing us) (Lists entry room) test false (λ e us. Ok ([], us)) whole (no_things entry room) same e ts is (Ok ([], ts))
     (let f : Firm (λ kept (ys : List A) us. (ys ≡ []) × nothing us) (λ e us. Ok ([], us)) = end_firm [] in f.says e ts)
 
 -- a reader of a thing and then of a list
-things_firm : {A : Type 0} {entry : Tongue A} (room : ℕ) (read : ℕ → List Token → Read A) (rest : ℕ → List Token → Read (List A)) → Firm entry read → Firm (Lists entry room) rest
+pub things_firm : {A : Type 0} {entry : Tongue A} (room : ℕ) (read : ℕ → List Token → Read A) (rest : ℕ → List Token → Read (List A)) → Firm entry read → Firm (Lists entry room) rest
     → Firm (Things entry room) (λ e us. read e us >>= λ x. joined x.0 (rest e x.1))
 things_firm {A} room read rest first second = firm_then read (λ e x. joined x.0 (rest e x.1)) first (λ x. firm_then rest (λ e xs. Ok (x ∷ xs.0, xs.1)) second (λ xs. end_firm (x ∷ xs)))
 
-empty_list : {A : Type 0} (entry : Tongue A) (room : ℕ) (kept : Bool) → Lists entry room kept [] []
+pub empty_list : {A : Type 0} (entry : Tongue A) (room : ℕ) (kept : Bool) → Lists entry room kept [] []
 empty_list entry room kept = (refl, λ e. omega arith)
 
 -- ---- one behind the other
