@@ -4,3 +4,5 @@ pub mod Picks
 pub mod Openings
 pub mod Lists
 pub mod Dividers
+pub mod Firm
+pub mod Complete
