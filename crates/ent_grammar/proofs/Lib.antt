@@ -6,3 +6,4 @@ pub mod Lists
 pub mod Dividers
 pub mod Firm
 pub mod Complete
+pub mod Stopped

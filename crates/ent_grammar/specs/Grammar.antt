@@ -1,7 +1,8 @@
 -- A grammar as data, and how it is read.
-use Rattle.std.specs.Prelude.{ℕ, ◌-◌, nat_le, List, [], ◌∷◌, ◌++◌, Option, Some, None, Ok, Err, cond}
+use Rattle.std.specs.Prelude.{ℕ, ◌-◌, nat_le, List, [], ◌∷◌, ◌++◌, Option, Some, None, Result, Ok, Err, cond}
 use Rattle.ent_text.specs.declared.token.Token.{Token}
 use Rattle.ent_value.specs.Refusal.{◌>>=◌}
+use Rattle.ent_grammar.specs.declared.fault.GrammarFault.{GrammarFault}
 use Rattle.ent_grammar.specs.declared.fault.GrammarFault.TheVariants.{Unexpected, TooMany}
 use Rattle.ent_grammar.specs.Read.{Read, begins}
 use Rattle.ent_grammar.specs.Class.{Class, positive, Given, given, is, among, Divider, class_of}
@@ -79,3 +80,12 @@ reads (pick g h) = λ end ts. cond (begins (among (firsts g)) ts) (reads g end t
 reads (many limit item) = λ end ts. many_at (among (firsts item)) (reads item) end limit ts
 reads (more limit divider item) =
     λ end ts. more_at (is (class_of divider)) (among (firsts item)) (reads item) end limit ts
+
+-- a value, where no token is left
+abbrev pub ended : {A : Type 0} → A → ℕ → List Token → Result A GrammarFault
+ended x end [] = Ok x
+ended x end (t ∷ ts) = Err (Unexpected t.start)
+
+-- what all of the tokens say, or the first fault
+abbrev pub reads_all : {A : Type 0} → Grammar A → ℕ → List Token → Result A GrammarFault
+reads_all g end ts = reads g end ts >>= λ x. ended x.0 end x.1
