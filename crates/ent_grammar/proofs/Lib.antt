@@ -7,3 +7,4 @@ pub mod Dividers
 pub mod Firm
 pub mod Complete
 pub mod Stopped
+pub mod Place
