@@ -1,5 +1,5 @@
 -- Classes of tokens that are apart have no token in common.
-use Rattle.std.proofs.Common.{◌≡◌, ℕ, Bool, true, false, not, ◌&&◌, ◌||◌, List, [], ◌∷◌, ◌++◌, Option, Some, None, refl, sym, ap, ◌∙◌, rules, subst, inl, inr, ◌⊎◌}
+use Rattle.std.proofs.Common.{◌≡◌, ℕ, Bool, true, false, not, ◌&&◌, ◌||◌, List, [], ◌∷◌, ◌++◌, Some, refl, sym, ap, ◌∙◌, rules, inl, inr, ◌⊎◌}
 use denote.Enum.Bare.{same_true, true_same}
 use Rattle.ent_text.specs.contracts.keyword.Keyword.{the_type as keyword_type}
 use Rattle.ent_text.specs.contracts.symbol.Symbol.{the_type as symbol_type}

@@ -1,19 +1,18 @@
 -- What a grammar spells is read, or there is too much of something.
-use Rattle.std.proofs.Common.{◌≡◌, ℕ, zero, suc, ◌≤◌, Bool, true, false, cond, List, [], ◌∷◌, ◌++◌, drop, length, Option, Some, None, Ok, Err, refl, sym, ap, ◌∙◌, inl, inr, ◌⊎◌, subst, append_assoc, arith}
-use Rattle.std.proofs.lemmas.List.{append-nil}
+use Rattle.std.proofs.Common.{◌≡◌, ℕ, zero, suc, ◌≤◌, Bool, true, false, cond, List, [], ◌∷◌, ◌++◌, length, Option, Some, None, Ok, Err, refl, sym, ap, ◌∙◌, inl, inr, ◌⊎◌, subst, append_assoc, arith}
 use Rattle.std.specs.Prelude.{nat_le}
 use Rattle.ent_text.specs.declared.token.Token.{Token}
-use Rattle.ent_text.specs.declared.token.TokenKind.{TokenKind}
 use Rattle.ent_value.specs.Refusal.{◌>>=◌}
-use Rattle.ent_grammar.specs.declared.fault.GrammarFault.TheVariants.{Unexpected, TooMany}
+use Rattle.ent_grammar.specs.declared.fault.GrammarFault.TheVariants.{TooMany}
 use Rattle.ent_grammar.specs.Read.{Read, place_of, begins}
-use Rattle.ent_grammar.specs.Class.{Class, positive, Given, given, is, among, apart, Divider, class_of}
-use Rattle.ent_grammar.specs.Phrase.{Phrase, ◌⨾◌, nothing, Single, all}
-use Rattle.ent_grammar.specs.List.{joined, full_at, more_at, many_at}
+use Rattle.ent_grammar.specs.declared.divider.Divider.{Divider}
+use Rattle.ent_grammar.specs.Class.{Class, positive, Given, is, among, apart, class_of}
+use Rattle.ent_grammar.specs.Phrase.{Phrase, nothing, Single, all}
+use Rattle.ent_grammar.specs.List.{joined, more_at, many_at}
 use Rattle.ent_grammar.specs.Grammar.{Grammar, give, token, up_to, chain, pick, many, more, nullable, firsts, after, behind, reads, taken_from, taken_at, limited_from, limited_at}
 use Rattle.ent_grammar.specs.Spelling.{spells, chained}
 use Rattle.ent_grammar.specs.Foresight.{IsPredictive, if_some}
-use Rattle.ent_grammar.proofs.Classes.{by_either, among_left, among_right, among_head, never_both, given_is}
+use Rattle.ent_grammar.proofs.Classes.{among_left, among_right, never_both, given_is}
 
 -- ---- how a sentence begins
 

@@ -1,13 +1,14 @@
 -- Lists of things behind dividers are read firmly.
-use Rattle.std.proofs.Common.{◌≡◌, ℕ, zero, suc, Bool, true, false, cond, List, [], ◌∷◌, ◌++◌, take, drop, Ok, Err, refl, sym, ap, ◌∙◌, inl, inr, subst}
+use Rattle.std.proofs.Common.{◌≡◌, ℕ, zero, suc, Bool, true, false, cond, List, [], ◌∷◌, take, drop, Ok, Err, refl, sym, ap, ◌∙◌, inr, subst}
 use Rattle.std.proofs.lemmas.List.{append-nil}
 use Rattle.ent_text.specs.declared.token.Token.{Token}
 use Rattle.ent_text.specs.declared.token.TokenKind.{TokenKind}
 use Rattle.ent_value.specs.Refusal.{◌>>=◌}
 use Rattle.ent_grammar.specs.declared.fault.GrammarFault.TheVariants.{Unexpected, TooMany}
 use Rattle.ent_grammar.specs.Read.{Read, place_of, begins}
-use Rattle.ent_grammar.specs.Class.{Given, given, is, Divider, class_of}
-use Rattle.ent_grammar.specs.Phrase.{Phrase, ◌⨾◌, nothing, Single, all}
+use Rattle.ent_grammar.specs.declared.divider.Divider.{Divider}
+use Rattle.ent_grammar.specs.Class.{is, class_of}
+use Rattle.ent_grammar.specs.Phrase.{Single}
 use Rattle.ent_grammar.specs.List.{joined, full_at, more_at}
 use Rattle.ent_grammar.specs.Grammar.{taken_from, taken_at}
 use Rattle.ent_grammar.specs.FirstFault.{AtMostADivider}

@@ -1,7 +1,6 @@
 -- Every grammar that one token decides is read firmly.
-use Rattle.std.proofs.Common.{◌≡◌, ℕ, Bool, true, List, ◌∷◌}
-use Rattle.ent_text.specs.declared.token.Token.{Token}
-use Rattle.ent_grammar.specs.Class.{Class, is, among, apart, dividers, class_of}
+use Rattle.std.proofs.Common.{List}
+use Rattle.ent_grammar.specs.Class.{Class, among}
 use Rattle.ent_grammar.specs.Grammar.{Grammar, give, token, up_to, chain, pick, many, more, firsts, reads}
 use Rattle.ent_grammar.specs.Spelling.{spells}
 use Rattle.ent_grammar.specs.Foresight.{sample, IsPredictive}

@@ -1,21 +1,17 @@
 -- Lists of things are read firmly.
-use Rattle.std.proofs.Common.{◌≡◌, ℕ, zero, suc, ◌≤◌, Bool, true, false, cond, List, [], ◌∷◌, ◌++◌, take, drop, length, Ok, Err, refl, sym, ap, ◌∙◌, inl, inr, ◌⊎◌, subst, arith}
+use Rattle.std.proofs.Common.{◌≡◌, ℕ, zero, suc, ◌≤◌, Bool, true, false, cond, List, [], ◌∷◌, ◌++◌, take, length, Ok, Err, refl, sym, ap, ◌∙◌, inl, subst, arith}
 use Rattle.std.proofs.lemmas.List.{append-nil}
 use Rattle.ent_text.specs.declared.token.Token.{Token}
 use Rattle.ent_text.specs.declared.token.TokenKind.{TokenKind}
 use Rattle.ent_value.specs.Refusal.{◌>>=◌}
-use Rattle.ent_grammar.specs.declared.fault.GrammarFault.{GrammarFault}
-use Rattle.ent_grammar.specs.declared.fault.GrammarFault.TheVariants.{Unexpected, TooMany}
+use Rattle.ent_grammar.specs.declared.fault.GrammarFault.TheVariants.{TooMany}
 use Rattle.ent_grammar.specs.Read.{Read, place_of, begins}
-use Rattle.ent_grammar.specs.Class.{Class, Given, given, is, Divider, class_of}
-use Rattle.ent_grammar.specs.Phrase.{Phrase, ◌⨾◌, nothing, Single, all}
-use Rattle.ent_grammar.specs.List.{joined, full_at, more_at, many_at}
-use Rattle.ent_grammar.specs.Grammar.{taken_from, taken_at}
-use Rattle.ent_grammar.specs.Spelling.{chained}
+use Rattle.ent_grammar.specs.Class.{is}
+use Rattle.ent_grammar.specs.Phrase.{nothing, all}
+use Rattle.ent_grammar.specs.List.{joined, many_at}
 use Rattle.ent_grammar.specs.FirstFault.{AtMostADivider}
-use Rattle.ent_grammar.proofs.Classes.{is_given}
-use Rattle.ent_grammar.proofs.Tongue.{Tongue, Read_so, Halted, Says_so, Firm, linked, firm_then, fault_at, OpensWith}
-use Rattle.ent_grammar.proofs.Picks.{end_firm, token_firm, tested}
+use Rattle.ent_grammar.proofs.Tongue.{Tongue, Halted, Says_so, Firm, linked, firm_then}
+use Rattle.ent_grammar.proofs.Picks.{end_firm, tested}
 
 -- lists of so many at most, or of any number
 abbrev pub Lists : {A : Type 0} → Tongue A → ℕ → Tongue (List A)

@@ -1,13 +1,11 @@
 -- Each grammar has a sentence, and one that begins with each token that it can begin with.
-use Rattle.std.proofs.Common.{◌≡◌, ℕ, Bool, true, false, List, [], ◌∷◌, ◌++◌, length, Option, Some, None, refl, sym, ap, ◌∙◌, inl, inr, ◌⊎◌, subst, append_assoc, arith}
+use Rattle.std.proofs.Common.{◌≡◌, Bool, true, false, List, [], ◌∷◌, ◌++◌, Option, Some, None, refl, sym, inl, inr, subst, arith}
 use Rattle.std.proofs.lemmas.List.{append-nil}
 use Rattle.ent_text.specs.declared.token.Token.{Token}
-use Rattle.ent_text.specs.declared.token.TokenKind.{TokenKind}
-use Rattle.ent_grammar.specs.Class.{Class, positive, Given, given, is, among, Divider, class_of}
-use Rattle.ent_grammar.specs.Phrase.{Phrase, ◌⨾◌, nothing, Single, all}
+use Rattle.ent_grammar.specs.Class.{Class, positive, is, among, class_of}
 use Rattle.ent_grammar.specs.Grammar.{Grammar, give, token, up_to, chain, pick, many, more, nullable, firsts, after, behind}
-use Rattle.ent_grammar.specs.Spelling.{spells, chained}
-use Rattle.ent_grammar.specs.Foresight.{sample, sample_of, IsPredictive}
+use Rattle.ent_grammar.specs.Spelling.{spells}
+use Rattle.ent_grammar.specs.Foresight.{sample, IsPredictive}
 use Rattle.ent_grammar.proofs.Classes.{by_either, among_either, is_given}
 use Rattle.ent_grammar.proofs.Picks.{sample_token, sample_single}
 

@@ -3,17 +3,18 @@ use Rattle.std.proofs.Common.{◌≡◌, ℕ, Bool, true, false, cond, List, [],
 use Rattle.std.specs.Prelude.{nat_le}
 use Rattle.ent_text.specs.declared.token.Token.{Token}
 use Rattle.ent_text.specs.declared.token.TokenKind.{TokenKind}
-use Rattle.ent_grammar.specs.declared.fault.GrammarFault.{GrammarFault}
 use Rattle.ent_grammar.specs.declared.fault.GrammarFault.TheVariants.{Unexpected, TooMany}
 use Rattle.ent_grammar.specs.Read.{Read, place_of, begins}
-use Rattle.ent_grammar.specs.Class.{Class, word, sign, name, variable, number, positive, one, text, Given, given, kind_of, dividers, Divider, comma, conjunction, class_of, is, among}
-use Rattle.ent_grammar.specs.Phrase.{Phrase, nothing, Single}
+use Rattle.ent_grammar.specs.declared.divider.Divider.{Divider}
+use Rattle.ent_grammar.specs.declared.divider.Divider.TheVariants.{Comma, And}
+use Rattle.ent_grammar.specs.Class.{Class, word, sign, name, variable, number, positive, one, text, Given, given, kind_of, dividers, class_of, is, among}
+use Rattle.ent_grammar.specs.Phrase.{nothing, Single}
 use Rattle.ent_grammar.specs.Grammar.{taken_from, taken_at, limited_from, limited_at}
 use Rattle.ent_grammar.specs.Foresight.{sample_of}
-use Rattle.ent_grammar.specs.FirstFault.{AtMostADivider, IsDivider}
+use Rattle.ent_grammar.specs.FirstFault.{AtMostADivider}
 use Rattle.ent_grammar.specs.Class.{apart, same_word, same_sign}
 use Rattle.ent_grammar.proofs.Classes.{never_both, given_is, is_so, is_kind_of, among_head, among_tail}
-use Rattle.ent_grammar.proofs.Tongue.{Tongue, Read_so, Halted, Says_so, Firm, OpensWith, fault_at, front_same}
+use Rattle.ent_grammar.proofs.Tongue.{Tongue, Halted, Says_so, Firm, front_same}
 
 -- ---- no token
 
@@ -67,8 +68,8 @@ token_firm c = record { value = sample_of c; sample = sample_token c ∷ []; in_
 -- ---- no divider
 
 divider_among : (d : Divider) (k : TokenKind) → is (class_of d) k ≡ true → among dividers k ≡ true
-divider_among comma k e = among_head (class_of comma) (class_of conjunction ∷ []) k e
-divider_among conjunction k e = among_tail (class_of comma) (class_of conjunction ∷ []) k e
+divider_among Comma k e = among_head (class_of Comma) (class_of And ∷ []) k e
+divider_among And k e = among_tail (class_of Comma) (class_of And ∷ []) k e
 
 -- a token of classes that are no dividers
 pub no_divider : (cs : List Class) (t : Token) → apart cs dividers ≡ true → among cs t.kind ≡ true → AtMostADivider (t ∷ []) → ⊥

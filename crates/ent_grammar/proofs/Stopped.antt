@@ -1,17 +1,17 @@
 -- All of the tokens: what is read of them, and where reading stops.
-use Rattle.std.proofs.Common.{◌≡◌, ℕ, Bool, true, false, List, [], ◌∷◌, ◌++◌, take, Result, Ok, Err, refl, sym, ap, ◌∙◌, inl, inr, ◌⊎◌, subst, append_assoc}
+use Rattle.std.proofs.Common.{◌≡◌, ℕ, Bool, true, false, List, [], ◌∷◌, ◌++◌, take, Result, Ok, Err, refl, sym, ap, ◌∙◌, inl, inr, subst, append_assoc}
 use Rattle.std.proofs.lemmas.List.{append-nil}
 use Rattle.ent_text.specs.declared.token.Token.{Token}
 use Rattle.ent_value.specs.Refusal.{◌>>=◌}
 use Rattle.ent_grammar.specs.declared.fault.GrammarFault.{GrammarFault}
 use Rattle.ent_grammar.specs.declared.fault.GrammarFault.TheVariants.{Unexpected, TooMany}
 use Rattle.ent_grammar.specs.Read.{Read, place_of}
-use Rattle.ent_grammar.specs.Phrase.{Phrase, ◌⨾◌, nothing}
+use Rattle.ent_grammar.specs.Phrase.{nothing}
 use Rattle.ent_grammar.specs.Grammar.{Grammar, reads, reads_all, ended}
-use Rattle.ent_grammar.specs.Spelling.{spells, chained}
+use Rattle.ent_grammar.specs.Spelling.{spells}
 use Rattle.ent_grammar.specs.Foresight.{IsPredictive}
-use Rattle.ent_grammar.specs.FirstFault.{AtMostADivider, IsSentence, CanGoOn, KeepsLimits, CantFollow, IsTooMuch}
-use Rattle.ent_grammar.proofs.Tongue.{Tongue, Read_so, Halted, Says_so, Firm, linked, firm_then, fault_at, OpensWith}
+use Rattle.ent_grammar.specs.FirstFault.{IsSentence, KeepsLimits, CantFollow, IsTooMuch}
+use Rattle.ent_grammar.proofs.Tongue.{Tongue, Halted, Says_so, Firm, linked, firm_then, fault_at, OpensWith}
 use Rattle.ent_grammar.proofs.Firm.{firm}
 use Rattle.ent_grammar.proofs.Complete.{Answered, complete}
 

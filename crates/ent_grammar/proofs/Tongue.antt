@@ -1,11 +1,11 @@
 -- What a reader gives is decided by the tokens that it read and the one behind them, and is spelled so.
-use Rattle.std.proofs.Common.{◌≡◌, ℕ, Bool, true, false, List, [], ◌∷◌, ◌++◌, take, Ok, Err, refl, sym, ap, ◌∙◌, append_assoc, subst}
+use Rattle.std.proofs.Common.{◌≡◌, ℕ, Bool, true, false, List, [], ◌∷◌, ◌++◌, take, Ok, Err, refl, sym, ap, ◌∙◌, append_assoc}
 use Rattle.ent_text.specs.declared.token.Token.{Token}
 use Rattle.ent_value.specs.Refusal.{◌>>=◌}
 use Rattle.ent_grammar.specs.declared.fault.GrammarFault.{GrammarFault}
 use Rattle.ent_grammar.specs.declared.fault.GrammarFault.TheVariants.{Unexpected, TooMany}
 use Rattle.ent_grammar.specs.Read.{Read, place_of}
-use Rattle.ent_grammar.specs.Phrase.{Phrase, ◌⨾◌}
+use Rattle.ent_grammar.specs.Phrase.{Phrase}
 use Rattle.ent_grammar.specs.Spelling.{chained}
 use Rattle.ent_grammar.specs.FirstFault.{AtMostADivider}
 

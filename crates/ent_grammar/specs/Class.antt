@@ -9,6 +9,8 @@ use Rattle.ent_text.specs.declared.keyword.Keyword.{Keyword}
 use Rattle.ent_text.specs.declared.keyword.Keyword.TheVariants as words
 use Rattle.ent_text.specs.declared.symbol.Symbol.{Symbol}
 use Rattle.ent_text.specs.declared.symbol.Symbol.TheVariants as signs
+use Rattle.ent_grammar.specs.declared.divider.Divider.{Divider}
+use Rattle.ent_grammar.specs.declared.divider.Divider.TheVariants.{Comma, And}
 
 -- this reserved word, this symbol, any name, any host variable, any number, a number from 1 on, the number 1, any text
 pub data Class : Type 0 where
@@ -106,13 +108,9 @@ apart [] ds = true
 apart (c ∷ cs) ds = unlike c ds && apart cs ds
 
 -- what stands between two things of a list
-pub data Divider : Type 0 where
-  comma : Divider
-  conjunction : Divider
-
 abbrev pub class_of : Divider → Class
-class_of comma = sign signs.Comma
-class_of conjunction = word words.And
+class_of Comma = sign signs.Comma
+class_of And = word words.And
 
 abbrev pub dividers : List Class
-dividers = class_of comma ∷ class_of conjunction ∷ []
+dividers = class_of Comma ∷ class_of And ∷ []

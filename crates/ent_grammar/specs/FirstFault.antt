@@ -2,7 +2,8 @@
 use Rattle.std.specs.Prelude.{◌≡◌, ℕ, true, false, List, [], ◌∷◌, ◌++◌, take, ◌⊎◌}
 use Rattle.ent_text.specs.declared.token.Token.{Token}
 use Rattle.ent_grammar.specs.Read.{place_of}
-use Rattle.ent_grammar.specs.Class.{Divider, class_of, Given}
+use Rattle.ent_grammar.specs.declared.divider.Divider.{Divider}
+use Rattle.ent_grammar.specs.Class.{class_of, Given}
 use Rattle.ent_grammar.specs.Phrase.{Phrase, nothing, Single}
 use Rattle.ent_grammar.specs.Grammar.{Grammar}
 use Rattle.ent_grammar.specs.Spelling.{spells}

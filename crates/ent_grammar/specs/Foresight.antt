@@ -1,5 +1,5 @@
 -- Grammars that one token decides: what comes next says how to go on.
-use Rattle.std.specs.Prelude.{◌≡◌, ℕ, Bool, true, false, nat_le, List, [], ◌∷◌, ◌++◌, Option, Some, None}
+use Rattle.std.specs.Prelude.{◌≡◌, true, nat_le, List, [], ◌∷◌, ◌++◌, Option, Some, None}
 use Rattle.ent_grammar.specs.Class.{Class, word, sign, name, variable, number, positive, one, text, Given, apart}
 use Rattle.ent_grammar.specs.Class.{dividers, class_of}
 use Rattle.ent_grammar.specs.Grammar.{Grammar, give, token, up_to, chain, pick, many, more, nullable, firsts}

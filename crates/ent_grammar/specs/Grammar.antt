@@ -5,7 +5,8 @@ use Rattle.ent_value.specs.Refusal.{◌>>=◌}
 use Rattle.ent_grammar.specs.declared.fault.GrammarFault.{GrammarFault}
 use Rattle.ent_grammar.specs.declared.fault.GrammarFault.TheVariants.{Unexpected, TooMany}
 use Rattle.ent_grammar.specs.Read.{Read, begins}
-use Rattle.ent_grammar.specs.Class.{Class, positive, Given, given, is, among, Divider, class_of}
+use Rattle.ent_grammar.specs.declared.divider.Divider.{Divider}
+use Rattle.ent_grammar.specs.Class.{Class, positive, Given, given, is, among, class_of}
 use Rattle.ent_grammar.specs.List.{more_at, many_at}
 
 -- No token, which gives this value. A token of a class. A number from 1 on, which is too much beyond a limit. One

@@ -6,3 +6,4 @@ pub mod Grammar
 pub mod Spelling
 pub mod Foresight
 pub mod FirstFault
+pub mod Front

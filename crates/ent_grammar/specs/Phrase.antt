@@ -1,5 +1,5 @@
 -- Phrases: sets of lists of tokens.
-use Rattle.std.specs.Prelude.{◌≡◌, ℕ, Bool, List, [], ◌∷◌, ◌++◌, Some}
+use Rattle.std.specs.Prelude.{◌≡◌, List, [], ◌∷◌, ◌++◌, Some}
 use Rattle.ent_text.specs.declared.token.Token.{Token}
 use Rattle.ent_grammar.specs.Class.{Class, Given, given}
 

@@ -1,6 +1,5 @@
 -- What a grammar spells.
-use Rattle.std.specs.Prelude.{◌≡◌, ◌≤◌, ℕ, Bool, true, nat_le, List, length, ◌⊎◌}
-use Rattle.ent_text.specs.declared.token.Token.{Token}
+use Rattle.std.specs.Prelude.{◌≡◌, ◌≤◌, Bool, true, nat_le, length, ◌⊎◌}
 use Rattle.ent_grammar.specs.Class.{positive, class_of}
 use Rattle.ent_grammar.specs.Phrase.{Phrase, ◌⨾◌, nothing, Single, all}
 use Rattle.ent_grammar.specs.Grammar.{Grammar, give, token, up_to, chain, pick, many, more}

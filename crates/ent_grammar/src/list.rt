@@ -1,0 +1,87 @@
+//! Lists of things, up to a limit.
+ghost use Rattle.std.specs.Prelude.{◌≡◌, ◌<◌, List, ℕ};
+ghost use Rattle.ent_value.specs.Refusal.{Gives};
+ghost use Rattle.ent_grammar.specs.Read.{Read, begins};
+ghost use Rattle.ent_grammar.specs.Class.{Class, is, among, class_of};
+ghost use Rattle.ent_grammar.specs.List.{listed_at, many_at};
+ghost use Rattle.ent_text.specs.declared.token.Token.{Token};
+
+use crate::divider::Divider;
+use crate::fault::GrammarFault;
+use crate::front::{begins_with_divider, tail, too_many, unexpected};
+use ent_text::Token;
+use ent_value::{Limited, Refusal};
+use std::alloc::Global;
+
+/// A thing of which lists are made.
+pub trait Item: Drop {
+    ghost starts: { List Class };
+
+    ghost reads: { ℕ → List Token → Read Self };
+
+    /// Whether the token at the front begins one.
+    fn is_start(tokens: &[Token]) -> bool
+        ensures { result ≡ begins (among starts) tokens.now };
+
+    fn read(
+        alloc: Global,
+        end: usize,
+        tokens: &[Token],
+    ) -> Result<(Self, &[Token]), Refusal<GrammarFault>>
+        ensures { Gives (λ x. (x.0, x.1.now)) result (reads end tokens.now) };
+}
+
+/// Things with dividers between them: one at least, `LIMIT` at most.
+pub fn listed<T: Item, const LIMIT: usize>(
+    alloc: Global,
+    divider: Divider,
+    end: usize,
+    tokens: &[Token],
+) -> Result<(Limited<T, LIMIT>, &[Token]), Refusal<GrammarFault>>
+    requires { 0 < LIMIT }
+    ensures { Gives (λ x. (x.0, x.1.now)) result
+        (listed_at (is (class_of divider)) (among T.starts) T.reads end LIMIT tokens.now) }
+{
+    let (first, after) = T::read(alloc, end, tokens)?;
+    let mut items = Limited::new(alloc);
+    items.push(first)?;
+    let mut rest = after;
+    let mut left = LIMIT - 1;
+    'things: while begins_with_divider(divider, rest) {
+        let next = tail(rest);
+        if left == 0 {
+            if T::is_start(next) {
+                return Err(too_many(end, next));
+            }
+            return Err(unexpected(end, next));
+        }
+        let (item, after) = T::read(alloc, end, next)?;
+        items.push(item)?;
+        rest = after;
+        left -= 1;
+    }
+    Ok((items, rest))
+}
+
+/// Things one behind the other, `LIMIT` at most.
+pub fn many<T: Item, const LIMIT: usize>(
+    alloc: Global,
+    end: usize,
+    tokens: &[Token],
+) -> Result<(Limited<T, LIMIT>, &[Token]), Refusal<GrammarFault>>
+    ensures { Gives (λ x. (x.0, x.1.now)) result (many_at (among T.starts) T.reads end LIMIT tokens.now) }
+{
+    let mut items = Limited::new(alloc);
+    let mut rest = tokens;
+    let mut left = LIMIT;
+    'things: while T::is_start(rest) {
+        if left == 0 {
+            return Err(too_many(end, rest));
+        }
+        let (item, after) = T::read(alloc, end, rest)?;
+        items.push(item)?;
+        rest = after;
+        left -= 1;
+    }
+    Ok((items, rest))
+}
