@@ -9,6 +9,8 @@
 mod divider;
 mod fault;
 mod front;
+mod language;
+mod laws;
 mod list;
 
 pub use divider::Divider;
@@ -17,4 +19,6 @@ pub use front::{
     begins_with_divider, begins_with_sign, begins_with_word, place_of, sign_at, tail, too_many,
     unexpected, word_at,
 };
+pub use language::Language;
+pub use laws::reading_is_exact;
 pub use list::{Item, listed, many};

@@ -1,34 +1,30 @@
 //! Lists of things, up to a limit.
-ghost use Rattle.std.specs.Prelude.{◌≡◌, ◌<◌, List, ℕ};
+ghost use Rattle.std.specs.Prelude.{◌≡◌, ◌<◌};
 ghost use Rattle.ent_value.specs.Refusal.{Gives};
-ghost use Rattle.ent_grammar.specs.Read.{Read, begins};
-ghost use Rattle.ent_grammar.specs.Class.{Class, is, among, class_of};
-ghost use Rattle.ent_grammar.specs.List.{listed_at, many_at};
-ghost use Rattle.ent_text.specs.declared.token.Token.{Token};
+ghost use Rattle.ent_grammar.specs.Read.{begins};
+ghost use Rattle.ent_grammar.specs.Class.{among};
+ghost use Rattle.ent_grammar.specs.Grammar.{firsts, reads, listed, many};
 
 use crate::divider::Divider;
 use crate::fault::GrammarFault;
+use crate::language::Language;
 use crate::front::{begins_with_divider, tail, too_many, unexpected};
 use ent_text::Token;
 use ent_value::{Limited, Refusal};
 use std::alloc::Global;
 
 /// A thing of which lists are made.
-pub trait Item: Drop {
-    ghost starts: { List Class };
-
-    ghost reads: { ℕ → List Token → Read Self };
-
+pub trait Item: Language + Drop {
     /// Whether the token at the front begins one.
     fn is_start(tokens: &[Token]) -> bool
-        ensures { result ≡ begins (among starts) tokens.now };
+        ensures { result ≡ begins (among (firsts Self.grammar)) tokens.now };
 
     fn read(
         alloc: Global,
         end: usize,
         tokens: &[Token],
     ) -> Result<(Self, &[Token]), Refusal<GrammarFault>>
-        ensures { Gives (λ x. (x.0, x.1.now)) result (reads end tokens.now) };
+        ensures { Gives (λ x. (x.0, x.1.now)) result (reads Self.grammar end tokens.now) };
 }
 
 /// Things with dividers between them: one at least, `LIMIT` at most.
@@ -40,7 +36,7 @@ pub fn listed<T: Item, const LIMIT: usize>(
 ) -> Result<(Limited<T, LIMIT>, &[Token]), Refusal<GrammarFault>>
     requires { 0 < LIMIT }
     ensures { Gives (λ x. (x.0, x.1.now)) result
-        (listed_at (is (class_of divider)) (among T.starts) T.reads end LIMIT tokens.now) }
+        (reads (listed LIMIT divider T.grammar) end tokens.now) }
 {
     let (first, after) = T::read(alloc, end, tokens)?;
     let mut items = Limited::new(alloc);
@@ -69,7 +65,7 @@ pub fn many<T: Item, const LIMIT: usize>(
     end: usize,
     tokens: &[Token],
 ) -> Result<(Limited<T, LIMIT>, &[Token]), Refusal<GrammarFault>>
-    ensures { Gives (λ x. (x.0, x.1.now)) result (many_at (among T.starts) T.reads end LIMIT tokens.now) }
+    ensures { Gives (λ x. (x.0, x.1.now)) result (reads (many LIMIT T.grammar) end tokens.now) }
 {
     let mut items = Limited::new(alloc);
     let mut rest = tokens;
