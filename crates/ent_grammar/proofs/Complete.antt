@@ -152,7 +152,7 @@ module _ {A : Type 0} (kept : Bool) (of : A → Phrase) (classes follow : List C
       let one : Answered kept (read e (h.front ++ (h.back ++ rest))) x (h.back ++ rest) = each x h.front (h.back ++ rest) h.first (list_ahead xs h.back rest h.second k) e in
       let others : Answered kept (many_at (among classes) read e room (h.back ++ rest)) xs rest = many_answered xs room h.back rest h.second (λ j. omega (arith, few j)) k e in
       let last : Answered kept (joined x (many_at (among classes) read e room (h.back ++ rest))) (x ∷ xs) rest =
-          next_answered kept (many_at (among classes) read e room (h.back ++ rest)) xs rest (λ z. Ok (x ∷ z.0, z.1)) (x ∷ xs) rest others (inl refl) in
+      next_answered kept (many_at (among classes) read e room (h.back ++ rest)) xs rest (λ z. Ok (x ∷ z.0, z.1)) (x ∷ xs) rest others (inl refl) in
       answered_along kept (many_at (among classes) read e (suc room) (ts ++ rest)) (read e (h.front ++ (h.back ++ rest)) >>= λ z. joined z.0 (many_at (among classes) read e room z.1)) (x ∷ xs) rest
       (rw (shape, b) refl) (next_answered kept (read e (h.front ++ (h.back ++ rest))) x (h.back ++ rest) (λ z. joined z.0 (many_at (among classes) read e room z.1)) (x ∷ xs) rest one last)
 
@@ -204,7 +204,7 @@ module _ {A : Type 0} (kept : Bool) (d : Divider) (of : A → Phrase) (classes f
       let first_one : Answered kept (read e (p.thing ++ (h.back ++ rest))) x (h.back ++ rest) = each x p.thing (h.back ++ rest) p.spelled (more_ahead xs h.back rest h.second k) e in
       let others : Answered kept (more_at (is (class_of d)) (among classes) read e room (h.back ++ rest)) xs rest = more_answered xs room h.back rest h.second (λ j. omega (arith, few j)) k e in
       let last : Answered kept (joined x (more_at (is (class_of d)) (among classes) read e room (h.back ++ rest))) (x ∷ xs) rest =
-          next_answered kept (more_at (is (class_of d)) (among classes) read e room (h.back ++ rest)) xs rest (λ z. Ok (x ∷ z.0, z.1)) (x ∷ xs) rest others (inl refl) in
+      next_answered kept (more_at (is (class_of d)) (among classes) read e room (h.back ++ rest)) xs rest (λ z. Ok (x ∷ z.0, z.1)) (x ∷ xs) rest others (inl refl) in
       answered_along kept (more_at (is (class_of d)) (among classes) read e (suc room) (ts ++ rest)) (read e (p.thing ++ (h.back ++ rest)) >>= λ z. joined z.0 (more_at (is (class_of d)) (among classes) read e room z.1)) (x ∷ xs) rest
       (more_is p.divider (ts ++ rest) (p.thing ++ (h.back ++ rest)) p.whole p.divides room e) (next_answered kept (read e (p.thing ++ (h.back ++ rest))) x (h.back ++ rest) (λ z. joined z.0 (more_at (is (class_of d)) (among classes) read e room z.1)) (x ∷ xs) rest first_one last)
 

@@ -41,14 +41,16 @@ module _ {A : Type 0} {tongue : Tongue A} (d : Divider) (starts : TokenKind → 
   -- such a list of one thing
   single_list : (t : Token) (x : A) (us : List Token) → divides t.kind ≡ true → tongue false x us → Lists Entry 0 false (x ∷ []) (t ∷ us)
   single_list t x us is_so h =
-      let g = is_given (class_of d) t.kind t.start is_so in
-      (record {
-        front = t ∷ us;
-        back = [];
-        whole = sym (append-nil (t ∷ us));
-        first = (g.0, record { front = t ∷ []; back = us; whole = refl; first = record { token = t; whole = refl; is_given = g.1 }; second = h });
-        second = refl;
-      }, λ k. absurd cc)
+      let g = is_given (class_of d) t.kind t.start is_so in (
+        record {
+          front = t ∷ us;
+          back = [];
+          whole = sym (append-nil (t ∷ us));
+          first = (g.0, record { front = t ∷ []; back = us; whole = refl; first = record { token = t; whole = refl; is_given = g.1 }; second = h });
+          second = refl;
+        },
+        λ k. absurd cc,
+      )
 
   may_divide : (t : Token) → divides t.kind ≡ true → AtMostADivider (t ∷ [])
   may_divide t is_so = let g = is_given (class_of d) t.kind t.start is_so in inr (d, g.0, record { token = t; whole = refl; is_given = g.1 })
@@ -145,8 +147,8 @@ module _ {A : Type 0} {tongue : Tongue A} (d : Divider) (starts : TokenKind → 
       let f = things_firm room entry_at (λ e us. more_at divides starts read e room us) entry_firm rest in
       let here : suc_at room e ts ≡ (read e (drop 1 ts) >>= λ x. joined x.0 (more_at divides starts read e room x.1)) = rw is_so refl in
       let said : Says_so (Lists Entry (suc room)) (suc_at room) e ts (entry_at e ts >>= λ x. joined x.0 (more_at divides starts read e room x.1)) =
-          tested (Things Entry room) (Lists Entry (suc room)) divides true (λ e us. entry_at e us >>= λ x. joined x.0 (more_at divides starts read e room x.1)) (suc_at room) (one_more Entry room) (entry_is room) e ts is_so
-          (entry_at e ts >>= λ x. joined x.0 (more_at divides starts read e room x.1)) (f.says e ts) in
+      tested (Things Entry room) (Lists Entry (suc room)) divides true (λ e us. entry_at e us >>= λ x. joined x.0 (more_at divides starts read e room x.1)) (suc_at room) (one_more Entry room) (entry_is room) e ts is_so
+      (entry_at e ts >>= λ x. joined x.0 (more_at divides starts read e room x.1)) (f.says e ts) in
       subst (λ (r : Read (List A)). Says_so (Lists Entry (suc room)) (suc_at room) e ts r) (sym (entry_is room e ts is_so) ∙ here) said
   suc_says room rest e ts false is_so = ends_says Entry (suc room) divides (suc_at room) (λ e us k. rw k refl) e ts is_so
 

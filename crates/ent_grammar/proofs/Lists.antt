@@ -31,13 +31,16 @@ one_more {A} entry room kept ys ts h =
     let xs = k.0 in
     let same : ys ≡ x ∷ xs = k.1.second.0 in
     let back : h.1.back ≡ k.1.front = k.1.whole ∙ ap (λ (us : List Token). k.1.front ++ us) k.1.second.1 ∙ append-nil k.1.front in
-    subst (λ (zs : List A). Lists entry (suc room) kept zs ts) (sym same) (record {
-      front = h.1.front;
-      back = h.1.back;
-      whole = h.1.whole;
-      first = h.1.first;
-      second = subst (λ (us : List Token). all (entry kept) xs us) (sym back) k.1.first.0;
-    }, λ e. omega (arith, k.1.first.1 e))
+    subst (λ (zs : List A). Lists entry (suc room) kept zs ts) (sym same) (
+      record {
+        front = h.1.front;
+        back = h.1.back;
+        whole = h.1.whole;
+        first = h.1.first;
+        second = subst (λ (us : List Token). all (entry kept) xs us) (sym back) k.1.first.0;
+      },
+      λ e. omega (arith, k.1.first.1 e),
+    )
 
 -- a list that ends here
 pub ends_says : {A : Type 0} (entry : Tongue A) (room : ℕ) (test : TokenKind → Bool) (whole : ℕ → List Token → Read (List A)) → ((e : ℕ) (us : List Token) → begins test us ≡ false → whole e us ≡ Ok ([], us))
@@ -93,7 +96,7 @@ module _ {A : Type 0} {entry : Tongue A} (starts : TokenKind → Bool) (read : �
 
   suc_says : (room : ℕ) → Firm (Lists entry room) (λ e us. many_at starts read e room us) → (e : ℕ) (ts : List Token) (b : Bool) → begins starts ts ≡ b
       → Says_so (Lists entry (suc room)) (λ e us. cond (begins starts us) (read e us >>= λ x. joined x.0 (many_at starts read e room x.1)) (Ok ([], us))) e ts
-        (cond b (read e ts >>= λ x. joined x.0 (many_at starts read e room x.1)) (Ok ([], ts)))
+      (cond b (read e ts >>= λ x. joined x.0 (many_at starts read e room x.1)) (Ok ([], ts)))
   suc_says room rest e ts true is =
       let f = things_firm room read (λ e us. many_at starts read e room us) each rest in
       tested (Things entry room) (Lists entry (suc room)) starts true (λ e us. read e us >>= λ x. joined x.0 (many_at starts read e room x.1))

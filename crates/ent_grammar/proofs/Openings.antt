@@ -82,11 +82,17 @@ opening (many limit item) follow h t e =
     (o.0 ∷ [], o.1, (record { front = t ∷ o.1; back = []; whole = sym (append-nil (t ∷ o.1)); first = o.2; second = refl }, λ f. absurd cc))
 opening (more limit divider item) follow h t e =
     let k = is_given (class_of divider) t.kind t.start e in
-    let s = sentence item _ h.3 in
-    (sample item ∷ [], s.0, (record {
-      front = t ∷ s.0;
-      back = [];
-      whole = sym (append-nil (t ∷ s.0));
-      first = (k.0, record { front = t ∷ []; back = s.0; whole = refl; first = record { token = t; whole = refl; is_given = k.1 }; second = s.1 false });
-      second = refl;
-    }, λ f. absurd cc))
+    let s = sentence item _ h.3 in (
+      sample item ∷ [],
+      s.0,
+      (
+        record {
+          front = t ∷ s.0;
+          back = [];
+          whole = sym (append-nil (t ∷ s.0));
+          first = (k.0, record { front = t ∷ []; back = s.0; whole = refl; first = record { token = t; whole = refl; is_given = k.1 }; second = s.1 false });
+          second = refl;
+        },
+        λ f. absurd cc,
+      ),
+    )

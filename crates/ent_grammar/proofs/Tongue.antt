@@ -139,4 +139,3 @@ firm_then {A} {B} {one} {other} read next first second = let last = second first
   in_tongue = λ kept. (first.value, record { front = first.sample; back = last.sample; whole = refl; first = first.in_tongue kept; second = last.in_tongue kept });
   says = λ end ts. from_so one other read next second end ts (read end ts) (first.says end ts);
 }
-

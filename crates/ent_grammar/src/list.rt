@@ -7,8 +7,8 @@ ghost use Rattle.ent_grammar.specs.Grammar.{firsts, reads, listed, many};
 
 use crate::divider::Divider;
 use crate::fault::GrammarFault;
-use crate::language::Language;
 use crate::front::{begins_with_divider, tail, too_many, unexpected};
+use crate::language::Language;
 use ent_text::Token;
 use ent_value::{Limited, Refusal};
 use std::alloc::Global;

@@ -1,0 +1,7 @@
+pub mod Notation
+pub mod Operands
+pub mod Tables
+pub mod Selects
+pub mod Entangling
+pub mod Statements
+pub mod Scripts

@@ -1,0 +1,2 @@
+//! The tree of an input.
+#![tactic(auto)]
