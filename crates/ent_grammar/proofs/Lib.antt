@@ -8,4 +8,3 @@ pub mod Firm
 pub mod Complete
 pub mod Stopped
 pub mod Place
-mod Loops

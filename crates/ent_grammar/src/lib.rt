@@ -2,8 +2,8 @@
 //!
 //! A grammar is a value of `Grammar A`: what it reads gives a value of `A`. `reads_all` says what all of some tokens
 //! say, or their first fault; `spells` which tokens a value has. The laws tie the two for every grammar that one token
-//! decides, which `IsPredictive` says by computing. Readers in code take the functions of this crate for single tokens
-//! and lists, and say in their contracts which grammar they read.
+//! decides, which `IsPredictive` says by computing. Readers in code take the functions of this crate for single tokens,
+//! and say in their contracts which grammar they read.
 #![tactic(auto)]
 
 mod divider;
@@ -11,7 +11,6 @@ mod fault;
 mod front;
 mod language;
 mod laws;
-mod list;
 
 pub use divider::Divider;
 pub use fault::GrammarFault;
@@ -21,4 +20,3 @@ pub use front::{
 };
 pub use language::Language;
 pub use laws::reading_is_exact;
-pub use list::{Item, listed, many};

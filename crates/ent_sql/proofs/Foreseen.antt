@@ -1,11 +1,10 @@
 -- One token decides how to go on, in every production.
-use Rattle.std.proofs.Common.{◌≡◌, ℕ, Bool, true, false, cond, List, [], ◌∷◌, ◌++◌, refl}
+use Rattle.std.proofs.Common.{◌≡◌, Bool, true, false, cond, List, [], ◌∷◌, ◌++◌, refl}
 use Rattle.ent_text.specs.declared.symbol.Symbol.TheVariants as signs
 use Rattle.ent_text.specs.declared.keyword.Keyword.TheVariants as words
 use Rattle.ent_tree.specs.declared.operand.Operand.{Operand}
 use Rattle.ent_tree.specs.declared.select.Items.{Items}
 use Rattle.ent_tree.specs.declared.entangled.EntangledItem.{EntangledItem}
-use Rattle.ent_tree.specs.declared.entangled.Term.{Term}
 use Rattle.ent_tree.specs.declared.entangled.Tuple.{Tuple}
 use Rattle.ent_grammar.specs.Class.{Class, word, sign, name, apart}
 use Rattle.ent_tree.specs.declared.limits.TheConstants.{MOST_PARTS}

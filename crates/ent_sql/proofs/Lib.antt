@@ -1,1 +1,3 @@
+mod Loops
 mod Foreseen
+mod Trial

@@ -4,7 +4,6 @@ use Rattle.ent_text.specs.declared.keyword.Keyword.TheVariants as words
 use Rattle.ent_text.specs.declared.symbol.Symbol.TheVariants as signs
 use Rattle.ent_tree.specs.declared.limits.TheConstants.{MOST_PARTS}
 use Rattle.ent_tree.specs.declared.operand.Identifier.{Identifier}
-use Rattle.ent_tree.specs.declared.operand.ColumnReference.{ColumnReference}
 use Rattle.ent_tree.specs.declared.operand.ValueSpecification.{ValueSpecification}
 use Rattle.ent_tree.specs.declared.operand.ValueSpecification.TheVariants as specifications
 use Rattle.ent_tree.specs.declared.operand.Operand.{Operand}
@@ -23,7 +22,7 @@ use Rattle.ent_grammar.specs.Class.{one}
 use Rattle.ent_grammar.specs.declared.divider.Divider.TheVariants.{Comma, And}
 use Rattle.ent_grammar.specs.Grammar.{Grammar, give, token, pick, listed, more}
 use Rattle.ent_sql.specs.Notation.{◌>>=◌, keyword, symbol}
-use Rattle.ent_sql.specs.Operands.{identifier, host_variable, operand, term, comparison, test}
+use Rattle.ent_sql.specs.Operands.{identifier, host_variable, operand, term, comparison}
 use Rattle.ent_sql.specs.Selects.{select, select_behind}
 
 -- ---- a select list whose statement isn't known yet

@@ -1,5 +1,5 @@
 -- Grammars written line by line: what stands on one line comes before what stands on the next.
-use Rattle.std.specs.Prelude.{ℕ, List}
+use Rattle.std.specs.Prelude.{ℕ}
 use Rattle.ent_text.specs.declared.keyword.Keyword.{Keyword}
 use Rattle.ent_text.specs.declared.symbol.Symbol.{Symbol}
 use Rattle.ent_grammar.specs.Class.{word, sign}

@@ -1,5 +1,5 @@
 -- The grammar of values, operands and tests.
-use Rattle.std.specs.Prelude.{List, Some, None, pos}
+use Rattle.std.specs.Prelude.{Some, None, pos}
 use Rattle.ent_text.specs.declared.symbol.Symbol.TheVariants as signs
 use Rattle.ent_text.specs.Numeral.{negative_of}
 use Rattle.ent_value.specs.declared.value.Value.TheVariants as values
@@ -19,7 +19,7 @@ use Rattle.ent_tree.specs.declared.entangled.Term.{Term}
 use Rattle.ent_tree.specs.declared.entangled.Term.TheVariants as terms
 use Rattle.ent_grammar.specs.Class.{name, variable, number, text}
 use Rattle.ent_grammar.specs.Grammar.{Grammar, give, token, pick}
-use Rattle.ent_sql.specs.Notation.{◌>>=◌, keyword, symbol}
+use Rattle.ent_sql.specs.Notation.{◌>>=◌, symbol}
 
 -- name
 unfoldable pub identifier : Grammar Identifier

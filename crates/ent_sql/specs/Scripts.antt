@@ -1,5 +1,5 @@
 -- The grammar of scripts and of whole inputs.
-use Rattle.std.specs.Prelude.{ℕ, List}
+use Rattle.std.specs.Prelude.{ℕ}
 use Rattle.ent_text.specs.declared.keyword.Keyword.TheVariants as words
 use Rattle.ent_text.specs.declared.symbol.Symbol.TheVariants as signs
 use Rattle.ent_tree.specs.declared.limits.TheConstants.{MOST_TABLES, MOST_OPENING_ROWS, MOST_SCRIPTS}

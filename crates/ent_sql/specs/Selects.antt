@@ -1,5 +1,5 @@
 -- The grammar of SELECT over tables.
-use Rattle.std.specs.Prelude.{ℕ, List, [], Some, None}
+use Rattle.std.specs.Prelude.{List, [], Some, None}
 use Rattle.ent_text.specs.declared.keyword.Keyword.TheVariants as words
 use Rattle.ent_text.specs.declared.symbol.Symbol.TheVariants as signs
 use Rattle.ent_tree.specs.declared.limits.TheConstants.{MOST_PARTS, MOST_SOURCES}

@@ -1,5 +1,4 @@
 -- The grammar of statements.
-use Rattle.std.specs.Prelude.{List}
 use Rattle.ent_text.specs.declared.keyword.Keyword.TheVariants as words
 use Rattle.ent_text.specs.declared.symbol.Symbol.TheVariants as signs
 use Rattle.ent_tree.specs.declared.limits.TheConstants.{MOST_PARTS}

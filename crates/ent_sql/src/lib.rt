@@ -1,2 +1,4 @@
 //! The tree of an input.
 #![tactic(auto)]
+
+mod list;

@@ -3,28 +3,27 @@ ghost use Rattle.std.specs.Prelude.{◌≡◌, ◌<◌};
 ghost use Rattle.ent_value.specs.Refusal.{Gives};
 ghost use Rattle.ent_grammar.specs.Read.{begins};
 ghost use Rattle.ent_grammar.specs.Class.{among};
-ghost use Rattle.ent_grammar.specs.Grammar.{firsts, reads, listed, many};
+ghost use Rattle.ent_grammar.specs.Grammar.{Grammar, firsts, reads, listed, many};
 
-use crate::divider::Divider;
-use crate::fault::GrammarFault;
-use crate::front::{begins_with_divider, tail, too_many, unexpected};
-use crate::language::Language;
+use ent_grammar::{Divider, GrammarFault, begins_with_divider, tail, too_many, unexpected};
 use ent_text::Token;
 use ent_value::{Limited, Refusal};
 use std::alloc::Global;
 
 /// A thing of which lists are made.
-pub trait Item: Language + Drop {
+pub trait Item: Drop {
+    ghost grammar: { Grammar Self };
+
     /// Whether the token at the front begins one.
     fn is_start(tokens: &[Token]) -> bool
-        ensures { result ≡ begins (among (firsts Self.grammar)) tokens.now };
+        ensures { result ≡ begins (among (firsts grammar)) tokens.now };
 
     fn read(
         alloc: Global,
         end: usize,
         tokens: &[Token],
     ) -> Result<(Self, &[Token]), Refusal<GrammarFault>>
-        ensures { Gives (λ x. (x.0, x.1.now)) result (reads Self.grammar end tokens.now) };
+        ensures { Gives (λ x. (x.0, x.1.now)) result (reads grammar end tokens.now) };
 }
 
 /// Things with dividers between them: one at least, `LIMIT` at most.

@@ -1,12 +1,12 @@
 use Rattle.std.proofs.Common.{◌≡◌, ◌+◌, length}
 use Rattle.ent_grammar.specs.Class.{is, among, class_of}
 use Rattle.ent_grammar.specs.Grammar.{firsts, reads, listed}
-use Rattle.ent_grammar.proofs.Loops.{More}
-use Rattle.ent_grammar.proofs.list.listed.Given as goal
+use Rattle.ent_sql.proofs.Loops.{More}
+use Rattle.ent_sql.proofs.list.listed.Given as goal
 
 -- what was read and what is read on are all
 abbrev pub invariant-things : goal.invariant-things
-invariant-things g l = let t = g.T.Language.grammar in record {
+invariant-things g l = let t = g.T.Item.grammar in record {
   room : l.left + length l.items ≡ g.row.LIMIT;
   whole : More (is (class_of l.divider)) (among (firsts t)) (reads t) l.end l.items l.left l.rest (reads (listed g.row.LIMIT l.divider t) l.end l.tokens);
 }
