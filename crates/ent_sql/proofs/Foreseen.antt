@@ -11,7 +11,7 @@ use Rattle.ent_tree.specs.declared.limits.TheConstants.{MOST_PARTS}
 use Rattle.ent_grammar.specs.declared.divider.Divider.TheVariants.{Comma}
 use Rattle.ent_grammar.specs.Grammar.{Grammar, pick, listed, firsts, nullable}
 use Rattle.ent_grammar.specs.Foresight.{IsPredictive, if_some}
-use Rattle.ent_sql.specs.Operands.{identifier, host_variable, negative, positive, quoted, literal, value, column_reference, operand, term, comparison, test, expression_behind, expression}
+use Rattle.ent_sql.specs.Operands.{identifier, host_variable, negative, unsigned, positive, quoted, literal, value, column_reference, operand, term, comparison, test, expression_behind, expression}
 use Rattle.ent_sql.specs.Tables.{kind, column, create, row, opening_row, insert}
 use Rattle.ent_sql.specs.Selects.{source, tests, select_behind, items, select}
 use Rattle.ent_sql.specs.Entangling.{binding, entangled_item, entangled_items, relation, membership, bracketed, comparison_behind, condition_behind, condition, entangled_conditions, entangled_behind, ordinary, entangled, query, are_terms}
@@ -29,11 +29,11 @@ unfolding host_variable
 variable_next follow = λ n. (tt, tt)
 
 literal_next : (follow : List Class) → IsPredictive literal follow
-unfolding literal negative positive quoted
+unfolding literal negative unsigned positive quoted
 literal_next follow = (refl, refl, λ p. (tt, λ n. (tt, tt)), (refl, refl, λ n. (tt, tt), λ t. (tt, tt)))
 
 value_next : (follow : List Class) → IsPredictive value follow
-unfolding value literal negative positive quoted host_variable
+unfolding value literal negative unsigned positive quoted host_variable
 value_next follow = (refl, refl, λ v. (variable_next [], tt), λ l. (literal_next [], tt))
 
 -- a token that an operand can't go on with
@@ -45,11 +45,11 @@ unfolding column_reference identifier
 reference_next follow h = λ n. (name_next [], (refl, h, λ d. (tt, λ c. (name_next [], tt)), tt))
 
 operand_next : (follow : List Class) → NoDot follow → IsPredictive operand follow
-unfolding operand column_reference identifier value literal negative positive quoted host_variable
+unfolding operand column_reference identifier value literal negative unsigned positive quoted host_variable
 operand_next follow h = (refl, refl, λ c. (reference_next follow h, tt), λ v. (value_next [], tt))
 
 term_next : (follow : List Class) → IsPredictive term follow
-unfolding term identifier value literal negative positive quoted host_variable
+unfolding term identifier value literal negative unsigned positive quoted host_variable
 term_next follow = (refl, refl, λ c. (name_next [], tt), λ v. (value_next [], tt))
 
 comparison_next : (follow : List Class) → IsPredictive comparison follow
@@ -76,11 +76,11 @@ unfolding create column identifier kind
 create_next follow = λ p. (tt, λ q. (tt, λ n. (name_next [], λ o. (tt, λ cs. ((λ c. (column_next [], λ xs. ((refl, refl, refl, column_next []), tt))), λ c. (tt, λ e. (tt, tt)))))))
 
 literals_next : (follow : List Class) → IsPredictive (row literal) follow
-unfolding row identifier literal negative positive quoted
+unfolding row identifier literal negative unsigned positive quoted
 literals_next follow = λ p. (tt, λ q. (tt, λ n. (name_next [], λ v. (tt, λ o. (tt, λ xs. ((λ x. (literal_next [], λ ys. ((refl, refl, refl, literal_next []), tt))), λ c. (tt, tt)))))))
 
 values_next : (follow : List Class) → IsPredictive (row value) follow
-unfolding row identifier value literal negative positive quoted host_variable
+unfolding row identifier value literal negative unsigned positive quoted host_variable
 values_next follow = λ p. (tt, λ q. (tt, λ n. (name_next [], λ v. (tt, λ o. (tt, λ xs. ((λ x. (value_next [], λ ys. ((refl, refl, refl, value_next []), tt))), λ c. (tt, tt)))))))
 
 opening_row_next : (follow : List Class) → IsPredictive opening_row follow
@@ -100,7 +100,7 @@ record Ends (follow : List Class) : Type 0 where
   no_and : apart (word words.And ∷ []) follow ≡ true
 
 tests_next : (follow : List Class) → Ends follow → IsPredictive tests follow
-unfolding tests test operand column_reference identifier value literal negative positive quoted host_variable
+unfolding tests test operand column_reference identifier value literal negative unsigned positive quoted host_variable
 tests_next follow h = (refl, h.no_where, λ p. (tt, λ x. (test_next operand operand_next _ h.no_dot, λ xs. ((refl, h.no_and, refl, test_next operand operand_next _ h.no_dot), tt))), tt)
 
 source_next : (follow : List Class) → apart (word words.As ∷ []) (name ∷ follow) ≡ true → apart (name ∷ []) follow ≡ true → IsPredictive source follow
@@ -121,21 +121,21 @@ from_next shown follow h = λ p. (tt, λ ss. (
   λ ts. (tests_next follow h.ends, tt)))
 
 operands_next : (follow : List Class) → NoDot follow → apart (sign signs.Comma ∷ []) follow ≡ true → IsPredictive (listed MOST_PARTS Comma operand) follow
-unfolding operand column_reference identifier value literal negative positive quoted host_variable
+unfolding operand column_reference identifier value literal negative unsigned positive quoted host_variable
 operands_next follow h k = λ x. (operand_next follow h, λ xs. ((refl, k, refl, operand_next follow h), tt))
 
 select_next : (follow : List Class) → EndsFrom follow → IsPredictive select follow
-unfolding select items select_behind operand column_reference identifier value literal negative positive quoted host_variable
+unfolding select items select_behind operand column_reference identifier value literal negative unsigned positive quoted host_variable
 select_next follow h = λ p. (tt, λ shown. ((refl, refl, λ q. (tt, tt), λ xs. (operands_next (word words.From ∷ []) refl refl, tt)), from_next shown follow h))
 
 -- ---- entangled SELECT
 
 item_next : (follow : List Class) → apart (word words.As ∷ []) follow ≡ true → IsPredictive entangled_item follow
-unfolding entangled_item binding term identifier value literal negative positive quoted host_variable
+unfolding entangled_item binding term identifier value literal negative unsigned positive quoted host_variable
 item_next follow h = λ t. (term_next [], λ b. ((refl, h, λ p. (tt, λ v. (variable_next [], tt)), tt), tt))
 
 entangled_items_next : (xs : List Operand) (follow : List Class) → apart (word words.As ∷ []) follow ≡ true → apart (sign signs.Comma ∷ []) follow ≡ true → IsPredictive (entangled_items xs) follow
-unfolding entangled_items entangled_item binding term identifier value literal negative positive quoted host_variable
+unfolding entangled_items entangled_item binding term identifier value literal negative unsigned positive quoted host_variable
 entangled_items_next xs follow h k = (refl, h, λ p. (tt, λ v. (variable_next [], λ others. ((refl, k, refl, item_next follow h), tt))), tt)
 
 relation_next : (follow : List Class) → IsPredictive relation follow
@@ -147,12 +147,12 @@ unfolding membership relation identifier select
 membership_next tuple follow = λ p. (tt, (refl, refl, λ o. (tt, λ s. (select_next (sign signs.Close ∷ []) (record { ends = record { no_dot = refl; no_where = refl; no_and = refl }; no_as = refl; no_name = refl; no_comma = refl }), λ c. (tt, tt))), λ r. (relation_next [], tt)))
 
 condition_next : (follow : List Class) → IsPredictive condition follow
-unfolding condition bracketed condition_behind comparison_behind comparison membership term identifier value literal negative positive quoted host_variable
+unfolding condition bracketed condition_behind comparison_behind comparison membership term identifier value literal negative unsigned positive quoted host_variable
 condition_next follow = (refl, refl, λ o. (tt, λ ts. ((λ t. (term_next [], λ xs. ((refl, refl, refl, term_next []), tt))), λ c. (tt, membership_next _ follow))),
   λ first. (term_next [], (refl, refl, λ c. (comparison_next [], λ r. (term_next [], tt)), λ others. ((refl, refl, refl, term_next []), membership_next _ follow))))
 
 entangled_conditions_next : (follow : List Class) → apart (word words.Where ∷ []) follow ≡ true → apart (word words.And ∷ []) follow ≡ true → IsPredictive entangled_conditions follow
-unfolding entangled_conditions condition bracketed condition_behind comparison_behind comparison membership term identifier value literal negative positive quoted host_variable
+unfolding entangled_conditions condition bracketed condition_behind comparison_behind comparison membership term identifier value literal negative unsigned positive quoted host_variable
 entangled_conditions_next follow h k = (refl, h, λ p. (tt, λ x. (condition_next _, λ xs. ((refl, k, refl, condition_next _), tt))), tt)
 
 into_next : (shown : List EntangledItem) (follow : List Class) → IsPredictive (entangled_behind shown) follow
@@ -193,7 +193,7 @@ listed_next : (xs : List Operand) (b : Bool) (follow : List Class) → IsPredict
 listed_next xs b follow = operands_next (Behind xs b follow) (behind_no_dot xs b follow) (behind_no_comma xs b follow)
 
 query_next : (follow : List Class) → EndsFrom follow → IsPredictive query follow
-unfolding query select_behind operand column_reference identifier value literal negative positive quoted host_variable
+unfolding query select_behind operand column_reference identifier value literal negative unsigned positive quoted host_variable
 query_next follow h = λ p. (tt, (refl, refl, λ q. (tt, λ s. (from_next _ follow h, tt)), λ xs. (listed_next xs (are_terms xs) follow, either_next xs (are_terms xs) follow h)))
 
 assignment_next : (follow : List Class) → NoDot follow → apart (sign signs.Plus ∷ []) (sign signs.Minus ∷ follow) ≡ true → apart (sign signs.Minus ∷ []) follow ≡ true → IsPredictive assignment follow

@@ -1,3 +1,2 @@
 mod Loops
 mod Foreseen
-mod Trial

@@ -5,3 +5,4 @@ pub mod Selects
 pub mod Entangling
 pub mod Statements
 pub mod Scripts
+pub mod Front

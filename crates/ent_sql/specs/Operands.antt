@@ -52,9 +52,13 @@ quoted = do
   t ← token text
   give (record { value = values.Text t.0; place = t.1 })
 
+-- number | text
+unfoldable pub unsigned : Grammar Literal
+unsigned = pick positive quoted
+
 -- "-" number | number | text
 unfoldable pub literal : Grammar Literal
-literal = pick negative (pick positive quoted)
+literal = pick negative unsigned
 
 -- hostvariable | literal
 unfoldable pub value : Grammar ValueSpecification
