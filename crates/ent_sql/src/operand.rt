@@ -1,37 +1,17 @@
 //! Values and operands.
 ghost use Rattle.std.specs.Prelude.{◌≡◌};
 ghost use Rattle.ent_value.specs.Refusal.{Gives};
-ghost use Rattle.ent_grammar.specs.Read.{begins};
-ghost use Rattle.ent_grammar.specs.Class.{among};
-ghost use Rattle.ent_grammar.specs.Grammar.{firsts, reads};
-ghost use Rattle.ent_sql.specs.Front.{begins_with_name, begins_with_variable};
+ghost use Rattle.ent_grammar.specs.Grammar.{reads};
 ghost use Rattle.ent_sql.specs.Operands.{identifier, host_variable, negative, unsigned, literal, value};
 ghost use Rattle.ent_sql.specs.Operands.{column_reference, operand, term};
 
+use crate::front::{begins_with_literal, begins_with_name, begins_with_operand, begins_with_value, begins_with_variable};
 use crate::list::Item;
 use ent_grammar::{GrammarFault, begins_with_sign, sign_at, unexpected};
 use ent_text::{Symbol, Token, TokenKind};
 use ent_tree::{ColumnReference, Identifier, Literal, Operand, Term, ValueSpecification};
 use ent_value::{Refusal, Value};
 use std::alloc::Global;
-
-pub(crate) fn begins_with_name(tokens: &[Token]) -> bool
-    ensures { result ≡ begins_with_name tokens.now }
-{
-    match tokens {
-        [] => false,
-        [token, ..] => matches!(&token.kind, TokenKind::Name(_)),
-    }
-}
-
-fn begins_with_variable(tokens: &[Token]) -> bool
-    ensures { result ≡ begins_with_variable tokens.now }
-{
-    match tokens {
-        [] => false,
-        [token, ..] => matches!(&token.kind, TokenKind::HostVariable(_)),
-    }
-}
 
 /// The name at the front.
 #[tactic(auto, unfolding(crate::specs::Operands::identifier))]
@@ -202,5 +182,78 @@ pub(crate) fn term_at(
     } else {
         let (value, rest) = value_at(alloc, end, tokens)?;
         Ok((Term::Value(value), rest))
+    }
+}
+
+impl Item for Literal {
+    ghost use Rattle.ent_sql.specs.Operands.{literal};
+
+    ghost grammar = { literal };
+
+    fn is_start(tokens: &[Token]) -> bool {
+        begins_with_literal(tokens)
+    }
+
+    fn read(
+        alloc: Global,
+        end: usize,
+        tokens: &[Token],
+    ) -> Result<(Self, &[Token]), Refusal<GrammarFault>> {
+        literal_at(alloc, end, tokens)
+    }
+}
+
+impl Item for ValueSpecification {
+    ghost use Rattle.ent_sql.specs.Operands.{value};
+
+    ghost grammar = { value };
+
+    fn is_start(tokens: &[Token]) -> bool {
+        begins_with_value(tokens)
+    }
+
+    fn read(
+        alloc: Global,
+        end: usize,
+        tokens: &[Token],
+    ) -> Result<(Self, &[Token]), Refusal<GrammarFault>> {
+        value_at(alloc, end, tokens)
+    }
+}
+
+impl Item for Operand {
+    ghost use Rattle.ent_sql.specs.Operands.{operand};
+
+    ghost grammar = { operand };
+
+    fn is_start(tokens: &[Token]) -> bool {
+        begins_with_operand(tokens)
+    }
+
+    fn read(
+        alloc: Global,
+        end: usize,
+        tokens: &[Token],
+    ) -> Result<(Self, &[Token]), Refusal<GrammarFault>> {
+        operand_at(alloc, end, tokens)
+    }
+}
+
+impl Item for Term {
+    ghost use Rattle.ent_sql.specs.Operands.{term};
+
+    ghost grammar = { term };
+
+    #[tactic(auto, unfolding(crate::specs::Operands::term, crate::specs::Operands::operand, crate::specs::Operands::column_reference, crate::specs::Operands::identifier, crate::specs::Operands::value, crate::specs::Operands::host_variable, crate::specs::Operands::literal, crate::specs::Operands::negative, crate::specs::Operands::unsigned, crate::specs::Operands::positive, crate::specs::Operands::quoted))]
+    fn is_start(tokens: &[Token]) -> bool {
+        begins_with_operand(tokens)
+    }
+
+    fn read(
+        alloc: Global,
+        end: usize,
+        tokens: &[Token],
+    ) -> Result<(Self, &[Token]), Refusal<GrammarFault>> {
+        term_at(alloc, end, tokens)
     }
 }
