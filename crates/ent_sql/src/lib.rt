@@ -4,3 +4,6 @@
 mod front;
 mod list;
 mod operand;
+mod select;
+mod table;
+mod test;
