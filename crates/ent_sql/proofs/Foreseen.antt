@@ -14,7 +14,7 @@ use Rattle.ent_grammar.specs.Foresight.{IsPredictive, if_some}
 use Rattle.ent_sql.specs.Operands.{identifier, host_variable, negative, unsigned, positive, quoted, literal, value, column_reference, operand, term, comparison, test, expression_behind, expression}
 use Rattle.ent_sql.specs.Tables.{kind, column, create, row, opening_row, insert}
 use Rattle.ent_sql.specs.Selects.{source, tests, select_behind, items, select}
-use Rattle.ent_sql.specs.Entangling.{binding, entangled_item, entangled_items, relation, membership, bracketed, comparison_behind, condition_behind, condition, entangled_conditions, entangled_behind, ordinary, entangled, query, are_terms}
+use Rattle.ent_sql.specs.Entangling.{binding, entangled_item, entangled_items, relation, membership, bracketed, comparison_behind, tuple_behind, condition_behind, condition, entangled_conditions, entangled_behind, ordinary, entangled, query, are_terms}
 use Rattle.ent_sql.specs.Statements.{delete, assignment, update, set, statement, ended_statement}
 use Rattle.ent_sql.specs.Scripts.{within, ending, script, input}
 
@@ -147,12 +147,12 @@ unfolding membership relation identifier select
 membership_next tuple follow = λ p. (tt, (refl, refl, λ o. (tt, λ s. (select_next (sign signs.Close ∷ []) (record { ends = record { no_dot = refl; no_where = refl; no_and = refl }; no_as = refl; no_name = refl; no_comma = refl }), λ c. (tt, tt))), λ r. (relation_next [], tt)))
 
 condition_next : (follow : List Class) → IsPredictive condition follow
-unfolding condition bracketed condition_behind comparison_behind comparison membership term identifier value literal negative unsigned positive quoted host_variable
+unfolding condition bracketed condition_behind comparison_behind tuple_behind comparison membership term identifier value literal negative unsigned positive quoted host_variable
 condition_next follow = (refl, refl, λ o. (tt, λ ts. ((λ t. (term_next [], λ xs. ((refl, refl, refl, term_next []), tt))), λ c. (tt, membership_next _ follow))),
   λ first. (term_next [], (refl, refl, λ c. (comparison_next [], λ r. (term_next [], tt)), λ others. ((refl, refl, refl, term_next []), membership_next _ follow))))
 
 entangled_conditions_next : (follow : List Class) → apart (word words.Where ∷ []) follow ≡ true → apart (word words.And ∷ []) follow ≡ true → IsPredictive entangled_conditions follow
-unfolding entangled_conditions condition bracketed condition_behind comparison_behind comparison membership term identifier value literal negative unsigned positive quoted host_variable
+unfolding entangled_conditions condition bracketed condition_behind comparison_behind tuple_behind comparison membership term identifier value literal negative unsigned positive quoted host_variable
 entangled_conditions_next follow h k = (refl, h, λ p. (tt, λ x. (condition_next _, λ xs. ((refl, k, refl, condition_next _), tt))), tt)
 
 into_next : (shown : List EntangledItem) (follow : List Class) → IsPredictive (entangled_behind shown) follow

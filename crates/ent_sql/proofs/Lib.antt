@@ -1,2 +1,3 @@
 mod Loops
 mod Foreseen
+mod Items

@@ -1,5 +1,5 @@
 -- Reading on behind things that were read, as a loop does.
-use Rattle.std.proofs.Common.{◌≡◌, ℕ, zero, suc, ◌-◌, Bool, true, false, List, [], ◌∷◌, ◌++◌, drop, Ok, Err, refl, sym, ap, ◌∙◌, append_assoc, arith}
+use Rattle.std.proofs.Common.{◌≡◌, ℕ, zero, suc, ◌-◌, Bool, true, false, List, [], ◌∷◌, ◌++◌, drop, Ok, Err, refl, sym, ap, ◌∙◌, append_assoc, arith, length}
 use Rattle.std.proofs.lemmas.List.{append-nil}
 use Rattle.ent_text.specs.declared.token.Token.{Token}
 use Rattle.ent_text.specs.declared.token.TokenKind.{TokenKind}
@@ -31,12 +31,8 @@ module _ {A : Type 0} (divides starts : TokenKind → Bool) (item : ℕ → List
   abbrev pub More : List A → ℕ → List Token → Read (List A) → Type 0
   More items left rest total = with_front items (more_at divides starts item end left rest) ≡ total
 
-  pub more_first : (items : List A) (limit : ℕ) (ts rest : List Token) (x : A) → item end ts ≡ Ok (x, rest) → items ≡ [] ++ x ∷ [] → More items (limit - 1) rest (listed_at divides starts item end limit ts)
-  more_first items limit ts rest x e is = rw (e, is) (no_front x (more_at divides starts item end (limit - 1) rest))
-
-  pub first_fault : (e : Refusal GrammarFault) (room : ℕ) (ts : List Token) → Refuses e (item end ts) → Refuses e (listed_at divides starts item end room ts)
-  first_fault errors.Memory room ts h = tt
-  first_fault (errors.Fault f) room ts h = rw h refl
+  pub more_start : (items : List A) (limit left : ℕ) (ts : List Token) → left ≡ limit - length items → More items left ts (with_front items (more_at divides starts item end (limit - length items) ts))
+  more_start items limit left ts e = rw e refl
 
   pub more_on : (items new : List A) (left : ℕ) (rest next after : List Token) (x : A) (total : Read (List A)) → begins divides rest ≡ true → (left ≡ 0 → ⊥) → next ≡ drop 1 rest → item end next ≡ Ok (x, after) → new ≡ items ++ x ∷ []
       → More items left rest total → More new (left - 1) after total

@@ -73,7 +73,7 @@ unfoldable pub entangled_items : List Operand → Grammar (List EntangledItem)
 entangled_items xs = pick
     (do _ ← keyword words.As
         v ← host_variable
-        others ← more (MOST_PARTS - length xs) Comma entangled_item
+        others ← more (MOST_PARTS - length (items_of xs (Some v))) Comma entangled_item
         give (items_of xs (Some v) ++ others))
     (give (items_of xs None))
 
@@ -121,11 +121,15 @@ comparison_behind first = do
   right ← term
   give (conditions.Test (record { left = first; comparison = compares; right = right }))
 
--- { "," term } IN .. | comparison term, behind a first term
+-- { "," term } IN .., behind a first term
+unfoldable pub tuple_behind : Term → Grammar Condition
+tuple_behind first = do
+  others ← more (MOST_PARTS - 1) Comma term
+  membership (record { place = place_of_term first; terms = first ∷ others })
+
+-- comparison term | { "," term } IN .., behind a first term
 unfoldable pub condition_behind : Term → Grammar Condition
-condition_behind first = pick (comparison_behind first)
-    (do others ← more (MOST_PARTS - 1) Comma term
-        membership (record { place = place_of_term first; terms = first ∷ others }))
+condition_behind first = pick (comparison_behind first) (tuple_behind first)
 
 -- tuple IN "(" select ")" | tuple IN ANSWER name | term comparison term
 unfoldable pub condition : Grammar Condition

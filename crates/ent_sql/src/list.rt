@@ -1,9 +1,9 @@
 //! Lists of things, up to a limit.
-ghost use Rattle.std.specs.Prelude.{◌≡◌, ◌<◌};
+ghost use Rattle.std.specs.Prelude.{◌≡◌, ◌<◌, ◌-◌, ◌++◌, length};
 ghost use Rattle.ent_value.specs.Refusal.{Gives};
 ghost use Rattle.ent_grammar.specs.Read.{begins};
 ghost use Rattle.ent_grammar.specs.Class.{among};
-ghost use Rattle.ent_grammar.specs.Grammar.{Grammar, firsts, reads, listed, many};
+ghost use Rattle.ent_grammar.specs.Grammar.{Grammar, give, chain, more, firsts, reads, listed, many};
 
 use ent_grammar::{Divider, GrammarFault, begins_with_divider, tail, too_many, unexpected};
 use ent_text::Token;
@@ -26,22 +26,20 @@ pub trait Item: Drop {
         ensures { Gives (λ x. (x.0, x.1.now)) result (reads grammar end tokens.now) };
 }
 
-/// Things with dividers between them: one at least, `LIMIT` at most.
-pub fn listed<T: Item, const LIMIT: usize>(
+/// Things that were read, and those behind them, each behind a divider: `LIMIT` at most in all.
+pub fn appended<T: Item, const LIMIT: usize>(
     alloc: Global,
     divider: Divider,
+    before: Limited<T, LIMIT>,
     end: usize,
     tokens: &[Token],
 ) -> Result<(Limited<T, LIMIT>, &[Token]), Refusal<GrammarFault>>
-    requires { 0 < LIMIT }
     ensures { Gives (λ x. (x.0, x.1.now)) result
-        (reads (listed LIMIT divider T.grammar) end tokens.now) }
+        (reads (chain (more (LIMIT - length before) divider T.grammar) (λ xs. give (before ++ xs))) end tokens.now) }
 {
-    let (first, after) = T::read(alloc, end, tokens)?;
-    let mut items = Limited::new(alloc);
-    items.push(first)?;
-    let mut rest = after;
-    let mut left = LIMIT - 1;
+    let mut items = before;
+    let mut rest = tokens;
+    let mut left = LIMIT - items.len();
     'things: while begins_with_divider(divider, rest) {
         let next = tail(rest);
         if left == 0 {
@@ -56,6 +54,22 @@ pub fn listed<T: Item, const LIMIT: usize>(
         left -= 1;
     }
     Ok((items, rest))
+}
+
+/// Things with dividers between them: one at least, `LIMIT` at most.
+pub fn listed<T: Item, const LIMIT: usize>(
+    alloc: Global,
+    divider: Divider,
+    end: usize,
+    tokens: &[Token],
+) -> Result<(Limited<T, LIMIT>, &[Token]), Refusal<GrammarFault>>
+    requires { 0 < LIMIT }
+    ensures { Gives (λ x. (x.0, x.1.now)) result (reads (listed LIMIT divider T.grammar) end tokens.now) }
+{
+    let (first, rest) = T::read(alloc, end, tokens)?;
+    let mut items = Limited::new(alloc);
+    items.push(first)?;
+    appended(alloc, divider, items, end, rest)
 }
 
 /// Things one behind the other, `LIMIT` at most.

@@ -1,0 +1,7 @@
+use Rattle.std.proofs.Common.{◌≡◌, map, None}
+use Rattle.ent_sql.proofs.Items.{unbound}
+use Rattle.ent_sql.proofs.entangling.items_of.Given as goal
+
+-- the items of the operands that were taken
+abbrev pub invariant-loop-operand : goal.invariant-loop-operand
+invariant-loop-operand l = l.items ≡ map unbound l.yielded
