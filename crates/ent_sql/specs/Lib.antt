@@ -6,3 +6,7 @@ pub mod Entangling
 pub mod Statements
 pub mod Scripts
 pub mod Front
+pub mod Fault
+pub mod Reading
+pub mod Says
+pub mod FirstFault
