@@ -116,9 +116,13 @@ record EndsFrom (follow : List Class) : Type 0 where
 
 from_next : (shown : Items) (follow : List Class) → EndsFrom follow → IsPredictive (select_behind shown) follow
 unfolding select_behind source identifier tests
-from_next shown follow h = λ p. (tt, λ ss. (
-  (λ s. (source_next follow h.no_as h.no_name, λ xs. ((refl, h.no_comma, refl, source_next follow h.no_as h.no_name), tt))),
-  λ ts. (tests_next follow h.ends, tt)))
+from_next shown follow h = λ p. (
+  tt,
+  λ ss. (
+    (λ s. (source_next follow h.no_as h.no_name, λ xs. ((refl, h.no_comma, refl, source_next follow h.no_as h.no_name), tt))),
+    λ ts. (tests_next follow h.ends, tt),
+  ),
+)
 
 operands_next : (follow : List Class) → NoDot follow → apart (sign signs.Comma ∷ []) follow ≡ true → IsPredictive (listed MOST_PARTS Comma operand) follow
 unfolding operand column_reference identifier value literal negative unsigned positive quoted host_variable
@@ -148,8 +152,12 @@ membership_next tuple follow = λ p. (tt, (refl, refl, λ o. (tt, λ s. (select_
 
 condition_next : (follow : List Class) → IsPredictive condition follow
 unfolding condition bracketed condition_behind comparison_behind tuple_behind comparison membership term identifier value literal negative unsigned positive quoted host_variable
-condition_next follow = (refl, refl, λ o. (tt, λ ts. ((λ t. (term_next [], λ xs. ((refl, refl, refl, term_next []), tt))), λ c. (tt, membership_next _ follow))),
-  λ first. (term_next [], (refl, refl, λ c. (comparison_next [], λ r. (term_next [], tt)), λ others. ((refl, refl, refl, term_next []), membership_next _ follow))))
+condition_next follow = (
+  refl,
+  refl,
+  λ o. (tt, λ ts. ((λ t. (term_next [], λ xs. ((refl, refl, refl, term_next []), tt))), λ c. (tt, membership_next _ follow))),
+  λ first. (term_next [], (refl, refl, λ c. (comparison_next [], λ r. (term_next [], tt)), λ others. ((refl, refl, refl, term_next []), membership_next _ follow))),
+)
 
 entangled_conditions_next : (follow : List Class) → apart (word words.Where ∷ []) follow ≡ true → apart (word words.And ∷ []) follow ≡ true → IsPredictive entangled_conditions follow
 unfolding entangled_conditions condition bracketed condition_behind comparison_behind tuple_behind comparison membership term identifier value literal negative unsigned positive quoted host_variable

@@ -45,20 +45,25 @@ abbrev pub term_of : Operand → Term
 term_of (operands.Value v) = terms.Value v
 term_of (operands.Column c) = terms.Variable c.column
 
+-- the item of an operand that binds nothing
+abbrev pub unbound : Operand → EntangledItem
+unbound x = record { term = term_of x; binds = None }
+
 -- the operands read as items of an entangled statement, the last of which may bind a host variable
 abbrev pub items_of : List Operand → Option Identifier → List EntangledItem
 items_of [] binds = []
 items_of (x ∷ []) binds = record { term = term_of x; binds = binds } ∷ []
-items_of (x ∷ y ∷ xs) binds = record { term = term_of x; binds = None } ∷ items_of (y ∷ xs) binds
+items_of (x ∷ y ∷ xs) binds = unbound x ∷ items_of (y ∷ xs) binds
 
 -- ---- parts
 
 -- [ AS hostvariable ]
 unfoldable pub binding : Grammar (Option Identifier)
 binding = pick
-    (do _ ← keyword words.As
-        v ← host_variable
-        give (Some v))
+    (do
+      _ ← keyword words.As
+      v ← host_variable
+      give (Some v))
     (give None)
 
 -- term [ AS hostvariable ]
@@ -71,10 +76,11 @@ entangled_item = do
 -- [ AS hostvariable { "," item } ] behind the items before the first that binds a host variable
 unfoldable pub entangled_items : List Operand → Grammar (List EntangledItem)
 entangled_items xs = pick
-    (do _ ← keyword words.As
-        v ← host_variable
-        others ← more (MOST_PARTS - length (items_of xs (Some v))) Comma entangled_item
-        give (items_of xs (Some v) ++ others))
+    (do
+      _ ← keyword words.As
+      v ← host_variable
+      others ← more (MOST_PARTS - length (items_of xs (Some v))) Comma entangled_item
+      give (items_of xs (Some v) ++ others))
     (give (items_of xs None))
 
 -- ANSWER name
@@ -90,12 +96,14 @@ unfoldable pub membership : Tuple → Grammar Condition
 membership tuple = do
   _ ← keyword words.In
   pick
-      (do _ ← symbol signs.Open
-          s ← select
-          _ ← symbol signs.Close
-          give (conditions.InSelect tuple s))
-      (do r ← relation
-          give (conditions.InAnswer tuple r))
+      (do
+        _ ← symbol signs.Open
+        s ← select
+        _ ← symbol signs.Close
+        give (conditions.InSelect tuple s))
+      (do
+        r ← relation
+        give (conditions.InAnswer tuple r))
 
 -- "(" term { "," term } ")" IN ..
 unfoldable pub bracketed : Grammar Condition
@@ -134,14 +142,16 @@ condition_behind first = pick (comparison_behind first) (tuple_behind first)
 -- tuple IN "(" select ")" | tuple IN ANSWER name | term comparison term
 unfoldable pub condition : Grammar Condition
 condition = pick bracketed
-    (do first ← term
-        condition_behind first)
+    (do
+      first ← term
+      condition_behind first)
 
 -- [ WHERE condition { AND condition } ]
 unfoldable pub entangled_conditions : Grammar (List Condition)
 entangled_conditions = pick
-    (do _ ← keyword words.Where
-        listed MOST_PARTS And condition)
+    (do
+      _ ← keyword words.Where
+      listed MOST_PARTS And condition)
     (give [])
 
 -- INTO relation { "," relation } [ WHERE conditions ] CHOOSE 1, behind the items
@@ -174,8 +184,10 @@ unfoldable pub query : Grammar Statement
 query = do
   _ ← keyword words.Select
   pick
-      (do _ ← symbol signs.Star
-          s ← select_behind All
-          give (statements.Select s))
-      (do xs ← listed MOST_PARTS Comma operand
-          cond (are_terms xs) (pick (ordinary xs) (entangled xs)) (ordinary xs))
+      (do
+        _ ← symbol signs.Star
+        s ← select_behind All
+        give (statements.Select s))
+      (do
+        xs ← listed MOST_PARTS Comma operand
+        cond (are_terms xs) (pick (ordinary xs) (entangled xs)) (ordinary xs))

@@ -63,36 +63,43 @@ literal = pick negative unsigned
 -- hostvariable | literal
 unfoldable pub value : Grammar ValueSpecification
 value = pick
-    (do v ← host_variable
-        give (specifications.HostVariable v))
-    (do l ← literal
-        give (specifications.Literal l))
+    (do
+      v ← host_variable
+      give (specifications.HostVariable v))
+    (do
+      l ← literal
+      give (specifications.Literal l))
 
 -- name [ "." name ]
 unfoldable pub column_reference : Grammar ColumnReference
 column_reference = do
   first ← identifier
   pick
-      (do _ ← symbol signs.Dot
-          column ← identifier
-          give (record { qualifier = Some first; column = column }))
+      (do
+        _ ← symbol signs.Dot
+        column ← identifier
+        give (record { qualifier = Some first; column = column }))
       (give (record { qualifier = None; column = first }))
 
 -- value | name | name "." name
 unfoldable pub operand : Grammar Operand
 operand = pick
-    (do c ← column_reference
-        give (operands.Column c))
-    (do v ← value
-        give (operands.Value v))
+    (do
+      c ← column_reference
+      give (operands.Column c))
+    (do
+      v ← value
+      give (operands.Value v))
 
 -- value | name
 unfoldable pub term : Grammar Term
 term = pick
-    (do n ← identifier
-        give (terms.Variable n))
-    (do v ← value
-        give (terms.Value v))
+    (do
+      n ← identifier
+      give (terms.Variable n))
+    (do
+      v ← value
+      give (terms.Value v))
 
 -- "=" | "<>" | "<" | "<=" | ">" | ">="
 unfoldable pub comparison : Grammar Comparison
@@ -114,14 +121,16 @@ test thing = do
 -- [ ( "+" | "-" ) thing ] behind a first thing
 unfoldable pub expression_behind : {A : Type 0} → Grammar A → A → Grammar (Expression A)
 expression_behind thing first = pick
-    (do _ ← symbol signs.Plus
-        second ← thing
-        give (Sum first second))
+    (do
+      _ ← symbol signs.Plus
+      second ← thing
+      give (Sum first second))
     (pick
-        (do _ ← symbol signs.Minus
-            second ← thing
-            give (Difference first second))
-        (give (Single first)))
+    (do
+      _ ← symbol signs.Minus
+      second ← thing
+      give (Difference first second))
+    (give (Single first)))
 
 -- thing [ ( "+" | "-" ) thing ]
 unfoldable pub expression : {A : Type 0} → Grammar A → Grammar (Expression A)

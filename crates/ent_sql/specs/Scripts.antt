@@ -16,10 +16,11 @@ use Rattle.ent_sql.specs.Statements.{ended_statement}
 -- [ WITHIN number RUNS ]: a number from 1 on
 unfoldable pub within : Grammar ℕ
 within = pick
-    (do _ ← keyword words.Within
-        n ← up_to MOST_RUNS
-        _ ← keyword words.Runs
-        give n.0)
+    (do
+      _ ← keyword words.Within
+      n ← up_to MOST_RUNS
+      _ ← keyword words.Runs
+      give n.0)
     (give DEFAULT_RUNS)
 
 -- COMMIT | ROLLBACK

@@ -19,19 +19,22 @@ unfoldable pub source : Grammar Source
 source = do
   table ← identifier
   pick
-      (do _ ← keyword words.As
-          alias ← identifier
-          give (record { table = table; alias = Some alias }))
+      (do
+        _ ← keyword words.As
+        alias ← identifier
+        give (record { table = table; alias = Some alias }))
       (pick
-          (do alias ← identifier
-              give (record { table = table; alias = Some alias }))
-          (give (record { table = table; alias = None })))
+      (do
+        alias ← identifier
+        give (record { table = table; alias = Some alias }))
+      (give (record { table = table; alias = None })))
 
 -- [ WHERE test { AND test } ]
 unfoldable pub tests : Grammar (List (Test Operand))
 tests = pick
-    (do _ ← keyword words.Where
-        listed MOST_PARTS And (test operand))
+    (do
+      _ ← keyword words.Where
+      listed MOST_PARTS And (test operand))
     (give [])
 
 -- FROM source { "," source } [ WHERE tests ], behind what is shown
@@ -45,8 +48,9 @@ select_behind items = do
 -- "*" | operand { "," operand }
 unfoldable pub items : Grammar Items
 items = pick (symbol signs.Star >>= λ _. give All)
-    (do xs ← listed MOST_PARTS Comma operand
-        give (Listed xs))
+    (do
+      xs ← listed MOST_PARTS Comma operand
+      give (Listed xs))
 
 -- SELECT items FROM from [ WHERE tests ]
 unfoldable pub select : Grammar Select

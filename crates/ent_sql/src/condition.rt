@@ -13,14 +13,19 @@ use crate::list::{Item, appended, listed};
 use crate::operand::{name_at, term_at};
 use crate::select::select_at;
 use crate::test::comparison_at;
-use ent_grammar::{Divider, GrammarFault, begins_with_sign, begins_with_word, sign_at, unexpected, word_at};
+use ent_grammar::{
+    Divider, GrammarFault, begins_with_sign, begins_with_word, sign_at, unexpected, word_at,
+};
 use ent_text::{Keyword, Symbol, Token, TokenKind};
 use ent_tree::{Condition, Identifier, MOST_PARTS, Term, Test, Tuple, ValueSpecification};
 use ent_value::{Limited, Refusal};
 use std::alloc::Global;
 
 /// The number 1, and where it stands.
-pub(crate) fn one_at(end: usize, tokens: &[Token]) -> Result<(usize, &[Token]), Refusal<GrammarFault>>
+pub(crate) fn one_at(
+    end: usize,
+    tokens: &[Token],
+) -> Result<(usize, &[Token]), Refusal<GrammarFault>>
     ensures { Gives (λ x. (x.0, x.1.now)) result (reads (token one) end tokens.now) }
 {
     match tokens {

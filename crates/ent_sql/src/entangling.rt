@@ -1,8 +1,10 @@
 //! Entangled SELECT, and how a SELECT goes on behind its list.
-ghost use Rattle.std.specs.Prelude.{◌≡◌, Ok};
+ghost use Rattle.std.specs.Prelude.{◌≡◌, ◌<◌, Ok, IfOk, IfErr, length, map};
+ghost use Rattle.ent_value.specs.declared.refusal.Refusal.TheVariants.{Memory};
+ghost use Rattle.ent_tree.specs.declared.limits.TheConstants.{MOST_PARTS};
 ghost use Rattle.ent_value.specs.Refusal.{Gives};
 ghost use Rattle.ent_grammar.specs.Grammar.{reads};
-ghost use Rattle.ent_sql.specs.Entangling.{is_term, are_terms, term_of, items_of, binding, entangled_item, entangled_items};
+ghost use Rattle.ent_sql.specs.Entangling.{is_term, are_terms, term_of, unbound, items_of, binding, entangled_item, entangled_items};
 ghost use Rattle.ent_sql.specs.Entangling.{entangled_behind, ordinary, entangled, query};
 
 use crate::condition::{conditions_at, one_at};
@@ -53,6 +55,24 @@ fn term_of(operand: Operand) -> Term
     }
 }
 
+/// The operands read as items that bind nothing.
+fn unbound_items(
+    alloc: Global,
+    operands: Vec<Operand>,
+) -> Result<Limited<EntangledItem, MOST_PARTS>, Refusal<GrammarFault>>
+    requires { length operands.items < MOST_PARTS }
+    ensures value { IfOk result (λ items. items ≡ map unbound operands.items) }
+    ensures memory { IfErr result (λ refusal. refusal ≡ Memory) }
+{
+    let mut items = Limited::new(alloc);
+    for operand in operands {
+        let term = term_of(operand);
+        let binds = None;
+        items.push(EntangledItem { term, binds })?;
+    }
+    Ok(items)
+}
+
 /// The operands read as items, the last of which may bind a host variable.
 fn items_of(
     alloc: Global,
@@ -61,18 +81,16 @@ fn items_of(
 ) -> Result<Limited<EntangledItem, MOST_PARTS>, Refusal<GrammarFault>>
     ensures { Gives (λ items. items) result (Ok (items_of operands binds)) }
 {
-    let mut operands = operands.into_vec();
-    let mut items = Limited::new(alloc);
-    if let Some(last) = operands.pop() {
-        for operand in operands {
-            let term = term_of(operand);
-            let binds = None;
+    let mut others = operands.into_vec();
+    match others.pop() {
+        None => Ok(Limited::new(alloc)),
+        Some(last) => {
+            let mut items = unbound_items(alloc, others)?;
+            let term = term_of(last);
             items.push(EntangledItem { term, binds })?;
+            Ok(items)
         }
-        let term = term_of(last);
-        items.push(EntangledItem { term, binds })?;
     }
-    Ok(items)
 }
 
 #[tactic(auto, unfolding(crate::specs::Entangling::binding))]

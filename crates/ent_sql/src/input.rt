@@ -51,11 +51,7 @@ pub fn reading_is_exact()
 
 /// What the tokens of a text of this length say.
 #[tactic(auto, unfolding(crate::specs::Scripts::input))]
-fn input_of(
-    alloc: Global,
-    end: usize,
-    tokens: &[Token],
-) -> Result<Input, Refusal<GrammarFault>>
+fn input_of(alloc: Global, end: usize, tokens: &[Token]) -> Result<Input, Refusal<GrammarFault>>
     ensures { Gives (λ input. input) result (reads_all input end tokens.now) }
 {
     let (tables, rest) = many(alloc, end, tokens)?;

@@ -5,7 +5,10 @@ ghost use Rattle.ent_grammar.specs.Grammar.{reads};
 ghost use Rattle.ent_sql.specs.Operands.{identifier, host_variable, negative, unsigned, literal, value};
 ghost use Rattle.ent_sql.specs.Operands.{column_reference, operand, term};
 
-use crate::front::{begins_with_literal, begins_with_name, begins_with_operand, begins_with_value, begins_with_variable};
+use crate::front::{
+    begins_with_literal, begins_with_name, begins_with_operand, begins_with_value,
+    begins_with_variable,
+};
 use crate::list::Item;
 use ent_grammar::{GrammarFault, begins_with_sign, sign_at, unexpected};
 use ent_text::{Symbol, Token, TokenKind};

@@ -35,10 +35,7 @@ fn runs_at(end: usize, tokens: &[Token]) -> Result<((u64, usize), &[Token]), Ref
 }
 
 #[tactic(auto, unfolding(crate::specs::Scripts::within))]
-fn within_at(
-    end: usize,
-    tokens: &[Token],
-) -> Result<(u64, &[Token]), Refusal<GrammarFault>>
+fn within_at(end: usize, tokens: &[Token]) -> Result<(u64, &[Token]), Refusal<GrammarFault>>
     ensures { Gives (λ x. (x.0, x.1.now)) result (reads within end tokens.now) }
 {
     if begins_with_word(Keyword::Within, tokens) {
@@ -52,10 +49,7 @@ fn within_at(
 }
 
 #[tactic(auto, unfolding(crate::specs::Scripts::ending))]
-fn ending_at(
-    end: usize,
-    tokens: &[Token],
-) -> Result<(End, &[Token]), Refusal<GrammarFault>>
+fn ending_at(end: usize, tokens: &[Token]) -> Result<(End, &[Token]), Refusal<GrammarFault>>
     ensures { Gives (λ x. (x.0, x.1.now)) result (reads ending end tokens.now) }
 {
     if begins_with_word(Keyword::Commit, tokens) {

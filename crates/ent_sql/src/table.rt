@@ -9,15 +9,14 @@ use crate::list::{Item, listed};
 use crate::operand::name_at;
 use ent_grammar::{Divider, GrammarFault, begins_with_word, sign_at, word_at};
 use ent_text::{Keyword, Symbol, Token};
-use ent_tree::{Column, Create, Identifier, Insert, Literal, MOST_PARTS, OpeningRow, ValueSpecification};
+use ent_tree::{
+    Column, Create, Identifier, Insert, Literal, MOST_PARTS, OpeningRow, ValueSpecification,
+};
 use ent_value::{Kind, Limited, Refusal};
 use std::alloc::Global;
 
 #[tactic(auto, unfolding(crate::specs::Tables::kind))]
-fn kind_at(
-    end: usize,
-    tokens: &[Token],
-) -> Result<(Kind, &[Token]), Refusal<GrammarFault>>
+fn kind_at(end: usize, tokens: &[Token]) -> Result<(Kind, &[Token]), Refusal<GrammarFault>>
     ensures { Gives (λ x. (x.0, x.1.now)) result (reads kind end tokens.now) }
 {
     if begins_with_word(Keyword::Int, tokens) {

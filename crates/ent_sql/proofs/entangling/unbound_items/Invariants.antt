@@ -1,6 +1,6 @@
 use Rattle.std.proofs.Common.{◌≡◌, map, None}
-use Rattle.ent_sql.proofs.Items.{unbound}
-use Rattle.ent_sql.proofs.entangling.items_of.Given as goal
+use Rattle.ent_sql.specs.Entangling.{unbound}
+use Rattle.ent_sql.proofs.entangling.unbound_items.Given as goal
 
 -- the items of the operands that were taken
 abbrev pub invariant-loop-operand : goal.invariant-loop-operand
