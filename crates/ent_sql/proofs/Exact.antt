@@ -1,16 +1,14 @@
 -- What is read of a text is what it says, and each fault is answered where it is the first.
-use Rattle.std.proofs.Common.{◌≡◌, ℕ, true, List, length, Result, Ok, Err, refl, sym, ap, ◌∙◌, subst}
+use Rattle.std.proofs.Common.{◌≡◌, ℕ, true, List, length, Result, Ok, Err, refl, ap, ◌∙◌}
 use Rattle.ent_text.specs.declared.token.Token.{Token}
 use Rattle.ent_text.specs.declared.fault.TextFault.{TextFault}
 use Rattle.ent_text.specs.Lexing.{tokens_of}
 use Rattle.ent_grammar.specs.declared.fault.GrammarFault.{GrammarFault}
 use Rattle.ent_grammar.specs.declared.fault.GrammarFault.TheVariants as grammar
 use Rattle.ent_grammar.specs.Grammar.{reads_all}
-use Rattle.ent_grammar.specs.FirstFault as first
 use Rattle.ent_grammar.proofs.Stopped.{read_is_spelled, spelled_is_read, unexpected_cant_follow, too_many_is_too_much}
 use Rattle.ent_grammar.proofs.Place.{cant_follow_is_unexpected, too_much_is_too_many}
 use Rattle.ent_tree.specs.declared.script.Input.{Input}
-use Rattle.ent_sql.specs.declared.fault.SqlFault.{SqlFault}
 use Rattle.ent_sql.specs.declared.fault.SqlFault.TheVariants.{Text, Unexpected, TooMany}
 use Rattle.ent_sql.specs.Scripts.{input}
 use Rattle.ent_sql.specs.Reading.{reading, with_tokens, with_fault}

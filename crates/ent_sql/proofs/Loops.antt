@@ -9,7 +9,7 @@ use Rattle.ent_value.specs.declared.refusal.Refusal.{Refusal}
 use Rattle.ent_value.specs.declared.refusal.Refusal.TheVariants as errors
 use Rattle.ent_value.specs.Refusal.{◌>>=◌, Refuses}
 use Rattle.ent_grammar.specs.Read.{Read, place_of, begins}
-use Rattle.ent_grammar.specs.List.{joined, more_at, listed_at, many_at}
+use Rattle.ent_grammar.specs.List.{joined, more_at, many_at}
 
 -- what was read before, and what is still read
 abbrev pub with_front : {A : Type 0} → List A → Read (List A) → Read (List A)

@@ -1,4 +1,4 @@
-use Rattle.std.proofs.Common.{◌≡◌, map, None}
+use Rattle.std.proofs.Common.{◌≡◌, map}
 use Rattle.ent_sql.specs.Entangling.{unbound}
 use Rattle.ent_sql.proofs.entangling.unbound_items.Given as goal
 
