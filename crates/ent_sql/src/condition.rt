@@ -6,7 +6,8 @@ ghost use Rattle.ent_grammar.specs.Class.{among, one};
 ghost use Rattle.ent_grammar.specs.Grammar.{token, firsts, reads};
 ghost use Rattle.ent_sql.specs.Operands.{comparison};
 ghost use Rattle.ent_sql.specs.Entangling.{relation, membership, bracketed, place_of_specification, place_of_term};
-ghost use Rattle.ent_sql.specs.Entangling.{comparison_behind, tuple_behind, condition_behind, condition, entangled_conditions};
+ghost use Rattle.ent_sql.specs.Entangling.{comparison_behind, tuple_behind, condition_behind, condition};
+ghost use Rattle.ent_sql.specs.Entangling.{entangled_conditions};
 
 use crate::front::begins_with_operand;
 use crate::list::{Item, appended, listed};

@@ -4,7 +4,8 @@ ghost use Rattle.ent_value.specs.declared.refusal.Refusal.TheVariants.{Memory};
 ghost use Rattle.ent_tree.specs.declared.limits.TheConstants.{MOST_PARTS};
 ghost use Rattle.ent_value.specs.Refusal.{Gives};
 ghost use Rattle.ent_grammar.specs.Grammar.{reads};
-ghost use Rattle.ent_sql.specs.Entangling.{is_term, are_terms, term_of, unbound, items_of, binding, entangled_item, entangled_items};
+ghost use Rattle.ent_sql.specs.Entangling.{is_term, are_terms, term_of, unbound, items_of, binding};
+ghost use Rattle.ent_sql.specs.Entangling.{entangled_item, entangled_items};
 ghost use Rattle.ent_sql.specs.Entangling.{entangled_behind, ordinary, entangled, query};
 
 use crate::condition::{conditions_at, one_at};
