@@ -104,10 +104,10 @@ together front (k ∷ keys) h sorted = by (begins_with front k) refl (together f
 pub walked : (front : List ℕ) (keys last : List (List ℕ)) → IsStrictlySortedBy key_cmp keys → StartsAt front keys last
     → take_while (begins_with front) last ≡ filter (begins_with front) keys
 walked front keys last sorted start =
-    sym (together front last start.from
-    (sorted_back start.before last (subst (IsStrictlySortedBy key_cmp) start.all sorted)))
-    ∙ ap (λ z. z ++ filter (begins_with front) last) (sym (below_none front start.before start.below))
-    ∙ sym (filter-append (begins_with front) start.before last) ∙ ap (filter (begins_with front)) (sym start.all)
+    sym (together front last start.1.from
+    (sorted_back start.0 last (subst (IsStrictlySortedBy key_cmp) start.1.all sorted)))
+    ∙ ap (λ z. z ++ filter (begins_with front) last) (sym (below_none front start.0 start.1.below))
+    ∙ sym (filter-append (begins_with front) start.0 last) ∙ ap (filter (begins_with front)) (sym start.1.all)
 
 -- ---- where a walk starts
 
@@ -137,30 +137,32 @@ module _ {X : Type 0} (f : X → List (List ℕ)) (ps : List X) (at : ℕ) (x : 
       let walk_is : walk ≡ key ∷ (drop (i + 1) (f x) ++ flat_map f (drop (at + 1) ps)) = w ∙ from_page i tail e
       ∙ ap (λ z. z ++ flat_map f (drop (at + 1) ps)) (from_place (f x) i [] within
       ∙ ap (λ k. k ∷ drop (i + 1) (f x)) here) in
-      let ordered = subst (IsStrictlySortedBy key_cmp) all sorted in
-      record {
-        before = before;
-        all = all ∙ ap (λ z. before ++ z) (sym walk_is);
-        below = sorted_below before behind key ordered;
-        from = subst (λ z. NoneBelow z key) (sym walk_is) (
-          not_itself key,
-          none_below_all behind key
-              (sorted_above behind key (sorted_back before (key ∷ behind) ordered)),
-        );
-      }
+      let ordered = subst (IsStrictlySortedBy key_cmp) all sorted in (
+        before,
+        record {
+          all = all ∙ ap (λ z. before ++ z) (sym walk_is);
+          below = sorted_below before behind key ordered;
+          from = subst (λ z. NoneBelow z key) (sym walk_is) (
+            not_itself key,
+            none_below_all behind key
+                (sorted_above behind key (sorted_back before (key ∷ behind) ordered)),
+          );
+        },
+      )
 
   pub starts_behind : (i : ℕ) (tail : List X) (walk : List (List ℕ)) → tail ≡ drop at ps → walk ≡ keys_left f tail i
       → i ≤ length (f x) → (Ascends (f x) → AreBelow (f x) key i) → (Ascends (f x) → AreAbove (f x) key i)
       → StartsAt key (flat_map f ps) walk
   starts_behind i tail walk e w le b a =
       let up = ascends (f x) (page_sorted f ps at x key lt is sorted) in
-      let walk_is = w ∙ from_page i tail e in
-      record {
-        before = flat_map f (take at ps) ++ take i (f x);
-        all = gap_at f ps at x key lt is sorted i
-            ∙ ap (λ z. (flat_map f (take at ps) ++ take i (f x)) ++ z) (sym walk_is);
-        below = gap_below f ps at x key lt is sorted below above i le (b up);
-        from = subst (λ z. NoneBelow z key) (sym walk_is)
-            (none_below_all (drop i (f x) ++ flat_map f (drop (at + 1) ps)) key
-            (gap_above f ps at x key lt is sorted below above i (a up)));
-      }
+      let walk_is = w ∙ from_page i tail e in (
+        flat_map f (take at ps) ++ take i (f x),
+        record {
+          all = gap_at f ps at x key lt is sorted i
+              ∙ ap (λ z. (flat_map f (take at ps) ++ take i (f x)) ++ z) (sym walk_is);
+          below = gap_below f ps at x key lt is sorted below above i le (b up);
+          from = subst (λ z. NoneBelow z key) (sym walk_is)
+              (none_below_all (drop i (f x) ++ flat_map f (drop (at + 1) ps)) key
+              (gap_above f ps at x key lt is sorted below above i (a up)));
+        },
+      )

@@ -14,8 +14,8 @@ use Rattle.ent_set.specs.Sets as set
 use Rattle.ent_set.specs.Laws.{same_set, contains-from_list, contains-insert_all, contains-without_all}
 use Rattle.ent_page.specs.Key.{key_cmp}
 use Rattle.ent_page.specs.Paged.{AllBelow, AllAbove}
-use Rattle.ent_page.specs.Front.{NoneBelow}
-use Rattle.ent_page.specs.Changed.{has, IsChanged, IsSplitAt, IsSplitBefore, IsPut}
+use Rattle.ent_page.specs.Front.{NoneBelow, IsSplitAt}
+use Rattle.ent_page.specs.Changed.{has, IsChanged, IsSplitBefore, IsPut}
 use Rattle.ent_page.proofs.Sorted.{nil_sorted, keys_total, keys_exact, flip, all_both, all_more, any_over, same_key}
 use Rattle.ent_page.proofs.Sorted.{sorted_front, sorted_back, sorted_below, sorted_above, above_more, none_above}
 use Rattle.ent_page.proofs.Beginnings.{not_itself, none_below_all}

@@ -4,8 +4,7 @@ use Rattle.std.specs.List.{list_any}
 use Rattle.std.specs.List.Sorted.{IsStrictlySortedBy}
 use Rattle.std.specs.Ordering.{eq_by_cmp}
 use Rattle.ent_page.specs.Key.{key_cmp}
-use Rattle.ent_page.specs.Paged.{AllBelow}
-use Rattle.ent_page.specs.Front.{NoneBelow}
+use Rattle.ent_page.specs.Front.{IsSplitAt}
 
 -- whether a key is in a list
 abbrev pub has : List (List ℕ) → List ℕ → Bool
@@ -17,13 +16,7 @@ pub record IsChanged (keys removed added after : List (List ℕ)) : Type 0 where
   pub same : (key : List ℕ) → has after key ≡ ((has keys key && not (has removed key)) || has added key)
   pub count : length after ≤ length keys + length added
 
--- a list in two parts: what is below a key, and what is not
-pub record IsSplitAt (key : List ℕ) (keys front others : List (List ℕ)) : Type 0 where
-  pub all : keys ≡ front ++ others
-  pub below : AllBelow front key
-  pub from : NoneBelow others key
-
--- the same, below the first of other keys; all is below where there is none
+-- a list in two parts at the first of other keys; all is before it where there is none
 abbrev pub IsSplitBefore : List (List ℕ) → List (List ℕ) → List (List ℕ) → List (List ℕ) → Type 0
 IsSplitBefore [] keys front others = (keys ≡ front) × (others ≡ [])
 IsSplitBefore (bound ∷ _) keys front others = IsSplitAt bound keys front others

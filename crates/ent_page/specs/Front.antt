@@ -23,9 +23,12 @@ beginning_so (Some front) keys = take_while (begins_with front) keys
 abbrev pub NoneBelow : List (List ℕ) → List ℕ → Type 0
 NoneBelow keys key = AllByRecursion (λ k. key_cmp k key ≡ Less → ⊥) keys
 
+-- a list in two parts: what is below a key, and what is not
+pub record IsSplitAt (key : List ℕ) (keys front others : List (List ℕ)) : Type 0 where
+  pub all : keys ≡ front ++ others
+  pub below : AllBelow front key
+  pub from : NoneBelow others key
+
 -- the last of these keys, from the first on that is not below a key
-pub record StartsAt (key : List ℕ) (keys last : List (List ℕ)) : Type 0 where
-  pub before : List (List ℕ)
-  pub all : keys ≡ before ++ last
-  pub below : AllBelow before key
-  pub from : NoneBelow last key
+abbrev pub StartsAt : List ℕ → List (List ℕ) → List (List ℕ) → Type 0
+StartsAt key keys last = (front : List (List ℕ)) × IsSplitAt key keys front last

@@ -6,8 +6,8 @@ ghost use Rattle.std.specs.List.Sorted.{IsStrictlySortedBy};
 ghost use Rattle.std.specs.Arc.{arc_value};
 ghost use Rattle.ent_page.specs.Key.{key_cmp};
 ghost use Rattle.ent_page.specs.Paged.{IsSized};
-ghost use Rattle.ent_page.specs.Front.{NoneBelow};
-ghost use Rattle.ent_page.specs.Changed.{has, IsChanged, IsSplitAt, IsSplitBefore, IsPut};
+ghost use Rattle.ent_page.specs.Front.{NoneBelow, IsSplitAt};
+ghost use Rattle.ent_page.specs.Changed.{has, IsChanged, IsSplitBefore, IsPut};
 
 use crate::key::Key;
 use crate::page::Page;
