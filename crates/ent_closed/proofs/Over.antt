@@ -1,6 +1,6 @@
 -- A statement over other known parts means what it means over what these are worth.
 use Rattle.std.proofs.Common.{◌≡◌, Bool, List, [], ◌∷◌, map, refl, ap}
-use Rattle.std.specs.Prelude.{◌&&◌}
+use Rattle.std.specs.Prelude.{◌&&◌, ◌==◌, length}
 use Rattle.std.specs.List.{list_all}
 use Rattle.ent_set.specs.Sets as set
 use Rattle.ent_value.specs.declared.value.Value.{Value}
@@ -18,7 +18,7 @@ use Rattle.ent_closed.specs.Closing.{atom_over, membership_over, binding_over, e
 use Rattle.ent_closed.specs.Closing.{closed_entangled}
 use Rattle.ent_closed.specs.Form.{Tables, table_numbered, known_worth, closed_worth, operand_worth, term_worth}
 use Rattle.ent_closed.specs.Form.{form_rows, atom_fact, form_heads, form_posts, membership_holds, is_form_grounding}
-use Rattle.ent_closed.specs.Form.{form_bound, form_meaning, have_kinds}
+use Rattle.ent_closed.specs.Form.{form_bound, form_meaning}
 use Rattle.ent_closed.specs.declared.entangled.Atom.{Atom}
 use Rattle.ent_closed.specs.declared.entangled.Entangled.{Entangled}
 use Rattle.ent_closed.specs.declared.entangled.Term.{Term}
@@ -112,7 +112,7 @@ module _ {K J : Type 0} (other : K → J) (worth : J → Value) where
       (holds (term_worth (λ k. worth (other k)) valuation)) entangled.tests
       (λ test. holds_over (term_over other) (term_worth worth valuation)
       (term_worth (λ k. worth (other k)) valuation) test (term_same valuation)) in
-      λ i. have_kinds entangled.variables valuation && (atoms i && tests i)
+      λ i. (length valuation == length entangled.variables) && (atoms i && tests i)
 
   bound_same : (entangled : Entangled K) (valuation : Valuation)
       → form_bound worth (entangled_over other entangled) valuation

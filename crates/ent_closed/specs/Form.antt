@@ -1,12 +1,9 @@
 -- What statements in this form mean, over the rows of tables in the order of their declaration.
-use Rattle.std.specs.Prelude.{ℕ, Bool, true, false, ◌&&◌, List, [], ◌∷◌, map, slice_index_or, slice_set}
+use Rattle.std.specs.Prelude.{ℕ, Bool, ◌&&◌, ◌==◌, List, length, map, slice_index_or, slice_set}
 use Rattle.std.specs.Prelude.{unwrap_or}
 use Rattle.std.specs.List.{list_all}
 use Rattle.ent_set.specs.Sets as set
-use Rattle.ent_value.specs.declared.value.Kind.{Kind}
-use Rattle.ent_value.specs.declared.value.Kind.TheVariants as kinds
 use Rattle.ent_value.specs.declared.value.Value.{Value}
-use Rattle.ent_value.specs.declared.value.Value.TheVariants.{Int, Text}
 use Rattle.ent_semantics.specs.declared.answer.Fact.{Fact}
 use Rattle.ent_semantics.specs.Change.{all_there}
 use Rattle.ent_semantics.specs.Database.{Name, Rows, Environment, Table}
@@ -47,19 +44,6 @@ known_worth environment (known.HostVariable variable) = unwrap_or (environment v
 abbrev pub closed_worth : Environment → Value → Value
 closed_worth environment value = value
 
-abbrev pub is_of_kind : Kind → Value → Bool
-is_of_kind kinds.Int (Int number) = true
-is_of_kind kinds.Int (Text bytes) = false
-is_of_kind kinds.Text (Int number) = false
-is_of_kind kinds.Text (Text bytes) = true
-
--- a value for each variable, of its kind
-abbrev pub have_kinds : List Kind → Valuation → Bool
-have_kinds [] [] = true
-have_kinds [] (value ∷ values) = false
-have_kinds (kind ∷ kinds) [] = false
-have_kinds (kind ∷ kinds) (value ∷ values) = is_of_kind kind value && have_kinds kinds values
-
 -- over what a K is worth
 module _ {K : Type 0} where
   abbrev pub operand_worth : (K → Value) → Worth (Operand K)
@@ -93,10 +77,10 @@ module _ {K : Type 0} where
   membership_holds worth tables valuation membership =
       set.contains (form_rows worth tables membership.select) (map (term_worth worth valuation) membership.terms)
 
-  -- a value of its kind for each written variable, under which each membership and each test holds
+  -- a value for exactly the written variables, under which each membership and each test holds
   abbrev pub is_form_grounding : (K → Value) → Tables → Entangled K → Valuation → Bool
   is_form_grounding worth tables entangled valuation =
-      have_kinds entangled.variables valuation
+      (length valuation == length entangled.variables)
       && (list_all (membership_holds worth tables valuation) entangled.atoms
       && list_all (holds (term_worth worth valuation)) entangled.tests)
 

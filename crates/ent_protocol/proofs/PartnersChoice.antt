@@ -1,7 +1,7 @@
 -- The partners' least choice is flight 122 for both.
-use Rattle.std.proofs.Common.{◌≡◌, ◌⊎◌, inl, inr, ℕ, Bool, true, false, ◌&&◌, ◌||◌, List, [], ◌∷◌, ◌++◌, map}
-use Rattle.std.proofs.Common.{refl, sym, ap, subst, ◌∙◌, arith}
-use Rattle.std.specs.Prelude.{pos, codes, Contains}
+use Rattle.std.proofs.Common.{◌≡◌, ◌⊎◌, inl, inr, ℕ, suc, Bool, true, false, ◌&&◌, ◌||◌, List, [], ◌∷◌, ◌++◌, map}
+use Rattle.std.proofs.Common.{refl, sym, ap, subst, ◌∙◌, arith, rules, length}
+use Rattle.std.specs.Prelude.{pos, codes, Contains, ◌==◌}
 use Rattle.std.specs.Cmp.{Equal-is}
 use Rattle.std.specs.List.{filter, flat_map, list_any}
 use Rattle.std.specs.Ordering.{eq_by_cmp}
@@ -10,7 +10,6 @@ use Rattle.ent_set.specs.Laws.{ascending-from_list, contains-from_list}
 use Rattle.ent_set.specs.Sets as set
 use Rattle.ent_value.specs.Order.{rows_total, exact_rows}
 use Rattle.ent_value.specs.Value.{row_cmp}
-use Rattle.ent_value.specs.declared.value.Kind.TheVariants as kinds
 use Rattle.ent_value.specs.declared.value.Value.{Value}
 use Rattle.ent_value.specs.declared.value.Value.TheVariants.{Int, Text}
 use Rattle.ent_tree.specs.declared.operand.Comparison.TheVariants.{Equal as EqualTo}
@@ -20,7 +19,7 @@ use Rattle.ent_semantics.specs.Entangled.{Valuation}
 use Rattle.ent_semantics.specs.Selection.{meets}
 use Rattle.ent_closed.specs.declared.operand.Operand.TheVariants as operands
 use Rattle.ent_closed.specs.declared.statement.Select.{Select}
-use Rattle.ent_closed.specs.Form.{Tables, form_rows, is_form_grounding, is_of_kind, operand_worth}
+use Rattle.ent_closed.specs.Form.{Tables, form_rows, is_form_grounding, operand_worth}
 use Rattle.ent_coordination.specs.Choice.{IsChoice, IsLeastChoice, all_heads, all_posts, choice_cmp}
 use Rattle.ent_protocol.specs.Job.{tables_of}
 use Rattle.ent_protocol.specs.Partners.{partners_opening, Mickey, Minnie, LA, flight_122, pair_job}
@@ -61,12 +60,10 @@ abbrev goes : Value → Bool
 goes x = list_any (eq_by_cmp row_cmp (x ∷ [])) LA_flights
 
 grounds : (tx : ℕ) (own partner x : Value)
-    → is_form_grounding (λ value. value) seen (friend tx own partner).statement (x ∷ [])
-    ≡ ((is_of_kind kinds.Int x && true) && ((goes x && true) && true))
+    → is_form_grounding (λ value. value) seen (friend tx own partner).statement (x ∷ []) ≡ ((goes x && true) && true)
 grounds tx own partner x =
-    ap (λ rows. (is_of_kind kinds.Int x && true) && ((set.contains rows (x ∷ []) && true) && true)) rows_to_LA
-    ∙ ap (λ b. (is_of_kind kinds.Int x && true) && ((b && true) && true))
-    (contains-from_list rows_total exact_rows LA_flights (x ∷ []))
+    ap (λ rows. (set.contains rows (x ∷ []) && true) && true) rows_to_LA
+    ∙ ap (λ b. (b && true) && true) (contains-from_list rows_total exact_rows LA_flights (x ∷ []))
 
 -- ---- a choice
 
@@ -91,19 +88,16 @@ is_flight : (x y : Value) → eq_by_cmp row_cmp (x ∷ []) (y ∷ []) ≡ true �
 is_flight x y e =
     same_value x y (exact_rows (x ∷ []) (y ∷ []) ((Equal-is (row_cmp (x ∷ []) (y ∷ []))).0 e))
 
-either : (k a b : Bool) → ((k && true) && (((a || (b || false)) && true) && true)) ≡ true
-    → (a ≡ true) ⊎ (b ≡ true)
-either false a b h = cc
-either true true b h = inl refl
-either true false true h = inr refl
-either true false false h = cc
+either : (a b : Bool) → (((a || (b || false)) && true) && true) ≡ true → (a ≡ true) ⊎ (b ≡ true)
+either true b h = inl refl
+either false true h = inr refl
+either false false h = cc
 
 one_of_two : (tx : ℕ) (own partner x : Value)
     → is_form_grounding (λ value. value) seen (friend tx own partner).statement (x ∷ []) ≡ true
     → (x ≡ flight_122) ⊎ (x ≡ flight_123)
 one_of_two tx own partner x h =
-    of (either (is_of_kind kinds.Int x) (eq_by_cmp row_cmp (x ∷ []) (flight_122 ∷ []))
-    (eq_by_cmp row_cmp (x ∷ []) (flight_123 ∷ []))
+    of (either (eq_by_cmp row_cmp (x ∷ []) (flight_122 ∷ [])) (eq_by_cmp row_cmp (x ∷ []) (flight_123 ∷ []))
     (sym (grounds tx own partner x) ∙ h))
   where
     of : (eq_by_cmp row_cmp (x ∷ []) (flight_122 ∷ []) ≡ true) ⊎ (eq_by_cmp row_cmp (x ∷ []) (flight_123 ∷ []) ≡ true)
@@ -111,16 +105,22 @@ one_of_two tx own partner x h =
     of (inl e) = inl (is_flight x flight_122 e)
     of (inr e) = inr (is_flight x flight_123 e)
 
-too_long : (k b : Bool) → ((k && false) && b) ≡ true → ⊥
-too_long true b h = cc
-too_long false b h = cc
+no_false : (c b : Bool) → c ≡ false → (c && b) ≡ true → ⊥
+no_false true b e h = cc
+no_false false b e h = cc
+
+not_one : (n : ℕ) → (suc (suc n) == 1) ≡ false
+not_one n = grind (arith, rules)
+
+too_long : (n : ℕ) (b : Bool) → ((suc (suc n) == 1) && b) ≡ true → ⊥
+too_long n b h = no_false (suc (suc n) == 1) b (not_one n) h
 
 one_value : (tx : ℕ) (own partner : Value) (values : Valuation)
     → is_form_grounding (λ value. value) seen (friend tx own partner).statement values ≡ true
     → (x : Value) × (values ≡ x ∷ []) × ((x ≡ flight_122) ⊎ (x ≡ flight_123))
 one_value tx own partner [] h = cc
 one_value tx own partner (x ∷ []) h = (x, refl, one_of_two tx own partner x h)
-one_value tx own partner (x ∷ y ∷ more) h = absurd (too_long (is_of_kind kinds.Int x) _ h)
+one_value tx own partner (x ∷ y ∷ more) h = absurd (too_long (length more) _ h)
 
 not_less : (x y : Value) → (x ≡ flight_122) ⊎ (x ≡ flight_123) → (y ≡ flight_122) ⊎ (y ≡ flight_123)
     → choice_cmp ((x ∷ []) ∷ (y ∷ []) ∷ []) taken ≡ Less → ⊥
@@ -141,8 +141,8 @@ least : (others : List Valuation) → IsChoice seen both others → choice_cmp o
 least [] h less = absurd h.grounded
 least (v ∷ []) h less = absurd h.grounded.1
 least (v ∷ w ∷ []) h less =
-    let x = one_value 1 Mickey Minnie v h.grounded.0 in
-    let y = one_value 2 Minnie Mickey w h.grounded.1.0 in
+    let x = one_value 1 Mickey Minnie v h.grounded.0.grounds in
+    let y = one_value 2 Minnie Mickey w h.grounded.1.0.grounds in
     not_less x.0 y.0 x.2 y.2 (sym (λ i. choice_cmp (x.1 i ∷ y.1 i ∷ []) taken) ∙ less)
 least (v ∷ w ∷ u ∷ more) h less = absurd h.grounded.1.1
 
@@ -150,7 +150,8 @@ pub least_taken : IsLeastChoice seen both taken
 least_taken =
     record {
       choice = record {
-        grounded = (grounds 1 Mickey Minnie flight_122, (grounds 2 Minnie Mickey flight_122, tt));
+        grounded = (record { kinds = refl; grounds = grounds 1 Mickey Minnie flight_122 },
+         (record { kinds = refl; grounds = grounds 2 Minnie Mickey flight_122 }, tt));
         met = met;
       };
       least = least;
