@@ -40,20 +40,20 @@ item_binds_are : (worth : TreeTerm → Value) (term : TreeTerm) (binds : Option 
 item_binds_are worth term None = refl
 item_binds_are worth term (Some variable) = refl
 
-and_assoc : (a b c : Bool) → ((a && b) && c) ≡ (a && (b && c))
+pub and_assoc : (a b c : Bool) → ((a && b) && c) ≡ (a && (b && c))
 and_assoc true b c = refl
 and_assoc false b c = refl
 
-and_true : (a : Bool) → (a && true) ≡ a
+pub and_true : (a : Bool) → (a && true) ≡ a
 and_true true = refl
 and_true false = refl
 
-all_behind : {A : Type 0} (p : A → Bool) (xs : List A) (y : A) → list_all p (xs ++ y ∷ []) ≡ (list_all p xs && p y)
+pub all_behind : {A : Type 0} (p : A → Bool) (xs : List A) (y : A) → list_all p (xs ++ y ∷ []) ≡ (list_all p xs && p y)
 all_behind p [] y = and_true (p y)
 all_behind p (x ∷ xs) y = ap (λ b. p x && b) (all_behind p xs y) ∙ sym (and_assoc (p x) (list_all p xs) (p y))
 
 -- one thing more behind those before, as it is seen
-grown : {A B : Type 0} (f : A → B) (made : List A) (x : A) (y : B) (more : List B) → f x ≡ y
+pub grown : {A B : Type 0} (f : A → B) (made : List A) (x : A) (y : B) (more : List B) → f x ≡ y
     → map f (made ++ x ∷ []) ++ more ≡ map f made ++ y ∷ more
 grown f made x y more e =
     ap (λ xs. xs ++ more) (map-append f made (x ∷ []))

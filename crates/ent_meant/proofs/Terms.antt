@@ -47,7 +47,7 @@ kind_value_same environment bound kind value form e =
     value_same environment bound value w.0 w.1 ∙ ap (known_worth environment) (same_given w.0.0 form kept.1)
 
 -- the value of a variable is that of its number
-variable_same : (names : List Name) (valuation : Valuation) (name : Name) → length valuation ≡ length names
+pub variable_same : (names : List Name) (valuation : Valuation) (name : Name) → length valuation ≡ length names
     → variable_value names valuation name ≡ slice_index_or valuation (index_of names name) no_value
 variable_same [] [] name l = refl
 variable_same [] (value ∷ valuation) name l = absurd (omega arith)

@@ -4,5 +4,9 @@
 #![tactic(auto)]
 
 mod entangled;
+mod select;
 
-pub use entangled::{resolved_offers_and_demands_the_same, variables_are_the_written_ones};
+pub use entangled::{
+    resolved_grounds_the_same, resolved_offers_and_demands_the_same, variables_are_the_written_ones,
+};
+pub use select::resolved_selects_the_same;
