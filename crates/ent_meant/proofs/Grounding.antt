@@ -4,7 +4,7 @@ use Rattle.std.proofs.Common.{refl, sym, ap, ◌∙◌, arith}
 use Rattle.std.specs.Prelude.{◌==◌}
 use Rattle.std.specs.List.{list_all}
 use Rattle.std.proofs.lemmas.Bool.Decides.{nat_tests}
-use Rattle.std.proofs.lemmas.List.{append-nil, append_assoc, map-append}
+use Rattle.std.proofs.lemmas.List.{append-nil}
 use Rattle.ent_set.specs.Sets as set
 use Rattle.ent_value.specs.declared.value.Kind.{Kind}
 use Rattle.ent_value.specs.declared.value.Value.{Value}
@@ -22,12 +22,11 @@ use Rattle.ent_closed.specs.declared.entangled.Membership.{Membership}
 use Rattle.ent_closed.specs.declared.entangled.Term.{Term}
 use Rattle.ent_closed.specs.declared.entangled.Term.TheVariants as resolved
 use Rattle.ent_closed.specs.declared.operand.Known.{Known}
-use Rattle.ent_closed.specs.Form.{Tables, known_worth, term_worth, form_rows, membership_holds, is_form_grounding}
+use Rattle.ent_closed.specs.Form.{Tables, known_worth, term_worth, membership_holds, is_form_grounding}
 use Rattle.ent_semantics.specs.Database.{Name, Environment}
-use Rattle.ent_semantics.specs.Entangled.{Valuation, written_variables, condition_holds, is_grounding, term_value}
+use Rattle.ent_semantics.specs.Entangled.{Valuation, condition_holds, is_grounding, term_value}
 use Rattle.ent_semantics.specs.Entangled.{variable_value}
 use Rattle.ent_semantics.specs.Selection.{holds, select_rows}
-use Rattle.ent_form.specs.declared.catalogue.TableSchema.{TableSchema}
 use Rattle.ent_form.specs.declared.fault.FormFault.TheVariants.{WrongKind, Arity}
 use Rattle.ent_form.specs.Catalogue.{schemas_of}
 use Rattle.ent_form.specs.Entangled.{index_of, demanded_in, member_in, members_from, membership_in, memberships_from}
@@ -41,9 +40,9 @@ use Rattle.ent_meant.proofs.Selecting.{select_same}
 use Rattle.ent_meant.proofs.Steps.{same_given, bind_given, demand_given}
 use Rattle.ent_meant.proofs.Terms.{worth, form_worth, variable_same, kind_value_same}
 use Rattle.ent_meant.proofs.Variables.{variables_written}
-use Rattle.ent_meant.proofs.Whole.{Parts, parts_of, as_long, kinds_counted}
+use Rattle.ent_meant.proofs.Whole.{parts_of, kinds_counted}
 
-same_length : (m n : ℕ) → (m == n) ≡ true → m ≡ n
+pub same_length : (m n : ℕ) → (m == n) ≡ true → m ≡ n
 same_length m n e = grind (arith, nat_tests)
 
 module _ (environment : Environment) (names : List Name) (valuation : Valuation) (l : length valuation ≡ length names) where

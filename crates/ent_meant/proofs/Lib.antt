@@ -7,3 +7,5 @@ pub mod Sources
 pub mod Rows
 pub mod Selecting
 pub mod Grounding
+pub mod Putting
+pub mod Changing

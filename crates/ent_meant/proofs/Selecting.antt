@@ -3,8 +3,7 @@ use Rattle.std.proofs.Common.{◌≡◌, ℕ, zero, suc, ◌+◌, Bool, true, fa
 use Rattle.std.proofs.Common.{Some, None, Result, Ok, refl, sym, ap, ◌∙◌, subst, arith}
 use Rattle.std.specs.Prelude.{slice_index_or, if◌then◌else◌}
 use Rattle.std.specs.List.{AllByRecursion, list_all}
-use Rattle.std.proofs.lemmas.List.{append-nil, append_assoc, map-append, length-map, length-append, get_or_at}
-use Rattle.ent_set.specs.Sets as set
+use Rattle.std.proofs.lemmas.List.{append-nil, append_assoc, map-append, length-append, get_or_at}
 use Rattle.ent_value.specs.Value.{value_cmp}
 use Rattle.ent_value.specs.declared.value.Kind.{Kind}
 use Rattle.ent_value.specs.declared.value.Value.{Value}
@@ -23,7 +22,7 @@ use Rattle.ent_closed.specs.declared.statement.Select.{Select}
 use Rattle.ent_closed.specs.Form.{Tables, known_worth, operand_worth, form_rows}
 use Rattle.ent_semantics.specs.Database.{Name, Environment}
 use Rattle.ent_semantics.specs.Selection.{compares, holds, meets, item_row, selection, select_rows, combinations}
-use Rattle.ent_semantics.specs.Term.{no_value, SourceColumn, refers_to, column_value, operand_value, source_columns}
+use Rattle.ent_semantics.specs.Term.{no_value, refers_to, column_value, operand_value}
 use Rattle.ent_form.specs.declared.fault.FormFault.{FormFault}
 use Rattle.ent_form.specs.declared.fault.FormFault.TheVariants.{WrongKind, NoTable}
 use Rattle.ent_form.specs.Catalogue.{schemas_of, is_among}
@@ -32,10 +31,9 @@ use Rattle.ent_form.specs.Lookup.{value_in, operand_place, operand_in, operands_
 use Rattle.ent_form.specs.Ordinary.{tests_from, tests_in, Shown, with_item, items_from, columns_from, all_shown, items_in}
 use Rattle.ent_form.specs.Ordinary.{select_in}
 use Rattle.ent_form.specs.Scope.{Visible, Scope, no_source, sources_in, referred_from, only_one, qualifier_in, column_in}
-use Rattle.ent_form.specs.Steps.{demand}
 use Rattle.ent_meant.specs.Tables.{database_of, AreWide}
 use Rattle.ent_meant.proofs.Rows.{combinations_wide, selected_alike}
-use Rattle.ent_meant.proofs.Sources.{name_of, rows_at, sources_seen, Seen}
+use Rattle.ent_meant.proofs.Sources.{name_of, sources_seen}
 use Rattle.ent_meant.proofs.Steps.{same_given, bind_given, demand_given}
 use Rattle.ent_meant.proofs.Terms.{value_same}
 

@@ -1,18 +1,16 @@
 -- The sources of a SELECT by the numbers of their tables.
-use Rattle.std.proofs.Common.{◌≡◌, ℕ, zero, suc, ◌+◌, Bool, true, false, not, List, [], ◌∷◌, ◌++◌, map, length, Option, Some}
-use Rattle.std.proofs.Common.{None, Ok, refl, sym, ap, ◌∙◌, subst, arith}
+use Rattle.std.proofs.Common.{◌≡◌, ℕ, suc, ◌+◌, Bool, true, false, not, List, [], ◌∷◌, ◌++◌, map, length, Some}
+use Rattle.std.proofs.Common.{Ok, refl, sym, ap, ◌∙◌, subst, arith}
 use Rattle.std.specs.Prelude.{slice_index_or, if◌then◌else◌}
-use Rattle.std.specs.List.{AllByRecursion, flat_map}
+use Rattle.std.specs.List.{AllByRecursion}
 use Rattle.std.proofs.lemmas.List.{append-nil, append_assoc, map-append, length-map, length-append}
 use Rattle.ent_set.specs.Sets as set
-use Rattle.ent_value.specs.declared.value.Value.{Value}
 use Rattle.ent_tree.specs.declared.declaration.Column.{Column}
 use Rattle.ent_tree.specs.declared.declaration.Create.{Create}
 use Rattle.ent_tree.specs.declared.select.Source.{Source}
 use Rattle.ent_closed.specs.Form.{Tables}
 use Rattle.ent_semantics.specs.Database.{Name, Rows, same_name, columns_of}
-use Rattle.ent_semantics.specs.Selection.{combinations}
-use Rattle.ent_semantics.specs.Term.{SourceColumn, source_name, source_columns, table_columns}
+use Rattle.ent_semantics.specs.Term.{SourceColumn, source_name, source_columns}
 use Rattle.ent_form.specs.declared.catalogue.ColumnSchema.{ColumnSchema}
 use Rattle.ent_form.specs.declared.catalogue.TableSchema.{TableSchema}
 use Rattle.ent_form.specs.declared.fault.FormFault.TheVariants.{NoTable, Ambiguous}
@@ -102,7 +100,7 @@ AllWide [] (width ∷ widths) = ⊥
 AllWide (rows ∷ more) [] = ⊥
 AllWide (rows ∷ more) (width ∷ widths) = OfWidth width rows × AllWide more widths
 
-names_seen : (source : Name) (columns : List ColumnSchema)
+pub names_seen : (source : Name) (columns : List ColumnSchema)
     → map name_of (map (visible source) columns)
     ≡ map (λ column. record { source = source; column = column }) (map (λ (column : ColumnSchema). column.name) columns)
 names_seen source [] = refl

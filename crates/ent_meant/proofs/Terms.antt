@@ -1,9 +1,8 @@
 -- Terms, tests and lists of them are worth the same resolved.
-use Rattle.std.proofs.Common.{◌≡◌, ℕ, suc, Bool, true, false, List, [], ◌∷◌, ◌++◌, map, length, Option, Some, None, Result}
-use Rattle.std.proofs.Common.{Ok, Err, refl, sym, ap, ◌∙◌, arith}
-use Rattle.std.specs.Prelude.{slice_index_or, unwrap_or, if◌then◌else◌}
+use Rattle.std.proofs.Common.{◌≡◌, suc, true, false, List, [], ◌∷◌, ◌++◌, map, length}
+use Rattle.std.proofs.Common.{Ok, refl, sym, ap, ◌∙◌, arith}
+use Rattle.std.specs.Prelude.{slice_index_or, if◌then◌else◌}
 use Rattle.std.proofs.lemmas.List.{append-nil, append_assoc, map-append}
-use Rattle.ent_value.specs.Refusal.{◌>>=◌}
 use Rattle.ent_value.specs.Value.{value_cmp}
 use Rattle.ent_value.specs.declared.value.Kind.{Kind}
 use Rattle.ent_value.specs.declared.value.Value.{Value}
@@ -13,22 +12,19 @@ use Rattle.ent_tree.specs.declared.operand.Test.{Test}
 use Rattle.ent_tree.specs.declared.operand.ValueSpecification.{ValueSpecification}
 use Rattle.ent_tree.specs.declared.operand.ValueSpecification.TheVariants as specifications
 use Rattle.ent_closed.specs.declared.entangled.Term.{Term}
-use Rattle.ent_closed.specs.declared.entangled.Term.TheVariants as resolved
 use Rattle.ent_closed.specs.declared.operand.Known.{Known}
-use Rattle.ent_closed.specs.declared.operand.Known.TheVariants as known
 use Rattle.ent_closed.specs.Form.{known_worth, term_worth}
 use Rattle.ent_semantics.specs.Database.{Name, Environment, same_name}
 use Rattle.ent_semantics.specs.Entangled.{Valuation, variable_value, term_value}
 use Rattle.ent_semantics.specs.Selection.{compares, holds}
 use Rattle.ent_semantics.specs.Term.{no_value, known_value}
-use Rattle.ent_form.specs.declared.fault.FormFault.{FormFault}
 use Rattle.ent_form.specs.declared.fault.FormFault.TheVariants.{WrongKind, Unbound, NoHostVariable}
-use Rattle.ent_form.specs.Entangled.{index_of, demanded_in, member_in, members_from, term_in, terms_in, term_place}
+use Rattle.ent_form.specs.Entangled.{index_of, term_in, terms_in, term_place}
 use Rattle.ent_form.specs.Entangled.{atom_from}
-use Rattle.ent_form.specs.Kinds.{Bound, same_kind, with_kind}
+use Rattle.ent_form.specs.Kinds.{Bound, same_kind}
 use Rattle.ent_form.specs.Lookup.{value_in, values_in, value_place, kind_in, test_in}
-use Rattle.ent_form.specs.Steps.{there, demand}
-use Rattle.ent_meant.proofs.Steps.{same_given, bind_given, demand_given, there_given}
+use Rattle.ent_form.specs.Steps.{there}
+use Rattle.ent_meant.proofs.Steps.{same_given, bind_given, demand_given}
 
 -- a value that is known before any row is read
 pub value_same : (environment : Environment) (bound : Bound) (value : ValueSpecification) (found : Known × Kind)

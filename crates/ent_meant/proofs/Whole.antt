@@ -1,5 +1,5 @@
 -- The parts of a resolved statement together.
-use Rattle.std.proofs.Common.{◌≡◌, List, [], map, length, Result, Ok, refl, sym, ap, ◌∙◌}
+use Rattle.std.proofs.Common.{◌≡◌, List, [], map, length, Ok, sym, ap, ◌∙◌}
 use Rattle.std.specs.List.{flat_map}
 use Rattle.std.proofs.lemmas.List.{length-map}
 use Rattle.ent_tree.specs.declared.entangled.Entangled.{Entangled as TreeEntangled}
