@@ -45,7 +45,8 @@ module _ (environment : Environment) (bound : Bound) where
       → length values ≡ length columns → row_from bound made columns values ≡ Ok out
       → map (known_worth environment) out ≡ map (known_worth environment) made ++ map (known_value environment) values
   row_same [] [] made out l e =
-      ap (map (known_worth environment)) (sym (same_given made out e)) ∙ sym (append-nil (map (known_worth environment) made))
+      ap (map (known_worth environment)) (sym (same_given made out e))
+      ∙ sym (append-nil (map (known_worth environment) made))
   row_same [] (value ∷ values) made out l e = absurd (omega arith)
   row_same (column ∷ columns) [] made out l e = absurd (omega arith)
   row_same (column ∷ columns) (value ∷ values) made out l e =
@@ -83,13 +84,15 @@ module _ (creates : List Create) (tables : Tables) (fitting : AreWide creates ta
 
   pub insert_same : (insert : Insert) (form : Statement Known)
       → insert_in (schemas_of creates) bound insert ≡ Ok form
-      → insertion (table_named insert.table.name) (map (known_value environment) insert.values) (database_of creates tables) environment
+      → insertion (table_named insert.table.name) (map (known_value environment) insert.values)
+      (database_of creates tables) environment
       ≡ effect_of creates (meaning form)
   unfolding insert_in
   insert_same insert form e =
       let name = insert.table.name in
       let found = bind_given (table_in (schemas_of creates) insert.table) _ form e in
-      let there_it_is = there_given (catalogue.table_named (schemas_of creates) name) (NoTable insert.table.place) found.0 found.1 in
+      let there_it_is = there_given (catalogue.table_named (schemas_of creates) name) (NoTable insert.table.place)
+      found.0 found.1 in
       let kept = demand_given (length insert.values == length found.0.1.columns) (Arity insert.place) _ form found.2 in
       let row = bind_given (row_from bound [] found.0.1.columns insert.values) _ form kept.1 in
       let here = told creates tables name 0 found.0 fitting there_it_is in
@@ -101,18 +104,21 @@ module _ (creates : List Create) (tables : Tables) (fitting : AreWide creates ta
       ap (λ values. insertion (table_named name) values (database_of creates tables) environment)
       (sym (row_same environment bound found.0.1.columns insert.values [] row.0 (same_length _ _ kept.0) row.1))
       ∙ insertion_same creates tables name put.0 put.2 environment (map (known_worth environment) row.0) rows
-      ∙ ap (λ (n : ℕ). effect_of creates (insertion (table_numbered n) (map (known_worth environment) row.0) tables environment)) place
+      ∙ ap (λ (n : ℕ). effect_of creates (insertion (table_numbered n) (map (known_worth environment) row.0) tables
+      environment)) place
       ∙ ap (λ (f : Statement Known). effect_of creates (meaning f)) (same_given _ form row.2)
 
   pub delete_same : (delete : Delete) (form : Statement Known)
       → delete_in (schemas_of creates) bound delete ≡ Ok form
-      → deletion (table_named delete.table.name) (meets (table_worth creates environment delete.table.name) delete.tests) (database_of creates tables) environment
+      → deletion (table_named delete.table.name) (meets (table_worth creates environment delete.table.name)
+      delete.tests) (database_of creates tables) environment
       ≡ effect_of creates (meaning form)
   unfolding delete_in
   delete_same delete form e =
       let name = delete.table.name in
       let found = bind_given (table_in (schemas_of creates) delete.table) _ form e in
-      let there_it_is = there_given (catalogue.table_named (schemas_of creates) name) (NoTable delete.table.place) found.0 found.1 in
+      let there_it_is = there_given (catalogue.table_named (schemas_of creates) name) (NoTable delete.table.place)
+      found.0 found.1 in
       let scope = table_scope name found.0 in
       let tests = bind_given (tests_in scope bound delete.tests) _ form found.2 in
       let here = told creates tables name 0 found.0 fitting there_it_is in
@@ -122,11 +128,16 @@ module _ (creates : List Create) (tables : Tables) (fitting : AreWide creates ta
       let rows : database_of creates tables name ≡ (table_numbered put.0).rows tables =
       here.rows ∙ ap (λ (n : ℕ). (table_numbered n).rows tables) (number ∙ sym place) in
       let columns : table_columns creates name name ≡ map name_of scope.columns =
-      ap (map (λ column. record { source = name; column = column })) here.columns ∙ sym (names_seen name found.0.1.columns) in
-      ap (λ columns. deletion (table_named name) (meets (operand_value environment columns) delete.tests) (database_of creates tables) environment) columns
-      ∙ (λ i. deletion (table_named name) (λ row. where_same environment bound scope row delete.tests tests.0 tests.1 i) (database_of creates tables) environment)
-      ∙ deletion_same creates tables name put.0 put.2 environment (meets (operand_worth (known_worth environment)) tests.0) rows
-      ∙ ap (λ (n : ℕ). effect_of creates (deletion (table_numbered n) (meets (operand_worth (known_worth environment)) tests.0) tables environment)) place
+      ap (map (λ column. record { source = name; column = column })) here.columns
+      ∙ sym (names_seen name found.0.1.columns) in
+      ap (λ columns. deletion (table_named name) (meets (operand_value environment columns) delete.tests)
+      (database_of creates tables) environment) columns
+      ∙ (λ i. deletion (table_named name) (λ row. where_same environment bound scope row delete.tests tests.0 tests.1
+      i) (database_of creates tables) environment)
+      ∙ deletion_same creates tables name put.0 put.2 environment
+      (meets (operand_worth (known_worth environment)) tests.0) rows
+      ∙ ap (λ (n : ℕ). effect_of creates (deletion (table_numbered n)
+      (meets (operand_worth (known_worth environment)) tests.0) tables environment)) place
       ∙ ap (λ (f : Statement Known). effect_of creates (meaning f)) (same_given _ form tests.2)
 
   setting_same : (variable : Name) (value : Option Value)
@@ -137,11 +148,13 @@ module _ (creates : List Create) (tables : Tables) (fitting : AreWide creates ta
 
   pub set_same : (set : Set) (form : Statement Known) (after : Bound)
       → set_in bound set ≡ Ok (form, after)
-      → setting set.variable.name (expression_value (known_value environment) set.expression) (database_of creates tables) environment
+      → setting set.variable.name (expression_value (known_value environment) set.expression)
+      (database_of creates tables) environment
       ≡ effect_of creates (meaning form)
   unfolding set_in
   set_same set form after e =
       let found = bind_given (expression_in (values_in bound) set.expression) _ (form, after) e in
-      ap (λ value. setting set.variable.name value (database_of creates tables) environment) (expression_same environment bound set.expression found.0 found.1)
+      ap (λ value. setting set.variable.name value (database_of creates tables) environment)
+      (expression_same environment bound set.expression found.0 found.1)
       ∙ setting_same set.variable.name (expression_value (known_worth environment) found.0.0)
       ∙ ap (λ (both : Statement Known × Bound). effect_of creates (meaning both.0)) (same_given _ (form, after) found.2)

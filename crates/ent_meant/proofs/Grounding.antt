@@ -45,18 +45,21 @@ use Rattle.ent_meant.proofs.Whole.{parts_of, kinds_counted}
 pub same_length : (m n : ℕ) → (m == n) ≡ true → m ≡ n
 same_length m n e = grind (arith, nat_tests)
 
-module _ (environment : Environment) (names : List Name) (valuation : Valuation) (l : length valuation ≡ length names) where
+module _ (environment : Environment) (names : List Name) (valuation : Valuation)
+    (l : length valuation ≡ length names) where
   abbrev said : TreeTerm → Value
   said = worth environment names valuation l
 
   abbrev meant : Term Known → Value
   meant = form_worth environment names valuation l
 
-  variable_meant : (demanded : Bound) (variable : Identifier) (kind : Kind) (earlier : Option Kind) (out : Term Known × Bound)
+  variable_meant : (demanded : Bound) (variable : Identifier) (kind : Kind) (earlier : Option Kind)
+      (out : Term Known × Bound)
       → demanded_in names demanded variable kind earlier ≡ Ok out → said (terms.Variable variable) ≡ meant out.0
   variable_meant demanded variable kind None out e =
       variable_same names valuation variable.name l
-      ∙ ap (λ (o : Term Known × Bound). meant o.0) (same_given (resolved.Variable (index_of names variable.name), with_kind demanded variable.name kind) out e)
+      ∙ ap (λ (o : Term Known × Bound). meant o.0) (same_given
+      (resolved.Variable (index_of names variable.name), with_kind demanded variable.name kind) out e)
   variable_meant demanded variable kind (Some earlier) out e =
       let kept = demand_given (same_kind earlier kind) (WrongKind variable.place) _ out e in
       variable_same names valuation variable.name l
@@ -76,7 +79,8 @@ module _ (environment : Environment) (names : List Name) (valuation : Valuation)
       → members_from names bound made demanded kinds all ≡ Ok out
       → map meant out.0 ≡ map meant made ++ map said all
   members_same bound [] [] made demanded out same e =
-      ap (λ (o : List (Term Known) × Bound). map meant o.0) (sym (same_given (made, demanded) out e)) ∙ sym (append-nil (map meant made))
+      ap (λ (o : List (Term Known) × Bound). map meant o.0) (sym (same_given (made, demanded) out e))
+      ∙ sym (append-nil (map meant made))
   members_same bound [] (term ∷ more) made demanded out same e = absurd (omega arith)
   members_same bound (kind ∷ kinds) [] made demanded out same e = absurd (omega arith)
   members_same bound (kind ∷ kinds) (term ∷ more) made demanded out same e =
@@ -101,8 +105,10 @@ module _ (environment : Environment) (names : List Name) (valuation : Valuation)
         let kept = demand_given (length tuple.terms == length found.0.1) (Arity tuple.place) _ out found.2 in
         let members = bind_given (members_from names bound [] demanded found.0.1 tuple.terms) _ out kept.1 in
         let long : length tuple.terms ≡ length found.0.1 = same_length _ _ kept.0 in
-        let values : map meant members.0.0 ≡ map said tuple.terms = members_same bound found.0.1 tuple.terms [] demanded members.0 long members.1 in
-        (λ i. set.contains (select_same creates tables fitting environment bound select found.0.0 found.0.1 found.1 i) (sym values i))
+        let values : map meant members.0.0 ≡ map said tuple.terms = members_same bound found.0.1 tuple.terms []
+        demanded members.0 long members.1 in
+        (λ i. set.contains (select_same creates tables fitting environment bound select found.0.0 found.0.1 found.1
+        i) (sym values i))
         ∙ ap (λ (o : Membership Known × Bound). holds_there o.0) (same_given _ out members.2)
 
     -- the tuples among conditions are rows of their selects
@@ -124,7 +130,8 @@ module _ (environment : Environment) (names : List Name) (valuation : Valuation)
         memberships_same bound more (made ++ w.0.0 ∷ []) w.0.1 out w.2
         ∙ ap (λ b. b && selects_hold more) (all_behind holds_there made w.0.0)
         ∙ and_assoc (list_all holds_there made) (holds_there w.0.0) (selects_hold more)
-        ∙ ap (λ b. list_all holds_there made && (b && selects_hold more)) (sym (membership_same bound demanded tuple select w.0 w.1))
+        ∙ ap (λ b. list_all holds_there made && (b && selects_hold more))
+        (sym (membership_same bound demanded tuple select w.0 w.1))
     memberships_same bound (conditions.InAnswer tuple relation ∷ more) made demanded out e =
         memberships_same bound more made demanded out e
     memberships_same bound (conditions.Test test ∷ more) made demanded out e =
@@ -156,26 +163,36 @@ module _ (creates : List Create) (tables : Tables) (fitting : AreWide creates ta
 
   -- under a value for each variable
   long_enough : (l : length valuation ≡ length (variables_of tree))
-      → list_all (condition_holds creates (database_of creates tables) environment (term_value environment (variable_value (variables_of tree) valuation))) tree.conditions
-      ≡ (list_all (membership_holds (known_worth environment) tables valuation) form.atoms && list_all (holds (term_worth (known_worth environment) valuation)) form.tests)
+      → list_all (condition_holds creates (database_of creates tables) environment
+      (term_value environment (variable_value (variables_of tree) valuation))) tree.conditions
+      ≡ (list_all (membership_holds (known_worth environment) tables valuation) form.atoms && list_all
+      (holds (term_worth (known_worth environment) valuation)) form.tests)
   long_enough l =
       let parts = parts_of (schemas_of creates) bound after tree form e in
-      let selects = memberships_same environment names valuation l creates tables fitting bound tree.conditions [] none_bound parts.body parts.body_given in
-      let tests = (others_same environment names valuation l parts.body.1 bound tree.conditions [] [] parts.others parts.others_given).1 in
+      let selects = memberships_same environment names valuation l creates tables fitting bound tree.conditions []
+      none_bound parts.body parts.body_given in
+      let tests = (others_same environment names valuation l parts.body.1 bound tree.conditions [] [] parts.others
+      parts.others_given).1 in
       body_apart environment names valuation l creates tables fitting tree.conditions
       ∙ (λ i. sym selects i && sym tests i)
-      ∙ (λ i. list_all (membership_holds (known_worth environment) tables valuation) (sym parts.atoms_are i) && list_all (holds (term_worth (known_worth environment) valuation)) (sym parts.tests_are i))
+      ∙ (λ i. list_all (membership_holds (known_worth environment) tables valuation) (sym parts.atoms_are i) &&
+      list_all (holds (term_worth (known_worth environment) valuation)) (sym parts.tests_are i))
 
   counted : (b : Bool) → (length valuation == length (variables_of tree)) ≡ b
-      → (b && list_all (condition_holds creates (database_of creates tables) environment (term_value environment (variable_value (variables_of tree) valuation))) tree.conditions)
-      ≡ (b && (list_all (membership_holds (known_worth environment) tables valuation) form.atoms && list_all (holds (term_worth (known_worth environment) valuation)) form.tests))
+      → (b && list_all (condition_holds creates (database_of creates tables) environment
+      (term_value environment (variable_value (variables_of tree) valuation))) tree.conditions)
+      ≡ (b && (list_all (membership_holds (known_worth environment) tables valuation) form.atoms && list_all
+      (holds (term_worth (known_worth environment) valuation)) form.tests))
   counted true here = long_enough (same_length _ _ here)
   counted false here = refl
 
   pub grounding_same : is_grounding creates (database_of creates tables) environment tree valuation
       ≡ is_form_grounding (known_worth environment) tables form valuation
   grounding_same =
-      ap (λ names. (length valuation == length names) && list_all (condition_holds creates (database_of creates tables) environment (term_value environment (variable_value names valuation))) tree.conditions) (sym (variables_written tree))
+      ap (λ names. (length valuation == length names) && list_all
+      (condition_holds creates (database_of creates tables) environment
+      (term_value environment (variable_value names valuation))) tree.conditions) (sym (variables_written tree))
       ∙ counted (length valuation == length (variables_of tree)) refl
-      ∙ ap (λ n. (length valuation == n) && (list_all (membership_holds (known_worth environment) tables valuation) form.atoms && list_all (holds (term_worth (known_worth environment) valuation)) form.tests))
+      ∙ ap (λ n. (length valuation == n) && (list_all (membership_holds (known_worth environment) tables valuation)
+      form.atoms && list_all (holds (term_worth (known_worth environment) valuation)) form.tests))
       (ap length (variables_written tree) ∙ sym (kinds_counted (schemas_of creates) bound after tree form e))

@@ -30,7 +30,8 @@ put_here create more rows tables name e new other =
     let same : same_name other name ≡ same_name create.name.name other =
     ap (same_name other) (sym (equal_names create.name.name name e)) ∙ names_turned other create.name.name in
     ap (λ (b : Bool). if b then new else (if same_name create.name.name other then rows else rest)) same
-    ∙ elim (same_name create.name.name other) as (λ b. (if b then new else (if b then rows else rest)) ≡ (if b then new else rest)) [
+    ∙ elim (same_name create.name.name other) as (λ b. (if b then new else (if b then rows else rest))
+    ≡ (if b then new else rest)) [
       | true ↦ refl
       | false ↦ refl
     ]
@@ -46,7 +47,8 @@ put_later create more rows tables name number e behind new other =
     → (if same_name other name then new else (if b then rows else database_of more tables other))
     ≡ (if b then rows else database_of more (slice_set tables number new) other)) [
       | true ↦ λ same.
-          let differs : same_name other name ≡ false = ap (λ x. same_name x name) (sym (equal_names create.name.name other same)) ∙ e in
+          let differs : same_name other name ≡ false = ap (λ x. same_name x name)
+          (sym (equal_names create.name.name other same)) ∙ e in
           ap (λ (b : Bool). if b then new else rows) differs
       | false ↦ λ _. behind new other
     ] refl
@@ -85,22 +87,33 @@ module _ (creates : List Create) (tables : Tables) (name : Name) (number : ℕ) 
   changed_same count rows =
       elim (nat_le (set.len rows) MOST_ROWS) as (λ b.
       choose b (with_rows (database_of creates tables) name rows) ≡ effect_of creates (pick b)) [
-        | true ↦ (λ i. Ok (record { database = λ other. put rows other i; environment = environment; answer = answers.Count count }))
+        | true ↦ put_there
         | false ↦ refl
       ]
     where
       choose : Bool → Database → Result (Effect Database) Failure
-      choose b database = if b then Ok (record { database = database; environment = environment; answer = answers.Count count }) else Err TableFull
+      choose b database =
+          if b
+          then Ok (record { database = database; environment = environment; answer = answers.Count count })
+          else Err TableFull
 
       pick : Bool → Result (Effect Tables) Failure
-      pick b = if b then Ok (record { database = slice_set tables number rows; environment = environment; answer = answers.Count count }) else Err TableFull
+      pick b =
+          let left = slice_set tables number rows in
+          if b
+          then Ok (record { database = left; environment = environment; answer = answers.Count count })
+          else Err TableFull
+
+      put_there : choose true (with_rows (database_of creates tables) name rows) ≡ effect_of creates (pick true)
+      put_there = λ i. choose true (λ other. put rows other i)
 
   pub insertion_same : (row : List Value)
       → database_of creates tables name ≡ (table_numbered number).rows tables
       → insertion (table_named name) row (database_of creates tables) environment
       ≡ effect_of creates (insertion (table_numbered number) row tables environment)
   insertion_same row e =
-      ap (λ rows. changed (table_named name) (if set.contains rows row then 0 else 1) (set.insert rows row) (database_of creates tables) environment) e
+      ap (λ rows. changed (table_named name) (if set.contains rows row then 0 else 1) (set.insert rows row)
+      (database_of creates tables) environment) e
       ∙ changed_same _ _
 
   pub deletion_same : (matches : List Value → Bool)
@@ -108,13 +121,14 @@ module _ (creates : List Create) (tables : Tables) (name : Name) (number : ℕ) 
       → deletion (table_named name) matches (database_of creates tables) environment
       ≡ effect_of creates (deletion (table_numbered number) matches tables environment)
   deletion_same matches e =
-      ap (λ (rows : Rows). let r : Result (Effect Database) Failure = Ok (record {
-        database = with_rows (database_of creates tables) name (unmatched matches rows);
-        environment = environment;
-        answer = answers.Count (set.len (matched matches rows));
-      }) in r) e
-      ∙ (λ i. Ok (record {
-        database = λ other. put (unmatched matches ((table_numbered number).rows tables)) other i;
-        environment = environment;
-        answer = answers.Count (set.len (matched matches ((table_numbered number).rows tables)));
-      }))
+      ap (λ (rows : Rows). left (with_rows (database_of creates tables) name (unmatched matches rows)) rows) e
+      ∙ (λ i. left (λ other. put (unmatched matches ((table_numbered number).rows tables)) other i)
+      ((table_numbered number).rows tables))
+    where
+      left : Database → Rows → Result (Effect Database) Failure
+      left database rows =
+          Ok (record {
+            database = database;
+            environment = environment;
+            answer = answers.Count (set.len (matched matches rows));
+          })

@@ -32,10 +32,12 @@ combinations_wide (rows ∷ more) (width ∷ widths) h =
         (flat_map (λ row. map (λ others. row ++ others) (combinations more)) rows)
     front [] here rest = tt
     front (row ∷ rows) here rest =
-        let longer : (others : List Value) → length others ≡ total widths → length (row ++ others) ≡ total (width ∷ widths) =
+        let longer : (others : List Value) → length others ≡ total widths → length (row ++ others)
+        ≡ total (width ∷ widths) =
         λ others e. let a = length-append row others in let b = here.0 in omega arith in
         all_append (λ row. length row ≡ total (width ∷ widths)) (map (λ others. row ++ others) (combinations more)) _
-        (all_map (λ row. length row ≡ total widths) (λ row. length row ≡ total (width ∷ widths)) (λ others. row ++ others) longer (combinations more) rest)
+        (all_map (λ row. length row ≡ total widths) (λ row. length row ≡ total (width ∷ widths))
+        (λ others. row ++ others) longer (combinations more) rest)
         (front rows here.1 rest)
 
 -- two ways to match and to show agree on rows of a width

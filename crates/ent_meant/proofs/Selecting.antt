@@ -28,9 +28,11 @@ use Rattle.ent_form.specs.declared.fault.FormFault.TheVariants.{WrongKind, NoTab
 use Rattle.ent_form.specs.Catalogue.{schemas_of, is_among}
 use Rattle.ent_form.specs.Kinds.{Bound, same_kind}
 use Rattle.ent_form.specs.Lookup.{value_in, operand_place, operand_in, operands_in, test_in}
-use Rattle.ent_form.specs.Ordinary.{tests_from, tests_in, Shown, with_item, items_from, columns_from, all_shown, items_in}
+use Rattle.ent_form.specs.Ordinary.{tests_from, tests_in, Shown, with_item, items_from, columns_from, all_shown}
+use Rattle.ent_form.specs.Ordinary.{items_in}
 use Rattle.ent_form.specs.Ordinary.{select_in}
-use Rattle.ent_form.specs.Scope.{Visible, Scope, no_source, sources_in, referred_from, only_one, qualifier_in, column_in}
+use Rattle.ent_form.specs.Scope.{Visible, Scope, no_source, sources_in, referred_from, only_one, qualifier_in}
+use Rattle.ent_form.specs.Scope.{column_in}
 use Rattle.ent_meant.specs.Tables.{database_of, AreWide}
 use Rattle.ent_meant.proofs.Rows.{combinations_wide, selected_alike}
 use Rattle.ent_meant.proofs.Sources.{name_of, sources_seen}
@@ -61,9 +63,11 @@ first_meant (column ∷ columns) [] reference first found rest e =
     counted [] first e = cc
     counted (column ∷ columns) first e =
         elim (refers_to reference column.column) as (λ b.
-        (if b then ((first, column.kind) ∷ referred_from (suc first) columns reference) else referred_from (suc first) columns reference) ≡ found ∷ rest
+        (if b then ((first, column.kind) ∷ referred_from (suc first) columns reference) else referred_from
+        (suc first) columns reference) ≡ found ∷ rest
         → (number : ℕ) × (found.0 ≡ first + number)) [
-          | true ↦ λ here. (0, (let same = ap (λ (x : ℕ × Kind). x.0) (head_same (first, column.kind) found _ _ here) in omega arith))
+          | true ↦ λ here. (0, (let same = ap (λ (x : ℕ × Kind). x.0) (head_same (first, column.kind) found _ _ here)
+              in omega arith))
           | false ↦ λ later. let w = counted columns (suc first) later in (suc w.0, (let same = w.1 in omega arith))
         ] e
 first_meant (column ∷ columns) (value ∷ row) reference first found rest e =
@@ -73,13 +77,16 @@ first_meant (column ∷ columns) (value ∷ row) reference first found rest e =
     head_same x y xs ys e = cc
 
     by : (b : Bool)
-        → (if b then ((first, column.kind) ∷ referred_from (suc first) columns reference) else referred_from (suc first) columns reference) ≡ found ∷ rest
+        → (if b then ((first, column.kind) ∷ referred_from (suc first) columns reference) else referred_from
+        (suc first) columns reference) ≡ found ∷ rest
         → (referred_from (suc first) columns reference ≡ found ∷ rest → (number : ℕ) × (found.0 ≡ suc first + number)
         × (column_value (map name_of columns) row reference ≡ slice_index_or row number no_value))
         → (number : ℕ) × (found.0 ≡ first + number)
-        × ((if b then value else column_value (map name_of columns) row reference) ≡ slice_index_or (value ∷ row) number no_value)
+        × ((if b then value else column_value (map name_of columns) row reference)
+        ≡ slice_index_or (value ∷ row) number no_value)
     by true here later =
-        (0, (let same = ap (λ (x : ℕ × Kind). x.0) (head_same (first, column.kind) found _ _ here) in omega arith), refl)
+        (0, (let same = ap (λ (x : ℕ × Kind). x.0) (head_same (first, column.kind) found _ _ here) in omega arith),
+        refl)
     by false here later = let w = later here in (suc w.0, (let same = w.1 in omega arith), w.2)
 
 one_meant : (all : List (ℕ × Kind)) (place : ℕ) (found : ℕ × Kind) → only_one all place ≡ Ok found → all ≡ found ∷ []
@@ -89,7 +96,8 @@ one_meant (x ∷ y ∷ more) place found e = cc
 
 unqualified : {A : Type 0} (names : List Name) (qualifier : Option Identifier) (more : Result A FormFault) (x : A)
     → qualifier_in names qualifier more ≡ Ok x → more ≡ Ok x
-unqualified names (Some qualifier) more x e = (demand_given (is_among names qualifier.name) (NoTable qualifier.place) more x e).1
+unqualified names (Some qualifier) more x e = (demand_given (is_among names qualifier.name) (NoTable qualifier.place)
+    more x e).1
 unqualified names None more x e = e
 
 column_same : (scope : Scope) (row : List Value) (reference : ColumnReference) (found : ℕ × Kind)
@@ -129,7 +137,8 @@ module _ (environment : Environment) (bound : Bound) (scope : Scope) where
       let left = bind_given (operand_in scope bound test.left) _ form e in
       let right = bind_given (operand_in scope bound test.right) _ form left.2 in
       let kept = demand_given (same_kind left.0.1 right.0.1) (WrongKind (operand_place test.right)) _ form right.2 in
-      (λ i. compares test.comparison (value_cmp (operand_same row test.left left.0 left.1 i) (operand_same row test.right right.0 right.1 i)))
+      (λ i. compares test.comparison (value_cmp (operand_same row test.left left.0 left.1 i)
+      (operand_same row test.right right.0 right.1 i)))
       ∙ ap (λ (form : Test (Operand Known)). holds (meant row) form) (same_given _ form kept.1)
 
   and_assoc : (a b c : Bool) → ((a && b) && c) ≡ (a && (b && c))
@@ -165,7 +174,8 @@ module _ (environment : Environment) (bound : Bound) (scope : Scope) where
       → items_from (operands_in scope bound) shown listed ≡ Ok out
       → map (meant row) out.0 ≡ map (meant row) shown.0 ++ map (said row) listed
   listed_same row [] shown out e =
-      ap (λ (s : Shown). map (meant row) s.0) (sym (same_given shown out e)) ∙ sym (append-nil (map (meant row) shown.0))
+      ap (λ (s : Shown). map (meant row) s.0) (sym (same_given shown out e))
+      ∙ sym (append-nil (map (meant row) shown.0))
   listed_same row (item ∷ more) shown out e =
       let w = bind_given (operand_in scope bound item) _ out e in
       listed_same row more (with_item shown w.0) out w.2
@@ -174,17 +184,20 @@ module _ (environment : Environment) (bound : Bound) (scope : Scope) where
       ∙ ap (λ x. map (meant row) shown.0 ++ x ∷ map (said row) more) (sym (operand_same row item w.0 w.1))
 
   -- the columns from a number on show the values from that number on
-  columns_shown : (before row : List Value) (columns : List Visible) (first : ℕ) → length before ≡ first → length row ≡ length columns
+  columns_shown : (before row : List Value) (columns : List Visible) (first : ℕ) → length before ≡ first → length row
+      ≡ length columns
       → map (meant (before ++ row)) (columns_from first columns) ≡ row
   columns_shown before [] [] first is l = refl
   columns_shown before [] (column ∷ columns) first is l = absurd (omega arith)
   columns_shown before (value ∷ row) [] first is l = absurd (omega arith)
   columns_shown before (value ∷ row) (column ∷ columns) first is l =
       let longer : length (before ++ value ∷ []) ≡ suc first = omega (arith, length-append before (value ∷ [])) in
-      let here : slice_index_or (before ++ value ∷ row) first no_value ≡ value = get_or_at before value row no_value first is in
+      let here : slice_index_or (before ++ value ∷ row) first no_value
+      ≡ value = get_or_at before value row no_value first is in
       let rest : map (meant ((before ++ value ∷ []) ++ row)) (columns_from (suc first) columns) ≡ row =
       columns_shown (before ++ value ∷ []) row columns (suc first) longer (omega arith) in
-      λ i. here i ∷ (ap (λ (r : List Value). map (meant r) (columns_from (suc first) columns)) (sym (append_assoc before (value ∷ []) row)) ∙ rest) i
+      λ i. here i ∷ (ap (λ (r : List Value). map (meant r) (columns_from (suc first) columns))
+      (sym (append_assoc before (value ∷ []) row)) ∙ rest) i
 
   pub items_same : (row : List Value) (all : Items) (out : Shown) → length row ≡ length scope.columns
       → items_in scope bound all ≡ Ok out → item_row said all row ≡ map (meant row) out.0
@@ -198,7 +211,8 @@ module _ (environment : Environment) (bound : Bound) (scope : Scope) where
 module _ (creates : List Create) (tables : Tables) (fitting : AreWide creates tables) (environment : Environment) where
   pub select_same : (bound : Bound) (select : TreeSelect) (form : Select Known) (kinds : List Kind)
       → select_in (schemas_of creates) bound select ≡ Ok (form, kinds)
-      → select_rows creates (database_of creates tables) environment select ≡ form_rows (known_worth environment) tables form
+      → select_rows creates (database_of creates tables) environment select
+      ≡ form_rows (known_worth environment) tables form
   unfolding select_in
   select_same bound select form kinds e =
       let found = bind_given (sources_in (schemas_of creates) select.sources) _ (form, kinds) e in
@@ -208,15 +222,20 @@ module _ (creates : List Create) (tables : Tables) (fitting : AreWide creates ta
       let seen = sources_seen creates tables fitting select.sources no_source scope found.1 in
       let made : record { sources = scope.tables; items = shown.0.0; tests = tests.0 } ≡ form =
       ap (λ (both : Select Known × List Kind). both.0) (same_given _ (form, kinds) shown.2) in
-      let wide : AllByRecursion (λ row. length row ≡ length scope.columns) (combinations (map (λ source. database_of creates tables source.table.name) select.sources)) =
-      subst (λ n. AllByRecursion (λ row. length row ≡ n) (combinations (map (λ source. database_of creates tables source.table.name) select.sources)))
+      let wide : AllByRecursion (λ row. length row ≡ length scope.columns)
+      (combinations (map (λ source. database_of creates tables source.table.name) select.sources)) =
+      subst (λ n. AllByRecursion (λ row. length row ≡ n)
+      (combinations (map (λ source. database_of creates tables source.table.name) select.sources)))
       (let t = seen.counted in omega arith) (combinations_wide _ seen.widths seen.wide) in
-      ap (λ columns. selection (meets (operand_value environment columns) select.tests) (item_row (operand_value environment columns) select.items) (map (λ source. database_of creates tables source.table.name) select.sources)) (sym seen.columns)
+      ap (λ columns. selection (meets (operand_value environment columns) select.tests)
+      (item_row (operand_value environment columns) select.items)
+      (map (λ source. database_of creates tables source.table.name) select.sources)) (sym seen.columns)
       ∙ selected_alike (length scope.columns)
       (meets (said environment bound scope) select.tests) (meets (meant environment bound scope) tests.0)
       (item_row (said environment bound scope) select.items) (λ row. map (meant environment bound scope row) shown.0.0)
       (λ row l. where_same environment bound scope row select.tests tests.0 tests.1)
       (λ row l. items_same environment bound scope row select.items shown.0 l shown.1)
       (map (λ source. database_of creates tables source.table.name) select.sources) wide
-      ∙ ap (selection (meets (meant environment bound scope) tests.0) (λ row. map (meant environment bound scope row) shown.0.0)) (sym seen.rows)
+      ∙ ap (selection (meets (meant environment bound scope) tests.0)
+      (λ row. map (meant environment bound scope row) shown.0.0)) (sym seen.rows)
       ∙ ap (form_rows (known_worth environment) tables) made

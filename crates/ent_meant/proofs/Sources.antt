@@ -32,12 +32,14 @@ abbrev pub OfWidth : ℕ → Rows → Type 0
 OfWidth width rows = AllByRecursion (λ row. length row ≡ width) (set.ascending rows)
 
 names_again : (columns : List Column)
-    → map (λ (column : ColumnSchema). column.name) (map column_schema columns) ≡ map (λ column. column.name.name) columns
+    → map (λ (column : ColumnSchema). column.name) (map column_schema columns)
+    ≡ map (λ column. column.name.name) columns
 names_again [] = refl
 names_again (column ∷ columns) = ap (λ xs. column.name.name ∷ xs) (names_again columns)
 
 -- what a table that is found tells of its name
-pub record Told (creates : List Create) (tables : Tables) (name : Name) (first : ℕ) (found : ℕ × TableSchema) : Type 0 where
+pub record Told (creates : List Create) (tables : Tables) (name : Name) (first : ℕ) (found : ℕ × TableSchema) : Type
+    0 where
   pub number : ℕ
   pub counted : found.0 ≡ first + number
   pub columns : columns_of creates name ≡ map (λ column. column.name) found.1.columns
@@ -54,7 +56,8 @@ told_here create more rows tables name first found same wide e =
     (record {
       number = 0;
       counted = omega arith;
-      columns = ap (λ b. if b then map (λ column. column.name.name) create.columns else columns_of more name) same ∙ sym (names_again create.columns);
+      columns = ap (λ b. if b then map (λ column. column.name.name) create.columns else columns_of more name) same
+      ∙ sym (names_again create.columns);
       rows = ap (λ (b : Bool). if b then rows else database_of more tables name) same;
       wide = subst (λ n. OfWidth n rows) (sym (length-map create.columns column_schema)) wide;
     })
@@ -69,7 +72,8 @@ told_later create more rows tables name first found other told =
     record {
       number = suc told.number;
       counted = let e = told.counted in omega arith;
-      columns = ap (λ b. if b then map (λ column. column.name.name) create.columns else columns_of more name) other ∙ told.columns;
+      columns = ap (λ b. if b then map (λ column. column.name.name) create.columns else columns_of more name) other
+      ∙ told.columns;
       rows = ap (λ (b : Bool). if b then rows else database_of more tables name) other ∙ told.rows;
       wide = told.wide;
     }
@@ -85,7 +89,8 @@ told (create ∷ more) (rows ∷ tables) name first found wide e =
     → (if b then Some (first, table_schema create) else table_from (suc first) (schemas_of more) name) ≡ Some found
     → Told (create ∷ more) (rows ∷ tables) name first found) [
       | true ↦ λ same here. told_here create more rows tables name first found same wide.0 here
-      | false ↦ λ other later. told_later create more rows tables name first found other (told more tables name (suc first) found wide.1 later)
+      | false ↦ λ other later. told_later create more rows tables name first found other
+          (told more tables name (suc first) found wide.1 later)
     ] refl e
 
 -- widths side by side
@@ -104,7 +109,8 @@ pub names_seen : (source : Name) (columns : List ColumnSchema)
     → map name_of (map (visible source) columns)
     ≡ map (λ column. record { source = source; column = column }) (map (λ (column : ColumnSchema). column.name) columns)
 names_seen source [] = refl
-names_seen source (column ∷ columns) = ap (λ xs. record { source = source; column = column.name } ∷ xs) (names_seen source columns)
+names_seen source (column ∷ columns) = ap (λ xs. record { source = source; column = column.name } ∷ xs)
+    (names_seen source columns)
 
 module _ (creates : List Create) (tables : Tables) (fitting : AreWide creates tables) where
   abbrev pub source_rows_of : Source → Rows
@@ -125,37 +131,42 @@ module _ (creates : List Create) (tables : Tables) (fitting : AreWide creates ta
       record {
         widths = [];
         columns = ap (λ (s : Scope). map name_of s.columns) (sym is) ∙ sym (append-nil (map name_of scope.columns));
-        rows = ap (λ (s : Scope). map (rows_at tables) s.tables) (sym is) ∙ sym (append-nil (map (rows_at tables) scope.tables));
+        rows = ap (λ (s : Scope). map (rows_at tables) s.tables) (sym is)
+        ∙ sym (append-nil (map (rows_at tables) scope.tables));
         wide = tt;
-        counted = let same : length out.columns ≡ length scope.columns = ap (λ (s : Scope). length s.columns) (sym is) in omega arith;
+        counted = let same : length out.columns ≡ length scope.columns = ap (λ (s : Scope). length s.columns)
+        (sym is) in omega arith;
       }
   sources_seen (source ∷ more) scope out e =
       let name = source_name source in
-      let w = bind_given (there (table_named (schemas_of creates) source.table.name) (NoTable source.table.place)) _ out e in
+      let w = bind_given (there (table_named (schemas_of creates) source.table.name) (NoTable source.table.place)) _
+      out e in
       let found : ℕ × TableSchema = w.0 in
       let kept = demand_given (not (is_among scope.names name)) (Ambiguous (source_place source)) _ out w.2 in
-      let here = told creates tables source.table.name 0 found fitting (there_given (table_named (schemas_of creates) source.table.name) (NoTable source.table.place) found w.1) in
+      let here = told creates tables source.table.name 0 found fitting
+      (there_given (table_named (schemas_of creates) source.table.name) (NoTable source.table.place) found w.1) in
       let rest = sources_seen more (with_source scope name found) out kept.1 in
       let seen : List Visible = map (visible name) found.1.columns in
       let number : found.0 ≡ here.number = let c = here.counted in omega arith in
       record {
         widths = length found.1.columns ∷ rest.widths;
         columns =
-          rest.columns
-          ∙ ap (λ xs. xs ++ source_columns creates more) (map-append name_of scope.columns seen)
-          ∙ append_assoc (map name_of scope.columns) (map name_of seen) (source_columns creates more)
-          ∙ ap (λ xs. map name_of scope.columns ++ (xs ++ source_columns creates more))
-          (names_seen name found.1.columns ∙ ap (map (λ column. record { source = name; column = column })) (sym here.columns));
+            rest.columns
+            ∙ ap (λ xs. xs ++ source_columns creates more) (map-append name_of scope.columns seen)
+            ∙ append_assoc (map name_of scope.columns) (map name_of seen) (source_columns creates more)
+            ∙ ap (λ xs. map name_of scope.columns ++ (xs ++ source_columns creates more))
+            (names_seen name found.1.columns ∙ ap (map (λ column. record { source = name; column = column }))
+            (sym here.columns));
         rows =
-          rest.rows
-          ∙ ap (λ xs. xs ++ map source_rows_of more) (map-append (rows_at tables) scope.tables (found.0 ∷ []))
-          ∙ append_assoc (map (rows_at tables) scope.tables) (rows_at tables found.0 ∷ []) (map source_rows_of more)
-          ∙ ap (λ (r : Rows). map (rows_at tables) scope.tables ++ r ∷ map source_rows_of more)
-          (ap (rows_at tables) number ∙ sym here.rows);
+            rest.rows
+            ∙ ap (λ xs. xs ++ map source_rows_of more) (map-append (rows_at tables) scope.tables (found.0 ∷ []))
+            ∙ append_assoc (map (rows_at tables) scope.tables) (rows_at tables found.0 ∷ []) (map source_rows_of more)
+            ∙ ap (λ (r : Rows). map (rows_at tables) scope.tables ++ r ∷ map source_rows_of more)
+            (ap (rows_at tables) number ∙ sym here.rows);
         wide = (subst (λ (r : Rows). OfWidth (length found.1.columns) r) (sym here.rows) here.wide, rest.wide);
         counted =
-          let t = rest.counted in
-          let a = length-append scope.columns seen in
-          let b = length-map found.1.columns (visible name) in
-          omega arith;
+            let t = rest.counted in
+            let a = length-append scope.columns seen in
+            let b = length-map found.1.columns (visible name) in
+            omega arith;
       }

@@ -35,7 +35,8 @@ value_same environment bound (specifications.HostVariable variable) found e =
     let w = bind_given (there (bound variable.name) (NoHostVariable variable.place)) _ found e in
     ap (λ (found : Known × Kind). known_worth environment found.0) (same_given _ found w.2)
 
-pub kind_value_same : (environment : Environment) (bound : Bound) (kind : Kind) (value : ValueSpecification) (form : Known)
+pub kind_value_same : (environment : Environment) (bound : Bound) (kind : Kind) (value : ValueSpecification)
+    (form : Known)
     → kind_in (values_in bound) kind value ≡ Ok form → known_value environment value ≡ known_worth environment form
 kind_value_same environment bound kind value form e =
     let w = bind_given (value_in bound value) _ form e in
@@ -56,7 +57,8 @@ variable_same (first ∷ names) (value ∷ valuation) name l =
       | false ↦ rest
     ]
 
-module _ (environment : Environment) (names : List Name) (valuation : Valuation) (l : length valuation ≡ length names) where
+module _ (environment : Environment) (names : List Name) (valuation : Valuation)
+    (l : length valuation ≡ length names) where
   -- what a term of the statement is worth, and what a term of the form is
   abbrev pub worth : TreeTerm → Value
   worth term = term_value environment (variable_value names valuation) term
@@ -82,12 +84,14 @@ module _ (environment : Environment) (names : List Name) (valuation : Valuation)
       let left = bind_given (term_in names demanded bound test.left) _ form e in
       let right = bind_given (term_in names demanded bound test.right) _ form left.2 in
       let kept = demand_given (same_kind left.0.1 right.0.1) (WrongKind (term_place test.right)) _ form right.2 in
-      (λ i. compares test.comparison (value_cmp (term_same demanded bound test.left left.0 left.1 i) (term_same demanded bound test.right right.0 right.1 i)))
+      (λ i. compares test.comparison (value_cmp (term_same demanded bound test.left left.0 left.1 i)
+      (term_same demanded bound test.right right.0 right.1 i)))
       ∙ ap (λ (form : Test (Term Known)). holds form_worth form) (same_given _ form kept.1)
 
   pub atom_same : (demanded bound : Bound) (all : List TreeTerm) (made forms : List (Term Known))
       → atom_from names demanded bound made all ≡ Ok forms → map form_worth forms ≡ map form_worth made ++ map worth all
-  atom_same demanded bound [] made forms e = ap (map form_worth) (sym (same_given made forms e)) ∙ sym (append-nil (map form_worth made))
+  atom_same demanded bound [] made forms e = ap (map form_worth) (sym (same_given made forms e))
+      ∙ sym (append-nil (map form_worth made))
   atom_same demanded bound (term ∷ more) made forms e =
       let w = bind_given (term_in names demanded bound term) _ forms e in
       atom_same demanded bound more (made ++ w.0.0 ∷ []) forms w.2

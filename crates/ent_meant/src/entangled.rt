@@ -18,25 +18,26 @@ ghost use Rattle.ent_meant.specs.Tables.{database_of, AreWide};
 /// The variables of the form are the written variables of the statement, in the same order.
 pub fn variables_are_the_written_ones()
     ensures names { (entangled : TreeEntangled) → variables_of entangled ≡ written_variables entangled }
-    ensures kinds { (tables : List TableSchema) (bound after : Bound) (entangled : TreeEntangled) (form : Entangled Known)
+    ensures kinds { (tables : List TableSchema) (bound after : Bound) (entangled : TreeEntangled)
+        → (form : Entangled Known)
         → entangled_in tables bound entangled ≡ Ok (form, after)
         → length form.variables ≡ length (written_variables entangled) }
 {}
 
 /// Under a value for each written variable, the form has the heads, the posts and the bound values of the statement.
 pub fn resolved_offers_and_demands_the_same()
-    ensures heads { (tables : List TableSchema) (bound after : Bound) (entangled : TreeEntangled) (form : Entangled Known)
-        → (environment : Environment) (valuation : Valuation)
+    ensures heads { (tables : List TableSchema) (bound after : Bound) (entangled : TreeEntangled)
+        → (form : Entangled Known) (environment : Environment) (valuation : Valuation)
         → entangled_in tables bound entangled ≡ Ok (form, after)
         → length valuation ≡ length (written_variables entangled)
         → heads environment entangled valuation ≡ form_heads (known_worth environment) form valuation }
-    ensures posts { (tables : List TableSchema) (bound after : Bound) (entangled : TreeEntangled) (form : Entangled Known)
-        → (environment : Environment) (valuation : Valuation)
+    ensures posts { (tables : List TableSchema) (bound after : Bound) (entangled : TreeEntangled)
+        → (form : Entangled Known) (environment : Environment) (valuation : Valuation)
         → entangled_in tables bound entangled ≡ Ok (form, after)
         → length valuation ≡ length (written_variables entangled)
         → posts environment entangled valuation ≡ form_posts (known_worth environment) form valuation }
-    ensures bound { (tables : List TableSchema) (bound after : Bound) (entangled : TreeEntangled) (form : Entangled Known)
-        → (environment : Environment) (valuation : Valuation)
+    ensures bound { (tables : List TableSchema) (bound after : Bound) (entangled : TreeEntangled)
+        → (form : Entangled Known) (environment : Environment) (valuation : Valuation)
         → entangled_in tables bound entangled ≡ Ok (form, after)
         → length valuation ≡ length (written_variables entangled)
         → bound_values environment entangled valuation ≡ form_bound (known_worth environment) form valuation }

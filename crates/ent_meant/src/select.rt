@@ -13,8 +13,8 @@ ghost use Rattle.ent_form.specs.Kinds.{Bound};
 ghost use Rattle.ent_form.specs.Ordinary.{select_in};
 ghost use Rattle.ent_meant.specs.Tables.{database_of, AreWide};
 
-/// Over tables whose rows have a value for each column, a resolved SELECT has the rows that the SELECT has over the same
-/// tables under their names.
+/// Over tables whose rows have a value for each column, a resolved SELECT has the rows that the SELECT has over the
+/// same tables under their names.
 pub fn resolved_selects_the_same()
     ensures { (creates : List Create) (tables : Tables) (environment : Environment) (bound : Bound)
         → (select : TreeSelect) (form : Select Known) (kinds : List Kind)
