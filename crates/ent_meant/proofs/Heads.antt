@@ -79,16 +79,20 @@ module _ (environment : Environment) (names : List Name) (valuation : Valuation)
       → (out.terms ≡ offer.terms ++ found.0 ∷ [])
       × (map bound_value out.binds ≡ map bound_value offer.binds ++ binds_of binds (meant found.0))
   bind_same offer None found out e =
-      let made : with_term offer found.0 ≡ out = same_given (with_term offer found.0) out e in
-      (ap (λ (o : Offer). o.terms) (sym made), ap (λ (o : Offer). map bound_value o.binds) (sym made)
-      ∙ sym (append-nil (map bound_value offer.binds)))
+      let made : with_term offer found.0 ≡ out = same_given (with_term offer found.0) out e in (
+        ap (λ (o : Offer). o.terms) (sym made),
+        ap (λ (o : Offer). map bound_value o.binds) (sym made)
+            ∙ sym (append-nil (map bound_value offer.binds)),
+      )
   bind_same offer (Some variable) found out e =
       let kept = demand_given (not (is_among (map (λ binding. binding.name) offer.bound) variable.name))
       (Repeated variable.place) (Ok (with_bind offer variable.name found)) out e in
       let made : with_bind offer variable.name found
-      ≡ out = same_given (with_bind offer variable.name found) out kept.1 in
-      (ap (λ (o : Offer). o.terms) (sym made), ap (λ (o : Offer). map bound_value o.binds) (sym made)
-      ∙ map-append bound_value offer.binds (record { variable = variable.name; term = found.0 } ∷ []))
+      ≡ out = same_given (with_bind offer variable.name found) out kept.1 in (
+        ap (λ (o : Offer). o.terms) (sym made),
+        ap (λ (o : Offer). map bound_value o.binds) (sym made)
+            ∙ map-append bound_value offer.binds (record { variable = variable.name; term = found.0 } ∷ []),
+      )
 
   pub offer_same : (demanded bound : Bound) (items : List EntangledItem) (offer out : Offer)
       → offer_from names demanded bound offer items ≡ Ok out
@@ -96,10 +100,12 @@ module _ (environment : Environment) (names : List Name) (valuation : Valuation)
       × (map bound_value out.binds ≡ map bound_value offer.binds ++ flat_map (item_binds said) items)
   unfolding item_in
   offer_same demanded bound [] offer out e =
-      let made : offer ≡ out = same_given offer out e in
-      (ap (λ (o : Offer). map meant o.terms) (sym made)
-      ∙ sym (append-nil (map meant offer.terms)), ap (λ (o : Offer). map bound_value o.binds) (sym made)
-      ∙ sym (append-nil (map bound_value offer.binds)))
+      let made : offer ≡ out = same_given offer out e in (
+        ap (λ (o : Offer). map meant o.terms) (sym made)
+            ∙ sym (append-nil (map meant offer.terms)),
+        ap (λ (o : Offer). map bound_value o.binds) (sym made)
+            ∙ sym (append-nil (map bound_value offer.binds)),
+      )
   offer_same demanded bound (item ∷ more) offer out e =
       let step = bind_given (item_in names demanded bound offer item) _ out e in
       let w = bind_given (term_in names demanded bound item.term) _ step.0 step.1 in
@@ -154,9 +160,9 @@ module _ (environment : Environment) (names : List Name) (valuation : Valuation)
   others_same demanded bound [] posts tests out e =
       let made : (posts, tests) ≡ out = same_given (posts, tests) out e in (
         ap (λ (o : List (Atom Known) × List (Test (Term Known))). map fact o.0) (sym made)
-        ∙ sym (append-nil (map fact posts)),
+            ∙ sym (append-nil (map fact posts)),
         ap (λ (o : List (Atom Known) × List (Test (Term Known))). list_all (holds meant) o.1) (sym made)
-        ∙ sym (and_true (list_all (holds meant) tests)),
+            ∙ sym (and_true (list_all (holds meant) tests)),
       )
   others_same demanded bound (conditions.InSelect tuple select ∷ more) posts tests out e =
       others_same demanded bound more posts tests out e

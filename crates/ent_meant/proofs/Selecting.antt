@@ -66,8 +66,11 @@ first_meant (column ∷ columns) [] reference first found rest e =
         (if b then ((first, column.kind) ∷ referred_from (suc first) columns reference) else referred_from
         (suc first) columns reference) ≡ found ∷ rest
         → (number : ℕ) × (found.0 ≡ first + number)) [
-          | true ↦ λ here. (0, (let same = ap (λ (x : ℕ × Kind). x.0) (head_same (first, column.kind) found _ _ here)
-              in omega arith))
+          | true ↦ λ here. (
+            0,
+            (let same = ap (λ (x : ℕ × Kind). x.0) (head_same (first, column.kind) found _ _ here)
+                in omega arith),
+          )
           | false ↦ λ later. let w = counted columns (suc first) later in (suc w.0, (let same = w.1 in omega arith))
         ] e
 first_meant (column ∷ columns) (value ∷ row) reference first found rest e =
@@ -84,9 +87,11 @@ first_meant (column ∷ columns) (value ∷ row) reference first found rest e =
         → (number : ℕ) × (found.0 ≡ first + number)
         × ((if b then value else column_value (map name_of columns) row reference)
         ≡ slice_index_or (value ∷ row) number no_value)
-    by true here later =
-        (0, (let same = ap (λ (x : ℕ × Kind). x.0) (head_same (first, column.kind) found _ _ here) in omega arith),
-        refl)
+    by true here later = (
+      0,
+      (let same = ap (λ (x : ℕ × Kind). x.0) (head_same (first, column.kind) found _ _ here) in omega arith),
+      refl,
+    )
     by false here later = let w = later here in (suc w.0, (let same = w.1 in omega arith), w.2)
 
 one_meant : (all : List (ℕ × Kind)) (place : ℕ) (found : ℕ × Kind) → only_one all place ≡ Ok found → all ≡ found ∷ []

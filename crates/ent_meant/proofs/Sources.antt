@@ -57,7 +57,7 @@ told_here create more rows tables name first found same wide e =
       number = 0;
       counted = omega arith;
       columns = ap (λ b. if b then map (λ column. column.name.name) create.columns else columns_of more name) same
-      ∙ sym (names_again create.columns);
+          ∙ sym (names_again create.columns);
       rows = ap (λ (b : Bool). if b then rows else database_of more tables name) same;
       wide = subst (λ n. OfWidth n rows) (sym (length-map create.columns column_schema)) wide;
     })
@@ -73,7 +73,7 @@ told_later create more rows tables name first found other told =
       number = suc told.number;
       counted = let e = told.counted in omega arith;
       columns = ap (λ b. if b then map (λ column. column.name.name) create.columns else columns_of more name) other
-      ∙ told.columns;
+          ∙ told.columns;
       rows = ap (λ (b : Bool). if b then rows else database_of more tables name) other ∙ told.rows;
       wide = told.wide;
     }
@@ -132,10 +132,10 @@ module _ (creates : List Create) (tables : Tables) (fitting : AreWide creates ta
         widths = [];
         columns = ap (λ (s : Scope). map name_of s.columns) (sym is) ∙ sym (append-nil (map name_of scope.columns));
         rows = ap (λ (s : Scope). map (rows_at tables) s.tables) (sym is)
-        ∙ sym (append-nil (map (rows_at tables) scope.tables));
+            ∙ sym (append-nil (map (rows_at tables) scope.tables));
         wide = tt;
         counted = let same : length out.columns ≡ length scope.columns = ap (λ (s : Scope). length s.columns)
-        (sym is) in omega arith;
+            (sym is) in omega arith;
       }
   sources_seen (source ∷ more) scope out e =
       let name = source_name source in

@@ -27,21 +27,21 @@ use Rattle.ent_meant.proofs.Heads.{offer_same, heads_same, others_same}
 
 -- what the parts of a statement gave
 pub record Parts (tables : List TableSchema) (bound : Bound) (tree : TreeEntangled) (form : Entangled Known) : Type 0
-    where
-  pub body : List (Membership Known) × Bound
-  pub offer : Offer
-  pub answered : List (Atom Known)
-  pub others : List (Atom Known) × List (Test (Term Known))
-  pub body_given : memberships_from tables bound (variables_of tree) [] none_bound tree.conditions ≡ Ok body
-  pub offer_given : offer_from (variables_of tree) body.1 bound no_offer tree.items ≡ Ok offer
-  pub heads_given : heads_from offer.terms [] [] tree.relations ≡ Ok answered
-  pub others_given : others_from (variables_of tree) body.1 bound [] [] tree.conditions ≡ Ok others
-  pub variables_are : form.variables ≡ kinds_of body.1 (variables_of tree)
-  pub posts_are : form.posts ≡ others.0
-  pub heads_are : form.heads ≡ answered
-  pub atoms_are : form.atoms ≡ body.0
-  pub tests_are : form.tests ≡ others.1
-  pub binds_are : form.binds ≡ offer.binds
+  where
+    pub body : List (Membership Known) × Bound
+    pub offer : Offer
+    pub answered : List (Atom Known)
+    pub others : List (Atom Known) × List (Test (Term Known))
+    pub body_given : memberships_from tables bound (variables_of tree) [] none_bound tree.conditions ≡ Ok body
+    pub offer_given : offer_from (variables_of tree) body.1 bound no_offer tree.items ≡ Ok offer
+    pub heads_given : heads_from offer.terms [] [] tree.relations ≡ Ok answered
+    pub others_given : others_from (variables_of tree) body.1 bound [] [] tree.conditions ≡ Ok others
+    pub variables_are : form.variables ≡ kinds_of body.1 (variables_of tree)
+    pub posts_are : form.posts ≡ others.0
+    pub heads_are : form.heads ≡ answered
+    pub atoms_are : form.atoms ≡ body.0
+    pub tests_are : form.tests ≡ others.1
+    pub binds_are : form.binds ≡ offer.binds
 
 pub parts_of : (tables : List TableSchema) (bound after : Bound) (tree : TreeEntangled) (form : Entangled Known)
     → entangled_in tables bound tree ≡ Ok (form, after) → Parts tables bound tree form
