@@ -1,3 +1,4 @@
 pub mod Report
+pub mod Report2
 pub mod Tables
 pub mod Write

@@ -86,9 +86,13 @@ transaction_text journal fated =
 abbrev pub transactions_text : List Entry → List Fated → List ℕ
 transactions_text journal fates = flat_map (transaction_text journal) fates
 
--- a member of a joint answer, behind a space: its transaction and its place
+-- an entangled statement: its transaction and its place
+abbrev pub member_place : Member → List ℕ
+member_place member = decimal member.tx ++ (codes "." ++ decimal member.place)
+
+-- a member of a joint answer, behind a space
 abbrev pub member_text : Member → List ℕ
-member_text member = codes " " ++ (decimal member.tx ++ (codes "." ++ decimal member.place))
+member_text member = codes " " ++ member_place member
 
 abbrev pub members_text : List Member → List ℕ
 members_text members = flat_map member_text members

@@ -1,19 +1,30 @@
 //! The text of joint answers.
 ghost use Rattle.std.specs.Prelude.{◌≡◌, ◌++◌, OnOk};
-ghost use Rattle.ent_book.specs.Report.{joint_line, joints_text, member_text, members_text};
+ghost use Rattle.ent_book.specs.Report.{joint_line, joints_text, member_place, member_text, members_text};
 
 use crate::piece::append_number;
 use ent_semantics::{JointAnswer, Member};
 use std::alloc::{AllocError, Global};
+
+/// An entangled statement: its transaction and its place.
+pub(crate) fn append_member_place(
+    alloc: Global,
+    out: &mut Vec<u8>,
+    member: &Member,
+) -> Result<(), AllocError>
+    ensures { OnOk result (out.new.items ≡ out.old.items ++ member_place member.now) }
+{
+    append_number(alloc, out, member.tx)?;
+    out.push(b'.')?;
+    append_number(alloc, out, member.place)
+}
 
 /// A member, behind a space.
 fn append_member(alloc: Global, out: &mut Vec<u8>, member: &Member) -> Result<(), AllocError>
     ensures { OnOk result (out.new.items ≡ out.old.items ++ member_text member.now) }
 {
     out.push(b' ')?;
-    append_number(alloc, out, member.tx)?;
-    out.push(b'.')?;
-    append_number(alloc, out, member.place)
+    append_member_place(alloc, out, member)
 }
 
 fn append_members(alloc: Global, out: &mut Vec<u8>, members: &[Member]) -> Result<(), AllocError>
@@ -25,7 +36,7 @@ fn append_members(alloc: Global, out: &mut Vec<u8>, members: &[Member]) -> Resul
     Ok(())
 }
 
-fn append_joint(
+pub(crate) fn append_joint(
     alloc: Global,
     out: &mut Vec<u8>,
     number: u64,

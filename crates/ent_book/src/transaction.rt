@@ -1,11 +1,10 @@
 //! The text of transactions: their fates, and the answers of those that committed.
 ghost use Rattle.std.specs.Prelude.{◌≡◌, ◌++◌, OnOk};
-ghost use Rattle.std.specs.Option.{option_copied};
-ghost use Rattle.ent_semantics.specs.Serial.{numbered};
 ghost use Rattle.ent_book.specs.Report.{after_text, answers_text, failure_text, fate_answers, fate_text};
 ghost use Rattle.ent_book.specs.Report.{transaction_text, transactions_text};
 
 use crate::answer::append_answers;
+use crate::numbered::element;
 use crate::piece::append_number;
 use ent_semantics::{Entry, Failure, Fate, Fated};
 use std::alloc::{AllocError, Global};
@@ -51,16 +50,6 @@ fn append_fate(alloc: Global, out: &mut Vec<u8>, fate: Fate) -> Result<(), Alloc
     }
 }
 
-/// The entry of a number, counted from 1.
-fn entry_of(journal: &[Entry], number: u64) -> Option<&Entry>
-    ensures { option_copied result ≡ numbered journal.now number }
-{
-    if number == 0 {
-        return None;
-    }
-    journal.get((number - 1) as usize)
-}
-
 /// The answers of a transaction of that fate that committed: those of the entry of its number.
 fn append_fate_answers(
     alloc: Global,
@@ -71,7 +60,7 @@ fn append_fate_answers(
     ensures { OnOk result (out.new.items ≡ out.old.items ++ answers_text 1 (fate_answers journal.now fate)) }
 {
     match fate {
-        Fate::Committed { number, .. } => match entry_of(journal, number) {
+        Fate::Committed { number, .. } => match element(journal, number) {
             Some(entry) => append_answers(alloc, out, entry.answers.as_slice()),
             None => Ok(()),
         },

@@ -4,10 +4,11 @@ ghost use Rattle.std.specs.Io.KnownBytes.{Appends};
 ghost use Rattle.ent_value.specs.Watched.{IsUnmarked};
 ghost use Rattle.ent_value.specs.declared.refusal.Refusal.TheVariants.{Memory};
 ghost use Rattle.ent_book.specs.Report.{report_text};
+ghost use Rattle.ent_book.specs.Report2.{report_2_text};
 ghost use Rattle.ent_book.specs.Tables.{book_seen};
 ghost use Rattle.ent_book.specs.Write.{AppendsBeginning, is_fault, is_marked};
 
-use crate::report::report;
+use crate::report::{report, report_2};
 use crate::table::NamedTable;
 use ent_semantics::Book;
 use ent_value::{Refusal, Sequence, Watched};
@@ -41,6 +42,30 @@ pub fn write_report<W: Write>(
     ensures marks { is_marked writer.new ≡ is_fault result }
 {
     let text = report(alloc, book)?;
+    match write_whole(writer, text.as_slice()) {
+        Ok(()) => Ok(()),
+        Err(fault) => Err(Refusal::Fault(fault)),
+    }
+}
+
+/// Writes the report of a book, version 2, which can be checked alone. Its promises are those of [`write_report`].
+pub fn write_report_2<W: Write>(
+    alloc: Global,
+    book: &Book<Sequence<NamedTable>>,
+    writer: &mut Watched<W>,
+) -> Result<(), Refusal<WriteFault>>
+    requires unmarked { IsUnmarked writer.old }
+    ensures written { OnOk result
+        (Appends (W.contents writer.old.inner) (W.contents writer.new.inner) (report_2_text (book_seen book.now))) }
+    // Where memory ran out, the writer is untouched.
+    ensures untouched { result ≡ Err Memory → writer.new ≡ writer.old }
+    // What went out before a fault is a beginning of the report.
+    ensures beginning { OnErr result (AppendsBeginning (W.contents writer.old.inner) (W.contents writer.new.inner)
+        (report_2_text (book_seen book.now))) }
+    // A fault of the writer is answered exactly where it failed, or took no byte.
+    ensures marks { is_marked writer.new ≡ is_fault result }
+{
+    let text = report_2(alloc, book)?;
     match write_whole(writer, text.as_slice()) {
         Ok(()) => Ok(()),
         Err(fault) => Err(Refusal::Fault(fault)),

@@ -29,7 +29,7 @@ pub enum Statement<K> {
     /// An image is an expression for each column, in order; a column that isn't assigned is its own.
     Update {
         table: usize,
-        image: Limited<Expression<Operand<K>>, MOST_PARTS>,
+        image: Sequence<Expression<Operand<K>>>,
         tests: Limited<Test<Operand<K>>, MOST_PARTS>,
     },
     Set {

@@ -110,9 +110,11 @@ fn load_table(
     let rows = opening_rows(alloc, catalogue, number, opening)?;
     match Table::load(alloc, kinds, rows) {
         Ok(table) => Ok(table),
-        Err(Refusal::Memory) => Err(AllocError),
-        // So no table is too full.
-        Err(Refusal::Fault(TableFull)) => unreachable!(),
+        Err(refused) => match refused.refusal {
+            Refusal::Memory => Err(AllocError),
+            // So no table is too full.
+            Refusal::Fault(TableFull) => unreachable!(),
+        },
     }
 }
 

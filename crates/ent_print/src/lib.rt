@@ -4,6 +4,7 @@
 #![tactic(auto)]
 
 mod entangled;
+mod laws;
 mod operand;
 mod printer;
 mod script;
@@ -12,4 +13,5 @@ mod spelled;
 mod statement;
 mod symbol;
 
+pub use laws::{places_do_not_show, printed_script_is_read, printed_text_is_read};
 pub use script::print_script;

@@ -1,5 +1,7 @@
-//! Tests of lists and texts, which no input and no scenario reaches alone.
+//! Tests of lists, texts and printed scripts, which no input and no scenario reaches alone.
 #![tactic(auto)]
 
 #[cfg(test)]
 mod collections;
+#[cfg(test)]
+mod printing;

@@ -1,7 +1,8 @@
 //! The tree of an input: what the whole language says, as values.
 //!
 //! An [`Input`] is tables, opening rows and scripts. Each name, value and tuple keeps where it stands, a byte offset
-//! from the input's start, and no list is longer than its limit. [`Duplicate`] makes copies.
+//! from the input's start, and no list is longer than its limit. [`Duplicate`] makes copies, and
+//! [`Same`] compares.
 #![tactic(auto)]
 
 mod declaration;

@@ -6,5 +6,7 @@ use Rattle.ent_book.proofs.answer.append_answers.Given as goal
 abbrev pub invariant-loop-answer : goal.invariant-loop-answer
 invariant-loop-answer l = record {
   place : l.place ≡ l.answer-index + 1;
-  whole : l.out.items ++ answers_text l.place (drop l.answer-index l.answers) ≡ l.fn.out.items ++ answers_text 1 l.answers;
+  whole :
+      l.out.items ++ answers_text l.place (drop l.answer-index l.answers)
+      ≡ l.fn.out.items ++ answers_text 1 l.answers;
 }

@@ -4,4 +4,6 @@ use Rattle.ent_book.proofs.transaction.append_transactions.Given as goal
 
 -- what is out, and the text of what is left
 abbrev pub invariant-loop-fated : goal.invariant-loop-fated
-invariant-loop-fated l = l.out.items ++ transactions_text l.journal (drop l.fated-index l.fates) ≡ l.fn.out.items ++ transactions_text l.journal l.fates
+invariant-loop-fated l =
+    l.out.items ++ transactions_text l.journal (drop l.fated-index l.fates)
+    ≡ l.fn.out.items ++ transactions_text l.journal l.fates

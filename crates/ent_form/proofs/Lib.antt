@@ -1,0 +1,4 @@
+pub mod Steps
+pub mod Declared
+pub mod Listed
+pub mod Columns

@@ -1,0 +1,12 @@
+use Rattle.std.proofs.lemmas.Slice.Zip.{either_empty_from_Zip}
+use Rattle.std.specs.Iterator.Adapters.{zip_first, zip_second}
+use Rattle.std.specs.Slice.Iter.{iter_rest}
+use Rattle.ent_form.proofs.Steps.{literals_end}
+use Rattle.ent_form.proofs.row.literals_fault.Goals as goal
+
+pub returns : goal.returns
+returns c =
+    let left = c.loop-column.column-iterator in
+    literals_end (iter_rest (zip_first left)) (iter_rest (zip_second left)) _
+        (either_empty_from_Zip left c.next.new.self c.next.result c.in-None.is c.next.ensures.steps)
+        c.loop-column.invariant.2

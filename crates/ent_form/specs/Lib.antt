@@ -1,0 +1,13 @@
+pub mod Fault
+pub mod Catalogue
+pub mod Kinds
+pub mod Bindings
+pub mod Opening
+pub mod OpeningFault
+pub mod Steps
+pub mod Scope
+pub mod Lookup
+pub mod Ordinary
+pub mod Entangled
+pub mod Form
+pub mod Seen

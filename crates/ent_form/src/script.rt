@@ -1,0 +1,73 @@
+//! Statements and scripts resolved against the catalogue.
+ghost use Rattle.std.specs.Prelude.{◌≡◌, []};
+ghost use Rattle.ent_value.specs.Refusal.{Gives};
+ghost use Rattle.ent_form.specs.Bindings.{bound_in};
+ghost use Rattle.ent_form.specs.Form.{statement_in, script_in};
+
+use crate::binding::Bindings;
+use crate::catalogue::Catalogue;
+use crate::change::{delete, insert, set, update};
+use crate::entangled::entangled;
+use crate::fault::FormFault;
+use crate::select::select;
+use ent_closed::{Known, Statement as ResolvedStatement};
+use ent_tree::{End, MOST_STATEMENTS, Script, Statement};
+use ent_value::{Limited, Refusal};
+use std::alloc::Global;
+
+/// A script of resolved statements.
+#[derive(Drop)]
+pub struct Plain {
+    /// In how many runs the transaction may take part.
+    pub within: u64,
+    pub statements: Limited<ResolvedStatement<Known>, MOST_STATEMENTS>,
+    pub end: End,
+}
+
+/// A statement; what it binds is bound from then on.
+#[tactic(auto, unfolding(crate::specs::Form::statement_in))]
+fn statement(
+    alloc: Global,
+    catalogue: &Catalogue,
+    bindings: &mut Bindings,
+    statement: &Statement,
+) -> Result<ResolvedStatement<Known>, Refusal<FormFault>>
+    ensures { Gives (λ form. (form, bound_in bindings.new)) result
+        (statement_in catalogue.now.tables (bound_in bindings.old) statement.now) }
+{
+    Ok(match statement {
+        Statement::Select(ordinary) => {
+            let (form, _) = select(alloc, catalogue, bindings, ordinary)?;
+            ResolvedStatement::Select(form)
+        }
+        Statement::Entangled(tree) => {
+            ResolvedStatement::Entangled(entangled(alloc, catalogue, bindings, tree)?)
+        }
+        Statement::Insert(tree) => insert(alloc, catalogue, bindings, tree)?,
+        Statement::Delete(tree) => delete(alloc, catalogue, bindings, tree)?,
+        Statement::Update(tree) => update(alloc, catalogue, bindings, tree)?,
+        Statement::Set(tree) => set(alloc, bindings, tree)?,
+    })
+}
+
+/// The statements of a script with their names resolved against the catalogue, or the first fault, statement by
+/// statement. The host variables that a statement may use are those that the statements before it bind.
+pub fn resolve(
+    alloc: Global,
+    catalogue: &Catalogue,
+    script: &Script,
+) -> Result<Plain, Refusal<FormFault>>
+    ensures { Gives (λ plain. plain) result (script_in catalogue.now.tables script.now) }
+{
+    let _limit = script.statements.len();
+    let mut bindings = Bindings::new(alloc);
+    let mut statements = Limited::new(alloc);
+    for one in script.statements.as_slice() {
+        statements.push(statement(alloc, catalogue, &mut bindings, one)?)?;
+    }
+    Ok(Plain {
+        within: script.within,
+        statements,
+        end: script.end,
+    })
+}

@@ -1,0 +1,5 @@
+pub mod Steps
+pub mod Variables
+pub mod Terms
+pub mod Heads
+pub mod Whole

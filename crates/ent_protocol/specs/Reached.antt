@@ -1,0 +1,89 @@
+-- The states that events lead to, and their books.
+use Rattle.std.specs.Prelude.{◌≡◌, ℕ, zero, suc, false, List, [], ◌∷◌, map, if◌then◌else◌}
+use Rattle.ent_set.specs.Sets as set
+use Rattle.ent_tree.specs.declared.declaration.Opening.{Opening}
+use Rattle.ent_tree.specs.declared.script.Script.{Script}
+use Rattle.ent_semantics.specs.declared.book.Book.{Book}
+use Rattle.ent_semantics.specs.Database.{Name, Database, opening_database, same_name}
+use Rattle.ent_closed.specs.Form.{Tables}
+use Rattle.ent_protocol.specs.Event.{Event, Reply, Submit, Submitted}
+use Rattle.ent_protocol.specs.Rollback.{put_back}
+use Rattle.ent_protocol.specs.Run.{Forms}
+use Rattle.ent_protocol.specs.State.{State, by_number}
+use Rattle.ent_protocol.specs.Step.{Step}
+
+-- ---- books
+
+abbrev pub table_names : Opening → List Name
+table_names opening = map (λ create. create.name.name) opening.tables
+
+-- tables, in the order of their declaration, under their names
+abbrev pub named_tables : List Name → Tables → Database
+named_tables [] tables name = set.empty
+named_tables (first ∷ names) [] name = set.empty
+named_tables (first ∷ names) (rows ∷ tables) name =
+    if same_name first name then rows else named_tables names tables name
+
+-- the settled database: each table as before the first change of a member, or as it is
+abbrev pub settled : State → Tables
+settled s = put_back s.changes s.tables
+
+abbrev pub book_of : State → Book Database
+book_of s =
+    record {
+      opening = s.opening;
+      scripts = map (λ own. own.script) s.submitted;
+      journal = s.journal;
+      joint_answers = s.answered;
+      fates = by_number (λ fated. fated.tx) s.fates;
+      database = named_tables (table_names s.opening) (settled s);
+    }
+
+-- ---- reached states
+
+-- the opening's own state: no script, no run
+abbrev pub opened : Opening → State
+opened opening =
+    record {
+      opening = opening;
+      submitted = [];
+      dormant = [];
+      running = false;
+      prepared = [];
+      active = [];
+      joints = [];
+      tried = [];
+      lent = [];
+      tables = map (opening_database opening) (table_names opening);
+      changes = [];
+      journal = [];
+      answered = [];
+      fates = [];
+    }
+
+module _ {F : Type 0} (forms : Forms F) where
+  -- in so many events one state leads to another
+  abbrev pub LeadsTo : ℕ → State → State → Type 0
+  LeadsTo zero first last = last ≡ first
+  LeadsTo (suc n) first last =
+      (s : State) × (event : Event) × (reply : Reply F) × LeadsTo n first s × Step forms s event reply last
+
+  abbrev pub IsReached : State → Type 0
+  IsReached s = (n : ℕ) × LeadsTo n (opened s.opening) s
+
+  -- so many scripts were submitted to the opening's own state, and accepted
+  abbrev pub IsGatheredState : ℕ → State → Type 0
+  IsGatheredState zero s = s ≡ opened s.opening
+  IsGatheredState (suc n) s =
+      (before : State) × (script : Script) × IsGatheredState n before
+      × Step forms before (Submit script) (Submitted (suc n)) s
+
+  -- reached from such a state
+  abbrev pub IsGatheredAt : ℕ → State → Type 0
+  IsGatheredAt k s = (first : State) × (n : ℕ) × IsGatheredState k first × LeadsTo n first s
+
+  -- no run is on, and nothing is dormant
+  pub record IsFinished (s : State) : Type 0 where
+    pub reached : IsReached s
+    pub no_run : s.running ≡ false
+    pub none_dormant : s.dormant ≡ []
