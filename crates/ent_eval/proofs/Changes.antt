@@ -60,7 +60,8 @@ refused_so view answer meant refusal table (outcomes.Value value) gives is so = 
 
 -- the images of rows, where a row without one overflows
 in_cond : {A B : Type 0} (f : A → B) (x : A) (b : Bool)
-    → (◌>>=◌ {A = A} {B = B} {F = Failure} (cond b (Ok x) (Err Overflow)) (λ y. Ok (f y))) ≡ cond b (Ok (f x)) (Err Overflow)
+    → (◌>>=◌ {A = A} {B = B} {F = Failure} (cond b (Ok x) (Err Overflow)) (λ y. Ok (f y)))
+    ≡ cond b (Ok (f x)) (Err Overflow)
 in_cond f x true = refl
 in_cond f x false = refl
 
@@ -69,15 +70,22 @@ images_overflow : (image : List Value → Option (List Value)) (rows : List (Lis
     ≡ cond (list_all (λ row. is_some (image row)) rows) (Ok (filter_map image rows)) (Err Overflow)
 images_overflow image [] = refl
 images_overflow image (row ∷ rows) =
-    elim (image row) as (λ r. (there_or_overflow r >>= λ new. images_of (image_or_overflow image) rows >>= λ others. Ok (new ∷ others)) ≡ cond (is_some r && list_all (λ row. is_some (image row)) rows) (Ok (cons_option r (filter_map image rows))) (Err Overflow)) [
+    elim (image row) as (λ r. (there_or_overflow r >>= λ new. images_of (image_or_overflow image) rows
+    >>= λ others. Ok (new ∷ others)) ≡ cond (is_some r && list_all (λ row. is_some (image row)) rows)
+    (Ok (cons_option r (filter_map image rows))) (Err Overflow)) [
       | None ↦ refl
-      | Some new ↦ ap (λ r. r >>= λ others. Ok (new ∷ others)) (images_overflow image rows) ∙ in_cond (λ others. new ∷ others) (filter_map image rows) (list_all (λ row. is_some (image row)) rows)
+      | Some new ↦ ap (λ r. r >>= λ others. Ok (new ∷ others)) (images_overflow image rows)
+          ∙ in_cond (λ others. new ∷ others) (filter_map image rows) (list_all (λ row. is_some (image row)) rows)
     ]
 
 -- a table gets other rows
 abbrev with_change : Tables → Environment → ℕ → Result (ℕ × RowSet) Failure → Result (Effect Tables) Failure
 with_change tables environment number (Ok change) =
-    Ok (record { database = slice_set tables number change.1; environment = environment; answer = answers.Count change.0 })
+    Ok (record {
+      database = slice_set tables number change.1;
+      environment = environment;
+      answer = answers.Count change.0;
+    })
 with_change tables environment number (Err failure) = Err failure
 
 -- an outcome that is a change of the table of a number
@@ -87,7 +95,13 @@ changed_so : (statement : Statement Value) (tables : Tables) (environment : Envi
     → with_change tables environment (changed_table statement) meant ≡ effect_of statement outcome tables environment
 changed_so statement tables environment table meant (outcomes.Changed count delta) here changes =
     ap (with_change tables environment (changed_table statement)) changes.0
-    ∙ ap (λ rows. Ok (record { database = slice_set tables (changed_table statement) (changed_rows rows delta.removed delta.added); environment = environment; answer = answers.Count count })) (sym here)
+    ∙ ap (λ rows. Ok (record {
+      database = slice_set tables (changed_table statement)
+          (changed_rows rows delta.removed delta.added);
+      environment = environment;
+      answer = answers.Count count;
+    }))
+    (sym here)
 changed_so statement tables environment table meant (outcomes.Fault failure) here changes =
     ap (with_change tables environment (changed_table statement)) changes
 changed_so statement tables environment table meant (outcomes.Rows rows) here changes = absurd changes
@@ -96,14 +110,24 @@ changed_so statement tables environment table meant (outcomes.Value value) here 
 module _ (tables : Tables) (environment : Environment) (valuation : Valuation) (number : ℕ) (table : Relation)
     (here : slice_index_or tables number set.empty ≡ table.rows) where
   on_limit : (after : RowSet) (count : ℕ) (b : Bool)
-      → cond b (Ok (record { database = slice_set tables number after; environment = environment; answer = answers.Count count })) (Err TableFull)
+      → cond b (Ok (record {
+        database = slice_set tables number after;
+        environment = environment;
+        answer = answers.Count count;
+      })) (Err TableFull)
       ≡ with_change tables environment number (or_full (cond b (Ok (count, after)) (Err full)))
   on_limit after count true = refl
   on_limit after count false = refl
 
   on_overflow : (after : RowSet) (count : ℕ) (b : Bool)
-      → or_overflow (cond b (Some after) None) (λ rows database environment. cond (nat_le (set.len rows) MOST_ROWS) (Ok (record { database = slice_set database number rows; environment = environment; answer = answers.Count count })) (Err TableFull)) tables environment
-      ≡ with_change tables environment number (cond b (Ok (count, after)) (Err Overflow) >>= λ change. or_full (bounded change.1 change))
+      → or_overflow (cond b (Some after) None) (λ rows database environment. cond (nat_le (set.len rows) MOST_ROWS)
+      (Ok (record {
+        database = slice_set database number rows;
+        environment = environment;
+        answer = answers.Count count;
+      })) (Err TableFull)) tables environment
+      ≡ with_change tables environment number (cond b (Ok (count, after)) (Err Overflow)
+      >>= λ change. or_full (bounded change.1 change))
   on_overflow after count true = on_limit after count (nat_le (set.len after) MOST_ROWS)
   on_overflow after count false = refl
 
@@ -122,9 +146,12 @@ module _ (tables : Tables) (environment : Environment) (valuation : Valuation) (
       let kept = unmatched passes table.rows in
       let count = set.len (matched passes table.rows) in
       let after = set.insert_all kept (filter_map image_in old) in
-      let made : replacement table.rows passes (image_or_overflow image_in) ≡ cond (list_all (λ row. is_some (image_in row)) old) (Ok (count, after)) (Err Overflow) =
-      ap (λ r. ◌>>=◌ {B = ℕ × RowSet} r (λ images. Ok (count, set.insert_all kept images))) (images_overflow image_in old)
-      ∙ in_cond {A = List (List Value)} {B = ℕ × RowSet} (λ images. (count, set.insert_all kept images)) (filter_map image_in old) (list_all (λ row. is_some (image_in row)) old) in
+      let made : replacement table.rows passes (image_or_overflow image_in)
+      ≡ cond (list_all (λ row. is_some (image_in row)) old) (Ok (count, after)) (Err Overflow) =
+      ap (λ r. ◌>>=◌ {B = ℕ × RowSet} r (λ images. Ok (count, set.insert_all kept images)))
+      (images_overflow image_in old)
+      ∙ in_cond {A = List (List Value)} {B = ℕ × RowSet} (λ images. (count, set.insert_all kept images))
+      (filter_map image_in old) (list_all (λ row. is_some (image_in row)) old) in
       rw here (on_overflow after count (list_all (λ row. is_some (image_in row)) old)
       ∙ ap (λ r. with_change tables environment number (r >>= λ change. or_full (bounded change.1 change))) (sym made))
 
@@ -132,31 +159,36 @@ module _ (tables : Tables) (environment : Environment) (valuation : Valuation) (
 first_is : {A : Type 0} (x y : A) (xs : List A) → x ∷ [] ≡ xs → xs ≡ y ∷ [] → x ≡ y
 first_is x y xs e f = let h : x ∷ [] ≡ y ∷ [] = e ∙ f in cc
 
-pub deleted_so : (statement : Statement Value) (tests : List (Test (Operand Value))) (number : ℕ) (relations : List Relation)
+pub deleted_so : (statement : Statement Value) (tests : List (Test (Operand Value))) (number : ℕ)
+    (relations : List Relation)
     (table : Relation) (outcome : Outcome)
     → statement ≡ statements.Delete number tests → relations ≡ table ∷ []
     → Changes table (Ok (deletion table.rows (meets value_in tests))) outcome
     → IsMeant statement (rows_in relations) outcome
 deleted_so statement tests number relations table outcome is one changes tables environment valuation named =
-    let here : slice_index_or tables number set.empty ≡ table.rows = first_is _ _ _ (sym (ap (λ s. rows_under tables (tables_named s)) is) ∙ named) (ap rows_in one) in
+    let here : slice_index_or tables number set.empty
+    ≡ table.rows = first_is _ _ _ (sym (ap (λ s. rows_under tables (tables_named s)) is) ∙ named) (ap rows_in one) in
     ap (λ s. form_meaning closed_worth s valuation tables environment) is
     ∙ delete_meaning tables environment valuation number table here tests
     ∙ changed_so (statements.Delete number tests) tables environment table _ outcome here changes
     ∙ ap (λ s. effect_of s outcome tables environment) (sym is)
 
-pub updated_so : (statement : Statement Value) (image : List (Expression (Operand Value))) (tests : List (Test (Operand Value)))
+pub updated_so : (statement : Statement Value) (image : List (Expression (Operand Value)))
+    (tests : List (Test (Operand Value)))
     (number : ℕ) (relations : List Relation) (table : Relation) (outcome : Outcome)
     → statement ≡ statements.Update number image tests → relations ≡ table ∷ []
     → Changes table (replacement_of table.rows (meets value_in tests) (image_of image)) outcome
     → IsMeant statement (rows_in relations) outcome
 updated_so statement image tests number relations table outcome is one changes tables environment valuation named =
-    let here : slice_index_or tables number set.empty ≡ table.rows = first_is _ _ _ (sym (ap (λ s. rows_under tables (tables_named s)) is) ∙ named) (ap rows_in one) in
+    let here : slice_index_or tables number set.empty
+    ≡ table.rows = first_is _ _ _ (sym (ap (λ s. rows_under tables (tables_named s)) is) ∙ named) (ap rows_in one) in
     ap (λ s. form_meaning closed_worth s valuation tables environment) is
     ∙ update_meaning tables environment valuation number table here image tests
     ∙ changed_so (statements.Update number image tests) tables environment table _ outcome here changes
     ∙ ap (λ s. effect_of s outcome tables environment) (sym is)
 
-pub applied_so : (relations : List Relation) (table : Relation) (meant : Result (ℕ × RowSet) Failure) (outcome : Outcome)
+pub applied_so : (relations : List Relation) (table : Relation) (meant : Result (ℕ × RowSet) Failure)
+    (outcome : Outcome)
     → relations ≡ table ∷ [] → Changes table meant outcome → CanBeApplied relations outcome
 applied_so relations table meant (outcomes.Changed count delta) one changes = (table, one, changes.1)
 applied_so relations table meant (outcomes.Fault failure) one changes = tt
@@ -164,6 +196,7 @@ applied_so relations table meant (outcomes.Rows rows) one changes = tt
 applied_so relations table meant (outcomes.Value value) one changes = tt
 
 -- what follows for what is answered
-pub if_ok : {X E : Type 0} {P Q : X → Type 0} → ((x : X) → P x → Q x) → (answer : Result X E) → IfOk answer P → IfOk answer Q
+pub if_ok : {X E : Type 0} {P Q : X → Type 0} → ((x : X) → P x → Q x) → (answer : Result X E) → IfOk answer P
+    → IfOk answer Q
 if_ok each (Ok x) p = each x p
 if_ok each (Err e) p = tt

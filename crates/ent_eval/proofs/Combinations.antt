@@ -22,7 +22,8 @@ shown_of-append items tests xs ys =
 
 -- what is found once the combinations of one row more were looked at
 pub one_row_more :
-    (items : List (Operand Value)) (tests : List (Test (Operand Value))) (front : List Value) (more : List (List (List Value)))
+    (items : List (Operand Value)) (tests : List (Test (Operand Value))) (front : List Value)
+    (more : List (List (List Value)))
     (before found next : List (List Value)) (rows : List (List Value)) (i : ℕ) (row : List Value)
     → i < length rows → row ≡ get_or rows i row
     → found ≡ before ++ shown_of items tests (flat_map (λ row. combined (front ++ row) more) (take i rows))
@@ -30,13 +31,15 @@ pub one_row_more :
     → next ≡ before ++ shown_of items tests (flat_map (λ row. combined (front ++ row) more) (take (i + 1) rows))
 one_row_more items tests front more before found next rows i row lt at so is =
     let each : List Value → List (List Value) = λ row. combined (front ++ row) more in
-    let taken : take (i + 1) rows ≡ take i rows ++ row ∷ [] = take_more rows i row lt ∙ ap (λ r. take i rows ++ r ∷ []) (sym at) in
+    let taken : take (i + 1) rows ≡ take i rows ++ row ∷ [] = take_more rows i row lt
+    ∙ ap (λ r. take i rows ++ r ∷ []) (sym at) in
     let whole : flat_map each (take (i + 1) rows) ≡ flat_map each (take i rows) ++ each row =
     ap (flat_map each) taken ∙ flat_map-append each (take i rows) (row ∷ [])
     ∙ ap (λ xs. flat_map each (take i rows) ++ xs) (append-nil (each row)) in
     is ∙ ap (λ xs. xs ++ shown_of items tests (each row)) so
     ∙ append_assoc before (shown_of items tests (flat_map each (take i rows))) (shown_of items tests (each row))
-    ∙ sym (ap (λ xs. before ++ xs) (ap (shown_of items tests) whole ∙ shown_of-append items tests (flat_map each (take i rows)) (each row)))
+    ∙ sym (ap (λ xs. before ++ xs) (ap (shown_of items tests) whole
+    ∙ shown_of-append items tests (flat_map each (take i rows)) (each row)))
 
 flat_map_each : {X A B : Type 0} (f : X → List B) (g : A → B) (h : X → List A) → ((x : X) → f x ≡ map g (h x))
     → (xs : List X) → flat_map f xs ≡ map g (flat_map h xs)
@@ -45,7 +48,8 @@ flat_map_each f g h each (x ∷ xs) =
     (λ i. each x i ++ flat_map_each f g h each xs i) ∙ sym (map-append g (h x) (flat_map h xs))
 
 behind : (front row : List Value) (rows : List (List Value))
-    → map (λ others. (front ++ row) ++ others) rows ≡ map (λ others. front ++ others) (map (λ others. row ++ others) rows)
+    → map (λ others. (front ++ row) ++ others) rows
+    ≡ map (λ others. front ++ others) (map (λ others. row ++ others) rows)
 behind front row [] = refl
 behind front row (others ∷ rows) = λ i. append_assoc front row others i ∷ behind front row rows i
 
@@ -67,7 +71,8 @@ combined_is sources = combined_all [] sources ∙ unchanged (combinations source
 
 -- what is found once the combinations of all rows were looked at
 pub whole_found :
-    (items : List (Operand Value)) (tests : List (Test (Operand Value))) (front rest begun : List Value) (more : List (List (List Value)))
+    (items : List (Operand Value)) (tests : List (Test (Operand Value))) (front rest begun : List Value)
+    (more : List (List (List Value)))
     (before found : List (List Value)) (rows first : List (List Value)) (sources : List (List (List Value))) (i : ℕ)
     → length rows ≤ i
     → found ≡ before ++ shown_of items tests (flat_map (λ row. combined (begun ++ row) more) (take i rows))

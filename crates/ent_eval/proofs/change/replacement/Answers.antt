@@ -8,7 +8,8 @@ use Rattle.ent_eval.proofs.change.replacement.Goals as goal
 
 pub replace-replaced-requires-clause-kinds : goal.replace-replaced-requires-clause-kinds
 replace-replaced-requires-clause-kinds c = λ row answer here k.
-    image_of_kinds c.args.image.now row c.args.table.now.kinds answer c.requires (c.kinds.ensures.rows row here) (search rules)
+    image_of_kinds c.args.image.now row c.args.table.now.kinds answer c.requires (c.kinds.ensures.rows row here)
+    (search rules)
 
 pub returns-in-Ok : goal.returns-in-Ok
 returns-in-Ok c = (
@@ -22,4 +23,5 @@ pub returns-in-Err : goal.returns-in-Err
 returns-in-Err c =
     if_ok (λ outcome so. refused_so _ _ _ c.in-Err.refusal c.args.table.now outcome
     (c.replace-replaced.ensures.change (meets value_in c.args.tests.now) (image_or_overflow (image_of c.args.image.now))
-    (λ row answer here k. search rules) (λ row answer here k. search rules)) c.in-Err.is so) c.refused.result c.refused.ensures
+    (λ row answer here k. search rules) (λ row answer here k. search rules)) c.in-Err.is so) c.refused.result
+    c.refused.ensures

@@ -6,7 +6,8 @@ use Rattle.ent_eval.proofs.evaluation.evaluate.Goals as goal
 
 pub returns-in-Insert-clause-change : goal.returns-in-Insert-clause-change
 returns-in-Insert-clause-change c =
-    if_ok (λ outcome changes. applied_so (map arc_value c.args.tables.now) c.only.result.now _ outcome c.only.ensures changes)
+    if_ok (λ outcome changes. applied_so (map arc_value c.args.tables.now) c.only.result.now _ outcome c.only.ensures
+    changes)
     c.insertion.result c.insertion.ensures
 
 pub returns-in-Delete-clause-meaning : goal.returns-in-Delete-clause-meaning
@@ -14,14 +15,16 @@ returns-in-Delete-clause-meaning c =
     let table = c.in-Delete.table in
     let tests = c.as_slice-in-Delete.result.now in
     let is : c.args.statement.now ≡ statements.Delete table tests =
-    c.in-Delete.is ∙ ap (λ tests. statements.Delete table tests) (sym (c.as_slice-in-Delete.ensures ∙ c.deref-in-Delete.ensures)) in
+    c.in-Delete.is ∙ ap (λ tests. statements.Delete table tests)
+    (sym (c.as_slice-in-Delete.ensures ∙ c.deref-in-Delete.ensures)) in
     if_ok (λ outcome changes. deleted_so c.args.statement.now tests table (map arc_value c.args.tables.now)
     c.only-in-Delete.result.now outcome is c.only-in-Delete.ensures changes)
     c.deletion.result c.deletion.ensures
 
 pub returns-in-Delete-clause-change : goal.returns-in-Delete-clause-change
 returns-in-Delete-clause-change c =
-    if_ok (λ outcome changes. applied_so (map arc_value c.args.tables.now) c.only-in-Delete.result.now _ outcome c.only-in-Delete.ensures changes)
+    if_ok (λ outcome changes. applied_so (map arc_value c.args.tables.now) c.only-in-Delete.result.now _ outcome
+    c.only-in-Delete.ensures changes)
     c.deletion.result c.deletion.ensures
 
 pub returns-in-Update-clause-meaning : goal.returns-in-Update-clause-meaning
@@ -39,5 +42,6 @@ returns-in-Update-clause-meaning c =
 
 pub returns-in-Update-clause-change : goal.returns-in-Update-clause-change
 returns-in-Update-clause-change c =
-    if_ok (λ outcome changes. applied_so (map arc_value c.args.tables.now) c.only-in-Update.result.now _ outcome c.only-in-Update.ensures changes)
+    if_ok (λ outcome changes. applied_so (map arc_value c.args.tables.now) c.only-in-Update.result.now _ outcome
+    c.only-in-Update.ensures changes)
     c.replacement.result c.replacement.ensures

@@ -8,4 +8,5 @@ decreases-search l = length l.sources.now
 
 -- the item rows of the combinations of the rows so far
 abbrev pub invariant-loop-row : goal.invariant-loop-row
-invariant-loop-row l = l.found.items ≡ l.fn.found.items ++ shown_of l.select.items l.select.tests (flat_map (λ row. combined (l.begun ++ row) l.more) (take l.row-index l.row-items))
+invariant-loop-row l = l.found.items ≡ l.fn.found.items ++ shown_of l.select.items l.select.tests
+    (flat_map (λ row. combined (l.begun ++ row) l.more) (take l.row-index l.row-items))

@@ -9,4 +9,5 @@ use Rattle.ent_eval.proofs.select.ascending.Goals as goal
 pub returns : goal.returns
 returns c =
     dedup_is (eq_by_cmp row_cmp) _ _ c.dedup.ensures.filtered
-    ∙ ascending-from_sorted rows_total exact_rows c.args.rows.items c.sort.new.self.items c.in_ok-sort.ensures.permutation c.in_ok-sort.ensures.sorted
+    ∙ ascending-from_sorted rows_total exact_rows c.args.rows.items c.sort.new.self.items
+    c.in_ok-sort.ensures.permutation c.in_ok-sort.ensures.sorted

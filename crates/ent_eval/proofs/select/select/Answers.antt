@@ -14,6 +14,7 @@ returns c =
     c.from_vec.ensures ∙ c.in_ok-ascending.ensures
     ∙ ap (λ found. set.ascending (set.from_list {R = row_cmp} found))
     (c.in_ok-search.ensures
-    ∙ (λ i. c.new-found.ensures.items i ++ shown_of select.items select.tests (combined [] (c.as_slice.ensures.value i)))
+    ∙ (λ i. c.new-found.ensures.items i ++ shown_of select.items select.tests
+    (combined [] (c.as_slice.ensures.value i)))
     ∙ ap (λ sources. shown_of select.items select.tests (combined [] sources)) c.in_ok-sources.ensures
     ∙ ap (shown_of select.items select.tests) (combined_is rows))

@@ -6,4 +6,5 @@ use Rattle.ent_closing.proofs.environment.Environment.value_of.Given as goal
 
 -- what the bindings so far bind it to
 abbrev pub invariant-loop-binding : goal.invariant-loop-binding
-invariant-loop-binding l = option_copied l.found ≡ with_bindings nothing_bound (take l.binding-index l.self.bindings) l.variable
+invariant-loop-binding l = option_copied l.found ≡ with_bindings nothing_bound (take l.binding-index l.self.bindings)
+    l.variable
