@@ -1,4 +1,7 @@
 pub mod Idle
+pub mod Among
+pub mod Tidied
+pub mod TidySteps
 pub mod Inserted
 pub mod Ring
 pub mod WritersPlay
