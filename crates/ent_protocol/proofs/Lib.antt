@@ -2,6 +2,7 @@ pub mod Idle
 pub mod Among
 pub mod Tidied
 pub mod TidySteps
+pub mod Led
 pub mod Inserted
 pub mod Ring
 pub mod WritersPlay

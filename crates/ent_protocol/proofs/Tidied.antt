@@ -20,7 +20,8 @@ use Rattle.ent_protocol.specs.Run.{ending}
 use Rattle.ent_protocol.specs.State.{State, Member, Change, members}
 use Rattle.ent_protocol.specs.Tidy.{is_member, IsTidy}
 use Rattle.ent_protocol.proofs.Among.{same_number, or_left, or_both, kept, kept_filtered, none_filtered}
-use Rattle.ent_protocol.proofs.Among.{among_mapped, among_left, among_right, among_kept, among_split, all_among, found_among}
+use Rattle.ent_protocol.proofs.Among.{among_mapped, among_left, among_right, among_kept, among_split, all_among}
+use Rattle.ent_protocol.proofs.Among.{found_among}
 
 false_true : false ≡ true → ⊥
 false_true x = cc
@@ -117,7 +118,8 @@ all_out s h =
 
 -- ---- a member prepares, and its group commits
 
-pub found_on : (s : State) (tx : ℕ) (member : Member) → IsTidy s → active_member s tx ≡ Some member → s.running ≡ false → ⊥
+pub found_on : (s : State) (tx : ℕ) (member : Member) → IsTidy s → active_member s tx ≡ Some member
+    → s.running ≡ false → ⊥
 found_on s tx member h found off =
     false_true (sym (ap (λ ms. is_among ms tx) (h.no_active off)) ∙ (found_among tx s.active member found).1)
 
@@ -178,7 +180,8 @@ steps s member new h = one_replaced s (with_member new s) new refl refl refl ref
 still_there : (s : State) (new : Member) (tx : ℕ) → is_among s.active tx ≡ true
     → is_member (with_member new s) tx ≡ true
 still_there s new tx there =
-    ap (λ b. is_among s.prepared tx || b) (among_mapped (replaced new) s.active tx (replaced_tx new) ∙ there) ∙ or-true _
+    ap (λ b. is_among s.prepared tx || b) (among_mapped (replaced new) s.active tx (replaced_tx new) ∙ there)
+    ∙ or-true _
 
 pub finishes_tidy : (s : State) (member : Member) (statement : Statement Value) (outcome : Outcome)
     → is_among s.active member.tx ≡ true → IsTidy s → IsTidy (finished s member statement outcome)

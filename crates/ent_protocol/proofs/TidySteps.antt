@@ -19,7 +19,8 @@ use Rattle.ent_protocol.specs.Member.{Next, Ordinary, Asks, Commits, RollsBack, 
 use Rattle.ent_protocol.specs.PoolEvents.{Picks, AnswersBy, JoinsOrIsStale}
 use Rattle.ent_protocol.specs.Reached.{opened, LeadsTo, IsReached, settled}
 use Rattle.ent_protocol.specs.Rollback.{is_among, put_back, Asked, Failing, NoOne, group_members}
-use Rattle.ent_protocol.specs.Run.{Forms, SubmitsForm, SubmitsUnless, StartsWith, starting, BreaksIfAny, EndsWhileRunning}
+use Rattle.ent_protocol.specs.Run.{Forms, SubmitsForm, SubmitsUnless, StartsWith, starting, BreaksIfAny}
+use Rattle.ent_protocol.specs.Run.{EndsWhileRunning}
 use Rattle.ent_protocol.specs.State.{State, Member, Change, Dormant}
 use Rattle.ent_protocol.specs.Step.{Step}
 use Rattle.ent_protocol.specs.Tidy.{is_member, IsTidy}
