@@ -131,8 +131,8 @@ prepares s member h on =
     record {
       no_prepared = λ off. absurd (on off);
       no_active = λ off. absurd (on off);
-      owned = kept (λ (c : Change). is_member s c.tx ≡ true) (λ (c : Change). is_member (preparing s member) c.tx ≡ true)
-          s.changes (λ c e. moved c.tx e) h.owned;
+      owned = kept (λ (c : Change). is_member s c.tx ≡ true)
+          (λ (c : Change). is_member (preparing s member) c.tx ≡ true) s.changes (λ c e. moved c.tx e) h.owned;
     }
   where
     moved : (tx : ℕ) → is_member s tx ≡ true → is_member (preparing s member) tx ≡ true
