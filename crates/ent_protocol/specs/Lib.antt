@@ -17,3 +17,4 @@ pub mod Play
 pub mod Writers
 pub mod Partners
 pub mod Tidy
+pub mod Numbers

@@ -3,6 +3,7 @@ ghost use Rattle.std.specs.Prelude.{◌≡◌, ℕ, ◌∷◌, [], true, false, 
 ghost use Rattle.ent_tree.specs.declared.declaration.Opening.{Opening};
 ghost use Rattle.ent_semantics.specs.declared.book.Fate.TheVariants.{Committed};
 ghost use Rattle.ent_protocol.specs.Event.{Event, Reply};
+ghost use Rattle.ent_protocol.specs.Numbers.{AreNumbered};
 ghost use Rattle.ent_protocol.specs.Partners.{Partners, flight_122, partners_opening, partners_pass};
 ghost use Rattle.ent_protocol.specs.Play.{Plays, is_idle};
 ghost use Rattle.ent_protocol.specs.Reached.{IsReached, LeadsTo, opened, settled};
@@ -28,6 +29,12 @@ pub fn reached_states_are_tidy<F>()
         → IsReached forms s
         → s.running ≡ false
         → settled s ≡ s.tables }
+{}
+
+/// In every state that is reached the transactions that have committed are those of the journal, with the numbers of
+/// their entries.
+pub fn commits_are_numbered<F>()
+    ensures { (forms : Forms F) (s : State) → IsReached forms s → AreNumbered s }
 {}
 
 /// A play from an opening's own state leads to a state that is reached.

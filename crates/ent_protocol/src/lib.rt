@@ -8,6 +8,6 @@
 mod law;
 
 pub use law::{
-    partner_passes_a_prepared_lock, plays_lead_on, reached_states_are_tidy,
+    commits_are_numbered, partner_passes_a_prepared_lock, plays_lead_on, reached_states_are_tidy,
     refusals_change_nothing, two_writers_deadlock,
 };
