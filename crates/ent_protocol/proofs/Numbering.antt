@@ -203,7 +203,8 @@ module _ {F : Type 0} where
   join : (s : State) (done : Done) (reply : Reply F) (new : State) → JoinsOrIsStale s done reply new
       → AreNumbered s → AreNumbered new
   join s done reply new (inl step) h =
-      answers (record s { lent = step.outstanding.left }) step.outstanding.asked step.groundings reply new step.answers h
+      answers (record s { lent = step.outstanding.left }) step.outstanding.asked step.groundings
+      reply new step.answers h
   join s done reply new (inr step) h = as_it_is s new step.1.1 h
 
   submits_form : (s : State) (script : Script) (form : Result (List (Statement Known)) F) (reply : Reply F)
