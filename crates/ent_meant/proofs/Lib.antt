@@ -9,3 +9,4 @@ pub mod Selecting
 pub mod Grounding
 pub mod Putting
 pub mod Changing
+pub mod Images
