@@ -1,6 +1,6 @@
 -- The image that assignments make of a row.
-use Rattle.std.proofs.Common.{◌≡◌, ℕ, zero, suc, ◌+◌, Bool, true, false, not, ◌||◌, List, [], ◌∷◌, ◌++◌, map, length, Option}
-use Rattle.std.proofs.Common.{Some, None, Ok, refl, sym, ap, subst, ◌∙◌, arith}
+use Rattle.std.proofs.Common.{◌≡◌, ℕ, zero, suc, ◌+◌, Bool, true, false, not, List, [], ◌∷◌, ◌++◌, map, length, Option}
+use Rattle.std.proofs.Common.{Some, Ok, refl, sym, ap, subst, ◌∙◌, arith}
 use Rattle.std.specs.Prelude.{slice_index_or, slice_set, if◌then◌else◌}
 use Rattle.std.specs.List.{AllByRecursion, IsDistinct}
 use Rattle.std.proofs.lemmas.Bool.{or_parts}
@@ -17,7 +17,7 @@ use Rattle.ent_closed.specs.declared.operand.Operand.{Operand}
 use Rattle.ent_semantics.specs.Change.{all_there, assigned_value, assigned_values, image}
 use Rattle.ent_semantics.specs.Database.{Name, Environment, same_name}
 use Rattle.ent_semantics.specs.Names.{equal_names, names_turned}
-use Rattle.ent_semantics.specs.Term.{SourceColumn, no_value, expression_value}
+use Rattle.ent_semantics.specs.Term.{no_value, expression_value}
 use Rattle.ent_form.specs.declared.catalogue.ColumnSchema.{ColumnSchema}
 use Rattle.ent_form.specs.declared.fault.FormFault.TheVariants.{NoColumn, WrongKind, Repeated}
 use Rattle.ent_form.specs.Catalogue.{column_from, column_named, is_among}
@@ -25,7 +25,7 @@ use Rattle.ent_form.specs.Kinds.{Bound, same_kind}
 use Rattle.ent_form.specs.Lookup.{operand_in, operands_in, operand_place, kind_in, expression_in, expression_place}
 use Rattle.ent_form.specs.Ordinary.{Image, own_from, assignment_in, assignments_from, image_in}
 use Rattle.ent_form.specs.Scope.{Scope}
-use Rattle.ent_form.specs.Steps.{there, demand}
+use Rattle.ent_form.specs.Steps.{there}
 use Rattle.ent_meant.proofs.Selecting.{said, meant, operand_same}
 use Rattle.ent_meant.proofs.Steps.{same_given, bind_given, demand_given, there_given}
 use Rattle.ent_meant.proofs.Variables.{among_behind}
@@ -97,9 +97,11 @@ module _ {A : Type 0} (worth : A → Option Value) where
           ≡ (if b then worth x else worth y) ∷ over name (worth x) (names_of columns) (map worth all))
       by true same here later =
           let none : AllByRecursion (λ other. same_name name other ≡ false) (names_of columns) =
-          subst (λ n. AllByRecursion (λ other. same_name n other ≡ false) (names_of columns)) (equal_names column.name name same) distinct.0 in
-          (0, (let is = first_same (first, column.kind) found here in omega arith),
-          ap (λ xs. worth x ∷ xs) (sym (over_none name (worth x) (names_of columns) (map worth all) none)))
+          subst (λ n. AllByRecursion (λ other. same_name n other ≡ false) (names_of columns)) (equal_names column.name name same) distinct.0 in (
+            0,
+            (let is = first_same (first, column.kind) found here in omega arith),
+            ap (λ xs. worth x ∷ xs) (sym (over_none name (worth x) (names_of columns) (map worth all) none)),
+          )
       by false same here later =
           let w = later here in
           (suc w.0, (let is = w.1 in omega arith), ap (λ xs. worth y ∷ xs) w.2)
@@ -235,13 +237,12 @@ module _ (environment : Environment) (bound : Bound) (scope : Scope) (row : List
       let made = bind_given (expression_in (operands_in scope bound) assignment.expression) _ after fresh.1 in
       let kept = demand_given (same_kind column.0.1 made.0.1) (WrongKind (expression_place operand_place assignment.expression)) (Ok (slice_set before column.0.0 made.0.0)) after made.2 in
       let put = set_over worth_of 0 columns before name column.0 made.0.0 distinct there_it_is in
-      let number : column.0.0 ≡ put.0 = let c = put.1 in omega arith in
-      (
+      let number : column.0.0 ≡ put.0 = let c = put.1 in omega arith in (
         not_true (is_among earlier name) fresh.0,
         ap (map worth_of) (sym (same_given (slice_set before column.0.0 made.0.0) after kept.1))
-        ∙ ap (λ n. map worth_of (slice_set before n made.0.0)) number
-        ∙ put.2
-        ∙ ap (λ v. over name v (names_of columns) (map worth_of before)) (sym (expression_same assignment.expression made.0 made.1))
+            ∙ ap (λ n. map worth_of (slice_set before n made.0.0)) number
+            ∙ put.2
+            ∙ ap (λ v. over name v (names_of columns) (map worth_of before)) (sym (expression_same assignment.expression made.0 made.1)),
       )
     where
       not_true : (b : Bool) → not b ≡ true → b ≡ false

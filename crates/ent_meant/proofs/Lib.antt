@@ -10,3 +10,5 @@ pub mod Grounding
 pub mod Putting
 pub mod Changing
 pub mod Images
+pub mod Updating
+pub mod Statements
