@@ -97,7 +97,8 @@ module _ {A : Type 0} (worth : A → Option Value) where
           ≡ (if b then worth x else worth y) ∷ over name (worth x) (names_of columns) (map worth all))
       by true same here later =
           let none : AllByRecursion (λ other. same_name name other ≡ false) (names_of columns) =
-          subst (λ n. AllByRecursion (λ other. same_name n other ≡ false) (names_of columns)) (equal_names column.name name same) distinct.0 in (
+          subst (λ n. AllByRecursion (λ other. same_name n other ≡ false) (names_of columns))
+          (equal_names column.name name same) distinct.0 in (
             0,
             (let is = first_same (first, column.kind) found here in omega arith),
             ap (λ xs. worth x ∷ xs) (sym (over_none name (worth x) (names_of columns) (map worth all) none)),
@@ -112,7 +113,8 @@ picked value [] column x = x
 picked value (assignment ∷ more) column x =
     if same_name assignment.column.name column then value assignment else picked value more column x
 
-abbrev all_picked : (Assignment → Option Value) → List Assignment → List Name → List (Option Value) → List (Option Value)
+abbrev all_picked : (Assignment → Option Value) → List Assignment → List Name → List (Option Value)
+    → List (Option Value)
 all_picked value assignments [] values = values
 all_picked value assignments (column ∷ columns) [] = []
 all_picked value assignments (column ∷ columns) (x ∷ values) =
@@ -130,7 +132,8 @@ module _ (value : Assignment → Option Value) where
       → picked value assignments name x ≡ x
   keeps [] name x h = refl
   keeps (assignment ∷ more) name x h =
-      ap (λ b. if b then value assignment else picked value more name x) (names_turned assignment.column.name name ∙ h.0)
+      ap (λ b. if b then value assignment else picked value more name x)
+      (names_turned assignment.column.name name ∙ h.0)
       ∙ keeps more name x h.1
 
   first_over : (assignment : Assignment) (more : List Assignment) (columns : List Name) (values : List (Option Value))
@@ -160,8 +163,10 @@ module _ (value : Assignment → Option Value) where
           (sym (names_turned assignment.column.name column ∙ other))
 
   -- a row's own values, with those that are assigned
-  picked_values : (worth : TreeOperand → Value) → ((assignment : Assignment) → value assignment ≡ expression_value worth assignment.expression)
-      → (source : Name) (assignments : List Assignment) (columns : List Name) (row : List Value) → length row ≡ length columns
+  picked_values : (worth : TreeOperand → Value) → ((assignment : Assignment) → value assignment
+      ≡ expression_value worth assignment.expression)
+      → (source : Name) (assignments : List Assignment) (columns : List Name) (row : List Value) → length row
+      ≡ length columns
       → assigned_values worth assignments (map (λ column. record { source = source; column = column }) columns) row
       ≡ all_picked value assignments columns (map Some row)
   picked_values worth same source assignments [] [] l = refl
@@ -235,14 +240,17 @@ module _ (environment : Environment) (bound : Bound) (scope : Scope) (row : List
       let there_it_is = there_given (column_named columns name) (NoColumn assignment.column.place) column.0 column.1 in
       let fresh = demand_given (not (is_among earlier name)) (Repeated assignment.column.place) _ after column.2 in
       let made = bind_given (expression_in (operands_in scope bound) assignment.expression) _ after fresh.1 in
-      let kept = demand_given (same_kind column.0.1 made.0.1) (WrongKind (expression_place operand_place assignment.expression)) (Ok (slice_set before column.0.0 made.0.0)) after made.2 in
+      let kept = demand_given (same_kind column.0.1 made.0.1)
+      (WrongKind (expression_place operand_place assignment.expression))
+      (Ok (slice_set before column.0.0 made.0.0)) after made.2 in
       let put = set_over worth_of 0 columns before name column.0 made.0.0 distinct there_it_is in
       let number : column.0.0 ≡ put.0 = let c = put.1 in omega arith in (
         not_true (is_among earlier name) fresh.0,
         ap (map worth_of) (sym (same_given (slice_set before column.0.0 made.0.0) after kept.1))
             ∙ ap (λ n. map worth_of (slice_set before n made.0.0)) number
             ∙ put.2
-            ∙ ap (λ v. over name v (names_of columns) (map worth_of before)) (sym (expression_same assignment.expression made.0 made.1)),
+            ∙ ap (λ v. over name v (names_of columns) (map worth_of before))
+            (sym (expression_same assignment.expression made.0 made.1)),
       )
     where
       not_true : (b : Bool) → not b ≡ true → b ≡ false
@@ -256,29 +264,39 @@ module _ (environment : Environment) (bound : Bound) (scope : Scope) (row : List
   all_new columns [] earlier before after distinct e = tt
   all_new columns (assignment ∷ more) earlier before after distinct e =
       let w = bind_given (assignment_in scope bound columns earlier before assignment) _ after e in
-      let rest = all_new columns more (earlier ++ assignment.column.name ∷ []) w.0 after distinct w.2 in
-      ((assigned columns earlier before w.0 assignment distinct w.1).0, still_new earlier assignment.column.name more rest)
+      let rest = all_new columns more (earlier ++ assignment.column.name ∷ []) w.0 after distinct w.2 in (
+        (assigned columns earlier before w.0 assignment distinct w.1).0,
+        still_new earlier assignment.column.name more
+            rest,
+      )
     where
       still_new : (earlier : List Name) (name : Name) (more : List Assignment)
           → AllByRecursion (λ other. is_among (earlier ++ name ∷ []) other.column.name ≡ false) more
           → AllByRecursion (λ other. is_among earlier other.column.name ≡ false) more
       still_new earlier name [] h = tt
-      still_new earlier name (other ∷ more) h =
-          ((or_parts (is_among earlier other.column.name) _ (sym (among_behind earlier name other.column.name) ∙ h.0)).0, still_new earlier name more h.1)
+      still_new earlier name (other ∷ more) h = (
+        (or_parts (is_among earlier other.column.name) _ (sym (among_behind earlier name other.column.name)
+            ∙ h.0)).0,
+        still_new earlier name more h.1,
+      )
 
   differ : (earlier : List Name) (name : Name) (more : List Assignment)
       → AllByRecursion (λ other. is_among (earlier ++ name ∷ []) other.column.name ≡ false) more
       → AllByRecursion (λ other. same_name name other.column.name ≡ false) more
   differ earlier name [] h = tt
-  differ earlier name (other ∷ more) h =
-      ((or_parts (is_among earlier other.column.name) _ (sym (among_behind earlier name other.column.name) ∙ h.0)).1, differ earlier name more h.1)
+  differ earlier name (other ∷ more) h = (
+    (or_parts (is_among earlier other.column.name) _ (sym (among_behind earlier name other.column.name) ∙ h.0)).1,
+    differ earlier name more h.1,
+  )
 
-  all_assigned : (columns : List ColumnSchema) (assignments : List Assignment) (earlier : List Name) (before after : Image)
+  all_assigned : (columns : List ColumnSchema) (assignments : List Assignment) (earlier : List Name)
+      (before after : Image)
       → IsDistinct same_name (names_of columns)
       → assignments_from scope bound columns earlier before assignments ≡ Ok after
       → map worth_of after ≡ all_picked given assignments (names_of columns) (map worth_of before)
   all_assigned columns [] earlier before after distinct e =
-      ap (map worth_of) (sym (same_given before after e)) ∙ sym (none_picked given (names_of columns) (map worth_of before))
+      ap (map worth_of) (sym (same_given before after e)) ∙ sym
+      (none_picked given (names_of columns) (map worth_of before))
   all_assigned columns (assignment ∷ more) earlier before after distinct e =
       let w = bind_given (assignment_in scope bound columns earlier before assignment) _ after e in
       let name = assignment.column.name in
@@ -288,7 +306,8 @@ module _ (environment : Environment) (bound : Bound) (scope : Scope) (row : List
       ∙ first_over given assignment more (names_of columns) (map worth_of before) (differ earlier name more later)
 
 -- a column that isn't assigned is its own
-own_shown : (environment : Environment) (bound : Bound) (scope : Scope) (before row : List Value) (columns : List ColumnSchema)
+own_shown : (environment : Environment) (bound : Bound) (scope : Scope) (before row : List Value)
+    (columns : List ColumnSchema)
     → (first : ℕ) → length before ≡ first → length row ≡ length columns
     → map (worth_of environment bound scope (before ++ row)) (own_from first columns) ≡ map Some row
 own_shown environment bound scope before [] [] first is l = refl
@@ -296,20 +315,27 @@ own_shown environment bound scope before [] (column ∷ columns) first is l = ab
 own_shown environment bound scope before (value ∷ row) [] first is l = absurd (omega arith)
 own_shown environment bound scope before (value ∷ row) (column ∷ columns) first is l =
     let longer : length (before ++ value ∷ []) ≡ suc first = omega (arith, length-append before (value ∷ [])) in
-    let here : slice_index_or (before ++ value ∷ row) first no_value ≡ value = get_or_at before value row no_value first is in
-    let rest : map (worth_of environment bound scope ((before ++ value ∷ []) ++ row)) (own_from (suc first) columns) ≡ map Some row =
+    let here : slice_index_or (before ++ value ∷ row) first no_value
+    ≡ value = get_or_at before value row no_value first is in
+    let rest : map (worth_of environment bound scope ((before ++ value ∷ []) ++ row)) (own_from (suc first) columns)
+    ≡ map Some row =
     own_shown environment bound scope (before ++ value ∷ []) row columns (suc first) longer (omega arith) in
-    λ i. Some (here i) ∷ (ap (λ (r : List Value). map (worth_of environment bound scope r) (own_from (suc first) columns)) (sym (append_assoc before (value ∷ []) row)) ∙ rest) i
+    λ i. Some (here i) ∷ (ap (λ (r : List Value). map (worth_of environment bound scope r)
+    (own_from (suc first) columns)) (sym (append_assoc before (value ∷ []) row)) ∙ rest) i
 
-pub image_same : (environment : Environment) (bound : Bound) (scope : Scope) (source : Name) (columns : List ColumnSchema)
+pub image_same : (environment : Environment) (bound : Bound) (scope : Scope) (source : Name)
+    (columns : List ColumnSchema)
     → (assignments : List Assignment) (made : Image) (row : List Value)
     → IsDistinct same_name (names_of columns) → image_in scope bound columns assignments ≡ Ok made
     → length row ≡ length columns → length row ≡ length (names_of columns)
-    → image (said environment bound scope) assignments (map (λ column. record { source = source; column = column }) (names_of columns)) row
+    → image (said environment bound scope) assignments (map (λ column. record { source = source; column = column })
+    (names_of columns)) row
     ≡ all_there (map (expression_value (meant environment bound scope row)) made)
 unfolding image_in
 image_same environment bound scope source columns assignments made row distinct e l n =
     ap all_there
-    (picked_values (given environment bound scope row) (said environment bound scope row) (λ assignment. refl) source assignments (names_of columns) row n
-    ∙ ap (all_picked (given environment bound scope row) assignments (names_of columns)) (sym (own_shown environment bound scope [] row columns 0 refl l))
+    (picked_values (given environment bound scope row) (said environment bound scope row) (λ assignment. refl) source
+    assignments (names_of columns) row n
+    ∙ ap (all_picked (given environment bound scope row) assignments (names_of columns))
+    (sym (own_shown environment bound scope [] row columns 0 refl l))
     ∙ sym (all_assigned environment bound scope row columns assignments [] (own_from 0 columns) made distinct e))

@@ -138,8 +138,10 @@ module _ (creates : List Create) (tables : Tables) (name : Name) (number : ℕ) 
       → replacement (table_named name) matches image (database_of creates tables) environment
       ≡ effect_of creates (replacement (table_numbered number) matches image tables environment)
   replacement_same matches image e =
-      ap (λ (rows : Rows). or_overflow (updated matches image rows) (changed (table_named name) (set.len (matched matches rows))) (database_of creates tables) environment) e
-      ∙ going_on (updated matches image ((table_numbered number).rows tables)) (set.len (matched matches ((table_numbered number).rows tables)))
+      ap (λ (rows : Rows). or_overflow (updated matches image rows)
+      (changed (table_named name) (set.len (matched matches rows))) (database_of creates tables) environment) e
+      ∙ going_on (updated matches image ((table_numbered number).rows tables))
+      (set.len (matched matches ((table_numbered number).rows tables)))
     where
       going_on : (there : Option Rows) (count : ℕ)
           → or_overflow there (changed (table_named name) count) (database_of creates tables) environment

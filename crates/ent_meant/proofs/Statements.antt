@@ -23,7 +23,8 @@ use Rattle.ent_meant.proofs.Steps.{same_given, bind_given}
 use Rattle.ent_meant.proofs.Updating.{update_same}
 use Rattle.ent_meant.proofs.Whole.{heads_meant, bound_meant}
 
-module _ (creates : List Create) (tables : Tables) (fitting : AreWide creates tables) (apart : HaveDistinctColumns creates)
+module _ (creates : List Create) (tables : Tables) (fitting : AreWide creates tables)
+    (apart : HaveDistinctColumns creates)
     (environment : Environment) (valuation : Valuation) (bound after : Bound) where
   abbrev meaning : Statement Known → Result (Effect Tables) Failure
   meaning form = form_meaning known_worth form valuation tables environment
@@ -40,25 +41,30 @@ module _ (creates : List Create) (tables : Tables) (fitting : AreWide creates ta
       let w = bind_given (select_in (schemas_of creates) bound select) _ (form, after) e in
       ap (λ (rows : Rows). shown rows (database_of creates tables) environment)
       (select_same creates tables fitting environment bound select w.0.0 w.0.1 w.1)
-      ∙ ap (λ (both : Statement Known × Bound). effect_of creates (meaning (form_of both))) (same_given _ (form, after) w.2)
+      ∙ ap (λ (both : Statement Known × Bound). effect_of creates (meaning (form_of both)))
+      (same_given _ (form, after) w.2)
   statement_same (statements.Entangled entangled) form e l =
       let w = bind_given (entangled_in (schemas_of creates) bound entangled) _ (form, after) e in
       let tables_of = schemas_of creates in
       let heads = heads_meant environment entangled valuation tables_of bound w.0.1 w.0.0 w.1 l in
       let binds = bound_meant environment entangled valuation tables_of bound w.0.1 w.0.0 w.1 l in
       (λ i. heads_given (heads i) (binds i) (database_of creates tables) environment)
-      ∙ ap (λ (both : Statement Known × Bound). effect_of creates (meaning (form_of both))) (same_given _ (form, after) w.2)
+      ∙ ap (λ (both : Statement Known × Bound). effect_of creates (meaning (form_of both)))
+      (same_given _ (form, after) w.2)
   statement_same (statements.Insert insert) form e l =
       let w = bind_given (insert_in (schemas_of creates) bound insert) _ (form, after) e in
       insert_same creates tables fitting environment valuation bound insert w.0 w.1
-      ∙ ap (λ (both : Statement Known × Bound). effect_of creates (meaning (form_of both))) (same_given _ (form, after) w.2)
+      ∙ ap (λ (both : Statement Known × Bound). effect_of creates (meaning (form_of both)))
+      (same_given _ (form, after) w.2)
   statement_same (statements.Delete delete) form e l =
       let w = bind_given (delete_in (schemas_of creates) bound delete) _ (form, after) e in
       delete_same creates tables fitting environment valuation bound delete w.0 w.1
-      ∙ ap (λ (both : Statement Known × Bound). effect_of creates (meaning (form_of both))) (same_given _ (form, after) w.2)
+      ∙ ap (λ (both : Statement Known × Bound). effect_of creates (meaning (form_of both)))
+      (same_given _ (form, after) w.2)
   statement_same (statements.Update update) form e l =
       let w = bind_given (update_in (schemas_of creates) bound update) _ (form, after) e in
       update_same creates tables fitting apart environment valuation bound update w.0 w.1
-      ∙ ap (λ (both : Statement Known × Bound). effect_of creates (meaning (form_of both))) (same_given _ (form, after) w.2)
+      ∙ ap (λ (both : Statement Known × Bound). effect_of creates (meaning (form_of both)))
+      (same_given _ (form, after) w.2)
   statement_same (statements.Set setting) form e l =
       set_same creates tables fitting environment valuation bound setting form after e

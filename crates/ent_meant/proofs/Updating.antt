@@ -1,5 +1,6 @@
 -- UPDATE resolved.
-use Rattle.std.proofs.Common.{◌≡◌, ℕ, suc, Bool, true, false, ◌&&◌, ◌||◌, List, [], ◌∷◌, map, length, Option, Some, None}
+use Rattle.std.proofs.Common.{◌≡◌, ℕ, suc, Bool, true, false, ◌&&◌, ◌||◌, List, [], ◌∷◌, map, length, Option, Some}
+use Rattle.std.proofs.Common.{None}
 use Rattle.std.proofs.Common.{Result, Ok, refl, sym, ap, subst, ◌∙◌, arith}
 use Rattle.std.specs.Prelude.{is_some, if◌then◌else◌}
 use Rattle.std.specs.Cmp.{Equal-is}
@@ -71,7 +72,8 @@ kept_wide width rows test wide =
     let kept : set.contains (set.retain rows test) row ≡ true = contains-ascending (set.retain rows test) row ∙ e in
     let both : (set.contains rows row && test row) ≡ true =
     sym (contains-retain rows_total rows test row (λ other same. ap test (sym (exact_rows row other same)))) ∙ kept in
-    any_wide width row (set.ascending rows) wide (sym (contains-ascending rows row) ∙ (and_parts (set.contains rows row) (test row) both).0))
+    any_wide width row (set.ascending rows) wide (sym (contains-ascending rows row)
+    ∙ (and_parts (set.contains rows row) (test row) both).0))
 
 all_map : (P Q : List Value → Type 0) → ((row : List Value) → P row → Q row) → (rows : List (List Value))
     → AllByRecursion P rows → AllByRecursion Q rows
@@ -122,22 +124,26 @@ distinct_at (create ∷ more) first name found distinct e =
 
 -- ---- UPDATE
 
-module _ (creates : List Create) (tables : Tables) (fitting : AreWide creates tables) (apart : HaveDistinctColumns creates)
+module _ (creates : List Create) (tables : Tables) (fitting : AreWide creates tables)
+    (apart : HaveDistinctColumns creates)
     (environment : Environment) (valuation : Valuation) (bound : Bound) where
   abbrev meaning : Statement Known → Result (Effect Tables) Failure
   meaning form = form_meaning known_worth form valuation tables environment
 
   pub update_same : (update : Update) (form : Statement Known)
       → update_in (schemas_of creates) bound update ≡ Ok form
-      → replacement (table_named update.table.name) (meets (table_worth creates environment update.table.name) update.tests)
-      (image (table_worth creates environment update.table.name) update.assignments (table_columns creates update.table.name update.table.name))
+      → replacement (table_named update.table.name) (meets (table_worth creates environment update.table.name)
+      update.tests)
+      (image (table_worth creates environment update.table.name) update.assignments
+      (table_columns creates update.table.name update.table.name))
       (database_of creates tables) environment
       ≡ effect_of creates (meaning form)
   unfolding update_in
   update_same update form e =
       let name = update.table.name in
       let found = bind_given (table_in (schemas_of creates) update.table) _ form e in
-      let there_it_is = there_given (catalogue.table_named (schemas_of creates) name) (NoTable update.table.place) found.0 found.1 in
+      let there_it_is = there_given (catalogue.table_named (schemas_of creates) name) (NoTable update.table.place)
+      found.0 found.1 in
       let scope = table_scope name found.0 in
       let schema = found.0.1.columns in
       let tests = bind_given (tests_in scope bound update.tests) _ form found.2 in
@@ -152,16 +158,27 @@ module _ (creates : List Create) (tables : Tables) (fitting : AreWide creates ta
       ap (map (λ column. record { source = name; column = column })) here.columns ∙ sym (names_seen name schema) in
       let wide : OfWidth (length schema) (database_of creates tables name) =
       subst (λ (r : Rows). OfWidth (length schema) r) (sym here.rows) here.wide in
-      let form_image : List Value → Option (List Value) = λ row. all_there (map (expression_value (meant environment bound scope row)) made.0) in
-      let tree_image : List Value → Option (List Value) = image (said environment bound scope) update.assignments (map (λ column. record { source = name; column = column }) (names_of schema)) in
+      let form_image : List Value → Option (List Value) = λ row. all_there
+      (map (expression_value (meant environment bound scope row)) made.0) in
+      let tree_image : List Value → Option (List Value) = image (said environment bound scope) update.assignments
+      (map (λ column. record { source = name; column = column }) (names_of schema)) in
       let alike : (row : List Value) → length row ≡ length schema → tree_image row ≡ form_image row =
-      λ row l. image_same environment bound scope name schema update.assignments made.0 row (distinct_at creates 0 name found.0 apart there_it_is) made.1 l (l ∙ sym (length-map schema (λ (column : ColumnSchema). column.name))) in
+      λ row l. image_same environment bound scope name schema update.assignments made.0 row
+      (distinct_at creates 0 name found.0 apart there_it_is) made.1 l
+      (l ∙ sym (length-map schema (λ (column : ColumnSchema). column.name))) in
       let matches : List Value → Bool = meets (operand_worth (known_worth environment)) tests.0 in
       let database = database_of creates tables in
-      ap (λ (columns : List SourceColumn). replacement (table_named name) (meets (operand_value environment columns) update.tests) (image (operand_value environment columns) update.assignments (table_columns creates name name)) database environment) columns
-      ∙ ap (λ (names : List Name). replacement (table_named name) (meets (said environment bound scope) update.tests) (image (said environment bound scope) update.assignments (map (λ column. record { source = name; column = column }) names)) database environment) here.columns
-      ∙ (λ i. replacement (table_named name) (λ row. where_same environment bound scope row update.tests tests.0 tests.1 i) tree_image database environment)
-      ∙ ap (λ (left : Option Rows). or_overflow left (changed (table_named name) (set.len (matched matches (database name)))) database environment)
+      ap (λ (columns : List SourceColumn). replacement (table_named name)
+      (meets (operand_value environment columns) update.tests)
+      (image (operand_value environment columns) update.assignments (table_columns creates name name)) database
+      environment) columns
+      ∙ ap (λ (names : List Name). replacement (table_named name) (meets (said environment bound scope) update.tests)
+      (image (said environment bound scope) update.assignments
+      (map (λ column. record { source = name; column = column }) names)) database environment) here.columns
+      ∙ (λ i. replacement (table_named name) (λ row. where_same environment bound scope row update.tests tests.0
+      tests.1 i) tree_image database environment)
+      ∙ ap (λ (left : Option Rows). or_overflow left (changed (table_named name)
+      (set.len (matched matches (database name)))) database environment)
       (updated_alike matches tree_image form_image (database name) (length schema) wide alike)
       ∙ replacement_same creates tables name put.0 put.2 environment matches form_image rows
       ∙ ap (λ (n : ℕ). effect_of creates (replacement (table_numbered n) matches form_image tables environment)) place
