@@ -12,3 +12,4 @@ pub mod Changing
 pub mod Images
 pub mod Updating
 pub mod Statements
+pub mod Declared
