@@ -1,3 +1,5 @@
+pub mod Ascending
 pub mod Beginning
+pub mod FirstOfEach
 pub mod Names
 pub mod NoRows

@@ -17,4 +17,7 @@ none_text : decimal (set.len (set.empty {R = row_cmp})) ≡ 48 ∷ []
 none_text = ap decimal (len-empty row_cmp) ∙ decimal_digit 0 (omega arith)
 
 pub empty_table : (name : List ℕ) → table_text name set.empty ≡ codes "table " ++ (name ++ codes " 0\n")
-empty_table name = rw (none_text, no_rows) (ap (λ ys. codes "table " ++ ys) (append-nil ((name ++ 32 ∷ 48 ∷ []) ++ 10 ∷ []) ∙ append_assoc name (32 ∷ 48 ∷ []) (10 ∷ [])))
+empty_table name =
+    rw (none_text, no_rows)
+    (ap (λ ys. codes "table " ++ ys)
+    (append-nil ((name ++ 32 ∷ 48 ∷ []) ++ 10 ∷ []) ∙ append_assoc name (32 ∷ 48 ∷ []) (10 ∷ [])))

@@ -1,4 +1,4 @@
-pub mod Book
 pub mod Report
-pub mod Text
+pub mod Report2
+pub mod Tables
 pub mod Write

@@ -1,13 +1,21 @@
-//! What a run of scripts came to, and its report.
+//! The report of a book: what scripts came to, as text.
 //!
-//! A caller may rely on the exact text: what [`write_report`] writes is the report of the book, whole, and after a
-//! fault of the writer a beginning of it.
+//! A caller may rely on the exact text: what [`write_report`] and [`write_report_2`] write is the report of the book,
+//! whole, and after a fault of the writer a beginning of it.
 #![tactic(auto)]
 
-mod append;
-mod book;
+mod answer;
+mod grounding;
+mod joint;
+mod numbered;
+mod opening;
+mod piece;
 mod report;
+mod script;
+mod table;
+mod transaction;
+mod variables;
 mod write;
 
-pub use book::{Book, Fate, NamedTable};
-pub use write::{WriteFault, write_report};
+pub use table::NamedTable;
+pub use write::{WriteFault, write_report, write_report_2};

@@ -1,13 +1,17 @@
 //! A report written out.
-ghost use Rattle.std.specs.Prelude.{◌≡◌, OnOk, IfErr, List, ℕ};
+ghost use Rattle.std.specs.Prelude.{◌≡◌, Err, List, OnErr, OnOk, is_err, ℕ};
 ghost use Rattle.std.specs.Io.KnownBytes.{Appends};
 ghost use Rattle.ent_value.specs.Watched.{IsUnmarked};
-ghost use Rattle.ent_book.specs.Text.{book_text};
-ghost use Rattle.ent_book.specs.Write.{AppendsBeginning, IsMarkedBy};
+ghost use Rattle.ent_value.specs.declared.refusal.Refusal.TheVariants.{Memory};
+ghost use Rattle.ent_book.specs.Report.{report_text};
+ghost use Rattle.ent_book.specs.Report2.{report_2_text};
+ghost use Rattle.ent_book.specs.Tables.{book_seen};
+ghost use Rattle.ent_book.specs.Write.{AppendsBeginning, is_fault, is_marked};
 
-use crate::book::Book;
-use crate::report::report;
-use ent_value::{Refusal, Watched};
+use crate::report::{report, report_2};
+use crate::table::NamedTable;
+use ent_semantics::Book;
+use ent_value::{Refusal, Sequence, Watched};
 use std::alloc::Global;
 use std::io::Write;
 use thiserror::Error;
@@ -23,38 +27,67 @@ pub struct WriteFault;
 /// The writer is handed in unmarked, as [`Watched::new`] makes it, so that its marks tell of this call.
 pub fn write_report<W: Write>(
     alloc: Global,
-    book: &Book,
+    book: &Book<Sequence<NamedTable>>,
     writer: &mut Watched<W>,
 ) -> Result<(), Refusal<WriteFault>>
     requires unmarked { IsUnmarked writer.old }
     ensures written { OnOk result
-        (Appends (W.contents writer.old.inner) (W.contents writer.new.inner) (book_text book.now)) }
-    // What went out before a fault is a beginning of the report: nothing, where memory ran out.
-    ensures beginning { IfErr result (λ refusal.
-        AppendsBeginning refusal (W.contents writer.old.inner) (W.contents writer.new.inner) (book_text book.now)) }
+        (Appends (W.contents writer.old.inner) (W.contents writer.new.inner) (report_text (book_seen book.now))) }
+    // Where memory ran out, the writer is untouched.
+    ensures untouched { result ≡ Err Memory → writer.new ≡ writer.old }
+    // What went out before a fault is a beginning of the report.
+    ensures beginning { OnErr result (AppendsBeginning (W.contents writer.old.inner) (W.contents writer.new.inner)
+        (report_text (book_seen book.now))) }
     // A fault of the writer is answered exactly where it failed, or took no byte.
-    ensures marks { IsMarkedBy result writer.new }
+    ensures marks { is_marked writer.new ≡ is_fault result }
 {
     let text = report(alloc, book)?;
-    write_whole(writer, text.as_slice())
+    match write_whole(writer, text.as_slice()) {
+        Ok(()) => Ok(()),
+        Err(fault) => Err(Refusal::Fault(fault)),
+    }
 }
 
-fn write_whole<W: Write>(writer: &mut Watched<W>, text: &[u8]) -> Result<(), Refusal<WriteFault>>
+/// Writes the report of a book, version 2, which can be checked alone. Its promises are those of [`write_report`].
+pub fn write_report_2<W: Write>(
+    alloc: Global,
+    book: &Book<Sequence<NamedTable>>,
+    writer: &mut Watched<W>,
+) -> Result<(), Refusal<WriteFault>>
+    requires unmarked { IsUnmarked writer.old }
+    ensures written { OnOk result
+        (Appends (W.contents writer.old.inner) (W.contents writer.new.inner) (report_2_text (book_seen book.now))) }
+    // Where memory ran out, the writer is untouched.
+    ensures untouched { result ≡ Err Memory → writer.new ≡ writer.old }
+    // What went out before a fault is a beginning of the report.
+    ensures beginning { OnErr result (AppendsBeginning (W.contents writer.old.inner) (W.contents writer.new.inner)
+        (report_2_text (book_seen book.now))) }
+    // A fault of the writer is answered exactly where it failed, or took no byte.
+    ensures marks { is_marked writer.new ≡ is_fault result }
+{
+    let text = report_2(alloc, book)?;
+    match write_whole(writer, text.as_slice()) {
+        Ok(()) => Ok(()),
+        Err(fault) => Err(Refusal::Fault(fault)),
+    }
+}
+
+fn write_whole<W: Write>(writer: &mut Watched<W>, text: &[u8]) -> Result<(), WriteFault>
     requires unmarked { IsUnmarked writer.old }
     ensures written { OnOk result (Appends (W.contents writer.old.inner) (W.contents writer.new.inner) text.now) }
-    ensures beginning { IfErr result (λ refusal.
-        AppendsBeginning refusal (W.contents writer.old.inner) (W.contents writer.new.inner) text.now) }
-    ensures marks { IsMarkedBy result writer.new }
+    ensures beginning { OnErr result
+        (AppendsBeginning (W.contents writer.old.inner) (W.contents writer.new.inner) text.now) }
+    ensures marks { is_marked writer.new ≡ is_err result }
 {
     let mut rest = text;
     while !rest.is_empty() {
         match writer.write(rest) {
-            Ok(0) | Err(_) => return Err(Refusal::Fault(WriteFault)),
+            Ok(0) | Err(_) => return Err(WriteFault),
             Ok(count) => rest = rest.split_at(count).1,
         }
     }
     match writer.flush() {
         Ok(()) => Ok(()),
-        Err(_) => Err(Refusal::Fault(WriteFault)),
+        Err(_) => Err(WriteFault),
     }
 }

@@ -18,8 +18,8 @@ use Rattle.ent_plain_form.specs.FirstFault.{first_of, script_fault}
 use Rattle.ent_plain_form.specs.Plain.{plain_script}
 use Rattle.ent_plain_form.specs.Kinds.{Bound, none_bound, bound_after}
 use Rattle.ent_plain_form.specs.PlainMeaning.{Fits, AllFit, database_of, kinds_bound, plain_bound_after, schema_kinds}
-use Rattle.ent_book.specs.declared.book.NamedTable.{NamedTable}
-use Rattle.ent_book.specs.Book.{table_names, tables_database}
+use Rattle.ent_plain_book.specs.declared.book.NamedTable.{NamedTable}
+use Rattle.ent_plain_book.specs.Book.{table_names, tables_database}
 use Rattle.ent_engine.specs.Tables.{rows_in, kinds_in}
 use Rattle.std.specs.Prelude.{IfOk}
 use Rattle.ent_plain_sql.specs.declared.tree.Opening.{Opening}
@@ -31,7 +31,7 @@ use Rattle.ent_plain_form.specs.declared.plain.PlainStatement.{PlainStatement}
 use Rattle.ent_plain_form.specs.FirstFault.{declarations_fault, opening_fault, opening_row_fault, statement_fault}
 use Rattle.ent_plain_form.specs.Plain.{plain_statement}
 use Rattle.ent_plain_form.specs.PlainMeaning.{PlainEffect, plain_meaning, effect_of, opening_tables, AreOfKinds}
-use Rattle.ent_book.specs.declared.book.Fate.{Fate}
+use Rattle.ent_plain_book.specs.declared.book.Fate.{Fate}
 use Rattle.ent_engine.specs.Outcome.{outcomes, outcome_of}
 use Rattle.ent_engine.specs.Reading.{form_fault}
 use Rattle.ent_engine.specs.Tables.{plain_outcomes, outcome_of_tables}

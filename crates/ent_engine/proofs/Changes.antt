@@ -8,7 +8,8 @@ use Rattle.ent_value.specs.Value.{kinds_of}
 use Rattle.ent_value.specs.declared.value.Kind.{Kind}
 use Rattle.ent_value.specs.declared.value.Value.{Value}
 use Rattle.ent_value.specs.declared.refusal.Refusal.{Refusal}
-use Rattle.ent_value.specs.Refusal.{◌>>=◌, Gives}
+use Rattle.ent_value.specs.declared.refusal.Refusal.TheVariants.{Memory, Fault}
+use Rattle.ent_value.specs.Refusal.{◌>>=◌, Gives, Refuses}
 use Rattle.ent_rel.specs.Relation.{RowSet, full, bounded}
 use Rattle.ent_value.specs.declared.limits.TheConstants.{MOST_ROWS}
 use Rattle.ent_plain_sql.specs.declared.tree.Expression.{Expression}
@@ -44,3 +45,8 @@ pub replaced : (meant : Result (ℕ × RowSet) Failure) (count : ℕ) (after : R
     → meant ≡ Ok (count, after) → made ≡ (count, after) → IsOk (bounded after after)
     → (meant >>= λ change. or_full (bounded change.1 change)) ≡ Ok made
 replaced meant count after made is so fits = ap (λ m. m >>= λ change. or_full (bounded change.1 change)) is ∙ within after after (count, after) fits ∙ ap (λ c. Ok c) (sym so)
+
+-- what has no image fails, whatever comes after it
+pub not_replaced : {A B : Type 0} (refusal : Refusal Failure) (meant : Result A Failure) (then : A → Result B Failure) → Refuses refusal meant → Refuses refusal (meant >>= then)
+not_replaced Memory meant then h = tt
+not_replaced (Fault failure) meant then h = ap (λ m. m >>= then) h

@@ -11,3 +11,5 @@ pub mod Meant
 pub mod Loading
 pub mod Booking
 pub mod Written
+pub mod Wanted
+pub mod Narrowed

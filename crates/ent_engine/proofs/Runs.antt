@@ -8,8 +8,8 @@ use Rattle.ent_plain_semantics.specs.declared.answer.Answer.{Answer}
 use Rattle.ent_plain_semantics.specs.declared.answer.Failure.{Failure}
 use Rattle.ent_plain_semantics.specs.Database.{Rows, Environment}
 use Rattle.ent_plain_form.specs.declared.plain.PlainStatement.{PlainStatement}
-use Rattle.ent_book.specs.declared.book.Fate.{Fate}
-use Rattle.ent_book.specs.declared.book.Fate.TheVariants.{Committed, RolledBack, Failed}
+use Rattle.ent_plain_book.specs.declared.book.Fate.{Fate}
+use Rattle.ent_plain_book.specs.declared.book.Fate.TheVariants.{Committed, RolledBack, Failed}
 use Rattle.ent_engine.specs.Tables.{PlainRun, PlainOutcome, answered, with_plain_fate, plain_run, plain_fated, rows_in, run_of}
 
 abbrev pub with_answers : List Answer → Result PlainRun Failure → Result PlainRun Failure

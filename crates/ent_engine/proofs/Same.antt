@@ -17,7 +17,7 @@ use Rattle.ent_plain_form.specs.FirstFault.{Check, ◌before◌, first_of, state
 use Rattle.ent_plain_form.specs.Kinds.{Bound, none_bound, bound_after}
 use Rattle.ent_plain_form.specs.Plain.{plain_statement, plain_script}
 use Rattle.ent_plain_form.specs.PlainMeaning.{PlainEffect, plain_meaning, database_of, effect_of, kinds_bound, plain_bound_after, Fits, AllFit, AreOfKinds}
-use Rattle.ent_book.specs.declared.book.Fate.TheVariants.{Committed, RolledBack, Failed}
+use Rattle.ent_plain_book.specs.declared.book.Fate.TheVariants.{Committed, RolledBack, Failed}
 use Rattle.ent_engine.specs.Outcome.{Outcome, with_fate, fated, failure_of, outcomes}
 use Rattle.ent_engine.specs.Tables.{PlainRun, PlainOutcome, answered, run_behind, plain_run, plain_fated, plain_outcomes}
 

@@ -4,8 +4,8 @@ use Rattle.std.specs.Prelude.{IfSome}
 use Rattle.std.specs.Io.KnownBytes.{Appends}
 use Rattle.ent_plain_sql.specs.declared.tree.Input.{Input}
 use Rattle.ent_plain_semantics.specs.Database.{Name, Database}
-use Rattle.ent_book.specs.declared.book.Fate.{Fate}
-use Rattle.ent_book.specs.Report.{report_text}
+use Rattle.ent_plain_book.specs.declared.book.Fate.{Fate}
+use Rattle.ent_plain_book.specs.Report.{report_text}
 use Rattle.ent_engine.specs.Outcome.{outcome_of, report_of}
 use Rattle.ent_engine.specs.Reading.{IsInput}
 use Rattle.ent_engine.specs.Io.{WritesBeginning}

@@ -8,8 +8,8 @@ use Rattle.ent_plain_semantics.specs.declared.answer.Failure.{Failure}
 use Rattle.ent_plain_semantics.specs.Database.{Database, Environment, nothing_bound}
 use Rattle.ent_plain_semantics.specs.Statement.{Effect, statement_meaning}
 use Rattle.ent_plain_semantics.specs.Serial.{script_run, statements_run}
-use Rattle.ent_book.specs.declared.book.Fate.{Fate}
-use Rattle.ent_book.specs.declared.book.Fate.TheVariants.{Committed, RolledBack, Failed}
+use Rattle.ent_plain_book.specs.declared.book.Fate.{Fate}
+use Rattle.ent_plain_book.specs.declared.book.Fate.TheVariants.{Committed, RolledBack, Failed}
 
 -- Statements are carried out one after the other up to one that can't be, for this failure.
 pub data FailsBy (declared : List Create) : Database → Environment → List Statement → Failure → Type 0 where

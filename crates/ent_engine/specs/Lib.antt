@@ -5,6 +5,7 @@ pub mod Io
 pub mod Fault
 pub mod Environment
 pub mod Evaluation
+pub mod Prepared
 pub mod Change
 pub mod Tables
 pub mod Ending

@@ -9,9 +9,9 @@ use Rattle.ent_plain_semantics.specs.declared.answer.Failure.{Failure}
 use Rattle.ent_plain_semantics.specs.Database.{Database, Environment, nothing_bound, opening_database}
 use Rattle.ent_plain_semantics.specs.Statement.{Effect, statement_meaning}
 use Rattle.ent_plain_semantics.specs.Serial.{Valuation, Run, script_run}
-use Rattle.ent_book.specs.declared.book.Fate.{Fate}
-use Rattle.ent_book.specs.declared.book.Fate.TheVariants.{Committed, RolledBack, Failed}
-use Rattle.ent_book.specs.Report.{report_text}
+use Rattle.ent_plain_book.specs.declared.book.Fate.{Fate}
+use Rattle.ent_plain_book.specs.declared.book.Fate.TheVariants.{Committed, RolledBack, Failed}
+use Rattle.ent_plain_book.specs.Report.{report_text}
 
 -- the database that scripts leave, and their fates
 pub record Outcome : Type 0 where

@@ -10,8 +10,8 @@ use Rattle.ent_plain_semantics.specs.Database.{Rows, Environment, nothing_bound}
 use Rattle.ent_plain_form.specs.declared.plain.Plain.{Plain}
 use Rattle.ent_plain_form.specs.declared.plain.PlainStatement.{PlainStatement}
 use Rattle.ent_plain_form.specs.PlainMeaning.{PlainEffect, plain_meaning}
-use Rattle.ent_book.specs.declared.book.Fate.{Fate}
-use Rattle.ent_book.specs.declared.book.Fate.TheVariants.{Committed, RolledBack, Failed}
+use Rattle.ent_plain_book.specs.declared.book.Fate.{Fate}
+use Rattle.ent_plain_book.specs.declared.book.Fate.TheVariants.{Committed, RolledBack, Failed}
 
 abbrev pub kinds_in : List Relation → List (List Kind)
 kinds_in tables = map (λ table. table.kinds) tables

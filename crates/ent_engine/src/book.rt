@@ -7,7 +7,7 @@ ghost use Rattle.ent_plain_form.specs.Catalogue.{schemas_of, names_of};
 ghost use Rattle.ent_plain_form.specs.FirstFault.{opening_fault};
 ghost use Rattle.ent_plain_form.specs.Plain.{rows_named};
 ghost use Rattle.ent_plain_form.specs.PlainMeaning.{schema_kinds, opening_tables};
-ghost use Rattle.ent_book.specs.Book.{table_names, tables_database};
+ghost use Rattle.ent_plain_book.specs.Book.{table_names, tables_database};
 ghost use Rattle.ent_engine.specs.Parse.{IsResolved};
 ghost use Rattle.ent_engine.specs.Outcome.{outcome_of};
 ghost use Rattle.ent_engine.specs.Reading.{form_fault};
@@ -16,14 +16,14 @@ ghost use Rattle.ent_engine.specs.Tables.{kinds_in, rows_in};
 use crate::parse::Resolved;
 use crate::runner::run_scripts;
 use crate::tables::Tables;
-use ent_book::{Book, NamedTable};
+use ent_plain_book::{Book, NamedTable};
 use ent_plain_form::{
     Catalogue, ColumnSchema, TableSchema, no_fault_fits, opening_rows, opening_rows_fit,
     opening_tables_mean_the_same, resolved_binds_the_same, resolved_keeps_kinds,
     resolved_means_the_same,
 };
-use ent_rel::{Table, TableFull};
 use ent_plain_sql::Opening;
+use ent_rel::{Table, TableFull};
 use ent_value::{Kind, Refusal, Sequence};
 use std::alloc::{AllocError, Global};
 use std::sync::Arc;
@@ -110,9 +110,11 @@ fn load_table(
     let rows = opening_rows(alloc, catalogue, number, opening)?;
     match Table::load(alloc, kinds, rows) {
         Ok(table) => Ok(table),
-        Err(Refusal::Memory) => Err(AllocError),
-        // So no table is too full.
-        Err(Refusal::Fault(TableFull)) => unreachable!(),
+        Err(refused) => match refused.refusal {
+            Refusal::Memory => Err(AllocError),
+            // So no table is too full.
+            Refusal::Fault(TableFull) => unreachable!(),
+        },
     }
 }
 

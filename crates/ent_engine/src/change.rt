@@ -4,6 +4,7 @@ ghost use Rattle.std.specs.Arc.{arc_value};
 ghost use Rattle.ent_value.specs.Refusal.{Gives};
 ghost use Rattle.ent_value.specs.Value.{kinds_of};
 ghost use Rattle.ent_rel.specs.Change.{changed_rows, application, deletion};
+ghost use Rattle.ent_plain_semantics.specs.declared.answer.Failure.TheVariants as failures;
 ghost use Rattle.ent_plain_form.specs.PlainMeaning.{known_kind, kind_with, kinds_bound, plain_kind, plain_known_value};
 ghost use Rattle.ent_plain_form.specs.PlainMeaning.{plain_meets, plain_image};
 ghost use Rattle.ent_engine.specs.Change.{change_made, insertion_of, image_or_overflow, replacement_of};
@@ -11,12 +12,13 @@ ghost use Rattle.ent_engine.specs.Change.{table_refusal};
 ghost use Rattle.ent_engine.specs.Environment.{environment_of};
 
 use crate::environment::Environment;
+use crate::first::first_values;
+use crate::prepared::PreparedTests;
 use crate::row::{image_row, known_row};
-use crate::select::meets;
 use ent_plain_form::{PlainOperand, PlainTest, PlainValue};
-use ent_rel::{Delta, Table, TableFull};
 use ent_plain_semantics::Failure;
 use ent_plain_sql::Expression;
+use ent_rel::{Delta, StoredRow, Table, TableFull};
 use ent_value::{Refusal, Row};
 use std::alloc::{AllocError, Global};
 use std::sync::Arc;
@@ -31,10 +33,11 @@ pub(crate) struct Changed {
 fn table_refusal(refusal: Refusal<TableFull>) -> Refusal<Failure>
     ensures { result ≡ table_refusal refusal }
 {
-    match refusal {
-        Refusal::Memory => Refusal::Memory,
-        Refusal::Fault(TableFull) => Refusal::Fault(Failure::TableFull),
-    }
+    refusal.map(
+        |_: TableFull| -> Failure
+            ensures { result ≡ failures.TableFull }
+        { Failure::TableFull },
+    )
 }
 
 /// A table after a change that fits it.
@@ -86,7 +89,13 @@ pub(crate) fn deleted(
         change_made changed ≡ deletion table.now.rows (plain_meets (environment_of environment.now) tests.now)) }
     ensures kinds { IfOk result (λ changed. (arc_value changed.table).kinds ≡ table.now.kinds) }
 {
-    let (count, delta) = table.delete_rows(alloc, |row| meets(environment, tests, row.values()))?;
+    let prepared = PreparedTests::new(alloc, environment, tests)?;
+    let first = first_values(alloc, environment, tests, table.kinds())?;
+    let (count, delta) = table.delete_where(
+        alloc,
+        first.as_slice(),
+        |row: &StoredRow<'_>| prepared.meets(row),
+    )?;
     applied(alloc, table, count, &delta)
 }
 
@@ -105,11 +114,12 @@ pub(crate) fn updated(
         (replacement_of table.now.rows (plain_meets bound tests.now) (plain_image bound image.now)) }
     ensures kinds { IfOk result (λ changed. (arc_value changed.table).kinds ≡ table.now.kinds) }
 {
-    // Asked for what its contract tells: each row has these kinds, and so has its image.
-    let _ = table.kinds();
-    let (count, delta) = table.replace(
+    let prepared = PreparedTests::new(alloc, environment, tests)?;
+    let first = first_values(alloc, environment, tests, table.kinds())?;
+    let (count, delta) = table.replace_where(
         alloc,
-        |row| meets(environment, tests, row.values()),
+        first.as_slice(),
+        |old: &StoredRow<'_>| prepared.meets(old),
         |row: &Row| -> Result<Row, Refusal<Failure>>
             ensures { let image = plain_image (environment_of environment.entry.now) image.entry.now in
                 Gives (λ new. new) result (image_or_overflow image row.now) }

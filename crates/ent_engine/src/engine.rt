@@ -8,7 +8,7 @@ use crate::book::book_of;
 use crate::fault::RunFault;
 use crate::parse::parse;
 use crate::reader::read_whole;
-use ent_book::{WriteFault, write_report};
+use ent_plain_book::{WriteFault, write_report};
 use ent_value::{Refusal, Watched};
 use std::alloc::Global;
 use std::io::{Read, Write};

@@ -11,7 +11,7 @@ ghost use Rattle.ent_engine.specs.Tables.{kinds_in, rows_in, plain_run, plain_ou
 
 use crate::environment::Environment;
 use crate::tables::Tables;
-use ent_book::Fate;
+use ent_plain_book::Fate;
 use ent_plain_form::{Plain, PlainStatement};
 use ent_plain_semantics::{Answer, Failure};
 use ent_plain_sql::End;

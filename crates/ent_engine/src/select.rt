@@ -1,67 +1,37 @@
-//! SELECT, row by row.
+//! SELECT over the rows of a table, each where it stands.
 ghost use Rattle.std.specs.Prelude.{◌≡◌, IfOk, List, map};
 ghost use Rattle.std.specs.List.{filter};
 ghost use Rattle.ent_set.specs.Sets as set;
 ghost use Rattle.ent_value.specs.Value.{row_cmp};
-ghost use Rattle.ent_plain_semantics.specs.Selection.{compares};
-ghost use Rattle.ent_plain_form.specs.PlainMeaning.{plain_passes, plain_meets, plain_row, plain_selection};
+ghost use Rattle.ent_plain_form.specs.PlainMeaning.{plain_row, plain_selection};
 ghost use Rattle.ent_engine.specs.Environment.{environment_of};
+ghost use Rattle.ent_engine.specs.Prepared.{prepared_meets};
 
 use crate::environment::Environment;
+use crate::first::first_values;
+use crate::prepared::PreparedTests;
 use crate::row::item_row;
-use crate::term::operand_value;
 use ent_plain_form::{PlainOperand, PlainTest};
-use ent_rel::Table;
-use ent_plain_sql::Comparison;
-use ent_value::{Row, Sequence, Value};
+use ent_rel::{RowCursor, Table};
+use ent_value::{Row, Sequence};
 use std::alloc::{AllocError, Global};
-use std::cmp::Ordering;
 
-fn compares(comparison: Comparison, order: Ordering) -> bool
-    ensures { result ≡ compares comparison order }
-{
-    match comparison {
-        Comparison::Equal => order.is_eq(),
-        Comparison::NotEqual => order.is_ne(),
-        Comparison::Less => order.is_lt(),
-        Comparison::LessOrEqual => order.is_le(),
-        Comparison::Greater => order.is_gt(),
-        Comparison::GreaterOrEqual => order.is_ge(),
-    }
-}
-
-fn passes(environment: &Environment, test: &PlainTest, row: &[Value]) -> bool
-    ensures { result ≡ plain_passes (environment_of environment.now) row.now test.now }
-{
-    let none = Value::Int(0);
-    let left = operand_value(environment, row, &test.left, &none);
-    let right = operand_value(environment, row, &test.right, &none);
-    compares(test.comparison, left.cmp(right))
-}
-
-/// Whether a row meets every test.
-pub(crate) fn meets(environment: &Environment, tests: &[PlainTest], row: &[Value]) -> bool
-    ensures { result ≡ plain_meets (environment_of environment.now) tests.now row.now }
-{
-    tests.iter().all(|test| passes(environment, test, row))
-}
-
-/// The item rows of the rows that meet every test, in their order.
+/// The item rows of the rows of a walk that meet every test, in their order.
 fn item_rows(
     alloc: Global,
     environment: &Environment,
     items: &[PlainOperand],
-    tests: &[PlainTest],
-    rows: &[Row],
+    tests: &PreparedTests,
+    cursor: RowCursor<'_>,
 ) -> Result<Vec<Row>, AllocError>
-    ensures { let bound = environment_of environment.now in
-        let met = filter (plain_meets bound tests.now) rows.now in
-        IfOk result (λ found. found.items ≡ map (plain_row bound items.now) met) }
+    ensures { let show = plain_row (environment_of environment.now) items.now in
+        IfOk result (λ found. found.items ≡ map show (filter (prepared_meets tests.now) cursor.entry)) }
 {
+    let mut cursor = cursor;
     let mut found = Vec::new(alloc);
-    for row in rows {
-        if meets(environment, tests, row.values()) {
-            found.push(item_row(alloc, environment, items, row.values())?)?;
+    while let Some(row) = cursor.next_row() {
+        if tests.meets(&row) {
+            found.push(item_row(alloc, environment, items, &row)?)?;
         }
     }
     Ok(found)
@@ -76,7 +46,8 @@ fn ascending(mut rows: Vec<Row>) -> Result<Vec<Row>, AllocError>
     Ok(rows)
 }
 
-/// The result of a SELECT over one table, ascending.
+/// The result of a SELECT over one table, ascending. Where tests of equality want known values in the first columns,
+/// only the rows with these are gone over.
 pub(crate) fn select(
     alloc: Global,
     table: &Table,
@@ -87,7 +58,9 @@ pub(crate) fn select(
     ensures { let bound = environment_of environment.now in
         IfOk result (λ rows. rows ≡ set.ascending (plain_selection bound items.now tests.now table.now.rows)) }
 {
-    let rows = table.rows(alloc)?;
-    let found = item_rows(alloc, environment, items, tests, rows.as_slice())?;
+    let prepared = PreparedTests::new(alloc, environment, tests)?;
+    let first = first_values(alloc, environment, tests, table.kinds())?;
+    let cursor = table.look_up(alloc, first.as_slice())?;
+    let found = item_rows(alloc, environment, items, &prepared, cursor)?;
     Ok(Sequence::from_vec(ascending(found)?))
 }

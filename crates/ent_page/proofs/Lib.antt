@@ -3,3 +3,6 @@ mod Search
 mod Sorted
 mod Paging
 mod Fronts
+mod Cells
+mod Beginnings
+mod Changes

@@ -2,7 +2,10 @@ pub mod Key
 pub mod Read
 pub mod Layout
 pub mod Paged
+pub mod Front
+pub mod Changed
 pub mod Written
 pub mod Order
 pub mod ReadBack
+pub mod Cells
 pub mod Rows

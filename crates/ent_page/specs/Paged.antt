@@ -18,8 +18,13 @@ AllBelow keys key = AllByRecursion (λ k. key_cmp k key ≡ Less) keys
 abbrev pub AllAbove : List (List ℕ) → List ℕ → Type 0
 AllAbove keys key = AllByRecursion (λ k. key_cmp key k ≡ Less) keys
 
+-- each page of a list has its size, and a page that is being filled is not too large
+abbrev pub AreSized : {X : Type 0} → (X → List (List ℕ)) → List X → List (List ℕ) → Type 0
+AreSized keys_of pages page = AllByRecursion (λ p. IsSized (keys_of p)) pages × (length page ≤ PAGE_LIMIT)
+
 -- each page of a list has its size, and its keys are these: each below the next, and this many
-pub record IsPaged {X : Type 0} (keys_of : X → List (List ℕ)) (pages : List X) (keys : List (List ℕ)) (len : ℕ) : Type 0 where
+pub record IsPaged {X : Type 0} (keys_of : X → List (List ℕ)) (pages : List X) (keys : List (List ℕ))
+    (len : ℕ) : Type 0 where
   pub sized : AllByRecursion (λ page. IsSized (keys_of page)) pages
   pub sorted : IsStrictlySortedBy key_cmp keys
   pub count : len ≡ length keys

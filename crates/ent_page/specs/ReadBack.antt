@@ -1,5 +1,6 @@
 -- What is read of a key is what was written.
-use Rattle.std.proofs.Common.{◌≡◌, ℕ, ℤ, pos, negsuc, zero, suc, ◌+◌, ◌-◌, ◌%◌, ◌^◌, ◌<◌, ◌≤◌, List, [], ◌∷◌, ◌++◌, length, take, drop, FitsSigned, true, false, sym, refl, ap, ◌∙◌, arith}
+use Rattle.std.proofs.Common.{◌≡◌, ℕ, ℤ, pos, negsuc, zero, suc, ◌+◌, ◌-◌, ◌%◌, ◌^◌, ◌<◌, ◌≤◌, List, [], ◌∷◌, ◌++◌}
+use Rattle.std.proofs.Common.{length, take, drop, FitsSigned, true, false, sym, refl, ap, ◌∙◌, arith}
 use Rattle.std.specs.Prelude.{if◌then◌else◌, nat_lt}
 use Rattle.std.specs.Int.{w64, from_be_bytes, cast_signed}
 use Rattle.std.proofs.lemmas.Bool.Decides.{nat_tests}
@@ -54,7 +55,8 @@ text_back [] rest = refl
 text_back (zero ∷ t) rest = ap (λ z. 0 ∷ z) (text_back t rest)
 text_back (suc b ∷ t) rest =
     ap (λ z. text_from false (z ++ rest)) (text_key-suc b t)
-    ∙ ap (λ z. if z then text_from true (text_key t ++ rest) else (suc b ∷ text_from false (text_key t ++ rest))) (not_zero b)
+    ∙ ap (λ z. if z then text_from true (text_key t ++ rest) else (suc b ∷ text_from false (text_key t ++ rest)))
+    (not_zero b)
     ∙ ap (λ z. suc b ∷ z) (text_back t rest)
 
 past_back : (t rest : List ℕ) → past_text false (text_key t ++ rest) ≡ rest
@@ -67,11 +69,11 @@ past_back (suc b ∷ t) rest =
 
 -- values and rows
 
-value_back : (v : Value) (rest : List ℕ) → IsStorable v → value_from (kind_of v) (value_key v ++ rest) ≡ v
+pub value_back : (v : Value) (rest : List ℕ) → IsStorable v → value_from (kind_of v) (value_key v ++ rest) ≡ v
 value_back (Int n) rest h = ap (λ z. Int z) (number_back n rest h)
 value_back (Text t) rest h = ap (λ z. Text z) (ap (take 255) (text_back t rest) ∙ take_all 255 t h)
 
-past_value_back : (v : Value) (rest : List ℕ) → past_value (kind_of v) (value_key v ++ rest) ≡ rest
+pub past_value_back : (v : Value) (rest : List ℕ) → past_value (kind_of v) (value_key v ++ rest) ≡ rest
 past_value_back (Int n) rest = past_number n rest
 past_value_back (Text t) rest = past_back t rest
 

@@ -18,10 +18,12 @@ pub record IsKey (kinds : List Kind) (key : List ℕ) : Type 0 where
 abbrev pub AreKeys : List Kind → List (List ℕ) → Type 0
 AreKeys kinds = AllByRecursion (IsKey kinds)
 
-pub row_again : (kinds : List Kind) (row : List Value) → kinds_of row ≡ kinds → AreStorable row → row_from kinds (key_of row) ≡ row
+pub row_again : (kinds : List Kind) (row : List Value) → kinds_of row ≡ kinds → AreStorable row
+    → row_from kinds (key_of row) ≡ row
 row_again kinds row same fits = ap (λ ks. row_from ks (key_of row)) (sym same) ∙ row_back row fits
 
-pub key_of_row : (kinds : List Kind) (row : List Value) → kinds_of row ≡ kinds → AreStorable row → IsKey kinds (key_of row)
+pub key_of_row : (kinds : List Kind) (row : List Value) → kinds_of row ≡ kinds → AreStorable row
+    → IsKey kinds (key_of row)
 key_of_row kinds row same fits =
     let e = row_again kinds row same fits in
     record { again = ap key_of e; same = ap kinds_of e ∙ same; fits = subst AreStorable (sym e) fits }

@@ -1,5 +1,6 @@
 -- What the code writes.
-use Rattle.std.proofs.Common.{◌≡◌, ℕ, ℤ, pos, negsuc, zero, suc, ◌+◌, ◌%◌, ◌^◌, List, [], ◌∷◌, ◌++◌, FitsSigned, false, refl, sym, ◌∙◌, ap, arith, eqb}
+use Rattle.std.proofs.Common.{◌≡◌, ℕ, ℤ, pos, negsuc, zero, suc, ◌+◌, ◌%◌, ◌^◌, List, [], ◌∷◌, ◌++◌, FitsSigned, false}
+use Rattle.std.proofs.Common.{refl, sym, ◌∙◌, ap, arith, eqb}
 use Rattle.std.specs.Prelude.{if◌then◌else◌, ◌||◌}
 use Rattle.std.proofs.lemmas.Bool.Decides.{nat_tests}
 use Rattle.std.specs.Int.{w64, cast_unsigned}
@@ -21,4 +22,5 @@ text_key-suc b t = ap (λ z. if z then 0 ∷ 255 ∷ text_key t else (suc b ∷ 
 pub plain : (t : List ℕ) → list_any (λ b. eqb b 0) t ≡ false → text_key t ≡ t ++ 0 ∷ 0 ∷ []
 plain [] h = refl
 plain (zero ∷ t) h = cc
-plain (suc b ∷ t) h = text_key-suc b t ∙ ap (λ z. suc b ∷ z) (plain t (ap (λ z. z || list_any (λ b. eqb b 0) t) (sym (not_zero b)) ∙ h))
+plain (suc b ∷ t) h = text_key-suc b t
+    ∙ ap (λ z. suc b ∷ z) (plain t (ap (λ z. z || list_any (λ b. eqb b 0) t) (sym (not_zero b)) ∙ h))

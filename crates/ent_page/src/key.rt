@@ -5,9 +5,9 @@ ghost use Rattle.std.specs.Cmp.{eq_by_cmp_equiv, partial_order_from_total, parti
 ghost use Rattle.std.specs.Cmp.Lexicographic.{nat_list_cmp_total};
 ghost use Rattle.std.specs.Cmp.Rules.{comparing};
 ghost use Rattle.std.specs.Ordering.{as_partial_cmp, eq_by_cmp};
-ghost use Rattle.ent_page.specs.Key.{key_cmp, key_of, AreStorable};
+ghost use Rattle.ent_page.specs.Key.{key_cmp, key_of, value_key, IsStorable, AreStorable};
 
-use crate::writing::append_values;
+use crate::writing::{append_value, append_values};
 use ent_value::Value;
 use std::alloc::{AllocError, Global};
 use std::cmp::Ordering;
@@ -36,6 +36,16 @@ impl Key {
     {
         let mut bytes = Vec::with_capacity(alloc, 32)?;
         append_values(&mut bytes, values)?;
+        Ok(Key { bytes })
+    }
+
+    /// The key of one value.
+    pub fn of_value(alloc: Global, value: &Value) -> Result<Self, AllocError>
+        ensures key { IfOk result (λ key. key ≡ value_key value.now) }
+        ensures stored { IfOk result (λ key. IsStorable value.now) }
+    {
+        let mut bytes = Vec::with_capacity(alloc, 32)?;
+        append_value(&mut bytes, value)?;
         Ok(Key { bytes })
     }
 

@@ -1,28 +1,30 @@
 //! A walk over keys in pages.
 ghost use Rattle.std.specs.Prelude.{◌≡◌, ◌∷◌, [], MatchOption};
-ghost use Rattle.std.specs.List.{flat_map};
+ghost use Rattle.std.specs.List.{flat_map, take_while};
 ghost use Rattle.std.specs.Arc.{arc_value};
+ghost use Rattle.ent_page.specs.Front.{begins_with, has_front};
 
+use crate::key::Key;
 use crate::page::Page;
+use crate::page_cursor::PageCursor;
 use std::marker::Model;
 use std::sync::Arc;
 
-/// A walk over the keys of pages, in their order. Contracts see the keys that are left.
+/// A walk over keys, in their order. Contracts see the keys that are left.
 #[derive(Drop)]
 pub struct KeyCursor<'a> {
-    pages: &'a [Arc<Page>],
-    index: usize,
+    pages: PageCursor<'a>,
+    /// What each key begins with.
+    front: Option<Key>,
 }
 
 impl<'a> Model for KeyCursor<'a> {
-    ghost use Rattle.std.specs.Prelude.{ℕ, List, drop};
-    ghost use Rattle.std.specs.List.{flat_map};
-    ghost use Rattle.std.specs.Arc.{arc_value};
-    ghost use Rattle.ent_page.specs.Paged.{keys_left};
+    ghost use Rattle.std.specs.Prelude.{ℕ, List};
+    ghost use Rattle.ent_page.specs.Front.{beginning_so};
 
     ghost Value = { List (List ℕ) };
 
-    ghost view = { λ c. keys_left arc_value c.pages.now c.index };
+    ghost view = { λ c. beginning_so c.front c.pages };
 }
 
 impl<'a> KeyCursor<'a> {
@@ -30,23 +32,41 @@ impl<'a> KeyCursor<'a> {
     pub(crate) fn new(pages: &'a [Arc<Page>]) -> Self
         ensures { result ≡ flat_map arc_value pages.now }
     {
-        KeyCursor { pages, index: 0 }
+        KeyCursor {
+            pages: PageCursor::new(pages),
+            front: None,
+        }
+    }
+
+    /// A walk up to the first key that doesn't begin with these bytes.
+    pub(crate) fn beginning_with(pages: PageCursor<'a>, front: Key) -> Self
+        ensures { result ≡ take_while (begins_with front) pages.entry }
+    {
+        KeyCursor {
+            pages,
+            front: Some(front),
+        }
     }
 
     /// The next key, or `None` after the last.
     pub fn next_key(&mut self) -> Option<&'a [u8]>
         ensures { MatchOption result ((self.old ≡ []) × (self.new ≡ [])) (λ key. self.old ≡ key.now ∷ self.new) }
     {
-        while let [first, others @ ..] = self.pages {
-            let page: &'a Page = first;
-            if self.index < page.len() {
-                let key = page.key(self.index);
-                self.index += 1;
-                return Some(key);
-            }
-            self.pages = others;
-            self.index = 0;
+        let key = self.pages.next_key()?;
+        if has_front(key, &self.front) {
+            return Some(key);
         }
+        self.pages = PageCursor::new(&[]);
         None
+    }
+}
+
+/// Whether a key begins as it should.
+fn has_front(key: &[u8], front: &Option<Key>) -> bool
+    ensures { result ≡ has_front front.now key.now }
+{
+    match front {
+        None => true,
+        Some(front) => key.starts_with(front.as_bytes()),
     }
 }

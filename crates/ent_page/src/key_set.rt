@@ -1,12 +1,18 @@
 //! Sets of keys in pages.
-ghost use Rattle.std.specs.Prelude.{◌≡◌, ◌<◌, ◌^◌, ◌==◌, ◌∷◌, [], ◌↔◌, IsTrue, IfOk};
+ghost use Rattle.std.specs.List.{filter};
+ghost use Rattle.std.specs.List.Sorted.{IsStrictlySortedBy};
+ghost use Rattle.std.specs.Prelude.{◌≡◌, ◌+◌, ◌<◌, ◌≤◌, ◌^◌, ◌==◌, length, ◌∷◌, [], ◌↔◌, IsTrue, IfOk};
 ghost use Rattle.ent_set.specs.Sets as set;
+ghost use Rattle.ent_page.specs.Key.{key_cmp};
+ghost use Rattle.ent_page.specs.Front.{begins_with};
 
 use crate::key::Key;
 use crate::key_cursor::KeyCursor;
+use crate::merging::changed_pages;
 use crate::page::Page;
 use crate::pages::{
-    are_same_keys, grown, pages_of, place_of, push_shared, shrunk, single, spliced,
+    are_same_keys, count_keys, grown, pages_of, place_of, push_shared, shrunk, single, spliced,
+    walk_from,
 };
 use crate::probe::Probe;
 use std::alloc::{AllocError, Global};
@@ -53,9 +59,7 @@ impl KeySet {
     pub fn from_keys(alloc: Global, keys: Vec<Key>) -> Result<Self, AllocError>
         ensures { IfOk result (λ s. s ≡ set.from_list keys.items) }
     {
-        let mut keys = keys;
-        keys.as_mut_slice().sort(alloc)?;
-        keys.dedup();
+        let keys = sorted_keys(alloc, keys)?;
         let pages = pages_of(alloc, keys.as_slice())?;
         Ok(KeySet {
             pages,
@@ -134,11 +138,38 @@ impl KeySet {
         }
     }
 
+    /// The set without some keys and then with others, in one walk over the set and both lists. Pages in which nothing
+    /// changes are shared.
+    pub fn changed(
+        &self,
+        alloc: Global,
+        removed: Vec<Key>,
+        added: Vec<Key>,
+    ) -> Result<KeySet, AllocError>
+        requires { set.len self.now + length added.items < 2 ^ 64 }
+        ensures { IfOk result (λ s. s ≡ set.insert_all (set.without_all self.now removed.items) added.items) }
+    {
+        let removed = sorted_keys(alloc, removed)?;
+        let added = sorted_keys(alloc, added)?;
+        let pages = self.pages.as_slice();
+        let pages = changed_pages(alloc, pages, removed.as_slice(), added.as_slice())?;
+        let len = count_keys(pages.as_slice());
+        Ok(KeySet { pages, len })
+    }
+
     /// A walk over the keys, ascending.
     pub fn cursor(&self) -> KeyCursor<'_>
         ensures { result ≡ set.ascending self.now }
     {
         KeyCursor::new(self.pages.as_slice())
+    }
+
+    /// A walk over the keys that begin with these bytes, ascending. The first is found by halving.
+    pub fn beginning_with(&self, front: Key) -> KeyCursor<'_>
+        ensures { result ≡ filter (begins_with front) (set.ascending self.now) }
+    {
+        let walk = walk_from(self.pages.as_slice(), &front);
+        KeyCursor::beginning_with(walk, front)
     }
 
     /// Whether two sets are the same. It takes no memory.
@@ -159,4 +190,16 @@ impl KeySet {
             len: self.len,
         })
     }
+}
+
+/// Keys in ascending order, each once.
+fn sorted_keys(alloc: Global, keys: Vec<Key>) -> Result<Vec<Key>, AllocError>
+    ensures sorted { IfOk result (λ sorted. IsStrictlySortedBy key_cmp sorted.items) }
+    ensures same { IfOk result (λ sorted. set.from_list {R = key_cmp} sorted.items ≡ set.from_list keys.items) }
+    ensures count { IfOk result (λ sorted. length sorted.items ≤ length keys.items) }
+{
+    let mut keys = keys;
+    keys.as_mut_slice().sort(alloc)?;
+    keys.dedup();
+    Ok(keys)
 }

@@ -1,5 +1,5 @@
 //! Ordered lists of pages.
-ghost use Rattle.std.specs.Prelude.{◌≡◌, ◌+◌, ◌<◌, ◌≤◌, ◌++◌, ◌↔◌, [], IsTrue, IfOk, OnOk, length};
+ghost use Rattle.std.specs.Prelude.{◌≡◌, ◌+◌, ◌<◌, ◌≤◌, ◌^◌, ◌++◌, ◌↔◌, [], IsTrue, IfOk, OnOk, length};
 ghost use Rattle.std.specs.Prelude.{map, take, drop, get_or};
 ghost use Rattle.std.specs.List.{flat_map, insert, AllByRecursion};
 ghost use Rattle.std.specs.List.Sorted.{IsStrictlySortedBy};
@@ -7,10 +7,12 @@ ghost use Rattle.std.specs.Arc.{arc_value};
 ghost use Rattle.std.specs.declared.cmp.Ordering.TheVariants.{Greater};
 ghost use Rattle.ent_page.specs.Key.{key_cmp};
 ghost use Rattle.ent_page.specs.Paged.{IsSized, AllBelow, AllAbove};
+ghost use Rattle.ent_page.specs.Front.{StartsAt};
 
 use crate::key::Key;
-use crate::key_cursor::KeyCursor;
 use crate::page::Page;
+use crate::page_builder::PageBuilder;
+use crate::page_cursor::PageCursor;
 use crate::probe::Probe;
 use std::alloc::{AllocError, Global};
 use std::cmp::Ordering;
@@ -20,10 +22,10 @@ use std::sync::Arc;
 pub const PAGE_LIMIT: usize = 256;
 
 /// How many keys a page gets that is made of sorted keys.
-const PAGE_FILL: usize = 128;
+pub(crate) const PAGE_FILL: usize = 128;
 
 /// Neighbours that have no more keys together than this become one page.
-const JOIN_LIMIT: usize = 192;
+pub(crate) const JOIN_LIMIT: usize = 192;
 
 /// The place of the page in which a key stands, if it stands in any; 0 where there is no page.
 pub(crate) fn place_of<P: Probe>(pages: &[Arc<Page>], key: &P) -> usize
@@ -54,24 +56,34 @@ fn first_is_above<P: Probe>(page: &Page, key: &P) -> bool
     key.against(page.key(0)) == Ordering::Greater
 }
 
+/// A walk over the keys from the first that is not below a key.
+pub(crate) fn walk_from<'a>(pages: &'a [Arc<Page>], key: &Key) -> PageCursor<'a>
+    requires sized { AllByRecursion (λ page. IsSized (arc_value page)) pages.now }
+    requires sorted { IsStrictlySortedBy key_cmp (flat_map arc_value pages.now) }
+    ensures { StartsAt key.now (flat_map arc_value pages.now) result }
+{
+    let at = place_of(pages, key);
+    if at >= pages.len() {
+        return PageCursor::new(pages);
+    }
+    let page: &Page = &pages[at];
+    let index = match page.search(key) {
+        Ok(index) => index,
+        Err(index) => index,
+    };
+    PageCursor::from_index(&pages[at..], index)
+}
+
 /// Sorted keys in pages.
 pub(crate) fn pages_of(alloc: Global, keys: &[Key]) -> Result<Vec<Arc<Page>>, AllocError>
     ensures keys { IfOk result (λ pages. flat_map arc_value pages.items ≡ keys.now) }
     ensures sized { IfOk result (λ pages. AllByRecursion (λ page. IsSized (arc_value page)) pages.items) }
 {
-    let mut pages = Vec::new(alloc);
-    let mut page = Page::new(alloc);
+    let mut out = PageBuilder::new(alloc);
     for key in keys {
-        if page.len() >= PAGE_FILL {
-            pages.push(Arc::new(alloc, page)?)?;
-            page = Page::new(alloc);
-        }
-        page.push(key.as_bytes())?;
+        out.push(alloc, key.as_bytes())?;
     }
-    if page.len() > 0 {
-        pages.push(Arc::new(alloc, page)?)?;
-    }
-    Ok(pages)
+    out.finish(alloc)
 }
 
 /// A list of one page.
@@ -126,12 +138,14 @@ pub(crate) fn shrunk(
     if len == 0 {
         return spliced(alloc, pages, at, at + 1, Vec::new(alloc));
     }
-    if at + 1 < pages.len() {
-        let next: &Page = &pages[at + 1];
-        if next.len() <= JOIN_LIMIT - len.min(JOIN_LIMIT) {
-            let joined = page.joined(alloc, next)?;
-            return spliced(alloc, pages, at, at + 2, single(alloc, joined)?);
-        }
+    let room = JOIN_LIMIT - len.min(JOIN_LIMIT);
+    if at + 1 < pages.len() && pages[at + 1].len() <= room {
+        let joined = page.joined(alloc, &pages[at + 1])?;
+        return spliced(alloc, pages, at, at + 2, single(alloc, joined)?);
+    }
+    if at > 0 && pages[at - 1].len() <= room {
+        let joined = pages[at - 1].joined(alloc, &page)?;
+        return spliced(alloc, pages, at - 1, at + 1, single(alloc, joined)?);
     }
     spliced(alloc, pages, at, at + 1, single(alloc, page)?)
 }
@@ -170,12 +184,37 @@ pub(crate) fn push_shared(new: &mut Vec<Arc<Page>>, pages: &[Arc<Page>]) -> Resu
     Ok(())
 }
 
-/// Whether pages hold the same keys.
+/// How many keys pages hold.
+pub(crate) fn count_keys(pages: &[Arc<Page>]) -> usize
+    requires { length (flat_map arc_value pages.now) < 2 ^ 64 }
+    ensures { result ≡ length (flat_map arc_value pages.now) }
+{
+    let mut count = 0;
+    for page in pages {
+        count += page.len();
+    }
+    count
+}
+
+/// Whether pages hold the same keys. Pages are compared whole up to the first two that differ, and from
+/// there key by key.
 pub(crate) fn are_same_keys(left: &[Arc<Page>], right: &[Arc<Page>]) -> bool
     ensures { IsTrue result ↔ (flat_map arc_value left.now ≡ flat_map arc_value right.now) }
 {
-    let mut mine = KeyCursor::new(left);
-    let mut others = KeyCursor::new(right);
+    let both = left.len().min(right.len());
+    let mut same = 0;
+    while same < both && left[same].is_same(&right[same]) {
+        same += 1;
+    }
+    are_same_walks(&left[same..], &right[same..])
+}
+
+/// Whether pages hold the same keys, compared key by key.
+fn are_same_walks(left: &[Arc<Page>], right: &[Arc<Page>]) -> bool
+    ensures { IsTrue result ↔ (flat_map arc_value left.now ≡ flat_map arc_value right.now) }
+{
+    let mut mine = PageCursor::new(left);
+    let mut others = PageCursor::new(right);
     while let Some(key) = mine.next_key() {
         match others.next_key() {
             Some(other) => {

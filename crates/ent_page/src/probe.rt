@@ -119,7 +119,7 @@ fn past<'a>(bytes: &'a [u8], front: &[u8]) -> Result<&'a [u8], Ordering>
     Err(bytes.cmp(front))
 }
 
-fn are_same_bytes(left: &[u8], right: &[u8]) -> bool
+pub(crate) fn are_same_bytes(left: &[u8], right: &[u8]) -> bool
     ensures { IsTrue result ↔ (left.now ≡ right.now) }
 {
     left == right

@@ -1,5 +1,5 @@
 //! Bytes as rows.
-ghost use Rattle.std.specs.Prelude.{◌≡◌, IfOk, IfSome, ◌+◌, List, false, drop, take, length, ◌≤◌};
+ghost use Rattle.std.specs.Prelude.{◌≡◌, ◌++◌, IfOk, IfSome, ◌+◌, List, false, drop, take, length, ◌≤◌};
 ghost use Rattle.ent_value.specs.Value.{kinds_of};
 ghost use Rattle.ent_value.specs.declared.value.Value.{Value as Cell};
 ghost use Rattle.ent_page.specs.Key.{key_of, AreStorable};
@@ -28,7 +28,11 @@ fn read_values(alloc: Global, kinds: &[Kind], key: &[u8]) -> Result<Vec<Value>, 
     Ok(values)
 }
 
-fn read_value(alloc: Global, kind: Kind, bytes: &[u8]) -> Result<(Value, &[u8]), AllocError>
+pub(crate) fn read_value(
+    alloc: Global,
+    kind: Kind,
+    bytes: &[u8],
+) -> Result<(Value, &[u8]), AllocError>
     ensures value { IfOk result (λ r. r.0 ≡ value_from kind bytes.now) }
     ensures rest { IfOk result (λ r. r.1.now ≡ past_value kind bytes.now) }
 {
@@ -117,4 +121,34 @@ fn read_long_text(alloc: Global, bytes: &[u8]) -> Result<(Vec<u8>, &[u8]), Alloc
         }
     }
     Ok((text, &[]))
+}
+
+/// What stands for a value of this kind at the front of bytes, and what follows it.
+pub(crate) fn split_value(kind: Kind, bytes: &[u8]) -> (&[u8], &[u8])
+    ensures whole { bytes.now ≡ result.0.now ++ result.1.now }
+    ensures rest { result.1.now ≡ past_value kind bytes.now }
+{
+    let end = match kind {
+        Kind::Int => bytes.len().min(8),
+        Kind::Text => text_end(bytes),
+    };
+    bytes.split_at(end)
+}
+
+/// Where a text at the front of bytes ends, with its end.
+fn text_end(bytes: &[u8]) -> usize
+    ensures range { result ≤ length bytes.now }
+    ensures rest { drop result bytes.now ≡ past_text false bytes.now }
+{
+    let mut behind_zero = false;
+    for (i, byte) in bytes.iter().enumerate() {
+        if *byte != 0 {
+            behind_zero = false;
+        } else if behind_zero {
+            return i + 1;
+        } else {
+            behind_zero = true;
+        }
+    }
+    bytes.len()
 }

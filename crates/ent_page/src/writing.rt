@@ -16,7 +16,7 @@ pub(crate) fn append_values(out: &mut Vec<u8>, values: &[Value]) -> Result<(), A
     Ok(())
 }
 
-fn append_value(out: &mut Vec<u8>, value: &Value) -> Result<(), AllocError>
+pub(crate) fn append_value(out: &mut Vec<u8>, value: &Value) -> Result<(), AllocError>
     ensures key { OnOk result (out.new.items ≡ out.old.items ++ value_key value.now) }
     ensures stored { IsStorable value.now }
 {

@@ -29,7 +29,8 @@ use Rattle.ent_plain_semantics.specs.Database.{Name}
 use Rattle.ent_plain_form.specs.declared.catalogue.ColumnSchema.{ColumnSchema}
 use Rattle.ent_plain_form.specs.declared.catalogue.TableSchema.{TableSchema}
 use Rattle.ent_plain_form.specs.declared.fault.FormFault.{FormFault}
-use Rattle.ent_plain_form.specs.declared.fault.FormFault.TheVariants.{NoTable, NoColumn, Arity, WrongKind, NoHostVariable}
+use Rattle.ent_plain_form.specs.declared.fault.FormFault.TheVariants.{NoTable, NoColumn, Arity, WrongKind}
+use Rattle.ent_plain_form.specs.declared.fault.FormFault.TheVariants.{NoHostVariable}
 use Rattle.ent_plain_form.specs.declared.fault.FormFault.TheVariants.{Repeated}
 use Rattle.ent_plain_form.specs.Catalogue.{schemas_of, table_named, names_of, column_names, column_kind}
 use Rattle.ent_plain_form.specs.Kinds.{Bound, Lookup, none_bound, values_in, operands_in, operand_kind, operand_place}

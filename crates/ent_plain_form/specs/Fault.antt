@@ -1,7 +1,8 @@
 -- The number and the place of a fault.
 use Rattle.std.specs.Prelude.{ℕ}
 use Rattle.ent_plain_form.specs.declared.fault.FormFault.{FormFault}
-use Rattle.ent_plain_form.specs.declared.fault.FormFault.TheVariants.{NoTable, NoColumn, Arity, WrongKind, NoHostVariable}
+use Rattle.ent_plain_form.specs.declared.fault.FormFault.TheVariants.{NoTable, NoColumn, Arity, WrongKind}
+use Rattle.ent_plain_form.specs.declared.fault.FormFault.TheVariants.{NoHostVariable}
 use Rattle.ent_plain_form.specs.declared.fault.FormFault.TheVariants.{Repeated}
 
 abbrev pub code_of : FormFault → ℕ

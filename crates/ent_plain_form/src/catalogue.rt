@@ -2,7 +2,8 @@
 ghost use Rattle.std.specs.Prelude.{◌≡◌, IfSome, IfOk};
 ghost use Rattle.std.specs.Option.{option_map};
 ghost use Rattle.ent_value.specs.Refusal.{Gives};
-ghost use Rattle.ent_plain_form.specs.Catalogue.{column_schema, table_schema, schemas_of, table_named, column_kind, index_of};
+ghost use Rattle.ent_plain_form.specs.Catalogue.{column_schema, table_schema, schemas_of, table_named, column_kind};
+ghost use Rattle.ent_plain_form.specs.Catalogue.{index_of};
 ghost use Rattle.ent_plain_form.specs.Catalogue.{names_of, column_names};
 ghost use Rattle.ent_plain_form.specs.FirstFault.{opening_fault, unless};
 

@@ -4,8 +4,10 @@ ghost use Rattle.std.specs.List.{list_any};
 ghost use Rattle.ent_plain_semantics.specs.Database.{same_name};
 ghost use Rattle.ent_plain_form.specs.Bindings.{bound_in};
 ghost use Rattle.ent_plain_form.specs.Kinds.{operands_in, expression_kind, expression_place};
-ghost use Rattle.ent_plain_form.specs.FirstFault.{first_of, values_fault, test_fault, items_fault, term_fault, ◌before◌};
-ghost use Rattle.ent_plain_form.specs.FirstFault.{expression_fault, assigned_kind_fault, assignment_fault, assignments_fault};
+ghost use Rattle.ent_plain_form.specs.FirstFault.{first_of, values_fault, test_fault, items_fault, term_fault};
+ghost use Rattle.ent_plain_form.specs.FirstFault.{◌before◌};
+ghost use Rattle.ent_plain_form.specs.FirstFault.{expression_fault, assigned_kind_fault, assignment_fault};
+ghost use Rattle.ent_plain_form.specs.FirstFault.{assignments_fault};
 
 use crate::binding::Bindings;
 use crate::catalogue::{ColumnSchema, TableSchema};

@@ -1,7 +1,8 @@
 //! The parts of statements, resolved against the columns of a table.
 ghost use Rattle.std.specs.Prelude.{◌≡◌, IfOk, map};
 ghost use Rattle.ent_plain_form.specs.Catalogue.{column_names};
-ghost use Rattle.ent_plain_form.specs.Plain.{plain_known, plain_operand, plain_expression, assigned, image_from, plain_test};
+ghost use Rattle.ent_plain_form.specs.Plain.{plain_known, plain_operand, plain_expression, assigned, image_from};
+ghost use Rattle.ent_plain_form.specs.Plain.{plain_test};
 ghost use Rattle.ent_plain_form.specs.Plain.{columns_from, plain_items};
 
 use crate::catalogue::TableSchema;

@@ -5,7 +5,8 @@ ghost use Rattle.ent_plain_sql.specs.declared.tree.Statement.TheVariants as stat
 ghost use Rattle.ent_plain_form.specs.declared.plain.PlainStatement.TheVariants as resolved;
 ghost use Rattle.ent_plain_form.specs.Bindings.{bound_in};
 ghost use Rattle.ent_plain_form.specs.Kinds.{none_bound, values_in, bound_after};
-ghost use Rattle.ent_plain_form.specs.FirstFault.{insert_fault, delete_fault, update_fault, expression_fault, select_fault};
+ghost use Rattle.ent_plain_form.specs.FirstFault.{insert_fault, delete_fault, update_fault, expression_fault};
+ghost use Rattle.ent_plain_form.specs.FirstFault.{select_fault};
 ghost use Rattle.ent_plain_form.specs.FirstFault.{statement_fault, script_fault, unless};
 ghost use Rattle.ent_plain_form.specs.Plain.{plain_known, plain_expression, plain_statement, plain_script};
 ghost use Rattle.ent_plain_form.specs.PlainMeaning.{AllFit, schema_kinds};

@@ -1,5 +1,6 @@
 -- Scripts from tokens, from left to right, and the first fault.
-use Rattle.std.specs.Prelude.{ℕ, Bool, true, false, ◌||◌, List, [], ◌∷◌, length, drop, Option, Some, None, Result, Ok, Err, if◌then◌else◌, ◌==◌, pos}
+use Rattle.std.specs.Prelude.{ℕ, Bool, true, false, ◌||◌, List, [], ◌∷◌, length, drop, Option, Some, None, Result, Ok}
+use Rattle.std.specs.Prelude.{Err, if◌then◌else◌, ◌==◌, pos}
 use Rattle.std.specs.Option.{option_map_or}
 use Rattle.ent_text.specs.declared.token.Token.{Token}
 use Rattle.ent_text.specs.declared.token.TokenKind.{TokenKind}
@@ -46,7 +47,8 @@ use Rattle.ent_value.specs.Refusal.{◌>>=◌}
 use Rattle.ent_text.specs.Numeral.{negative_of}
 use Rattle.ent_text.specs.Lexing.{tokens_of}
 use Rattle.ent_text.specs.declared.fault.TextFault.{TextFault}
-use Rattle.ent_plain_sql.specs.Front.{Read, place_of, is_word, is_sign, is_name, begins, begins_with_word, begins_with_sign, word_at, sign_at, name_at}
+use Rattle.ent_plain_sql.specs.Front.{Read, place_of, is_word, is_sign, is_name, begins, begins_with_word}
+use Rattle.ent_plain_sql.specs.Front.{begins_with_sign, word_at, sign_at, name_at}
 use Rattle.ent_plain_sql.specs.List.{listed_at, many_at}
 
 abbrev pub is_comma : TokenKind → Bool
@@ -115,7 +117,8 @@ literal_at end [] = Err (Unexpected end)
 literal_at end (t ∷ ts) = literal_from t.kind t.start end ts
 
 -- INSERT INTO name VALUES "(" part { divider part } ")" ";", with the place of the first bracket
-unfoldable pub row_at : {A : Type 0} → (TokenKind → Bool) → (TokenKind → Bool) → (ℕ → List Token → Read A) → ℕ → List Token → Read (Identifier × ℕ × List A)
+unfoldable pub row_at : {A : Type 0} → (TokenKind → Bool) → (TokenKind → Bool) → (ℕ → List Token → Read A) → ℕ
+    → List Token → Read (Identifier × ℕ × List A)
 row_at divides starts part end ts = do
   ts ← word_at words.Insert end ts
   ts ← word_at words.Into end ts
@@ -130,7 +133,8 @@ row_at divides starts part end ts = do
 
 -- INSERT INTO name VALUES "(" literal { "," literal } ")" ";"
 unfoldable pub opening_row_at : ℕ → List Token → Read OpeningRow
-opening_row_at end ts = row_at is_comma is_literal literal_at end ts >>= λ row. Ok (record { table = row.0.0; place = row.0.1; values = row.0.2 }, row.1)
+opening_row_at end ts = row_at is_comma is_literal literal_at end ts >>= λ row. Ok
+    (record { table = row.0.0; place = row.0.1; values = row.0.2 }, row.1)
 
 abbrev pub is_variable : TokenKind → Bool
 is_variable (kinds.HostVariable name) = true
@@ -151,12 +155,14 @@ is_value kind = is_variable kind || is_literal kind
 -- literal or host variable
 unfoldable pub value_at : ℕ → List Token → Read ValueSpecification
 value_at end ts =
-    if begins is_variable ts then (variable_at end ts >>= λ variable. Ok (specifications.HostVariable variable.0, variable.1))
+    if begins is_variable ts then (variable_at end ts >>= λ variable. Ok
+        (specifications.HostVariable variable.0, variable.1))
     else (literal_at end ts >>= λ literal. Ok (specifications.Literal literal.0, literal.1))
 
 -- INSERT INTO name VALUES "(" value { "," value } ")" ";"
 unfoldable pub insert_at : ℕ → List Token → Read Insert
-insert_at end ts = row_at is_comma is_value value_at end ts >>= λ row. Ok (record { table = row.0.0; place = row.0.1; values = row.0.2 }, row.1)
+insert_at end ts = row_at is_comma is_value value_at end ts >>= λ row. Ok
+    (record { table = row.0.0; place = row.0.1; values = row.0.2 }, row.1)
 
 -- value or name
 unfoldable pub operand_at : ℕ → List Token → Read Operand
@@ -171,7 +177,8 @@ is_operand kind = is_name kind || is_value kind
 unfoldable pub expression_behind : {A : Type 0} → (ℕ → List Token → Read A) → A → ℕ → List Token → Read (Expression A)
 expression_behind term first end ts =
     if begins_with_sign signs.Plus ts then (term end (drop 1 ts) >>= λ other. Ok (Sum first other.0, other.1))
-    else (if begins_with_sign signs.Minus ts then (term end (drop 1 ts) >>= λ other. Ok (Difference first other.0, other.1))
+    else (if begins_with_sign signs.Minus ts
+        then (term end (drop 1 ts) >>= λ other. Ok (Difference first other.0, other.1))
     else Ok (Single first, ts))
 
 -- term [ ( "+" | "-" ) term ]
@@ -211,7 +218,8 @@ items_at end ts =
 
 -- [ WHERE test { AND test } ]
 unfoldable pub tests_at : ℕ → List Token → Read (List Test)
-tests_at end ts = if begins_with_word words.Where ts then listed_at is_and is_operand test_at end MOST_PARTS (drop 1 ts) else Ok ([], ts)
+tests_at end ts = if begins_with_word words.Where ts
+    then listed_at is_and is_operand test_at end MOST_PARTS (drop 1 ts) else Ok ([], ts)
 
 -- SELECT items FROM name [ WHERE tests ] ";"
 unfoldable pub select_at : ℕ → List Token → Read Select
@@ -265,14 +273,17 @@ set_at end ts = do
 
 -- one of the words that begin a statement
 abbrev pub is_statement : TokenKind → Bool
-is_statement kind = is_word words.Insert kind || (is_word words.Delete kind || (is_word words.Update kind || (is_word words.Set kind || is_word words.Select kind)))
+is_statement kind = is_word words.Insert kind || (is_word words.Delete kind || (is_word words.Update kind ||
+    (is_word words.Set kind || is_word words.Select kind)))
 
 -- insert, delete, update, set or select
 unfoldable pub statement_at : ℕ → List Token → Read Statement
 statement_at end ts =
     if begins_with_word words.Insert ts then (insert_at end ts >>= λ insert. Ok (statements.Insert insert.0, insert.1))
-    else (if begins_with_word words.Delete ts then (delete_at end ts >>= λ delete. Ok (statements.Delete delete.0, delete.1))
-    else (if begins_with_word words.Update ts then (update_at end ts >>= λ update. Ok (statements.Update update.0, update.1))
+    else (if begins_with_word words.Delete ts
+        then (delete_at end ts >>= λ delete. Ok (statements.Delete delete.0, delete.1))
+    else (if begins_with_word words.Update ts
+        then (update_at end ts >>= λ update. Ok (statements.Update update.0, update.1))
     else (if begins_with_word words.Set ts then (set_at end ts >>= λ set. Ok (statements.Set set.0, set.1))
     else (select_at end ts >>= λ select. Ok (statements.Select select.0, select.1)))))
 
@@ -280,7 +291,8 @@ statement_at end ts =
 unfoldable pub end_at : ℕ → List Token → Read End
 end_at end ts =
     if begins_with_word words.Commit ts then Ok (ends.Commit, drop 1 ts)
-    else (if begins_with_word words.Rollback ts then Ok (ends.Rollback, drop 1 ts) else Err (Unexpected (place_of end ts)))
+    else (if begins_with_word words.Rollback ts then Ok (ends.Rollback, drop 1 ts)
+        else Err (Unexpected (place_of end ts)))
 
 -- BEGIN TRANSACTION ";" { statement } ( COMMIT | ROLLBACK ) ";"
 unfoldable pub script_at : ℕ → List Token → Read Script
@@ -308,9 +320,12 @@ input_of end ts = do
   tables ← many_at is_create create_at end MOST_TABLES ts
   rows ← many_at is_insert opening_row_at end MOST_OPENING_ROWS tables.1
   scripts ← many_at is_begin script_at end MOST_SCRIPTS rows.1
-  if length scripts.1 == 0 then Ok (record { opening = record { tables = tables.0; rows = rows.0 }; scripts = scripts.0 }) else Err (Unexpected (place_of end scripts.1))
+  if length scripts.1 == 0 then Ok
+      (record { opening = record { tables = tables.0; rows = rows.0 }; scripts = scripts.0 })
+      else Err (Unexpected (place_of end scripts.1))
 
-abbrev pub with_tokens : {A : Type 0} → Result (List Token) TextFault → (List Token → Result A SqlFault) → Result A SqlFault
+abbrev pub with_tokens : {A : Type 0} → Result (List Token) TextFault → (List Token → Result A SqlFault)
+    → Result A SqlFault
 with_tokens (Ok ts) read = read ts
 with_tokens (Err fault) read = Err (Text fault)
 

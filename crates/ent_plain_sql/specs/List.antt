@@ -12,19 +12,25 @@ joined x read = read >>= λ xs. Ok (x ∷ xs.0, xs.1)
 
 -- Things behind dividers, room at most. A divider that ends them is the fault of what stands behind it:
 -- a thing too much, or no thing.
-unfoldable pub more_at : {A : Type 0} → (TokenKind → Bool) → (TokenKind → Bool) → (ℕ → List Token → Read A) → ℕ → ℕ → List Token → Read (List A)
+unfoldable pub more_at : {A : Type 0} → (TokenKind → Bool) → (TokenKind → Bool) → (ℕ → List Token → Read A) → ℕ
+    → ℕ → List Token → Read (List A)
 more_at divides starts item end zero ts =
-    if begins divides ts then (if begins starts (drop 1 ts) then Err (TooMany (place_of end (drop 1 ts))) else Err (Unexpected (place_of end (drop 1 ts))))
+    if begins divides ts then (if begins starts (drop 1 ts) then Err (TooMany (place_of end (drop 1 ts)))
+        else Err (Unexpected (place_of end (drop 1 ts))))
     else Ok ([], ts)
 more_at divides starts item end (suc room) ts =
-    if begins divides ts then (item end (drop 1 ts) >>= λ x. joined x.0 (more_at divides starts item end room x.1)) else Ok ([], ts)
+    if begins divides ts then (item end (drop 1 ts) >>= λ x. joined x.0
+        (more_at divides starts item end room x.1)) else Ok ([], ts)
 
 -- things with dividers between them: one at least, limit at most
-unfoldable pub listed_at : {A : Type 0} → (TokenKind → Bool) → (TokenKind → Bool) → (ℕ → List Token → Read A) → ℕ → ℕ → List Token → Read (List A)
-listed_at divides starts item end limit ts = item end ts >>= λ x. joined x.0 (more_at divides starts item end (limit - 1) x.1)
+unfoldable pub listed_at : {A : Type 0} → (TokenKind → Bool) → (TokenKind → Bool) → (ℕ → List Token → Read A) → ℕ
+    → ℕ → List Token → Read (List A)
+listed_at divides starts item end limit ts = item end ts >>= λ x. joined x.0 (more_at divides starts item end
+    (limit - 1) x.1)
 
 -- Things one behind the other, room at most.
-unfoldable pub many_at : {A : Type 0} → (TokenKind → Bool) → (ℕ → List Token → Read A) → ℕ → ℕ → List Token → Read (List A)
+unfoldable pub many_at : {A : Type 0} → (TokenKind → Bool) → (ℕ → List Token → Read A) → ℕ → ℕ → List Token
+    → Read (List A)
 many_at starts item end zero ts = if begins starts ts then Err (TooMany (place_of end ts)) else Ok ([], ts)
 many_at starts item end (suc room) ts =
     if begins starts ts then (item end ts >>= λ x. joined x.0 (many_at starts item end room x.1)) else Ok ([], ts)

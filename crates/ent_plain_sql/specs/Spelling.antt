@@ -102,7 +102,8 @@ column c = name c.name ⨾ kind c.kind
 
 -- CREATE TABLE name "(" column { "," column } ")" ";"
 abbrev pub create : Create → Phrase
-create c = word words.Create ⨾ word words.Table ⨾ name c.name ⨾ sign signs.Open ⨾ listed comma column c.columns ⨾ sign signs.Close ⨾ sign signs.Semicolon
+create c = word words.Create ⨾ word words.Table ⨾ name c.name ⨾ sign signs.Open ⨾ listed comma column c.columns
+    ⨾ sign signs.Close ⨾ sign signs.Semicolon
 
 -- a number
 abbrev pub positive : Literal → Phrase
@@ -110,7 +111,8 @@ positive l tokens = (n : ℕ) × (l.value ≡ values.Int (pos n)) × Standing l.
 
 -- a number behind a minus sign; it stands where the sign does
 abbrev pub negative : Literal → Phrase
-negative l tokens = (n : ℕ) × (l.value ≡ values.Int (negative_of n)) × (Standing l.place (kinds.Sign signs.Minus) ⨾ single (kinds.Number n)) tokens
+negative l tokens = (n : ℕ) × (l.value ≡ values.Int (negative_of n)) × (Standing l.place (kinds.Sign signs.Minus)
+    ⨾ single (kinds.Number n)) tokens
 
 -- a text in quotes
 abbrev pub quoted : Literal → Phrase
@@ -122,7 +124,8 @@ literal l tokens = positive l tokens ⊎ (negative l tokens ⊎ quoted l tokens)
 
 -- INSERT INTO name VALUES "(" part { "," part } ")" ";", where the first bracket stands at this place
 abbrev pub row : {A : Type 0} → (A → Phrase) → Identifier → ℕ → List A → Phrase
-row of table place values = word words.Insert ⨾ word words.Into ⨾ name table ⨾ word words.Values ⨾ Standing place (kinds.Sign signs.Open) ⨾ listed comma of values ⨾ sign signs.Close ⨾ sign signs.Semicolon
+row of table place values = word words.Insert ⨾ word words.Into ⨾ name table ⨾ word words.Values
+    ⨾ Standing place (kinds.Sign signs.Open) ⨾ listed comma of values ⨾ sign signs.Close ⨾ sign signs.Semicolon
 
 -- INSERT INTO name VALUES "(" literal { "," literal } ")" ";"
 abbrev pub opening_row : OpeningRow → Phrase
@@ -176,7 +179,8 @@ conditions (t ∷ ts) = word words.Where ⨾ listed (word words.And) test (t ∷
 
 -- SELECT items FROM name [ WHERE tests ] ";"
 abbrev pub select : Select → Phrase
-select s = word words.Select ⨾ items s.items ⨾ word words.From ⨾ name s.source ⨾ conditions s.tests ⨾ sign signs.Semicolon
+select s = word words.Select ⨾ items s.items ⨾ word words.From ⨾ name s.source ⨾ conditions s.tests
+    ⨾ sign signs.Semicolon
 
 -- DELETE FROM name [ WHERE tests ] ";"
 abbrev pub delete : Delete → Phrase
@@ -188,7 +192,8 @@ assignment a = name a.column ⨾ sign signs.Equal ⨾ expression operand a.expre
 
 -- UPDATE name SET assignment { "," assignment } [ WHERE tests ] ";"
 abbrev pub update : Update → Phrase
-update u = word words.Update ⨾ name u.table ⨾ word words.Set ⨾ listed comma assignment u.assignments ⨾ conditions u.tests ⨾ sign signs.Semicolon
+update u = word words.Update ⨾ name u.table ⨾ word words.Set ⨾ listed comma assignment u.assignments
+    ⨾ conditions u.tests ⨾ sign signs.Semicolon
 
 -- SET hostvariable "=" value [ ( "+" | "-" ) value ] ";"
 abbrev pub set : Set → Phrase
@@ -209,7 +214,8 @@ ending ends.Rollback = word words.Rollback
 
 -- BEGIN TRANSACTION ";" { statement } ( COMMIT | ROLLBACK ) ";"
 abbrev pub script : Script → Phrase
-script s = word words.Begin ⨾ word words.Transaction ⨾ sign signs.Semicolon ⨾ many statement s.statements ⨾ ending s.end ⨾ sign signs.Semicolon
+script s = word words.Begin ⨾ word words.Transaction ⨾ sign signs.Semicolon ⨾ many statement s.statements
+    ⨾ ending s.end ⨾ sign signs.Semicolon
 
 -- { create } { opening row } { script }
 abbrev pub input : Input → Phrase

@@ -1,7 +1,8 @@
 //! DELETE, UPDATE and SET.
 ghost use Rattle.std.specs.Prelude.{◌≡◌};
 ghost use Rattle.ent_value.specs.Refusal.{Gives};
-ghost use Rattle.ent_plain_sql.specs.Grammar.{delete_at, expression_behind, expression_at, assignment_at, update_at, set_at};
+ghost use Rattle.ent_plain_sql.specs.Grammar.{delete_at, expression_behind, expression_at, assignment_at, update_at};
+ghost use Rattle.ent_plain_sql.specs.Grammar.{set_at};
 
 use crate::fault::SqlFault;
 use crate::front::{begins_with_sign, name_at, sign_at, tail, word_at};

@@ -2,7 +2,8 @@
 ghost use Rattle.std.specs.Prelude.{◌≡◌};
 ghost use Rattle.ent_value.specs.Refusal.{Gives};
 ghost use Rattle.ent_plain_sql.specs.Front.{begins, is_name};
-ghost use Rattle.ent_plain_sql.specs.Grammar.{literal_at, negative_at, variable_at, value_at, operand_at, comparison_at};
+ghost use Rattle.ent_plain_sql.specs.Grammar.{literal_at, negative_at, variable_at, value_at, operand_at};
+ghost use Rattle.ent_plain_sql.specs.Grammar.{comparison_at};
 ghost use Rattle.ent_plain_sql.specs.Grammar.{comparison_of, test_at, is_literal, is_variable, is_value, is_operand};
 
 use crate::fault::SqlFault;

@@ -13,3 +13,7 @@ pub mod Quiet
 pub mod Run
 pub mod Step
 pub mod Reached
+pub mod Play
+pub mod Writers
+pub mod Partners
+pub mod Tidy

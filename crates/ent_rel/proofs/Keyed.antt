@@ -14,7 +14,7 @@ use Rattle.std.proofs.lemmas.List.Elements.{All-from_recursion, recursion_from_A
 use Rattle.std.proofs.lemmas.Map.Lookups.{CmpEqualImpliesEq, exact_bytes}
 use Rattle.std.proofs.lemmas.Map.Keys.{IsDistinct-from_sorted}
 use Rattle.ent_set.specs.Sets as set
-use Rattle.ent_set.specs.Laws.{same_set, contains-from_list, contains-insert, contains-without_all, contains-empty, len-insert, contains-ascending, from_list-ascending, from_list-filter, any_map, any_same_set, len-distinct, ascending-from_list, is_sorted_from}
+use Rattle.ent_set.specs.Laws.{same_set, contains-from_list, contains-insert, contains-without_all, contains-empty, len-insert, contains-ascending, from_list-ascending, from_list-filter, any_map, any_same_set, len-distinct, ascending-from_list, is_sorted_from, without-append, without-nothing}
 use Rattle.std.proofs.lemmas.List.{take_more, map-append}
 use Rattle.ent_value.specs.Value.{row_cmp, kind_of, kinds_of}
 use Rattle.ent_value.specs.Order.{rows_total, exact_rows, rows_equal}
@@ -24,11 +24,12 @@ use Rattle.ent_page.specs.Key.{key_of, key_cmp, IsStorable, AreStorable}
 use Rattle.ent_page.specs.Read.{row_from}
 use Rattle.ent_page.specs.Order.{key_order}
 use Rattle.ent_page.specs.Rows.{IsKey, row_again, key_of_row}
+use Rattle.ent_rel.specs.Change.{changed_rows}
 use Rattle.ent_rel.specs.Relation.{RowSet, HaveKinds, full, bounded}
 use Rattle.ent_value.specs.declared.limits.TheConstants.{MOST_ROWS}
-use Rattle.ent_rel.proofs.Lists.{same_rows}
+use Rattle.ent_rel.proofs.Lists.{same_rows, have_kinds}
 use Rattle.ent_rel.proofs.Meanings.{bounded_beyond}
-use Rattle.ent_rel.specs.Kept.{KeySet, listed_rows, rows_of, HoldRows}
+use Rattle.ent_rel.specs.Kept.{KeySet, listed_rows, rows_of, HoldRows, RemovesRows}
 
 pub keys_total : IsTotalOrder key_cmp
 keys_total = nat_list_cmp_total
@@ -237,17 +238,6 @@ and_true : (b : Bool) → (b && true) ≡ b
 and_true true = refl
 and_true false = refl
 
-pub without_more : (s : RowSet) (row : List Value) (rows : List (List Value)) → set.without_all (set.without_all s (row ∷ [])) rows ≡ set.without_all s (row ∷ rows)
-without_more s row rows = same_set rows_total exact_rows _ _ (λ q.
-    contains-without_all rows_total exact_rows (set.without_all s (row ∷ [])) rows q ∙ ap (λ b. b && not (list_any (eq_by_cmp row_cmp q) rows)) (contains-without_all rows_total exact_rows s (row ∷ []) q)
-    ∙ by (set.contains s q) (eq_by_cmp row_cmp q row) (list_any (eq_by_cmp row_cmp q) rows)
-    ∙ sym (contains-without_all rows_total exact_rows s (row ∷ rows) q))
-  where
-    by : (a e b : Bool) → ((a && not (e || false)) && not b) ≡ (a && not (e || b))
-    by true true b = refl
-    by true false b = refl
-    by false e b = refl
-
 -- a row of other kinds is not there
 pub without_other : (kinds : List Kind) (s : RowSet) (row : List Value) → HaveKinds kinds s → (kinds_of row ≡ kinds → ⊥) → set.without_all s (row ∷ []) ≡ s
 without_other kinds s row have other = same_set rows_total exact_rows _ _ (λ q. contains-without_all rows_total exact_rows s (row ∷ []) q ∙ by q (set.contains s q) refl (eq_by_cmp row_cmp q row) refl)
@@ -270,6 +260,50 @@ pub from_here : {X : Type 0} (xs : List X) (i : ℕ) (x : X) → i < length xs �
 from_here [] i x lt is = absurd (omega arith)
 from_here (y ∷ ys) zero x lt is = ap (λ z. z ∷ ys) (sym is)
 from_here (y ∷ ys) (suc i) x lt is = from_here ys i x (omega arith) is ∙ ap (λ n. x ∷ drop n (y ∷ ys)) (let e : suc (i + 1) ≡ suc i + 1 = omega arith in e)
+
+-- ---- many keys
+
+pub rows_insert_all : (kinds : List Kind) (s : KeySet) (rows : List (List Value)) → AllByRecursion (λ row. kinds_of row ≡ kinds) rows → AllByRecursion AreStorable rows → rows_of kinds (set.insert_all s (map key_of rows)) ≡ set.insert_all (rows_of kinds s) rows
+rows_insert_all kinds s [] same fits = refl
+rows_insert_all kinds s (row ∷ rows) same fits =
+    rows_insert_all kinds (set.insert s (key_of row)) rows same.1 fits.1 ∙ ap (λ t. set.insert_all t rows) (rows_insert kinds s row same.0 fits.0)
+
+pub hold_insert_all : (kinds : List Kind) (s : KeySet) (rows : List (List Value)) → AllByRecursion (λ row. kinds_of row ≡ kinds) rows → AllByRecursion AreStorable rows → HoldRows kinds s → HoldRows kinds (set.insert_all s (map key_of rows))
+hold_insert_all kinds s [] same fits hold = hold
+hold_insert_all kinds s (row ∷ rows) same fits hold = hold_insert_all kinds (set.insert s (key_of row)) rows same.1 fits.1 (hold_insert kinds s row same.0 fits.0 hold)
+
+-- one row more to take out, with its key
+pub removes_more : (kinds : List Kind) (keys : List (List ℕ)) (rows : List (List Value)) (row : List Value) → kinds_of row ≡ kinds → AreStorable row → RemovesRows kinds keys rows → RemovesRows kinds (keys ++ key_of row ∷ []) (rows ++ row ∷ [])
+removes_more kinds keys rows row same fits before s hold =
+    ap (rows_of kinds) (sym (without-append keys_total keys_exact s keys (key_of row ∷ [])))
+    ∙ rows_without kinds (set.without_all s keys) row same fits (hold_without kinds s keys hold)
+    ∙ ap (λ t. set.without_all t (row ∷ [])) (before s hold)
+    ∙ without-append rows_total exact_rows (rows_of kinds s) rows (row ∷ [])
+
+-- one row more to take out, which is of other kinds
+pub removes_other : (kinds : List Kind) (keys : List (List ℕ)) (rows : List (List Value)) (row : List Value) → (kinds_of row ≡ kinds → ⊥) → RemovesRows kinds keys rows → RemovesRows kinds keys (rows ++ row ∷ [])
+removes_other kinds keys rows row other before s hold =
+    let left = set.without_all s keys in
+    let have = have_kinds kinds (listed_rows kinds left) (listed_fit kinds left (hold_without kinds s keys hold)) in
+    sym (without_other kinds (rows_of kinds left) row have other)
+    ∙ ap (λ t. set.without_all t (row ∷ [])) (before s hold)
+    ∙ without-append rows_total exact_rows (rows_of kinds s) rows (row ∷ [])
+
+pub removes_none : (kinds : List Kind) → RemovesRows kinds [] []
+removes_none kinds s hold =
+    ap (rows_of kinds) (without-nothing keys_total keys_exact s) ∙ sym (without-nothing rows_total exact_rows (rows_of kinds s))
+
+module _ (kinds : List Kind) (s : KeySet) (removed added : List (List Value)) (gone : List (List ℕ)) (made : KeySet) (is : made ≡ set.insert_all (set.without_all s gone) (map key_of added)) (hold : HoldRows kinds s) (takes : RemovesRows kinds gone removed) (same : All (λ row. kinds_of row ≡ kinds) added) (fits : All AreStorable added) where
+  pub rows_merged : rows_of kinds made ≡ changed_rows (rows_of kinds s) removed added
+  rows_merged =
+      ap (rows_of kinds) is
+      ∙ rows_insert_all kinds (set.without_all s gone) added (recursion_from_All (λ row. kinds_of row ≡ kinds) added same) (recursion_from_All AreStorable added fits)
+      ∙ ap (λ t. set.insert_all t added) (takes s hold)
+
+  pub hold_merged : HoldRows kinds made
+  hold_merged =
+      subst (λ t. HoldRows kinds t) (sym is)
+      (hold_insert_all kinds (set.without_all s gone) added (recursion_from_All (λ row. kinds_of row ≡ kinds) added same) (recursion_from_All AreStorable added fits) (hold_without kinds s gone hold))
 
 -- ---- kinds and keys of more and more values
 

@@ -4,3 +4,6 @@ pub mod Keyed
 pub mod Meanings
 pub mod Kept
 pub mod RowByRow
+pub mod Walks
+pub mod Fronts
+pub mod Found

@@ -6,7 +6,7 @@ use Rattle.std.specs.Ordering.{eq_by_cmp}
 use Rattle.std.proofs.lemmas.Bool.{or_cases}
 use Rattle.std.proofs.lemmas.Map.Views.{list_any-from_Contains, Contains-from_any}
 use Rattle.ent_set.specs.Sets as set
-use Rattle.ent_set.specs.Laws.{contains-insert, contains-retain, contains-insert_all, contains-ascending, contains-without_all}
+use Rattle.ent_set.specs.Laws.{contains-insert, contains-retain, contains-insert_all, contains-ascending, contains-without_all, one_passing, passes_where}
 use Rattle.ent_value.specs.declared.value.Value.{Value}
 use Rattle.ent_value.specs.Value.{row_cmp}
 use Rattle.ent_value.specs.Order.{rows_total, exact_rows, rows_equal}
@@ -52,22 +52,6 @@ deletes_matches rows test q =
       λ p. told ∙ (λ i. p.0 i && not (p.1 i)),
     )
 
--- an element of a list that passes
-one_passing : (p : List Value → Bool) (ks : List (List Value)) → list_any p ks ≡ true → (x : List Value) × (p x ≡ true) × (list_any (eq_by_cmp row_cmp x) ks ≡ true)
-one_passing p [] h = cc
-one_passing p (k ∷ ks) h = by (p k) refl (one_passing p ks)
-  where
-    by : (b : Bool) → p k ≡ b → (list_any p ks ≡ true → (x : List Value) × (p x ≡ true) × (list_any (eq_by_cmp row_cmp x) ks ≡ true)) → (x : List Value) × (p x ≡ true) × (list_any (eq_by_cmp row_cmp x) (k ∷ ks) ≡ true)
-    by true is later = (k, is, ap (λ b. b || list_any (eq_by_cmp row_cmp k) ks) (rows_equal.refl k))
-    by false is later = let rest = later (ap (λ b. b || list_any p ks) (sym is) ∙ h) in (rest.0, rest.1, or_right (eq_by_cmp row_cmp rest.0 k) _ rest.2)
-
-passes_where : (p : List Value → Bool) (x : List Value) → p x ≡ true → (ks : List (List Value)) → list_any (eq_by_cmp row_cmp x) ks ≡ true → list_any p ks ≡ true
-passes_where p x h [] e = cc
-passes_where p x h (k ∷ ks) e = elim (or_cases (eq_by_cmp row_cmp x k) (list_any (eq_by_cmp row_cmp x) ks) e) [
-  | inl same ↦ ap (λ b. b || list_any p ks) (ap p (sym (same_rows x k same)) ∙ h)
-  | inr rest ↦ or_right (p k) _ (passes_where p x h ks rest)
-]
-
 -- whether there is an image that passes
 abbrev passes_made : {E : Type 0} → (List Value → Bool) → Result (List Value) E → Bool
 passes_made t (Ok new) = t new
@@ -96,7 +80,7 @@ module _ {E : Type 0} (rows : RowSet) (test : List Value → Bool) (image : List
   image_there : list_any (eq_by_cmp row_cmp q) images ≡ true → IsImage rows test image q
   image_there h =
       let passes = λ (k : List Value). passes_made (eq_by_cmp row_cmp q) (image k) in
-      let one = one_passing passes (set.ascending (set.retain rows test)) (sym (any_images (eq_by_cmp row_cmp q) image (set.ascending (set.retain rows test)) images made) ∙ h) in
+      let one = one_passing rows_total exact_rows passes (set.ascending (set.retain rows test)) (sym (any_images (eq_by_cmp row_cmp q) image (set.ascending (set.retain rows test)) images made) ∙ h) in
       let old = both (set.contains rows one.0) (test one.0) (sym (stays_where rows test one.0) ∙ contains-ascending (set.retain rows test) one.0 ∙ one.2) in
       (one.0, old.0, old.1, image_is q (image one.0) one.1)
 
@@ -105,7 +89,7 @@ module _ {E : Type 0} (rows : RowSet) (test : List Value → Bool) (image : List
       let passes = λ (k : List Value). passes_made (eq_by_cmp row_cmp q) (image k) in
       let here : set.contains (set.retain rows test) is.0 ≡ true = stays_where rows test is.0 ∙ (λ i. is.1 i && is.2 i) in
       any_images (eq_by_cmp row_cmp q) image (set.ascending (set.retain rows test)) images made
-      ∙ passes_where passes is.0 (ap (passes_made (eq_by_cmp row_cmp q)) is.3 ∙ rows_equal.refl q) (set.ascending (set.retain rows test)) (sym (contains-ascending (set.retain rows test) is.0) ∙ here)
+      ∙ passes_where rows_total exact_rows passes is.0 (ap (passes_made (eq_by_cmp row_cmp q)) is.3 ∙ rows_equal.refl q) (set.ascending (set.retain rows test)) (sym (contains-ascending (set.retain rows test) is.0) ∙ here)
 
 pub replaces_matches : {E : Type 0} → ReplacesMatches E
 replaces_matches {E} rows after test image count e q = by (images_of image (set.ascending (set.retain rows test))) refl e

@@ -1,5 +1,5 @@
 -- What a table keeps true of its set of keys.
-use Rattle.std.specs.Prelude.{ℕ, List, map, ◌≤◌, IsTrue}
+use Rattle.std.specs.Prelude.{◌≡◌, ℕ, List, map, ◌≤◌, IsTrue}
 use Rattle.ent_set.specs.Sets as set
 use Rattle.ent_value.specs.Value.{row_cmp}
 use Rattle.ent_value.specs.declared.value.Value.{Value}
@@ -28,3 +28,8 @@ HoldRows kinds keys = (key : List ℕ) → IsTrue (set.contains keys key) → Is
 pub record IsKept (kinds : List Kind) (keys : KeySet) : Type 0 where
   pub fitting : HoldRows kinds keys
   pub limit : set.len keys ≤ MOST_ROWS
+
+-- these keys taken out of a set take these rows out
+abbrev pub RemovesRows : List Kind → List (List ℕ) → List (List Value) → Type 0
+RemovesRows kinds keys rows = (s : KeySet) → HoldRows kinds s
+    → rows_of kinds (set.without_all s keys) ≡ set.without_all (rows_of kinds s) rows

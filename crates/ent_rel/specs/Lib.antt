@@ -3,4 +3,5 @@ pub mod Kept
 pub mod Change
 pub mod Part
 pub mod Closure
+pub mod First
 pub mod ByRow

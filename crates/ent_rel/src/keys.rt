@@ -2,10 +2,11 @@
 ghost use Rattle.std.specs.Prelude.{◌≡◌, ◌≤◌, IfOk, map, All};
 ghost use Rattle.ent_set.specs.Sets as set;
 ghost use Rattle.ent_value.specs.Refusal.{Gives};
-ghost use Rattle.ent_value.specs.Value.{kinds_of};
+ghost use Rattle.ent_value.specs.Value.{row_cmp, kinds_of};
 ghost use Rattle.ent_page.specs.Key.{key_of, AreStorable};
 ghost use Rattle.ent_rel.specs.Relation.{bounded};
-ghost use Rattle.ent_rel.specs.Kept.{rows_of, HoldRows};
+ghost use Rattle.ent_rel.specs.Change.{changed_rows};
+ghost use Rattle.ent_rel.specs.Kept.{rows_of, HoldRows, RemovesRows};
 
 use crate::fault::TableFull;
 use crate::kinds::have_kinds;
@@ -13,8 +14,11 @@ use ent_page::{Key, KeySet};
 use ent_value::{Kind, MOST_ROWS, Refusal, Row};
 use std::alloc::{AllocError, Global};
 
+/// So many rows at most are taken out or put in one by one.
+const FEW_ROWS: usize = 4;
+
 /// The keys of rows.
-pub(crate) fn keys_of(alloc: Global, rows: &[Row]) -> Result<Vec<Key>, AllocError>
+fn keys_of(alloc: Global, rows: &[Row]) -> Result<Vec<Key>, AllocError>
     ensures keys { IfOk result (λ keys. keys.items ≡ map key_of rows.now) }
     ensures stored { IfOk result (λ keys. All AreStorable rows.now) }
 {
@@ -25,8 +29,27 @@ pub(crate) fn keys_of(alloc: Global, rows: &[Row]) -> Result<Vec<Key>, AllocErro
     Ok(keys)
 }
 
+/// The set of the keys of rows; `TableFull` where there would be too many.
+pub(crate) fn keys_loaded(
+    alloc: Global,
+    kinds: &[Kind],
+    rows: &[Row],
+) -> Result<KeySet, Refusal<TableFull>>
+    requires { All (λ row. kinds_of row ≡ kinds.now) rows.now }
+    ensures rows { let all = set.from_list {R = row_cmp} rows.now in
+        Gives (λ keys. rows_of kinds.now keys) result (bounded all all) }
+    ensures hold { IfOk result (λ keys. HoldRows kinds.now keys) }
+    ensures limit { IfOk result (λ keys. set.len keys ≤ MOST_ROWS) }
+{
+    let keys = KeySet::from_keys(alloc, keys_of(alloc, rows)?)?;
+    if keys.len() > MOST_ROWS {
+        return Err(Refusal::Fault(TableFull));
+    }
+    Ok(keys)
+}
+
 /// Keys without those of some rows.
-pub(crate) fn keys_without(
+fn keys_without(
     alloc: Global,
     kinds: &[Kind],
     keys: KeySet,
@@ -47,7 +70,7 @@ pub(crate) fn keys_without(
 }
 
 /// Keys with those of some rows put in; `TableFull` where there would be too many.
-pub(crate) fn keys_with(
+fn keys_with(
     alloc: Global,
     kinds: &[Kind],
     keys: KeySet,
@@ -72,4 +95,66 @@ pub(crate) fn keys_with(
         return Err(Refusal::Fault(TableFull));
     }
     Ok(keys)
+}
+
+/// The keys of those rows that have these kinds: no other row stands in a table.
+fn keys_to_remove(alloc: Global, kinds: &[Kind], rows: &[Row]) -> Result<Vec<Key>, AllocError>
+    ensures { IfOk result (λ keys. RemovesRows kinds.now keys.items rows.now) }
+{
+    let mut keys = Vec::with_capacity(alloc, rows.len())?;
+    for row in rows {
+        if have_kinds(row.values(), kinds) {
+            keys.push(Key::of(alloc, row.values())?)?;
+        }
+    }
+    Ok(keys)
+}
+
+/// Keys without those of some rows and then with those of others, in one pass.
+fn keys_merged(
+    alloc: Global,
+    kinds: &[Kind],
+    keys: &KeySet,
+    removed: &[Row],
+    added: &[Row],
+) -> Result<KeySet, Refusal<TableFull>>
+    requires hold { HoldRows kinds.now keys.now }
+    requires limit { set.len keys.now ≤ MOST_ROWS }
+    requires kinds { All (λ row. kinds_of row ≡ kinds.now) added.now }
+    ensures rows { let after = changed_rows (rows_of kinds.now keys.now) removed.now added.now in
+        Gives (λ made. rows_of kinds.now made) result (bounded after after) }
+    ensures hold { IfOk result (λ made. HoldRows kinds.now made) }
+    ensures limit { IfOk result (λ made. set.len made ≤ MOST_ROWS) }
+{
+    let gone = keys_to_remove(alloc, kinds, removed)?;
+    let come = keys_of(alloc, added)?;
+    let made = keys.changed(alloc, gone, come)?;
+    if made.len() > MOST_ROWS {
+        return Err(Refusal::Fault(TableFull));
+    }
+    Ok(made)
+}
+
+/// Keys without those of some rows and then with those of others; `TableFull` where there would be too many. A few rows
+/// are searched for one by one, and many are put in order and found in one pass.
+pub(crate) fn keys_changed(
+    alloc: Global,
+    kinds: &[Kind],
+    keys: &KeySet,
+    removed: &[Row],
+    added: &[Row],
+) -> Result<KeySet, Refusal<TableFull>>
+    requires hold { HoldRows kinds.now keys.now }
+    requires limit { set.len keys.now ≤ MOST_ROWS }
+    requires kinds { All (λ row. kinds_of row ≡ kinds.now) added.now }
+    ensures rows { let after = changed_rows (rows_of kinds.now keys.now) removed.now added.now in
+        Gives (λ made. rows_of kinds.now made) result (bounded after after) }
+    ensures hold { IfOk result (λ made. HoldRows kinds.now made) }
+    ensures limit { IfOk result (λ made. set.len made ≤ MOST_ROWS) }
+{
+    if removed.len() > FEW_ROWS || added.len() > FEW_ROWS {
+        return keys_merged(alloc, kinds, keys, removed, added);
+    }
+    let left = keys_without(alloc, kinds, keys.copy(alloc)?, removed)?;
+    keys_with(alloc, kinds, left, added)
 }

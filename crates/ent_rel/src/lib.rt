@@ -11,9 +11,13 @@ mod fault;
 mod keys;
 mod kinds;
 mod laws;
+mod matches;
+mod row_cursor;
 mod table;
 
 pub use change::Delta;
-pub use fault::TableFull;
+pub use ent_page::{Cell, KnownValue, StoredRow};
+pub use fault::{LoadRefused, TableFull};
 pub use laws::changes_by_row;
+pub use row_cursor::RowCursor;
 pub use table::Table;

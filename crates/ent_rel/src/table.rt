@@ -1,20 +1,25 @@
 //! A table over a list of its rows in ascending order.
-ghost use Rattle.std.specs.Prelude.{◌≡◌, ◌≤◌, ◌==◌, Bool, List, Result, IfOk, IsOk, IsTrue, ◌↔◌, All, length};
+ghost use Rattle.std.specs.Prelude.{◌≡◌, ◌≤◌, ◌==◌, Bool, List, Result, Ok, IfOk, IfErr, IsOk, IsTrue, ◌↔◌, All};
+ghost use Rattle.std.specs.Prelude.{length, take, filter, ◌&&◌};
 ghost use Rattle.ent_set.specs.Sets as set;
-ghost use Rattle.ent_value.specs.Refusal.{Gives};
+ghost use Rattle.ent_value.specs.Refusal.{Gives, Refuses};
 ghost use Rattle.ent_value.specs.Value.{row_cmp, kinds_of};
 ghost use Rattle.ent_value.specs.declared.value.Value.{Value as Cell};
 ghost use Rattle.ent_rel.specs.Relation.{HaveKinds, bounded};
 ghost use Rattle.ent_rel.specs.Change.{changed_rows, insertion, deletion, replacement, application};
 ghost use Rattle.ent_rel.specs.Closure.{Computes, Changes, KeepsKinds};
+ghost use Rattle.ent_rel.specs.First.{has_first};
+ghost use Rattle.ent_rel.specs.Part.{IsPart};
 
 use crate::change::Delta;
 use crate::copies::{copies_where, images};
-use crate::fault::TableFull;
-use crate::keys::{keys_of, keys_with, keys_without};
+use crate::fault::{LoadRefused, TableFull};
+use crate::keys::{keys_changed, keys_loaded};
 use crate::kinds::{are_same_kinds, have_kinds};
-use ent_page::{KeySet, decode};
-use ent_value::{Kind, MOST_ROWS, Refusal, Row, Sequence};
+use crate::matches::matches;
+use crate::row_cursor::RowCursor;
+use ent_page::{Key, KeySet, StoredRow, decode, first_values_are_fronts};
+use ent_value::{Kind, MOST_ROWS, Refusal, Row, Sequence, Value};
 use std::alloc::{AllocError, Global};
 use std::marker::Model;
 
@@ -50,17 +55,20 @@ impl Table {
         Table { kinds, keys }
     }
 
-    /// The table of these rows, of which doubles count once. `TableFull` where more than [`MOST_ROWS`] are distinct.
-    pub fn load(alloc: Global, kinds: Vec<Kind>, rows: Vec<Row>) -> Result<Self, Refusal<TableFull>>
+    /// The table of these rows, of which doubles count once. `TableFull` where more than [`MOST_ROWS`] are distinct;
+    /// rows that make no table come back.
+    pub fn load(alloc: Global, kinds: Vec<Kind>, rows: Vec<Row>) -> Result<Self, LoadRefused>
         requires { All (λ row. kinds_of row ≡ kinds.items) rows.items }
-        ensures { let rows = set.from_list {R = row_cmp} rows.items in
-            Gives (λ table. table) result (bounded rows record { kinds = kinds.items; rows = rows }) }
+        ensures table { let all = set.from_list {R = row_cmp} rows.items in
+            IfOk result (λ table. bounded all record { kinds = kinds.items; rows = all } ≡ Ok table) }
+        ensures refusal { let all = set.from_list {R = row_cmp} rows.items in
+            IfErr result (λ refused. Refuses refused.refusal (bounded all all)) }
+        ensures rows { IfErr result (λ refused. refused.rows.items ≡ rows.items) }
     {
-        let keys = KeySet::from_keys(alloc, keys_of(alloc, rows.as_slice())?)?;
-        if keys.len() > MOST_ROWS {
-            return Err(Refusal::Fault(TableFull));
+        match keys_loaded(alloc, &kinds, rows.as_slice()) {
+            Ok(keys) => Ok(Table { kinds, keys }),
+            Err(refusal) => Err(LoadRefused { rows, refusal }),
         }
-        Ok(Table { kinds, keys })
     }
 
     /// The kinds of the columns, which each row has.
@@ -90,6 +98,24 @@ impl Table {
         ensures { result ≡ set.contains self.now.rows row.now }
     {
         have_kinds(row.values(), &self.kinds) && self.keys.contains(row)
+    }
+
+    /// A walk over the rows in ascending order. It takes no memory.
+    pub fn cursor(&self) -> RowCursor<'_>
+        ensures { result ≡ set.ascending self.now.rows }
+    {
+        RowCursor::new(&self.kinds, self.keys.cursor())
+    }
+
+    /// A walk over the rows whose first values are these, ascending. The first of them is found by halving.
+    pub fn look_up(&self, alloc: Global, values: &[Value]) -> Result<RowCursor<'_>, AllocError>
+        requires { kinds_of values.now ≡ take (length values.now) self.now.kinds }
+        ensures { IfOk result (λ found. found ≡ filter (has_first values.now) (set.ascending self.now.rows)) }
+    {
+        // A law: these rows are those whose keys begin with the key of the values.
+        first_values_are_fronts();
+        let front = Key::of(alloc, values)?;
+        Ok(RowCursor::new(&self.kinds, self.keys.beginning_with(front)))
     }
 
     /// The rows in ascending order.
@@ -195,6 +221,90 @@ impl Table {
         ))
     }
 
+    /// Of the rows with these first values those that pass a test.
+    fn matches<F: Fn(&StoredRow<'_>) -> bool>(
+        &self,
+        alloc: Global,
+        values: &[Value],
+        test: F,
+    ) -> Result<Vec<Row>, AllocError>
+        requires test { F.IsAlwaysCallable test }
+        requires first { kinds_of values.now ≡ take (length values.now) self.now.kinds }
+        ensures passing { (passes : List Cell → Bool) → Computes F.Fn test self.now.rows passes
+            → let matches : List Cell → Bool = λ row. has_first values.now row && passes row in
+            IfOk result (λ found. found.items ≡ filter matches (set.ascending self.now.rows)) }
+        ensures part { IfOk result (λ found. IsPart (set.ascending self.now.rows) found.items) }
+        ensures limit { set.len self.now.rows ≤ MOST_ROWS }
+    {
+        // Asked for its bound alone.
+        let _ = self.len();
+        matches(alloc, self.look_up(alloc, values)?, test)
+    }
+
+    /// What taking out the rows with these first values that pass a test would change. The test sees each row where it
+    /// stands. The change fits.
+    pub fn delete_where<F: Fn(&StoredRow<'_>) -> bool>(
+        &self,
+        alloc: Global,
+        values: &[Value],
+        test: F,
+    ) -> Result<(u64, Delta), AllocError>
+        requires test { F.IsAlwaysCallable test }
+        requires first { kinds_of values.now ≡ take (length values.now) self.now.kinds }
+        ensures change { (passes : List Cell → Bool) → Computes F.Fn test self.now.rows passes
+            → let matches : List Cell → Bool = λ row. has_first values.now row && passes row in IfOk result (λ r.
+            (r.0, changed_rows self.now.rows r.1.removed r.1.added) ≡ deletion self.now.rows matches) }
+        ensures kinds { IfOk result (λ r. All (λ row. kinds_of row ≡ self.now.kinds) r.1.added) }
+        ensures fits { IfOk result (λ r. IsOk (application self.now.rows r.1.removed r.1.added)) }
+    {
+        let matched = self.matches(alloc, values, test)?;
+        Ok((
+            matched.len() as u64,
+            Delta {
+                removed: Sequence::from_vec(matched),
+                added: Sequence::new(alloc),
+            },
+        ))
+    }
+
+    /// What putting its image in the place of each row with these first values that passes a test would change, or the
+    /// fault of the first such row, in ascending order, that has no image. The change fits, as that of `replace`.
+    pub fn replace_where<
+        E: Drop,
+        F: Fn(&StoredRow<'_>) -> bool,
+        G: Fn(&Row) -> Result<Row, Refusal<E>>,
+    >(
+        &self,
+        alloc: Global,
+        values: &[Value],
+        test: F,
+        change: G,
+    ) -> Result<(u64, Delta), Refusal<E>>
+        requires test { F.IsAlwaysCallable test }
+        requires change { G.IsAlwaysCallable change }
+        requires first { kinds_of values.now ≡ take (length values.now) self.now.kinds }
+        requires kinds { KeepsKinds G.Fn change self.now.rows self.now.kinds }
+        ensures change { (passes : List Cell → Bool) (image : List Cell → Result (List Cell) E)
+            → Computes F.Fn test self.now.rows passes
+            → Changes G.Fn change self.now.rows image
+            → let matches : List Cell → Bool = λ row. has_first values.now row && passes row in
+            Gives (λ r. (r.0, changed_rows self.now.rows r.1.removed r.1.added))
+            result (replacement self.now.rows matches image) }
+        ensures kinds { IfOk result (λ r. All (λ row. kinds_of row ≡ self.now.kinds) r.1.added) }
+        ensures fits { IfOk result (λ r. IsOk (application self.now.rows r.1.removed r.1.added)) }
+    {
+        let matched = self.matches(alloc, values, test)?;
+        let added = images(alloc, matched.as_slice(), change)?;
+        let count = matched.len() as u64;
+        Ok((
+            count,
+            Delta {
+                removed: Sequence::from_vec(matched),
+                added: Sequence::from_vec(added),
+            },
+        ))
+    }
+
     /// The table after a change. It makes anew the pages that change and shares the others.
     pub fn apply(&self, alloc: Global, delta: &Delta) -> Result<Table, Refusal<TableFull>>
         requires { All (λ row. kinds_of row ≡ self.now.kinds) delta.now.added }
@@ -203,9 +313,8 @@ impl Table {
         ensures kinds { IfOk result (λ table. table.kinds ≡ self.now.kinds) }
     {
         let kinds = Vec::from_slice(alloc, self.kinds.as_slice())?;
-        let whole = self.keys.copy(alloc)?;
-        let left = keys_without(alloc, &kinds, whole, delta.removed.as_slice())?;
-        let keys = keys_with(alloc, &kinds, left, delta.added.as_slice())?;
+        let (removed, added) = (delta.removed.as_slice(), delta.added.as_slice());
+        let keys = keys_changed(alloc, &kinds, &self.keys, removed, added)?;
         Ok(Table { kinds, keys })
     }
 

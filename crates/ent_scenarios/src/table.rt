@@ -24,8 +24,7 @@ pub(crate) fn reply(
         ["load", word, rows @ ..] => {
             let kinds = kinds(alloc, word)?;
             let rows = rows_of(alloc, rows, kinds.as_slice())?;
-            let loaded = Table::load(alloc, kinds, rows);
-            put_changed(table, loaded, out)
+            put_changed(table, loaded(alloc, kinds, rows), out)
         }
         ["fill", from, to] => {
             let loaded = filled(alloc, index(from)?, index(to)?)?;
@@ -92,7 +91,17 @@ fn filled(alloc: Global, from: usize, to: usize) -> Result<Result<Table, Refusal
     let mut kinds = Vec::new(alloc);
     kinds.push(Kind::Int)?;
     let rows = number_rows(alloc, from, to, kinds.as_slice())?;
-    Ok(Table::load(alloc, kinds, rows))
+    Ok(loaded(alloc, kinds, rows))
+}
+
+/// The table of some rows; the rows of one that is refused are let go.
+fn loaded(alloc: Global, kinds: Vec<Kind>, rows: Vec<Row>) -> Result<Table, Refusal<TableFull>>
+    requires { All (λ row. kinds_of row ≡ kinds.items) rows.items }
+{
+    match Table::load(alloc, kinds, rows) {
+        Ok(table) => Ok(table),
+        Err(refused) => Err(refused.refusal),
+    }
 }
 
 fn number_rows(alloc: Global, from: usize, to: usize, kinds: &[Kind]) -> Result<Vec<Row>>

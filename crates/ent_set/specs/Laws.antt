@@ -3,7 +3,7 @@
 -- These sets aren't the library's `FinSet`: its words can't be opened outside of it, and no law of it says that its
 -- items ascend, or counts the set of a list. So the words here are those of the map to nothing that both are. Each law
 -- below is one that a proof of this repository uses; where the library has it, it speaks of `FinSet` or of maps.
-use Rattle.std.proofs.Common.{◌≡◌, ℕ, ◌+◌, Bool, true, false, cond, not, ◌&&◌, ◌||◌, List, [], ◌∷◌, length, map}
+use Rattle.std.proofs.Common.{◌≡◌, ℕ, ◌+◌, Bool, true, false, cond, not, ◌&&◌, ◌||◌, List, [], ◌∷◌, ◌++◌, length, map}
 use Rattle.std.proofs.Common.{refl, sym, ap, subst, ◌∙◌, arith, Option, Some, None, T}
 use Rattle.std.specs.Prelude.{is_some}
 use Rattle.std.specs.List.{list_any, filter, IsDistinct, AllByRecursion, dedup, dedup_from}
@@ -18,6 +18,7 @@ use Rattle.std.proofs.lemmas.Cmp.{eq_by_cmp_equiv}
 use Rattle.std.proofs.lemmas.Map.Keys.{IsDistinct-head, IsDistinct-tail}
 use Rattle.std.proofs.lemmas.Map.Views.{any-filter_same}
 use Rattle.std.specs.List.Sorted.{IsStrictlySortedBy, IsSorted, IsPermutation}
+use Rattle.std.proofs.lemmas.List.Folds.{list_any-append}
 use Rattle.std.proofs.lemmas.List.Kept.{IsStrictlySortedBy-dedup}
 use Rattle.std.proofs.lemmas.List.Sorted.{list_any-IsPermutation}
 use Rattle.ent_set.specs.Sets.{Set, empty, contains, insert, retain, len, ascending, insert_all, without_all, from_list}
@@ -117,6 +118,11 @@ and_not : (a b : Bool) → (a && not (b && a)) ≡ (a && not b)
 and_not true true = refl
 and_not true false = refl
 and_not false b = refl
+
+not_either : (a b c : Bool) → ((a && not b) && not c) ≡ (a && not (b || c))
+not_either true true c = refl
+not_either true false c = refl
+not_either false b c = refl
 
 some_or : (b : Bool) (x : Option (Unit {0})) → is_some (cond b (Some tt) x) ≡ (b || is_some x)
 some_or true x = refl
@@ -232,6 +238,15 @@ module _ {K : Type 0} {R : K → K → Ordering} (o : IsTotalOrder R) (same : fi
   pub without-nothing : (s : Set R) → without_all s [] ≡ s
   without-nothing s = same_set _ _ (λ q. contains-without_all s [] q ∙ and-true _)
 
+  -- taking out one list and then another
+  pub without-append : (s : Set R) (ks ls : List K) → without_all (without_all s ks) ls ≡ without_all s (ks ++ ls)
+  without-append s ks ls = same_set _ _ (λ q.
+      contains-without_all (without_all s ks) ls q
+      ∙ ap (λ b. b && not (list_any (eq_by_cmp R q) ls)) (contains-without_all s ks q)
+      ∙ not_either (contains s q) (list_any (eq_by_cmp R q) ks) (list_any (eq_by_cmp R q) ls)
+      ∙ ap (λ b. contains s q && not b) (sym (list_any-append (eq_by_cmp R q) ks ls))
+      ∙ sym (contains-without_all s (ks ++ ls) q))
+
   -- a list without those of another, whose test has its arguments the other way round
   pub without-list : (xs ys : List K)
       → from_list {R = R} (filter (λ x. not (list_any (λ y. eq_by_cmp R y x) ys)) xs) ≡ without_all (from_list xs) ys
@@ -275,7 +290,8 @@ module _ {K : Type 0} {R : K → K → Ordering} (o : IsTotalOrder R) (same : fi
 
   -- ---- lists of one set
 
-  one_passing : (t : K → Bool) (xs : List K) → list_any t xs ≡ true
+  -- an element of a list that passes
+  pub one_passing : (t : K → Bool) (xs : List K) → list_any t xs ≡ true
       → (x : K) × (t x ≡ true) × (list_any (eq_by_cmp R x) xs ≡ true)
   one_passing t [] h = cc
   one_passing t (x ∷ xs) h =
@@ -287,7 +303,8 @@ module _ {K : Type 0} {R : K → K → Ordering} (o : IsTotalOrder R) (same : fi
             (w.0, w.1, ap (λ b. eq_by_cmp R w.0 x || b) w.2 ∙ or-true _)
       ] refl h
 
-  passes_where : (t : K → Bool) (x : K) → t x ≡ true → (ys : List K)
+  -- where an element of a list passes, some element does
+  pub passes_where : (t : K → Bool) (x : K) → t x ≡ true → (ys : List K)
       → list_any (eq_by_cmp R x) ys ≡ true → list_any t ys ≡ true
   passes_where t x h [] e = cc
   passes_where t x h (y ∷ ys) e =

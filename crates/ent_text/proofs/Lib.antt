@@ -10,4 +10,5 @@ pub mod Texts
 pub mod Runs
 pub mod Found
 pub mod Slices
+pub mod Ends
 pub mod OneReading

@@ -6,3 +6,4 @@ pub mod Fault
 pub mod Reading
 pub mod Slices
 pub mod Lexing
+pub mod Ends

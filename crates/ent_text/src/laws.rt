@@ -1,9 +1,12 @@
 //! Laws of reading: functions without a body, whose contracts say what holds of every text.
-ghost use Rattle.std.specs.Prelude.{◌≡◌, ◌↔◌, ◌⊎◌, ℕ, List, Ok, Err};
+ghost use Rattle.std.specs.Prelude.{◌≡◌, ◌↔◌, ◌⊎◌, ℕ, true, false, List, [], ◌∷◌, Ok, Err, slice_index};
 ghost use Rattle.ent_text.specs.Reading.{AreTokens, HasFault};
+ghost use Rattle.ent_text.specs.Spelling.{Spells, IsLongest, is_blank};
+ghost use Rattle.ent_text.specs.Ends.{goes_on};
 ghost use Rattle.ent_text.specs.Lexing.{tokens_of};
 ghost use Rattle.ent_text.specs.declared.fault.TextFault.{TextFault};
 ghost use Rattle.ent_text.specs.declared.token.Token.{Token};
+ghost use Rattle.ent_text.specs.declared.token.TokenKind.{TokenKind};
 
 /// Every text has one list of tokens or one first fault, and never both.
 pub fn one_reading()
@@ -23,4 +26,12 @@ pub fn reader_is_exact()
         → (tokens_of text ≡ Ok tokens) ↔ AreTokens text tokens }
     ensures fault { (text : List ℕ) (fault : TextFault)
         → (tokens_of text ≡ Err fault) ↔ HasFault text fault }
+{}
+
+/// What spells a token is the longest piece before a byte that doesn't go on the token (0 stands for the text's end); a
+/// byte of white space always is.
+pub fn pieces_end()
+    ensures token { (bytes behind : List ℕ) (kind : TokenKind)
+        → Spells bytes kind → goes_on kind (slice_index behind 0) ≡ false → IsLongest bytes behind }
+    ensures blank { (byte : ℕ) (behind : List ℕ) → is_blank byte ≡ true → IsLongest (byte ∷ []) behind }
 {}

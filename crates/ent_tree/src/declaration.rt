@@ -1,7 +1,9 @@
 //! Tables, and the rows that stand in them at first.
+use crate::duplicate::Duplicate;
 use crate::limits::{MOST_OPENING_ROWS, MOST_PARTS, MOST_TABLES};
 use crate::operand::{Identifier, Literal};
 use ent_value::{Kind, Limited};
+use std::alloc::{AllocError, Global};
 
 /// A column that is declared.
 #[derive(Drop)]
@@ -31,4 +33,41 @@ pub struct OpeningRow {
 pub struct Opening {
     pub tables: Limited<Create, MOST_TABLES>,
     pub rows: Limited<OpeningRow, MOST_OPENING_ROWS>,
+}
+
+impl Duplicate for Column {
+    fn copy(&self, alloc: Global) -> Result<Self, AllocError> {
+        Ok(Column {
+            name: self.name.copy(alloc)?,
+            kind: self.kind,
+        })
+    }
+}
+
+impl Duplicate for Create {
+    fn copy(&self, alloc: Global) -> Result<Self, AllocError> {
+        Ok(Create {
+            name: self.name.copy(alloc)?,
+            columns: self.columns.copy(alloc)?,
+        })
+    }
+}
+
+impl Duplicate for OpeningRow {
+    fn copy(&self, alloc: Global) -> Result<Self, AllocError> {
+        Ok(OpeningRow {
+            table: self.table.copy(alloc)?,
+            place: self.place,
+            values: self.values.copy(alloc)?,
+        })
+    }
+}
+
+impl Duplicate for Opening {
+    fn copy(&self, alloc: Global) -> Result<Self, AllocError> {
+        Ok(Opening {
+            tables: self.tables.copy(alloc)?,
+            rows: self.rows.copy(alloc)?,
+        })
+    }
 }

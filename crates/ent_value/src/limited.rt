@@ -1,14 +1,13 @@
 //! A list of elements with a limit.
-ghost use Rattle.std.specs.Prelude.{◌≡◌, [], ◌∷◌, ◌++◌, ◌==◌, ◌<◌, ◌≤◌, length, OnOk, OnErr, IfErr, slice_get};
-ghost use Rattle.std.specs.Slice.Iter.{iter_rest};
-ghost use Rattle.std.specs.Option.{option_copied};
+ghost use Rattle.std.specs.Prelude.{◌≡◌, [], ◌∷◌, ◌++◌, ◌<◌, ◌≤◌, length, OnOk, OnErr, IfErr};
 
 use crate::sequence::Sequence;
 use std::alloc::{AllocFailed, Global};
 use std::marker::Model;
-use std::slice::Iter;
+use std::ops::Deref;
 
-/// A list of at most `LIMIT` elements, which contracts see as that list.
+/// A list of at most `LIMIT` elements, which contracts see as that list. Its elements are read by the calls of
+/// [`Sequence`].
 #[derive(Drop)]
 pub struct Limited<T, const LIMIT: usize> {
     elements: Sequence<T>,
@@ -50,29 +49,14 @@ impl<T, const LIMIT: usize> Limited<T, LIMIT> {
     {
         self.elements.len()
     }
+}
 
-    pub fn is_empty(&self) -> bool
-        ensures { result ≡ (length self.now == 0) }
-    {
-        self.elements.is_empty()
-    }
+impl<T, const LIMIT: usize> Deref for Limited<T, LIMIT> {
+    type Target = Sequence<T>;
 
-    /// The element at an index, counted from 0.
-    pub fn get(&self, index: usize) -> Option<&T>
-        ensures { option_copied result ≡ slice_get self.now index }
-    {
-        self.elements.get(index)
-    }
+    ghost deref_gives = { λ limited sequence. sequence ≡ limited };
 
-    pub fn as_slice(&self) -> &[T]
-        ensures { result.now ≡ self.now }
-    {
-        self.elements.as_slice()
-    }
-
-    pub fn iter(&self) -> Iter<'_, T>
-        ensures { iter_rest result ≡ self.now }
-    {
-        self.elements.iter()
+    fn deref(&self) -> &Sequence<T> {
+        &self.elements
     }
 }

@@ -1,12 +1,12 @@
-use Rattle.std.proofs.Common.{◌≡◌, ◌++◌, ℕ, List, length}
-use Rattle.std.specs.Io.KnownBytes.{Appends}
+use Rattle.std.proofs.Common.{length}
 use Rattle.ent_value.specs.Watched.{IsUnmarked}
+use Rattle.ent_book.proofs.Beginning.{Written}
 use Rattle.ent_book.proofs.write.write_whole.Given as goal
 
 -- what was taken is a beginning of the text, and nothing failed
 abbrev pub invariant-loop-rest : goal.invariant-loop-rest
 invariant-loop-rest g l = record {
-  beginning : (front : List ℕ) × (l.text ≡ front ++ l.rest) × Appends (g.W.Write.contents l.initial.writer.inner) (g.W.Write.contents l.writer.inner) front;
+  beginning : Written (g.W.Write.contents l.initial.writer.inner) (g.W.Write.contents l.writer.inner) l.text l.rest;
   unmarked : IsUnmarked l.writer;
 }
 

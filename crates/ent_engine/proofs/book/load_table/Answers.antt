@@ -15,9 +15,9 @@ pub unreachable-requires : goal.unreachable-requires
 unreachable-requires c =
     fits_always c.args.opening.now c.args.schema.now.name c.in_ok-rows.rows.items _ _ (omega (arith, c.len.ensures.len, c.len.ensures.limit))
     (rows_of_table c.args.opening.now c.args.catalogue.now.tables c.args.number c.args.schema.now c.in_ok-rows.rows.items c.requires.number c.in_ok-rows.ensures)
-    (full_is c.in-Err-Fault.field-0 _ _ c.in-Err-Fault.field-0-is c.in-Err-Fault.ensures)
+    (full_is _ _ _ c.in-Fault.is c.in-Err.ensures.refusal)
 
 pub returns-in-Ok-clause-rows : goal.returns-in-Ok-clause-rows
 returns-in-Ok-clause-rows c =
-    sym (ap (λ (table : Relation). table.rows) (loaded_is _ _ _ c.in-Ok.ensures))
+    sym (ap (λ (table : Relation). table.rows) (loaded_is _ _ _ c.in-Ok.ensures.table))
     ∙ ap (λ rows. set.from_list {R = row_cmp} rows) (rows_of_table c.args.opening.now c.args.catalogue.now.tables c.args.number c.args.schema.now c.in_ok-rows.rows.items c.requires.number c.in_ok-rows.ensures)

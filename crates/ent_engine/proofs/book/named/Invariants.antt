@@ -1,7 +1,7 @@
 use Rattle.std.proofs.Common.{◌≡◌, map, take}
 use Rattle.std.specs.Arc.{arc_value}
 use Rattle.ent_plain_form.specs.Catalogue.{names_of}
-use Rattle.ent_book.specs.Book.{table_names}
+use Rattle.ent_plain_book.specs.Book.{table_names}
 use Rattle.ent_engine.proofs.book.named.Given as goal
 
 -- the tables so far, under their names

@@ -1,4 +1,4 @@
-use Rattle.ent_book.specs.Book.{table_names, tables_database}
+use Rattle.ent_plain_book.specs.Book.{table_names, tables_database}
 use Rattle.ent_engine.proofs.Written.{same_report, wrote_beginning}
 use Rattle.ent_engine.proofs.engine.run.Goals as goal
 

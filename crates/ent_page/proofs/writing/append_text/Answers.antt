@@ -6,5 +6,6 @@ use Rattle.ent_page.proofs.writing.append_text.Goals as goal
 
 pub returns : goal.returns
 returns c =
-    let p : text_key c.args.text.now ≡ c.args.text.now ++ 0 ∷ 0 ∷ [] = plain c.args.text.now (sym c.contains.ensures.value ∙ c.if-contains.false) in
+    let p : text_key c.args.text.now ≡ c.args.text.now ++ 0 ∷ 0 ∷ [] =
+    plain c.args.text.now (sym c.contains.ensures.value ∙ c.if-contains.false) in
     grind (arith, common_steps)

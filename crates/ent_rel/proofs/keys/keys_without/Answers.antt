@@ -1,13 +1,13 @@
 use Rattle.std.proofs.Common.{◌≡◌, ◌+◌, ◌∷◌, [], drop, ap, sym, subst, ◌∙◌, arith, false, true, List}
 use Rattle.std.proofs.lemmas.List.{drop_all}
 use Rattle.ent_set.specs.Sets as set
-use Rattle.ent_set.specs.Laws.{without-nothing}
+use Rattle.ent_set.specs.Laws.{without-nothing, without-append}
 use Rattle.ent_value.specs.Value.{kinds_of}
 use Rattle.ent_value.specs.Order.{rows_total, exact_rows}
 use Rattle.ent_page.specs.Key.{key_of, AreStorable}
 use Rattle.ent_rel.specs.Kept.{KeySet, listed_rows, rows_of, HoldRows}
 use Rattle.ent_rel.proofs.Lists.{have_kinds}
-use Rattle.ent_rel.proofs.Keyed.{rows_without, hold_without, without_more, without_other, listed_fit, from_here}
+use Rattle.ent_rel.proofs.Keyed.{rows_without, hold_without, without_other, listed_fit, from_here}
 use Rattle.ent_rel.proofs.keys.keys_without.Goals as goal
 use Rattle.ent_rel.proofs.keys.keys_without.Goals.{then-have_kinds+in_ok-key+in_ok-keys, else-have_kinds}
 
@@ -25,7 +25,7 @@ loop-row-preserved c =
           let made = w.keys-is ∙ w.in_ok-keys.ensures ∙ ap (λ k. set.without_all c.loop-row.keys (k ∷ [])) (w.in_ok-key.ensures.key ∙ ap key_of w.values-then-have_kinds.ensures) in
           record {
             rows = ap (λ s. set.without_all s (drop (i + 1) rows)) (ap (rows_of kinds) made ∙ rows_without kinds c.loop-row.keys x same fits c.loop-row.invariant.hold)
-                ∙ without_more (rows_of kinds c.loop-row.keys) x (drop (i + 1) rows) ∙ ap (set.without_all (rows_of kinds c.loop-row.keys)) (sym here) ∙ c.loop-row.invariant.rows;
+                ∙ without-append rows_total exact_rows (rows_of kinds c.loop-row.keys) (x ∷ []) (drop (i + 1) rows) ∙ ap (set.without_all (rows_of kinds c.loop-row.keys)) (sym here) ∙ c.loop-row.invariant.rows;
             hold = subst (λ s. HoldRows kinds s) (sym made) (hold_without kinds c.loop-row.keys (key_of x ∷ []) c.loop-row.invariant.hold);
           }
       | else-have_kinds w ↦
@@ -34,7 +34,7 @@ loop-row-preserved c =
           let have = have_kinds kinds (listed_rows kinds c.loop-row.keys) (listed_fit kinds c.loop-row.keys c.loop-row.invariant.hold) in
           record {
             rows = ap (λ s. set.without_all s (drop (i + 1) rows)) (ap (rows_of kinds) w.keys-is ∙ sym (without_other kinds (rows_of kinds c.loop-row.keys) x have other))
-                ∙ without_more (rows_of kinds c.loop-row.keys) x (drop (i + 1) rows) ∙ ap (set.without_all (rows_of kinds c.loop-row.keys)) (sym here) ∙ c.loop-row.invariant.rows;
+                ∙ without-append rows_total exact_rows (rows_of kinds c.loop-row.keys) (x ∷ []) (drop (i + 1) rows) ∙ ap (set.without_all (rows_of kinds c.loop-row.keys)) (sym here) ∙ c.loop-row.invariant.rows;
             hold = subst (λ s. HoldRows kinds s) (sym w.keys-is) c.loop-row.invariant.hold;
           }
     ]

@@ -7,4 +7,6 @@ use Rattle.ent_page.proofs.key_set.KeySet.cursor.Goals as goal
 
 pub returns : goal.returns
 returns c =
-    c.new.ensures ∙ ap (flat_map arc_value) c.as_slice.ensures.value ∙ sym (ascending_is (flat_map arc_value c.self.inside.pages.items) c.self.invariant.sorted) ∙ ap set.ascending c.self.view_is
+    c.new.ensures ∙ ap (flat_map arc_value) c.as_slice.ensures.value
+    ∙ sym (ascending_is (flat_map arc_value c.self.inside.pages.items) c.self.invariant.sorted)
+    ∙ ap set.ascending c.self.view_is

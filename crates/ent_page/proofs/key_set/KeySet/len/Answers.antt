@@ -11,4 +11,6 @@ use Rattle.ent_page.proofs.key_set.KeySet.len.Goals as goal
 pub returns : goal.returns
 returns c =
     let keys = flat_map arc_value c.self.inside.pages.items in
-    c.self.invariant.count ∙ sym (len-distinct keys_total keys_exact keys (IsDistinct-from_sorted key_cmp keys c.self.invariant.sorted)) ∙ ap set.len c.self.view_is
+    c.self.invariant.count
+    ∙ sym (len-distinct keys_total keys_exact keys (IsDistinct-from_sorted key_cmp keys c.self.invariant.sorted))
+    ∙ ap set.len c.self.view_is

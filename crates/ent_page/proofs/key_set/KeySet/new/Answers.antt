@@ -1,4 +1,4 @@
-use Rattle.std.proofs.Common.{refl, rules}
+use Rattle.std.proofs.Common.{refl}
 use Rattle.ent_page.proofs.Sorted.{nil_sorted}
 use Rattle.ent_page.proofs.key_set.KeySet.new.Goals as goal
 

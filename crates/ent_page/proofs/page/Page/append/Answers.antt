@@ -20,8 +20,10 @@ part_of-bytes-requires-clause-order c =
     let bs = c.other.inside.bytes.items in
     let es = c.other.inside.ends.items in
     let n = length-shown bs es c.args.other.now c.other.view_is in
-    let s : c.start_at-start.result ≡ start_of 0 c.other.inside.ends.items c.args.from = c.start_at-start.ensures ∙ ap (λ z. start_of 0 z c.args.from) c.deref.ensures.value in
-    let t : c.start_at-stop.result ≡ start_of 0 c.other.inside.ends.items c.args.to = c.start_at-stop.ensures ∙ ap (λ z. start_of 0 z c.args.to) c.deref-2.ensures.value in
+    let s : c.start_at-start.result ≡ start_of 0 c.other.inside.ends.items c.args.from = c.start_at-start.ensures
+    ∙ ap (λ z. start_of 0 z c.args.from) c.deref.ensures.value in
+    let t : c.start_at-stop.result ≡ start_of 0 c.other.inside.ends.items c.args.to = c.start_at-stop.ensures
+    ∙ ap (λ z. start_of 0 z c.args.to) c.deref-2.ensures.value in
     omega (arith, part_order bs es c.other.invariant c.args.from c.args.to c.requires.order (omega (arith, n)))
 
 pub part_of-bytes-requires-clause-range : goal.part_of-bytes-requires-clause-range
@@ -29,7 +31,8 @@ part_of-bytes-requires-clause-range c =
     let bs = c.other.inside.bytes.items in
     let es = c.other.inside.ends.items in
     let n = length-shown bs es c.args.other.now c.other.view_is in
-    let t : c.start_at-stop.result ≡ start_of 0 c.other.inside.ends.items c.args.to = c.start_at-stop.ensures ∙ ap (λ z. start_of 0 z c.args.to) c.deref-2.ensures.value in
+    let t : c.start_at-stop.result ≡ start_of 0 c.other.inside.ends.items c.args.to = c.start_at-stop.ensures
+    ∙ ap (λ z. start_of 0 z c.args.to) c.deref-2.ensures.value in
     omega (arith, place_le bs es c.other.invariant c.args.to (omega (arith, n)), ap length c.deref-3.ensures.value)
 
 pub part_of-requires-clause-range : goal.part_of-requires-clause-range
@@ -42,24 +45,65 @@ push_ends-requires-clause-order c = λ k d lt.
     let bs = c.other.inside.bytes.items in
     let es = c.other.inside.ends.items in
     let n = length-shown bs es c.args.other.now c.other.view_is in
-    let s : c.start_at-start.result ≡ start_of 0 c.other.inside.ends.items c.args.from = c.start_at-start.ensures ∙ ap (λ z. start_of 0 z c.args.from) c.deref.ensures.value in
-    let t : c.start_at-stop.result ≡ start_of 0 c.other.inside.ends.items c.args.to = c.start_at-stop.ensures ∙ ap (λ z. start_of 0 z c.args.to) c.deref-2.ensures.value in
-    let put : length c.extend_from_slice.new.self.items ≡ c.len-base.result + length (between (start_of 0 c.other.inside.ends.items c.args.from) (start_of 0 c.other.inside.ends.items c.args.to) c.other.inside.bytes.items) =
-    ap length (c.in_ok-extend_from_slice.ensures.items ∙ ap (λ z. c.self.inside.bytes.items ++ z) (c.part_of-bytes.ensures ∙ (λ i. between (s i) (t i) (c.deref-3.ensures.value i)))) ∙ omega (arith, length-append c.self.inside.bytes.items (between (start_of 0 es c.args.from) (start_of 0 es c.args.to) bs), c.len-base.ensures, c.self.inside.bytes.ok.0) in
-    let P : List ℕ → Type 0 = λ xs. All (λ e. (c.start_at-start.result ≤ e) × (e ≤ c.start_at-start.result + (length c.extend_from_slice.new.self.items - c.len-base.result))) xs in
-    (subst P (sym c.part_of.ensures) (part_within bs es c.other.invariant c.args.from c.args.to c.requires.order (omega (arith, n)) c.deref-4.result.now c.start_at-start.result c.len-base.result (length c.extend_from_slice.new.self.items) c.deref-4.ensures.value s (omega (arith, put))) k d lt).0
+    let s : c.start_at-start.result ≡ start_of 0 c.other.inside.ends.items c.args.from = c.start_at-start.ensures
+    ∙ ap (λ z. start_of 0 z c.args.from) c.deref.ensures.value in
+    let t : c.start_at-stop.result ≡ start_of 0 c.other.inside.ends.items c.args.to = c.start_at-stop.ensures
+    ∙ ap (λ z. start_of 0 z c.args.to) c.deref-2.ensures.value in
+    let put : length c.extend_from_slice.new.self.items ≡ c.len-base.result + length
+    (between (start_of 0 c.other.inside.ends.items c.args.from) (start_of 0 c.other.inside.ends.items c.args.to)
+    c.other.inside.bytes.items) =
+    ap length (c.in_ok-extend_from_slice.ensures.items
+    ∙ ap (λ z. c.self.inside.bytes.items ++ z) (c.part_of-bytes.ensures
+    ∙ (λ i. between (s i) (t i) (c.deref-3.ensures.value i))))
+    ∙ omega (
+      arith,
+      length-append c.self.inside.bytes.items
+          (between (start_of 0 es c.args.from) (start_of 0 es c.args.to) bs),
+      c.len-base.ensures,
+      c.self.inside.bytes.ok.0,
+    ) in
+    let P : List ℕ
+    → Type 0 =
+    λ xs. All
+    (λ e. (c.start_at-start.result ≤ e) ×
+    (e ≤ c.start_at-start.result + (length c.extend_from_slice.new.self.items - c.len-base.result))) xs in
+    (subst P (sym c.part_of.ensures)
+    (part_within bs es c.other.invariant c.args.from c.args.to c.requires.order
+    (omega (arith, n)) c.deref-4.result.now c.start_at-start.result c.len-base.result
+    (length c.extend_from_slice.new.self.items) c.deref-4.ensures.value s (omega (arith, put))) k d lt).0
 
 pub push_ends-requires-clause-small : goal.push_ends-requires-clause-small
 push_ends-requires-clause-small c = λ k d lt.
     let bs = c.other.inside.bytes.items in
     let es = c.other.inside.ends.items in
     let n = length-shown bs es c.args.other.now c.other.view_is in
-    let s : c.start_at-start.result ≡ start_of 0 c.other.inside.ends.items c.args.from = c.start_at-start.ensures ∙ ap (λ z. start_of 0 z c.args.from) c.deref.ensures.value in
-    let t : c.start_at-stop.result ≡ start_of 0 c.other.inside.ends.items c.args.to = c.start_at-stop.ensures ∙ ap (λ z. start_of 0 z c.args.to) c.deref-2.ensures.value in
-    let put : length c.extend_from_slice.new.self.items ≡ c.len-base.result + length (between (start_of 0 c.other.inside.ends.items c.args.from) (start_of 0 c.other.inside.ends.items c.args.to) c.other.inside.bytes.items) =
-    ap length (c.in_ok-extend_from_slice.ensures.items ∙ ap (λ z. c.self.inside.bytes.items ++ z) (c.part_of-bytes.ensures ∙ (λ i. between (s i) (t i) (c.deref-3.ensures.value i)))) ∙ omega (arith, length-append c.self.inside.bytes.items (between (start_of 0 es c.args.from) (start_of 0 es c.args.to) bs), c.len-base.ensures, c.self.inside.bytes.ok.0) in
-    let P : List ℕ → Type 0 = λ xs. All (λ e. (c.start_at-start.result ≤ e) × (e ≤ c.start_at-start.result + (length c.extend_from_slice.new.self.items - c.len-base.result))) xs in
-    let both = subst P (sym c.part_of.ensures) (part_within bs es c.other.invariant c.args.from c.args.to c.requires.order (omega (arith, n)) c.deref-4.result.now c.start_at-start.result c.len-base.result (length c.extend_from_slice.new.self.items) c.deref-4.ensures.value s (omega (arith, put))) k d lt in
+    let s : c.start_at-start.result ≡ start_of 0 c.other.inside.ends.items c.args.from = c.start_at-start.ensures
+    ∙ ap (λ z. start_of 0 z c.args.from) c.deref.ensures.value in
+    let t : c.start_at-stop.result ≡ start_of 0 c.other.inside.ends.items c.args.to = c.start_at-stop.ensures
+    ∙ ap (λ z. start_of 0 z c.args.to) c.deref-2.ensures.value in
+    let put : length c.extend_from_slice.new.self.items ≡ c.len-base.result + length
+    (between (start_of 0 c.other.inside.ends.items c.args.from) (start_of 0 c.other.inside.ends.items c.args.to)
+    c.other.inside.bytes.items) =
+    ap length (c.in_ok-extend_from_slice.ensures.items
+    ∙ ap (λ z. c.self.inside.bytes.items ++ z) (c.part_of-bytes.ensures
+    ∙ (λ i. between (s i) (t i) (c.deref-3.ensures.value i))))
+    ∙ omega (
+      arith,
+      length-append c.self.inside.bytes.items
+          (between (start_of 0 es c.args.from) (start_of 0 es c.args.to) bs),
+      c.len-base.ensures,
+      c.self.inside.bytes.ok.0,
+    ) in
+    let P : List ℕ
+    → Type 0 =
+    λ xs. All
+    (λ e. (c.start_at-start.result ≤ e) ×
+    (e ≤ c.start_at-start.result + (length c.extend_from_slice.new.self.items - c.len-base.result))) xs in
+    let both =
+    subst P (sym c.part_of.ensures)
+    (part_within bs es c.other.invariant c.args.from c.args.to c.requires.order
+    (omega (arith, n)) c.deref-4.result.now c.start_at-start.result c.len-base.result
+    (length c.extend_from_slice.new.self.items) c.deref-4.ensures.value s (omega (arith, put))) k d lt in
     omega (arith, both, put, c.extend_from_slice.new.self.ok.0)
 
 pub invariant_of-self-2 : goal.invariant_of-self-2
@@ -68,10 +112,18 @@ invariant_of-self-2 c =
     let es = c.other.inside.ends.items in
     let mine = c.self.inside.bytes.items in
     let n = length-shown bs es c.args.other.now c.other.view_is in
-    let both = part_appended bs es c.other.invariant c.args.from c.args.to c.requires.order (omega (arith, n)) mine c.self.inside.ends.items c.extend_from_slice.new.self.items c.push_ends.new.new.items c.deref-3.result.now c.deref-4.result.now c.reserve.new.self.items
-    c.start_at-start.result c.start_at-stop.result c.len-base.result c.self.invariant c.deref-3.ensures.value c.deref-4.ensures.value c.reserve.ensures.items (c.start_at-start.ensures ∙ ap (λ z. start_of 0 z c.args.from) c.deref.ensures.value)
-    (c.start_at-stop.ensures ∙ ap (λ z. start_of 0 z c.args.to) c.deref-2.ensures.value) (c.len-base.ensures ∙ c.self.inside.bytes.ok.0) (c.in_ok-extend_from_slice.ensures.items ∙ ap (λ z. mine ++ z) c.part_of-bytes.ensures) (rw c.part_of.ensures at c.push_ends.ensures) in
-    made c.extend_from_slice.new.self.items c.push_ends.new.new.items (pieces mine 0 c.self.inside.ends.items ++ between c.args.from c.args.to (pieces bs 0 es)) both.0 both.1
+    let both = part_appended bs es c.other.invariant c.args.from c.args.to c.requires.order
+    (omega (arith, n))
+    mine c.self.inside.ends.items c.extend_from_slice.new.self.items c.push_ends.new.new.items c.deref-3.result.now
+    c.deref-4.result.now c.reserve.new.self.items
+    c.start_at-start.result c.start_at-stop.result c.len-base.result c.self.invariant c.deref-3.ensures.value
+    c.deref-4.ensures.value c.reserve.ensures.items (c.start_at-start.ensures
+    ∙ ap (λ z. start_of 0 z c.args.from) c.deref.ensures.value)
+    (c.start_at-stop.ensures ∙ ap (λ z. start_of 0 z c.args.to) c.deref-2.ensures.value) (c.len-base.ensures
+    ∙ c.self.inside.bytes.ok.0) (c.in_ok-extend_from_slice.ensures.items
+    ∙ ap (λ z. mine ++ z) c.part_of-bytes.ensures) (rw c.part_of.ensures at c.push_ends.ensures) in
+    made c.extend_from_slice.new.self.items c.push_ends.new.new.items
+    (pieces mine 0 c.self.inside.ends.items ++ between c.args.from c.args.to (pieces bs 0 es)) both.0 both.1
 
 pub returns-clause-ok : goal.returns-clause-ok
 returns-clause-ok c =
@@ -79,8 +131,16 @@ returns-clause-ok c =
     let es = c.other.inside.ends.items in
     let mine = c.self.inside.bytes.items in
     let n = length-shown bs es c.args.other.now c.other.view_is in
-    let both = part_appended bs es c.other.invariant c.args.from c.args.to c.requires.order (omega (arith, n)) mine c.self.inside.ends.items c.extend_from_slice.new.self.items c.push_ends.new.new.items c.deref-3.result.now c.deref-4.result.now c.reserve.new.self.items
-    c.start_at-start.result c.start_at-stop.result c.len-base.result c.self.invariant c.deref-3.ensures.value c.deref-4.ensures.value c.reserve.ensures.items (c.start_at-start.ensures ∙ ap (λ z. start_of 0 z c.args.from) c.deref.ensures.value)
-    (c.start_at-stop.ensures ∙ ap (λ z. start_of 0 z c.args.to) c.deref-2.ensures.value) (c.len-base.ensures ∙ c.self.inside.bytes.ok.0) (c.in_ok-extend_from_slice.ensures.items ∙ ap (λ z. mine ++ z) c.part_of-bytes.ensures) (rw c.part_of.ensures at c.push_ends.ensures) in
-    shown c.extend_from_slice.new.self.items c.push_ends.new.new.items (pieces mine 0 c.self.inside.ends.items ++ between c.args.from c.args.to (pieces bs 0 es)) both.0 both.1
+    let both = part_appended bs es c.other.invariant c.args.from c.args.to c.requires.order
+    (omega (arith, n))
+    mine c.self.inside.ends.items c.extend_from_slice.new.self.items c.push_ends.new.new.items c.deref-3.result.now
+    c.deref-4.result.now c.reserve.new.self.items
+    c.start_at-start.result c.start_at-stop.result c.len-base.result c.self.invariant c.deref-3.ensures.value
+    c.deref-4.ensures.value c.reserve.ensures.items (c.start_at-start.ensures
+    ∙ ap (λ z. start_of 0 z c.args.from) c.deref.ensures.value)
+    (c.start_at-stop.ensures ∙ ap (λ z. start_of 0 z c.args.to) c.deref-2.ensures.value) (c.len-base.ensures
+    ∙ c.self.inside.bytes.ok.0) (c.in_ok-extend_from_slice.ensures.items
+    ∙ ap (λ z. mine ++ z) c.part_of-bytes.ensures) (rw c.part_of.ensures at c.push_ends.ensures) in
+    shown c.extend_from_slice.new.self.items c.push_ends.new.new.items
+    (pieces mine 0 c.self.inside.ends.items ++ between c.args.from c.args.to (pieces bs 0 es)) both.0 both.1
     ∙ (λ i. c.self.view_is i ++ between c.args.from c.args.to (c.other.view_is i))

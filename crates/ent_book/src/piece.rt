@@ -1,0 +1,32 @@
+//! Numbers and rows, put at the end of bytes.
+ghost use Rattle.std.specs.Prelude.{◌≡◌, ◌++◌, OnOk};
+ghost use Rattle.std.specs.Fmt.{decimal};
+ghost use Rattle.ent_book.specs.Report.{row_line, rows_text};
+
+use ent_value::{Row, print_row};
+use std::alloc::{AllocError, Global};
+
+pub(crate) fn append_number(alloc: Global, out: &mut Vec<u8>, number: u64) -> Result<(), AllocError>
+    ensures { OnOk result (out.new.items ≡ out.old.items ++ decimal number) }
+{
+    let digits = format!(in alloc; "{number}")?;
+    out.extend_from_slice(digits.as_bytes())
+}
+
+fn append_row_line(alloc: Global, out: &mut Vec<u8>, row: &Row) -> Result<(), AllocError>
+    ensures { OnOk result (out.new.items ≡ out.old.items ++ row_line row.now) }
+{
+    print_row(alloc, out, row)?;
+    out.push(b'\n')?;
+    Ok(())
+}
+
+/// Rows, a line each.
+pub(crate) fn append_rows(alloc: Global, out: &mut Vec<u8>, rows: &[Row]) -> Result<(), AllocError>
+    ensures { OnOk result (out.new.items ≡ out.old.items ++ rows_text rows.now) }
+{
+    for row in rows {
+        append_row_line(alloc, out, row)?;
+    }
+    Ok(())
+}

@@ -1,0 +1,100 @@
+//! The text of transactions: their fates, and the answers of those that committed.
+ghost use Rattle.std.specs.Prelude.{◌≡◌, ◌++◌, OnOk};
+ghost use Rattle.ent_book.specs.Report.{after_text, answers_text, failure_text, fate_answers, fate_text};
+ghost use Rattle.ent_book.specs.Report.{transaction_text, transactions_text};
+
+use crate::answer::append_answers;
+use crate::numbered::element;
+use crate::piece::append_number;
+use ent_semantics::{Entry, Failure, Fate, Fated};
+use std::alloc::{AllocError, Global};
+
+fn append_after(alloc: Global, out: &mut Vec<u8>, runs: u64) -> Result<(), AllocError>
+    ensures { OnOk result (out.new.items ≡ out.old.items ++ after_text runs) }
+{
+    out.extend_from_slice(b" after ")?;
+    append_number(alloc, out, runs)
+}
+
+fn append_failure(out: &mut Vec<u8>, failure: Failure) -> Result<(), AllocError>
+    ensures { OnOk result (out.new.items ≡ out.old.items ++ failure_text failure) }
+{
+    match failure {
+        Failure::Overflow => out.extend_from_slice(b"F1"),
+        Failure::TableFull => out.extend_from_slice(b"F2"),
+    }
+}
+
+fn append_fate(alloc: Global, out: &mut Vec<u8>, fate: Fate) -> Result<(), AllocError>
+    ensures { OnOk result (out.new.items ≡ out.old.items ++ fate_text fate) }
+{
+    match fate {
+        Fate::Committed { number, runs } => {
+            out.extend_from_slice(b"committed ")?;
+            append_number(alloc, out, number)?;
+            append_after(alloc, out, runs)
+        }
+        Fate::GaveUp { runs } => {
+            out.extend_from_slice(b"gave up")?;
+            append_after(alloc, out, runs)
+        }
+        Fate::RolledBack { runs } => {
+            out.extend_from_slice(b"rolled back")?;
+            append_after(alloc, out, runs)
+        }
+        Fate::Failed { failure, runs } => {
+            out.extend_from_slice(b"failed ")?;
+            append_failure(out, failure)?;
+            append_after(alloc, out, runs)
+        }
+    }
+}
+
+/// The answers of a transaction of that fate that committed: those of the entry of its number.
+fn append_fate_answers(
+    alloc: Global,
+    out: &mut Vec<u8>,
+    journal: &[Entry],
+    fate: Fate,
+) -> Result<(), AllocError>
+    ensures { OnOk result (out.new.items ≡ out.old.items ++ answers_text 1 (fate_answers journal.now fate)) }
+{
+    match fate {
+        Fate::Committed { number, .. } => match element(journal, number) {
+            Some(entry) => append_answers(alloc, out, entry.answers.as_slice()),
+            None => Ok(()),
+        },
+        Fate::GaveUp { .. } | Fate::RolledBack { .. } | Fate::Failed { .. } => Ok(()),
+    }
+}
+
+fn append_transaction(
+    alloc: Global,
+    out: &mut Vec<u8>,
+    journal: &[Entry],
+    fated: Fated,
+) -> Result<(), AllocError>
+    ensures { OnOk result (out.new.items ≡ out.old.items ++ transaction_text journal.now fated) }
+{
+    out.extend_from_slice(b"tx ")?;
+    append_number(alloc, out, fated.tx)?;
+    out.push(b' ')?;
+    append_fate(alloc, out, fated.fate)?;
+    out.push(b'\n')?;
+    append_fate_answers(alloc, out, journal, fated.fate)
+}
+
+/// Transactions, in the order of the fates.
+pub(crate) fn append_transactions(
+    alloc: Global,
+    out: &mut Vec<u8>,
+    journal: &[Entry],
+    fates: &[Fated],
+) -> Result<(), AllocError>
+    ensures { OnOk result (out.new.items ≡ out.old.items ++ transactions_text journal.now fates.now) }
+{
+    for fated in fates {
+        append_transaction(alloc, out, journal, *fated)?;
+    }
+    Ok(())
+}

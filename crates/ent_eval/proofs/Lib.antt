@@ -1,0 +1,4 @@
+mod Changes
+mod Combinations
+mod Fronts
+mod Images

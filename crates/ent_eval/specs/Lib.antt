@@ -1,0 +1,9 @@
+pub mod Worth
+pub mod Combined
+pub mod Early
+pub mod Tables
+pub mod Kinds
+pub mod Change
+pub mod Meant
+pub mod Evaluated
+pub mod Job

@@ -1,0 +1,80 @@
+-- What a statement's outcome says of every database in which its tables stand.
+use Rattle.std.specs.Prelude.{◌≡◌, ℕ, List, [], ◌∷◌, map, Ok, Err, slice_index_or, slice_set}
+use Rattle.std.specs.List.{flat_map}
+use Rattle.ent_set.specs.Sets as set
+use Rattle.ent_value.specs.declared.value.Value.{Value}
+use Rattle.ent_rel.specs.Change.{changed_rows}
+use Rattle.ent_rel.specs.Relation.{Relation}
+use Rattle.ent_semantics.specs.Database.{Name, Rows, Environment, with_value}
+use Rattle.ent_semantics.specs.Effect.{Meaning}
+use Rattle.ent_semantics.specs.Entangled.{Valuation}
+use Rattle.ent_semantics.specs.declared.answer.Answer.TheVariants as answers
+use Rattle.ent_closed.specs.Form.{Tables, closed_worth, form_meaning}
+use Rattle.ent_closed.specs.declared.statement.Statement.{Statement}
+use Rattle.ent_closed.specs.declared.statement.Statement.TheVariants as statements
+use Rattle.ent_eval.specs.Change.{IsApplicable}
+use Rattle.ent_eval.specs.declared.outcome.Outcome.{Outcome}
+use Rattle.ent_eval.specs.declared.outcome.Outcome.TheVariants as outcomes
+
+-- the numbers of the tables that a statement names, in order
+abbrev pub tables_named : {K : Type 0} → Statement K → List ℕ
+tables_named (statements.Select select) = select.sources
+tables_named (statements.Entangled entangled) = flat_map (λ atom. atom.select.sources) entangled.atoms
+tables_named (statements.Insert table values) = table ∷ []
+tables_named (statements.Delete table tests) = table ∷ []
+tables_named (statements.Update table image tests) = table ∷ []
+tables_named (statements.Set variable expression) = []
+
+-- the rows under some numbers
+abbrev pub rows_under : Tables → List ℕ → List Rows
+rows_under tables numbers = map (λ number. slice_index_or tables number set.empty) numbers
+
+-- the table that a statement changes; one that changes none has no use for it
+abbrev pub changed_table : Statement Value → ℕ
+changed_table (statements.Select select) = 0
+changed_table (statements.Entangled entangled) = 0
+changed_table (statements.Insert table values) = table
+changed_table (statements.Delete table tests) = table
+changed_table (statements.Update table image tests) = table
+changed_table (statements.Set variable expression) = 0
+
+-- the host variable that a SET binds; others have no use for it
+abbrev pub set_variable : Statement Value → Name
+set_variable (statements.Select select) = []
+set_variable (statements.Entangled entangled) = []
+set_variable (statements.Insert table values) = []
+set_variable (statements.Delete table tests) = []
+set_variable (statements.Update table image tests) = []
+set_variable (statements.Set variable expression) = variable
+
+-- what a statement of this outcome leaves and answers
+abbrev pub effect_of : Statement Value → Outcome → Meaning Tables
+effect_of statement (outcomes.Rows rows) tables environment =
+    Ok (record { database = tables; environment = environment; answer = answers.Rows rows })
+effect_of statement (outcomes.Changed count delta) tables environment =
+    let number = changed_table statement in
+    let after = changed_rows (slice_index_or tables number set.empty) delta.removed delta.added in
+    Ok (record { database = slice_set tables number after; environment = environment; answer = answers.Count count })
+effect_of statement (outcomes.Value value) tables environment =
+    Ok (record {
+      database = tables;
+      environment = with_value environment (set_variable statement) value;
+      answer = answers.Value value;
+    })
+effect_of statement (outcomes.Fault failure) tables environment = Err failure
+
+-- In every database in which these rows stand under the numbers that a statement names, in every environment, the
+-- statement means what its outcome says.
+abbrev pub IsMeant : Statement Value → List Rows → Outcome → Type 0
+IsMeant statement rows outcome =
+    (tables : Tables) (environment : Environment) (valuation : Valuation)
+    → rows_under tables (tables_named statement) ≡ rows
+    → form_meaning closed_worth statement valuation tables environment ≡ effect_of statement outcome tables environment
+
+-- a change that an outcome tells can be applied to the one table
+abbrev pub CanBeApplied : List Relation → Outcome → Type 0
+CanBeApplied tables (outcomes.Rows rows) = Unit {0}
+CanBeApplied tables (outcomes.Changed count delta) =
+    (table : Relation) × (tables ≡ table ∷ []) × IsApplicable table delta
+CanBeApplied tables (outcomes.Value value) = Unit {0}
+CanBeApplied tables (outcomes.Fault failure) = Unit {0}

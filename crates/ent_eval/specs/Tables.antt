@@ -1,0 +1,11 @@
+-- What tables hold.
+use Rattle.std.specs.Prelude.{List, map}
+use Rattle.ent_value.specs.declared.value.Kind.{Kind}
+use Rattle.ent_rel.specs.Relation.{Relation}
+use Rattle.ent_semantics.specs.Database.{Rows}
+
+abbrev pub kinds_in : List Relation → List (List Kind)
+kinds_in tables = map (λ table. table.kinds) tables
+
+abbrev pub rows_in : List Relation → List Rows
+rows_in tables = map (λ table. table.rows) tables

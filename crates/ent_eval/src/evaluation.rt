@@ -1,0 +1,64 @@
+//! Evaluation of ordinary statements.
+ghost use Rattle.std.specs.Prelude.{◌≡◌, [], ◌∷◌, IfOk, length, map};
+ghost use Rattle.std.specs.Arc.{arc_value};
+ghost use Rattle.ent_semantics.specs.Term.{expression_value};
+ghost use Rattle.ent_eval.specs.Evaluated.{Binds};
+ghost use Rattle.ent_eval.specs.Kinds.{Fits};
+ghost use Rattle.ent_eval.specs.Meant.{IsMeant, CanBeApplied};
+ghost use Rattle.ent_eval.specs.Tables.{kinds_in, rows_in};
+ghost use Rattle.ent_eval.specs.Worth.{itself};
+
+use crate::change::{deletion, insertion, replacement};
+use crate::outcome::Outcome;
+use crate::select::select;
+use crate::term::known_expression;
+use ent_closed::Statement;
+use ent_rel::Table;
+use ent_tree::Expression;
+use ent_value::{Refusal, Value};
+use std::alloc::{AllocError, Global};
+use std::sync::Arc;
+
+/// The one table of a list.
+fn only(tables: &[Arc<Table>]) -> &Table
+    requires { length tables.now ≡ 1 }
+    ensures { map arc_value tables.now ≡ result.now ∷ [] }
+{
+    &tables[0]
+}
+
+/// What a SET of an expression comes to.
+fn binding(alloc: Global, expression: &Expression<Value>) -> Result<Outcome, AllocError>
+    ensures { IfOk result (λ outcome. Binds (expression_value itself expression.now) outcome) }
+{
+    match known_expression(alloc, expression) {
+        Ok(value) => Ok(Outcome::Value(value)),
+        Err(Refusal::Memory) => Err(AllocError),
+        Err(Refusal::Fault(failure)) => Ok(Outcome::Fault(failure)),
+    }
+}
+
+/// What a closed ordinary statement comes to over the tables that it names, in the order in which it names them: what
+/// it means in each database in which they stand. The tables stay; a change that is told can be applied to its one
+/// table.
+pub fn evaluate(
+    alloc: Global,
+    statement: &Statement<Value>,
+    tables: &[Arc<Table>],
+) -> Result<Outcome, AllocError>
+    requires { Fits (kinds_in (map arc_value tables.now)) statement.now }
+    ensures meaning { IfOk result (λ outcome. IsMeant statement.now (rows_in (map arc_value tables.now)) outcome) }
+    ensures change { IfOk result (λ outcome. CanBeApplied (map arc_value tables.now) outcome) }
+{
+    match statement {
+        Statement::Select(query) => Ok(Outcome::Rows(select(alloc, query, tables)?)),
+        // It isn't ordinary.
+        Statement::Entangled(_) => unreachable!(),
+        Statement::Insert { values, .. } => insertion(alloc, only(tables), values.as_slice()),
+        Statement::Delete { tests, .. } => deletion(alloc, only(tables), tests.as_slice()),
+        Statement::Update { image, tests, .. } => {
+            replacement(alloc, only(tables), image.as_slice(), tests.as_slice())
+        }
+        Statement::Set { expression, .. } => binding(alloc, expression),
+    }
+}

@@ -1,0 +1,69 @@
+//! Rows that statements put in or show.
+ghost use Rattle.std.specs.Prelude.{◌≡◌, ◌++◌, IfOk, map};
+ghost use Rattle.ent_value.specs.Refusal.{Gives};
+ghost use Rattle.ent_eval.specs.Worth.{value_in, image_of, there_or_overflow};
+
+use crate::term::{operand_expression, operand_value};
+use ent_closed::Operand;
+use ent_semantics::Failure;
+use ent_tree::Expression;
+use ent_value::{Refusal, Row, Value};
+use std::alloc::{AllocError, Global};
+
+/// The row of some values.
+pub(crate) fn row_of(alloc: Global, values: &[Value]) -> Result<Row, AllocError>
+    ensures { IfOk result (λ row. row ≡ values.now) }
+{
+    let mut row = Vec::with_capacity(alloc, values.len())?;
+    for value in values {
+        row.push(value.copy(alloc)?)?;
+    }
+    Ok(Row::from_vec(row))
+}
+
+/// A row that stands in two parts, in one.
+pub(crate) fn joined(alloc: Global, front: &[Value], rest: &[Value]) -> Result<Row, AllocError>
+    ensures { IfOk result (λ row. row ≡ front.now ++ rest.now) }
+{
+    let mut row = Vec::new(alloc);
+    for value in front {
+        row.push(value.copy(alloc)?)?;
+    }
+    for value in rest {
+        row.push(value.copy(alloc)?)?;
+    }
+    Ok(Row::from_vec(row))
+}
+
+/// What items show of a row that stands in two parts.
+pub(crate) fn item_row(
+    alloc: Global,
+    items: &[Operand<Value>],
+    front: &[Value],
+    rest: &[Value],
+) -> Result<Row, AllocError>
+    ensures { IfOk result (λ shown. shown ≡ map (value_in (front.now ++ rest.now)) items.now) }
+{
+    let none = Value::Int(0);
+    let mut values = Vec::with_capacity(alloc, items.len())?;
+    for item in items {
+        values.push(operand_value(front, rest, item, &none).copy(alloc)?)?;
+    }
+    Ok(Row::from_vec(values))
+}
+
+/// A row with each column changed to its expression's value, all being worked out over the row as it was; an overflow
+/// where one of them is.
+pub(crate) fn image_row(
+    alloc: Global,
+    image: &[Expression<Operand<Value>>],
+    row: &[Value],
+) -> Result<Row, Refusal<Failure>>
+    ensures { Gives (λ new. new) result (there_or_overflow (image_of image.now row.now)) }
+{
+    let mut values = Vec::with_capacity(alloc, image.len())?;
+    for expression in image {
+        values.push(operand_expression(alloc, row, expression)?)?;
+    }
+    Ok(Row::from_vec(values))
+}

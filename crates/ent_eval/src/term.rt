@@ -1,0 +1,137 @@
+//! What operands and expressions are worth.
+ghost use Rattle.std.specs.Prelude.{◌≡◌, ◌+ℤ◌, ◌-ℤ◌, ◌++◌, slice_get, slice_index_or};
+ghost use Rattle.std.specs.Option.{option_copied};
+ghost use Rattle.ent_value.specs.Refusal.{Gives};
+ghost use Rattle.ent_semantics.specs.Term.{no_value, number_of, in_64_bits, expression_value};
+ghost use Rattle.ent_eval.specs.Early.{value_there};
+ghost use Rattle.ent_eval.specs.Worth.{itself, value_in, there_or_overflow};
+
+use ent_closed::Operand;
+use ent_semantics::Failure;
+use ent_tree::Expression;
+use ent_value::{Refusal, Value};
+use std::alloc::Global;
+
+/// The value of an operand over a row that stands in two parts; a column that isn't there stands for `none`.
+pub(crate) fn operand_value<'a>(
+    front: &'a [Value],
+    rest: &'a [Value],
+    operand: &'a Operand<Value>,
+    none: &'a Value,
+) -> &'a Value
+    requires { none.now ≡ no_value }
+    ensures { result.now ≡ value_in (front.now ++ rest.now) operand.now }
+{
+    match operand {
+        Operand::Known(value) => value,
+        Operand::Column(number) => column_value(front, rest, *number, none),
+    }
+}
+
+/// The value of an operand over the front of a row, which stands in two parts, where it is there.
+pub(crate) fn operand_there<'a>(
+    front: &'a [Value],
+    rest: &'a [Value],
+    operand: &'a Operand<Value>,
+) -> Option<&'a Value>
+    ensures { option_copied result ≡ value_there (front.now ++ rest.now) operand.now }
+{
+    match operand {
+        Operand::Known(value) => Some(value),
+        Operand::Column(number) => column_there(front, rest, *number),
+    }
+}
+
+/// The value at a number in a row that stands in two parts.
+fn column_value<'a>(
+    front: &'a [Value],
+    rest: &'a [Value],
+    number: usize,
+    none: &'a Value,
+) -> &'a Value
+    ensures { result.now ≡ slice_index_or (front.now ++ rest.now) number none.now }
+{
+    if number < front.len() {
+        &front[number]
+    } else {
+        rest.get(number - front.len()).unwrap_or(none)
+    }
+}
+
+/// The value at a number in a row that stands in two parts, where it is there.
+fn column_there<'a>(front: &'a [Value], rest: &'a [Value], number: usize) -> Option<&'a Value>
+    ensures { option_copied result ≡ slice_get (front.now ++ rest.now) number }
+{
+    if number < front.len() {
+        front.get(number)
+    } else {
+        rest.get(number - front.len())
+    }
+}
+
+/// The number that a value is; a text, which is of the wrong kind for a sum or a difference, counts as 0.
+fn number_of(value: &Value) -> i64
+    ensures { result ≡ number_of value.now }
+{
+    match value {
+        Value::Int(number) => *number,
+        Value::Text(_) => 0,
+    }
+}
+
+fn sum(left: &Value, right: &Value) -> Result<Value, Refusal<Failure>>
+    ensures { Gives (λ value. value) result
+        (there_or_overflow (in_64_bits (number_of left.now +ℤ number_of right.now))) }
+{
+    match number_of(left).checked_add(number_of(right)) {
+        Some(number) => Ok(Value::Int(number)),
+        None => Err(Refusal::Fault(Failure::Overflow)),
+    }
+}
+
+fn difference(left: &Value, right: &Value) -> Result<Value, Refusal<Failure>>
+    ensures { Gives (λ value. value) result
+        (there_or_overflow (in_64_bits (number_of left.now -ℤ number_of right.now))) }
+{
+    match number_of(left).checked_sub(number_of(right)) {
+        Some(number) => Ok(Value::Int(number)),
+        None => Err(Refusal::Fault(Failure::Overflow)),
+    }
+}
+
+/// What an expression over values is worth.
+pub(crate) fn known_expression(
+    alloc: Global,
+    expression: &Expression<Value>,
+) -> Result<Value, Refusal<Failure>>
+    ensures { Gives (λ value. value) result (there_or_overflow (expression_value itself expression.now)) }
+{
+    match expression {
+        Expression::Single(value) => Ok(value.copy(alloc)?),
+        Expression::Sum(left, right) => sum(left, right),
+        Expression::Difference(left, right) => difference(left, right),
+    }
+}
+
+/// What an expression is worth over a row.
+pub(crate) fn operand_expression(
+    alloc: Global,
+    row: &[Value],
+    expression: &Expression<Operand<Value>>,
+) -> Result<Value, Refusal<Failure>>
+    ensures { Gives (λ value. value) result
+        (there_or_overflow (expression_value (value_in row.now) expression.now)) }
+{
+    let none = Value::Int(0);
+    match expression {
+        Expression::Single(term) => Ok(operand_value(&[], row, term, &none).copy(alloc)?),
+        Expression::Sum(left, right) => sum(
+            operand_value(&[], row, left, &none),
+            operand_value(&[], row, right, &none),
+        ),
+        Expression::Difference(left, right) => difference(
+            operand_value(&[], row, left, &none),
+            operand_value(&[], row, right, &none),
+        ),
+    }
+}

@@ -1,0 +1,4 @@
+pub mod Book
+pub mod Report
+pub mod Text
+pub mod Write

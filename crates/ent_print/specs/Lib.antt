@@ -1,0 +1,4 @@
+pub mod Lexeme
+pub mod Spelling
+pub mod Printing
+pub mod Reading

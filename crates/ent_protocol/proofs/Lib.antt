@@ -1,0 +1,10 @@
+pub mod Idle
+pub mod Among
+pub mod Tidied
+pub mod TidySteps
+pub mod Inserted
+pub mod Ring
+pub mod WritersPlay
+pub mod PartnersPool
+pub mod PartnersChoice
+pub mod PartnersPlay

@@ -1,0 +1,292 @@
+-- The partners and the reader, event by event.
+use Rattle.std.proofs.Common.{◌≡◌, ◌⊎◌, inl, inr, ℕ, zero, suc, ◌+◌, ◌<◌, ◌≤◌, false, cond, ◌||◌, List, [], ◌∷◌}
+use Rattle.std.proofs.Common.{refl, sym, ap, subst, ◌∙◌, arith, Some}
+use Rattle.std.specs.Prelude.{All, Contains, codes, nat_le}
+use Rattle.std.specs.Ordering.{eq_by_cmp}
+use Rattle.ent_set.specs.Laws.{contains-empty, contains-insert, len-empty, len-insert, without-nothing}
+use Rattle.ent_set.specs.Sets as set
+use Rattle.ent_value.specs.Order.{rows_total, exact_rows}
+use Rattle.ent_value.specs.Value.{row_cmp}
+use Rattle.ent_value.specs.declared.limits.TheConstants.{MOST_ROWS}
+use Rattle.ent_value.specs.declared.value.Value.{Value}
+use Rattle.ent_semantics.specs.declared.answer.Answer.TheVariants as answers
+use Rattle.ent_semantics.specs.Database.{Rows, nothing_bound}
+use Rattle.ent_closed.specs.Closing.{closed_entangled}
+use Rattle.ent_closed.specs.declared.entangled.Entangled.{Entangled}
+use Rattle.ent_closed.specs.declared.statement.Statement.{Statement}
+use Rattle.ent_closed.specs.declared.statement.Statement.TheVariants as forms
+use Rattle.ent_protocol.specs.Begin.{lending, holding, posting}
+use Rattle.ent_protocol.specs.Commit.{preparing, committing}
+use Rattle.ent_protocol.specs.Event as events
+use Rattle.ent_protocol.specs.Event.{Reply}
+use Rattle.ent_protocol.specs.Finish.{finished, stepped, IsTaken}
+use Rattle.ent_protocol.specs.Job.{Job, Changed, Asking, IsEvaluated, tables_of}
+use Rattle.ent_protocol.specs.Member.{askings}
+use Rattle.ent_protocol.specs.Partners.{Partners, partners_opening, committing_script, flies_form, reads_form, asks}
+use Rattle.ent_protocol.specs.Partners.{Mickey, Minnie, flight_122, asking, pair, pair_job, booking_job}
+use Rattle.ent_protocol.specs.Partners.{booking_done, first_booked, partners_pass}
+use Rattle.ent_protocol.specs.Play.{Plays}
+use Rattle.ent_protocol.specs.PoolEvents.{joining, first_tx, CanBePicked, IsPresentComponent}
+use Rattle.ent_protocol.specs.Reached.{opened}
+use Rattle.ent_protocol.specs.Run.{Forms, SubmitsForm, submitting, starting}
+use Rattle.ent_protocol.specs.State.{State, Member}
+use Rattle.ent_protocol.specs.Uses.{shared, exclusive}
+use Rattle.ent_protocol.proofs.Inserted.{new_row, another_row}
+use Rattle.ent_protocol.proofs.PartnersChoice.{taken, least_taken}
+use Rattle.ent_protocol.proofs.PartnersPool.{one_component, safe_one, safe_two, two_cases}
+use Rattle.ent_protocol.proofs.WritersPlay.{fresh}
+
+-- ---- members
+
+abbrev wants : Value → Value → Entangled Value
+wants own partner = closed_entangled nothing_bound (asks own partner)
+
+abbrev books : Value → Statement Value
+books own = forms.Insert 1 (own ∷ flight_122 ∷ [])
+
+-- a partner that was answered, of the first one's group
+abbrev answered : ℕ → Value → Member
+answered tx own =
+    record {
+      tx = tx;
+      attempt = 1;
+      group = 1;
+      place = 2;
+      bound = (codes "f", flight_122) ∷ [];
+      answers = answers.Heads (record { relation = codes "R"; values = own ∷ flight_122 ∷ [] } ∷ []) ∷ [];
+      uses = shared 0 ∷ [];
+      posted = false;
+    }
+
+abbrev holds : ℕ → Value → Member
+holds tx own = holding (answered tx own) (exclusive 1 ∷ [])
+
+abbrev booked : ℕ → Value → Member
+booked tx own = stepped (answers.Count 1) (holds tx own)
+
+-- ---- the results
+
+abbrev Row : Type 0
+Row = List Value
+
+one_evaluated : IsEvaluated (booking_done 1 Mickey set.empty)
+one_evaluated =
+    new_row 1 (Mickey ∷ flight_122 ∷ []) (tables_of (booking_job 1 Mickey set.empty).tables) refl (λ other. refl)
+
+abbrev mickeys : Row
+mickeys = Mickey ∷ flight_122 ∷ []
+
+abbrev minnies : Row
+minnies = Minnie ∷ flight_122 ∷ []
+
+abbrev no_rows : Rows
+no_rows = set.empty
+
+booked_is : first_booked ≡ set.insert no_rows mickeys
+booked_is = ap (λ rows. set.insert rows mickeys) (without-nothing rows_total exact_rows no_rows)
+
+absent : set.contains first_booked minnies ≡ false
+absent =
+    ap (λ rows. set.contains rows minnies) booked_is
+    ∙ contains-insert rows_total exact_rows no_rows mickeys minnies
+    ∙ ap (λ b. eq_by_cmp row_cmp minnies mickeys || b) (contains-empty row_cmp minnies)
+
+one_row : set.len (set.insert no_rows mickeys) ≡ 0 + 1
+one_row =
+    len-insert rows_total exact_rows no_rows mickeys
+    ∙ ap (λ b. cond b (set.len no_rows) (set.len no_rows + 1)) (contains-empty row_cmp mickeys)
+    ∙ ap (λ n. n + 1) (len-empty row_cmp)
+
+two_rows : set.len (set.insert first_booked minnies) ≡ (0 + 1) + 1
+two_rows =
+    len-insert rows_total exact_rows first_booked minnies
+    ∙ ap (λ b. cond b (set.len first_booked) (set.len first_booked + 1)) absent
+    ∙ ap (λ n. n + 1) (ap (λ rows. set.len rows) booked_is ∙ one_row)
+
+two_evaluated : IsEvaluated (booking_done 2 Minnie first_booked)
+two_evaluated =
+    another_row 1 (Minnie ∷ flight_122 ∷ []) (tables_of (booking_job 2 Minnie first_booked).tables) absent
+    (ap (λ n. nat_le n MOST_ROWS) two_rows) (λ other. refl)
+
+lent_alone : (job : Job) → IsTaken job (job ∷ []) []
+lent_alone job = record { before = []; behind = []; is_there = refl; others = refl }
+
+-- ---- states
+
+module _ {resolved : Forms ℕ} (partners : Partners resolved) where
+  abbrev one_in : State
+  one_in = submitting (opened partners_opening) (committing_script partners.first) (flies_form Mickey Minnie)
+
+  abbrev two_in : State
+  two_in = submitting one_in (committing_script partners.second) (flies_form Minnie Mickey)
+
+  abbrev started : State
+  started = starting (submitting two_in (committing_script partners.reader) reads_form)
+
+  abbrev one_posted : State
+  one_posted = posting started (fresh 1) (wants Mickey Minnie)
+
+  abbrev posted : State
+  posted = posting one_posted (fresh 2) (wants Minnie Mickey)
+
+  abbrev picked : State
+  picked = record posted { lent = pair_job ∷ [] }
+
+  abbrev joined : State
+  joined = joining posted pair taken
+
+  abbrev books_in : State → ℕ → Value → State
+  books_in s tx own =
+      finished (record (lending s (answered tx own) (books own)) { lent = [] }) (holds tx own) (books own)
+      (Changed 1 [] ((own ∷ flight_122 ∷ []) ∷ []))
+
+  abbrev one_prepared : State
+  one_prepared = preparing (books_in joined 1 Mickey) (booked 1 Mickey)
+
+  abbrev both_booked : State
+  both_booked = books_in one_prepared 2 Minnie
+
+  abbrev pub last : State
+  last = committing (preparing both_booked (booked 2 Minnie)) 1
+
+  -- ---- the pick
+
+  pair_present : All (Contains (askings posted)) pair
+  pair_present zero d h = (0, omega arith, refl)
+  pair_present (suc zero) d h = (1, omega arith, refl)
+  pair_present (suc (suc k)) d h = absurd (let r : suc (suc k) < 2 = h in omega arith)
+
+  present : IsPresentComponent posted pair
+  present = record { present = pair_present; component = one_component }
+
+  not_there : {A : Type 0} (x : A) → Contains [] x → ⊥
+  not_there x h = let r : h.0 < 0 = h.1 in omega arith
+
+  can_pick : CanBePicked posted pair
+  can_pick =
+      record {
+        component = present;
+        untried = λ h. not_there pair h;
+        not_out = λ h. not_there h.0 h.1;
+      }
+
+  at_least_1 : (asking_now : Asking) → Contains (askings posted) asking_now → 1 ≤ asking_now.tx
+  at_least_1 a h = of (two_cases (asking 1 Mickey Minnie) (asking 2 Minnie Mickey) a h)
+    where
+      of : (a ≡ asking 1 Mickey Minnie) ⊎ (a ≡ asking 2 Minnie Mickey) → 1 ≤ a.tx
+      of (inl e) = let r : a.tx ≡ 1 = ap (λ (x : Asking). x.tx) e in omega arith
+      of (inr e) = let r : a.tx ≡ 2 = ap (λ (x : Asking). x.tx) e in omega arith
+
+  least_pair : (others : List Asking) → CanBePicked posted others → 1 ≤ first_tx others
+  least_pair [] h =
+      absurd (not_there h.component.component.first ((h.component.component.class h.component.component.first).1
+      (h.component.component.in_remainder, (zero, refl))))
+  least_pair (a ∷ more) h = at_least_1 a (h.component.present zero a (omega arith))
+
+  -- ---- the play
+
+  pub played : Plays resolved (opened partners_opening) (partners_pass partners) last
+  played = (
+    one_in,
+    subst (λ form. SubmitsForm (opened partners_opening) (committing_script partners.first) form
+        (events.Submitted 1) one_in) (sym partners.first_is) (refl, refl),
+    (
+      two_in,
+      subst (λ form. SubmitsForm one_in (committing_script partners.second) form
+          (events.Submitted 2) two_in) (sym partners.second_is) (refl, refl),
+      (
+        submitting two_in (committing_script partners.reader) reads_form,
+        subst (λ form. SubmitsForm two_in (committing_script partners.reader) form (events.Submitted 3)
+            (submitting two_in (committing_script partners.reader) reads_form)) (sym partners.reader_is) (refl, refl),
+        (
+          started,
+          (refl, refl),
+          (
+            one_posted,
+            inl (safe_one, refl, refl),
+            (
+              posted,
+              inl (safe_two, refl, refl),
+              (
+                picked,
+                inl (record { asked = pair; can = can_pick; least = least_pair; replies = refl; is = refl }),
+                (
+                  joined,
+                  (
+                    least_taken,
+                    inl (record {
+                      outstanding = record {
+                        asked = pair;
+                        is_joint = refl;
+                        left = [];
+                        taken = lent_alone pair_job;
+                        component = record { present = pair_present; component = one_component };
+                      };
+                      groundings = Some taken;
+                      choice = refl;
+                      answers = (refl, refl);
+                    }),
+                  ),
+                  (
+                    lending joined (answered 1 Mickey) (books Mickey),
+                    (refl, refl),
+                    (
+                      books_in joined 1 Mickey,
+                      (
+                        one_evaluated,
+                        inl (
+                          _,
+                          refl,
+                          record {
+                            left = [];
+                            taken = lent_alone (booking_job 1 Mickey set.empty);
+                            member = holds 1 Mickey;
+                            is_member = refl;
+                            steps = (refl, refl);
+                          },
+                        ),
+                      ),
+                      (
+                        one_prepared,
+                        (refl, refl),
+                        (
+                          one_prepared,
+                          (refl, refl),
+                          (
+                            lending one_prepared (answered 2 Minnie) (books Minnie),
+                            (refl, refl),
+                            (
+                              both_booked,
+                              (
+                                two_evaluated,
+                                inl (
+                                  _,
+                                  refl,
+                                  record {
+                                    left = [];
+                                    taken = lent_alone (booking_job 2 Minnie first_booked);
+                                    member = holds 2 Minnie;
+                                    is_member = refl;
+                                    steps = (refl, refl);
+                                  },
+                                ),
+                              ),
+                              (
+                                both_booked,
+                                (refl, refl),
+                                (last, (refl, refl), refl),
+                              ),
+                            ),
+                          ),
+                        ),
+                      ),
+                    ),
+                  ),
+                ),
+              ),
+            ),
+          ),
+        ),
+      ),
+    ),
+  )

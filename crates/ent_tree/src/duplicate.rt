@@ -1,0 +1,34 @@
+//! Copies.
+ghost use Rattle.std.specs.Prelude.{◌≡◌, IfOk};
+
+use ent_value::Limited;
+use std::alloc::{AllocError, Global};
+
+/// A part of a tree, of which a copy can be made.
+pub trait Duplicate: Sized {
+    /// A copy, equal to the part in everything, places included. It takes the memory of a new part.
+    fn copy(&self, alloc: Global) -> Result<Self, AllocError>
+        ensures { IfOk result (λ copy. copy ≡ self.now) };
+}
+
+impl<T: Duplicate + Drop, const LIMIT: usize> Duplicate for Limited<T, LIMIT> {
+    fn copy(&self, alloc: Global) -> Result<Self, AllocError> {
+        let mut copies = Limited::new(alloc);
+        let elements = self.as_slice();
+        // The limit of the elements is that of the copies.
+        let _limited = self.len();
+        for element in elements {
+            copies.push(element.copy(alloc)?)?;
+        }
+        Ok(copies)
+    }
+}
+
+impl<T: Duplicate> Duplicate for Option<T> {
+    fn copy(&self, alloc: Global) -> Result<Self, AllocError> {
+        match self {
+            None => Ok(None),
+            Some(part) => Ok(Some(part.copy(alloc)?)),
+        }
+    }
+}
