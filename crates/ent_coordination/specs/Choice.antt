@@ -3,19 +3,26 @@ use Rattle.std.specs.Prelude.{◌≡◌, ◌≢◌, true, List, [], ◌∷◌, �
 use Rattle.std.specs.Cmp.Lexicographic.{slice_cmp}
 use Rattle.std.specs.declared.cmp.Ordering.{Ordering}
 use Rattle.std.specs.declared.cmp.Ordering.TheVariants.{Less}
-use Rattle.ent_value.specs.Value.{row_cmp}
+use Rattle.ent_value.specs.Value.{row_cmp, kinds_of}
+use Rattle.ent_value.specs.declared.value.Value.{Value}
 use Rattle.ent_semantics.specs.declared.answer.Fact.{Fact}
 use Rattle.ent_semantics.specs.Entangled.{Valuation}
+use Rattle.ent_closed.specs.declared.entangled.Entangled.{Entangled}
 use Rattle.ent_closed.specs.Form.{Tables, form_heads, form_posts, is_form_grounding}
 use Rattle.ent_coordination.specs.Pool.{Posted}
 
--- a grounding over the tables for each statement, in their order
+-- a grounding of a statement over the tables, each value being of its variable's kind
+pub record IsKindedGrounding (tables : Tables) (statement : Entangled Value) (values : Valuation) : Type 0 where
+  pub kinds : kinds_of values ≡ statement.variables
+  pub grounds : is_form_grounding (λ value. value) tables statement values ≡ true
+
+-- a grounding for each statement, in their order
 abbrev pub AreGroundings : Tables → List Posted → List Valuation → Type 0
 AreGroundings tables [] [] = Unit {0}
 AreGroundings tables [] (values ∷ more) = ⊥
 AreGroundings tables (member ∷ members) [] = ⊥
 AreGroundings tables (member ∷ members) (values ∷ more) =
-    (is_form_grounding (λ value. value) tables member.statement values ≡ true) × AreGroundings tables members more
+    IsKindedGrounding tables member.statement values × AreGroundings tables members more
 
 -- the heads of the statements under their groundings
 abbrev pub all_heads : List Posted → List Valuation → List Fact

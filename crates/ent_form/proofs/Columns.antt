@@ -26,7 +26,7 @@ column_within_from number [] name found kind e = cc
 column_within_from number (column ∷ columns) name found kind e =
     elim (same_name column.name name) as
     (λ (b : Bool). Some (found, kind) ≡ (if b then Some (number, column.kind) else column_from (suc number) columns
-        name)
+    name)
     → found < number + length (column ∷ columns)) [
       | true ↦ λ here.
           let same : found ≡ number = first_same (found, kind) (number, column.kind) here in omega arith

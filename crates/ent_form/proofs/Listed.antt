@@ -31,7 +31,7 @@ module _ (lookup : Lookup TreeOperand (Operand Known)) where
   tests_refused made xs i x total (Fault fault) h is e so =
       sym so ∙ tests_at made xs i x h is
       ∙ ap (λ (r : Result (Test (Operand Known)) FormFault). r >>= λ y. tests_from lookup (made ++ y ∷ [])
-          (drop (i + 1) xs)) e
+      (drop (i + 1) xs)) e
 
   -- what one test gives goes behind what was made
   pub tests_passed : (made new : List (Test (Operand Known))) (xs : List (Test TreeOperand)) (i : ℕ)
@@ -42,5 +42,5 @@ module _ (lookup : Lookup TreeOperand (Operand Known)) where
   tests_passed made new xs i x y total h is e grown so =
       ap (λ ys. tests_from lookup ys (drop (i + 1) xs)) grown
       ∙ sym (ap (λ (r : Result (Test (Operand Known)) FormFault). r >>= λ y. tests_from lookup (made ++ y ∷ [])
-          (drop (i + 1) xs)) e)
+      (drop (i + 1) xs)) e)
       ∙ sym (tests_at made xs i x h is) ∙ so

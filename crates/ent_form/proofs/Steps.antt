@@ -32,7 +32,7 @@ pub bound_more : (bindings : List Binding) (name : Name) (found : Option Kind) (
     ≡ bound_from none_bound (take (i + 1) bindings) name
 bound_more bindings name found i binding h is so =
     let next : take (i + 1) bindings ≡ take i bindings ++ binding ∷ [] = take_more bindings i binding h
-        ∙ ap (λ (b : Binding). take i bindings ++ b ∷ []) (sym is) in
+    ∙ ap (λ (b : Binding). take i bindings ++ b ∷ []) (sym is) in
     ap (λ (k : Option Kind). if same_name binding.name name then Some binding.kind else k) so
     ∙ ap (λ (b : Bound). b name) (sym (bound_push none_bound (take i bindings) binding))
     ∙ ap (λ bs. bound_from none_bound bs name) (sym next)

@@ -40,27 +40,28 @@ item_binds_are : (worth : TreeTerm → Value) (term : TreeTerm) (binds : Option 
 item_binds_are worth term None = refl
 item_binds_are worth term (Some variable) = refl
 
-and_assoc : (a b c : Bool) → ((a && b) && c) ≡ (a && (b && c))
+pub and_assoc : (a b c : Bool) → ((a && b) && c) ≡ (a && (b && c))
 and_assoc true b c = refl
 and_assoc false b c = refl
 
-and_true : (a : Bool) → (a && true) ≡ a
+pub and_true : (a : Bool) → (a && true) ≡ a
 and_true true = refl
 and_true false = refl
 
-all_behind : {A : Type 0} (p : A → Bool) (xs : List A) (y : A) → list_all p (xs ++ y ∷ []) ≡ (list_all p xs && p y)
+pub all_behind : {A : Type 0} (p : A → Bool) (xs : List A) (y : A) → list_all p (xs ++ y ∷ []) ≡ (list_all p xs && p y)
 all_behind p [] y = and_true (p y)
 all_behind p (x ∷ xs) y = ap (λ b. p x && b) (all_behind p xs y) ∙ sym (and_assoc (p x) (list_all p xs) (p y))
 
 -- one thing more behind those before, as it is seen
-grown : {A B : Type 0} (f : A → B) (made : List A) (x : A) (y : B) (more : List B) → f x ≡ y
+pub grown : {A B : Type 0} (f : A → B) (made : List A) (x : A) (y : B) (more : List B) → f x ≡ y
     → map f (made ++ x ∷ []) ++ more ≡ map f made ++ y ∷ more
 grown f made x y more e =
     ap (λ xs. xs ++ more) (map-append f made (x ∷ []))
     ∙ append_assoc (map f made) (f x ∷ []) more
     ∙ ap (λ z. map f made ++ z ∷ more) e
 
-module _ (environment : Environment) (names : List Name) (valuation : Valuation) (l : length valuation ≡ length names) where
+module _ (environment : Environment) (names : List Name) (valuation : Valuation)
+    (l : length valuation ≡ length names) where
   abbrev said : TreeTerm → Value
   said = worth environment names valuation l
 
@@ -78,12 +79,20 @@ module _ (environment : Environment) (names : List Name) (valuation : Valuation)
       → (out.terms ≡ offer.terms ++ found.0 ∷ [])
       × (map bound_value out.binds ≡ map bound_value offer.binds ++ binds_of binds (meant found.0))
   bind_same offer None found out e =
-      let made : with_term offer found.0 ≡ out = same_given (with_term offer found.0) out e in
-      (ap (λ (o : Offer). o.terms) (sym made), ap (λ (o : Offer). map bound_value o.binds) (sym made) ∙ sym (append-nil (map bound_value offer.binds)))
+      let made : with_term offer found.0 ≡ out = same_given (with_term offer found.0) out e in (
+        ap (λ (o : Offer). o.terms) (sym made),
+        ap (λ (o : Offer). map bound_value o.binds) (sym made)
+            ∙ sym (append-nil (map bound_value offer.binds)),
+      )
   bind_same offer (Some variable) found out e =
-      let kept = demand_given (not (is_among (map (λ binding. binding.name) offer.bound) variable.name)) (Repeated variable.place) (Ok (with_bind offer variable.name found)) out e in
-      let made : with_bind offer variable.name found ≡ out = same_given (with_bind offer variable.name found) out kept.1 in
-      (ap (λ (o : Offer). o.terms) (sym made), ap (λ (o : Offer). map bound_value o.binds) (sym made) ∙ map-append bound_value offer.binds (record { variable = variable.name; term = found.0 } ∷ []))
+      let kept = demand_given (not (is_among (map (λ binding. binding.name) offer.bound) variable.name))
+      (Repeated variable.place) (Ok (with_bind offer variable.name found)) out e in
+      let made : with_bind offer variable.name found
+      ≡ out = same_given (with_bind offer variable.name found) out kept.1 in (
+        ap (λ (o : Offer). o.terms) (sym made),
+        ap (λ (o : Offer). map bound_value o.binds) (sym made)
+            ∙ map-append bound_value offer.binds (record { variable = variable.name; term = found.0 } ∷ []),
+      )
 
   pub offer_same : (demanded bound : Bound) (items : List EntangledItem) (offer out : Offer)
       → offer_from names demanded bound offer items ≡ Ok out
@@ -91,29 +100,35 @@ module _ (environment : Environment) (names : List Name) (valuation : Valuation)
       × (map bound_value out.binds ≡ map bound_value offer.binds ++ flat_map (item_binds said) items)
   unfolding item_in
   offer_same demanded bound [] offer out e =
-      let made : offer ≡ out = same_given offer out e in
-      (ap (λ (o : Offer). map meant o.terms) (sym made) ∙ sym (append-nil (map meant offer.terms)), ap (λ (o : Offer). map bound_value o.binds) (sym made) ∙ sym (append-nil (map bound_value offer.binds)))
+      let made : offer ≡ out = same_given offer out e in (
+        ap (λ (o : Offer). map meant o.terms) (sym made)
+            ∙ sym (append-nil (map meant offer.terms)),
+        ap (λ (o : Offer). map bound_value o.binds) (sym made)
+            ∙ sym (append-nil (map bound_value offer.binds)),
+      )
   offer_same demanded bound (item ∷ more) offer out e =
       let step = bind_given (item_in names demanded bound offer item) _ out e in
       let w = bind_given (term_in names demanded bound item.term) _ step.0 step.1 in
       let same = term_same environment names valuation l demanded bound item.term w.0 w.1 in
       let one = bind_same offer item.binds w.0 step.0 w.2 in
-      let rest = offer_same demanded bound more step.0 out step.2 in
-      (
+      let rest = offer_same demanded bound more step.0 out step.2 in (
         rest.0
-        ∙ ap (λ xs. map meant xs ++ map said (map (λ item. item.term) more)) one.0
-        ∙ grown meant offer.terms w.0.0 (said item.term) (map said (map (λ item. item.term) more)) (sym same),
+            ∙ ap (λ xs. map meant xs ++ map said (map (λ item. item.term) more)) one.0
+            ∙ grown meant offer.terms w.0.0 (said item.term) (map said (map (λ item. item.term) more)) (sym same),
         rest.1
-        ∙ ap (λ xs. xs ++ flat_map (item_binds said) more) one.1
-        ∙ append_assoc (map bound_value offer.binds) (binds_of item.binds (meant w.0.0)) (flat_map (item_binds said) more)
-        ∙ ap (λ xs. map bound_value offer.binds ++ (xs ++ flat_map (item_binds said) more))
-        (ap (binds_of item.binds) (sym same) ∙ sym (item_binds_are said item.term item.binds))
+            ∙ ap (λ xs. xs ++ flat_map (item_binds said) more) one.1
+            ∙ append_assoc (map bound_value offer.binds) (binds_of item.binds (meant w.0.0))
+            (flat_map (item_binds said) more)
+            ∙ ap (λ xs. map bound_value offer.binds ++ (xs ++ flat_map (item_binds said) more))
+            (ap (binds_of item.binds) (sym same) ∙ sym (item_binds_are said item.term item.binds)),
       )
 
-  pub heads_same : (terms : List (Term Known)) (relations : List Identifier) (earlier : List Name) (made out : List (Atom Known))
+  pub heads_same : (terms : List (Term Known)) (relations : List Identifier) (earlier : List Name)
+      (made out : List (Atom Known))
       → heads_from terms earlier made relations ≡ Ok out
       → map fact out ≡ map fact made ++ facts (map (λ relation. relation.name) relations) (map meant terms)
-  heads_same terms [] earlier made out e = ap (map fact) (sym (same_given made out e)) ∙ sym (append-nil (map fact made))
+  heads_same terms [] earlier made out e = ap (map fact) (sym (same_given made out e))
+      ∙ sym (append-nil (map fact made))
   heads_same terms (relation ∷ more) earlier made out e =
       let head : Atom Known = record { relation = relation.name; terms = terms } in
       let kept = demand_given (not (is_among earlier relation.name)) (Repeated relation.place) _ out e in
@@ -143,29 +158,29 @@ module _ (environment : Environment) (names : List Name) (valuation : Valuation)
       → (map fact out.0 ≡ map fact posts ++ flat_map (condition_posts said) all)
       × (list_all (holds meant) out.1 ≡ (list_all (holds meant) tests && tests_hold all))
   others_same demanded bound [] posts tests out e =
-      let made : (posts, tests) ≡ out = same_given (posts, tests) out e in
-      (
-        ap (λ (o : List (Atom Known) × List (Test (Term Known))). map fact o.0) (sym made) ∙ sym (append-nil (map fact posts)),
-        ap (λ (o : List (Atom Known) × List (Test (Term Known))). list_all (holds meant) o.1) (sym made) ∙ sym (and_true (list_all (holds meant) tests))
+      let made : (posts, tests) ≡ out = same_given (posts, tests) out e in (
+        ap (λ (o : List (Atom Known) × List (Test (Term Known))). map fact o.0) (sym made)
+            ∙ sym (append-nil (map fact posts)),
+        ap (λ (o : List (Atom Known) × List (Test (Term Known))). list_all (holds meant) o.1) (sym made)
+            ∙ sym (and_true (list_all (holds meant) tests)),
       )
   others_same demanded bound (conditions.InSelect tuple select ∷ more) posts tests out e =
       others_same demanded bound more posts tests out e
   others_same demanded bound (conditions.InAnswer tuple relation ∷ more) posts tests out e =
       let w = bind_given (post_in names demanded bound tuple relation) _ out e in
-      let rest = others_same demanded bound more (posts ++ w.0 ∷ []) tests out w.2 in
-      (
+      let rest = others_same demanded bound more (posts ++ w.0 ∷ []) tests out w.2 in (
         rest.0
-        ∙ grown fact posts w.0 _ (flat_map (condition_posts said) more) (post_same demanded bound tuple relation w.0 w.1),
-        rest.1
+            ∙ grown fact posts w.0 _ (flat_map (condition_posts said) more)
+            (post_same demanded bound tuple relation w.0 w.1),
+        rest.1,
       )
   others_same demanded bound (conditions.Test test ∷ more) posts tests out e =
       let w = bind_given (test_in (terms_in names demanded bound) test) _ out e in
       let same = test_same environment names valuation l demanded bound test w.0 w.1 in
-      let rest = others_same demanded bound more posts (tests ++ w.0 ∷ []) out w.2 in
-      (
+      let rest = others_same demanded bound more posts (tests ++ w.0 ∷ []) out w.2 in (
         rest.0,
         rest.1
-        ∙ ap (λ b. b && tests_hold more) (all_behind (holds meant) tests w.0)
-        ∙ and_assoc (list_all (holds meant) tests) (holds meant w.0) (tests_hold more)
-        ∙ ap (λ b. list_all (holds meant) tests && (b && tests_hold more)) (sym same)
+            ∙ ap (λ b. b && tests_hold more) (all_behind (holds meant) tests w.0)
+            ∙ and_assoc (list_all (holds meant) tests) (holds meant w.0) (tests_hold more)
+            ∙ ap (λ b. list_all (holds meant) tests && (b && tests_hold more)) (sym same),
       )

@@ -3,3 +3,9 @@ pub mod Variables
 pub mod Terms
 pub mod Heads
 pub mod Whole
+pub mod Sources
+pub mod Rows
+pub mod Selecting
+pub mod Grounding
+pub mod Putting
+pub mod Changing

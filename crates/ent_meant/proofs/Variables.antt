@@ -1,7 +1,8 @@
 -- The written variables of a statement, each where it comes first.
-use Rattle.std.proofs.Common.{◌≡◌, Bool, true, false, not, ◌&&◌, ◌||◌, cond, List, [], ◌∷◌, ◌++◌, map, refl, sym, ap, ◌∙◌}
+use Rattle.std.proofs.Common.{◌≡◌, Bool, true, false, not, ◌&&◌, ◌||◌, cond, List, [], ◌∷◌, ◌++◌, map, refl, sym, ap}
+use Rattle.std.proofs.Common.{◌∙◌}
 use Rattle.std.specs.Prelude.{if◌then◌else◌}
-use Rattle.std.specs.List.{list_any, filter, flat_map}
+use Rattle.std.specs.List.{filter, flat_map}
 use Rattle.std.proofs.lemmas.List.{append-nil, append_assoc}
 use Rattle.std.proofs.lemmas.Grind.{flat_map-append}
 use Rattle.ent_tree.specs.declared.entangled.Condition.{Condition}
@@ -128,16 +129,19 @@ added_firsts names (name ∷ more) =
         → added names more ≡ names ++ filter out (first_of_each more)
         → added (names ++ name ∷ []) more
         ≡ (names ++ name ∷ []) ++ filter (λ other. not (is_among (names ++ name ∷ []) other)) (first_of_each more)
-        → added (if b then names else (names ++ name ∷ [])) more ≡ names ++ cond (not b) (name ∷ filter out others) (filter out others)
+        → added (if b then names else (names ++ name ∷ [])) more
+        ≡ names ++ cond (not b) (name ∷ filter out others) (filter out others)
     by true e known fresh =
         known
         ∙ ap (λ xs. names ++ xs)
-        (sym (filter_twice out (λ other. not (same_name name other)) out (first_of_each more) (λ other. known_out names name other e)))
+        (sym (filter_twice out (λ other. not (same_name name other)) out (first_of_each more)
+        (λ other. known_out names name other e)))
     by false e known fresh =
         fresh
         ∙ append_assoc names (name ∷ []) _
         ∙ ap (λ xs. names ++ name ∷ xs)
-        (sym (filter_twice out (λ other. not (same_name name other)) (λ other. not (is_among (names ++ name ∷ []) other)) (first_of_each more)
+        (sym (filter_twice out (λ other. not (same_name name other))
+        (λ other. not (is_among (names ++ name ∷ []) other)) (first_of_each more)
         (λ other. ap not (among_behind names name other) ∙ new_out (is_among names other) (same_name name other))))
 
 all_kept : (names : List Name) → filter (λ name. not (is_among [] name)) names ≡ names

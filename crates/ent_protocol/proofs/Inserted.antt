@@ -1,5 +1,6 @@
 -- What an INSERT into a table without rows comes to.
-use Rattle.std.proofs.Common.{◌≡◌, ℕ, ◌+◌, Bool, true, false, cond, List, [], ◌∷◌, map, refl, sym, ap, subst, ◌∙◌, Ok, Err}
+use Rattle.std.proofs.Common.{◌≡◌, ℕ, ◌+◌, Bool, true, false, cond, List, [], ◌∷◌, map, refl, sym, ap, subst, ◌∙◌, Ok}
+use Rattle.std.proofs.Common.{Err}
 use Rattle.std.specs.Prelude.{nat_le, slice_index_or, slice_set}
 use Rattle.ent_set.specs.Laws.{contains-empty, len-empty, len-insert, without-nothing}
 use Rattle.ent_set.specs.Sets as set

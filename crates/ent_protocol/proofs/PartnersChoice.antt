@@ -141,8 +141,8 @@ least : (others : List Valuation) → IsChoice seen both others → choice_cmp o
 least [] h less = absurd h.grounded
 least (v ∷ []) h less = absurd h.grounded.1
 least (v ∷ w ∷ []) h less =
-    let x = one_value 1 Mickey Minnie v h.grounded.0 in
-    let y = one_value 2 Minnie Mickey w h.grounded.1.0 in
+    let x = one_value 1 Mickey Minnie v h.grounded.0.grounds in
+    let y = one_value 2 Minnie Mickey w h.grounded.1.0.grounds in
     not_less x.0 y.0 x.2 y.2 (sym (λ i. choice_cmp (x.1 i ∷ y.1 i ∷ []) taken) ∙ less)
 least (v ∷ w ∷ u ∷ more) h less = absurd h.grounded.1.1
 
@@ -150,7 +150,8 @@ pub least_taken : IsLeastChoice seen both taken
 least_taken =
     record {
       choice = record {
-        grounded = (grounds 1 Mickey Minnie flight_122, (grounds 2 Minnie Mickey flight_122, tt));
+        grounded = (record { kinds = refl; grounds = grounds 1 Mickey Minnie flight_122 },
+         (record { kinds = refl; grounds = grounds 2 Minnie Mickey flight_122 }, tt));
         met = met;
       };
       least = least;

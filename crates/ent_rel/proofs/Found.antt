@@ -1,5 +1,6 @@
 -- Rows that were found by their first values and pass a test.
-use Rattle.std.proofs.Common.{◌≡◌, ℕ, ◌≤◌, Bool, true, false, cond, List, [], ◌∷◌, length, refl, sym, ap, subst, ◌∙◌, inl, inr}
+use Rattle.std.proofs.Common.{◌≡◌, ℕ, ◌≤◌, Bool, true, false, cond, List, [], ◌∷◌, length, refl, sym, ap, subst, ◌∙◌}
+use Rattle.std.proofs.Common.{inl, inr}
 use Rattle.std.specs.Prelude.{◌&&◌, All, IsTrue, ◌⊎◌, Result, Ok, Err, IfOk}
 use Rattle.std.specs.List.{filter, Contains, IsDistinct}
 use Rattle.std.specs.Ordering.{eq_by_cmp}
@@ -23,7 +24,8 @@ filter_both p q [] = refl
 filter_both {X} p q (x ∷ xs) = by (p x) (filter_both p q xs)
   where
     by : (a : Bool) → filter q (filter p xs) ≡ filter (λ y. p y && q y) xs
-        → filter q (cond a (x ∷ filter p xs) (filter p xs)) ≡ cond (a && q x) (x ∷ filter (λ y. p y && q y) xs) (filter (λ y. p y && q y) xs)
+        → filter q (cond a (x ∷ filter p xs) (filter p xs)) ≡ cond (a && q x) (x ∷ filter (λ y. p y && q y) xs)
+        (filter (λ y. p y && q y) xs)
     by true h = ap (λ ys. cond (q x) (x ∷ ys) ys) h
     by false h = h
 
@@ -33,7 +35,8 @@ part_filter p [] part h = h
 part_filter {X} p (x ∷ xs) part h = by (p x) (part_filter p xs) h
   where
     by : (b : Bool) → ((others : List X) → IsPart (filter p xs) others → IsPart xs others)
-        → IsPart (cond b (x ∷ filter p xs) (filter p xs)) part → IsPart xs part ⊎ ((others : List X) × (part ≡ x ∷ others) × IsPart xs others)
+        → IsPart (cond b (x ∷ filter p xs) (filter p xs)) part
+        → IsPart xs part ⊎ ((others : List X) × (part ≡ x ∷ others) × IsPart xs others)
     by true whole (inl k) = inl (whole part k)
     by true whole (inr (others, e, k)) = inr (others, e, whole others k)
     by false whole k = inl (whole part k)
@@ -45,23 +48,29 @@ pub ascending_all : (s : RowSet) → set.from_list {R = row_cmp} (set.ascending 
 ascending_all s = from_list-ascending rows_total exact_rows s
 
 pub ascending_len : (s : RowSet) → length (set.ascending s) ≡ set.len s
-ascending_len s = sym (len-distinct rows_total exact_rows (set.ascending s) (ascending_distinct s)) ∙ ap set.len (ascending_all s)
+ascending_len s = sym (len-distinct rows_total exact_rows (set.ascending s) (ascending_distinct s))
+    ∙ ap set.len (ascending_all s)
 
 and_first : (a b : Bool) → (a && b) ≡ true → a ≡ true
 and_first true b h = refl
 and_first false b h = absurd cc
 
 -- what is found of a set is in the set
-pub found_there : (s : RowSet) (p : List Value → Bool) (row : List Value) → IsTrue (set.contains (set.from_list {R = row_cmp} (filter p (set.ascending s))) row) → IsTrue (set.contains s row)
+pub found_there : (s : RowSet) (p : List Value → Bool) (row : List Value)
+    → IsTrue (set.contains (set.from_list {R = row_cmp} (filter p (set.ascending s))) row) → IsTrue (set.contains s row)
 found_there s p row here =
     and_first (set.contains s row) (p row)
     (sym (contains-retain rows_total s p row (λ x e. sym (ap p (exact_rows row x e))))
-    ∙ sym (ap (λ t. set.contains t row) (from_list-filter rows_total exact_rows p (set.ascending s) ∙ ap (λ t. set.retain t p) (ascending_all s))) ∙ here)
+    ∙ sym (ap (λ t. set.contains t row) (from_list-filter rows_total exact_rows p (set.ascending s)
+    ∙ ap (λ t. set.retain t p) (ascending_all s))) ∙ here)
 
-pub found_computes : {F : Type 0} (calls : Shared F (Bor (List Value) × Unit {0}) Bool) (closure : F) (s : RowSet) (p passes : List Value → Bool) (found : List (List Value))
-    → found ≡ filter p (set.ascending s) → Computes calls closure s passes → Computes calls closure (set.from_list found) passes
+pub found_computes : {F : Type 0} (calls : Shared F (Bor (List Value) × Unit {0}) Bool) (closure : F) (s : RowSet)
+    (p passes : List Value → Bool) (found : List (List Value))
+    → found ≡ filter p (set.ascending s) → Computes calls closure s passes
+    → Computes calls closure (set.from_list found) passes
 found_computes calls closure s p passes found is computes row answer here says =
-    computes row answer (found_there s p row (sym (ap (λ rows. set.contains (set.from_list {R = row_cmp} rows) row) is) ∙ here)) says
+    computes row answer (found_there s p row (sym (ap (λ rows. set.contains
+    (set.from_list {R = row_cmp} rows) row) is) ∙ here)) says
 
 pub ok_then : {X E : Type 0} (P Q : X → Type 0) (r : Result X E) → ((x : X) → P x → Q x) → IfOk r P → IfOk r Q
 ok_then P Q (Ok x) f h = f x h

@@ -1,5 +1,6 @@
 -- Rows with these first values are those whose keys begin alike.
-use Rattle.std.proofs.Common.{◌≡◌, ℕ, Bool, true, false, cond, List, [], ◌∷◌, length, map, take, refl, sym, ap, subst, ◌∙◌}
+use Rattle.std.proofs.Common.{◌≡◌, ℕ, Bool, true, false, cond, List, [], ◌∷◌, length, map, take, refl, sym, ap, subst}
+use Rattle.std.proofs.Common.{◌∙◌}
 use Rattle.std.specs.Prelude.{IsTrue, ◌↔◌}
 use Rattle.std.specs.List.{filter, AllByRecursion}
 use Rattle.std.specs.Cmp.{both_ways}
@@ -18,10 +19,12 @@ use Rattle.ent_rel.proofs.Lists.{same_rows}
 -- what the law says that a key set's look-up rests on
 abbrev pub FirstAreFronts : Type 0
 FirstAreFronts =
-    (values row : List Value) → kinds_of values ≡ take (length values) (kinds_of row) → AreStorable values → AreStorable row
+    (values row : List Value) → kinds_of values ≡ take (length values) (kinds_of row) → AreStorable values
+    → AreStorable row
     → IsTrue (begins_with (key_of values) (key_of row)) ↔ (take (length values) row ≡ values)
 
-module _ (law : FirstAreFronts) (kinds : List Kind) (values : List Value) (same : kinds_of values ≡ take (length values) kinds) (fits : AreStorable values) where
+module _ (law : FirstAreFronts) (kinds : List Kind) (values : List Value) (same : kinds_of values ≡ take
+    (length values) kinds) (fits : AreStorable values) where
   alike : (k : List ℕ) → IsKey kinds k → begins_with (key_of values) k ≡ has_first values (row_from kinds k)
   alike k is =
       let row = row_from kinds k in
@@ -31,19 +34,23 @@ module _ (law : FirstAreFronts) (kinds : List Kind) (values : List Value) (same 
       (λ h. ap (λ r. eq_by_cmp row_cmp r values) (both.0 h) ∙ rows_equal.refl values)
       (λ h. both.1 (same_rows (take (length values) row) values h))
 
-  pub rows_first : (ks : List (List ℕ)) → AreKeys kinds ks → map (row_from kinds) (filter (begins_with (key_of values)) ks) ≡ filter (has_first values) (map (row_from kinds) ks)
+  pub rows_first : (ks : List (List ℕ)) → AreKeys kinds ks → map (row_from kinds) (filter (begins_with
+      (key_of values)) ks) ≡ filter (has_first values) (map (row_from kinds) ks)
   rows_first [] all = refl
   rows_first (k ∷ ks) all =
-      by (begins_with (key_of values) k) (has_first values (row_from kinds k)) (alike k all.0) k (filter (begins_with (key_of values)) ks) (filter (has_first values) (map (row_from kinds) ks)) (rows_first ks all.1)
+      by (begins_with (key_of values) k) (has_first values (row_from kinds k)) (alike k all.0) k (filter (begins_with
+      (key_of values)) ks) (filter (has_first values) (map (row_from kinds) ks)) (rows_first ks all.1)
     where
-      by : (a b : Bool) → a ≡ b → (k : List ℕ) (xs : List (List ℕ)) (ys : List (List Value)) → map (row_from kinds) xs ≡ ys
+      by : (a b : Bool) → a ≡ b → (k : List ℕ) (xs : List (List ℕ)) (ys : List (List Value))
+          → map (row_from kinds) xs ≡ ys
           → map (row_from kinds) (cond a (k ∷ xs) xs) ≡ cond b (row_from kinds k ∷ ys) ys
       by true true e k xs ys h = ap (λ z. row_from kinds k ∷ z) h
       by false false e k xs ys h = h
       by true false e k xs ys h = absurd cc
       by false true e k xs ys h = absurd cc
 
-pub keys_where : (kinds : List Kind) (p : List ℕ → Bool) (ks : List (List ℕ)) → AreKeys kinds ks → AreKeys kinds (filter p ks)
+pub keys_where : (kinds : List Kind) (p : List ℕ → Bool) (ks : List (List ℕ)) → AreKeys kinds ks
+    → AreKeys kinds (filter p ks)
 keys_where kinds p [] all = tt
 keys_where kinds p (k ∷ ks) all =
     elim (p k) as (λ b. AreKeys kinds (cond b (k ∷ filter p ks) (filter p ks))) [

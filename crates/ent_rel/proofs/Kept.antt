@@ -12,12 +12,16 @@ use Rattle.ent_rel.specs.Relation.{Relation}
 use Rattle.ent_rel.specs.Kept.{KeySet, listed_rows, rows_of, HoldRows, IsKept}
 use Rattle.ent_rel.proofs.Keyed.{keys_total, keys_exact, all_keys, ascending_rows}
 
-keys_again : (kinds : List Kind) (ks : List (List ℕ)) → AllByRecursion (IsKey kinds) ks → map key_of (map (row_from kinds) ks) ≡ ks
+keys_again : (kinds : List Kind) (ks : List (List ℕ)) → AllByRecursion (IsKey kinds) ks
+    → map key_of (map (row_from kinds) ks) ≡ ks
 keys_again kinds [] all = refl
 keys_again kinds (k ∷ ks) all = λ i. all.0.again i ∷ keys_again kinds ks all.1 i
 
 -- tables are the same where their kinds and their keys are
-module _ (kinds others : List Kind) (keys more : KeySet) (left right : Relation) (one : record { kinds = kinds; rows = rows_of kinds keys } ≡ left) (two : record { kinds = others; rows = rows_of others more } ≡ right) (kept : IsKept kinds keys) (kept_more : IsKept others more) where
+module _ (kinds others : List Kind) (keys more : KeySet) (left right : Relation)
+    (one : record { kinds = kinds; rows = rows_of kinds keys } ≡ left)
+    (two : record { kinds = others; rows = rows_of others more } ≡ right) (kept : IsKept kinds keys)
+    (kept_more : IsKept others more) where
   pub same_kinds : left ≡ right → kinds ≡ others
   same_kinds e = ap (λ (t : Relation). t.kinds) (one ∙ e ∙ sym two)
 
@@ -25,7 +29,9 @@ module _ (kinds others : List Kind) (keys more : KeySet) (left right : Relation)
   same_key_sets e =
       sym (from_list-ascending keys_total keys_exact keys)
       ∙ ap (λ ks. set.from_list ks) (sym (keys_again kinds (set.ascending keys) (all_keys kinds keys kept.fitting))
-      ∙ ap (map key_of) (sym (ascending_rows kinds keys kept.fitting) ∙ ap (λ (t : Relation). set.ascending t.rows) (one ∙ e ∙ sym two) ∙ ascending_rows others more kept_more.fitting)
+      ∙ ap (map key_of) (sym (ascending_rows kinds keys kept.fitting)
+      ∙ ap (λ (t : Relation). set.ascending t.rows) (one ∙ e ∙ sym two)
+      ∙ ascending_rows others more kept_more.fitting)
       ∙ keys_again others (set.ascending more) (all_keys others more kept_more.fitting))
       ∙ from_list-ascending keys_total keys_exact more
 

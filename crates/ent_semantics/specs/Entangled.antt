@@ -90,7 +90,8 @@ condition_holds declared database environment worth (conditions.InSelect tuple s
 condition_holds declared database environment worth (conditions.InAnswer tuple relation) = true
 condition_holds declared database environment worth (conditions.Test test) = holds worth test
 
--- a value for exactly the written variables, under which each condition of the body holds
+-- A value for exactly the written variables, under which each condition of the body holds. In a statement without a
+-- fault of form each variable stands in a tuple that is a row of a sub-select's result, so that its value has its kind.
 abbrev pub is_grounding : List Create → Database → Environment → Entangled → Valuation → Bool
 is_grounding declared database environment entangled valuation =
     (length valuation == length (written_variables entangled))

@@ -43,6 +43,15 @@ impl<T, const LIMIT: usize> Limited<T, LIMIT> {
         self.elements.push(element)
     }
 
+    /// The elements as a vector, moved and not copied.
+    pub fn into_vec(self) -> Vec<T>
+        ensures items { result.items ≡ self }
+        ensures limit { length result.items ≤ LIMIT }
+    {
+        let Limited { elements } = self;
+        elements.into_vec()
+    }
+
     pub fn len(&self) -> usize
         ensures len { result ≡ length self.now }
         ensures limit { result ≤ LIMIT }

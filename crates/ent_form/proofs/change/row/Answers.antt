@@ -9,5 +9,5 @@ pub returns : goal.returns
 returns c =
     let left = c.loop-column.column-iterator in
     row_end (bound_in c.args.bindings.now) c.loop-column.row (iter_rest (zip_first left)) (iter_rest (zip_second left))
-        _ (either_empty_from_Zip left c.next.new.self c.next.result c.in-None.is c.next.ensures.steps)
-        c.loop-column.invariant.2
+    _ (either_empty_from_Zip left c.next.new.self c.next.result c.in-None.is c.next.ensures.steps)
+    c.loop-column.invariant.2

@@ -11,5 +11,5 @@ invariant-loop-column l =
     (goal.iterator-loop-column).can_next l.column-iterator ×
     (goal.iterator-loop-column).is_finite l.column-iterator ×
     (row_from (bound_in l.bindings) l.row (iter_rest (zip_first l.column-iterator))
-        (iter_rest (zip_second l.column-iterator)) ≡ row_from (bound_in l.bindings) [] l.columns l.values) ×
+    (iter_rest (zip_second l.column-iterator)) ≡ row_from (bound_in l.bindings) [] l.columns l.values) ×
     (length l.row + length (iter_rest (zip_second l.column-iterator)) ≡ length l.values)

@@ -10,6 +10,6 @@ pub returns : goal.returns
 returns c =
     let left = c.loop-kind.kind-iterator in
     members_end (map (λ name. name.now) c.args.names.now) (bound_in c.args.bindings.now) c.loop-kind.members
-        (bound_in c.loop-kind.kinds) (iter_rest (zip_first left)) (iter_rest (zip_second left)) _
-        (either_empty_from_Zip left c.next.new.self c.next.result c.in-None.is c.next.ensures.steps)
-        c.loop-kind.invariant.2
+    (bound_in c.loop-kind.kinds) (iter_rest (zip_first left)) (iter_rest (zip_second left)) _
+    (either_empty_from_Zip left c.next.new.self c.next.result c.in-None.is c.next.ensures.steps)
+    c.loop-kind.invariant.2

@@ -11,7 +11,7 @@ invariant-loop-kind l =
     (goal.iterator-loop-kind).can_next l.kind-iterator ×
     (goal.iterator-loop-kind).is_finite l.kind-iterator ×
     (members_from (map (λ name. name.now) l.names) (bound_in l.bindings) l.members (bound_in l.kinds)
-        (iter_rest (zip_first l.kind-iterator)) (iter_rest (zip_second l.kind-iterator))
-        ≡ members_from (map (λ name. name.now) l.names) (bound_in l.bindings) [] (bound_in l.fn.kinds) l.wanted
-        l.terms) ×
+    (iter_rest (zip_first l.kind-iterator)) (iter_rest (zip_second l.kind-iterator))
+    ≡ members_from (map (λ name. name.now) l.names) (bound_in l.bindings) [] (bound_in l.fn.kinds) l.wanted
+    l.terms) ×
     (length l.members + length (iter_rest (zip_second l.kind-iterator)) ≡ length l.terms)

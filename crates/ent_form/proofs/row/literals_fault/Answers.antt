@@ -8,5 +8,5 @@ pub returns : goal.returns
 returns c =
     let left = c.loop-column.column-iterator in
     literals_end (iter_rest (zip_first left)) (iter_rest (zip_second left)) _
-        (either_empty_from_Zip left c.next.new.self c.next.result c.in-None.is c.next.ensures.steps)
-        c.loop-column.invariant.2
+    (either_empty_from_Zip left c.next.new.self c.next.result c.in-None.is c.next.ensures.steps)
+    c.loop-column.invariant.2

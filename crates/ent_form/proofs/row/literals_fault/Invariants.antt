@@ -10,4 +10,4 @@ invariant-loop-column l =
     (goal.iterator-loop-column).can_next l.column-iterator ×
     (goal.iterator-loop-column).is_finite l.column-iterator ×
     (literals_fault (iter_rest (zip_first l.column-iterator)) (iter_rest (zip_second l.column-iterator))
-        ≡ literals_fault l.columns l.literals)
+    ≡ literals_fault l.columns l.literals)

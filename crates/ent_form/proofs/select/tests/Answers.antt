@@ -12,8 +12,8 @@ unfolding tests_in
 returns-in_err-test c =
     let lookup = operands_in (scope_of c.args.sources.now) (bound_in c.args.bindings.now) in
     let refused = tests_refused lookup c.loop-one.forms c.as_slice-one-items.result.now c.loop-one.one-index
-        c.one-item.result _ c.in_err-test.field-0.0 c.loop-one-test.true c.one-item.is c.in_err-test.ensures
-        c.loop-one.invariant.rest in
+    c.one-item.result _ c.in_err-test.field-0.0 c.loop-one-test.true c.one-item.is c.in_err-test.ensures
+    c.loop-one.invariant.rest in
     grind (arith, common_steps)
 
 pub loop-one-preserved : goal.loop-one-preserved

@@ -21,17 +21,24 @@ loop-row-preserved g c =
     let x = c.row-item.result in
     let kept = c.loop-row.copies.items in
     let here = listed rows c.loop-row.row-index x (omega arith) c.row-item.is in
-    let more : take (c.loop-row.row-index + 1) c.args.rows.now ≡ take c.loop-row.row-index c.args.rows.now ++ c.row-item.result ∷ [] = take_more rows c.loop-row.row-index x (omega arith) ∙ ap (λ y. take c.loop-row.row-index rows ++ y ∷ []) (sym c.row-item.is) in
+    let more : take (c.loop-row.row-index + 1) c.args.rows.now ≡ take c.loop-row.row-index c.args.rows.now ++
+    c.row-item.result ∷ [] = take_more rows c.loop-row.row-index x (omega arith)
+    ∙ ap (λ y. take c.loop-row.row-index rows ++ y ∷ []) (sym c.row-item.is) in
     record {
       passing = λ passes computes.
           let says : c.test.result ≡ passes x = computes x c.test.result here (says_at g.F.Fn c.test.ensures refl) in
-          filter_step passes rows kept _ c.loop-row.row-index x (omega arith) c.row-item.is (c.loop-row.invariant.passing passes computes) (elim c.if-test.branch [
-            | then-test+in_ok-copy+in_ok-push w ↦ ap (λ v. v.items) w.copies-is ∙ w.in_ok-push.ensures.items ∙ rw w.in_ok-copy.ensures (ap (λ b. cond b (kept ++ x ∷ []) kept) (sym w.if-test.true ∙ says))
-            | else-test w ↦ ap (λ v. v.items) w.copies-is ∙ ap (λ b. cond b (kept ++ x ∷ []) kept) (sym w.if-test.false ∙ says)
+          filter_step passes rows kept _ c.loop-row.row-index x (omega arith) c.row-item.is
+          (c.loop-row.invariant.passing passes computes) (elim c.if-test.branch [
+            | then-test+in_ok-copy+in_ok-push w ↦ ap (λ v. v.items) w.copies-is ∙ w.in_ok-push.ensures.items
+                ∙ rw w.in_ok-copy.ensures (ap (λ b. cond b (kept ++ x ∷ []) kept) (sym w.if-test.true ∙ says))
+            | else-test w ↦ ap (λ v. v.items) w.copies-is ∙ ap (λ b. cond b (kept ++ x ∷ []) kept)
+                (sym w.if-test.false ∙ says)
           ]);
       part = elim c.if-test.branch [
         | then-test+in_ok-copy+in_ok-push w ↦
-            let pushed : c.if-test.copies.items ≡ c.loop-row.copies.items ++ c.row-item.result ∷ [] = ap (λ v. v.items) w.copies-is ∙ w.in_ok-push.ensures.items ∙ ap (λ y. kept ++ y ∷ []) w.in_ok-copy.ensures in
+            let pushed : c.if-test.copies.items ≡ c.loop-row.copies.items ++ c.row-item.result ∷ [] = ap
+            (λ v. v.items) w.copies-is ∙ w.in_ok-push.ensures.items
+            ∙ ap (λ y. kept ++ y ∷ []) w.in_ok-copy.ensures in
             rw (more, pushed) (part_kept (take c.loop-row.row-index rows) kept x c.loop-row.invariant.part)
         | else-test w ↦
             let kept_all : c.if-test.copies.items ≡ c.loop-row.copies.items = ap (λ v. v.items) w.copies-is in
@@ -40,7 +47,8 @@ loop-row-preserved g c =
     }
 
 pub returns-clause-passing : goal.returns-clause-passing
-returns-clause-passing g c = λ passes computes. rw (take_all c.loop-row.row-index c.args.rows.now (omega arith)) at (c.loop-row.invariant.passing passes computes)
+returns-clause-passing g c = λ passes computes. rw (take_all c.loop-row.row-index c.args.rows.now (omega arith)) at
+    (c.loop-row.invariant.passing passes computes)
 
 pub returns-clause-part : goal.returns-clause-part
 returns-clause-part g c =

@@ -14,7 +14,8 @@ returns-then-len-gt-MOST_ROWS-clause-rows c =
     let made = c.in_ok-keys.ensures ∙ ap (λ ks. set.from_list ks) c.in_ok-keys_of.ensures.keys in
     let is = rows_load kinds rows c.in_ok-keys.keys made c.requires c.in_ok-keys_of.ensures.stored in
     let hold = hold_load kinds rows c.in_ok-keys.keys made c.requires c.in_ok-keys_of.ensures.stored in
-    bounded_beyond (set.from_list {R = row_cmp} rows) (set.from_list rows) (omega (arith, len_rows kinds c.in_ok-keys.keys hold, ap set.len is))
+    bounded_beyond (set.from_list {R = row_cmp} rows) (set.from_list rows) (omega
+    (arith, len_rows kinds c.in_ok-keys.keys hold, ap set.len is))
 
 pub returns-clause-rows : goal.returns-clause-rows
 returns-clause-rows c =
@@ -23,7 +24,8 @@ returns-clause-rows c =
     let made = c.in_ok-keys.ensures ∙ ap (λ ks. set.from_list ks) c.in_ok-keys_of.ensures.keys in
     let is = rows_load kinds rows c.in_ok-keys.keys made c.requires c.in_ok-keys_of.ensures.stored in
     let hold = hold_load kinds rows c.in_ok-keys.keys made c.requires c.in_ok-keys_of.ensures.stored in
-    bounded_within (set.from_list {R = row_cmp} rows) (set.from_list rows) (omega (arith, len_rows kinds c.in_ok-keys.keys hold, ap set.len is))
+    bounded_within (set.from_list {R = row_cmp} rows) (set.from_list rows) (omega
+    (arith, len_rows kinds c.in_ok-keys.keys hold, ap set.len is))
     ∙ ap (λ s. Ok s) (sym is)
 
 pub returns-clause-hold : goal.returns-clause-hold

@@ -10,9 +10,12 @@ pub returns-then-len-gt-MOST_ROWS-clause-rows : goal.returns-then-len-gt-MOST_RO
 returns-then-len-gt-MOST_ROWS-clause-rows c =
     let kinds = c.args.kinds.now in
     let made = c.in_ok-made.made in
-    let is = c.in_ok-made.ensures ∙ ap (set.insert_all (set.without_all c.args.keys.now c.in_ok-gone.gone.items)) c.in_ok-come.ensures.keys in
-    let rows = rows_merged kinds c.args.keys.now c.args.removed.now c.args.added.now c.in_ok-gone.gone.items made is c.requires.hold c.in_ok-gone.ensures c.requires.kinds c.in_ok-come.ensures.stored in
-    let hold = hold_merged kinds c.args.keys.now c.args.removed.now c.args.added.now c.in_ok-gone.gone.items made is c.requires.hold c.in_ok-gone.ensures c.requires.kinds c.in_ok-come.ensures.stored in
+    let is = c.in_ok-made.ensures ∙ ap (set.insert_all
+    (set.without_all c.args.keys.now c.in_ok-gone.gone.items)) c.in_ok-come.ensures.keys in
+    let rows = rows_merged kinds c.args.keys.now c.args.removed.now c.args.added.now c.in_ok-gone.gone.items made is
+    c.requires.hold c.in_ok-gone.ensures c.requires.kinds c.in_ok-come.ensures.stored in
+    let hold = hold_merged kinds c.args.keys.now c.args.removed.now c.args.added.now c.in_ok-gone.gone.items made is
+    c.requires.hold c.in_ok-gone.ensures c.requires.kinds c.in_ok-come.ensures.stored in
     let after = changed_rows (rows_of kinds c.args.keys.now) c.args.removed.now c.args.added.now in
     bounded_beyond after after (omega (arith, len_rows kinds made hold, ap set.len rows))
 
@@ -20,13 +23,18 @@ pub returns-clause-rows : goal.returns-clause-rows
 returns-clause-rows c =
     let kinds = c.args.kinds.now in
     let made = c.in_ok-made.made in
-    let is = c.in_ok-made.ensures ∙ ap (set.insert_all (set.without_all c.args.keys.now c.in_ok-gone.gone.items)) c.in_ok-come.ensures.keys in
-    let rows = rows_merged kinds c.args.keys.now c.args.removed.now c.args.added.now c.in_ok-gone.gone.items made is c.requires.hold c.in_ok-gone.ensures c.requires.kinds c.in_ok-come.ensures.stored in
-    let hold = hold_merged kinds c.args.keys.now c.args.removed.now c.args.added.now c.in_ok-gone.gone.items made is c.requires.hold c.in_ok-gone.ensures c.requires.kinds c.in_ok-come.ensures.stored in
+    let is = c.in_ok-made.ensures ∙ ap (set.insert_all
+    (set.without_all c.args.keys.now c.in_ok-gone.gone.items)) c.in_ok-come.ensures.keys in
+    let rows = rows_merged kinds c.args.keys.now c.args.removed.now c.args.added.now c.in_ok-gone.gone.items made is
+    c.requires.hold c.in_ok-gone.ensures c.requires.kinds c.in_ok-come.ensures.stored in
+    let hold = hold_merged kinds c.args.keys.now c.args.removed.now c.args.added.now c.in_ok-gone.gone.items made is
+    c.requires.hold c.in_ok-gone.ensures c.requires.kinds c.in_ok-come.ensures.stored in
     let after = changed_rows (rows_of kinds c.args.keys.now) c.args.removed.now c.args.added.now in
     bounded_within after after (omega (arith, len_rows kinds made hold, ap set.len rows)) ∙ ap (λ s. Ok s) (sym rows)
 
 pub returns-clause-hold : goal.returns-clause-hold
 returns-clause-hold c =
-    let is = c.in_ok-made.ensures ∙ ap (set.insert_all (set.without_all c.args.keys.now c.in_ok-gone.gone.items)) c.in_ok-come.ensures.keys in
-    hold_merged c.args.kinds.now c.args.keys.now c.args.removed.now c.args.added.now c.in_ok-gone.gone.items c.in_ok-made.made is c.requires.hold c.in_ok-gone.ensures c.requires.kinds c.in_ok-come.ensures.stored
+    let is = c.in_ok-made.ensures ∙ ap (set.insert_all
+    (set.without_all c.args.keys.now c.in_ok-gone.gone.items)) c.in_ok-come.ensures.keys in
+    hold_merged c.args.kinds.now c.args.keys.now c.args.removed.now c.args.added.now c.in_ok-gone.gone.items
+    c.in_ok-made.made is c.requires.hold c.in_ok-gone.ensures c.requires.kinds c.in_ok-come.ensures.stored

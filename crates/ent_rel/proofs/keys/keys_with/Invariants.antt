@@ -6,6 +6,7 @@ use Rattle.ent_rel.proofs.keys.keys_with.Given as goal
 -- the keys with the rows that are left are those that are wanted
 abbrev pub invariant-loop-row : goal.invariant-loop-row
 invariant-loop-row l = record {
-  rows : set.insert_all (rows_of l.kinds l.keys) (drop l.row-index l.rows) ≡ set.insert_all (rows_of l.kinds l.fn.keys) l.rows;
+  rows : set.insert_all (rows_of l.kinds l.keys) (drop l.row-index l.rows) ≡ set.insert_all
+      (rows_of l.kinds l.fn.keys) l.rows;
   hold : HoldRows l.kinds l.keys;
 }

@@ -20,21 +20,30 @@ loop-row-preserved c =
     let here = from_here rows i x (omega arith) c.row-item.is in
     elim c.if-have_kinds.branch [
       | then-have_kinds+in_ok-key+in_ok-keys w ↦
-          let same : kinds_of c.row-item.result ≡ c.args.kinds.now = ap kinds_of (sym c.values.ensures) ∙ c.have_kinds.ensures.kinds.0 w.if-have_kinds.true in
+          let same : kinds_of c.row-item.result ≡ c.args.kinds.now = ap kinds_of (sym c.values.ensures)
+          ∙ c.have_kinds.ensures.kinds.0 w.if-have_kinds.true in
           let fits = subst AreStorable w.values-then-have_kinds.ensures w.in_ok-key.ensures.stored in
-          let made = w.keys-is ∙ w.in_ok-keys.ensures ∙ ap (λ k. set.without_all c.loop-row.keys (k ∷ [])) (w.in_ok-key.ensures.key ∙ ap key_of w.values-then-have_kinds.ensures) in
+          let made = w.keys-is ∙ w.in_ok-keys.ensures ∙ ap (λ k. set.without_all c.loop-row.keys (k ∷ []))
+          (w.in_ok-key.ensures.key ∙ ap key_of w.values-then-have_kinds.ensures) in
           record {
-            rows = ap (λ s. set.without_all s (drop (i + 1) rows)) (ap (rows_of kinds) made ∙ rows_without kinds c.loop-row.keys x same fits c.loop-row.invariant.hold)
-                ∙ without-append rows_total exact_rows (rows_of kinds c.loop-row.keys) (x ∷ []) (drop (i + 1) rows) ∙ ap (set.without_all (rows_of kinds c.loop-row.keys)) (sym here) ∙ c.loop-row.invariant.rows;
-            hold = subst (λ s. HoldRows kinds s) (sym made) (hold_without kinds c.loop-row.keys (key_of x ∷ []) c.loop-row.invariant.hold);
+            rows = ap (λ s. set.without_all s (drop (i + 1) rows)) (ap (rows_of kinds) made
+                ∙ rows_without kinds c.loop-row.keys x same fits c.loop-row.invariant.hold)
+                ∙ without-append rows_total exact_rows (rows_of kinds c.loop-row.keys) (x ∷ []) (drop (i + 1) rows)
+                ∙ ap (set.without_all (rows_of kinds c.loop-row.keys)) (sym here) ∙ c.loop-row.invariant.rows;
+            hold = subst (λ s. HoldRows kinds s) (sym made) (hold_without kinds c.loop-row.keys
+                (key_of x ∷ []) c.loop-row.invariant.hold);
           }
       | else-have_kinds w ↦
           let other : kinds_of c.row-item.result ≡ c.args.kinds.now → ⊥ = λ same.
-          (let no' : false ≡ true = sym w.if-have_kinds.false ∙ c.have_kinds.ensures.kinds.1 (ap kinds_of c.values.ensures ∙ same) in cc) in
-          let have = have_kinds kinds (listed_rows kinds c.loop-row.keys) (listed_fit kinds c.loop-row.keys c.loop-row.invariant.hold) in
+          (let no' : false ≡ true = sym w.if-have_kinds.false
+          ∙ c.have_kinds.ensures.kinds.1 (ap kinds_of c.values.ensures ∙ same) in cc) in
+          let have = have_kinds kinds (listed_rows kinds c.loop-row.keys)
+          (listed_fit kinds c.loop-row.keys c.loop-row.invariant.hold) in
           record {
-            rows = ap (λ s. set.without_all s (drop (i + 1) rows)) (ap (rows_of kinds) w.keys-is ∙ sym (without_other kinds (rows_of kinds c.loop-row.keys) x have other))
-                ∙ without-append rows_total exact_rows (rows_of kinds c.loop-row.keys) (x ∷ []) (drop (i + 1) rows) ∙ ap (set.without_all (rows_of kinds c.loop-row.keys)) (sym here) ∙ c.loop-row.invariant.rows;
+            rows = ap (λ s. set.without_all s (drop (i + 1) rows)) (ap (rows_of kinds) w.keys-is
+                ∙ sym (without_other kinds (rows_of kinds c.loop-row.keys) x have other))
+                ∙ without-append rows_total exact_rows (rows_of kinds c.loop-row.keys) (x ∷ []) (drop (i + 1) rows)
+                ∙ ap (set.without_all (rows_of kinds c.loop-row.keys)) (sym here) ∙ c.loop-row.invariant.rows;
             hold = subst (λ s. HoldRows kinds s) (sym w.keys-is) c.loop-row.invariant.hold;
           }
     ]
@@ -42,5 +51,7 @@ loop-row-preserved c =
 pub returns-clause-rows : goal.returns-clause-rows
 returns-clause-rows c =
     let kinds = c.args.kinds.now in
-    let none : drop c.loop-row.row-index c.args.rows.now ≡ [] = drop_all c.loop-row.row-index c.args.rows.now (omega arith) in
-    sym (without-nothing rows_total exact_rows (rows_of kinds c.loop-row.keys)) ∙ ap (set.without_all (rows_of kinds c.loop-row.keys)) (sym none) ∙ c.loop-row.invariant.rows
+    let none : drop c.loop-row.row-index c.args.rows.now ≡ [] = drop_all c.loop-row.row-index c.args.rows.now
+    (omega arith) in
+    sym (without-nothing rows_total exact_rows (rows_of kinds c.loop-row.keys))
+    ∙ ap (set.without_all (rows_of kinds c.loop-row.keys)) (sym none) ∙ c.loop-row.invariant.rows

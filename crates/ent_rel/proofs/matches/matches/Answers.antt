@@ -24,11 +24,13 @@ loop-row-preserved-in_ok-push g c =
     let found = c.loop-row.found.items in
     let row = c.in-Some.row in
     let next = walk_next all old new found row c.in-Some.ensures c.loop-row.invariant.there in
-    let pushed : c.push.new.self.items ≡ found ++ row ∷ [] = c.in_ok-push.ensures.items ∙ ap (λ y. found ++ y ∷ []) c.in_ok-to_row.ensures in
+    let pushed : c.push.new.self.items ≡ found ++ row ∷ [] = c.in_ok-push.ensures.items
+    ∙ ap (λ y. found ++ y ∷ []) c.in_ok-to_row.ensures in
     rw pushed record {
       passing = λ passes computes.
           walk_kept all old new found row c.in-Some.ensures passes
-          (sym (computes row c.test.result (there all row next.0) (says_at g.F.Fn c.test.ensures refl)) ∙ c.if-test.true)
+          (sym (computes row c.test.result (there all row next.0) (says_at g.F.Fn c.test.ensures refl))
+          ∙ c.if-test.true)
           (c.loop-row.invariant.passing passes computes);
       part = walk_part_kept all old new found row c.in-Some.ensures c.loop-row.invariant.part;
       there = next.1;
@@ -45,7 +47,8 @@ loop-row-preserved g c =
     record {
       passing = λ passes computes.
           walk_left all old new found row c.in-Some.ensures passes
-          (sym (computes row c.test.result (there all row next.0) (says_at g.F.Fn c.test.ensures refl)) ∙ c.if-test.false)
+          (sym (computes row c.test.result (there all row next.0) (says_at g.F.Fn c.test.ensures refl))
+          ∙ c.if-test.false)
           (c.loop-row.invariant.passing passes computes);
       part = walk_part_left all old new found row c.in-Some.ensures c.loop-row.invariant.part;
       there = next.1;

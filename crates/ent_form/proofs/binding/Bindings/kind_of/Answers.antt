@@ -9,7 +9,7 @@ pub loop-binding-preserved : goal.loop-binding-preserved
 loop-binding-preserved c =
     let binding = c.binding-item.result in
     let more = bound_more c.as_slice-binding-items.result.now c.args.name.now c.loop-binding.found
-        c.loop-binding.binding-index binding c.loop-binding-test.true c.binding-item.is c.loop-binding.invariant in
+    c.loop-binding.binding-index binding c.loop-binding-test.true c.binding-item.is c.loop-binding.invariant in
     let chosen : Bool → Option Kind = λ b. if b then Some binding.kind else c.loop-binding.found in
     elim c.if-eq.branch [
       | then-eq w ↦ w.found-is ∙ ap chosen (sym w.if-eq.true ∙ c.eq.ensures) ∙ more

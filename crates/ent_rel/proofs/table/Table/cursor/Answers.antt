@@ -14,5 +14,6 @@ new-requires c =
 pub returns : goal.returns
 returns c =
     let kinds = c.self.inside.kinds.items in
-    c.new.ensures ∙ rw (c.deref.ensures.value, c.cursor.ensures) (sym (ascending_rows kinds c.self.inside.keys c.self.invariant.fitting))
+    c.new.ensures ∙ rw (c.deref.ensures.value, c.cursor.ensures) (sym
+    (ascending_rows kinds c.self.inside.keys c.self.invariant.fitting))
     ∙ ap (λ (t : Relation). set.ascending t.rows) c.self.view_is

@@ -15,8 +15,10 @@ returns-clause-change g c = λ passes computes.
     let s = c.args.self.now.rows in
     let rows = set.ascending s in
     let met : List Value → Bool = λ row. has_first c.args.values.now row && passes row in
-    let removed : filter met rows ≡ c.from_vec.result = sym (c.from_vec.ensures ∙ c.in_ok-matched.ensures.passing passes computes) in
-    let count : length (filter met rows) ≡ c.len.result = ap length (removed ∙ c.from_vec.ensures) ∙ sym c.in_ok-matched.matched.ok.0 ∙ sym c.len.ensures in
+    let removed : filter met rows ≡ c.from_vec.result = sym (c.from_vec.ensures
+    ∙ c.in_ok-matched.ensures.passing passes computes) in
+    let count : length (filter met rows) ≡ c.len.result = ap length (removed ∙ c.from_vec.ensures)
+    ∙ sym c.in_ok-matched.matched.ok.0 ∙ sym c.len.ensures in
     sym (ap (λ t. deletion t met) (sym (ascending_all s)) ∙ deletion_filter rows met (ascending_distinct s)
     ∙ (λ i. (count i, changed_rows (ascending_all s i) (removed i) (sym c.new.ensures i))))
 
@@ -26,4 +28,5 @@ returns-clause-fits g c =
     let rows = set.ascending s in
     let P : List (List Value) → Type 0 = λ part. IsPart rows part in
     let part = subst P (sym c.from_vec.ensures) c.in_ok-matched.ensures.part in
-    fits_part s rows c.from_vec.result c.new.result (ascending_all s) (ascending_distinct s) (omega (arith, ascending_len s, c.in_ok-matched.ensures.limit)) part (omega (arith, ap length c.new.ensures))
+    fits_part s rows c.from_vec.result c.new.result (ascending_all s) (ascending_distinct s) (omega
+    (arith, ascending_len s, c.in_ok-matched.ensures.limit)) part (omega (arith, ap length c.new.ensures))

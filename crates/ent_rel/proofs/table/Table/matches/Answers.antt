@@ -14,7 +14,8 @@ returns-clause-passing g c = λ passes computes.
     let found = c.in_ok-look_up.field-0 in
     ok_then _ _ c.matches.result
     (λ rows is. is ∙ ap (filter passes) c.in_ok-look_up.ensures ∙ filter_both first passes (set.ascending s))
-    (c.matches.ensures.passing passes (found_computes g.F.Fn c.args.test s first passes found c.in_ok-look_up.ensures computes))
+    (c.matches.ensures.passing passes (found_computes g.F.Fn c.args.test s first passes found c.in_ok-look_up.ensures
+    computes))
 
 pub returns-clause-part : goal.returns-clause-part
 returns-clause-part g c =

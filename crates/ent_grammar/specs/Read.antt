@@ -1,0 +1,19 @@
+-- What a reader gives, and the token at the front of tokens.
+use Rattle.std.specs.Prelude.{ℕ, Bool, false, List, [], ◌∷◌, Result}
+use Rattle.ent_text.specs.declared.token.Token.{Token}
+use Rattle.ent_text.specs.declared.token.TokenKind.{TokenKind}
+use Rattle.ent_grammar.specs.declared.fault.GrammarFault.{GrammarFault}
+
+-- a value and the tokens behind it, or a fault
+abbrev pub Read : Type 0 → Type 0
+Read A = Result (A × List Token) GrammarFault
+
+-- where the first of these tokens stands; the end, if there is none
+abbrev pub place_of : ℕ → List Token → ℕ
+place_of end [] = end
+place_of end (t ∷ ts) = t.start
+
+-- the first of these tokens passes
+abbrev pub begins : (TokenKind → Bool) → List Token → Bool
+begins test [] = false
+begins test (t ∷ ts) = test t.kind

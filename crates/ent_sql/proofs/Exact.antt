@@ -1,0 +1,95 @@
+-- What is read of a text is what it says, and each fault is answered where it is the first.
+use Rattle.std.proofs.Common.{◌≡◌, ℕ, true, List, length, Result, Ok, Err, refl, ap, ◌∙◌}
+use Rattle.ent_text.specs.declared.token.Token.{Token}
+use Rattle.ent_text.specs.declared.fault.TextFault.{TextFault}
+use Rattle.ent_text.specs.Lexing.{tokens_of}
+use Rattle.ent_grammar.specs.declared.fault.GrammarFault.{GrammarFault}
+use Rattle.ent_grammar.specs.declared.fault.GrammarFault.TheVariants as grammar
+use Rattle.ent_grammar.specs.Grammar.{reads_all}
+use Rattle.ent_grammar.proofs.Stopped.{read_is_spelled, spelled_is_read, unexpected_cant_follow, too_many_is_too_much}
+use Rattle.ent_grammar.proofs.Place.{cant_follow_is_unexpected, too_much_is_too_many}
+use Rattle.ent_tree.specs.declared.script.Input.{Input}
+use Rattle.ent_sql.specs.declared.fault.SqlFault.TheVariants.{Text, Unexpected, TooMany}
+use Rattle.ent_sql.specs.Scripts.{input}
+use Rattle.ent_sql.specs.Reading.{reading, with_tokens, with_fault}
+use Rattle.ent_sql.specs.Says.{Says}
+use Rattle.ent_sql.specs.FirstFault.{CantFollow, IsTooMuch}
+use Rattle.ent_sql.proofs.Foreseen.{input_next}
+
+-- ---- through the conversion of faults
+
+input_of_fault : (r : Result Input GrammarFault) (tree : Input) → with_fault r ≡ Ok tree → r ≡ Ok tree
+input_of_fault (Ok x) tree e = let k : x ≡ tree = cc in ap (λ (y : Input). let s : Result Input GrammarFault = Ok y in s) k
+input_of_fault (Err f) tree e = absurd cc
+
+unexpected_of : (r : Result Input GrammarFault) (place : ℕ) → with_fault r ≡ Err (Unexpected place) → r ≡ Err (grammar.Unexpected place)
+unexpected_of (Ok x) place e = absurd cc
+unexpected_of (Err (grammar.Unexpected p)) place e = let k : p ≡ place = cc in ap (λ (n : ℕ). let s : Result Input GrammarFault = Err (grammar.Unexpected n) in s) k
+unexpected_of (Err (grammar.TooMany p)) place e = absurd cc
+
+too_many_of : (r : Result Input GrammarFault) (place : ℕ) → with_fault r ≡ Err (TooMany place) → r ≡ Err (grammar.TooMany place)
+too_many_of (Ok x) place e = absurd cc
+too_many_of (Err (grammar.TooMany p)) place e = let k : p ≡ place = cc in ap (λ (n : ℕ). let s : Result Input GrammarFault = Err (grammar.TooMany n) in s) k
+too_many_of (Err (grammar.Unexpected p)) place e = absurd cc
+
+never_text : (r : Result Input GrammarFault) (f : TextFault) → with_fault r ≡ Err (Text f) → ⊥
+never_text (Ok x) f e = absurd cc
+never_text (Err (grammar.Unexpected p)) f e = absurd cc
+never_text (Err (grammar.TooMany p)) f e = absurd cc
+
+-- ---- with tokens
+
+says_from : (text : List ℕ) (tree : Input) (r : Result (List Token) TextFault) → tokens_of text ≡ r → with_tokens r (length text) ≡ Ok tree → Says text tree
+says_from text tree (Ok ts) is e = record { tokens = ts; are_tokens = is; spelled = read_is_spelled input input_next (length text) ts tree (input_of_fault (reads_all input (length text) ts) tree e) true }
+says_from text tree (Err f) is e = absurd cc
+
+follow_from : (text : List ℕ) (place : ℕ) (r : Result (List Token) TextFault) → tokens_of text ≡ r → with_tokens r (length text) ≡ Err (Unexpected place) → CantFollow text place
+follow_from text place (Ok ts) is e = record { tokens = ts; are_tokens = is; stands = unexpected_cant_follow input input_next (length text) ts place (unexpected_of (reads_all input (length text) ts) place e) }
+follow_from text place (Err f) is e = absurd cc
+
+much_from : (text : List ℕ) (place : ℕ) (r : Result (List Token) TextFault) → tokens_of text ≡ r → with_tokens r (length text) ≡ Err (TooMany place) → IsTooMuch text place
+much_from text place (Ok ts) is e = record { tokens = ts; are_tokens = is; stands = too_many_is_too_much input input_next (length text) ts place (too_many_of (reads_all input (length text) ts) place e) }
+much_from text place (Err f) is e = absurd cc
+
+text_from : (text : List ℕ) (f : TextFault) (r : Result (List Token) TextFault) → tokens_of text ≡ r → with_tokens r (length text) ≡ Err (Text f) → tokens_of text ≡ Err f
+text_from text f (Ok ts) is e = absurd (never_text (reads_all input (length text) ts) f e)
+text_from text f (Err g) is e = let k : g ≡ f = cc in is ∙ ap (λ (h : TextFault). let s : Result (List Token) TextFault = Err h in s) k
+
+-- a text with these tokens
+with_these : (text : List ℕ) (tokens : List Token) → tokens_of text ≡ Ok tokens → reading text ≡ with_fault (reads_all input (length text) tokens)
+unfolding reading
+with_these text tokens is = ap (λ (r : Result (List Token) TextFault). with_tokens r (length text)) is
+
+-- ---- a text
+
+pub read_is_said : (text : List ℕ) (tree : Input) → reading text ≡ Ok tree → Says text tree
+unfolding reading
+read_is_said text tree e = says_from text tree (tokens_of text) refl e
+
+pub said_is_read : (text : List ℕ) (tree : Input) → Says text tree → reading text ≡ Ok tree
+said_is_read text tree h = with_these text h.tokens h.are_tokens ∙ ap (λ (r : Result Input GrammarFault). with_fault r) (spelled_is_read input input_next (length text) h.tokens tree h.spelled)
+
+pub one_is_said : (text : List ℕ) (one other : Input) → Says text one → Says text other → one ≡ other
+one_is_said text one other h k = let a = said_is_read text one h in let b = said_is_read text other k in cc
+
+pub text_fault_is : (text : List ℕ) (f : TextFault) → reading text ≡ Err (Text f) → tokens_of text ≡ Err f
+unfolding reading
+text_fault_is text f e = text_from text f (tokens_of text) refl e
+
+pub text_fault_first : (text : List ℕ) (f : TextFault) → tokens_of text ≡ Err f → reading text ≡ Err (Text f)
+unfolding reading
+text_fault_first text f e = ap (λ (r : Result (List Token) TextFault). with_tokens r (length text)) e
+
+pub unexpected_is : (text : List ℕ) (place : ℕ) → reading text ≡ Err (Unexpected place) → CantFollow text place
+unfolding reading
+unexpected_is text place e = follow_from text place (tokens_of text) refl e
+
+pub unexpected_so : (text : List ℕ) (place : ℕ) → CantFollow text place → reading text ≡ Err (Unexpected place)
+unexpected_so text place h = with_these text h.tokens h.are_tokens ∙ ap (λ (r : Result Input GrammarFault). with_fault r) (cant_follow_is_unexpected input (length text) h.tokens input_next place h.stands)
+
+pub too_many_is : (text : List ℕ) (place : ℕ) → reading text ≡ Err (TooMany place) → IsTooMuch text place
+unfolding reading
+too_many_is text place e = much_from text place (tokens_of text) refl e
+
+pub too_many_so : (text : List ℕ) (place : ℕ) → IsTooMuch text place → reading text ≡ Err (TooMany place)
+too_many_so text place h = with_these text h.tokens h.are_tokens ∙ ap (λ (r : Result Input GrammarFault). with_fault r) (too_much_is_too_many input (length text) h.tokens input_next place h.stands)

@@ -1,0 +1,4 @@
+mod Loops
+mod Foreseen
+mod Items
+mod Exact

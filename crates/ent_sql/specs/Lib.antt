@@ -1,0 +1,12 @@
+pub mod Notation
+pub mod Operands
+pub mod Tables
+pub mod Selects
+pub mod Entangling
+pub mod Statements
+pub mod Scripts
+pub mod Front
+pub mod Fault
+pub mod Reading
+pub mod Says
+pub mod FirstFault

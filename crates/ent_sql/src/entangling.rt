@@ -1,0 +1,247 @@
+//! Entangled SELECT, and how a SELECT goes on behind its list.
+ghost use Rattle.std.specs.Prelude.{◌≡◌, ◌<◌, Ok, IfOk, IfErr, length, map};
+ghost use Rattle.ent_value.specs.declared.refusal.Refusal.TheVariants.{Memory};
+ghost use Rattle.ent_tree.specs.declared.limits.TheConstants.{MOST_PARTS};
+ghost use Rattle.ent_value.specs.Refusal.{Gives};
+ghost use Rattle.ent_grammar.specs.Grammar.{reads};
+ghost use Rattle.ent_sql.specs.Entangling.{is_term, are_terms, term_of, unbound, items_of, binding};
+ghost use Rattle.ent_sql.specs.Entangling.{entangled_item, entangled_items};
+ghost use Rattle.ent_sql.specs.Entangling.{entangled_behind, ordinary, entangled, query};
+
+use crate::condition::{conditions_at, one_at};
+use crate::front::begins_with_operand;
+use crate::list::{Item, appended, listed};
+use crate::operand::{name_at, term_at, variable_at};
+use crate::select::select_behind;
+use ent_grammar::{Divider, GrammarFault, begins_with_sign, begins_with_word, sign_at, word_at};
+use ent_text::{Keyword, Symbol, Token};
+use ent_tree::{Entangled, EntangledItem, Identifier, Items, MOST_PARTS, Operand, Statement, Term};
+use ent_value::{Limited, Refusal};
+use std::alloc::Global;
+
+/// Whether an operand can stand in an entangled statement, where no column is qualified.
+fn is_term(operand: &Operand) -> bool
+    ensures { result ≡ is_term operand.now }
+{
+    match operand {
+        Operand::Value(_) => true,
+        Operand::Column(column) => match &column.qualifier {
+            None => true,
+            Some(_) => false,
+        },
+    }
+}
+
+/// Whether all of these operands can stand in an entangled statement.
+fn are_terms(operands: &[Operand]) -> bool
+    ensures { result ≡ are_terms operands.now }
+{
+    let mut rest = operands;
+    while let [first, others @ ..] = rest {
+        if !is_term(first) {
+            return false;
+        }
+        rest = others;
+    }
+    true
+}
+
+/// The operand read as a term: a plain name is a written variable.
+fn term_of(operand: Operand) -> Term
+    ensures { result ≡ term_of operand }
+{
+    match operand {
+        Operand::Value(value) => Term::Value(value),
+        Operand::Column(column) => Term::Variable(column.column),
+    }
+}
+
+/// The operands read as items that bind nothing.
+fn unbound_items(
+    alloc: Global,
+    operands: Vec<Operand>,
+) -> Result<Limited<EntangledItem, MOST_PARTS>, Refusal<GrammarFault>>
+    requires { length operands.items < MOST_PARTS }
+    ensures value { IfOk result (λ items. items ≡ map unbound operands.items) }
+    ensures memory { IfErr result (λ refusal. refusal ≡ Memory) }
+{
+    let mut items = Limited::new(alloc);
+    for operand in operands {
+        let term = term_of(operand);
+        let binds = None;
+        items.push(EntangledItem { term, binds })?;
+    }
+    Ok(items)
+}
+
+/// The operands read as items, the last of which may bind a host variable.
+fn items_of(
+    alloc: Global,
+    operands: Limited<Operand, MOST_PARTS>,
+    binds: Option<Identifier>,
+) -> Result<Limited<EntangledItem, MOST_PARTS>, Refusal<GrammarFault>>
+    ensures { Gives (λ items. items) result (Ok (items_of operands binds)) }
+{
+    let mut others = operands.into_vec();
+    match others.pop() {
+        None => Ok(Limited::new(alloc)),
+        Some(last) => {
+            let mut items = unbound_items(alloc, others)?;
+            let term = term_of(last);
+            items.push(EntangledItem { term, binds })?;
+            Ok(items)
+        }
+    }
+}
+
+#[tactic(auto, unfolding(crate::specs::Entangling::binding))]
+fn binding_at(
+    alloc: Global,
+    end: usize,
+    tokens: &[Token],
+) -> Result<(Option<Identifier>, &[Token]), Refusal<GrammarFault>>
+    ensures { Gives (λ x. (x.0, x.1.now)) result (reads binding end tokens.now) }
+{
+    if begins_with_word(Keyword::As, tokens) {
+        let (_, rest) = word_at(Keyword::As, end, tokens)?;
+        let (variable, rest) = variable_at(alloc, end, rest)?;
+        Ok((Some(variable), rest))
+    } else {
+        Ok((None, tokens))
+    }
+}
+
+#[tactic(auto, unfolding(crate::specs::Entangling::entangled_item))]
+fn entangled_item_at(
+    alloc: Global,
+    end: usize,
+    tokens: &[Token],
+) -> Result<(EntangledItem, &[Token]), Refusal<GrammarFault>>
+    ensures { Gives (λ x. (x.0, x.1.now)) result (reads entangled_item end tokens.now) }
+{
+    let (term, rest) = term_at(alloc, end, tokens)?;
+    let (binds, rest) = binding_at(alloc, end, rest)?;
+    Ok((EntangledItem { term, binds }, rest))
+}
+
+impl Item for EntangledItem {
+    ghost use Rattle.ent_sql.specs.Entangling.{entangled_item};
+
+    ghost grammar = { entangled_item };
+
+    #[tactic(auto, unfolding(crate::specs::Entangling::entangled_item, crate::specs::Operands::term, crate::specs::Operands::operand, crate::specs::Operands::column_reference, crate::specs::Operands::identifier, crate::specs::Operands::value, crate::specs::Operands::host_variable, crate::specs::Operands::literal, crate::specs::Operands::negative, crate::specs::Operands::unsigned, crate::specs::Operands::positive, crate::specs::Operands::quoted))]
+    fn is_start(tokens: &[Token]) -> bool {
+        begins_with_operand(tokens)
+    }
+
+    fn read(
+        alloc: Global,
+        end: usize,
+        tokens: &[Token],
+    ) -> Result<(Self, &[Token]), Refusal<GrammarFault>> {
+        entangled_item_at(alloc, end, tokens)
+    }
+}
+
+/// The items of an entangled statement, behind the operands before its first AS.
+#[tactic(auto, unfolding(crate::specs::Entangling::entangled_items))]
+fn entangled_items_at(
+    alloc: Global,
+    operands: Limited<Operand, MOST_PARTS>,
+    end: usize,
+    tokens: &[Token],
+) -> Result<(Limited<EntangledItem, MOST_PARTS>, &[Token]), Refusal<GrammarFault>>
+    ensures { Gives (λ x. (x.0, x.1.now)) result (reads (entangled_items operands) end tokens.now) }
+{
+    if begins_with_word(Keyword::As, tokens) {
+        let (_, rest) = word_at(Keyword::As, end, tokens)?;
+        let (variable, rest) = variable_at(alloc, end, rest)?;
+        let items = items_of(alloc, operands, Some(variable))?;
+        appended(alloc, Divider::Comma, items, end, rest)
+    } else {
+        let items = items_of(alloc, operands, None)?;
+        Ok((items, tokens))
+    }
+}
+
+/// The entangled statement with these items, from its INTO on.
+#[tactic(auto, unfolding(crate::specs::Entangling::entangled_behind))]
+fn entangled_behind(
+    alloc: Global,
+    items: Limited<EntangledItem, MOST_PARTS>,
+    end: usize,
+    tokens: &[Token],
+) -> Result<(Entangled, &[Token]), Refusal<GrammarFault>>
+    ensures { Gives (λ x. (x.0, x.1.now)) result (reads (entangled_behind items) end tokens.now) }
+{
+    let (place, rest) = word_at(Keyword::Into, end, tokens)?;
+    let (relations, rest) = listed(alloc, Divider::Comma, end, rest)?;
+    let (conditions, rest) = conditions_at(alloc, end, rest)?;
+    let (_, rest) = word_at(Keyword::Choose, end, rest)?;
+    let (_, rest) = one_at(end, rest)?;
+    Ok((
+        Entangled {
+            items,
+            place,
+            relations,
+            conditions,
+        },
+        rest,
+    ))
+}
+
+#[tactic(auto, unfolding(crate::specs::Entangling::ordinary))]
+fn ordinary_at(
+    alloc: Global,
+    operands: Limited<Operand, MOST_PARTS>,
+    end: usize,
+    tokens: &[Token],
+) -> Result<(Statement, &[Token]), Refusal<GrammarFault>>
+    ensures { Gives (λ x. (x.0, x.1.now)) result (reads (ordinary operands) end tokens.now) }
+{
+    let (select, rest) = select_behind(alloc, Items::Listed(operands), end, tokens)?;
+    Ok((Statement::Select(select), rest))
+}
+
+#[tactic(auto, unfolding(crate::specs::Entangling::entangled))]
+fn entangled_at(
+    alloc: Global,
+    operands: Limited<Operand, MOST_PARTS>,
+    end: usize,
+    tokens: &[Token],
+) -> Result<(Statement, &[Token]), Refusal<GrammarFault>>
+    ensures { Gives (λ x. (x.0, x.1.now)) result (reads (entangled operands) end tokens.now) }
+{
+    let (items, rest) = entangled_items_at(alloc, operands, end, tokens)?;
+    let (entangled, rest) = entangled_behind(alloc, items, end, rest)?;
+    Ok((Statement::Entangled(entangled), rest))
+}
+
+/// A SELECT of either kind: what stands behind its list decides.
+#[tactic(auto, unfolding(crate::specs::Entangling::query, crate::specs::Entangling::ordinary, crate::specs::Selects::select_behind))]
+pub(crate) fn query_at(
+    alloc: Global,
+    end: usize,
+    tokens: &[Token],
+) -> Result<(Statement, &[Token]), Refusal<GrammarFault>>
+    ensures { Gives (λ x. (x.0, x.1.now)) result (reads query end tokens.now) }
+{
+    let (_, rest) = word_at(Keyword::Select, end, tokens)?;
+    if begins_with_sign(Symbol::Star, rest) {
+        let (_, rest) = sign_at(Symbol::Star, end, rest)?;
+        let (select, rest) = select_behind(alloc, Items::All, end, rest)?;
+        Ok((Statement::Select(select), rest))
+    } else {
+        let (operands, rest) = listed(alloc, Divider::Comma, end, rest)?;
+        let may_be_entangled = are_terms(operands.as_slice());
+        if may_be_entangled {
+            if begins_with_word(Keyword::From, rest) {
+                ordinary_at(alloc, operands, end, rest)
+            } else {
+                entangled_at(alloc, operands, end, rest)
+            }
+        } else {
+            ordinary_at(alloc, operands, end, rest)
+        }
+    }
+}

@@ -1,0 +1,96 @@
+//! Lists of things, up to a limit.
+ghost use Rattle.std.specs.Prelude.{◌≡◌, ◌<◌, ◌-◌, ◌++◌, length};
+ghost use Rattle.ent_value.specs.Refusal.{Gives};
+ghost use Rattle.ent_grammar.specs.Read.{begins};
+ghost use Rattle.ent_grammar.specs.Class.{among};
+ghost use Rattle.ent_grammar.specs.Grammar.{Grammar, give, chain, more, firsts, reads, listed, many};
+
+use ent_grammar::{Divider, GrammarFault, begins_with_divider, tail, too_many, unexpected};
+use ent_text::Token;
+use ent_value::{Limited, Refusal};
+use std::alloc::Global;
+
+/// A thing of which lists are made.
+pub trait Item: Drop {
+    ghost grammar: { Grammar Self };
+
+    /// Whether the token at the front begins one.
+    fn is_start(tokens: &[Token]) -> bool
+        ensures { result ≡ begins (among (firsts grammar)) tokens.now };
+
+    fn read(
+        alloc: Global,
+        end: usize,
+        tokens: &[Token],
+    ) -> Result<(Self, &[Token]), Refusal<GrammarFault>>
+        ensures { Gives (λ x. (x.0, x.1.now)) result (reads grammar end tokens.now) };
+}
+
+/// Things that were read, and those behind them, each behind a divider: `LIMIT` at most in all.
+pub fn appended<T: Item, const LIMIT: usize>(
+    alloc: Global,
+    divider: Divider,
+    before: Limited<T, LIMIT>,
+    end: usize,
+    tokens: &[Token],
+) -> Result<(Limited<T, LIMIT>, &[Token]), Refusal<GrammarFault>>
+    ensures { Gives (λ x. (x.0, x.1.now)) result
+        (reads (chain (more (LIMIT - length before) divider T.grammar) (λ xs. give (before ++ xs))) end tokens.now) }
+{
+    let mut items = before;
+    let mut rest = tokens;
+    let mut left = LIMIT - items.len();
+    'things: while begins_with_divider(divider, rest) {
+        let next = tail(rest);
+        if left == 0 {
+            if T::is_start(next) {
+                return Err(too_many(end, next));
+            }
+            return Err(unexpected(end, next));
+        }
+        let (item, after) = T::read(alloc, end, next)?;
+        items.push(item)?;
+        rest = after;
+        left -= 1;
+    }
+    Ok((items, rest))
+}
+
+/// Things with dividers between them: one at least, `LIMIT` at most.
+pub fn listed<T: Item, const LIMIT: usize>(
+    alloc: Global,
+    divider: Divider,
+    end: usize,
+    tokens: &[Token],
+) -> Result<(Limited<T, LIMIT>, &[Token]), Refusal<GrammarFault>>
+    requires { 0 < LIMIT }
+    ensures { Gives (λ x. (x.0, x.1.now)) result (reads (listed LIMIT divider T.grammar) end tokens.now) }
+{
+    let (first, rest) = T::read(alloc, end, tokens)?;
+    let mut items = Limited::new(alloc);
+    items.push(first)?;
+    appended(alloc, divider, items, end, rest)
+}
+
+/// Things one behind the other, `LIMIT` at most.
+pub fn many<T: Item, const LIMIT: usize>(
+    alloc: Global,
+    end: usize,
+    tokens: &[Token],
+) -> Result<(Limited<T, LIMIT>, &[Token]), Refusal<GrammarFault>>
+    ensures { Gives (λ x. (x.0, x.1.now)) result (reads (many LIMIT T.grammar) end tokens.now) }
+{
+    let mut items = Limited::new(alloc);
+    let mut rest = tokens;
+    let mut left = LIMIT;
+    'things: while T::is_start(rest) {
+        if left == 0 {
+            return Err(too_many(end, rest));
+        }
+        let (item, after) = T::read(alloc, end, rest)?;
+        items.push(item)?;
+        rest = after;
+        left -= 1;
+    }
+    Ok((items, rest))
+}

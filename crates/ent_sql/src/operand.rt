@@ -1,0 +1,262 @@
+//! Values and operands.
+ghost use Rattle.std.specs.Prelude.{◌≡◌};
+ghost use Rattle.ent_value.specs.Refusal.{Gives};
+ghost use Rattle.ent_grammar.specs.Grammar.{reads};
+ghost use Rattle.ent_sql.specs.Operands.{identifier, host_variable, negative, unsigned, literal, value};
+ghost use Rattle.ent_sql.specs.Operands.{column_reference, operand, term};
+
+use crate::front::{
+    begins_with_literal, begins_with_name, begins_with_operand, begins_with_value,
+    begins_with_variable,
+};
+use crate::list::Item;
+use ent_grammar::{GrammarFault, begins_with_sign, sign_at, unexpected};
+use ent_text::{Symbol, Token, TokenKind};
+use ent_tree::{ColumnReference, Identifier, Literal, Operand, Term, ValueSpecification};
+use ent_value::{Refusal, Value};
+use std::alloc::Global;
+
+/// The name at the front.
+#[tactic(auto, unfolding(crate::specs::Operands::identifier))]
+pub(crate) fn name_at(
+    alloc: Global,
+    end: usize,
+    tokens: &[Token],
+) -> Result<(Identifier, &[Token]), Refusal<GrammarFault>>
+    ensures { Gives (λ x. (x.0, x.1.now)) result (reads identifier end tokens.now) }
+{
+    match tokens {
+        [] => Err(unexpected(end, tokens)),
+        [token, rest @ ..] => match &token.kind {
+            TokenKind::Name(name) => {
+                let name = name.copy(alloc)?;
+                let place = token.start;
+                Ok((Identifier { name, place }, rest))
+            }
+            _ => Err(unexpected(end, tokens)),
+        },
+    }
+}
+
+/// The host variable at the front.
+#[tactic(auto, unfolding(crate::specs::Operands::host_variable))]
+pub(crate) fn variable_at(
+    alloc: Global,
+    end: usize,
+    tokens: &[Token],
+) -> Result<(Identifier, &[Token]), Refusal<GrammarFault>>
+    ensures { Gives (λ x. (x.0, x.1.now)) result (reads host_variable end tokens.now) }
+{
+    match tokens {
+        [] => Err(unexpected(end, tokens)),
+        [token, rest @ ..] => match &token.kind {
+            TokenKind::HostVariable(name) => {
+                let name = name.copy(alloc)?;
+                let place = token.start;
+                Ok((Identifier { name, place }, rest))
+            }
+            _ => Err(unexpected(end, tokens)),
+        },
+    }
+}
+
+/// A minus sign and the number behind it.
+#[tactic(auto, unfolding(crate::specs::Operands::negative))]
+fn negative_at(end: usize, tokens: &[Token]) -> Result<(Literal, &[Token]), Refusal<GrammarFault>>
+    ensures { Gives (λ x. (x.0, x.1.now)) result (reads negative end tokens.now) }
+{
+    let (place, rest) = sign_at(Symbol::Minus, end, tokens)?;
+    match rest {
+        [] => Err(unexpected(end, rest)),
+        [token, rest_behind @ ..] => match &token.kind {
+            TokenKind::Number(number) => {
+                let value = Value::Int(number.negative());
+                Ok((Literal { value, place }, rest_behind))
+            }
+            _ => Err(unexpected(end, rest)),
+        },
+    }
+}
+
+#[tactic(auto, unfolding(crate::specs::Operands::unsigned, crate::specs::Operands::positive, crate::specs::Operands::quoted))]
+fn unsigned_at(
+    alloc: Global,
+    end: usize,
+    tokens: &[Token],
+) -> Result<(Literal, &[Token]), Refusal<GrammarFault>>
+    ensures { Gives (λ x. (x.0, x.1.now)) result (reads unsigned end tokens.now) }
+{
+    match tokens {
+        [] => Err(unexpected(end, tokens)),
+        [token, rest @ ..] => {
+            let value = match &token.kind {
+                TokenKind::Number(number) => Value::Int(number.positive()),
+                TokenKind::Literal(text) => Value::Text(text.copy(alloc)?),
+                _ => return Err(unexpected(end, tokens)),
+            };
+            let place = token.start;
+            Ok((Literal { value, place }, rest))
+        }
+    }
+}
+
+#[tactic(auto, unfolding(crate::specs::Operands::literal, crate::specs::Operands::negative))]
+fn literal_at(
+    alloc: Global,
+    end: usize,
+    tokens: &[Token],
+) -> Result<(Literal, &[Token]), Refusal<GrammarFault>>
+    ensures { Gives (λ x. (x.0, x.1.now)) result (reads literal end tokens.now) }
+{
+    if begins_with_sign(Symbol::Minus, tokens) {
+        negative_at(end, tokens)
+    } else {
+        unsigned_at(alloc, end, tokens)
+    }
+}
+
+#[tactic(auto, unfolding(crate::specs::Operands::value, crate::specs::Operands::host_variable))]
+pub(crate) fn value_at(
+    alloc: Global,
+    end: usize,
+    tokens: &[Token],
+) -> Result<(ValueSpecification, &[Token]), Refusal<GrammarFault>>
+    ensures { Gives (λ x. (x.0, x.1.now)) result (reads value end tokens.now) }
+{
+    if begins_with_variable(tokens) {
+        let (variable, rest) = variable_at(alloc, end, tokens)?;
+        Ok((ValueSpecification::HostVariable(variable), rest))
+    } else {
+        let (literal, rest) = literal_at(alloc, end, tokens)?;
+        Ok((ValueSpecification::Literal(literal), rest))
+    }
+}
+
+/// A name, with another behind it where a dot follows.
+#[tactic(auto, unfolding(crate::specs::Operands::column_reference))]
+fn reference_at(
+    alloc: Global,
+    end: usize,
+    tokens: &[Token],
+) -> Result<(ColumnReference, &[Token]), Refusal<GrammarFault>>
+    ensures { Gives (λ x. (x.0, x.1.now)) result (reads column_reference end tokens.now) }
+{
+    let (first, rest) = name_at(alloc, end, tokens)?;
+    if begins_with_sign(Symbol::Dot, rest) {
+        let (_, rest) = sign_at(Symbol::Dot, end, rest)?;
+        let (column, rest) = name_at(alloc, end, rest)?;
+        let qualifier = Some(first);
+        Ok((ColumnReference { qualifier, column }, rest))
+    } else {
+        let qualifier = None;
+        let column = first;
+        Ok((ColumnReference { qualifier, column }, rest))
+    }
+}
+
+#[tactic(auto, unfolding(crate::specs::Operands::operand, crate::specs::Operands::column_reference, crate::specs::Operands::identifier))]
+fn operand_at(
+    alloc: Global,
+    end: usize,
+    tokens: &[Token],
+) -> Result<(Operand, &[Token]), Refusal<GrammarFault>>
+    ensures { Gives (λ x. (x.0, x.1.now)) result (reads operand end tokens.now) }
+{
+    if begins_with_name(tokens) {
+        let (column, rest) = reference_at(alloc, end, tokens)?;
+        Ok((Operand::Column(column), rest))
+    } else {
+        let (value, rest) = value_at(alloc, end, tokens)?;
+        Ok((Operand::Value(value), rest))
+    }
+}
+
+#[tactic(auto, unfolding(crate::specs::Operands::term, crate::specs::Operands::identifier))]
+pub(crate) fn term_at(
+    alloc: Global,
+    end: usize,
+    tokens: &[Token],
+) -> Result<(Term, &[Token]), Refusal<GrammarFault>>
+    ensures { Gives (λ x. (x.0, x.1.now)) result (reads term end tokens.now) }
+{
+    if begins_with_name(tokens) {
+        let (variable, rest) = name_at(alloc, end, tokens)?;
+        Ok((Term::Variable(variable), rest))
+    } else {
+        let (value, rest) = value_at(alloc, end, tokens)?;
+        Ok((Term::Value(value), rest))
+    }
+}
+
+impl Item for Literal {
+    ghost use Rattle.ent_sql.specs.Operands.{literal};
+
+    ghost grammar = { literal };
+
+    fn is_start(tokens: &[Token]) -> bool {
+        begins_with_literal(tokens)
+    }
+
+    fn read(
+        alloc: Global,
+        end: usize,
+        tokens: &[Token],
+    ) -> Result<(Self, &[Token]), Refusal<GrammarFault>> {
+        literal_at(alloc, end, tokens)
+    }
+}
+
+impl Item for ValueSpecification {
+    ghost use Rattle.ent_sql.specs.Operands.{value};
+
+    ghost grammar = { value };
+
+    fn is_start(tokens: &[Token]) -> bool {
+        begins_with_value(tokens)
+    }
+
+    fn read(
+        alloc: Global,
+        end: usize,
+        tokens: &[Token],
+    ) -> Result<(Self, &[Token]), Refusal<GrammarFault>> {
+        value_at(alloc, end, tokens)
+    }
+}
+
+impl Item for Operand {
+    ghost use Rattle.ent_sql.specs.Operands.{operand};
+
+    ghost grammar = { operand };
+
+    fn is_start(tokens: &[Token]) -> bool {
+        begins_with_operand(tokens)
+    }
+
+    fn read(
+        alloc: Global,
+        end: usize,
+        tokens: &[Token],
+    ) -> Result<(Self, &[Token]), Refusal<GrammarFault>> {
+        operand_at(alloc, end, tokens)
+    }
+}
+
+impl Item for Term {
+    ghost use Rattle.ent_sql.specs.Operands.{term};
+
+    ghost grammar = { term };
+
+    #[tactic(auto, unfolding(crate::specs::Operands::term, crate::specs::Operands::operand, crate::specs::Operands::column_reference, crate::specs::Operands::identifier, crate::specs::Operands::value, crate::specs::Operands::host_variable, crate::specs::Operands::literal, crate::specs::Operands::negative, crate::specs::Operands::unsigned, crate::specs::Operands::positive, crate::specs::Operands::quoted))]
+    fn is_start(tokens: &[Token]) -> bool {
+        begins_with_operand(tokens)
+    }
+
+    fn read(
+        alloc: Global,
+        end: usize,
+        tokens: &[Token],
+    ) -> Result<(Self, &[Token]), Refusal<GrammarFault>> {
+        term_at(alloc, end, tokens)
+    }
+}

@@ -1,0 +1,106 @@
+//! Scripts.
+ghost use Rattle.std.specs.Prelude.{◌≡◌};
+ghost use Rattle.ent_value.specs.Refusal.{Gives};
+ghost use Rattle.ent_grammar.specs.Grammar.{reads, up_to};
+ghost use Rattle.ent_tree.specs.declared.limits.TheConstants.{MOST_RUNS};
+ghost use Rattle.ent_sql.specs.Scripts.{within, ending, script};
+
+use crate::list::{Item, many};
+use ent_grammar::{GrammarFault, begins_with_word, sign_at, too_many, unexpected, word_at};
+use ent_text::{Keyword, Symbol, Token, TokenKind};
+use ent_tree::{DEFAULT_RUNS, End, MOST_RUNS, Script};
+use ent_value::Refusal;
+use std::alloc::Global;
+
+/// A number from 1 on, which is too much where more runs are asked for than there may be.
+fn runs_at(end: usize, tokens: &[Token]) -> Result<((u64, usize), &[Token]), Refusal<GrammarFault>>
+    ensures { Gives (λ x. (x.0, x.1.now)) result (reads (up_to MOST_RUNS) end tokens.now) }
+{
+    match tokens {
+        [] => Err(unexpected(end, tokens)),
+        [token, rest @ ..] => match &token.kind {
+            TokenKind::Number(number) => {
+                let runs = number.value();
+                if runs < 1 {
+                    Err(unexpected(end, tokens))
+                } else if runs <= MOST_RUNS {
+                    Ok(((runs, token.start), rest))
+                } else {
+                    Err(too_many(end, tokens))
+                }
+            }
+            _ => Err(unexpected(end, tokens)),
+        },
+    }
+}
+
+#[tactic(auto, unfolding(crate::specs::Scripts::within))]
+fn within_at(end: usize, tokens: &[Token]) -> Result<(u64, &[Token]), Refusal<GrammarFault>>
+    ensures { Gives (λ x. (x.0, x.1.now)) result (reads within end tokens.now) }
+{
+    if begins_with_word(Keyword::Within, tokens) {
+        let (_, rest) = word_at(Keyword::Within, end, tokens)?;
+        let (runs, rest) = runs_at(end, rest)?;
+        let (_, rest) = word_at(Keyword::Runs, end, rest)?;
+        Ok((runs.0, rest))
+    } else {
+        Ok((DEFAULT_RUNS, tokens))
+    }
+}
+
+#[tactic(auto, unfolding(crate::specs::Scripts::ending))]
+fn ending_at(end: usize, tokens: &[Token]) -> Result<(End, &[Token]), Refusal<GrammarFault>>
+    ensures { Gives (λ x. (x.0, x.1.now)) result (reads ending end tokens.now) }
+{
+    if begins_with_word(Keyword::Commit, tokens) {
+        let (_, rest) = word_at(Keyword::Commit, end, tokens)?;
+        Ok((End::Commit, rest))
+    } else {
+        let (_, rest) = word_at(Keyword::Rollback, end, tokens)?;
+        Ok((End::Rollback, rest))
+    }
+}
+
+#[tactic(auto, unfolding(crate::specs::Scripts::script))]
+fn script_at(
+    alloc: Global,
+    end: usize,
+    tokens: &[Token],
+) -> Result<(Script, &[Token]), Refusal<GrammarFault>>
+    ensures { Gives (λ x. (x.0, x.1.now)) result (reads script end tokens.now) }
+{
+    let (_, rest) = word_at(Keyword::Begin, end, tokens)?;
+    let (_, rest) = word_at(Keyword::Transaction, end, rest)?;
+    let (within, rest) = within_at(end, rest)?;
+    let (_, rest) = sign_at(Symbol::Semicolon, end, rest)?;
+    let (statements, rest) = many(alloc, end, rest)?;
+    let (ended, rest) = ending_at(end, rest)?;
+    let (_, rest) = sign_at(Symbol::Semicolon, end, rest)?;
+    Ok((
+        Script {
+            within,
+            statements,
+            end: ended,
+        },
+        rest,
+    ))
+}
+
+impl Item for Script {
+    ghost use Rattle.ent_sql.specs.Scripts.{script};
+
+    ghost grammar = { script };
+
+    #[tactic(auto, unfolding(crate::specs::Scripts::script))]
+    fn is_start(tokens: &[Token]) -> bool {
+        begins_with_word(Keyword::Begin, tokens)
+    }
+
+    fn read(
+        alloc: Global,
+        end: usize,
+        tokens: &[Token],
+    ) -> Result<(Self, &[Token]), Refusal<GrammarFault>> {
+        script_at(alloc, end, tokens)
+    }
+}

@@ -1,0 +1,177 @@
+//! Declarations of tables, and rows that are put in.
+ghost use Rattle.std.specs.Prelude.{◌≡◌};
+ghost use Rattle.ent_value.specs.Refusal.{Gives};
+ghost use Rattle.ent_grammar.specs.Grammar.{reads};
+ghost use Rattle.ent_sql.specs.Tables.{kind, column, create, row, opening_row, insert};
+
+use crate::front::begins_with_name;
+use crate::list::{Item, listed};
+use crate::operand::name_at;
+use ent_grammar::{Divider, GrammarFault, begins_with_word, sign_at, word_at};
+use ent_text::{Keyword, Symbol, Token};
+use ent_tree::{
+    Column, Create, Identifier, Insert, Literal, MOST_PARTS, OpeningRow, ValueSpecification,
+};
+use ent_value::{Kind, Limited, Refusal};
+use std::alloc::Global;
+
+#[tactic(auto, unfolding(crate::specs::Tables::kind))]
+fn kind_at(end: usize, tokens: &[Token]) -> Result<(Kind, &[Token]), Refusal<GrammarFault>>
+    ensures { Gives (λ x. (x.0, x.1.now)) result (reads kind end tokens.now) }
+{
+    if begins_with_word(Keyword::Int, tokens) {
+        let (_, rest) = word_at(Keyword::Int, end, tokens)?;
+        Ok((Kind::Int, rest))
+    } else {
+        let (_, rest) = word_at(Keyword::Text, end, tokens)?;
+        Ok((Kind::Text, rest))
+    }
+}
+
+#[tactic(auto, unfolding(crate::specs::Tables::column))]
+fn column_at(
+    alloc: Global,
+    end: usize,
+    tokens: &[Token],
+) -> Result<(Column, &[Token]), Refusal<GrammarFault>>
+    ensures { Gives (λ x. (x.0, x.1.now)) result (reads column end tokens.now) }
+{
+    let (name, rest) = name_at(alloc, end, tokens)?;
+    let (kind, rest) = kind_at(end, rest)?;
+    Ok((Column { name, kind }, rest))
+}
+
+impl Item for Column {
+    ghost use Rattle.ent_sql.specs.Tables.{column};
+
+    ghost grammar = { column };
+
+    #[tactic(auto, unfolding(crate::specs::Tables::column, crate::specs::Operands::identifier))]
+    fn is_start(tokens: &[Token]) -> bool {
+        begins_with_name(tokens)
+    }
+
+    fn read(
+        alloc: Global,
+        end: usize,
+        tokens: &[Token],
+    ) -> Result<(Self, &[Token]), Refusal<GrammarFault>> {
+        column_at(alloc, end, tokens)
+    }
+}
+
+#[tactic(auto, unfolding(crate::specs::Tables::create))]
+fn create_at(
+    alloc: Global,
+    end: usize,
+    tokens: &[Token],
+) -> Result<(Create, &[Token]), Refusal<GrammarFault>>
+    ensures { Gives (λ x. (x.0, x.1.now)) result (reads create end tokens.now) }
+{
+    let (_, rest) = word_at(Keyword::Create, end, tokens)?;
+    let (_, rest) = word_at(Keyword::Table, end, rest)?;
+    let (name, rest) = name_at(alloc, end, rest)?;
+    let (_, rest) = sign_at(Symbol::Open, end, rest)?;
+    let (columns, rest) = listed(alloc, Divider::Comma, end, rest)?;
+    let (_, rest) = sign_at(Symbol::Close, end, rest)?;
+    let (_, rest) = sign_at(Symbol::Semicolon, end, rest)?;
+    Ok((Create { name, columns }, rest))
+}
+
+impl Item for Create {
+    ghost use Rattle.ent_sql.specs.Tables.{create};
+
+    ghost grammar = { create };
+
+    #[tactic(auto, unfolding(crate::specs::Tables::create))]
+    fn is_start(tokens: &[Token]) -> bool {
+        begins_with_word(Keyword::Create, tokens)
+    }
+
+    fn read(
+        alloc: Global,
+        end: usize,
+        tokens: &[Token],
+    ) -> Result<(Self, &[Token]), Refusal<GrammarFault>> {
+        create_at(alloc, end, tokens)
+    }
+}
+
+/// The table, the place of the first bracket and the values of an INSERT.
+#[tactic(auto, unfolding(crate::specs::Tables::row))]
+fn row_at<T: Item>(
+    alloc: Global,
+    end: usize,
+    tokens: &[Token],
+) -> Result<((Identifier, usize, Limited<T, MOST_PARTS>), &[Token]), Refusal<GrammarFault>>
+    ensures { Gives (λ x. (x.0, x.1.now)) result (reads (row T.grammar) end tokens.now) }
+{
+    let (_, rest) = word_at(Keyword::Insert, end, tokens)?;
+    let (_, rest) = word_at(Keyword::Into, end, rest)?;
+    let (table, rest) = name_at(alloc, end, rest)?;
+    let (_, rest) = word_at(Keyword::Values, end, rest)?;
+    let (place, rest) = sign_at(Symbol::Open, end, rest)?;
+    let (values, rest) = listed(alloc, Divider::Comma, end, rest)?;
+    let (_, rest) = sign_at(Symbol::Close, end, rest)?;
+    Ok(((table, place, values), rest))
+}
+
+#[tactic(auto, unfolding(crate::specs::Tables::opening_row))]
+fn opening_row_at(
+    alloc: Global,
+    end: usize,
+    tokens: &[Token],
+) -> Result<(OpeningRow, &[Token]), Refusal<GrammarFault>>
+    ensures { Gives (λ x. (x.0, x.1.now)) result (reads opening_row end tokens.now) }
+{
+    let (row, rest) = row_at::<Literal>(alloc, end, tokens)?;
+    let (_, rest) = sign_at(Symbol::Semicolon, end, rest)?;
+    let (table, place, values) = row;
+    Ok((
+        OpeningRow {
+            table,
+            place,
+            values,
+        },
+        rest,
+    ))
+}
+
+impl Item for OpeningRow {
+    ghost use Rattle.ent_sql.specs.Tables.{opening_row};
+
+    ghost grammar = { opening_row };
+
+    #[tactic(auto, unfolding(crate::specs::Tables::opening_row, crate::specs::Tables::row))]
+    fn is_start(tokens: &[Token]) -> bool {
+        begins_with_word(Keyword::Insert, tokens)
+    }
+
+    fn read(
+        alloc: Global,
+        end: usize,
+        tokens: &[Token],
+    ) -> Result<(Self, &[Token]), Refusal<GrammarFault>> {
+        opening_row_at(alloc, end, tokens)
+    }
+}
+
+#[tactic(auto, unfolding(crate::specs::Tables::insert))]
+pub(crate) fn insert_at(
+    alloc: Global,
+    end: usize,
+    tokens: &[Token],
+) -> Result<(Insert, &[Token]), Refusal<GrammarFault>>
+    ensures { Gives (λ x. (x.0, x.1.now)) result (reads insert end tokens.now) }
+{
+    let (row, rest) = row_at::<ValueSpecification>(alloc, end, tokens)?;
+    let (table, place, values) = row;
+    Ok((
+        Insert {
+            table,
+            place,
+            values,
+        },
+        rest,
+    ))
+}
