@@ -67,7 +67,7 @@ impl Closing for Statement<Known> {
                 image,
                 tests,
             } => {
-                let image = closed_list(alloc, environment, image)?;
+                let image = closed_sequence(alloc, environment, image)?;
                 let tests = closed_list(alloc, environment, tests)?;
                 Ok(Statement::Update {
                     table: *table,

@@ -32,8 +32,8 @@ returns-in-Update-clause-meaning c =
     let table = c.in-Update.table in
     let image = c.as_slice-in-Update.result.now in
     let tests = c.as_slice-in-Update-2.result.now in
-    let images = c.as_slice-in-Update.ensures ∙ c.deref-in-Update.ensures in
-    let conditions = c.as_slice-in-Update-2.ensures ∙ c.deref-in-Update-2.ensures in
+    let images = c.as_slice-in-Update.ensures in
+    let conditions = c.as_slice-in-Update-2.ensures ∙ c.deref-in-Update.ensures in
     let is : c.args.statement.now ≡ statements.Update table image tests =
     c.in-Update.is ∙ sym (λ i. statements.Update table (images i) (conditions i)) in
     if_ok (λ outcome changes. updated_so c.args.statement.now image tests table (map arc_value c.args.tables.now)
