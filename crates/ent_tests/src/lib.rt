@@ -1,5 +1,7 @@
-//! Tests of lists and texts, which no input and no scenario reaches alone.
+//! Tests of lists, texts and reports, which no input and no scenario reaches alone.
 #![tactic(auto)]
 
 #[cfg(test)]
 mod collections;
+#[cfg(test)]
+mod reports;
