@@ -262,11 +262,13 @@ opening Flights (fno INT, dest TEXT) 3
 (136, 'Paris')
 script 1 3
 BEGIN TRANSACTION WITHIN 8 RUNS;
-SELECT 'Mickey', fno AS @f INTO ANSWER R WHERE (fno) IN (SELECT fno FROM Flights WHERE dest = 'LA') AND ('Minnie', fno) IN ANSWER R CHOOSE 1;
+SELECT 'Mickey', fno AS @f INTO ANSWER R WHERE (fno) IN \
+    (SELECT fno FROM Flights WHERE dest = 'LA') AND ('Minnie', fno) IN ANSWER R CHOOSE 1;
 COMMIT;
 script 2 3
 BEGIN TRANSACTION WITHIN 8 RUNS;
-SELECT 'Minnie', fno AS @f INTO ANSWER R WHERE (fno) IN (SELECT fno FROM Flights WHERE dest = 'LA') AND ('Mickey', fno) IN ANSWER R CHOOSE 1;
+SELECT 'Minnie', fno AS @f INTO ANSWER R WHERE (fno) IN \
+    (SELECT fno FROM Flights WHERE dest = 'LA') AND ('Mickey', fno) IN ANSWER R CHOOSE 1;
 COMMIT;
 ";
 
