@@ -1,15 +1,9 @@
-<<<<<<< HEAD
-//! Tests of lists, texts and printed scripts, which no input and no scenario reaches alone.
-=======
-//! Tests of lists, texts and reports, which no input and no scenario reaches alone.
->>>>>>> book
+//! Tests of lists, texts, printed scripts and reports, which no input and no scenario reaches alone.
 #![tactic(auto)]
 
 #[cfg(test)]
 mod collections;
 #[cfg(test)]
-<<<<<<< HEAD
 mod printing;
-=======
+#[cfg(test)]
 mod reports;
->>>>>>> book
