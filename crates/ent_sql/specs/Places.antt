@@ -1,7 +1,6 @@
 -- Where things of the tree stand.
 use Rattle.std.specs.Prelude.{ℕ, Option, Some, None}
 use Rattle.ent_tree.specs.declared.operand.Identifier.{Identifier}
-use Rattle.ent_tree.specs.declared.operand.ColumnReference.{ColumnReference}
 use Rattle.ent_tree.specs.declared.operand.Operand.{Operand}
 use Rattle.ent_tree.specs.declared.operand.Operand.TheVariants as operands
 use Rattle.ent_tree.specs.declared.operand.Expression.{Expression}
