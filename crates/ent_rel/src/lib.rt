@@ -1,8 +1,8 @@
 //! Tables: finite sets of rows of stated kinds, and the changes of them.
 //!
-//! A caller may rely on the set equations: what a call answers is said of kinds and a set of rows, and of no order,
-//! page or key. A change makes a new table, and the one that it came from stays as it was; `TableFull` comes exactly
-//! where more rows would stand than a table holds.
+//! A caller may rely on the set equations: what a call answers is said of kinds and a set of rows, and of no page or
+//! key. A change makes a new table, and the one that it came from stays as it was; `TableFull` comes exactly where more
+//! rows would stand than a table holds. Rows are gone over in ascending order, each where it stands.
 #![tactic(auto)]
 
 mod change;

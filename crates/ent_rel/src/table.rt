@@ -1,4 +1,4 @@
-//! A table over a list of its rows in ascending order.
+//! A table over the keys of its rows in pages.
 ghost use Rattle.std.specs.Prelude.{◌≡◌, ◌≤◌, ◌==◌, Bool, List, Result, Ok, IfOk, IfErr, IsOk, IsTrue, ◌↔◌, All};
 ghost use Rattle.std.specs.Prelude.{length, take, filter, ◌&&◌};
 ghost use Rattle.ent_set.specs.Sets as set;
