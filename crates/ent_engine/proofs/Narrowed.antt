@@ -1,14 +1,13 @@
 -- Tests over the rows with these first values, and over all rows.
-use Rattle.std.proofs.Common.{◌≡◌, ℕ, Bool, true, false, cond, not, List, [], ◌∷◌, get_or, refl, sym, ap, ◌∙◌}
+use Rattle.std.proofs.Common.{◌≡◌, Bool, true, false, cond, not, List, [], ◌∷◌, get_or, refl, sym, ap, ◌∙◌}
 use Rattle.std.specs.Prelude.{IsTrue, ◌&&◌, Result, Ok}
 use Rattle.std.specs.List.{filter, AllByRecursion}
-use Rattle.std.specs.Ordering.{eq_by_cmp}
 use Rattle.std.proofs.lemmas.List.Elements.{recursion_from_All, All-contains_itself}
 use Rattle.std.proofs.lemmas.Map.Views.{list_any-from_Contains}
 use Rattle.ent_set.specs.Sets as set
 use Rattle.ent_set.specs.Laws.{same_set, contains-retain, contains-ascending}
 use Rattle.ent_value.specs.Refusal.{◌>>=◌}
-use Rattle.ent_value.specs.Value.{row_cmp, kinds_of}
+use Rattle.ent_value.specs.Value.{kinds_of}
 use Rattle.ent_value.specs.Order.{rows_total, exact_rows, rows_equal}
 use Rattle.ent_value.specs.declared.value.Kind.{Kind}
 use Rattle.ent_value.specs.declared.value.Value.{Value}

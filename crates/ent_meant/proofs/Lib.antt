@@ -9,3 +9,7 @@ pub mod Selecting
 pub mod Grounding
 pub mod Putting
 pub mod Changing
+pub mod Images
+pub mod Updating
+pub mod Statements
+pub mod Declared

@@ -1,6 +1,6 @@
 -- Other rows under a name are other rows at its number.
 use Rattle.std.proofs.Common.{◌≡◌, ℕ, suc, ◌+◌, Bool, true, false, List, [], ◌∷◌, Some, Result, Ok}
-use Rattle.std.proofs.Common.{Err, refl, sym, ap, ◌∙◌, arith}
+use Rattle.std.proofs.Common.{Err, Option, None, refl, sym, ap, ◌∙◌, arith}
 use Rattle.std.specs.Prelude.{nat_le, slice_set, if◌then◌else◌}
 use Rattle.ent_set.specs.Sets as set
 use Rattle.ent_value.specs.declared.limits.TheConstants.{MOST_ROWS}
@@ -10,9 +10,9 @@ use Rattle.ent_closed.specs.Form.{Tables, table_numbered}
 use Rattle.ent_semantics.specs.declared.answer.Answer.TheVariants as answers
 use Rattle.ent_semantics.specs.declared.answer.Failure.{Failure}
 use Rattle.ent_semantics.specs.declared.answer.Failure.TheVariants.{TableFull}
-use Rattle.ent_semantics.specs.Change.{matched, unmatched}
+use Rattle.ent_semantics.specs.Change.{matched, unmatched, updated}
 use Rattle.ent_semantics.specs.Database.{Name, Rows, Database, Environment, same_name, with_rows, table_named}
-use Rattle.ent_semantics.specs.Effect.{Effect, changed, insertion, deletion}
+use Rattle.ent_semantics.specs.Effect.{Effect, changed, or_overflow, insertion, deletion, replacement}
 use Rattle.ent_semantics.specs.Names.{equal_names, names_turned}
 use Rattle.ent_form.specs.declared.catalogue.TableSchema.{TableSchema}
 use Rattle.ent_form.specs.Catalogue.{table_schema, schemas_of, table_from}
@@ -132,3 +132,19 @@ module _ (creates : List Create) (tables : Tables) (name : Name) (number : ℕ) 
             environment = environment;
             answer = answers.Count (set.len (matched matches rows));
           })
+
+  pub replacement_same : (matches : List Value → Bool) (image : List Value → Option (List Value))
+      → database_of creates tables name ≡ (table_numbered number).rows tables
+      → replacement (table_named name) matches image (database_of creates tables) environment
+      ≡ effect_of creates (replacement (table_numbered number) matches image tables environment)
+  replacement_same matches image e =
+      ap (λ (rows : Rows). or_overflow (updated matches image rows)
+      (changed (table_named name) (set.len (matched matches rows))) (database_of creates tables) environment) e
+      ∙ going_on (updated matches image ((table_numbered number).rows tables))
+      (set.len (matched matches ((table_numbered number).rows tables)))
+    where
+      going_on : (there : Option Rows) (count : ℕ)
+          → or_overflow there (changed (table_named name) count) (database_of creates tables) environment
+          ≡ effect_of creates (or_overflow there (changed (table_numbered number) count) tables environment)
+      going_on None count = refl
+      going_on (Some rows) count = changed_same count rows

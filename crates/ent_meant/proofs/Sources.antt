@@ -31,7 +31,7 @@ name_of column = column.column
 abbrev pub OfWidth : ℕ → Rows → Type 0
 OfWidth width rows = AllByRecursion (λ row. length row ≡ width) (set.ascending rows)
 
-names_again : (columns : List Column)
+pub names_again : (columns : List Column)
     → map (λ (column : ColumnSchema). column.name) (map column_schema columns)
     ≡ map (λ column. column.name.name) columns
 names_again [] = refl

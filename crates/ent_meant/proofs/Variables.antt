@@ -83,7 +83,7 @@ filter_twice first second both (name ∷ names) each =
     ]
     ∙ ap (λ b. cond b (name ∷ filter both names) (filter both names)) (sym (each name))
 
-among_behind : (names : List Name) (last name : Name)
+pub among_behind : (names : List Name) (last name : Name)
     → is_among (names ++ last ∷ []) name ≡ (is_among names name || same_name last name)
 among_behind [] last name = or_false (same_name last name)
   where

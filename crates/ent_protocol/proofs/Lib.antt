@@ -1,4 +1,9 @@
 pub mod Idle
+pub mod Among
+pub mod Tidied
+pub mod TidySteps
+pub mod Led
+pub mod Numbering
 pub mod Inserted
 pub mod Ring
 pub mod WritersPlay

@@ -150,8 +150,10 @@ pub least_taken : IsLeastChoice seen both taken
 least_taken =
     record {
       choice = record {
-        grounded = (record { kinds = refl; grounds = grounds 1 Mickey Minnie flight_122 },
-         (record { kinds = refl; grounds = grounds 2 Minnie Mickey flight_122 }, tt));
+        grounded = (
+          record { kinds = refl; grounds = grounds 1 Mickey Minnie flight_122 },
+          (record { kinds = refl; grounds = grounds 2 Minnie Mickey flight_122 }, tt),
+        );
         met = met;
       };
       least = least;

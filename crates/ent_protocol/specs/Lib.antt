@@ -16,3 +16,5 @@ pub mod Reached
 pub mod Play
 pub mod Writers
 pub mod Partners
+pub mod Tidy
+pub mod Numbers

@@ -39,20 +39,21 @@ is_last_run submitted member = within (numbered submitted member.tx)
     within None = true
 
 -- its own fate; else it gives up where its runs are over; else it has none, and goes on another time
+abbrev pub or_gives_up : Option Fate → Bool → ℕ → Option Fate
+or_gives_up (Some fate) over runs = Some fate
+or_gives_up None true runs = Some (GaveUp runs)
+or_gives_up None false runs = None
+
 abbrev pub fate_of : List Submitted → Cause → Member → Option Fate
-fate_of submitted cause member = or_gives_up (own_fate cause member) (is_last_run submitted member)
-  where
-    or_gives_up : Option Fate → Bool → Option Fate
-    or_gives_up (Some fate) over = Some fate
-    or_gives_up None true = Some (GaveUp member.attempt)
-    or_gives_up None false = None
+fate_of submitted cause member =
+    or_gives_up (own_fate cause member) (is_last_run submitted member) member.attempt
+
+abbrev pub fated_as : ℕ → Option Fate → Option Fated
+fated_as tx (Some fate) = Some (record { tx = tx; fate = fate })
+fated_as tx None = None
 
 abbrev pub fated_by : List Submitted → Cause → Member → Option Fated
-fated_by submitted cause member = with_fate (fate_of submitted cause member)
-  where
-    with_fate : Option Fate → Option Fated
-    with_fate (Some fate) = Some (record { tx = member.tx; fate = fate })
-    with_fate None = None
+fated_by submitted cause member = fated_as member.tx (fate_of submitted cause member)
 
 abbrev pub dormant_by : List Submitted → Cause → Member → Option Dormant
 dormant_by submitted cause member = without_fate (fate_of submitted cause member)

@@ -1,13 +1,16 @@
 //! Laws of the protocol. Nothing here has a body; what holds is in the contracts.
-ghost use Rattle.std.specs.Prelude.{◌≡◌, ℕ, ◌∷◌, [], true};
+ghost use Rattle.std.specs.Prelude.{◌≡◌, ℕ, ◌∷◌, [], true, false, List};
+ghost use Rattle.ent_tree.specs.declared.declaration.Opening.{Opening};
 ghost use Rattle.ent_semantics.specs.declared.book.Fate.TheVariants.{Committed};
 ghost use Rattle.ent_protocol.specs.Event.{Event, Reply};
+ghost use Rattle.ent_protocol.specs.Numbers.{AreNumbered};
 ghost use Rattle.ent_protocol.specs.Partners.{Partners, flight_122, partners_opening, partners_pass};
 ghost use Rattle.ent_protocol.specs.Play.{Plays, is_idle};
-ghost use Rattle.ent_protocol.specs.Reached.{opened};
+ghost use Rattle.ent_protocol.specs.Reached.{IsReached, LeadsTo, opened, settled};
 ghost use Rattle.ent_protocol.specs.Run.{Forms};
 ghost use Rattle.ent_protocol.specs.State.{State};
 ghost use Rattle.ent_protocol.specs.Step.{Step};
+ghost use Rattle.ent_protocol.specs.Tidy.{IsTidy};
 ghost use Rattle.ent_protocol.specs.Writers.{insert_forms, two_writers, writers_opening};
 
 /// A refusal, and the reply that there is nothing to do, leave the state as it was.
@@ -16,6 +19,29 @@ pub fn refusals_change_nothing<F>()
         → Step forms s event reply new
         → is_idle reply ≡ true
         → new ≡ s }
+{}
+
+/// In every state that is reached: where no run is on there is no member, and the settled database is the present
+/// tables; what is noted of changes is of members.
+pub fn reached_states_are_tidy<F>()
+    ensures tidy { (forms : Forms F) (s : State) → IsReached forms s → IsTidy s }
+    ensures settled { (forms : Forms F) (s : State)
+        → IsReached forms s
+        → s.running ≡ false
+        → settled s ≡ s.tables }
+{}
+
+/// In every state that is reached the transactions that have committed are those of the journal, with the numbers of
+/// their entries.
+pub fn commits_are_numbered<F>()
+    ensures { (forms : Forms F) (s : State) → IsReached forms s → AreNumbered s }
+{}
+
+/// A play from an opening's own state leads to a state that is reached.
+pub fn plays_lead_on<F>()
+    ensures { (forms : Forms F) (opening : Opening) (events : List (Event × Reply F)) (last : State)
+        → Plays forms (opened opening) events last
+        → (n : ℕ) × LeadsTo forms n (opened opening) last }
 {}
 
 /// Two writers take two tables in turn and wait for each other: the greater one is rolled back and goes to the dormant
@@ -28,11 +54,12 @@ pub fn two_writers_deadlock()
 {}
 
 /// Two partners are answered together; one prepares, and the other passes its lock, which blocks a reader; both commit
-/// in one event, and their joint answer is kept.
+/// in one event, and their joint answer is kept. So there are states that are reached in which a pair has committed.
 pub fn partner_passes_a_prepared_lock()
     ensures { (resolved : Forms ℕ) (partners : Partners resolved)
         → (last : State)
         × Plays resolved (opened partners_opening) (partners_pass partners) last
+        × IsReached resolved last
         × (last.fates
         ≡ record { tx = 1; fate = Committed 1 1 } ∷ record { tx = 2; fate = Committed 2 1 } ∷ [])
         × (last.answered

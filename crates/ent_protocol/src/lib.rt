@@ -7,4 +7,7 @@
 
 mod law;
 
-pub use law::{partner_passes_a_prepared_lock, refusals_change_nothing, two_writers_deadlock};
+pub use law::{
+    commits_are_numbered, partner_passes_a_prepared_lock, plays_lead_on, reached_states_are_tidy,
+    refusals_change_nothing, two_writers_deadlock,
+};

@@ -1,11 +1,10 @@
 -- Rows that were found by their first values and pass a test.
-use Rattle.std.proofs.Common.{◌≡◌, ℕ, ◌≤◌, Bool, true, false, cond, List, [], ◌∷◌, length, refl, sym, ap, subst, ◌∙◌}
+use Rattle.std.proofs.Common.{◌≡◌, Bool, true, false, cond, List, [], ◌∷◌, length, refl, sym, ap, ◌∙◌}
 use Rattle.std.proofs.Common.{inl, inr}
-use Rattle.std.specs.Prelude.{◌&&◌, All, IsTrue, ◌⊎◌, Result, Ok, Err, IfOk}
-use Rattle.std.specs.List.{filter, Contains, IsDistinct}
+use Rattle.std.specs.Prelude.{◌&&◌, IsTrue, ◌⊎◌, Result, Ok, Err, IfOk}
+use Rattle.std.specs.List.{filter, IsDistinct}
 use Rattle.std.specs.Ordering.{eq_by_cmp}
 use Rattle.std.proofs.lemmas.Map.Keys.{IsDistinct-from_sorted}
-use Rattle.std.proofs.lemmas.List.Elements.{All-contains}
 use denote.Param.Members.{Shared}
 use denote.Ref.{Bor}
 use Rattle.ent_set.specs.Sets as set
@@ -17,7 +16,6 @@ use Rattle.ent_rel.specs.Closure.{Computes}
 use Rattle.ent_rel.specs.Part.{IsPart}
 use Rattle.ent_rel.specs.Relation.{RowSet}
 use Rattle.ent_rel.proofs.Keyed.{rows_ascend}
-use Rattle.ent_rel.proofs.Lists.{there}
 
 pub filter_both : {X : Type 0} (p q : X → Bool) (xs : List X) → filter q (filter p xs) ≡ filter (λ x. p x && q x) xs
 filter_both p q [] = refl

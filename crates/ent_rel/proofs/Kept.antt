@@ -3,13 +3,12 @@ use Rattle.std.proofs.Common.{◌≡◌, ℕ, List, [], ◌∷◌, map, refl, sy
 use Rattle.std.specs.List.{AllByRecursion}
 use Rattle.ent_set.specs.Sets as set
 use Rattle.ent_set.specs.Laws.{from_list-ascending}
-use Rattle.ent_value.specs.declared.value.Value.{Value}
 use Rattle.ent_value.specs.declared.value.Kind.{Kind}
 use Rattle.ent_page.specs.Key.{key_of}
 use Rattle.ent_page.specs.Read.{row_from}
 use Rattle.ent_page.specs.Rows.{IsKey}
 use Rattle.ent_rel.specs.Relation.{Relation}
-use Rattle.ent_rel.specs.Kept.{KeySet, listed_rows, rows_of, HoldRows, IsKept}
+use Rattle.ent_rel.specs.Kept.{KeySet, rows_of, IsKept}
 use Rattle.ent_rel.proofs.Keyed.{keys_total, keys_exact, all_keys, ascending_rows}
 
 keys_again : (kinds : List Kind) (ks : List (List ℕ)) → AllByRecursion (IsKey kinds) ks

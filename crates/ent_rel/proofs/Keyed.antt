@@ -1,6 +1,6 @@
 -- Rows by their keys.
 use Rattle.std.proofs.Common.{◌≡◌, ℕ, zero, suc, ◌+◌, ◌-◌, ◌<◌, ◌≤◌, take, drop, get_or, ◌++◌, Bool, true, false}
-use Rattle.std.proofs.Common.{List, [], ◌∷◌, length, map, refl, sym, ap, subst, ◌∙◌, arith, T, IsTrue, not}
+use Rattle.std.proofs.Common.{List, [], ◌∷◌, length, map, refl, sym, ap, subst, ◌∙◌, arith, T, not}
 use Rattle.std.specs.Prelude.{◌||◌, ◌&&◌, if◌then◌else◌, All, Err}
 use Rattle.std.specs.List.{AllByRecursion, list_any, filter, IsDistinct}
 use Rattle.std.specs.List.Sorted.{IsStrictlySortedBy}
@@ -21,7 +21,7 @@ use Rattle.ent_set.specs.Laws.{any_same_set, len-distinct, ascending-from_list, 
 use Rattle.ent_set.specs.Laws.{without-nothing}
 use Rattle.std.proofs.lemmas.List.{take_more, take_all, map-append}
 use Rattle.ent_value.specs.Value.{row_cmp, kind_of, kinds_of}
-use Rattle.ent_value.specs.Order.{rows_total, exact_rows, rows_equal}
+use Rattle.ent_value.specs.Order.{rows_total, exact_rows}
 use Rattle.ent_value.specs.declared.value.Value.{Value}
 use Rattle.ent_value.specs.declared.value.Kind.{Kind}
 use Rattle.ent_page.specs.Key.{key_of, key_cmp, IsStorable, AreStorable}

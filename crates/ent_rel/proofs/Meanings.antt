@@ -1,9 +1,9 @@
 -- What the calls on a table mean, case by case.
 use Rattle.std.proofs.Common.{◌≡◌, ℕ, ◌+◌, ◌≤◌, ◌<◌, Bool, true, false, cond, not, List, [], ◌∷◌, length, refl, sym}
-use Rattle.std.proofs.Common.{ap, subst, ◌∙◌, arith, ◌++◌, take, All}
+use Rattle.std.proofs.Common.{ap, subst, ◌∙◌, arith, ◌++◌, take}
 use Rattle.std.specs.Prelude.{Result, Ok, Err, IfOk, IsOk, nat_le}
 use Rattle.std.specs.Result.{is_ok}
-use Rattle.std.specs.List.{filter, IsDistinct, list_any}
+use Rattle.std.specs.List.{filter, IsDistinct}
 use Rattle.std.specs.Ordering.{eq_by_cmp}
 use Rattle.std.proofs.lemmas.Bool.{le-leb, lt-leb}
 use Rattle.std.proofs.lemmas.List.{take_all}

@@ -18,7 +18,7 @@ use crate::keys::{keys_changed, keys_loaded};
 use crate::kinds::{are_same_kinds, have_kinds};
 use crate::matches::matches;
 use crate::row_cursor::RowCursor;
-use ent_page::{Key, KeySet, StoredRow, decode, first_values_are_fronts};
+use ent_page::{Key, KeySet, StoredRow, first_values_are_fronts};
 use ent_value::{Kind, MOST_ROWS, Refusal, Row, Sequence, Value};
 use std::alloc::{AllocError, Global};
 use std::marker::Model;
@@ -123,10 +123,10 @@ impl Table {
         ensures rows { IfOk result (λ rows. rows.items ≡ set.ascending self.now.rows) }
         ensures limit { IfOk result (λ rows. length rows.items ≤ MOST_ROWS) }
     {
-        let mut rows = Vec::with_capacity(alloc, self.keys.len())?;
-        let mut cursor = self.keys.cursor();
-        while let Some(key) = cursor.next_key() {
-            rows.push(decode(alloc, &self.kinds, key)?)?;
+        let mut rows = Vec::with_capacity(alloc, self.len())?;
+        let mut cursor = self.cursor();
+        while let Some(row) = cursor.next_row() {
+            rows.push(row.to_row(alloc)?)?;
         }
         Ok(rows)
     }

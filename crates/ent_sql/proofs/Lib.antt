@@ -2,3 +2,4 @@ mod Loops
 mod Foreseen
 mod Items
 mod Exact
+mod Places

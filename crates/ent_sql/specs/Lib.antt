@@ -6,6 +6,7 @@ pub mod Entangling
 pub mod Statements
 pub mod Scripts
 pub mod Front
+pub mod Places
 pub mod Fault
 pub mod Reading
 pub mod Says

@@ -11,6 +11,7 @@ mod entangling;
 mod fault;
 mod front;
 mod input;
+mod laws;
 mod list;
 mod operand;
 mod script;
@@ -21,3 +22,4 @@ mod test;
 
 pub use fault::SqlFault;
 pub use input::{parse_input, reading_is_exact};
+pub use laws::things_stand_at_their_first_token;

@@ -1,9 +1,9 @@
-use Rattle.std.proofs.Common.{◌≡◌, ℕ, sym, subst, ◌∙◌, rules, Result}
+use Rattle.std.proofs.Common.{ℕ, sym, subst, ◌∙◌, rules, Result}
 use Rattle.std.proofs.lemmas.Result.{err_from_is_err_and}
 use Rattle.ent_rel.specs.Relation.{RowSet, bounded}
 use Rattle.ent_plain_semantics.specs.declared.answer.Failure.{Failure}
 use Rattle.ent_engine.specs.Change.{or_full}
-use Rattle.ent_value.specs.Refusal.{Gives, Refuses}
+use Rattle.ent_value.specs.Refusal.{Refuses}
 use Rattle.ent_rel.specs.Change.{replacement}
 use Rattle.ent_rel.specs.First.{has_first}
 use Rattle.ent_plain_form.specs.PlainMeaning.{plain_meets, plain_image}

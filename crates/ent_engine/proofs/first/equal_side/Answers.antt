@@ -1,4 +1,4 @@
-use Rattle.std.proofs.Common.{◌≡◌, rules, arith}
+use Rattle.std.proofs.Common.{rules, arith}
 use Rattle.ent_engine.proofs.Wanted.{wanted_left, wanted_right}
 use Rattle.ent_engine.proofs.first.equal_side.Goals as goal
 

@@ -1,7 +1,14 @@
 use Rattle.std.proofs.Common.{refl}
+use Rattle.ent_protocol.proofs.Led.{plays_lead}
 use Rattle.ent_protocol.proofs.PartnersPlay.{last, played}
 use Rattle.ent_protocol.proofs.law.partner_passes_a_prepared_lock.Goals as goal
+use Rattle.ent_protocol.specs.Partners.{partners_opening, partners_pass}
 
--- src/law.rt:40:1
 pub returns : goal.returns
-returns c resolved partners = (last partners, played partners, refl, refl)
+returns c resolved partners = (
+  last partners,
+  played partners,
+  plays_lead resolved partners_opening (partners_pass partners) (last partners) (played partners),
+  refl,
+  refl,
+)

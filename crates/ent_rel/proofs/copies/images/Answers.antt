@@ -1,12 +1,10 @@
-use Rattle.std.proofs.Common.{◌≡◌, List, refl, ap, sym, ◌∙◌, Result, Ok, Err, arith, rules}
+use Rattle.std.proofs.Common.{◌≡◌, refl, ap, sym, ◌∙◌, Ok, arith, rules}
 use Rattle.std.proofs.lemmas.Fn.{says_at}
 use Rattle.std.proofs.lemmas.List.{take_all}
 use Rattle.std.proofs.lemmas.List.Elements.{All-push, All-nil}
 use Rattle.std.proofs.lemmas.Result.{err_from_is_err_and}
 use Rattle.ent_value.specs.Refusal.{Refuses}
 use Rattle.ent_value.specs.Value.{kinds_of}
-use Rattle.ent_value.specs.declared.value.Value.{Value}
-use Rattle.ent_rel.specs.Change.{images_of}
 use Rattle.ent_rel.proofs.Lists.{images_step, images_refused, listed}
 use Rattle.ent_rel.proofs.copies.images.Goals as goal
 

@@ -1,4 +1,4 @@
-use Rattle.std.proofs.Common.{◌≡◌, [], List, ap, sym, subst, ◌∙◌, rules}
+use Rattle.std.proofs.Common.{◌≡◌, [], ap, sym, subst, ◌∙◌, rules}
 use Rattle.ent_set.specs.Sets as set
 use Rattle.ent_set.specs.Laws.{without-nothing}
 use Rattle.ent_value.specs.Refusal.{Gives}

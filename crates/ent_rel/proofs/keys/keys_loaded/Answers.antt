@@ -1,8 +1,6 @@
-use Rattle.std.proofs.Common.{◌≡◌, ap, sym, ◌∙◌, arith, map, Ok}
+use Rattle.std.proofs.Common.{ap, sym, ◌∙◌, arith, Ok}
 use Rattle.ent_set.specs.Sets as set
 use Rattle.ent_value.specs.Value.{row_cmp}
-use Rattle.ent_page.specs.Key.{key_of}
-use Rattle.ent_rel.specs.Kept.{rows_of}
 use Rattle.ent_rel.proofs.Keyed.{rows_load, hold_load, len_rows}
 use Rattle.ent_rel.proofs.Meanings.{bounded_within, bounded_beyond}
 use Rattle.ent_rel.proofs.keys.keys_loaded.Goals as goal

@@ -1,4 +1,4 @@
-use Rattle.std.proofs.Common.{◌≡◌, ap, sym, ◌∙◌, arith, Ok}
+use Rattle.std.proofs.Common.{ap, sym, ◌∙◌, arith, Ok}
 use Rattle.ent_set.specs.Sets as set
 use Rattle.ent_rel.specs.Change.{changed_rows}
 use Rattle.ent_rel.specs.Kept.{rows_of}

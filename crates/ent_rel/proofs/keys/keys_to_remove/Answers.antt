@@ -1,9 +1,7 @@
-use Rattle.std.proofs.Common.{◌≡◌, ◌+◌, ◌∷◌, [], ◌++◌, List, take, ap, sym, subst, ◌∙◌, arith, false, true}
+use Rattle.std.proofs.Common.{◌≡◌, ◌+◌, ◌∷◌, [], ◌++◌, take, ap, sym, subst, ◌∙◌, arith, false, true}
 use Rattle.std.proofs.lemmas.List.{take_more}
 use Rattle.ent_value.specs.Value.{kinds_of}
-use Rattle.ent_value.specs.declared.value.Value.{Value}
 use Rattle.ent_page.specs.Key.{key_of, AreStorable}
-use Rattle.ent_rel.specs.Kept.{RemovesRows}
 use Rattle.ent_rel.proofs.Keyed.{removes_more, removes_other, removes_none}
 use Rattle.ent_rel.proofs.keys.keys_to_remove.Goals as goal
 use Rattle.ent_rel.proofs.keys.keys_to_remove.Goals.{then-have_kinds+in_ok-of+in_ok-push, else-have_kinds}

@@ -1,11 +1,11 @@
-use Rattle.std.proofs.Common.{◌≡◌, ◌+◌, ◌∷◌, [], drop, ap, sym, subst, ◌∙◌, arith, false, true, List}
+use Rattle.std.proofs.Common.{◌≡◌, ◌+◌, ◌∷◌, [], drop, ap, sym, subst, ◌∙◌, arith, false, true}
 use Rattle.std.proofs.lemmas.List.{drop_all}
 use Rattle.ent_set.specs.Sets as set
 use Rattle.ent_set.specs.Laws.{without-nothing, without-append}
 use Rattle.ent_value.specs.Value.{kinds_of}
 use Rattle.ent_value.specs.Order.{rows_total, exact_rows}
 use Rattle.ent_page.specs.Key.{key_of, AreStorable}
-use Rattle.ent_rel.specs.Kept.{KeySet, listed_rows, rows_of, HoldRows}
+use Rattle.ent_rel.specs.Kept.{listed_rows, rows_of, HoldRows}
 use Rattle.ent_rel.proofs.Lists.{have_kinds}
 use Rattle.ent_rel.proofs.Keyed.{rows_without, hold_without, without_other, listed_fit, from_here}
 use Rattle.ent_rel.proofs.keys.keys_without.Goals as goal

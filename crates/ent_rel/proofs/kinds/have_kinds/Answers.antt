@@ -1,4 +1,4 @@
-use Rattle.std.proofs.Common.{◌≡◌, ap, sym, ◌∙◌, arith, length, get_or}
+use Rattle.std.proofs.Common.{arith}
 use Rattle.ent_value.specs.declared.value.Kind.TheVariants as kinds
 use Rattle.ent_rel.proofs.Keyed.{kinds_more, stored_more}
 use Rattle.ent_rel.proofs.kinds.have_kinds.Goals as goal

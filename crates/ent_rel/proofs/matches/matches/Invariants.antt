@@ -1,5 +1,4 @@
 use Rattle.std.proofs.Common.{◌≡◌, Bool, List, ◌++◌, length}
-use Rattle.std.specs.Prelude.{All}
 use Rattle.std.specs.List.{filter, Contains, AllByRecursion}
 use Rattle.ent_set.specs.Sets as set
 use Rattle.ent_value.specs.Value.{row_cmp}

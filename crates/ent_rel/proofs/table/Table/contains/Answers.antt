@@ -1,8 +1,8 @@
 use Rattle.std.proofs.Common.{◌≡◌, ap, sym, subst, ◌∙◌, false, true}
 use Rattle.ent_set.specs.Sets as set
 use Rattle.ent_value.specs.Value.{kinds_of}
-use Rattle.ent_page.specs.Key.{key_of, AreStorable}
-use Rattle.ent_rel.specs.Relation.{Relation, HaveKinds}
+use Rattle.ent_page.specs.Key.{AreStorable}
+use Rattle.ent_rel.specs.Relation.{Relation}
 use Rattle.ent_rel.specs.Kept.{listed_rows, rows_of}
 use Rattle.ent_rel.proofs.Lists.{have_kinds}
 use Rattle.ent_rel.proofs.Keyed.{contains_row, listed_fit, other_absent}

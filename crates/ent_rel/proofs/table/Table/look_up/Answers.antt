@@ -1,9 +1,7 @@
-use Rattle.std.proofs.Common.{◌≡◌, ap, sym, ◌∙◌, map, take, length}
+use Rattle.std.proofs.Common.{ap, sym, ◌∙◌, take, length}
 use Rattle.std.specs.Prelude.{filter}
 use Rattle.ent_set.specs.Sets as set
 use Rattle.ent_page.specs.Front.{begins_with}
-use Rattle.ent_page.specs.Key.{key_of}
-use Rattle.ent_page.specs.Read.{row_from}
 use Rattle.ent_rel.specs.First.{has_first}
 use Rattle.ent_rel.specs.Relation.{Relation}
 use Rattle.ent_rel.proofs.Fronts.{rows_first, keys_where}

@@ -1,12 +1,10 @@
-use Rattle.std.proofs.Common.{◌≡◌, ◌++◌, map, length}
-use Rattle.ent_page.specs.Read.{row_from}
-use Rattle.ent_rel.specs.Kept.{listed_rows}
+use Rattle.std.proofs.Common.{◌≡◌, ◌++◌, length}
+use Rattle.ent_set.specs.Sets as set
 use Rattle.ent_rel.proofs.table.Table.rows.Given as goal
 
 -- the rows so far and those to come
-abbrev pub invariant-loop-key : goal.invariant-loop-key
-invariant-loop-key l = l.rows.items ++ map
-    (row_from l.self-inside.kinds.items) l.cursor ≡ listed_rows l.self-inside.kinds.items l.self-inside.keys
+abbrev pub invariant-loop-row : goal.invariant-loop-row
+invariant-loop-row l = l.rows.items ++ l.cursor ≡ set.ascending l.self.rows
 
-abbrev pub decreases-loop-key : goal.decreases-loop-key
-decreases-loop-key l = length l.cursor
+abbrev pub decreases-loop-row : goal.decreases-loop-row
+decreases-loop-row l = length l.cursor
