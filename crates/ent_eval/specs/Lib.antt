@@ -5,5 +5,5 @@ pub mod Tables
 pub mod Kinds
 pub mod Change
 pub mod Meant
-pub mod Evaluated
+pub mod Setting
 pub mod Job

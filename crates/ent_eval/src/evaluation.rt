@@ -2,7 +2,7 @@
 ghost use Rattle.std.specs.Prelude.{◌≡◌, [], ◌∷◌, IfOk, length, map};
 ghost use Rattle.std.specs.Arc.{arc_value};
 ghost use Rattle.ent_semantics.specs.Term.{expression_value};
-ghost use Rattle.ent_eval.specs.Evaluated.{Binds};
+ghost use Rattle.ent_eval.specs.Setting.{Binds};
 ghost use Rattle.ent_eval.specs.Kinds.{Fits};
 ghost use Rattle.ent_eval.specs.Meant.{IsMeant, CanBeApplied};
 ghost use Rattle.ent_eval.specs.Tables.{kinds_in, rows_in};
