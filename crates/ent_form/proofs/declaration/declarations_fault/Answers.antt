@@ -11,7 +11,7 @@ returns-then-is_table_among c = table_again c.args.tables.now c.loop-number.numb
 pub returns-in-Some : goal.returns-in-Some
 returns-in-Some c =
     let inside = c.in-Some.ensures ∙ ap (λ columns. repeated [] (map (λ column. column.name) columns))
-    c.as_slice.ensures in
+    (c.as_slice.ensures ∙ c.deref.ensures) in
     table_inside c.args.tables.now c.loop-number.number c.index-tables-number.result c.is_table_among.result
     c.in-Some.fault _ c.loop-number-test.true c.index-tables-number.is c.is_table_among.ensures
     c.if-is_table_among.false inside c.loop-number.invariant
@@ -19,7 +19,7 @@ returns-in-Some c =
 pub loop-number-preserved : goal.loop-number-preserved
 loop-number-preserved c =
     let inside = c.in_default.ensures ∙ ap (λ columns. repeated [] (map (λ column. column.name) columns))
-    c.as_slice.ensures in
+    (c.as_slice.ensures ∙ c.deref.ensures) in
     table_new c.args.tables.now c.loop-number.number c.index-tables-number.result c.is_table_among.result _
     c.loop-number-test.true c.index-tables-number.is c.is_table_among.ensures c.if-is_table_among.false inside
     c.loop-number.invariant
