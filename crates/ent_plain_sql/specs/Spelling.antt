@@ -1,4 +1,4 @@
--- What a text says: each line of the grammar as a relation between a tree and the tokens that spell it, places included.
+-- What a text says: each line of the grammar as a relation between a tree and the tokens that spell it, with places.
 use Rattle.std.specs.Prelude.{◌≡◌, ℕ, List, [], ◌∷◌, ◌++◌, pos, ◌⊎◌}
 use Rattle.ent_text.specs.declared.token.Token.{Token}
 use Rattle.ent_text.specs.declared.token.TokenKind.{TokenKind}
