@@ -72,9 +72,8 @@ columns_distinct earlier (create ∷ creates) e =
     let inside = repeated [] identifiers in
     let rest = declarations_fault (earlier ++ name ∷ []) creates in
     let here = refused_where (is_among earlier name) (Repeated create.name.place) in
-    let behind : (inside before rest) ≡ None = later_none here (inside before rest) e in
-    (
+    let behind : (inside before rest) ≡ None = later_none here (inside before rest) e in (
       subst (λ (names : List Name). IsDistinct same_name names) (names_alike create.columns)
-      (repeated_new [] identifiers (first_none inside rest behind)).1,
-      columns_distinct (earlier ++ name ∷ []) creates (later_none inside rest behind)
+          (repeated_new [] identifiers (first_none inside rest behind)).1,
+      columns_distinct (earlier ++ name ∷ []) creates (later_none inside rest behind),
     )

@@ -156,7 +156,7 @@ is_value kind = is_variable kind || is_literal kind
 unfoldable pub value_at : ℕ → List Token → Read ValueSpecification
 value_at end ts =
     if begins is_variable ts then (variable_at end ts >>= λ variable. Ok
-        (specifications.HostVariable variable.0, variable.1))
+    (specifications.HostVariable variable.0, variable.1))
     else (literal_at end ts >>= λ literal. Ok (specifications.Literal literal.0, literal.1))
 
 -- INSERT INTO name VALUES "(" value { "," value } ")" ";"
@@ -178,7 +178,7 @@ unfoldable pub expression_behind : {A : Type 0} → (ℕ → List Token → Read
 expression_behind term first end ts =
     if begins_with_sign signs.Plus ts then (term end (drop 1 ts) >>= λ other. Ok (Sum first other.0, other.1))
     else (if begins_with_sign signs.Minus ts
-        then (term end (drop 1 ts) >>= λ other. Ok (Difference first other.0, other.1))
+    then (term end (drop 1 ts) >>= λ other. Ok (Difference first other.0, other.1))
     else Ok (Single first, ts))
 
 -- term [ ( "+" | "-" ) term ]
@@ -281,9 +281,9 @@ unfoldable pub statement_at : ℕ → List Token → Read Statement
 statement_at end ts =
     if begins_with_word words.Insert ts then (insert_at end ts >>= λ insert. Ok (statements.Insert insert.0, insert.1))
     else (if begins_with_word words.Delete ts
-        then (delete_at end ts >>= λ delete. Ok (statements.Delete delete.0, delete.1))
+    then (delete_at end ts >>= λ delete. Ok (statements.Delete delete.0, delete.1))
     else (if begins_with_word words.Update ts
-        then (update_at end ts >>= λ update. Ok (statements.Update update.0, update.1))
+    then (update_at end ts >>= λ update. Ok (statements.Update update.0, update.1))
     else (if begins_with_word words.Set ts then (set_at end ts >>= λ set. Ok (statements.Set set.0, set.1))
     else (select_at end ts >>= λ select. Ok (statements.Select select.0, select.1)))))
 
@@ -292,7 +292,7 @@ unfoldable pub end_at : ℕ → List Token → Read End
 end_at end ts =
     if begins_with_word words.Commit ts then Ok (ends.Commit, drop 1 ts)
     else (if begins_with_word words.Rollback ts then Ok (ends.Rollback, drop 1 ts)
-        else Err (Unexpected (place_of end ts)))
+    else Err (Unexpected (place_of end ts)))
 
 -- BEGIN TRANSACTION ";" { statement } ( COMMIT | ROLLBACK ) ";"
 unfoldable pub script_at : ℕ → List Token → Read Script

@@ -16,11 +16,11 @@ unfoldable pub more_at : {A : Type 0} → (TokenKind → Bool) → (TokenKind �
     → ℕ → List Token → Read (List A)
 more_at divides starts item end zero ts =
     if begins divides ts then (if begins starts (drop 1 ts) then Err (TooMany (place_of end (drop 1 ts)))
-        else Err (Unexpected (place_of end (drop 1 ts))))
+    else Err (Unexpected (place_of end (drop 1 ts))))
     else Ok ([], ts)
 more_at divides starts item end (suc room) ts =
     if begins divides ts then (item end (drop 1 ts) >>= λ x. joined x.0
-        (more_at divides starts item end room x.1)) else Ok ([], ts)
+    (more_at divides starts item end room x.1)) else Ok ([], ts)
 
 -- things with dividers between them: one at least, limit at most
 unfoldable pub listed_at : {A : Type 0} → (TokenKind → Bool) → (TokenKind → Bool) → (ℕ → List Token → Read A) → ℕ
