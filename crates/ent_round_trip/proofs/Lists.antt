@@ -39,8 +39,8 @@ kinds_append xs ys = flat_map-append lexeme_kinds xs ys
 
 pub again_test : {A : Type 0} (thing : Grammar A) (spelling : A → List Lexeme) (unplaced : A → A) (t : Test A)
     → Again thing spelling unplaced t.left → Again thing spelling unplaced t.right
-    → Again (grammar.test thing) (test_spelling spelling) (unplaced_test unplaced) t
-unfolding grammar.test
+    → Again (grammar.compared thing) (test_spelling spelling) (unplaced_test unplaced) t
+unfolding grammar.compared
 again_test thing spelling unplaced t left right =
     again_then {ys = Sign (comparison_symbol t.comparison) ∷ kinds_of (spelling t.right)}
     (kinds_append (spelling t.left) (symbol_lexeme (comparison_symbol t.comparison) ∷ spelling t.right)) left

@@ -46,7 +46,7 @@ again_source s = on s.alias
         (λ y f. again_give (λ i. record { table = e i; alias = Some (f i) })))))
 
 again_operand_test : (t : Test Operand)
-    → Again (operands.test operands.operand) (test_spelling operand_spelling) (unplaced_test unplaced_operand) t
+    → Again (operands.compared operands.operand) (test_spelling operand_spelling) (unplaced_test unplaced_operand) t
 again_operand_test t =
     again_test operands.operand operand_spelling unplaced_operand t (again_operand t.left) (again_operand t.right)
 
@@ -56,7 +56,7 @@ unfolding grammar.tests
 again_tests [] small = again_right (again_give refl)
 again_tests (t ∷ ts) small =
     again_left (again_mark (word keywords.Where) (λ place. (place, refl))
-    (λ place. again_listed MOST_PARTS And (operands.test operands.operand) (test_spelling operand_spelling)
+    (λ place. again_listed MOST_PARTS And (operands.compared operands.operand) (test_spelling operand_spelling)
     (unplaced_test unplaced_operand) (λ x. Unit {0}) (λ x h. again_operand_test x) (t ∷ ts) (each_so (t ∷ ts))
     (omega arith, small)))
 

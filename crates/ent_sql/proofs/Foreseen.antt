@@ -11,7 +11,7 @@ use Rattle.ent_tree.specs.declared.limits.TheConstants.{MOST_PARTS}
 use Rattle.ent_grammar.specs.declared.divider.Divider.TheVariants.{Comma}
 use Rattle.ent_grammar.specs.Grammar.{Grammar, pick, listed, firsts, nullable}
 use Rattle.ent_grammar.specs.Foresight.{IsPredictive, if_some}
-use Rattle.ent_sql.specs.Operands.{identifier, host_variable, negative, unsigned, positive, quoted, literal, value, column_reference, operand, term, comparison, test, expression_behind, expression}
+use Rattle.ent_sql.specs.Operands.{identifier, host_variable, negative, unsigned, positive, quoted, literal, value, column_reference, operand, term, comparison, compared, expression_behind, expression}
 use Rattle.ent_sql.specs.Tables.{kind, column, create, row, opening_row, insert}
 use Rattle.ent_sql.specs.Selects.{source, tests, select_behind, items, select}
 use Rattle.ent_sql.specs.Entangling.{binding, entangled_item, entangled_items, relation, membership, bracketed, comparison_behind, tuple_behind, condition_behind, condition, entangled_conditions, entangled_behind, ordinary, entangled, query, are_terms}
@@ -57,8 +57,8 @@ unfolding comparison
 comparison_next follow = (refl, refl, λ p. (tt, tt), (refl, refl, λ p. (tt, tt), (refl, refl, λ p. (tt, tt), (refl, refl, λ p. (tt, tt), (refl, refl, λ p. (tt, tt), λ p. (tt, tt))))))
 
 module _ {A : Type 0} (thing : Grammar A) (thing_next : (follow : List Class) → NoDot follow → IsPredictive thing follow) where
-  test_next : (follow : List Class) → NoDot follow → IsPredictive (test thing) follow
-  unfolding test comparison
+  test_next : (follow : List Class) → NoDot follow → IsPredictive (compared thing) follow
+  unfolding compared comparison
   test_next follow h = λ l. (thing_next _ refl, λ c. (comparison_next [], λ r. (thing_next follow h, tt)))
 
   expression_next : (follow : List Class) → NoDot follow → apart (sign signs.Plus ∷ []) (sign signs.Minus ∷ follow) ≡ true → apart (sign signs.Minus ∷ []) follow ≡ true → IsPredictive (expression thing) follow
@@ -100,7 +100,7 @@ record Ends (follow : List Class) : Type 0 where
   no_and : apart (word words.And ∷ []) follow ≡ true
 
 tests_next : (follow : List Class) → Ends follow → IsPredictive tests follow
-unfolding tests test operand column_reference identifier value literal negative unsigned positive quoted host_variable
+unfolding tests compared operand column_reference identifier value literal negative unsigned positive quoted host_variable
 tests_next follow h = (refl, h.no_where, λ p. (tt, λ x. (test_next operand operand_next _ h.no_dot, λ xs. ((refl, h.no_and, refl, test_next operand operand_next _ h.no_dot), tt))), tt)
 
 source_next : (follow : List Class) → apart (word words.As ∷ []) (name ∷ follow) ≡ true → apart (name ∷ []) follow ≡ true → IsPredictive source follow

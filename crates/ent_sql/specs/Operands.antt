@@ -111,8 +111,8 @@ comparison = pick (symbol signs.Equal >>= λ _. give comparisons.Equal)
     (symbol signs.GreaterOrEqual >>= λ _. give comparisons.GreaterOrEqual)))))
 
 -- thing comparison thing
-unfoldable pub test : {A : Type 0} → Grammar A → Grammar (Test A)
-test thing = do
+unfoldable pub compared : {A : Type 0} → Grammar A → Grammar (Test A)
+compared thing = do
   left ← thing
   compares ← comparison
   right ← thing

@@ -12,7 +12,7 @@ use Rattle.ent_tree.specs.declared.select.Select.{Select}
 use Rattle.ent_grammar.specs.declared.divider.Divider.TheVariants.{Comma, And}
 use Rattle.ent_grammar.specs.Grammar.{Grammar, give, pick, listed}
 use Rattle.ent_sql.specs.Notation.{◌>>=◌, keyword, symbol}
-use Rattle.ent_sql.specs.Operands.{identifier, operand, test}
+use Rattle.ent_sql.specs.Operands.{identifier, operand, compared}
 
 -- name [ [ AS ] name ]
 unfoldable pub source : Grammar Source
@@ -34,7 +34,7 @@ unfoldable pub tests : Grammar (List (Test Operand))
 tests = pick
     (do
       _ ← keyword words.Where
-      listed MOST_PARTS And (test operand))
+      listed MOST_PARTS And (compared operand))
     (give [])
 
 -- FROM source { "," source } [ WHERE tests ], behind what is shown

@@ -2,7 +2,7 @@
 ghost use Rattle.std.specs.Prelude.{◌≡◌};
 ghost use Rattle.ent_value.specs.Refusal.{Gives};
 ghost use Rattle.ent_grammar.specs.Grammar.{reads};
-ghost use Rattle.ent_sql.specs.Operands.{comparison, test, expression_behind, expression};
+ghost use Rattle.ent_sql.specs.Operands.{comparison, compared, expression_behind, expression};
 
 use crate::front::begins_with_operand;
 use crate::list::Item;
@@ -40,13 +40,13 @@ pub(crate) fn comparison_at(
     }
 }
 
-#[tactic(auto, unfolding(crate::specs::Operands::test))]
+#[tactic(auto, unfolding(crate::specs::Operands::compared))]
 fn test_at<T: Item>(
     alloc: Global,
     end: usize,
     tokens: &[Token],
 ) -> Result<(Test<T>, &[Token]), Refusal<GrammarFault>>
-    ensures { Gives (λ x. (x.0, x.1.now)) result (reads (test T.grammar) end tokens.now) }
+    ensures { Gives (λ x. (x.0, x.1.now)) result (reads (compared T.grammar) end tokens.now) }
 {
     let (left, rest) = T::read(alloc, end, tokens)?;
     let (comparison, rest) = comparison_at(end, rest)?;
@@ -62,11 +62,11 @@ fn test_at<T: Item>(
 }
 
 impl Item for Test<Operand> {
-    ghost use Rattle.ent_sql.specs.Operands.{test, operand};
+    ghost use Rattle.ent_sql.specs.Operands.{compared, operand};
 
-    ghost grammar = { test operand };
+    ghost grammar = { compared operand };
 
-    #[tactic(auto, unfolding(crate::specs::Operands::test, crate::specs::Operands::operand, crate::specs::Operands::column_reference, crate::specs::Operands::identifier, crate::specs::Operands::value, crate::specs::Operands::host_variable, crate::specs::Operands::literal, crate::specs::Operands::negative, crate::specs::Operands::unsigned, crate::specs::Operands::positive, crate::specs::Operands::quoted))]
+    #[tactic(auto, unfolding(crate::specs::Operands::compared, crate::specs::Operands::operand, crate::specs::Operands::column_reference, crate::specs::Operands::identifier, crate::specs::Operands::value, crate::specs::Operands::host_variable, crate::specs::Operands::literal, crate::specs::Operands::negative, crate::specs::Operands::unsigned, crate::specs::Operands::positive, crate::specs::Operands::quoted))]
     fn is_start(tokens: &[Token]) -> bool {
         begins_with_operand(tokens)
     }
