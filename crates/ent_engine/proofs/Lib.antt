@@ -1,15 +1,3 @@
-pub mod Bindings
-pub mod Changes
-pub mod Undone
-pub mod Runs
 pub mod Pieces
-pub mod Fusion
-pub mod Meanings
-pub mod Same
-pub mod Serial
-pub mod Meant
-pub mod Loading
-pub mod Booking
+pub mod Resolved
 pub mod Written
-pub mod Wanted
-pub mod Narrowed

@@ -1,23 +1,28 @@
--- What is out after a failing write is a beginning of the report of the input.
-use Rattle.std.proofs.Common.{◌≡◌, ℕ, List, ◌++◌, map, Option, Some, None, sym, ◌∙◌, subst}
+-- What is out is the report of the input, and after a failing write a beginning of it.
+use Rattle.std.proofs.Common.{◌≡◌, ℕ, List, ◌++◌, Option, Some, None, ap, sym, ◌∙◌, subst}
 use Rattle.std.specs.Prelude.{IfSome}
 use Rattle.std.specs.Io.KnownBytes.{Appends}
-use Rattle.ent_plain_sql.specs.declared.tree.Input.{Input}
-use Rattle.ent_plain_semantics.specs.Database.{Name, Database}
-use Rattle.ent_plain_book.specs.declared.book.Fate.{Fate}
-use Rattle.ent_plain_book.specs.Report.{report_text}
-use Rattle.ent_engine.specs.Outcome.{outcome_of, report_of}
+use Rattle.ent_tree.specs.declared.script.Input.{Input}
+use Rattle.ent_book.specs.Report.{report_text}
+use Rattle.ent_semantics.specs.declared.book.Book.{Book}
+use Rattle.ent_semantics.specs.Database.{Database}
+use Rattle.ent_serial.specs.Outcome.{serial_book}
+use Rattle.ent_form.specs.declared.script.Plain.{Plain}
+use Rattle.ent_engine.specs.Report.{report_of}
 use Rattle.ent_engine.specs.Reading.{IsInput}
-use Rattle.ent_engine.specs.Io.{WritesBeginning}
+use Rattle.ent_engine.specs.Io.{WritesBeginning, WritesReport}
 use Rattle.ent_engine.specs.declared.fault.RunFault.TheVariants.{WriteFault}
 
--- the text of a book that is the input's is the input's report
-pub same_report : (input : Input) (names : List Name) (database : Database) (fates : List Fate) → names ≡ map (λ create. create.name.name) input.opening.tables
-    → database ≡ (outcome_of input).database → fates ≡ (outcome_of input).fates → report_text names database fates ≡ report_of input
-same_report input names database fates n d f = λ i. report_text (n i) (d i) (f i)
+pub wrote_report : (remaining old new : Option (List ℕ)) (bytes slice : List ℕ) (book : Book Database) (input : Input) (forms : List Plain)
+    → IfSome remaining (λ all. bytes ≡ all) → slice ≡ bytes → IsInput slice input forms → book ≡ serial_book input → Appends old new (report_text book)
+    → IfSome remaining (λ bytes. WritesReport bytes old new)
+wrote_report None old new bytes slice book input forms whole is reads same out = tt
+wrote_report (Some all) old new bytes slice book input forms whole is reads same out =
+    (input, forms, subst (λ (bs : List ℕ). IsInput bs input forms) (is ∙ whole) reads, subst (λ (b : Book Database). Appends old new (report_text b)) same out)
 
-pub wrote_beginning : (remaining old new : Option (List ℕ)) (bytes slice text : List ℕ) (input : Input) → IfSome remaining (λ all. bytes ≡ all) → slice ≡ bytes → IsInput slice input
-    → text ≡ report_of input → (front rest : List ℕ) × (text ≡ front ++ rest) × Appends old new front → IfSome remaining (λ bytes. WritesBeginning bytes old new WriteFault)
-wrote_beginning None old new bytes slice text input whole is reads same out = tt
-wrote_beginning (Some all) old new bytes slice text input whole is reads same (front, rest, parts, appended) =
-    (input, subst (λ (bs : List ℕ). IsInput bs input) (is ∙ whole) reads, (front, rest, sym same ∙ parts, appended))
+pub wrote_beginning : (remaining old new : Option (List ℕ)) (bytes slice : List ℕ) (book : Book Database) (input : Input) (forms : List Plain)
+    → IfSome remaining (λ all. bytes ≡ all) → slice ≡ bytes → IsInput slice input forms → book ≡ serial_book input
+    → (front rest : List ℕ) × (report_text book ≡ front ++ rest) × Appends old new front → IfSome remaining (λ bytes. WritesBeginning bytes old new WriteFault)
+wrote_beginning None old new bytes slice book input forms whole is reads same out = tt
+wrote_beginning (Some all) old new bytes slice book input forms whole is reads same (front, rest, parts, appended) =
+    (input, forms, subst (λ (bs : List ℕ). IsInput bs input forms) (is ∙ whole) reads, (front, rest, ap report_text (sym same) ∙ parts, appended))

@@ -1,12 +1,5 @@
 pub mod Reading
-pub mod Outcome
-pub mod Fates
+pub mod Report
 pub mod Io
 pub mod Fault
-pub mod Environment
-pub mod Evaluation
-pub mod Prepared
-pub mod Change
-pub mod Tables
-pub mod Ending
 pub mod Parse

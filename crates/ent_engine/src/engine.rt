@@ -4,11 +4,11 @@ ghost use Rattle.ent_value.specs.Watched.{IsUnmarked};
 ghost use Rattle.ent_engine.specs.Reading.{IsRefused};
 ghost use Rattle.ent_engine.specs.Io.{IsReaderMarkedBy, IsWriterMarkedBy, IsSilent, WritesReport, WritesBeginning};
 
-use crate::book::book_of;
 use crate::fault::RunFault;
-use crate::parse::parse;
+use crate::parse::{Resolved, parse};
 use crate::reader::read_whole;
-use ent_plain_book::{WriteFault, write_report};
+use ent_book::{WriteFault, write_report};
+use ent_serial::serial_book;
 use ent_value::{Refusal, Watched};
 use std::alloc::Global;
 use std::io::{Read, Write};
@@ -39,8 +39,12 @@ pub fn run<R: Read, W: Write>(
         WritesBeginning bytes (W.contents writer.old.inner) (W.contents writer.new.inner) fault)) }
 {
     let bytes = read_whole(alloc, reader)?;
-    let resolved = parse(alloc, bytes.as_slice())?;
-    let book = book_of(alloc, &resolved)?;
+    let Resolved {
+        input,
+        catalogue,
+        scripts,
+    } = parse(alloc, bytes.as_slice())?;
+    let book = serial_book(alloc, input, &catalogue, scripts.as_slice())?;
     match write_report(alloc, &book, writer) {
         Ok(()) => Ok(()),
         Err(Refusal::Memory) => Err(RunFault::Memory),

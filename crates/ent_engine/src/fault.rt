@@ -3,8 +3,8 @@ ghost use Rattle.std.specs.Prelude.{◌≡◌, Some};
 ghost use Rattle.ent_engine.specs.Fault.{code_of, place_of, status, line_text};
 ghost use Rattle.ent_engine.specs.declared.fault.RunFault.TheVariants.{Memory};
 
-use ent_plain_form::FormFault;
-use ent_plain_sql::SqlFault;
+use ent_form::FormFault;
+use ent_sql::SqlFault;
 use std::alloc::{AllocError, AllocFailed};
 use std::fmt;
 use thiserror::Error;
@@ -24,6 +24,10 @@ pub enum RunFault {
     /// The input's names, numbers of values or kinds have a fault.
     #[error("{0}")]
     Form(FormFault),
+    /// The input has no other fault, and has an entangled statement, which the program doesn't run yet; the place is
+    /// the INTO of the first.
+    #[error("E203 at {0}: entangled statements aren't run yet")]
+    NotYet(usize),
     /// The reader failed.
     #[error("E601: the input can't be read")]
     ReadFault,
@@ -61,6 +65,7 @@ impl RunFault {
             RunFault::TooLong => 105,
             RunFault::Sql(fault) => fault.code(),
             RunFault::Form(fault) => fault.code(),
+            RunFault::NotYet(_) => 203,
             RunFault::ReadFault => 601,
             RunFault::WriteFault => 602,
             RunFault::Memory => 900,
@@ -72,7 +77,7 @@ impl RunFault {
         ensures { result ≡ place_of self }
     {
         match self {
-            RunFault::NotUtf8(place) => Some(place),
+            RunFault::NotUtf8(place) | RunFault::NotYet(place) => Some(place),
             RunFault::Sql(fault) => Some(fault.place()),
             RunFault::Form(fault) => Some(fault.place()),
             RunFault::TooLong | RunFault::ReadFault | RunFault::WriteFault | RunFault::Memory => {
@@ -88,7 +93,11 @@ pub fn status_of(fault: &RunFault) -> u8
     ensures { result ≡ status fault.now }
 {
     match fault {
-        RunFault::NotUtf8(_) | RunFault::TooLong | RunFault::Sql(_) | RunFault::Form(_) => 1,
+        RunFault::NotUtf8(_)
+        | RunFault::TooLong
+        | RunFault::Sql(_)
+        | RunFault::Form(_)
+        | RunFault::NotYet(_) => 1,
         RunFault::Memory => 3,
         RunFault::ReadFault | RunFault::WriteFault => 4,
     }

@@ -1,19 +1,16 @@
 //! An input read from its bytes and resolved.
-ghost use Rattle.std.specs.Prelude.{◌≡◌, ◌≤◌, ◌++◌, List, length, map, IfOk, IfErr, Ok};
-ghost use Rattle.std.specs.List.{AllByRecursion};
+ghost use Rattle.std.specs.Prelude.{◌≡◌, ◌≤◌, [], length, IfOk, IfErr};
+ghost use Rattle.std.specs.Option.{option_map};
 ghost use Rattle.ent_value.specs.Refusal.{Gives};
-ghost use Rattle.ent_plain_sql.specs.Grammar.{reading};
-ghost use Rattle.ent_plain_form.specs.Catalogue.{schemas_of};
-ghost use Rattle.ent_plain_form.specs.FirstFault.{first_of, script_fault, unless};
-ghost use Rattle.ent_plain_form.specs.Plain.{plain_script};
-ghost use Rattle.ent_plain_form.specs.PlainMeaning.{schema_kinds};
-ghost use Rattle.ent_engine.specs.Parse.{IsResolved, IsRefusedAs, form_refusal};
-ghost use Rattle.ent_engine.specs.Reading.{IsInput, IsRefused};
+ghost use Rattle.ent_form.specs.Catalogue.{schemas_of};
+ghost use Rattle.ent_engine.specs.Parse.{IsRefusedAs, form_refusal};
+ghost use Rattle.ent_engine.specs.Reading.{IsInput, first_found, first_into, forms_from, into_place};
 ghost use Rattle.ent_engine.specs.declared.reader.TheConstants.{MOST_BYTES};
 
 use crate::fault::RunFault;
-use ent_plain_form::{Catalogue, FormFault, Plain, resolve};
-use ent_plain_sql::{Input, Script, parse_input};
+use ent_form::{Catalogue, FormFault, Plain, resolve};
+use ent_sql::parse_input;
+use ent_tree::{Input, Script, Statement};
 use ent_value::Refusal;
 use std::alloc::Global;
 use std::str;
@@ -29,9 +26,9 @@ pub(crate) struct Resolved {
 /// The input that bytes are, or its first fault.
 pub(crate) fn parse(alloc: Global, bytes: &[u8]) -> Result<Resolved, RunFault>
     requires { length bytes.now ≤ MOST_BYTES }
-    ensures input { IfOk result (λ resolved. IsInput bytes.now resolved.input) }
-    ensures resolved { IfOk result (λ resolved.
-        IsResolved resolved.input resolved.catalogue.tables resolved.scripts.items) }
+    ensures input { IfOk result (λ resolved. IsInput bytes.now resolved.input resolved.scripts.items) }
+    ensures tables { IfOk result (λ resolved.
+        resolved.catalogue.tables ≡ schemas_of resolved.input.opening.tables) }
     ensures refused { IfErr result (λ fault. IsRefusedAs bytes.now fault) }
 {
     let text = match str::from_utf8(bytes) {
@@ -47,13 +44,17 @@ pub(crate) fn parse(alloc: Global, bytes: &[u8]) -> Result<Resolved, RunFault>
         Ok(catalogue) => catalogue,
         Err(refusal) => return Err(form_refusal(refusal)),
     };
-    match resolve_all(alloc, &catalogue, input.scripts.as_slice()) {
-        Ok(scripts) => Ok(Resolved {
+    let scripts = match resolve_all(alloc, &catalogue, input.scripts.as_slice()) {
+        Ok(scripts) => scripts,
+        Err(refusal) => return Err(form_refusal(refusal)),
+    };
+    match first_into(input.scripts.as_slice()) {
+        Some(place) => Err(RunFault::NotYet(place)),
+        None => Ok(Resolved {
             input,
             catalogue,
             scripts,
         }),
-        Err(refusal) => Err(form_refusal(refusal)),
     }
 }
 
@@ -72,13 +73,35 @@ fn resolve_all(
     catalogue: &Catalogue,
     scripts: &[Script],
 ) -> Result<Vec<Plain>, Refusal<FormFault>>
-    ensures exact { let tables = catalogue.now.tables in
-        Gives (λ plain. plain.items) result
-        (unless (first_of (script_fault tables) scripts.now) (map (plain_script tables) scripts.now)) }
+    ensures { Gives (λ plain. plain.items) result (forms_from catalogue.now.tables [] scripts.now) }
 {
     let mut resolved = Vec::with_capacity(alloc, scripts.len())?;
     for script in scripts {
         resolved.push(resolve(alloc, catalogue, script)?)?;
     }
     Ok(resolved)
+}
+
+/// Where INTO stands in the first entangled statement.
+fn first_into_of(statements: &[Statement]) -> Option<usize>
+    ensures { result ≡ first_found into_place statements.now }
+{
+    for statement in statements {
+        if let Statement::Entangled(entangled) = statement {
+            return Some(entangled.place);
+        }
+    }
+    None
+}
+
+/// Where INTO stands in the first entangled statement of scripts.
+fn first_into(scripts: &[Script]) -> Option<usize>
+    ensures { result ≡ first_into scripts.now }
+{
+    for script in scripts {
+        if let Some(place) = first_into_of(script.statements.as_slice()) {
+            return Some(place);
+        }
+    }
+    None
 }
