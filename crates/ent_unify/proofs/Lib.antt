@@ -1,0 +1,6 @@
+pub mod Places
+pub mod Solving
+pub mod Solutions
+pub mod Tuples
+pub mod Atoms
+pub mod Filled
