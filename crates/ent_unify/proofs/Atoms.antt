@@ -1,5 +1,5 @@
 -- Atoms of two statements unify where their equations have a solution.
-use Rattle.std.proofs.Common.{◌≡◌, ℕ, zero, suc, ◌<◌, List, [], ◌∷◌, map, length, get_or, refl, sym, ◌∙◌, ap, subst, arith, All, Option, Some, None, Bool, true, false, true≢false}
+use Rattle.std.proofs.Common.{◌≡◌, ℕ, zero, suc, List, [], ◌∷◌, length, get_or, refl, sym, ◌∙◌, ap, subst, Option, Some, None, Bool, true, false, true≢false}
 use Rattle.std.specs.Prelude.{slice_get, IsTrue, ◌↔◌}
 use Rattle.ent_value.specs.Value.{kind_of, kinds_of}
 use Rattle.ent_value.specs.declared.value.Kind.{Kind}
@@ -14,7 +14,7 @@ use Rattle.ent_closed.specs.declared.entangled.Atom.{Atom}
 use Rattle.ent_closed.specs.declared.entangled.Term.{Term}
 use Rattle.ent_coordination.specs.Pool.{AreOfKinds, Unify}
 use Rattle.ent_unify.specs.Side.{Assignment, worth, side_kind}
-use Rattle.ent_unify.specs.Equation.{Holds, HaveSolution, AreRefuted, IsDecided}
+use Rattle.ent_unify.specs.Equation.{HaveSolution, AreRefuted, IsDecided}
 use Rattle.ent_unify.specs.Tuple.{variable_side, term_side, column_sides}
 use Rattle.ent_unify.proofs.Places.{length-map}
 use Rattle.ent_unify.proofs.Tuples.{Reads, IsKinded, columns_kinded, values_from_columns, columns_from_values}
@@ -104,7 +104,7 @@ pub unify_from_solution : (ks : List Kind) (atom : Atom Value) (js : List Kind) 
 unify_from_solution ks atom js other relation same solution =
     let v = solution.values in
     let values = values_from_columns v 0 1 ks js (values_under v 0 ks) (values_under v 1 js)
-        (reads_under v 0 ks) (reads_under v 1 js) atom.terms other.terms same solution.hold in
+    (reads_under v 0 ks) (reads_under v 1 js) atom.terms other.terms same solution.hold in
     record {
       values = values_under v 0 ks;
       of_kinds = values_by_kinds _ ks (λ n k. solution.of_kinds (record { member = 0; index = n; kind = k }));

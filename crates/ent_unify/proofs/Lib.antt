@@ -4,3 +4,5 @@ pub mod Solutions
 pub mod Tuples
 pub mod Atoms
 pub mod Filled
+pub mod Classes
+pub mod Pairs

@@ -1,5 +1,5 @@
 -- What solves equations gives values under which they hold.
-use Rattle.std.proofs.Common.{◌≡◌, ℕ, ◌<◌, List, [], ◌∷◌, length, get_or, refl, sym, ◌∙◌, ap, subst, arith, All, pos}
+use Rattle.std.proofs.Common.{◌≡◌, ℕ, ◌<◌, List, [], ◌∷◌, length, get_or, refl, sym, ◌∙◌, ap, subst, arith, pos}
 use Rattle.std.proofs.lemmas.List.Elements.{All-nil, All-cons, All-get_or}
 use Rattle.ent_value.specs.declared.value.Kind.{Kind}
 use Rattle.ent_value.specs.declared.value.Kind.TheVariants as kinds
@@ -8,8 +8,8 @@ use Rattle.ent_value.specs.declared.value.Value.TheVariants.{Int, Text}
 use Rattle.ent_semantics.specs.Kinds.{IsOfKind}
 use Rattle.ent_unify.specs.declared.variable.Representative.{Representative}
 use Rattle.ent_unify.specs.declared.variable.Representative.TheVariants.{Constant, Variable}
-use Rattle.ent_unify.specs.Side.{Assignment, worth, side_kind, IsWithinBounds, Substitution, resolved}
-use Rattle.ent_unify.specs.Equation.{Sides, Holds, HasKinds, PutsSolution, AreRefuted, HaveSolution}
+use Rattle.ent_unify.specs.Side.{worth, side_kind, IsWithinBounds, Substitution, resolved}
+use Rattle.ent_unify.specs.Equation.{Sides, Holds, HasKinds, Solves, AreRefuted, HaveSolution}
 
 -- some value of a kind
 abbrev some_of : Kind → Value
@@ -34,13 +34,13 @@ worth_for : (stands : Substitution) (s : Representative)
 worth_for stands (Constant value) = refl
 worth_for stands (Variable x) = refl
 
-pub has_solution : (es old new : List Sides) → PutsSolution es (length es) old new → HaveSolution es
-has_solution es old new puts =
+pub has_solution : (es : List Sides) (stands : Substitution) → Solves es (length es) stands → HaveSolution es
+has_solution es stands solves =
     record {
-      values = λ x. value_for (puts.stands x);
-      of_kinds = λ x. value_for_kind (puts.stands x) x.kind (puts.solves.kinds x) (puts.solves.bounds x);
-      hold = λ k d below. worth_for puts.stands (get_or es k d).0
-          ∙ (ap value_for (puts.solves.equal k d below) ∙ sym (worth_for puts.stands (get_or es k d).1));
+      values = λ x. value_for (stands x);
+      of_kinds = λ x. value_for_kind (stands x) x.kind (solves.kinds x) (solves.bounds x);
+      hold = λ k d below. worth_for stands (get_or es k d).0
+          ∙ (ap value_for (solves.equal k d below) ∙ sym (worth_for stands (get_or es k d).1));
     }
 
 -- one equation that nothing makes hold is enough

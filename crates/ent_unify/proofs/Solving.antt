@@ -1,5 +1,5 @@
 -- Equations are solved one after the other.
-use Rattle.std.proofs.Common.{◌≡◌, ◌≢◌, ℕ, zero, suc, ◌+◌, ◌<◌, ◌⊎◌, inl, inr, Bool, true, false, cond, List, [], ◌∷◌, map, length, get_or, refl, sym, ◌∙◌, ap, subst, arith, All}
+use Rattle.std.proofs.Common.{◌≡◌, ◌≢◌, ℕ, zero, suc, ◌+◌, ◌<◌, inl, inr, true, cond, List, [], ◌∷◌, map, length, get_or, refl, sym, ◌∙◌, ap, subst, arith, All}
 use Rattle.std.specs.Prelude.{◌==◌}
 use Rattle.std.proofs.lemmas.Bool.{and_parts, and_from, eqb-true, eq-eqb, cases_Bool, cases_lt}
 use Rattle.std.proofs.lemmas.List.{get_or_default}
@@ -26,12 +26,12 @@ same_kind-true kinds.Int kinds.Text h = cc
 same_kind-true kinds.Text kinds.Int h = cc
 same_kind-true kinds.Text kinds.Text h = refl
 
-same_variable-self : (x : Variables) → same_variable x x ≡ true
+pub same_variable-self : (x : Variables) → same_variable x x ≡ true
 same_variable-self x =
     and_from _ _ (eq-eqb x.member x.member refl)
     (and_from _ _ (eq-eqb x.index x.index refl) (same_kind-self x.kind))
 
-same_variable-true : (x y : Variables) → same_variable x y ≡ true → x ≡ y
+pub same_variable-true : (x y : Variables) → same_variable x y ≡ true → x ≡ y
 same_variable-true x y h =
     let parts : _ × _ = and_parts (x.member == y.member) _ h in
     let rest : _ × _ = and_parts (x.index == y.index) _ parts.1 in
@@ -201,7 +201,6 @@ refuted_constants l r differ left right values kinds holds =
 
 module _ (es cur : List Sides) (n : ℕ) (e : Sides) (below : n < length es) (is : e ≡ get_or cur n e)
     (puts : PutsSolution es n es cur) where
-
   -- the equation as it was given
   given : Sides
   given = get_or es n e
@@ -231,9 +230,9 @@ module _ (es cur : List Sides) (n : ℕ) (e : Sides) (below : n < length es) (is
       let of = All-get_or (HasKinds values) es n e below kinds in
       subst (HasKinds values) (sym now_is) (
         ap kind_of (worth-resolved values puts.stands (get_or es n e).0 kept)
-        ∙ (of.0 ∙ sym (kind-resolved puts.stands (get_or es n e).0 puts.solves.kinds)),
+            ∙ (of.0 ∙ sym (kind-resolved puts.stands (get_or es n e).0 puts.solves.kinds)),
         ap kind_of (worth-resolved values puts.stands (get_or es n e).1 kept)
-        ∙ (of.1 ∙ sym (kind-resolved puts.stands (get_or es n e).1 puts.solves.kinds)),
+            ∙ (of.1 ∙ sym (kind-resolved puts.stands (get_or es n e).1 puts.solves.kinds)),
       )
 
   pub refuted_more : AreRefuted (e ∷ []) → AreRefuted es
@@ -255,7 +254,7 @@ module _ (es cur : List Sides) (n : ℕ) (e : Sides) (below : n < length es) (is
         | inr not_before ↦
             let here : n ≡ k = omega arith in
             subst (λ j. resolved later (resolved puts.stands (get_or es j d).0)
-                ≡ resolved later (resolved puts.stands (get_or es j d).1)) here (equal_here later step d)
+            ≡ resolved later (resolved puts.stands (get_or es j d).1)) here (equal_here later step d)
       ]
 
   equal_more : (later : Substitution) → Solves (e ∷ []) 1 later → (k : ℕ) (d : Sides) → k < n + 1

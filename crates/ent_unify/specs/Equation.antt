@@ -1,5 +1,5 @@
 -- Equations between values and variables.
-use Rattle.std.specs.Prelude.{◌≡◌, ◌<◌, ℕ, Bool, true, false, List, [], ◌∷◌, length, map, All, slice_index_or}
+use Rattle.std.specs.Prelude.{◌≡◌, ◌<◌, ℕ, Bool, true, false, List, length, map, All, slice_index_or}
 use Rattle.ent_value.specs.Value.{kind_of}
 use Rattle.ent_semantics.specs.Kinds.{IsOfKind}
 use Rattle.ent_unify.specs.declared.equation.Equation.{Equation}

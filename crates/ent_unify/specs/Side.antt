@@ -1,5 +1,5 @@
 -- Values and variables, and what they are worth under an assignment of values to variables.
-use Rattle.std.specs.Prelude.{◌≡◌, ◌==◌, ◌&&◌, ℕ, Bool, true, false, if◌then◌else◌}
+use Rattle.std.specs.Prelude.{◌==◌, ◌&&◌, Bool, true, false, if◌then◌else◌}
 use Rattle.ent_value.specs.Value.{kind_of}
 use Rattle.ent_value.specs.declared.value.Kind.{Kind}
 use Rattle.ent_value.specs.declared.value.Kind.TheVariants as kinds

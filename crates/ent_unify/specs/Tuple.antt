@@ -1,8 +1,7 @@
 -- The terms of an atom of a member as values and variables.
-use Rattle.std.specs.Prelude.{◌≡◌, ◌<◌, ℕ, List, [], ◌∷◌, length, Option, Some, None, slice_get, slice_index_or}
+use Rattle.std.specs.Prelude.{ℕ, List, [], ◌∷◌, Option, Some, None, slice_get}
 use Rattle.ent_value.specs.declared.value.Kind.{Kind}
 use Rattle.ent_value.specs.declared.value.Value.{Value}
-use Rattle.ent_semantics.specs.Entangled.{Valuation}
 use Rattle.ent_semantics.specs.Term.{no_value}
 use Rattle.ent_closed.specs.declared.entangled.Term.{Term}
 use Rattle.ent_closed.specs.declared.entangled.Term.TheVariants as terms
@@ -10,7 +9,6 @@ use Rattle.ent_unify.specs.declared.tuple.Tuple.{Tuple}
 use Rattle.ent_unify.specs.declared.variable.Representative.{Representative}
 use Rattle.ent_unify.specs.declared.variable.Representative.TheVariants.{Constant, Variable}
 use Rattle.ent_unify.specs.Equation.{Sides}
-use Rattle.ent_unify.specs.Side.{Assignment}
 
 -- a variable of a member whose kind is known; one that isn't there stands for no value
 abbrev pub variable_side : ℕ → ℕ → Option Kind → Representative

@@ -1,12 +1,12 @@
 -- Unifiers: what stands for the variables of several members.
-use Rattle.std.specs.Prelude.{◌≡◌, ◌↔◌, ◌==◌, ◌&&◌, ℕ, Bool, List, [], ◌∷◌, ◌++◌, map, length, All, Option, Some, None}
+use Rattle.std.specs.Prelude.{◌≡◌, ◌↔◌, List, [], ◌∷◌, ◌++◌, map, length, All, Option, Some, None}
 use Rattle.std.specs.Prelude.{if◌then◌else◌, slice_index_or, IfSome}
+use Rattle.std.specs.List.{flat_map}
 use Rattle.std.specs.Borrow.{Bor}
 use Rattle.ent_value.specs.Value.{kinds_of}
 use Rattle.ent_value.specs.declared.value.Kind.{Kind}
 use Rattle.ent_value.specs.declared.value.Value.{Value}
 use Rattle.ent_semantics.specs.Entangled.{Valuation}
-use Rattle.ent_semantics.specs.Kinds.{IsOfKind}
 use Rattle.ent_semantics.specs.Term.{no_value}
 use Rattle.ent_coordination.specs.Pool.{AreOfKinds, fact_under}
 use Rattle.ent_unify.specs.declared.unifier.Binding.{Binding}
@@ -14,7 +14,7 @@ use Rattle.ent_unify.specs.declared.unifier.MemberAtom.{MemberAtom}
 use Rattle.ent_unify.specs.declared.variable.Representative.{Representative}
 use Rattle.ent_unify.specs.declared.variable.Representative.TheVariants.{Constant, Variable}
 use Rattle.ent_unify.specs.declared.variable.Variable.{Variable as Variables}
-use Rattle.ent_unify.specs.Equation.{Sides, resolved_both}
+use Rattle.ent_unify.specs.Equation.{Sides, AreWithinBounds, Solves}
 use Rattle.ent_unify.specs.Side.{same_variable, Substitution, resolved}
 use Rattle.ent_unify.specs.Tuple.{term_side, column_sides}
 
@@ -97,3 +97,16 @@ abbrev pub IsPlain : MemberAtom × MemberAtom → Type 0
 IsPlain (left, right) =
     (left.atom.now.relation ≡ right.atom.now.relation)
     × (length left.atom.now.terms ≡ length right.atom.now.terms)
+
+-- the equations of pairs of atoms that may be equal
+pub record AreEquationsOf (kinds : List (List Kind)) (pairs : List (MemberAtom × MemberAtom)) (equations : List Sides)
+    : Type 0 where
+  pub are : equations ≡ flat_map (pair_equations kinds) pairs
+  pub plain : All IsPlain pairs
+  pub bounds : All AreWithinBounds equations
+
+-- the bindings of a solution
+pub record AreBindingsOf (equations : List Sides) (bindings : List Binding) : Type 0 where
+  pub stands : Substitution
+  pub solves : Solves equations (length equations) stands
+  pub are : bindings ≡ flat_map (bindings_under stands) equations

@@ -6,7 +6,7 @@ use crate::tuple::Tuple;
 use ent_closed::Atom;
 use ent_value::{Kind, Value};
 
-fn has_relation_of(atom: &Atom<Value>, other: &Atom<Value>) -> bool
+pub(crate) fn has_relation_of(atom: &Atom<Value>, other: &Atom<Value>) -> bool
     ensures { IsTrue result ↔ (atom.now.relation ≡ other.now.relation) }
 {
     atom.relation == other.relation

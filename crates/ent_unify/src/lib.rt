@@ -14,5 +14,5 @@ mod unifier;
 mod variable;
 
 pub use atom::unifies;
-pub use unifier::{Binding, MemberAtom, Unifier};
+pub use unifier::{Binding, MemberAtom, Unifier, unify};
 pub use variable::{Representative, Variable};

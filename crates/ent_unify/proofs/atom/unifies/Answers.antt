@@ -1,16 +1,18 @@
-use Rattle.std.proofs.Common.{◌≡◌, ◌∙◌, sym, ap, subst, true≢false, length, arith}
+use Rattle.std.proofs.Common.{◌∙◌, sym, ap, true≢false}
 use Rattle.ent_unify.proofs.Atoms.{other_length, unify_decided}
 use Rattle.ent_unify.proofs.atom.unifies.Goals as goal
 
 pub returns-then-not-has_relation_of : goal.returns-then-not-has_relation_of
-returns-then-not-has_relation_of c =
-    (λ f. absurd (true≢false (sym f)),
-    λ u. absurd (true≢false (sym (c.has_relation_of.ensures.1 (ap (λ f. f.relation) u.one_fact)) ∙ c.if-not-has_relation_of.true)))
+returns-then-not-has_relation_of c = (
+  λ f. absurd (true≢false (sym f)),
+  λ u. absurd (true≢false (sym (c.has_relation_of.ensures.1 (ap (λ f. f.relation) u.one_fact)) ∙ c.if-not-has_relation_of.true)),
+)
 
 pub returns-then-len : goal.returns-then-len
-returns-then-len c =
-    (λ f. absurd (true≢false (sym f)),
-    λ u. absurd (c.if-len.true (c.len.ensures.len ∙ (other_length _ _ _ _ u ∙ sym c.len-2.ensures.len))))
+returns-then-len c = (
+  λ f. absurd (true≢false (sym f)),
+  λ u. absurd (c.if-len.true (c.len.ensures.len ∙ (other_length _ _ _ _ u ∙ sym c.len-2.ensures.len))),
+)
 
 pub returns : goal.returns
 returns c =

@@ -1,4 +1,4 @@
-use Rattle.std.proofs.Common.{◌≡◌, ◌≢◌, sym, ◌∙◌, ap, true≢false}
+use Rattle.std.proofs.Common.{sym, ◌∙◌, ap, true≢false}
 use Rattle.ent_unify.specs.Side.{seen}
 use Rattle.ent_unify.proofs.Solving.{puts_nothing, puts_left, puts_right, refuted_by_kind, refuted_constants}
 use Rattle.ent_unify.proofs.equation.equate.Goals as goal

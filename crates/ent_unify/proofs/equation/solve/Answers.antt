@@ -1,5 +1,5 @@
-use Rattle.std.proofs.Common.{◌≡◌, ◌<◌, ◌+◌, ◌∙◌, sym, ap, subst, map, length, get_or, arith, Bool, true, false, []}
-use Rattle.ent_unify.specs.Equation.{seen_equation, Sides, Settles, PutsSolution, AreRefuted}
+use Rattle.std.proofs.Common.{◌≡◌, ◌<◌, ◌∙◌, sym, ap, subst, map, length, get_or, arith}
+use Rattle.ent_unify.specs.Equation.{seen_equation, PutsSolution}
 use Rattle.ent_unify.proofs.Places.{length-map, get_or-map}
 use Rattle.ent_unify.proofs.Solving.{starts, now_within_bounds, refuted_more, puts_more}
 use Rattle.ent_unify.proofs.equation.solve.Goals as goal

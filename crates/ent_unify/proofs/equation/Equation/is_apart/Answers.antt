@@ -1,4 +1,4 @@
-use Rattle.std.proofs.Common.{◌≡◌, ◌≢◌, sym, ◌∙◌, true≢false}
+use Rattle.std.proofs.Common.{sym, ◌∙◌, true≢false}
 use Rattle.ent_unify.proofs.Solving.{refuted_by_kind, refuted_constants}
 use Rattle.ent_unify.proofs.equation.Equation.is_apart.Goals as goal
 

@@ -1,4 +1,4 @@
-use Rattle.std.proofs.Common.{◌≡◌, ◌∙◌, get_or}
+use Rattle.std.proofs.Common.{◌∙◌, get_or}
 use Rattle.std.proofs.lemmas.List.{get_or_default}
 use Rattle.ent_unify.specs.Tuple.{term_side}
 use Rattle.ent_unify.proofs.Tuples.{column_at}
