@@ -126,19 +126,19 @@ opening_head opening =
 
 -- ---- terms
 
-one_answer : {A : Type 0} (x y : A) → ◌≡◌ {A = Result A FormFault} (Ok x) (Ok y) → x ≡ y
+pub one_answer : {A : Type 0} (x y : A) → ◌≡◌ {A = Result A FormFault} (Ok x) (Ok y) → x ≡ y
 one_answer x y e = cc
 
-found_of : {A B : Type 0} (first : Result A FormFault) (next : A → Result B FormFault) (y : B)
+pub found_of : {A B : Type 0} (first : Result A FormFault) (next : A → Result B FormFault) (y : B)
     → (first >>= next) ≡ Ok y → (x : A) × (first ≡ Ok x) × (next x ≡ Ok y)
 found_of (Ok x) next y e = (x, refl, e)
 found_of (Err fault) next y e = cc
 
-there_of : {A : Type 0} (found : Option A) (fault : FormFault) (x : A) → there found fault ≡ Ok x → found ≡ Some x
+pub there_of : {A : Type 0} (found : Option A) (fault : FormFault) (x : A) → there found fault ≡ Ok x → found ≡ Some x
 there_of (Some y) fault x e = ap Some (one_answer y x e)
 there_of None fault x e = cc
 
-demand_of : {A : Type 0} (test : Bool) (fault : FormFault) (more : Result A FormFault) (x : A)
+pub demand_of : {A : Type 0} (test : Bool) (fault : FormFault) (more : Result A FormFault) (x : A)
     → demand test fault more ≡ Ok x → more ≡ Ok x
 demand_of true fault more x e = e
 demand_of false fault more x e = cc
@@ -150,7 +150,7 @@ pub record Agrees {A B : Type 0} (lookup : Lookup A B) (terms : Terms A) : Type 
   pub place : (term : A) → lookup.place term ≡ terms.place term
 
 module _ {A B : Type 0} (lookup : Lookup A B) (terms : Terms A) (agrees : Agrees lookup terms) where
-  wanted_head : (wanted : Kind) (term : A)
+  pub wanted_head : (wanted : Kind) (term : A)
       → fault_of (kind_in lookup wanted term) ≡ head_of (wanted_faults terms wanted term)
   wanted_head wanted term =
       head_then (lookup.find term) _ (terms.faults term) _ (agrees.faults term) (λ found is.
@@ -197,13 +197,13 @@ module _ {A B : Type 0} (lookup : Lookup A B) (terms : Terms A) (agrees : Agrees
 -- ---- values
 
 module _ (bound : Bound) where
-  value_head : (value : ValueSpecification) → fault_of (value_in bound value) ≡ head_of (value_faults bound value)
+  pub value_head : (value : ValueSpecification) → fault_of (value_in bound value) ≡ head_of (value_faults bound value)
   value_head (specifications.Literal literal) = refl
   value_head (specifications.HostVariable variable) =
       head_there (bound variable.name) (NoHostVariable variable.place) _ [] (λ kind _. refl)
       ∙ ap head_of (append-nil (faults_where (is_none (bound variable.name)) (NoHostVariable variable.place)))
 
-  value_known : (value : ValueSpecification) (found : Known × Kind) → value_in bound value ≡ Ok found
+  pub value_known : (value : ValueSpecification) (found : Known × Kind) → value_in bound value ≡ Ok found
       → value_kind bound value ≡ Some found.1
   value_known (specifications.Literal literal) found e =
       ap (λ (f : Known × Kind). Some f.1) (one_answer (known.Constant literal.value, kind_of literal.value) found e)
@@ -295,7 +295,7 @@ module _ (scope : Scope) (bound : Bound) where
   operand_head (operands.Column reference) =
       head_last (column_in scope reference) _ (reference_faults (view_in scope) reference) (reference_head reference)
 
-  operand_known : (operand : TreeOperand) (found : Operand Known × Kind) → operand_in scope bound operand ≡ Ok found
+  pub operand_known : (operand : TreeOperand) (found : Operand Known × Kind) → operand_in scope bound operand ≡ Ok found
       → (operands_over (view_in scope) bound).kind operand ≡ Some found.1
   operand_known (operands.Value value) found e =
       let w = found_of (value_in bound value) _ found e in
@@ -374,7 +374,7 @@ module _ (tables : List TableSchema) where
             ++ (columns_there name there ++ flat_map columns_of more)) (sym here),
       )
 
-  view_seen : (sources : List Source) (scope : Scope) → sources_in tables sources ≡ Ok scope
+  pub view_seen : (sources : List Source) (scope : Scope) → sources_in tables sources ≡ Ok scope
       → view_in scope ≡ view_of tables sources
   view_seen sources scope e =
       let seen = sources_seen sources no_source scope e in

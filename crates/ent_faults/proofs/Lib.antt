@@ -3,3 +3,5 @@ pub mod Heads
 pub mod Membership
 pub mod Found
 pub mod Stands
+pub mod EntangledHeads
+pub mod ScriptHeads

@@ -1,2 +1,4 @@
 pub mod AllFaults
 pub mod Standing
+pub mod EntangledFaults
+pub mod ScriptFaults

@@ -2,6 +2,8 @@
 ghost use Rattle.std.specs.Prelude.{◌≡◌, ◌↔◌, List};
 ghost use Rattle.std.specs.List.{Contains};
 ghost use Rattle.ent_tree.specs.declared.declaration.Opening.{Opening};
+ghost use Rattle.ent_tree.specs.declared.script.Script.{Script};
+ghost use Rattle.ent_tree.specs.declared.script.Statement.{Statement};
 ghost use Rattle.ent_tree.specs.declared.select.Select.{Select};
 ghost use Rattle.ent_tree.specs.declared.statement.Delete.{Delete};
 ghost use Rattle.ent_tree.specs.declared.statement.Insert.{Insert};
@@ -9,26 +11,22 @@ ghost use Rattle.ent_tree.specs.declared.statement.Set.{Set};
 ghost use Rattle.ent_tree.specs.declared.statement.Update.{Update};
 ghost use Rattle.ent_form.specs.declared.catalogue.TableSchema.{TableSchema};
 ghost use Rattle.ent_form.specs.declared.fault.FormFault.{FormFault};
+ghost use Rattle.ent_form.specs.Form.{statement_in, script_in};
 ghost use Rattle.ent_form.specs.Kinds.{Bound};
 ghost use Rattle.ent_form.specs.OpeningFault.{opening_fault};
-ghost use Rattle.ent_form.specs.Ordinary.{select_in, insert_in, delete_in, update_in, set_in};
 ghost use Rattle.ent_faults.specs.AllFaults.{fault_of, head_of, opening_faults, select_faults, insert_faults};
 ghost use Rattle.ent_faults.specs.AllFaults.{delete_faults, update_faults, set_faults};
+ghost use Rattle.ent_faults.specs.ScriptFaults.{statement_faults, script_faults};
 ghost use Rattle.ent_faults.specs.Standing.{IsOpeningFault, IsSelectFault, IsInsertFault, IsDeleteFault, IsUpdateFault};
 ghost use Rattle.ent_faults.specs.Standing.{IsSetFault};
 
 /// The fault that is answered is the first of all.
 pub fn first_fault_is_first()
     ensures opening { (opening : Opening) → opening_fault opening ≡ head_of (opening_faults opening) }
-    ensures select { (tables : List TableSchema) (bound : Bound) (select : Select)
-        → fault_of (select_in tables bound select) ≡ head_of (select_faults tables bound select) }
-    ensures insert { (tables : List TableSchema) (bound : Bound) (insert : Insert)
-        → fault_of (insert_in tables bound insert) ≡ head_of (insert_faults tables bound insert) }
-    ensures delete { (tables : List TableSchema) (bound : Bound) (delete : Delete)
-        → fault_of (delete_in tables bound delete) ≡ head_of (delete_faults tables bound delete) }
-    ensures update { (tables : List TableSchema) (bound : Bound) (update : Update)
-        → fault_of (update_in tables bound update) ≡ head_of (update_faults tables bound update) }
-    ensures set { (bound : Bound) (set : Set) → fault_of (set_in bound set) ≡ head_of (set_faults bound set) }
+    ensures statement { (tables : List TableSchema) (bound : Bound) (statement : Statement)
+        → fault_of (statement_in tables bound statement) ≡ head_of (statement_faults tables bound statement) }
+    ensures script { (tables : List TableSchema) (script : Script)
+        → fault_of (script_in tables script) ≡ head_of (script_faults tables script) }
 {}
 
 /// The faults that are counted are those that stand, each where it stands: a name that is declared a second time, or
