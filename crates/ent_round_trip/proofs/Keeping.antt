@@ -27,15 +27,20 @@ pub each_back : {A : Type 0} (holds : A → Type 0) (xs ys : List A) → Each ho
 each_back holds [] ys hs = hs
 each_back holds (x ∷ xs) ys hs = each_back holds xs ys hs.1
 
-pub each_so : {A : Type 0} (these those : A → Type 0) → ((x : A) → these x → those x) → (xs : List A) → Each these xs
+pub each_implies : {A : Type 0} (these those : A → Type 0) → ((x : A) → these x → those x) → (xs : List A)
+    → Each these xs
     → Each those xs
-each_so these those so [] hs = tt
-each_so these those so (x ∷ xs) hs = (so x hs.0, each_so these those so xs hs.1)
+each_implies these those so [] hs = tt
+each_implies these those so (x ∷ xs) hs = (so x hs.0, each_implies these those so xs hs.1)
 
 pub each_at : {A : Type 0} (holds : A → Type 0) (xs : List A) → Each holds xs → All holds xs
 each_at holds [] hs k d lt = absurd (omega arith)
 each_at holds (x ∷ xs) hs zero d lt = hs.0
 each_at holds (x ∷ xs) hs (suc k) d lt = each_at holds xs hs.1 k d (omega arith)
+
+pub each_of : {A : Type 0} (holds : A → Type 0) (xs : List A) → All holds xs → Each holds xs
+each_of holds [] hs = tt
+each_of holds (x ∷ xs) hs = (hs 0 x (omega arith), each_of holds xs (λ k d lt. hs (suc k) d (omega arith)))
 
 -- ---- grammars
 
@@ -93,7 +98,8 @@ keep_either {g = g} {h = h} {so = so} one other = record { keeps = on }
     on y tokens stand (inl spelled) = one.keeps y tokens stand spelled
     on y tokens stand (inr spelled) = other.keeps y tokens stand spelled
 
-pub keep_so : {A : Type 0} {g : Grammar A} {such so : A → Type 0} → ((x : A) → such x → so x) → Keeps g such → Keeps g so
+pub keep_so : {A : Type 0} {g : Grammar A} {such so : A → Type 0} → ((x : A) → such x → so x) → Keeps g such
+    → Keeps g so
 keep_so then each = record { keeps = λ y tokens stand spelled. then y (each.keeps y tokens stand spelled) }
 
 pub keep_if : {A : Type 0} {g h : Grammar A} {so : A → Type 0} (test : Bool) → Keeps g so → Keeps h so

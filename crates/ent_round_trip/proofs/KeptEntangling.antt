@@ -24,7 +24,7 @@ use Rattle.ent_print.specs.Spelling.{select_spelling, comparison_symbol}
 use Rattle.ent_round_trip.specs.Fits.{Each, HasParts, ConditionFits, EntangledFits}
 use Rattle.ent_round_trip.proofs.Items.{items_length}
 use Rattle.ent_round_trip.proofs.Keeping.{Keeps, keep_give, keep_then, keep_behind, keep_either, keep_so, keep_listed}
-use Rattle.ent_round_trip.proofs.Keeping.{keep_more, each_append, each_back, each_so}
+use Rattle.ent_round_trip.proofs.Keeping.{keep_more, each_append, each_back, each_implies}
 use Rattle.ent_round_trip.proofs.KeptOperands.{Printable, word_stands, number_stands, keep_identifier}
 use Rattle.ent_round_trip.proofs.KeptOperands.{keep_host_variable, keep_term, both_print}
 use Rattle.ent_round_trip.proofs.KeptSelects.{commas_print, where_prints, brackets_print, keep_select}
@@ -121,7 +121,11 @@ unfolding grammar.condition_behind grammar.comparison_behind grammar.tuple_behin
 keep_condition_behind first h =
     keep_either
     (keep_behind (λ compares. keep_then keep_term
-    (λ right k. keep_give (tt, both_print (term_spelling first) (term_spelling right) (comparison_symbol compares) h k))))
+    (λ right k. keep_give (
+      tt,
+      both_print (term_spelling first) (term_spelling right) (comparison_symbol compares) h
+          k,
+    ))))
     (keep_then (keep_more (MOST_PARTS - 1) Comma keep_term)
     (λ others k. keep_membership (record { place = grammar.place_of_term first; terms = first ∷ others })
     ((omega arith, omega (arith, k.1)), (h, k.0))))
@@ -143,9 +147,9 @@ keep_conditions =
     (λ cs h. (
       h.1.1,
       (
-        each_so ConditionKept ConditionFits (λ c k. k.0) cs h.0,
+        each_implies ConditionKept ConditionFits (λ c k. k.0) cs h.0,
         where_prints condition_spelling cs
-            (each_so ConditionKept (Printable condition_spelling) (λ c k. k.1) cs h.0),
+            (each_implies ConditionKept (Printable condition_spelling) (λ c k. k.1) cs h.0),
       ),
     ))
     (keep_listed MOST_PARTS And (omega arith) keep_condition)))

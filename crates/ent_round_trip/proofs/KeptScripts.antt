@@ -1,6 +1,8 @@
 -- Statements and scripts that are read keep the limits and can be printed.
-use Rattle.std.proofs.Common.{◌≡◌, ℕ, ◌+◌, ◌≤◌, Bool, true, false, refl, nat_le, List, [], ◌∷◌, length, arith, Some, ap, subst}
+use Rattle.std.proofs.Common.{◌≡◌, ℕ, ◌+◌, ◌≤◌, Bool, true, false, refl, nat_le, List, [], ◌∷◌, length, arith}
+use Rattle.std.proofs.Common.{Some, ap, subst}
 use Rattle.std.proofs.lemmas.Bool.{leb-true}
+use Rattle.std.specs.Prelude.{◌↔◌, Ok}
 use Rattle.std.specs.List.{flat_map, Contains}
 use Rattle.ent_text.specs.declared.keyword.Keyword.TheVariants as keywords
 use Rattle.ent_text.specs.declared.symbol.Symbol.TheVariants as symbols
@@ -8,7 +10,7 @@ use Rattle.ent_text.specs.declared.token.Token.{Token as PlacedToken}
 use Rattle.ent_text.specs.declared.token.TokenKind.{TokenKind}
 use Rattle.ent_text.specs.declared.token.TokenKind.TheVariants as kinds
 use Rattle.ent_text.specs.Reading.{Reads, AreTokens, nothing, gap, token}
-use Rattle.ent_tree.specs.declared.limits.TheConstants.{MOST_PARTS, MOST_RUNS, MOST_STATEMENTS}
+use Rattle.ent_tree.specs.declared.limits.TheConstants.{MOST_PARTS, MOST_RUNS, MOST_STATEMENTS, MOST_SCRIPTS}
 use Rattle.ent_tree.specs.declared.operand.Operand.{Operand}
 use Rattle.ent_tree.specs.declared.script.Statement.{Statement}
 use Rattle.ent_tree.specs.declared.script.Script.{Script}
@@ -16,7 +18,9 @@ use Rattle.ent_tree.specs.declared.script.Input.{Input}
 use Rattle.ent_tree.specs.declared.select.Items.TheVariants.{All, Listed}
 use Rattle.ent_grammar.specs.declared.divider.Divider.TheVariants.{Comma}
 use Rattle.ent_grammar.specs.Class.{positive, given, if_so}
-use Rattle.ent_grammar.specs.Spelling.{spells}
+use Rattle.ent_text.specs.Lexing.{tokens_of}
+use Rattle.ent_sql.specs.Reading.{reading}
+use Rattle.ent_sql.specs.Says.{Says}
 use Rattle.ent_sql.specs.Entangling as entangling
 use Rattle.ent_sql.specs.Statements as grammar
 use Rattle.ent_sql.specs.Scripts as script_grammar
@@ -25,7 +29,8 @@ use Rattle.ent_print.specs.Spelling.{word, sign, operand_spelling, statement_spe
 use Rattle.ent_print.specs.Spelling.{script_spelling}
 use Rattle.ent_round_trip.specs.Fits.{Each, HasParts, StatementFits, ScriptFits}
 use Rattle.ent_round_trip.proofs.Keeping.{CanAllStand, Keeps, keep_give, keep_then, keep_behind, keep_either}
-use Rattle.ent_round_trip.proofs.Keeping.{keep_if, keep_listed, keep_many, keep_up_to, each_append, each_at, each_so}
+use Rattle.ent_round_trip.proofs.Keeping.{keep_if, keep_listed, keep_many, keep_up_to, each_append, each_at}
+use Rattle.ent_round_trip.proofs.Keeping.{each_implies}
 use Rattle.ent_round_trip.proofs.KeptOperands.{Printable, word_stands, sign_stands, number_stands, keep_operand}
 use Rattle.ent_round_trip.proofs.KeptSelects.{commas_print, keep_select_behind, keep_insert, keep_delete, keep_update}
 use Rattle.ent_round_trip.proofs.KeptSelects.{keep_set}
@@ -140,15 +145,19 @@ keep_script =
     keep_behind (λ place. keep_behind (λ place. keep_then keep_runs
     (λ runs h. keep_behind (λ place. keep_then (keep_many MOST_STATEMENTS keep_line)
     (λ statements k. keep_behind (λ ended. keep_behind (λ place. keep_give (
-      (h.0, h.1, k.1, each_so StatementKept StatementFits (λ s l. l.0) statements k.0),
+      (h.0, h.1, k.1, each_implies StatementKept StatementFits (λ s l. l.0) statements k.0),
       script_prints (record { within = runs; statements = statements; end = ended }) h
-          (each_so StatementKept (Printable statement_spelling) (λ s l. l.1) statements k.0),
+          (each_implies StatementKept (Printable statement_spelling) (λ s l. l.1) statements k.0),
     ))))))))
 
-pub keep_input : Keeps script_grammar.input (λ input. Each ScriptKept input.scripts)
+abbrev pub InputKept : Input → Type 0
+InputKept input = Each ScriptKept input.scripts × (length input.scripts ≤ MOST_SCRIPTS)
+
+keep_input : Keeps script_grammar.input InputKept
 unfolding script_grammar.input
 keep_input =
-    keep_behind (λ tables. keep_behind (λ rows. keep_then (keep_many _ keep_script) (λ scripts h. keep_give h.0)))
+    keep_behind (λ tables. keep_behind (λ rows. keep_then (keep_many MOST_SCRIPTS keep_script)
+    (λ scripts h. keep_give h)))
 
 -- ---- the tokens of a text
 
@@ -163,10 +172,22 @@ tokens_stand place bytes tokens end rest (token at before behind kind others _ _
 kept_at : (xs : List Script) (x : Script) → Each ScriptKept xs → Contains xs x → ScriptKept x
 kept_at xs x each (k, below, is) = subst ScriptKept is (each_at ScriptKept xs each k x below)
 
-pub read_scripts_are_kept : (text : List ℕ) (tokens : List PlacedToken) (input : Input) → AreTokens text tokens
-    → spells script_grammar.input true input tokens → (script : Script) → Contains input.scripts script
+-- the law of reading a text, and that of its tokens
+abbrev pub ReadingIsSaid : Type 0
+ReadingIsSaid = (text : List ℕ) (input : Input) → (reading text ≡ Ok input) ↔ Says text input
+
+abbrev pub TokensAreFound : Type 0
+TokensAreFound = (text : List ℕ) (tokens : List PlacedToken) → (tokens_of text ≡ Ok tokens) ↔ AreTokens text tokens
+
+-- what is read from a text
+pub read_input_is_kept : ReadingIsSaid → TokensAreFound → (text : List ℕ) (input : Input) → reading text ≡ Ok input
+    → InputKept input
+read_input_is_kept says found text input is =
+    let said = (says text input).0 is in
+    let are = (found text said.tokens).0 said.are_tokens in
+    keep_input.keeps input said.tokens (tokens_stand 0 text said.tokens (length text) [] are) said.spelled
+
+pub script_is_kept : (input : Input) (script : Script) → InputKept input → Contains input.scripts script
     → ScriptFits script × IsReadable script
-read_scripts_are_kept text tokens input are spelled script held =
-    let kept = kept_at input.scripts script
-    (keep_input.keeps input tokens (tokens_stand 0 text tokens (length text) [] are) spelled) held in
-    (kept.0, each_at CanBeRead (script_spelling script) kept.1)
+script_is_kept input script h held =
+    let kept = kept_at input.scripts script h.0 held in (kept.0, each_at CanBeRead (script_spelling script) kept.1)

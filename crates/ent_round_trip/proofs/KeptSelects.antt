@@ -18,7 +18,8 @@ use Rattle.ent_print.specs.Reading.{CanStand, CanBeRead}
 use Rattle.ent_print.specs.Spelling.{each_behind, separated, comma_list, where_clause, word, sign, in_parentheses}
 use Rattle.ent_print.specs.Spelling.{specification_spelling, operand_spelling, test_spelling, tests_clause}
 use Rattle.ent_print.specs.Spelling.{source_spelling, items_spelling, select_spelling}
-use Rattle.ent_print.specs.Spelling.{insert_spelling, delete_spelling, assignment_spelling, update_spelling, set_spelling}
+use Rattle.ent_print.specs.Spelling.{insert_spelling, delete_spelling, assignment_spelling, update_spelling}
+use Rattle.ent_print.specs.Spelling.{set_spelling}
 use Rattle.ent_round_trip.specs.Fits.{Each, HasParts, ItemsFit, SelectFits}
 use Rattle.ent_round_trip.proofs.Keeping.{Keeps, keep_give, keep_then, keep_behind, keep_either, keep_so, keep_listed}
 use Rattle.ent_round_trip.proofs.Keeping.{each_append}

@@ -11,3 +11,4 @@ pub mod KeptOperands
 pub mod KeptSelects
 pub mod KeptEntangling
 pub mod KeptScripts
+pub mod Following

@@ -107,9 +107,11 @@ parted (x ∷ front) rest (w ∷ whole) behind e =
 -- a piece that is the longest before the end is the longest before a line end, too
 longest_before : (bytes behind more : List ℕ) (piece : Option TokenKind) → IsPiece bytes piece → IsLongest bytes behind
     → IsLongest bytes (behind ++ 10 ∷ more)
-longest_before [] behind more piece spelled longest front rest other kind same is = absurd (no_empty_piece piece spelled)
+longest_before [] behind more piece spelled longest front rest other kind same is =
+    absurd (no_empty_piece piece spelled)
 longest_before (b ∷ bytes) behind more piece spelled longest front rest other kind same is =
-    on (parted front rest ((b ∷ bytes) ++ behind) (10 ∷ more) (same ∙ sym (append_assoc (b ∷ bytes) behind (10 ∷ more))))
+    let whole = same ∙ sym (append_assoc (b ∷ bytes) behind (10 ∷ more)) in
+    on (parted front rest ((b ∷ bytes) ++ behind) (10 ∷ more) whole)
   where
     on : ((others : List ℕ) × ((b ∷ bytes) ++ behind ≡ front ++ others))
         ⊎ ((c : ℕ) × (others : List ℕ) × (front ≡ ((b ∷ bytes) ++ behind) ++ c ∷ others)

@@ -1,8 +1,11 @@
-use Rattle.ent_round_trip.proofs.KeptScripts.{read_scripts_are_kept}
+use Rattle.ent_round_trip.proofs.KeptScripts.{read_input_is_kept, script_is_kept}
 use Rattle.ent_round_trip.proofs.laws.read_scripts_can_be_printed.Goals as goal
 
-pub returns : goal.returns
-returns c = λ text input script is held.
-    let said = (c.reading_is_exact.ensures.input text input).0 is in
-    let tokens = (c.reader_is_exact.ensures.tokens text said.tokens).0 said.are_tokens in
-    read_scripts_are_kept text said.tokens input tokens said.spelled script held
+pub returns-clause-each : goal.returns-clause-each
+returns-clause-each c = λ text input script is held.
+    script_is_kept input script
+    (read_input_is_kept c.reading_is_exact.ensures.input c.reader_is_exact.ensures.tokens text input is) held
+
+pub returns-clause-few : goal.returns-clause-few
+returns-clause-few c = λ text input is.
+    (read_input_is_kept c.reading_is_exact.ensures.input c.reader_is_exact.ensures.tokens text input is).1
