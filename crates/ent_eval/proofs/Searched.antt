@@ -11,9 +11,10 @@ use Rattle.ent_tree.specs.declared.operand.Test.{Test}
 use Rattle.ent_semantics.specs.Selection.{meets}
 use Rattle.ent_closed.specs.declared.operand.Operand.{Operand}
 use Rattle.ent_eval.specs.Combined.{combined, shown_of, AreNarrowed}
+use Rattle.ent_eval.specs.Early.{may_meet}
 use Rattle.ent_eval.specs.Worth.{value_in}
-use Rattle.ent_eval.proofs.Combinations.{shown_of-append, combined_one}
-use Rattle.ent_eval.proofs.Fronts.{nothing_shown}
+use Rattle.ent_eval.proofs.Combinations.{shown_of-append, combined_one, one_row_more}
+use Rattle.ent_eval.proofs.Fronts.{meet_fails, nothing_shown}
 use Rattle.ent_eval.proofs.Narrowed.{in_order, rows_met}
 
 module _ (items : List (Operand Value)) (tests : List (Test (Operand Value))) (front : List Value) (s : RowSet)
@@ -112,6 +113,17 @@ module _ (items : List (Operand Value)) (tests : List (Test (Operand Value))) (f
   last_searched prepared same =
       ap (λ rows. map (λ row. map (value_in (front ++ row)) items) (filter prepared rows)) are.are
       ∙ last_shown items tests front s are.passes are.enough prepared same
+
+-- one row more of a walk, over which a test fails
+pub one_row_left : (items : List (Operand Value)) (tests : List (Test (Operand Value))) (front : List Value)
+    (more : List (List (List Value))) (old new : List (List Value)) (found : List (List Value)) (row : List Value)
+    → old ≡ row ∷ new → may_meet tests (front ++ row) ≡ false
+    → found ++ shown_of items tests (flat_map (λ row. combined (front ++ row) more) new)
+    ≡ found ++ shown_of items tests (flat_map (λ row. combined (front ++ row) more) old)
+one_row_left items tests front more old new found row is fails =
+    one_row_more items tests front more old new found found row is
+    (sym (ap (λ rows. found ++ rows) (nothing_shown items tests (front ++ row) more
+    (λ rest. meet_fails tests (front ++ row) rest fails)) ∙ append-nil found))
 
 -- a list that begins with an element
 pub begins_with : {X : Type 0} (xs : List X) (x : X) → 1 ≤ length xs → x ≡ get_or xs 0 x

@@ -1,10 +1,9 @@
 //! Conditions over a row.
 ghost use Rattle.std.specs.Prelude.{◌≡◌};
 ghost use Rattle.ent_semantics.specs.Selection.{compares, holds, meets};
-ghost use Rattle.ent_eval.specs.Early.{may_hold, may_meet};
 ghost use Rattle.ent_eval.specs.Worth.{value_in};
 
-use crate::term::{operand_there, operand_value};
+use crate::term::operand_value;
 use ent_closed::Operand;
 use ent_tree::{Comparison, Test};
 use ent_value::Value;
@@ -38,23 +37,4 @@ pub(crate) fn meets(tests: &[Test<Operand<Value>>], row: &[Value]) -> bool
     ensures { result ≡ meets value_in tests.now row.now }
 {
     tests.iter().all(|test| holds(test, row))
-}
-
-/// Whether a test holds over the front of a row, or speaks of a column behind it.
-fn may_hold(test: &Test<Operand<Value>>, front: &[Value]) -> bool
-    ensures { result ≡ may_hold front.now test.now }
-{
-    if let Some(left) = operand_there(front, &test.left) {
-        if let Some(right) = operand_there(front, &test.right) {
-            return compares(test.comparison, left.cmp(right));
-        }
-    }
-    true
-}
-
-/// Whether no test fails over the front of a row, whatever follows.
-pub(crate) fn may_meet(tests: &[Test<Operand<Value>>], front: &[Value]) -> bool
-    ensures { result ≡ may_meet tests.now front.now }
-{
-    tests.iter().all(|test| may_hold(test, front))
 }

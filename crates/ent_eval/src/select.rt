@@ -13,7 +13,7 @@ ghost use Rattle.ent_eval.specs.Prepared.{prepared_meets};
 ghost use Rattle.ent_eval.specs.Tables.{rows_in, rows_listed};
 ghost use Rattle.ent_eval.specs.Worth.{value_in};
 
-use crate::condition::{may_meet, meets};
+use crate::condition::meets;
 use crate::first::first_values;
 use crate::prepared::PreparedTests;
 use crate::row::{item_row, joined, shown_row};
@@ -101,17 +101,17 @@ fn search(
     ensures { OnOk result (found.new.items ≡ found.old.items ++ shown_of select.now.items select.now.tests
         (combined front.now (rows_listed (map arc_value sources.now)))) }
 {
-    if !may_meet(select.tests.as_slice(), front) {
-        return Ok(());
-    }
     match sources {
         [] => show(alloc, select, front, found),
         [table] => search_last(alloc, select, front, table, found),
         [table, more @ ..] => {
+            let tests = PreparedTests::new(alloc, front, select.tests.as_slice())?;
             let mut rows = source_rows(alloc, select.tests.as_slice(), front, table)?;
             while let Some(row) = rows.next_row() {
-                let begun = joined(alloc, front, &row)?;
-                search(alloc, select, begun.values(), more, found)?;
+                if tests.may_meet(&row) {
+                    let begun = joined(alloc, front, &row)?;
+                    search(alloc, select, begun.values(), more, found)?;
+                }
             }
             Ok(())
         }

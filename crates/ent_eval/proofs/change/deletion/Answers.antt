@@ -13,7 +13,7 @@ returns c =
     let met = meets value_in c.args.tests.now in (
       ap (λ change. Ok change)
           (sym (c.in_ok-count.ensures.change prepared (λ row answer here k. search rules)
-          ∙ deletion_met c.args.table.now.rows first prepared met c.in_ok-prepared.ensures
+          ∙ deletion_met c.args.table.now.rows first prepared met c.in_ok-prepared.ensures.meets
           (λ row here so. rw c.as_slice.ensures.value (c.in_ok-first.ensures.first row []
           (c.kinds.ensures.rows row here ∙ sym c.kinds.ensures.kinds) (ap met (append-nil row) ∙ so))))),
       record { kinds = c.in_ok-count.ensures.kinds; fits = c.in_ok-count.ensures.fits },

@@ -25,7 +25,7 @@ returns-in-Ok c =
     let met = meets value_in c.args.tests.now in
     let image = image_or_overflow (image_of c.args.image.now) in (
       replaced _ _
-          (sym (replacement_met c.args.table.now.rows first prepared met c.in_ok-prepared.ensures
+          (sym (replacement_met c.args.table.now.rows first prepared met c.in_ok-prepared.ensures.meets
           (λ row here so. rw c.as_slice.ensures.value (c.in_ok-first.ensures.first row []
           (c.kinds.ensures.rows row here ∙ sym c.kinds.ensures.kinds) (ap met (append-nil row) ∙ so))) image)
           ∙ c.in-Ok.ensures.change prepared image (λ row answer here k. search rules)
@@ -44,7 +44,7 @@ returns c =
     λ meant. IfOk c.refused.result (λ outcome. Changes table (meant >>= λ change. or_full (bounded change.1 change))
     outcome) in
     subst P
-    (replacement_met table.rows first prepared met c.in_ok-prepared.ensures
+    (replacement_met table.rows first prepared met c.in_ok-prepared.ensures.meets
     (λ row here so. rw c.as_slice.ensures.value (c.in_ok-first.ensures.first row []
     (c.kinds.ensures.rows row here ∙ sym c.kinds.ensures.kinds) (ap met (append-nil row) ∙ so))) image)
     (if_ok (λ outcome so. refused_so _ _ _ c.in-Err.refusal table outcome

@@ -1,4 +1,4 @@
-use Rattle.std.proofs.Common.{◌++◌, ◌-◌, length, take, drop, map, ap, sym, ◌∙◌, append-nil}
+use Rattle.std.proofs.Common.{◌++◌, ◌-◌, length, take, drop, map, ap, sym, ◌∙◌}
 use Rattle.std.proofs.Common.{List, subst, arith}
 use Rattle.std.specs.Arc.{arc_value}
 use Rattle.ent_value.specs.declared.value.Value.{Value}
@@ -9,23 +9,11 @@ use Rattle.ent_eval.specs.Combined.{combined, shown_of, AreNarrowed}
 use Rattle.ent_eval.specs.Early.{may_meet}
 use Rattle.ent_eval.specs.Tables.{rows_listed}
 use Rattle.ent_eval.proofs.Combinations.{one_row_more}
-use Rattle.ent_eval.proofs.Fronts.{meet_fails, nothing_shown}
-use Rattle.ent_eval.proofs.Searched.{all_searched, begins_with}
+use Rattle.ent_eval.proofs.Searched.{all_searched, begins_with, one_row_left}
 use Rattle.ent_eval.proofs.select.+search.Goals as goal
 
-pub returns-then-not-may_meet : goal.returns-then-not-may_meet
-returns-then-not-may_meet t c =
-    let select = c.args.select.now in
-    let front = c.args.front.now in
-    let found = c.args.found.now.items in
-    let conditions = c.as_slice.ensures ∙ c.deref.ensures in
-    let fails = sym (λ i. may_meet (conditions i) front) ∙ sym c.may_meet.ensures ∙ c.if-not-may_meet.true in
-    sym (ap (λ rows. found ++ rows) (nothing_shown select.items select.tests front
-    (rows_listed (map arc_value c.args.sources.now)) (λ rest. meet_fails select.tests front rest fails))
-    ∙ append-nil found)
-
-pub loop-row-preserved : goal.loop-row-preserved
-loop-row-preserved t c =
+pub loop-row-preserved-then-may_meet : goal.loop-row-preserved-then-may_meet
+loop-row-preserved-then-may_meet t c =
     let select = c.args.select.now in
     let found = c.loop-row.found.items in
     let sources = c.args.sources.now in
@@ -35,6 +23,19 @@ loop-row-preserved t c =
     (c.in_ok-search-in-len1-up.ensures
     ∙ ap (λ front. found ++ shown_of select.items select.tests (combined front more))
     (c.values.ensures ∙ c.in_ok-begun-in-len1-up.ensures))
+    ∙ c.loop-row.invariant
+
+pub loop-row-preserved : goal.loop-row-preserved
+loop-row-preserved t c =
+    let select = c.args.select.now in
+    let row = c.args.front.now ++ c.in-Some.row in
+    let sources = c.args.sources.now in
+    let more = rows_listed (map arc_value (take (length sources - 1) (drop 1 sources))) in
+    let conditions = c.as_slice.ensures ∙ c.deref-in-len1-up.ensures in
+    let fails = sym (λ i. may_meet (conditions i) row) ∙ sym (c.in_ok-tests-in-len1-up.ensures.may_meet c.in-Some.row)
+    ∙ sym c.may_meet.ensures ∙ c.if-may_meet.false in
+    one_row_left select.items select.tests c.args.front.now more c.loop-row.rows c.next_row.new.self
+    c.loop-row.found.items c.in-Some.row c.in-Some.ensures fails
     ∙ c.loop-row.invariant
 
 pub returns-in_default : goal.returns-in_default
@@ -47,11 +48,11 @@ returns-in_default t c =
     let rows = c.in_ok-rows-in-len1-up.rows in
     let more = take (length sources - 1) (drop 1 sources) in
     let P : List (Test (Operand Value)) → Type 0 =
-    λ tests. AreNarrowed tests front c.deref-in-len1-up-2.result.now.rows rows in
+    λ tests. AreNarrowed tests front c.deref-in-len1-up-3.result.now.rows rows in
     let Q : Relation → Type 0 = λ table. AreNarrowed select.tests front table.rows rows in
     let are : AreNarrowed select.tests front table.rows rows =
-    subst Q c.deref-in-len1-up-2.ensures
-    (subst P (c.as_slice-in-len1-up.ensures ∙ c.deref-in-len1-up.ensures) c.in_ok-rows-in-len1-up.ensures) in
+    subst Q c.deref-in-len1-up-3.ensures
+    (subst P (c.as_slice-in-len1-up.ensures ∙ c.deref-in-len1-up-2.ensures) c.in_ok-rows-in-len1-up.ensures) in
     all_searched select.items select.tests front table.rows rows are (rows_listed (map arc_value more)) found
     c.loop-row.found.items c.loop-row.rows c.loop-row.invariant c.in_default.ensures.0
     ∙ ap (λ sources. found ++ shown_of select.items select.tests (combined front (rows_listed (map arc_value sources))))

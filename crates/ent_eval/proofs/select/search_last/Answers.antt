@@ -26,5 +26,5 @@ returns c =
     (ap (λ items. map (λ row. map (value_in (front ++ row)) items) (filter prepared rows)) c.as_slice-3.ensures
     ∙ last_searched select.items select.tests front all rows
     (subst Q (c.as_slice-2.ensures ∙ c.deref-2.ensures) c.in_ok-rows.ensures) prepared
-    (λ row. c.in_ok-tests.ensures row ∙ ap (λ tests. meets value_in tests (front ++ row)) conditions))
+    (λ row. c.in_ok-tests.ensures.meets row ∙ ap (λ tests. meets value_in tests (front ++ row)) conditions))
     c.show_rows.ensures
