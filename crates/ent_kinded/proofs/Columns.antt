@@ -120,7 +120,8 @@ module _ (bound : Bound) (environment : Environment) (have : HasKinds bound envi
   abbrev columns : List Kind
   columns = map kind_seen scope.columns
 
-  pub operand_kinded : (operand : TreeOperand) (found : Operand Known × Kind) → operand_in scope bound operand ≡ Ok found
+  pub operand_kinded : (operand : TreeOperand) (found : Operand Known × Kind)
+      → operand_in scope bound operand ≡ Ok found
       → operand_kind columns (operand_over worth found.0) ≡ Some found.1
   operand_kinded (operands.Value value) found e =
       let w = bound_given (value_in bound value) _ found e in
@@ -157,7 +158,8 @@ module _ (bound : Bound) (environment : Environment) (have : HasKinds bound envi
 -- ---- images
 
 -- an element is put where one of its kind stands
-put_kept : {A : Type 0} (kind : A → Option Kind) (image : List A) (kinds : List Kind) (number : ℕ) (new : A) (wanted : Kind)
+put_kept : {A : Type 0} (kind : A → Option Kind) (image : List A) (kinds : List Kind) (number : ℕ) (new : A)
+    (wanted : Kind)
     → map kind image ≡ map Some kinds → slice_get kinds number ≡ Some wanted → kind new ≡ Some wanted
     → map kind (slice_set image number new) ≡ map Some kinds
 put_kept kind [] kinds number new wanted e at is = e
@@ -195,7 +197,8 @@ module _ (bound : Bound) (environment : Environment) (have : HasKinds bound envi
       → map (kind_of_image (before ++ map kind_declared more)) (own_from first more) ≡ map Some (map kind_declared more)
   own_kept before [] first l = refl
   own_kept before (column ∷ more) first l =
-      let longer : length (before ++ column.kind ∷ []) ≡ suc first = omega (arith, length-append before (column.kind ∷ []))
+      let longer : length (before ++ column.kind ∷ []) ≡ suc first =
+      omega (arith, length-append before (column.kind ∷ []))
       in
       let rest = own_kept (before ++ column.kind ∷ []) more (suc first) longer in
       λ i. behind before column.kind (map kind_declared more) first l i

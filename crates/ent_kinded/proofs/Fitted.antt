@@ -62,7 +62,8 @@ module _ (schemas : List TableSchema) (bound : Bound) where
       let scope = bound_given (sources_in schemas select.sources) _ found e in
       let tests = bound_given (tests_in scope.0 bound select.tests) _ found scope.2 in
       let shown = bound_given (items_in scope.0 bound select.items) _ found tests.2 in
-      let seen = sources_seen schemas select.sources no_source scope.0 (record { declared = tt; kinds = refl }) scope.1 in
+      let seen = sources_seen schemas select.sources no_source scope.0
+      (record { declared = tt; kinds = refl }) scope.1 in
       subst (λ (f : Select Known × List Kind). AreDeclared schemas f.0.sources)
       (one_answer (record { sources = scope.0.tables; items = shown.0.0; tests = tests.0 }, shown.0.1) found shown.2)
       seen.declared
@@ -226,7 +227,8 @@ module _ (schemas : List TableSchema) (bound : Bound) (environment : Environment
     delete_fits delete form e =
         let table = bound_given (table_in schemas delete.table) _ form e in
         let tests = bound_given (tests_in (table_scope delete.table.name table.0) bound delete.tests) _ form table.2 in
-        subst fits (one_answer (resolved.Delete table.0.0 tests.0) form tests.2) (kinds_numbered schemas table.0.0, refl)
+        subst fits (one_answer (resolved.Delete table.0.0 tests.0) form tests.2)
+        (kinds_numbered schemas table.0.0, refl)
 
     update_fits : (update : Update) (form : Statement Known) → update_in schemas bound update ≡ Ok form → fits form
     unfolding update_in
@@ -242,8 +244,8 @@ module _ (schemas : List TableSchema) (bound : Bound) (environment : Environment
           kinds_numbered schemas table.0.0,
           refl,
           subst (λ kinds. KeepsKinds kinds over) (sym here.kinds)
-              (image_kinded bound environment have scope columns (kinds_seen update.table.name columns) update.assignments
-              image.0 image.1),
+              (image_kinded bound environment have scope columns (kinds_seen update.table.name columns)
+              update.assignments image.0 image.1),
         )
 
     set_fits : (set : Set) (found : Statement Known × Bound) → set_in bound set ≡ Ok found → fits found.0

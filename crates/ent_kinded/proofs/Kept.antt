@@ -1,6 +1,6 @@
 -- What a statement leaves in tables has the kinds of their columns.
-use Rattle.std.proofs.Common.{◌≡◌, ℕ, ◌<◌, Bool, true, false, not, List, [], ◌∷◌, length, map, Option, Some, None, Result}
-use Rattle.std.proofs.Common.{Ok, Err, refl, sym, ap, subst, ◌∙◌}
+use Rattle.std.proofs.Common.{◌≡◌, ℕ, ◌<◌, Bool, true, false, not, List, [], ◌∷◌, length, map, Option, Some}
+use Rattle.std.proofs.Common.{None, Result, Ok, Err, refl, sym, ap, subst, ◌∙◌}
 use Rattle.std.specs.Prelude.{◌+ℤ◌, ◌-ℤ◌, is_some, nat_le, slice_get, slice_index_or, slice_set, IfOk, if◌then◌else◌}
 use Rattle.std.specs.List.{AllByRecursion, list_all, filter_map, cons_option}
 use Rattle.std.specs.Option.{option_map, option_and_then}
@@ -187,7 +187,8 @@ module _ (schemas : List TableSchema) (tables : Tables) (environment : Environme
         let rows = slice_index_or tables table set.empty in
         let row = map (known_worth environment) values in
         changed_kept table (if set.contains rows row then 0 else 1) (set.insert rows row) below.0
-        (inserted_kinds (kinds_numbered schemas table) rows row (kinded_at schemas tables table kinded below.0) (sym fits))
+        (inserted_kinds (kinds_numbered schemas table) rows row (kinded_at schemas tables table kinded below.0)
+        (sym fits))
     tables_kept (statements.Delete table tests) valuation below fits =
         let rows = slice_index_or tables table set.empty in
         let matches = meets (operand_worth (known_worth environment)) tests in
@@ -204,13 +205,14 @@ module _ (schemas : List TableSchema) (tables : Tables) (environment : Environme
         (updated_kinds (known_worth environment) kinds image fits matches rows after
         (kinded_at schemas tables table kinded below.0) is))
     tables_kept (statements.Set variable expression) valuation below fits =
-        over_overflow (expression_value (known_worth environment) expression) (λ value database environment. Ok (record {
+        over_overflow (expression_value (known_worth environment) expression)
+        (λ value database environment. Ok (record {
           database = database;
           environment = with_value environment variable value;
           answer = answers.Value value;
         })) tables environment Keeps (λ value _. kinded)
 
-    same_only : (kinds others : List Kind) (kinds_list : List (List Kind)) → kinds ∷ [] ≡ others ∷ kinds_list → kinds ≡ others
+    same_only : (kinds others : List Kind) (more : List (List Kind)) → kinds ∷ [] ≡ others ∷ more → kinds ≡ others
     same_only kinds others more e = (same_heads kinds others [] more e).0
 
     pub if_ordinary : (form : Statement Known)

@@ -9,3 +9,4 @@ pub mod Kept
 pub mod Noted
 pub mod Binding
 pub mod Leaving
+pub mod Grounded

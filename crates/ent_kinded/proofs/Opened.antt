@@ -136,7 +136,8 @@ names_new earlier (create ∷ creates) e =
 
 -- a table is found under its own name
 abbrev IsFound : ℕ → List TableSchema → Create → Type 0
-IsFound first schemas create = (number : ℕ) × (table_from first schemas create.name.name ≡ Some (number, table_schema create))
+IsFound first schemas create =
+    (number : ℕ) × (table_from first schemas create.name.name ≡ Some (number, table_schema create))
 
 found_later : (first : ℕ) (create : Create) (schemas : List TableSchema) (more : List Create)
     → AllByRecursion (λ other. same_name create.name.name other.name.name ≡ false) more

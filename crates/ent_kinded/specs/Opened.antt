@@ -7,4 +7,5 @@ use Rattle.ent_closed.specs.Form.{Tables}
 use Rattle.ent_form.specs.Opening.{rows_named}
 
 abbrev pub opening_tables : Opening → Tables
-opening_tables opening = map (λ create. set.from_list {R = row_cmp} (rows_named opening create.name.name)) opening.tables
+opening_tables opening =
+    map (λ create. set.from_list {R = row_cmp} (rows_named opening create.name.name)) opening.tables
