@@ -496,7 +496,8 @@ entangled_head tables bound entangled =
     let agree = memberships_there tables bound names entangled.conditions [] none_bound found is in
     let known = memberships_known tables bound names entangled.conditions [] none_bound found is in
     head_then (offer_from names found.1 bound no_offer entangled.items) _
-    (offer_faults body bound [] [] entangled.items) _ (offer_head names found.1 bound body agree entangled.items no_offer [] (λ name h. cc)) (λ offer was.
+    (offer_faults body bound [] [] entangled.items) _
+    (offer_head names found.1 bound body agree entangled.items no_offer [] (λ name h. cc)) (λ offer was.
     head_then (heads_from offer.terms [] [] entangled.relations) _ (repeated_names [] entangled.relations) _
     (relations_head offer.terms entangled.relations [] []) (λ heads _.
     head_last (others_from names found.1 bound [] [] entangled.conditions) _ _

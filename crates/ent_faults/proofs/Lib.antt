@@ -5,3 +5,5 @@ pub mod Found
 pub mod Stands
 pub mod EntangledHeads
 pub mod ScriptHeads
+pub mod ScriptStands
+pub mod Unset

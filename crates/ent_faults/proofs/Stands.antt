@@ -68,7 +68,7 @@ behind : {A : Type 0} (name : A → Name) (earlier : List Name) (x : A) (before 
     → (earlier ++ name x ∷ []) ++ map name before ≡ earlier ++ map name (x ∷ before)
 behind name earlier x before = append_assoc earlier (name x ∷ []) (map name before)
 
-number_stands : (m n : ℕ) (one fault : FormFault)
+pub number_stands : (m n : ℕ) (one fault : FormFault)
     → Contains (faults_where (not (m == n)) one) fault ↔ ((¬ (m ≡ n)) × (fault ≡ one))
 number_stands m n one fault = both (where_stands (not (m == n)) one fault) (holding (numbers_differ m n))
 
@@ -95,7 +95,7 @@ repeated_stand earlier (identifier ∷ more) fault =
     (behind (λ first. first.name) earlier identifier before))) more)))
     (turned (cut_cons (IsSecond earlier fault) identifier more)))
 
-repetitions_stand : (identifiers : List Identifier) (fault : FormFault)
+pub repetitions_stand : (identifiers : List Identifier) (fault : FormFault)
     → Contains (repeated_names [] identifiers) fault ↔ IsRepetition identifiers fault
 repetitions_stand identifiers fault =
     both (repeated_stand [] identifiers fault)
