@@ -18,3 +18,4 @@ pub mod Aside
 pub mod Runs
 pub mod Reached
 pub mod SerialStates
+pub mod Books

@@ -1,7 +1,11 @@
 //! Laws of reached states. What holds is in the contracts; the bodies only call laws of lower crates.
-ghost use Rattle.ent_protocol.specs.Reached.{IsReached};
+ghost use Rattle.std.specs.Prelude.{Contains, List};
+ghost use Rattle.ent_protocol.specs.Reached.{IsReached, book_of};
 ghost use Rattle.ent_protocol.specs.Run.{Forms};
 ghost use Rattle.ent_protocol.specs.State.{State};
+ghost use Rattle.ent_semantics.specs.Book.{RunGivesBook, book_sights};
+ghost use Rattle.ent_semantics.specs.Joint.{IsGrounded};
+ghost use Rattle.ent_semantics.specs.Serial.{Sight, Turn};
 ghost use Rattle.ent_legal.specs.Faithful.{AreFaithful};
 ghost use Rattle.ent_legal.specs.SerialState.{IsSerialState};
 
@@ -15,6 +19,24 @@ pub fn reached_states_are_serial<F>()
         → AreFaithful forms s.opening
         → IsReached forms s
         → IsSerialState s }
+{
+    statements_keep_to_their_uses();
+    runs_go_on();
+    closing_keeps_the_meaning();
+}
+
+/// In every state that is reached the committed transactions, run alone in the order of their commits with some answers
+/// of an oracle, give the answers and the database of the book; each answer of the oracle is a grounding over the
+/// database that its statement sees.
+pub fn committed_runs_give_the_book<F>()
+    ensures { (forms : Forms F) (s : State)
+        → AreFaithful forms s.opening
+        → IsReached forms s
+        → (turns : List Turn)
+        × RunGivesBook (book_of s) turns
+        × ((sight : Sight)
+        → Contains (book_sights (book_of s) turns) sight
+        → IsGrounded s.opening.tables sight) }
 {
     statements_keep_to_their_uses();
     runs_go_on();
