@@ -1,3 +1,0 @@
-pub mod Beginning
-pub mod Names
-pub mod NoRows

@@ -1,4 +1,0 @@
-pub mod Book
-pub mod Report
-pub mod Text
-pub mod Write

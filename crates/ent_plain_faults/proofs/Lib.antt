@@ -1,5 +1,0 @@
-mod Bindings
-mod Cuts
-mod Heads
-mod Membership
-mod Stands

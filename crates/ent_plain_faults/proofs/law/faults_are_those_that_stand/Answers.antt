@@ -1,8 +1,0 @@
-use Rattle.ent_plain_faults.proofs.Stands.{opening_stands, script_stands}
-use Rattle.ent_plain_faults.proofs.law.faults_are_those_that_stand.Goals as goal
-
-pub returns-clause-opening : goal.returns-clause-opening
-returns-clause-opening c = opening_stands
-
-pub returns-clause-script : goal.returns-clause-script
-returns-clause-script c = script_stands

@@ -1,9 +1,0 @@
-pub mod Fault
-pub mod Catalogue
-pub mod Kinds
-pub mod Bindings
-pub mod Lookup
-pub mod FirstFault
-pub mod Plain
-pub mod PlainMeaning
-pub mod KnownKinds
