@@ -127,6 +127,11 @@ module _ {F : Type 0} (forms : Forms F) (s : State) (kept : Kept forms s) where
         not_prepared = kept.not_prepared;
         not_active = kept.not_active;
         scripts = kept.scripts;
+        fated = kept.fated;
+        fated_not_prepared = kept.fated_not_prepared;
+        fated_not_active = kept.fated_not_active;
+        fated_not_dormant = kept.fated_not_dormant;
+        fated_scripts = kept.fated_scripts;
       }
 
   used_flat : (asked : List Asking) (a : Asking) (table : ℕ) → In a asked
@@ -186,6 +191,11 @@ module _ {F : Type 0} (forms : Forms F) (s : State) (kept : Kept forms s) where
         not_prepared = kept.not_prepared;
         not_active = kept.not_active;
         scripts = kept.scripts;
+        fated = kept.fated;
+        fated_not_prepared = kept.fated_not_prepared;
+        fated_not_active = kept.fated_not_active;
+        fated_not_dormant = kept.fated_not_dormant;
+        fated_scripts = kept.fated_scripts;
       }
     where
       level : (a b : ℕ) → a ≡ b → a ≤ b

@@ -140,7 +140,7 @@ turns_order : (all : List Submitted) (histories : List History) (whole : AllByRe
 turns_order all [] whole = refl
 turns_order all (history ∷ more) whole = ap (λ txs. history.member.tx ∷ txs) (turns_order all more whole.1)
 
-numbered_map : {X Y : Type 0} (f : X → Y) (xs : List X) (n : ℕ) (x : X) → numbered xs n ≡ Some x
+pub numbered_map : {X Y : Type 0} (f : X → Y) (xs : List X) (n : ℕ) (x : X) → numbered xs n ≡ Some x
     → numbered (map f xs) n ≡ Some (f x)
 numbered_map f xs zero x e = cc (e)
 numbered_map {X} f xs (suc n) x e = found xs n e

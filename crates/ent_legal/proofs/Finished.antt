@@ -190,6 +190,14 @@ module _ {F : Type 0} (forms : Forms F) (laws : Laws) (s : State) (kept : Kept f
             kept.not_active d r.0 dt r.1
             (sym (replaced_tx member r.0) ∙ ap (λ (w : Member). w.tx) (sym r.2) ∙ e);
         scripts = kept.scripts;
+        fated = kept.fated;
+        fated_not_prepared = kept.fated_not_prepared;
+        fated_not_active = λ d m dt mt e.
+            let r = of_map (replaced member) s.active m mt in
+            kept.fated_not_active d r.0 dt r.1
+            (sym (replaced_tx member r.0) ∙ ap (λ (w : Member). w.tx) (sym r.2) ∙ e);
+        fated_not_dormant = kept.fated_not_dormant;
+        fated_scripts = kept.fated_scripts;
       }
     where
       further : (a b : ℕ) → b ≡ suc a → a < b

@@ -3,6 +3,7 @@ use Rattle.std.proofs.Common.{◌≡◌, ◌≤◌, ℕ, zero, suc, ◌==◌, Bo
 use Rattle.std.proofs.Common.{refl, sym, ap, subst, ◌∙◌, inl, inr, arith, Some, Ok, slice_get}
 use Rattle.std.specs.List.{AllByRecursion}
 use Rattle.ent_semantics.specs.declared.book.Entry.{Entry}
+use Rattle.ent_semantics.specs.declared.book.Fated.{Fated}
 use Rattle.ent_semantics.specs.declared.book.JointAnswer.{JointAnswer}
 use Rattle.ent_semantics.specs.Database.{Database, opening_database}
 use Rattle.ent_semantics.specs.Serial.{numbered}
@@ -36,6 +37,9 @@ PostedHolds submitted member =
 
 abbrev pub OtherDormant : Dormant → Dormant → Type 0
 OtherDormant one other = one.tx ≡ other.tx → ⊥
+
+abbrev pub OtherFated : Fated → Fated → Type 0
+OtherFated one other = one.tx ≡ other.tx → ⊥
 
 abbrev pub OtherMember : Member → Member → Type 0
 OtherMember one other = one.tx ≡ other.tx → ⊥
@@ -72,6 +76,16 @@ pub record Kept {F : Type 0} (forms : Forms F) (s : State) : Type 0 where
       → member.tx ≡ dormant.tx → ⊥
   pub scripts : AllByRecursion (λ (dormant : Dormant). (own : Submitted) × (numbered s.submitted dormant.tx ≡ Some own))
       s.dormant
+  -- each has one fate at most, and then it is neither a member nor dormant
+  pub fated : Pairs OtherFated s.fates
+  pub fated_not_prepared : (fated : Fated) (member : Member) → In fated s.fates → In member s.prepared
+      → member.tx ≡ fated.tx → ⊥
+  pub fated_not_active : (fated : Fated) (member : Member) → In fated s.fates → In member s.active
+      → member.tx ≡ fated.tx → ⊥
+  pub fated_not_dormant : (fated : Fated) (dormant : Dormant) → In fated s.fates → In dormant s.dormant
+      → dormant.tx ≡ fated.tx → ⊥
+  pub fated_scripts : AllByRecursion (λ (fated : Fated). (own : Submitted) × (numbered s.submitted fated.tx ≡ Some own))
+      s.fates
 
 -- ---- maps
 
@@ -160,6 +174,15 @@ module _ {F : Type 0} (forms : Forms F) (laws : Laws) (s : State) (kept : Kept f
         not_active = λ d m dt mt e.
             let r = of_map f s.active m mt in
             kept.not_active d r.0 dt r.1 (sym (f_tx r.0 r.1) ∙ ap (λ (x : Member). x.tx) (sym r.2) ∙ e);
+        fated = kept.fated;
+        fated_not_prepared = λ d m dt mt e.
+            let r = of_map g s.prepared m mt in
+            kept.fated_not_prepared d r.0 dt r.1 (sym (g_tx r.0 r.1) ∙ ap (λ (x : Member). x.tx) (sym r.2) ∙ e);
+        fated_not_active = λ d m dt mt e.
+            let r = of_map f s.active m mt in
+            kept.fated_not_active d r.0 dt r.1 (sym (f_tx r.0 r.1) ∙ ap (λ (x : Member). x.tx) (sym r.2) ∙ e);
+        fated_not_dormant = kept.fated_not_dormant;
+        fated_scripts = kept.fated_scripts;
         scripts = kept.scripts;
       }
 

@@ -19,3 +19,4 @@ pub mod Runs
 pub mod Reached
 pub mod SerialStates
 pub mod Books
+pub mod Journals

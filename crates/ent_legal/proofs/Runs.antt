@@ -9,6 +9,7 @@ use Rattle.ent_tree.specs.declared.declaration.Opening.{Opening}
 use Rattle.ent_tree.specs.declared.script.Script.{Script}
 use Rattle.ent_semantics.specs.Database.{Database, opening_database}
 use Rattle.ent_semantics.specs.Serial.{numbered}
+use Rattle.ent_semantics.specs.declared.book.Fated.{Fated}
 use Rattle.ent_closed.specs.declared.operand.Known.{Known}
 use Rattle.ent_closed.specs.declared.statement.Statement.{Statement}
 use Rattle.ent_closed.specs.Form.{Tables}
@@ -162,6 +163,23 @@ module _ {F : Type 0} (forms : Forms F) (s : State) (kept : Kept forms s) (scrip
             (λ (d : Dormant). (o : Submitted) × (numbered more d.tx ≡ Some o)) s.dormant
             (λ d r. (r.0, numbered_more s.submitted (own ∷ []) d.tx r.0 r.1)) kept.scripts)
             ((own, numbered_last s.submitted own), tt);
+        fated = kept.fated;
+        fated_not_prepared = kept.fated_not_prepared;
+        fated_not_active = kept.fated_not_active;
+        fated_not_dormant = λ f d ft dt e.
+            elim (in_either s.dormant (record { tx = suc (length s.submitted); runs = 0 } ∷ []) d dt) [
+              | inl a ↦ kept.fated_not_dormant f d ft a e
+              | inr b ↦ elim b [
+                | inl is_new ↦
+                    let r = of_all (λ (x : Fated). (o : Submitted) × (numbered s.submitted x.tx ≡ Some o)) s.fates f
+                    kept.fated_scripts ft in
+                    low_member f.tx r.0 r.1 (sym e ∙ ap (λ (x : Dormant). x.tx) is_new)
+                | inr bad ↦ absurd bad
+              ]
+            ];
+        fated_scripts = all_by (λ (f : Fated). (o : Submitted) × (numbered s.submitted f.tx ≡ Some o))
+            (λ (f : Fated). (o : Submitted) × (numbered more f.tx ≡ Some o)) s.fates
+            (λ f r. (r.0, numbered_more s.submitted (own ∷ []) f.tx r.0 r.1)) kept.fated_scripts;
       }
 
 -- ---- a run starts
@@ -278,6 +296,13 @@ module _ {F : Type 0} (forms : Forms F) (s : State) (kept : Kept forms s) (off :
         scripts = to_all (λ (d : Dormant). (o : Submitted) × (numbered s.submitted d.tx ≡ Some o)) later (λ d dt.
             of_all (λ (d : Dormant). (o : Submitted) × (numbered s.submitted d.tx ≡ Some o)) s.dormant d kept.scripts
             (later_in d dt));
+        fated = kept.fated;
+        fated_not_prepared = kept.fated_not_prepared;
+        fated_not_active = λ f m ft mt e.
+            let r = active_of m mt in
+            kept.fated_not_dormant f r.0 ft (first_in r.0 r.1) (ap (λ (x : Member). x.tx) (sym r.2) ∙ e);
+        fated_not_dormant = λ f d ft dt e. kept.fated_not_dormant f d ft (later_in d dt) e;
+        fated_scripts = kept.fated_scripts;
       }
     where
       on : true ≡ false → ⊥
@@ -400,6 +425,11 @@ module _ {F : Type 0} (forms : Forms F) (laws : Laws) (s : State) (kept : Kept f
         not_prepared = out.not_prepared;
         not_active = out.not_active;
         scripts = out.scripts;
+        fated = out.fated;
+        fated_not_prepared = out.fated_not_prepared;
+        fated_not_active = out.fated_not_active;
+        fated_not_dormant = out.fated_not_dormant;
+        fated_scripts = out.fated_scripts;
       }
 
 -- ---- the opening's own state
@@ -439,4 +469,9 @@ kept_opened forms opening faithful =
       not_prepared = λ d m dt mt e. dt;
       not_active = λ d m dt mt e. dt;
       scripts = tt;
+      fated = tt;
+      fated_not_prepared = λ f m ft mt e. ft;
+      fated_not_active = λ f m ft mt e. ft;
+      fated_not_dormant = λ f d ft dt e. ft;
+      fated_scripts = tt;
     }

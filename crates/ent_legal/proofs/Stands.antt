@@ -220,6 +220,19 @@ module _ {F : Type 0} (forms : Forms F) (laws : Laws) (s : State) (kept : Kept f
           ];
           not_active = λ d m dt mt e. kept.not_active d m dt (of_filter left s.active m mt).0 e;
           scripts = kept.scripts;
+          fated = kept.fated;
+          fated_not_prepared = λ d m dt mt e. elim (in_either s.prepared (x.member ∷ []) m mt) [
+            | inl a ↦ kept.fated_not_prepared d m dt a e
+            | inr b ↦ elim b [
+              | inl same ↦
+                  kept.fated_not_active d x.member dt (active_at forms s kept x at)
+                  (ap (λ (y : Member). y.tx) (sym same) ∙ e)
+              | inr bad ↦ absurd bad
+            ]
+          ];
+          fated_not_active = λ d m dt mt e. kept.fated_not_active d m dt (of_filter left s.active m mt).0 e;
+          fated_not_dormant = kept.fated_not_dormant;
+          fated_scripts = kept.fated_scripts;
         }
 
   -- the same of a member that is found

@@ -3,13 +3,14 @@ ghost use Rattle.std.specs.Prelude.{Contains, List};
 ghost use Rattle.ent_protocol.specs.Reached.{IsReached, book_of};
 ghost use Rattle.ent_protocol.specs.Run.{Forms};
 ghost use Rattle.ent_protocol.specs.State.{State};
-ghost use Rattle.ent_semantics.specs.Book.{RunGivesBook, book_sights};
+ghost use Rattle.ent_semantics.specs.Book.{JournalIsRight, RunGivesBook, book_sights};
 ghost use Rattle.ent_semantics.specs.Joint.{IsGrounded};
 ghost use Rattle.ent_semantics.specs.Serial.{Sight, Turn};
 ghost use Rattle.ent_legal.specs.Faithful.{AreFaithful};
 ghost use Rattle.ent_legal.specs.SerialState.{IsSerialState};
 
 use ent_closed::closing_keeps_the_meaning;
+use ent_protocol::commits_are_numbered;
 use ent_semantics::{runs_go_on, statements_keep_to_their_uses};
 
 /// Every state that is reached is a serial state: the committed transactions, run alone in the order of their commits,
@@ -41,4 +42,18 @@ pub fn committed_runs_give_the_book<F>()
     statements_keep_to_their_uses();
     runs_go_on();
     closing_keeps_the_meaning();
+}
+
+/// In every state that is reached the journal and the fates fit together: each transaction has one fate at most and one
+/// entry at most, and it has committed with a number exactly where the entry of that number is its own.
+pub fn journals_fit_the_fates<F>()
+    ensures { (forms : Forms F) (s : State)
+        → AreFaithful forms s.opening
+        → IsReached forms s
+        → JournalIsRight (book_of s) }
+{
+    statements_keep_to_their_uses();
+    runs_go_on();
+    closing_keeps_the_meaning();
+    commits_are_numbered::<F>();
 }
