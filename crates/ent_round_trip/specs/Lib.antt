@@ -1,3 +1,4 @@
 pub mod Again
 pub mod Fits
 pub mod Itself
+pub mod Following

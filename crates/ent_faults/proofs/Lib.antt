@@ -1,0 +1,9 @@
+pub mod Steps
+pub mod Heads
+pub mod Membership
+pub mod Found
+pub mod Stands
+pub mod EntangledHeads
+pub mod ScriptHeads
+pub mod ScriptStands
+pub mod Unset

@@ -1,0 +1,206 @@
+-- Events that touch neither what members did nor the tables.
+use Rattle.std.proofs.Common.{◌≡◌, ◌<◌, ◌≤◌, ℕ, zero, suc, Bool, true, false, List, [], ◌∷◌, ◌++◌, map}
+use Rattle.std.proofs.Common.{length, refl, sym, ap, subst, ◌∙◌, inl, inr, arith}
+use Rattle.std.proofs.Common.{All, Contains, slice_index_or, flat_map}
+use Rattle.std.specs.List.{AllByRecursion}
+use Rattle.ent_semantics.specs.Serial.{numbered}
+use Rattle.ent_protocol.specs.Job.{Job, Work, One, Joint, Asking, posted_of, tables_of}
+use Rattle.ent_protocol.specs.Member.{Next, Ordinary, Asks, Commits, RollsBack, next_in, next_of, askings, asking_of, pool}
+use Rattle.ent_protocol.specs.Member.{seen_now}
+use Rattle.ent_protocol.specs.PoolEvents.{IsPresentComponent, joint_job, joint_uses}
+use Rattle.ent_protocol.specs.Run.{Forms}
+use Rattle.ent_protocol.specs.State.{State, Member}
+use Rattle.ent_protocol.specs.Uses.{entangled_uses}
+use Rattle.ent_legal.specs.Faithful.{is_used}
+use Rattle.ent_legal.proofs.Lists.{In, Pairs, of_all, to_all, all_joined}
+use Rattle.ent_legal.proofs.Lists.{in_either, nobody, pairs_joined}
+use Rattle.ent_legal.proofs.Outcomes.{seen_same, used_first, used_second}
+use Rattle.ent_legal.proofs.Deeds.{HoldsUses}
+use Rattle.ent_legal.proofs.Locks.{used_got}
+use Rattle.ent_legal.proofs.Jobs.{JobRight, AskingRight, OtherJob, OtherWork}
+use Rattle.ent_legal.proofs.Kept.{Kept, PostedHolds, one_member}
+use Rattle.ent_legal.proofs.Joined.{IsPresent}
+
+-- ---- elements by index
+
+pub contains_in : {X : Type 0} (xs : List X) (x : X) → Contains xs x → In x xs
+contains_in {X} xs x c = found xs c.0 c.1 c.2
+  where
+    found : (ys : List X) (k : ℕ) → k < length ys → slice_index_or ys k x ≡ x → In x ys
+    found [] k low e = absurd (omega (arith, low))
+    found (y ∷ ys) zero low e = inl (sym e)
+    found (y ∷ ys) (suc k) low e = inr (found ys k (omega (arith, low)) e)
+
+pub all_index : {X : Type 0} (P : X → Type 0) (xs : List X) → All P xs → AllByRecursion P xs
+all_index P [] all = tt
+all_index P (x ∷ xs) all =
+    (all 0 x (omega arith), all_index P xs (λ k d low. all (suc k) d (omega (arith, low))))
+
+pub in_contains : {X : Type 0} (xs : List X) (x : X) → In x xs → Contains xs x
+in_contains [] x at = absurd at
+in_contains (y ∷ ys) x (inl same) = (0, omega arith, sym same)
+in_contains (y ∷ ys) x (inr at) =
+    let r = in_contains ys x at in
+    let low = r.1 in
+    (suc r.0, omega (arith, low), r.2)
+
+in_flat : {X Y : Type 0} (f : X → List Y) (xs : List X) (y : Y) → In y (flat_map f xs) → (x : X) × In x xs × In y (f x)
+in_flat f [] y at = absurd at
+in_flat f (x ∷ xs) y at =
+    elim (in_either (f x) (flat_map f xs) y at) [
+      | inl a ↦ (x, inl refl, a)
+      | inr b ↦ let r = in_flat f xs y b in (r.0, inr r.1, r.2)
+    ]
+
+-- ---- members that ask
+
+asks_of : (s : State) (m : Member) (a : Asking) → In a (asking_of s m)
+    → (m.posted ≡ true) × (next_of s m ≡ Asks a.statement) × (a.tx ≡ m.tx) × (a.place ≡ m.place)
+asks_of s m a at = by m.posted refl (next_of s m) refl
+  where
+    posted_next : m.posted ≡ true → next_in (numbered s.submitted m.tx) (record m { posted = true }) ≡ next_of s m
+    posted_next e = λ i. next_in (numbered s.submitted m.tx) (record m { posted = sym e i })
+
+    by : (b : Bool) → m.posted ≡ b → (n : Next) → next_of s m ≡ n
+        → (m.posted ≡ true) × (next_of s m ≡ Asks a.statement) × (a.tx ≡ m.tx) × (a.place ≡ m.place)
+    by true posted (Asks statement) next =
+        let h : In a (record { tx = m.tx; attempt = m.attempt; place = m.place; statement = statement } ∷ []) =
+        rw (posted, posted_next posted ∙ next) at at in
+        elim h [
+          | inl same ↦ (
+            posted,
+            next ∙ ap (λ (x : Asking). Asks x.statement) (sym same),
+            ap (λ (x : Asking). x.tx) same,
+            ap (λ (x : Asking). x.place) same,
+          )
+          | inr bad ↦ absurd bad
+        ]
+    by true posted (Ordinary statement) next = let h : ⊥ = rw (posted, posted_next posted ∙ next) at at in absurd h
+    by true posted Commits next = let h : ⊥ = rw (posted, posted_next posted ∙ next) at at in absurd h
+    by true posted RollsBack next = let h : ⊥ = rw (posted, posted_next posted ∙ next) at at in absurd h
+    by false posted n next = let h : ⊥ = rw posted at at in absurd h
+
+pub present_all : (s : State) (asked : List Asking) → IsPresentComponent s asked → AllByRecursion (IsPresent s) asked
+present_all s asked component =
+    to_all (IsPresent s) asked (λ a at.
+    let c = of_all (Contains (askings s)) asked a (all_index (Contains (askings s)) asked component.present) at in
+    let r = in_flat (asking_of s) s.active a (contains_in (askings s) a c) in
+    let q = asks_of s r.0 a r.2 in
+    record { member = r.0; at = r.1; posted = q.0; next = q.1; tx = q.2; place = q.3 })
+
+-- where there is a component there is a member
+pub component_on : {F : Type 0} (forms : Forms F) (s : State) → Kept forms s → (asked : List Asking)
+    → IsPresentComponent s asked → s.running ≡ false → ⊥
+component_on forms s kept asked component off =
+    let first = contains_in (pool s) component.component.first component.component.in_remainder.is_in.0 in
+    let none : pool s ≡ [] = ap (λ ms. map posted_of (flat_map (asking_of s) ms)) (kept.idle off).1 in
+    subst (In component.component.first) none first
+
+module _ {F : Type 0} (forms : Forms F) (s : State) (kept : Kept forms s) where
+  -- fewer jobs
+  pub with_jobs : (lent : List Job) (tried : List (List Asking)) → ((job : Job) → In job lent → In job s.lent)
+      → Pairs OtherJob lent → Kept forms (record s { lent = lent; tried = tried })
+  with_jobs lent tried fewer apart =
+      record {
+        committed = kept.committed;
+        prepared = kept.prepared;
+        others = kept.others;
+        base = kept.base;
+        journal = kept.journal;
+        of_prepared = kept.of_prepared;
+        same = kept.same;
+        settles = kept.settles;
+        sound = kept.sound;
+        whole = kept.whole;
+        follow = kept.follow;
+        resolved = kept.resolved;
+        faithful = kept.faithful;
+        posted = kept.posted;
+        jobs = to_all (JobRight s.submitted s.active s.tables) lent (λ job at.
+            of_all (JobRight s.submitted s.active s.tables) s.lent job kept.jobs (fewer job at));
+        jobs_apart = apart;
+        idle = λ off.
+            let h = kept.idle off in
+            (h.0, h.1, nobody lent (λ job at. subst (In job) h.2 (fewer job at)));
+        active_apart = kept.active_apart;
+        dormant = kept.dormant;
+        not_prepared = kept.not_prepared;
+        not_active = kept.not_active;
+        scripts = kept.scripts;
+        fated = kept.fated;
+        fated_not_prepared = kept.fated_not_prepared;
+        fated_not_active = kept.fated_not_active;
+        fated_not_dormant = kept.fated_not_dormant;
+        fated_scripts = kept.fated_scripts;
+      }
+
+  used_flat : (asked : List Asking) (a : Asking) (table : ℕ) → In a asked
+      → is_used (entangled_uses a.statement) table ≡ true
+      → is_used (flat_map (λ (asking : Asking). entangled_uses asking.statement) asked) table ≡ true
+  used_flat [] a table at used = absurd at
+  used_flat (b ∷ asked) a table (inl same) used =
+      used_first (entangled_uses b.statement) _ table
+      (ap (λ (x : Asking). is_used (entangled_uses x.statement) table) (sym same) ∙ used)
+  used_flat (b ∷ asked) a table (inr at) used =
+      used_second (entangled_uses b.statement) _ table (used_flat asked a table at used)
+
+  -- a component's job is lent
+  pub picks : (asked : List Asking) → IsPresentComponent s asked
+      → Kept forms (record s { lent = s.lent ++ joint_job s asked ∷ [] })
+  picks asked component =
+      let present = present_all s asked component in
+      let right : AllByRecursion (AskingRight s.active s.tables (tables_of (seen_now s.tables (joint_uses asked)))) asked =
+      to_all (AskingRight s.active s.tables (tables_of (seen_now s.tables (joint_uses asked)))) asked (λ a at m mt tx.
+      let p = of_all (IsPresent s) asked a present at in
+      let same = one_member forms s kept p.member m p.at mt (sym p.tx ∙ sym tx) in (
+        level a.place m.place (p.place ∙ ap (λ (x : Member). x.place) same),
+        λ here. record {
+          posted = ap (λ (x : Member). x.posted) (sym same) ∙ p.posted;
+          holds = subst (λ x. HoldsUses x (entangled_uses a.statement)) same
+              (of_all (PostedHolds s.submitted) s.active p.member kept.posted p.at p.posted a.statement p.next);
+          alike = λ table used.
+              seen_same s.tables (joint_uses asked) table
+              (used_got (flat_map (λ (asking : Asking). entangled_uses asking.statement) asked) [] table
+              (used_flat asked a table at used));
+        },
+      )) in
+      record {
+        committed = kept.committed;
+        prepared = kept.prepared;
+        others = kept.others;
+        base = kept.base;
+        journal = kept.journal;
+        of_prepared = kept.of_prepared;
+        same = kept.same;
+        settles = kept.settles;
+        sound = kept.sound;
+        whole = kept.whole;
+        follow = kept.follow;
+        resolved = kept.resolved;
+        faithful = kept.faithful;
+        posted = kept.posted;
+        jobs = all_joined (JobRight s.submitted s.active s.tables) s.lent (joint_job s asked ∷ []) kept.jobs (right, tt);
+        jobs_apart = pairs_joined OtherJob s.lent (joint_job s asked ∷ []) kept.jobs_apart (tt, tt)
+            (λ job other jt ot. elim ot [
+              | inl same ↦ subst (OtherJob job) (sym same) (any_other job.work)
+              | inr bad ↦ absurd bad
+            ]);
+        idle = λ off. absurd (component_on forms s kept asked component off);
+        active_apart = kept.active_apart;
+        dormant = kept.dormant;
+        not_prepared = kept.not_prepared;
+        not_active = kept.not_active;
+        scripts = kept.scripts;
+        fated = kept.fated;
+        fated_not_prepared = kept.fated_not_prepared;
+        fated_not_active = kept.fated_not_active;
+        fated_not_dormant = kept.fated_not_dormant;
+        fated_scripts = kept.fated_scripts;
+      }
+    where
+      level : (a b : ℕ) → a ≡ b → a ≤ b
+      level a b e = omega (arith, e)
+
+      any_other : (w : Work) → OtherWork w (Joint asked)
+      any_other (One single) = tt
+      any_other (Joint other) = tt

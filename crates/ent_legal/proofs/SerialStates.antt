@@ -1,0 +1,39 @@
+-- The states that are reached are serial states.
+use Rattle.std.proofs.Common.{◌++◌, map, sym, subst}
+use Rattle.ent_semantics.specs.Database.{opening_database}
+use Rattle.ent_meant.specs.Tables.{database_of}
+use Rattle.ent_protocol.specs.Reached.{IsReached}
+use Rattle.ent_protocol.specs.Run.{Forms}
+use Rattle.ent_protocol.specs.State.{State}
+use Rattle.ent_legal.specs.Faithful.{AreFaithful}
+use Rattle.ent_legal.specs.History.{AreSerial}
+use Rattle.ent_legal.specs.SerialState.{IsSerialState}
+use Rattle.ent_legal.proofs.Frame.{Laws}
+use Rattle.ent_legal.proofs.Kept.{Kept, member_of}
+use Rattle.ent_legal.proofs.Aside.{contains_in, in_contains}
+use Rattle.ent_legal.proofs.Reached.{reached_kept}
+
+module _ {F : Type 0} (forms : Forms F) (s : State) (kept : Kept forms s) where
+  pub kept_serial : IsSerialState s
+  kept_serial =
+      record {
+        committed = kept.committed;
+        prepared = kept.prepared;
+        others = kept.others;
+        journal = kept.journal;
+        of_prepared = kept.of_prepared;
+        of_others = λ m. (
+          λ c. in_contains s.active m ((kept.same m).0 (contains_in (map member_of kept.others) m c)),
+          λ c. in_contains (map member_of kept.others) m ((kept.same m).1 (contains_in s.active m c)),
+        );
+        settles = subst (AreSerial s.opening.tables kept.committed (opening_database s.opening)) (sym kept.sound.undo)
+            kept.settles;
+        stands = subst (λ d. AreSerial s.opening.tables (kept.prepared ++ kept.others) d
+            (database_of s.opening.tables s.tables)) (sym kept.sound.undo) kept.sound.serial;
+        whole = kept.whole;
+        follow = kept.follow;
+      }
+
+pub reached_serial : {F : Type 0} (forms : Forms F) (laws : Laws) (s : State) → AreFaithful forms s.opening
+    → IsReached forms s → IsSerialState s
+reached_serial forms laws s faithful reached = kept_serial forms s (reached_kept forms laws s faithful reached)

@@ -1,0 +1,3 @@
+pub mod Faithful
+pub mod History
+pub mod SerialState

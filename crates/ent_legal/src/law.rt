@@ -1,0 +1,59 @@
+//! Laws of reached states. What holds is in the contracts; the bodies only call laws of lower crates.
+ghost use Rattle.std.specs.Prelude.{Contains, List};
+ghost use Rattle.ent_protocol.specs.Reached.{IsReached, book_of};
+ghost use Rattle.ent_protocol.specs.Run.{Forms};
+ghost use Rattle.ent_protocol.specs.State.{State};
+ghost use Rattle.ent_semantics.specs.Book.{JournalIsRight, RunGivesBook, book_sights};
+ghost use Rattle.ent_semantics.specs.Joint.{IsGrounded};
+ghost use Rattle.ent_semantics.specs.Serial.{Sight, Turn};
+ghost use Rattle.ent_legal.specs.Faithful.{AreFaithful};
+ghost use Rattle.ent_legal.specs.SerialState.{IsSerialState};
+
+use ent_closed::closing_keeps_the_meaning;
+use ent_protocol::commits_are_numbered;
+use ent_semantics::{runs_go_on, statements_keep_to_their_uses};
+
+/// Every state that is reached is a serial state: the committed transactions, run alone in the order of their commits,
+/// give the settled database, and the members of the run, one after the other from there, give the present tables.
+pub fn reached_states_are_serial<F>()
+    ensures { (forms : Forms F) (s : State)
+        → AreFaithful forms s.opening
+        → IsReached forms s
+        → IsSerialState s }
+{
+    statements_keep_to_their_uses();
+    runs_go_on();
+    closing_keeps_the_meaning();
+}
+
+/// In every state that is reached the committed transactions, run alone in the order of their commits with some answers
+/// of an oracle, give the answers and the database of the book; each answer of the oracle is a grounding over the
+/// database that its statement sees.
+pub fn committed_runs_give_the_book<F>()
+    ensures { (forms : Forms F) (s : State)
+        → AreFaithful forms s.opening
+        → IsReached forms s
+        → (turns : List Turn)
+        × RunGivesBook (book_of s) turns
+        × ((sight : Sight)
+        → Contains (book_sights (book_of s) turns) sight
+        → IsGrounded s.opening.tables sight) }
+{
+    statements_keep_to_their_uses();
+    runs_go_on();
+    closing_keeps_the_meaning();
+}
+
+/// In every state that is reached the journal and the fates fit together: each transaction has one fate at most and one
+/// entry at most, and it has committed with a number exactly where the entry of that number is its own.
+pub fn journals_fit_the_fates<F>()
+    ensures { (forms : Forms F) (s : State)
+        → AreFaithful forms s.opening
+        → IsReached forms s
+        → JournalIsRight (book_of s) }
+{
+    statements_keep_to_their_uses();
+    runs_go_on();
+    closing_keeps_the_meaning();
+    commits_are_numbered::<F>();
+}

@@ -1,0 +1,8 @@
+//! The law of the protocol: in every state that is reached the book is legal.
+//!
+//! The functions here have no body: their contracts are laws of the definitions of ent_protocol.
+#![tactic(auto)]
+
+mod law;
+
+pub use law::{committed_runs_give_the_book, journals_fit_the_fates, reached_states_are_serial};

@@ -1,0 +1,15 @@
+//! A pool of posted entangled statements that stays safe, and its components.
+//!
+//! A caller may rely on it that a statement is posted exactly where each post of the pool still unifies with the heads
+//! of one statement at most, that what stands in the way is named, and that the components are exactly those of the
+//! pool.
+#![tactic(auto)]
+
+mod fault;
+mod meets;
+mod member;
+mod pool;
+
+pub use fault::{PostFault, Unsafe};
+pub use member::Member;
+pub use pool::Pool;

@@ -1,0 +1,27 @@
+//! Which posts and heads of statements unify.
+ghost use Rattle.std.specs.Prelude.{◌≡◌, ◌↔◌, ◌<◌, IsTrue, length, Some, slice_get};
+ghost use Rattle.ent_coordination.specs.Pool.{CanMeet};
+
+use crate::member::Member;
+use ent_unify::unifies;
+
+/// Whether a post of one statement, by its index, unifies with a head of another.
+pub(crate) fn can_meet(asker: &Member, index: usize, owner: &Member) -> bool
+    requires { index < length asker.now.statement.posts }
+    ensures { IsTrue result ↔ CanMeet asker.now index owner.now }
+{
+    let asking = asker.statement();
+    let offering = owner.statement();
+    let post = &asking.posts.as_slice()[index];
+    for head in offering.heads.as_slice() {
+        if unifies(
+            post,
+            asking.variables.as_slice(),
+            head,
+            offering.variables.as_slice(),
+        ) {
+            return true;
+        }
+    }
+    false
+}

@@ -1,0 +1,12 @@
+pub mod Deeds
+pub mod Legal
+pub mod Meant
+pub mod Undone
+pub mod Runs
+pub mod Places
+pub mod Evaluated
+pub mod Resolving
+pub mod Same
+pub mod Stepping
+pub mod Loading
+pub mod Booking

@@ -1,0 +1,4 @@
+pub mod Shapes
+pub mod Operands
+pub mod Tables
+pub mod Selects
