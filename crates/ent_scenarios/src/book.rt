@@ -2,30 +2,42 @@
 use crate::reply::{put, put_number};
 use crate::streams::{SlowWriter, put_marks, put_taken, read_manner};
 use crate::values::read_rows;
-use crate::words::{kinds, name, number, rows_of, value};
+use crate::words::{kinds, name, number, row, rows_of, unescaped, value};
 use anyhow::{Context, Result, bail};
-use ent_plain_book::{Book, Fate, NamedTable, write_report};
-use ent_plain_semantics::{Answer, Failure};
+use ent_book::{NamedTable, write_report, write_report_2};
 use ent_rel::Table;
-use ent_value::{Sequence, Watched};
+use ent_semantics::{Answer, Book, Entry, Fact, Failure, Fate, Fated, JointAnswer, Member};
+use ent_sql::parse_input;
+use ent_tree::Opening;
+use ent_value::{Limited, Sequence, Watched};
 use std::alloc::Global;
+use std::mem;
 use std::sync::Arc;
 
-/// A book that is written, and the answers of the transaction that is told next.
+/// A book that is written, the answers that the next entry takes, and the members that the next joint answer takes.
 #[derive(Drop)]
 pub(crate) struct Draft {
-    book: Book,
+    book: Book<Sequence<NamedTable>>,
     answers: Sequence<Answer>,
+    members: Sequence<Member>,
 }
 
 impl Draft {
     pub(crate) fn new(alloc: Global) -> Self {
         Draft {
             book: Book {
+                opening: Opening {
+                    tables: Limited::new(alloc),
+                    rows: Limited::new(alloc),
+                },
+                scripts: Sequence::new(alloc),
+                journal: Sequence::new(alloc),
+                joint_answers: Sequence::new(alloc),
                 fates: Sequence::new(alloc),
-                tables: Sequence::new(alloc),
+                database: Sequence::new(alloc),
             },
             answers: Sequence::new(alloc),
+            members: Sequence::new(alloc),
         }
     }
 }
@@ -38,20 +50,62 @@ pub(crate) fn reply(
 ) -> Result<()> {
     match call {
         ["report", words @ ..] => put_report(alloc, &draft.book, words, out),
-        ["table", table, word, rows @ ..] => {
-            draft.book.tables.push(table_of(alloc, table, word, rows)?)?;
-            put_number(out, draft.book.tables.len())
+        ["report_2", words @ ..] => put_report_2(alloc, &draft.book, words, out),
+        ["input", text] => {
+            take_input(alloc, &mut draft.book, text)?;
+            put_number(out, draft.book.scripts.len())
         }
-        ["count" | "set" | "rows", ..] => {
+        ["table", table, word, rows @ ..] => {
+            let table = table_of(alloc, table, word, rows)?;
+            draft.book.database.push(table)?;
+            put_number(out, draft.book.database.len())
+        }
+        ["count" | "set" | "rows" | "heads", ..] => {
             draft.answers.push(answer(alloc, call)?)?;
             put_number(out, draft.answers.len())
         }
+        ["entry", tx] => {
+            take_answers(alloc, draft, number(tx)?)?;
+            put_number(out, draft.book.journal.len())
+        }
+        _ => reply_of_fates(alloc, draft, call, out),
+    }
+}
+
+fn reply_of_fates(
+    alloc: Global,
+    draft: &mut Draft,
+    call: &[&str],
+    out: &mut Vec<u8>,
+) -> Result<()> {
+    match call {
+        ["member", tx, place, values @ ..] => {
+            draft.members.push(member(alloc, tx, place, values)?)?;
+            put_number(out, draft.members.len())
+        }
+        ["joint"] => {
+            let members = mem::replace(&mut draft.members, Sequence::new(alloc));
+            draft.book.joint_answers.push(JointAnswer { members })?;
+            put_number(out, draft.book.joint_answers.len())
+        }
         _ => {
-            let fate = fate(alloc, draft, call)?;
-            draft.book.fates.push(fate)?;
+            let fate = fate(call)?;
+            let tx = (draft.book.fates.len() as u64).saturating_add(1);
+            draft.book.fates.push(Fated { tx, fate })?;
             put_number(out, draft.book.fates.len())
         }
     }
+}
+
+/// The opening and the scripts are those of an input.
+fn take_input(alloc: Global, book: &mut Book<Sequence<NamedTable>>, text: &str) -> Result<()> {
+    let text = unescaped(alloc, text)?;
+    let input = parse_input(alloc, text.as_str())
+        .ok()
+        .context("this is no input")?;
+    book.opening = input.opening;
+    book.scripts = Sequence::from_vec(input.scripts.into_vec());
+    Ok(())
 }
 
 fn table_of(alloc: Global, table: &str, word: &str, rows: &[&str]) -> Result<NamedTable> {
@@ -73,22 +127,54 @@ fn answer(alloc: Global, call: &[&str]) -> Result<Answer> {
             let rows = read_rows(alloc, words)?;
             Ok(Answer::Rows(Sequence::from_vec(rows)))
         }
+        ["heads", words @ ..] => Ok(Answer::Heads(facts(alloc, words)?)),
         _ => bail!("this is no answer"),
     }
 }
 
-/// The fate of the next transaction, which takes the answers that were told where it committed.
-fn fate(alloc: Global, draft: &mut Draft, call: &[&str]) -> Result<Fate> {
+/// Rows of answer relations, each as `R(1,'a)`.
+fn facts(alloc: Global, words: &[&str]) -> Result<Sequence<Fact>> {
+    let mut facts = Sequence::new(alloc);
+    for word in words {
+        let (relation, rest) = word.split_once('(').context("a fact is written R(1)")?;
+        let values = format!(in alloc; "({rest}")?;
+        facts.push(Fact {
+            relation: name(alloc, relation)?,
+            values: row(alloc, values.as_str())?,
+        })?;
+    }
+    Ok(facts)
+}
+
+/// The journal's next entry takes the answers that were told.
+fn take_answers(alloc: Global, draft: &mut Draft, tx: u64) -> Result<()> {
+    let answers = mem::replace(&mut draft.answers, Sequence::new(alloc));
+    draft.book.journal.push(Entry { tx, answers })?;
+    Ok(())
+}
+
+fn member(alloc: Global, tx: &str, place: &str, values: &[&str]) -> Result<Member> {
+    let mut grounding = Sequence::new(alloc);
+    for word in values {
+        grounding.push(value(alloc, word)?)?;
+    }
+    Ok(Member {
+        tx: number(tx)?,
+        place: number(place)?,
+        grounding,
+    })
+}
+
+/// The fate of the next transaction.
+fn fate(call: &[&str]) -> Result<Fate> {
     match call {
-        ["committed", place, runs] => {
-            let mut answers = Sequence::new(alloc);
-            std::mem::swap(&mut answers, &mut draft.answers);
-            Ok(Fate::Committed {
-                number: number(place)?,
-                runs: number(runs)?,
-                answers,
-            })
-        }
+        ["committed", place, runs] => Ok(Fate::Committed {
+            number: number(place)?,
+            runs: number(runs)?,
+        }),
+        ["gave_up", runs] => Ok(Fate::GaveUp {
+            runs: number(runs)?,
+        }),
         ["rolled_back", runs] => Ok(Fate::RolledBack {
             runs: number(runs)?,
         }),
@@ -105,13 +191,39 @@ fn fate(alloc: Global, draft: &mut Draft, call: &[&str]) -> Result<Fate> {
 }
 
 /// Writes the report to a writer of this manner, and shows what it took.
-fn put_report(alloc: Global, book: &Book, words: &[&str], out: &mut Vec<u8>) -> Result<()> {
+fn put_report(
+    alloc: Global,
+    book: &Book<Sequence<NamedTable>>,
+    words: &[&str],
+    out: &mut Vec<u8>,
+) -> Result<()> {
     let mut writer = Watched::new(SlowWriter::new(alloc, read_manner(words)?));
-    match write_report(alloc, book, &mut writer) {
-        Ok(()) => put(out, "written, ")?,
-        Err(_) => put(out, "not written, ")?,
-    }
-    put_marks(&writer, out)?;
+    let is_written = write_report(alloc, book, &mut writer).is_ok();
+    put_written(&writer, is_written, out)
+}
+
+/// The same for the report of version 2.
+fn put_report_2(
+    alloc: Global,
+    book: &Book<Sequence<NamedTable>>,
+    words: &[&str],
+    out: &mut Vec<u8>,
+) -> Result<()> {
+    let mut writer = Watched::new(SlowWriter::new(alloc, read_manner(words)?));
+    let is_written = write_report_2(alloc, book, &mut writer).is_ok();
+    put_written(&writer, is_written, out)
+}
+
+fn put_written(writer: &Watched<SlowWriter>, is_written: bool, out: &mut Vec<u8>) -> Result<()> {
+    put(
+        out,
+        if is_written {
+            "written, "
+        } else {
+            "not written, "
+        },
+    )?;
+    put_marks(writer, out)?;
     put(out, ": ")?;
     put_taken(out, writer.get().taken())
 }

@@ -1,14 +1,12 @@
-//! An input with its names resolved: `== forms`, then an input a line. A table or a column is shown by its number.
+//! An input with its names resolved: `== forms`, then an input a line. A table is shown by its number, a column by its
+//! number behind a `#`, a written variable by its number behind a `?`.
 use crate::reply::{Show, put, put_list, put_number};
-use crate::trees::{put_end, put_tests};
 use crate::values::put_kind;
 use crate::words::unescaped;
 use anyhow::Result;
-use ent_plain_form::{
-    Catalogue, FormFault, Plain, PlainOperand, PlainStatement, PlainTest, PlainValue, TableSchema,
-    opening_rows, resolve,
-};
-use ent_plain_sql::{Input, Opening, parse_input};
+use ent_form::{Catalogue, FormFault, TableSchema, opening_rows, resolve};
+use ent_sql::parse_input;
+use ent_tree::{Input, Opening};
 use ent_value::Refusal;
 use std::alloc::Global;
 use std::io::Write;
@@ -99,97 +97,4 @@ fn put_table(alloc: Global, number: usize, table: &TableSchema, out: &mut Vec<u8
         }
     }
     put(out, ";")
-}
-
-impl Show for PlainValue {
-    fn show(&self, alloc: Global, out: &mut Vec<u8>) -> Result<()> {
-        match self {
-            PlainValue::Constant(value) => value.show(alloc, out),
-            PlainValue::HostVariable(name) => {
-                put(out, ":")?;
-                name.show(alloc, out)
-            }
-        }
-    }
-}
-
-impl Show for PlainOperand {
-    fn show(&self, alloc: Global, out: &mut Vec<u8>) -> Result<()> {
-        match self {
-            PlainOperand::Value(value) => value.show(alloc, out),
-            PlainOperand::Column(number) => {
-                put(out, "#")?;
-                put_number(out, *number)
-            }
-        }
-    }
-}
-
-impl Show for PlainTest {
-    fn show(&self, alloc: Global, out: &mut Vec<u8>) -> Result<()> {
-        self.left.show(alloc, out)?;
-        write!(out, " {:?} ", self.comparison)?;
-        self.right.show(alloc, out)
-    }
-}
-
-/// The word of a statement, and the number of its table.
-fn put_head(out: &mut Vec<u8>, word: &str, table: usize) -> Result<()> {
-    put(out, word)?;
-    put_number(out, table)?;
-    put(out, " ")
-}
-
-impl Show for PlainStatement {
-    fn show(&self, alloc: Global, out: &mut Vec<u8>) -> Result<()> {
-        match self {
-            PlainStatement::Insert { table, values } => {
-                put_head(out, " insert ", *table)?;
-                put_list(alloc, out, values.as_slice(), ", ")?;
-                put(out, ";")
-            }
-            PlainStatement::Delete { table, tests } => {
-                put_head(out, " delete ", *table)?;
-                put_tests(alloc, out, tests.as_slice())
-            }
-            PlainStatement::Update {
-                table,
-                image,
-                tests,
-            } => {
-                put_head(out, " update ", *table)?;
-                put_list(alloc, out, image.as_slice(), ", ")?;
-                put_tests(alloc, out, tests.as_slice())
-            }
-            PlainStatement::Set {
-                variable,
-                expression,
-            } => {
-                put(out, " set :")?;
-                variable.show(alloc, out)?;
-                put(out, " = ")?;
-                expression.show(alloc, out)?;
-                put(out, ";")
-            }
-            PlainStatement::Select {
-                table,
-                items,
-                tests,
-            } => {
-                put_head(out, " select ", *table)?;
-                put_list(alloc, out, items.as_slice(), ", ")?;
-                put_tests(alloc, out, tests.as_slice())
-            }
-        }
-    }
-}
-
-impl Show for Plain {
-    fn show(&self, alloc: Global, out: &mut Vec<u8>) -> Result<()> {
-        put(out, " begin;")?;
-        for statement in self.statements.as_slice() {
-            statement.show(alloc, out)?;
-        }
-        put_end(out, self.end)
-    }
 }

@@ -3,10 +3,15 @@
 #![tactic(auto)]
 
 mod book;
+mod counts;
+mod engine;
+mod entangled;
 mod forms;
 mod groups;
 mod locks;
+mod prints;
 mod reply;
+mod resolved;
 mod stage;
 mod streams;
 mod table;

@@ -3,7 +3,7 @@ use crate::book::Draft;
 use crate::groups::{reply_to_cycles, reply_to_groups, reply_to_members};
 use crate::streams::Streams;
 use crate::undo::Tables;
-use crate::{book, forms, locks, streams, table, tokens, trees, undo, values};
+use crate::{book, counts, forms, locks, prints, streams, table, tokens, trees, undo, values};
 use anyhow::{Context, Result, bail};
 use ent_group::{Groups, Members};
 use ent_lock::LockTable;
@@ -15,6 +15,8 @@ use std::alloc::Global;
 enum Stage {
     Tokens,
     Trees,
+    Prints,
+    Counts,
     Forms,
     Values,
     Table(Table),
@@ -31,6 +33,8 @@ fn set_stage(alloc: Global, name: &str) -> Result<Stage> {
     Ok(match name {
         "tokens" => Stage::Tokens,
         "trees" => Stage::Trees,
+        "prints" => Stage::Prints,
+        "counts" => Stage::Counts,
         "forms" => Stage::Forms,
         "values" => Stage::Values,
         "table" => Stage::Table(Table::new(alloc, Vec::new(alloc))),
@@ -51,6 +55,8 @@ fn reply(alloc: Global, stage: &mut Stage, line: &str, out: &mut Vec<u8>) -> Res
     match stage {
         Stage::Tokens => tokens::reply(alloc, line, out),
         Stage::Trees => trees::reply(alloc, line, out),
+        Stage::Prints => prints::reply(alloc, line, out),
+        Stage::Counts => counts::reply(alloc, line, out),
         Stage::Forms => forms::reply(alloc, line, out),
         Stage::Values => values::reply(alloc, call, out),
         Stage::Table(table) => table::reply(alloc, table, call, out),

@@ -1,8 +1,8 @@
 //! Readers and writers that move few bytes, or fail at a stated call: `== streams`.
+use crate::engine::put_run;
 use crate::reply::{put, put_number, yes_or_no};
 use crate::words::{index, unescaped};
 use anyhow::{Context, Result, bail};
-use ent_engine::{FaultLine, RunFault, run};
 use ent_value::Watched;
 use std::alloc::Global;
 use std::io;
@@ -213,29 +213,6 @@ pub(crate) fn put_taken(out: &mut Vec<u8>, taken: &[u8]) -> Result<()> {
         } else {
             out.push(*byte)?;
         }
-    }
-    Ok(())
-}
-
-/// Runs the engine over a reader and a writer, whose marks have to be unset.
-fn put_run(
-    alloc: Global,
-    reader: &mut Watched<SlowReader>,
-    writer: &mut Watched<SlowWriter>,
-    out: &mut Vec<u8>,
-) -> Result<()> {
-    if reader.has_failed() || reader.has_stalled() || writer.has_failed() || writer.has_stalled() {
-        bail!("this stream has failed");
-    }
-    let fault = run(alloc, reader, writer).err();
-    put_fault(fault, out)?;
-    put_taken(out, writer.get().taken())
-}
-
-fn put_fault(fault: Option<RunFault>, out: &mut Vec<u8>) -> Result<()> {
-    match fault {
-        Some(fault) => write!(out, "{}: ", FaultLine(fault))?,
-        None => put(out, "ended: ")?,
     }
     Ok(())
 }

@@ -4,9 +4,10 @@ use crate::reply::{Show, put, put_list, put_number};
 use crate::values::put_kind;
 use crate::words::unescaped;
 use anyhow::Result;
-use ent_plain_sql::{
-    Assignment, Column, Create, End, Expression, Identifier, Input, Items, Literal, OpeningRow,
-    Operand, Script, Statement, Test, ValueSpecification, parse_input,
+use ent_sql::parse_input;
+use ent_tree::{
+    Assignment, Column, ColumnReference, Create, End, Expression, Identifier, Input, Items,
+    Literal, OpeningRow, Operand, Script, Select, Source, Statement, Test, ValueSpecification,
 };
 use ent_value::Refusal;
 use std::alloc::Global;
@@ -22,7 +23,7 @@ pub(crate) fn reply(alloc: Global, line: &str, out: &mut Vec<u8>) -> Result<()> 
     Ok(())
 }
 
-fn put_input(alloc: Global, input: &Input, out: &mut Vec<u8>) -> Result<()> {
+pub(crate) fn put_input(alloc: Global, input: &Input, out: &mut Vec<u8>) -> Result<()> {
     put(out, "input;")?;
     put_list(alloc, out, input.opening.tables.as_slice(), "")?;
     put_list(alloc, out, input.opening.rows.as_slice(), "")?;
@@ -36,7 +37,7 @@ impl Show for Identifier {
     }
 }
 
-fn put_place(out: &mut Vec<u8>, place: usize) -> Result<()> {
+pub(crate) fn put_place(out: &mut Vec<u8>, place: usize) -> Result<()> {
     put(out, "@")?;
     put_number(out, place)
 }
@@ -94,6 +95,16 @@ impl Show for ValueSpecification {
     }
 }
 
+impl Show for ColumnReference {
+    fn show(&self, alloc: Global, out: &mut Vec<u8>) -> Result<()> {
+        if let Some(qualifier) = &self.qualifier {
+            qualifier.show(alloc, out)?;
+            put(out, ".")?;
+        }
+        self.column.show(alloc, out)
+    }
+}
+
 impl Show for Operand {
     fn show(&self, alloc: Global, out: &mut Vec<u8>) -> Result<()> {
         match self {
@@ -113,7 +124,7 @@ impl<T: Show> Show for Expression<T> {
     }
 }
 
-impl Show for Test {
+impl<T: Show> Show for Test<T> {
     fn show(&self, alloc: Global, out: &mut Vec<u8>) -> Result<()> {
         self.left.show(alloc, out)?;
         write!(out, " {:?} ", self.comparison)?;
@@ -129,13 +140,43 @@ impl Show for Assignment {
     }
 }
 
+/// The conditions of a statement.
+pub(crate) fn put_where<T: Show>(alloc: Global, out: &mut Vec<u8>, tests: &[T]) -> Result<()> {
+    if tests.is_empty() {
+        return Ok(());
+    }
+    put(out, " where ")?;
+    put_list(alloc, out, tests, ", ")
+}
+
 /// The conditions of a statement, and its end.
 pub(crate) fn put_tests<T: Show>(alloc: Global, out: &mut Vec<u8>, tests: &[T]) -> Result<()> {
-    if !tests.is_empty() {
-        put(out, " where ")?;
-        put_list(alloc, out, tests, ", ")?;
-    }
+    put_where(alloc, out, tests)?;
     put(out, ";")
+}
+
+impl Show for Source {
+    fn show(&self, alloc: Global, out: &mut Vec<u8>) -> Result<()> {
+        self.table.show(alloc, out)?;
+        if let Some(alias) = &self.alias {
+            put(out, " as ")?;
+            alias.show(alloc, out)?;
+        }
+        Ok(())
+    }
+}
+
+impl Show for Select {
+    fn show(&self, alloc: Global, out: &mut Vec<u8>) -> Result<()> {
+        put(out, "select ")?;
+        match &self.items {
+            Items::All => put(out, "*")?,
+            Items::Listed(items) => put_list(alloc, out, items.as_slice(), ", ")?,
+        }
+        put(out, " from ")?;
+        put_list(alloc, out, self.sources.as_slice(), ", ")?;
+        put_where(alloc, out, self.tests.as_slice())
+    }
 }
 
 impl Show for Statement {
@@ -165,18 +206,16 @@ impl Show for Statement {
                 set.expression.show(alloc, out)?;
                 put(out, ";")
             }
-            Statement::Select(select) => {
-                put(out, " select ")?;
-                match &select.items {
-                    Items::All => put(out, "*")?,
-                    Items::Listed(items) => put_list(alloc, out, items.as_slice(), ", ")?,
-                }
-                put(out, " from ")?;
-                select.source.show(alloc, out)?;
-                put_tests(alloc, out, select.tests.as_slice())
-            }
+            Statement::Select(select) => put_statement(alloc, out, select),
+            Statement::Entangled(entangled) => put_statement(alloc, out, entangled),
         }
     }
+}
+
+fn put_statement<T: Show>(alloc: Global, out: &mut Vec<u8>, statement: &T) -> Result<()> {
+    put(out, " ")?;
+    statement.show(alloc, out)?;
+    put(out, ";")
 }
 
 pub(crate) fn put_end(out: &mut Vec<u8>, end: End) -> Result<()> {
@@ -191,7 +230,7 @@ pub(crate) fn put_end(out: &mut Vec<u8>, end: End) -> Result<()> {
 
 impl Show for Script {
     fn show(&self, alloc: Global, out: &mut Vec<u8>) -> Result<()> {
-        put(out, " begin;")?;
+        write!(out, " begin within {};", self.within)?;
         for statement in self.statements.as_slice() {
             statement.show(alloc, out)?;
         }

@@ -1,0 +1,182 @@
+//! Resolved scripts and statements, for `== forms`.
+use crate::reply::{Show, put, put_list, put_number};
+use crate::trees::{put_end, put_tests, put_where};
+use crate::values::put_kind;
+use anyhow::Result;
+use ent_closed::{Atom, Binding, Entangled, Known, Membership, Operand, Select, Statement, Term};
+use ent_form::Plain;
+use ent_value::Kind;
+use std::alloc::Global;
+use std::io::Write;
+
+impl Show for Known {
+    fn show(&self, alloc: Global, out: &mut Vec<u8>) -> Result<()> {
+        match self {
+            Known::Constant(value) => value.show(alloc, out),
+            Known::HostVariable(name) => {
+                put(out, ":")?;
+                name.show(alloc, out)
+            }
+        }
+    }
+}
+
+impl<K: Show> Show for Operand<K> {
+    fn show(&self, alloc: Global, out: &mut Vec<u8>) -> Result<()> {
+        match self {
+            Operand::Known(known) => known.show(alloc, out),
+            Operand::Column(number) => {
+                put(out, "#")?;
+                put_number(out, *number)
+            }
+        }
+    }
+}
+
+impl<K: Show> Show for Term<K> {
+    fn show(&self, alloc: Global, out: &mut Vec<u8>) -> Result<()> {
+        match self {
+            Term::Known(known) => known.show(alloc, out),
+            Term::Variable(number) => {
+                put(out, "?")?;
+                put_number(out, *number)
+            }
+        }
+    }
+}
+
+impl Show for usize {
+    fn show(&self, _alloc: Global, out: &mut Vec<u8>) -> Result<()> {
+        put_number(out, *self)
+    }
+}
+
+impl Show for Kind {
+    fn show(&self, _alloc: Global, out: &mut Vec<u8>) -> Result<()> {
+        put_kind(out, *self)
+    }
+}
+
+fn put_terms<K: Show>(alloc: Global, out: &mut Vec<u8>, terms: &[Term<K>]) -> Result<()> {
+    put(out, "(")?;
+    put_list(alloc, out, terms, ", ")?;
+    put(out, ")")
+}
+
+impl<K: Show> Show for Atom<K> {
+    fn show(&self, alloc: Global, out: &mut Vec<u8>) -> Result<()> {
+        self.relation.show(alloc, out)?;
+        put_terms(alloc, out, self.terms.as_slice())
+    }
+}
+
+impl<K: Show> Show for Select<K> {
+    fn show(&self, alloc: Global, out: &mut Vec<u8>) -> Result<()> {
+        put_list(alloc, out, self.items.as_slice(), ", ")?;
+        put(out, " from ")?;
+        put_list(alloc, out, self.sources.as_slice(), ", ")?;
+        put_where(alloc, out, self.tests.as_slice())
+    }
+}
+
+impl<K: Show> Show for Membership<K> {
+    fn show(&self, alloc: Global, out: &mut Vec<u8>) -> Result<()> {
+        put_terms(alloc, out, self.terms.as_slice())?;
+        put(out, " in (")?;
+        self.select.show(alloc, out)?;
+        put(out, ")")
+    }
+}
+
+impl<K: Show> Show for Binding<K> {
+    fn show(&self, alloc: Global, out: &mut Vec<u8>) -> Result<()> {
+        put(out, ":")?;
+        self.variable.show(alloc, out)?;
+        put(out, " = ")?;
+        self.term.show(alloc, out)
+    }
+}
+
+/// Some parts of an entangled statement behind their word, where there are any.
+fn put_parts<T: Show>(alloc: Global, out: &mut Vec<u8>, word: &str, parts: &[T]) -> Result<()> {
+    if parts.is_empty() {
+        return Ok(());
+    }
+    put(out, word)?;
+    put_list(alloc, out, parts, ", ")
+}
+
+impl<K: Show> Show for Entangled<K> {
+    fn show(&self, alloc: Global, out: &mut Vec<u8>) -> Result<()> {
+        put(out, "entangled")?;
+        put_parts(alloc, out, " over ", self.variables.as_slice())?;
+        put_parts(alloc, out, " posts ", self.posts.as_slice())?;
+        put_parts(alloc, out, " heads ", self.heads.as_slice())?;
+        put_parts(alloc, out, " atoms ", self.atoms.as_slice())?;
+        put_parts(alloc, out, " tests ", self.tests.as_slice())?;
+        put_parts(alloc, out, " binds ", self.binds.as_slice())
+    }
+}
+
+/// The word of a statement, and the number of its table.
+fn put_table(out: &mut Vec<u8>, word: &str, table: usize) -> Result<()> {
+    put(out, word)?;
+    put_number(out, table)?;
+    put(out, " ")
+}
+
+impl<K: Show> Show for Statement<K> {
+    fn show(&self, alloc: Global, out: &mut Vec<u8>) -> Result<()> {
+        match self {
+            Statement::Select(select) => {
+                put(out, " select ")?;
+                select.show(alloc, out)?;
+                put(out, ";")
+            }
+            Statement::Entangled(entangled) => {
+                put(out, " ")?;
+                entangled.show(alloc, out)?;
+                put(out, ";")
+            }
+            Statement::Insert { table, values } => {
+                put_table(out, " insert ", *table)?;
+                put_list(alloc, out, values.as_slice(), ", ")?;
+                put(out, ";")
+            }
+            Statement::Delete { table, tests } => {
+                put(out, " delete ")?;
+                put_number(out, *table)?;
+                put_tests(alloc, out, tests.as_slice())
+            }
+            Statement::Update {
+                table,
+                image,
+                tests,
+            } => {
+                put_table(out, " update ", *table)?;
+                put_list(alloc, out, image.as_slice(), ", ")?;
+                put_tests(alloc, out, tests.as_slice())
+            }
+            Statement::Set {
+                variable,
+                expression,
+            } => {
+                put(out, " set :")?;
+                variable.show(alloc, out)?;
+                put(out, " = ")?;
+                expression.show(alloc, out)?;
+                put(out, ";")
+            }
+        }
+    }
+}
+
+impl Show for Plain {
+    fn show(&self, alloc: Global, out: &mut Vec<u8>) -> Result<()> {
+        write!(out, " begin within {};", self.within)?;
+        for statement in self.statements.as_slice() {
+            statement.show(alloc, out)?;
+        }
+        put_end(out, self.end)
+    }
+}
