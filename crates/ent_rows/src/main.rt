@@ -20,10 +20,10 @@ struct Outcome {
 fn main(rt: HostRuntime) -> Result<()> {
     let rows = check_rows(&rt)?;
     println!(rt; "{rows} rows")?;
-    for name in ["first", "flights", "orders", "theatre"] {
+    for name in ["first", "flights", "library", "orders", "theatre", "trains"] {
         check_example(&rt, name)?;
     }
-    println!(rt; "4 examples")?;
+    println!(rt; "6 examples")?;
     check_longest(rt.alloc())?;
     println!(rt; "the longest input, and one byte more")?;
     Ok(())
