@@ -155,7 +155,8 @@ member_from place ts y tokens h = on ts h.first h.second
     on ts (inl k) m =
         let t : Tuple = record { place = place; terms = ts } in
         let parts = to_right {behind = Member t y} (join h.front h.back h.whole k m) in
-        let inner = to_right {behind = Member t y} (join parts.second.front parts.second.back parts.second.whole parts.second.first
+        let inner = to_right {behind = Member t y}
+        (join parts.second.front parts.second.back parts.second.whole parts.second.first
         parts.second.second) in
         inl (place, join parts.front parts.back parts.whole parts.first (ts, inner))
     on [] (inr k) m = absurd k

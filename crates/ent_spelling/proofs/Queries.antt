@@ -336,7 +336,8 @@ entangled_from e tokens h =
     inr (
       found.xs,
       join front (back ++ h.back) whole found.spelled.first
-          (subst (λ (b : Bool). cond b (EitherOf found.xs) (Ordinary found.xs) (statements.Entangled e) (back ++ h.back))
+          (subst (λ (b : Bool). cond b (EitherOf found.xs) (Ordinary found.xs) (statements.Entangled e)
+          (back ++ h.back))
           (sym found.are) entangling),
     )
 

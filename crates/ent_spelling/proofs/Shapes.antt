@@ -344,7 +344,8 @@ pub made_gives : {A P : Type 0} {make : P → A} {phrase : P → Phrase} (goal :
 made_gives goal so h = subst goal (sym h.is) (so h.parts h.spelled)
 
 pub made_spelled : {A P : Type 0} {g : Grammar A} {make : P → A} {phrase : P → Phrase} (whole : A → Phrase)
-    → Spelled g (Made make phrase) → ((parts : P) (tokens : List Token) → phrase parts tokens → whole (make parts) tokens)
+    → Spelled g (Made make phrase)
+    → ((parts : P) (tokens : List Token) → phrase parts tokens → whole (make parts) tokens)
     → ((y : A) (tokens : List Token) → whole y tokens → Made make phrase y tokens) → Spelled g whole
 made_spelled whole each to from =
     spelled_as each (λ y tokens h. made_gives (λ z. whole z tokens) (λ parts k. to parts tokens k) h) from
