@@ -20,7 +20,8 @@ pub fn printed_text_is_read()
 /// The tokens of a printed script are those that spell it, in order, where no name is a reserved word, no text has a
 /// control character and no number is beyond its limit.
 pub fn printed_script_is_read()
-    ensures { (script : Script) → IsReadable script → HasKinds (script_text script) (kinds_of (script_spelling script)) }
+    ensures { (script : Script) → IsReadable script
+        → HasKinds (script_text script) (kinds_of (script_spelling script)) }
 {
     printed_text_is_read();
 }

@@ -59,8 +59,9 @@ pub fn read_script_is_itself()
     printed_text_is_itself();
 }
 
-/// Scripts that were read, from whatever texts, are read again where they are printed behind a text that is read: the
-/// opening and the scripts of that text stay, places included, and these scripts stand behind them, places aside.
+/// Scripts that were read, from whatever texts, are read again where they are printed behind a text that is read and a
+/// line end: the opening and the scripts of that text stay, places included, and these scripts stand behind them, places
+/// aside.
 pub fn printed_scripts_follow()
     ensures { (front : List ℕ) (first : Input) (scripts : List Script) → reading front ≡ Ok first
         → All WasRead scripts → length first.scripts + length scripts ≤ MOST_SCRIPTS
@@ -73,8 +74,8 @@ pub fn printed_scripts_follow()
     reading_is_exact();
 }
 
-/// What is read from a printed script behind the text of an opening is that opening, places included, and that script
-/// alone, places aside; and from all scripts of an input, that opening and these scripts in order.
+/// What is read from a printed script behind the text of an opening and a line end is that opening, places included,
+/// and that script alone, places aside; and from all scripts of an input, that opening and these scripts in order.
 pub fn printed_scripts_follow_an_opening()
     ensures script { (front text : List ℕ) (opening : Opening) (input : Input) (script : Script)
         → reading front ≡ Ok (record { opening = opening; scripts = [] }) → reading text ≡ Ok input

@@ -28,7 +28,8 @@ use Rattle.ent_sql.specs.Operands as grammar
 use Rattle.ent_spelling.specs.Phrases.{Standing}
 use Rattle.ent_spelling.specs.Phrases as phrases
 use Rattle.ent_spelling.specs.Operands as said
-use Rattle.ent_spelling.proofs.Shapes.{Spelled, Made, made_gives, made_spelled, either_made, spelled_as, standing_spelled, sign_spelled}
+use Rattle.ent_spelling.proofs.Shapes.{Spelled, Made, made_gives, made_spelled, either_made, spelled_as}
+use Rattle.ent_spelling.proofs.Shapes.{standing_spelled, sign_spelled}
 use Rattle.ent_spelling.proofs.Shapes.{give_spelled, last_spelled, then_spelled, mark_spelled, end_spelled}
 use Rattle.ent_spelling.proofs.Shapes.{either_spelled, chain_spelled, join, alone_is}
 
@@ -114,16 +115,21 @@ Unqualified first = Made {P = Unit {0}} (λ parts. record { qualifier = None; co
 abbrev BehindName : Identifier → ColumnReference → Phrase
 BehindName first y tokens = Qualified first y tokens ⊎ Unqualified first y tokens
 
-column_to : (first : Identifier) (y : ColumnReference) {tokens : List Token} (front back : List Token) → tokens ≡ front ++ back
+column_to : (first : Identifier) (y : ColumnReference) {tokens : List Token} (front back : List Token)
+    → tokens ≡ front ++ back
     → said.identifier first front → BehindName first y back → said.column_reference y tokens
 column_to first y {tokens = tokens} front back is h (inl k) =
     made_gives (λ z. said.column_reference z tokens) (λ c l. join front back is h l) k
 column_to first y {tokens = tokens} front back is h (inr k) =
-    made_gives (λ z. said.column_reference z tokens) (λ parts none. alone_is (said.identifier first) front back is h none) k
+    made_gives (λ z. said.column_reference z tokens)
+    (λ parts none. alone_is (said.identifier first) front back is h none) k
 
 column_from : (q : Option Identifier) (c : Identifier) (tokens : List Token) → said.behind_qualifier q c tokens
     → chained said.identifier BehindName (record { qualifier = q; column = c }) tokens
-column_from None c tokens h = (c, join tokens [] (sym (append-nil tokens)) h (inr (record { parts = tt; is = refl; spelled = refl })))
+column_from None c tokens h = (
+  c,
+  join tokens [] (sym (append-nil tokens)) h (inr (record { parts = tt; is = refl; spelled = refl })),
+)
 column_from (Some q) c tokens h =
     (q, join h.front h.back h.whole h.first (inl (record { parts = c; is = refl; spelled = h.second })))
 
@@ -231,7 +237,8 @@ module _ {A : Type 0} (thing : A → Phrase) where
       ⊎ (Signed (λ second. Difference first second) signs.Minus y tokens
       ⊎ Made {P = Unit {0}} (λ parts. Single first) (λ parts. nothing) y tokens)
 
-  expression_to : (first : A) (y : Expression A) {tokens : List Token} (front back : List Token) → tokens ≡ front ++ back
+  expression_to : (first : A) (y : Expression A) {tokens : List Token} (front back : List Token)
+      → tokens ≡ front ++ back
       → thing first front → BehindFirst first y back → said.expression thing y tokens
   expression_to first y {tokens = tokens} front back is h (inl k) =
       made_gives (λ z. said.expression thing z tokens) (λ second l. join front back is h l) k

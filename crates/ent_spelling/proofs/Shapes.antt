@@ -16,7 +16,7 @@ use Rattle.ent_grammar.specs.declared.divider.Divider.TheVariants.{Comma, And}
 use Rattle.ent_grammar.specs.Class.{Class, word, sign, name, variable, number, positive, one, text, Given, given, if_so}
 use Rattle.ent_grammar.specs.Class.{same_word, same_sign, class_of}
 use Rattle.ent_grammar.specs.Phrase.{Phrase, ◌⨾◌, nothing, Single, all}
-use Rattle.ent_grammar.specs.Grammar.{Grammar, give, token, chain, pick, many, more, listed}
+use Rattle.ent_grammar.specs.Grammar.{Grammar, give, token, up_to, chain, pick, many, more, listed}
 use Rattle.ent_grammar.specs.Spelling.{spells, chained}
 use Rattle.ent_spelling.specs.Phrases.{Standing, divides, IsSpelledAs}
 use Rattle.ent_spelling.specs.Phrases as phrases
@@ -120,6 +120,27 @@ standing_spelled c besides = record {
     whole = h.whole;
     is_given = (λ i. given c (h.is_kind i) (h.stands i)) ∙ gives_so c y (besides y);
   };
+}
+
+-- a number from 1 on, up to a limit
+pub up_to_spelled : (most : ℕ)
+    → Spelled (up_to most) (λ y tokens. (1 ≤ y.0) × (y.0 ≤ most) × Standing y.1 (kinds.Number y.0) tokens)
+up_to_spelled most = record {
+  says = λ y tokens h.
+      let one_token = h.0 in
+      let stands = given_stands positive y one_token.token.kind one_token.token.start one_token.is_given in (
+        stands.2,
+        leb-true y.0 most (h.1 refl),
+        record { token = one_token.token; whole = one_token.whole; is_kind = stands.0; stands = stands.1 },
+      );
+  said = λ y tokens h. (
+    record {
+      token = h.2.token;
+      whole = h.2.whole;
+      is_given = (λ i. given positive (h.2.is_kind i) (h.2.stands i)) ∙ gives_so positive y h.0;
+    },
+    λ kept. le-leb y.0 most h.1,
+  );
 }
 
 pub word_spelled : (w : Keyword) → Spelled (token (word w)) (λ place. Standing place (kinds.Word w))
@@ -323,7 +344,8 @@ pub made_gives : {A P : Type 0} {make : P → A} {phrase : P → Phrase} (goal :
 made_gives goal so h = subst goal (sym h.is) (so h.parts h.spelled)
 
 pub made_spelled : {A P : Type 0} {g : Grammar A} {make : P → A} {phrase : P → Phrase} (whole : A → Phrase)
-    → Spelled g (Made make phrase) → ((parts : P) (tokens : List Token) → phrase parts tokens → whole (make parts) tokens)
+    → Spelled g (Made make phrase)
+    → ((parts : P) (tokens : List Token) → phrase parts tokens → whole (make parts) tokens)
     → ((y : A) (tokens : List Token) → whole y tokens → Made make phrase y tokens) → Spelled g whole
 made_spelled whole each to from =
     spelled_as each (λ y tokens h. made_gives (λ z. whole z tokens) (λ parts k. to parts tokens k) h) from

@@ -5,5 +5,6 @@
 mod laws;
 
 pub use laws::{
-    changes_are_spelled, operands_are_spelled, selects_are_spelled, tables_are_spelled,
+    changes_are_spelled, entangling_is_spelled, inputs_are_spelled, operands_are_spelled,
+    selects_are_spelled, tables_are_spelled, texts_are_spelled,
 };
