@@ -7,3 +7,4 @@ pub mod EntangledHeads
 pub mod ScriptHeads
 pub mod ScriptStands
 pub mod Unset
+pub mod Demands

@@ -4,3 +4,4 @@ pub mod EntangledFaults
 pub mod ScriptFaults
 pub mod EntangledStanding
 pub mod ScriptStanding
+pub mod Demanded

@@ -1,7 +1,9 @@
 //! Laws of the faults of form.
-ghost use Rattle.std.specs.Prelude.{◌≡◌, ◌↔◌, List, None};
-ghost use Rattle.std.specs.List.{Any, Contains};
+ghost use Rattle.std.specs.Prelude.{◌≡◌, ◌↔◌, List, None, Some};
+ghost use Rattle.std.specs.List.{Any, Contains, flat_map};
+ghost use Rattle.ent_value.specs.declared.value.Kind.{Kind};
 ghost use Rattle.ent_tree.specs.declared.declaration.Opening.{Opening};
+ghost use Rattle.ent_tree.specs.declared.entangled.Condition.{Condition};
 ghost use Rattle.ent_tree.specs.declared.script.Script.{Script};
 ghost use Rattle.ent_tree.specs.declared.script.Statement.{Statement};
 ghost use Rattle.ent_semantics.specs.Database.{Name};
@@ -11,6 +13,8 @@ ghost use Rattle.ent_form.specs.Form.{statement_in, script_in};
 ghost use Rattle.ent_form.specs.Kinds.{Bound, none_bound};
 ghost use Rattle.ent_form.specs.OpeningFault.{opening_fault};
 ghost use Rattle.ent_faults.specs.AllFaults.{fault_of, head_of, opening_faults};
+ghost use Rattle.ent_faults.specs.Demanded.{condition_sides, IsDemandedFirst};
+ghost use Rattle.ent_faults.specs.EntangledFaults.{demanded_from};
 ghost use Rattle.ent_faults.specs.ScriptFaults.{bound_by, statement_faults, script_faults};
 ghost use Rattle.ent_faults.specs.ScriptStanding.{IsStatementFault, IsScriptFault, Binds};
 ghost use Rattle.ent_faults.specs.Standing.{IsOpeningFault};
@@ -45,4 +49,11 @@ pub fn faults_are_those_that_stand()
 pub fn unbound_is_unset()
     ensures { (tables : List TableSchema) (before : List Statement) (name : Name)
         → ((bound_by tables none_bound before name ≡ None) ↔ ¬ (Any (Binds name) before)) }
+{}
+
+/// A written variable is demanded in the kind of the first item of a sub-select that it stands beside.
+pub fn variables_are_demanded_first()
+    ensures { (tables : List TableSchema) (bound : Bound) (conditions : List Condition) (name : Name) (kind : Kind)
+        → ((demanded_from tables bound none_bound conditions name ≡ Some kind)
+        ↔ IsDemandedFirst name kind (flat_map (condition_sides tables bound) conditions)) }
 {}

@@ -7,4 +7,7 @@
 
 mod law;
 
-pub use law::{faults_are_those_that_stand, first_fault_is_first, unbound_is_unset};
+pub use law::{
+    faults_are_those_that_stand, first_fault_is_first, unbound_is_unset,
+    variables_are_demanded_first,
+};
