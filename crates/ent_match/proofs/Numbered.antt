@@ -1,5 +1,6 @@
 -- Statements by number.
-use Rattle.std.proofs.Common.{◌≡◌, ◌⊎◌, ℕ, ◌+◌, ◌<◌, ◌≤◌, List, [], ◌∷◌, ◌++◌, take, length, get_or, sym, ◌∙◌, ap, subst, arith, inl, inr}
+use Rattle.std.proofs.Common.{◌≡◌, ◌⊎◌, ℕ, ◌+◌, ◌<◌, ◌≤◌, List, [], ◌∷◌, ◌++◌, take, length, get_or, sym, ◌∙◌, ap}
+use Rattle.std.proofs.Common.{subst, arith, inl, inr}
 use Rattle.std.specs.Prelude.{Contains}
 use Rattle.std.proofs.lemmas.Bool.{cases_lt}
 use Rattle.std.proofs.lemmas.List.{get_or_default, get_or-take, length-take, take_more, take_all}
@@ -8,21 +9,25 @@ use Rattle.ent_coordination.specs.Pool.{Posted}
 use Rattle.ent_match.specs.Fault.{IsByNumber}
 
 -- what stands at a place
-pub at_place : (pool : List Posted) (x : Posted) (k : ℕ) (d : Posted) → k < length pool → get_or pool k x ≡ x → get_or pool k d ≡ x
+pub at_place : (pool : List Posted) (x : Posted) (k : ℕ) (d : Posted) → k < length pool → get_or pool k x ≡ x
+    → get_or pool k d ≡ x
 at_place pool x k d below is = get_or_default pool k d x below ∙ is
 
-pub same_member : (pool : List Posted) → IsByNumber pool → (x y : Posted) → Contains pool x → Contains pool y → x.tx ≡ y.tx → x ≡ y
+pub same_member : (pool : List Posted) → IsByNumber pool → (x y : Posted) → Contains pool x → Contains pool y
+    → x.tx ≡ y.tx → x ≡ y
 same_member pool ordered x y (k, below_k, is_x) (j, below_j, is_y) same =
     elim (cases_lt k j) [
       | inl before ↦
           let less = ordered k j x before below_j in
           let at = at_place pool y j x below_j is_y in
-          absurd (let less' : x.tx < y.tx = subst (λ z. z.tx < y.tx) is_x (subst (λ z. (get_or pool k x).tx < z.tx) at less) in omega arith)
+          absurd (let less' : x.tx < y.tx =
+          subst (λ z. z.tx < y.tx) is_x (subst (λ z. (get_or pool k x).tx < z.tx) at less) in omega arith)
       | inr not_before ↦ elim (cases_lt j k) [
         | inl after ↦
             let less = ordered j k y after below_k in
             let at = at_place pool x k y below_k is_x in
-            absurd (let less' : y.tx < x.tx = subst (λ z. z.tx < x.tx) is_y (subst (λ z. (get_or pool j y).tx < z.tx) at less) in omega arith)
+            absurd (let less' : y.tx < x.tx =
+            subst (λ z. z.tx < x.tx) is_y (subst (λ z. (get_or pool j y).tx < z.tx) at less) in omega arith)
         | inr not_after ↦
             let here : k ≡ j = omega arith in
             sym is_x ∙ (ap (λ n. get_or pool n x) here ∙ at_place pool y j x below_j is_y)

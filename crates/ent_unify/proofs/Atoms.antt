@@ -1,5 +1,6 @@
 -- Atoms of two statements unify where their equations have a solution.
-use Rattle.std.proofs.Common.{◌≡◌, ℕ, zero, suc, List, [], ◌∷◌, length, get_or, refl, sym, ◌∙◌, ap, subst, Option, Some, None, Bool, true, false, true≢false}
+use Rattle.std.proofs.Common.{◌≡◌, ℕ, zero, suc, List, [], ◌∷◌, length, get_or, refl, sym, ◌∙◌, ap, subst, Option}
+use Rattle.std.proofs.Common.{Some, None, Bool, true, false, true≢false}
 use Rattle.std.specs.Prelude.{slice_get, IsTrue, ◌↔◌}
 use Rattle.ent_value.specs.Value.{kind_of, kinds_of}
 use Rattle.ent_value.specs.declared.value.Kind.{Kind}
@@ -30,13 +31,15 @@ by_kind : (Kind → Value) → Option Kind → Value
 by_kind f (Some k) = f k
 by_kind f None = no_value
 
-values_by_at : (f : ℕ → Kind → Value) (ks : List Kind) (n : ℕ) → by_kind (f n) (slice_get ks n) ≡ get_or (values_by f ks) n no_value
+values_by_at : (f : ℕ → Kind → Value) (ks : List Kind) (n : ℕ)
+    → by_kind (f n) (slice_get ks n) ≡ get_or (values_by f ks) n no_value
 unfolding by_kind
 values_by_at f [] n = refl
 values_by_at f (k ∷ ks) zero = refl
 values_by_at f (k ∷ ks) (suc n) = values_by_at (λ i. f (suc i)) ks n
 
-pub values_by_kinds : (f : ℕ → Kind → Value) (ks : List Kind) → ((n : ℕ) (k : Kind) → IsOfKind k (f n k)) → AreOfKinds ks (values_by f ks)
+pub values_by_kinds : (f : ℕ → Kind → Value) (ks : List Kind) → ((n : ℕ) (k : Kind) → IsOfKind k (f n k))
+    → AreOfKinds ks (values_by f ks)
 values_by_kinds f [] h = tt
 values_by_kinds f (k ∷ ks) h = (h 0 k, values_by_kinds (λ n. f (suc n)) ks (λ n. h (suc n)))
 
@@ -81,7 +84,8 @@ reads_at values m i (v ∷ V) (suc n) is = reads_at values m i V n is
 
 kinded_at : (values : Assignment) (m i : ℕ) (V : Valuation) (n : ℕ)
     → ((k : Kind) → values (record { member = m; index = i; kind = k }) ≡ get_or V n no_value)
-    → kind_of (worth values (variable_side m i (slice_get (kinds_of V) n))) ≡ side_kind (variable_side m i (slice_get (kinds_of V) n))
+    → kind_of (worth values (variable_side m i (slice_get (kinds_of V) n))) ≡ side_kind
+    (variable_side m i (slice_get (kinds_of V) n))
 kinded_at values m i [] n is = refl
 kinded_at values m i (v ∷ V) zero is = ap kind_of (is (kind_of v))
 kinded_at values m i (v ∷ V) (suc n) is = kinded_at values m i V n is
@@ -90,10 +94,12 @@ kinded_at values m i (v ∷ V) (suc n) is = kinded_at values m i V n is
 abbrev pub GivesMember : Assignment → ℕ → Valuation → Type 0
 GivesMember values m V = (n : ℕ) (k : Kind) → values (record { member = m; index = n; kind = k }) ≡ get_or V n no_value
 
-pub reads_of : (values : Assignment) (m : ℕ) (ks : List Kind) (V : Valuation) → GivesMember values m V → kinds_of V ≡ ks → Reads values m ks V
+pub reads_of : (values : Assignment) (m : ℕ) (ks : List Kind) (V : Valuation) → GivesMember values m V
+    → kinds_of V ≡ ks → Reads values m ks V
 reads_of values m ks V gives kinds = subst (λ js. Reads values m js V) kinds (λ n. reads_at values m n V n (gives n))
 
-pub kinded_of : (values : Assignment) (m : ℕ) (ks : List Kind) (V : Valuation) → GivesMember values m V → kinds_of V ≡ ks → IsKinded values m ks
+pub kinded_of : (values : Assignment) (m : ℕ) (ks : List Kind) (V : Valuation) → GivesMember values m V
+    → kinds_of V ≡ ks → IsKinded values m ks
 kinded_of values m ks V gives kinds = subst (λ js. IsKinded values m js) kinds (λ n. kinded_at values m n V n (gives n))
 
 -- ---- two atoms
@@ -136,16 +142,19 @@ other_length ks atom js other u =
     ∙ (ap (λ f. length f.values) u.one_fact ∙ length-map (term_worth (λ value. value) u.other_values) other.terms)
 
 -- what the equations of two tuples tell of their atoms
-pub unify_decided : (ks : List Kind) (atom : Atom Value) (js : List Kind) (other : Atom Value) (ts us : List (Term Value)) (b : Bool)
+pub unify_decided : (ks : List Kind) (atom : Atom Value) (js : List Kind) (other : Atom Value)
+    (ts us : List (Term Value)) (b : Bool)
     → atom.relation ≡ other.relation → length atom.terms ≡ length other.terms → ts ≡ atom.terms → us ≡ other.terms
     → IsDecided (column_sides (term_side 0 ks) (term_side 1 js) ts us) b → IsTrue b ↔ Unify ks atom js other
 unify_decided ks atom js other ts us true relation same left right decided =
-    let P : List (Term Value) → List (Term Value) → Type 0 = λ xs ys. HaveSolution (column_sides (term_side 0 ks) (term_side 1 js) xs ys) in
+    let P : List (Term Value) → List (Term Value)
+    → Type 0 = λ xs ys. HaveSolution (column_sides (term_side 0 ks) (term_side 1 js) xs ys) in
     let first : P atom.terms us = subst (λ xs. P xs us) left decided in
     let second : P atom.terms other.terms = subst (P atom.terms) right first in
     (λ h. unify_from_solution ks atom js other relation same second, λ u. refl)
 unify_decided ks atom js other ts us false relation same left right decided =
-    let P : List (Term Value) → List (Term Value) → Type 0 = λ xs ys. AreRefuted (column_sides (term_side 0 ks) (term_side 1 js) xs ys) in
+    let P : List (Term Value) → List (Term Value)
+    → Type 0 = λ xs ys. AreRefuted (column_sides (term_side 0 ks) (term_side 1 js) xs ys) in
     let first : P atom.terms us = subst (λ xs. P xs us) left decided in
     let second : P atom.terms other.terms = subst (P atom.terms) right first in
     (λ h. absurd (true≢false (sym h)), λ u. absurd (not_unify ks atom js other second u))

@@ -1,5 +1,6 @@
 -- Lists that are written place by place.
-use Rattle.std.proofs.Common.{◌≡◌, ℕ, zero, suc, ◌+◌, ◌<◌, List, [], ◌∷◌, ◌++◌, map, take, drop, set, length, get_or, refl, sym, ◌∙◌, ap, subst, arith, inl, inr, ◌≢◌, get_or-set_same, get_or-set_other}
+use Rattle.std.proofs.Common.{◌≡◌, ℕ, zero, suc, ◌+◌, ◌<◌, List, [], ◌∷◌, ◌++◌, map, take, drop, set, length, get_or}
+use Rattle.std.proofs.Common.{refl, sym, ◌∙◌, ap, subst, arith, inl, inr, ◌≢◌, get_or-set_same, get_or-set_other}
 use Rattle.std.proofs.lemmas.Bool.{cases_lt}
 use Rattle.std.proofs.lemmas.List.Edits.{map_over_more}
 
@@ -13,13 +14,15 @@ pub length-map : {X Y : Type 0} (f : X → Y) (xs : List X) → length (map f xs
 length-map f [] = refl
 length-map f (x ∷ xs) = ap suc (length-map f xs)
 
-pub get_or-map : {X Y : Type 0} (f : X → Y) (xs : List X) (i : ℕ) (x : X) (d : Y) → i < length xs → get_or (map f xs) i d ≡ f (get_or xs i x)
+pub get_or-map : {X Y : Type 0} (f : X → Y) (xs : List X) (i : ℕ) (x : X) (d : Y) → i < length xs
+    → get_or (map f xs) i d ≡ f (get_or xs i x)
 get_or-map f [] i x d h = absurd (omega arith)
 get_or-map f (y ∷ ys) zero x d h = refl
 get_or-map f (y ∷ ys) (suc i) x d h = get_or-map f ys i x d (omega arith)
 
 -- one more element gives way to its image
-pub image_more : {X Y : Type 0} (f : X → Y) (g : Y → Y) (xs ys : List X) (i : ℕ) (x y : X) → i < length xs → i < length ys
+pub image_more : {X Y : Type 0} (f : X → Y) (g : Y → Y) (xs ys : List X) (i : ℕ) (x y : X) → i < length xs
+    → i < length ys
     → map f ys ≡ map g (take i (map f xs)) ++ drop i (map f xs) → x ≡ get_or ys i x → f y ≡ g (f x)
     → map f (set ys i y) ≡ map g (take (i + 1) (map f xs)) ++ drop (i + 1) (map f xs)
 image_more f g xs ys i x y below below_ys so_far is image =

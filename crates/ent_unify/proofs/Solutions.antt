@@ -44,8 +44,12 @@ has_solution es stands solves =
     }
 
 -- one equation that nothing makes hold is enough
-pub refuted_at : (es : List Sides) (n : ℕ) (e : Sides) → n < length es → e ≡ get_or es n e → AreRefuted (e ∷ []) → AreRefuted es
+pub refuted_at : (es : List Sides) (n : ℕ) (e : Sides) → n < length es → e ≡ get_or es n e → AreRefuted (e ∷ [])
+    → AreRefuted es
 refuted_at es n e below is refuted values kinds hold =
     refuted values
-    (All-cons (HasKinds values) e [] (subst (HasKinds values) (sym is) (All-get_or (HasKinds values) es n e below kinds)) (All-nil (HasKinds values)))
-    (All-cons (Holds values) e [] (subst (Holds values) (sym is) (All-get_or (Holds values) es n e below hold)) (All-nil (Holds values)))
+    (All-cons (HasKinds values) e []
+    (subst (HasKinds values) (sym is) (All-get_or (HasKinds values) es n e below kinds))
+    (All-nil (HasKinds values)))
+    (All-cons (Holds values) e [] (subst (Holds values) (sym is) (All-get_or (Holds values) es n e below hold))
+    (All-nil (Holds values)))

@@ -1,5 +1,6 @@
 -- Equations are solved one after the other.
-use Rattle.std.proofs.Common.{◌≡◌, ◌≢◌, ℕ, zero, suc, ◌+◌, ◌<◌, inl, inr, true, cond, List, [], ◌∷◌, map, length, get_or, refl, sym, ◌∙◌, ap, subst, arith, All}
+use Rattle.std.proofs.Common.{◌≡◌, ◌≢◌, ℕ, zero, suc, ◌+◌, ◌<◌, inl, inr, true, cond, List, [], ◌∷◌, map, length}
+use Rattle.std.proofs.Common.{get_or, refl, sym, ◌∙◌, ap, subst, arith, All}
 use Rattle.std.specs.Prelude.{◌==◌}
 use Rattle.std.proofs.lemmas.Bool.{and_parts, and_from, eqb-true, eq-eqb, cases_Bool, cases_lt}
 use Rattle.std.proofs.lemmas.List.{get_or_default}
@@ -10,8 +11,10 @@ use Rattle.ent_value.specs.declared.value.Kind.TheVariants as kinds
 use Rattle.ent_unify.specs.declared.variable.Representative.{Representative}
 use Rattle.ent_unify.specs.declared.variable.Representative.TheVariants.{Constant, Variable}
 use Rattle.ent_unify.specs.declared.variable.Variable.{Variable as Variables}
-use Rattle.ent_unify.specs.Side.{Assignment, worth, side_kind, IsWithinBounds, same_kind, same_variable, Substitution, resolved, single}
-use Rattle.ent_unify.specs.Equation.{Sides, Holds, HasKinds, AreWithinBounds, resolved_both, Solves, AreRefuted, PutsSolution}
+use Rattle.ent_unify.specs.Side.{Assignment, worth, side_kind, IsWithinBounds, same_kind, same_variable, Substitution}
+use Rattle.ent_unify.specs.Side.{resolved, single}
+use Rattle.ent_unify.specs.Equation.{Sides, Holds, HasKinds, AreWithinBounds, resolved_both, Solves, AreRefuted}
+use Rattle.ent_unify.specs.Equation.{PutsSolution}
 use Rattle.ent_unify.proofs.Places.{get_or-map}
 
 -- ---- a variable and itself
@@ -187,7 +190,8 @@ refuted_by_kind l r differ values kinds holds =
     let kind = All-head (HasKinds values) (l, r) [] kinds in
     differ (sym kind.0 ∙ (ap kind_of (All-head (Holds values) (l, r) [] holds) ∙ kind.1))
 
-constant : (s : Representative) (values : Assignment) → ((x : Variables) → s ≢ Variable x) → s ≡ Constant (worth values s)
+constant : (s : Representative) (values : Assignment) → ((x : Variables) → s ≢ Variable x)
+    → s ≡ Constant (worth values s)
 constant (Constant value) values h = refl
 constant (Variable x) values h = absurd (h x refl)
 
@@ -241,13 +245,16 @@ module _ (es cur : List Sides) (n : ℕ) (e : Sides) (below : n < length es) (is
       (All-cons (Holds values) e [] (now_holds values holds) (All-nil (Holds values)))
 
   equal_here : (later : Substitution) → Solves (e ∷ []) 1 later → (d : Sides)
-      → resolved later (resolved puts.stands (get_or es n d).0) ≡ resolved later (resolved puts.stands (get_or es n d).1)
+      → resolved later (resolved puts.stands (get_or es n d).0) ≡ resolved later
+      (resolved puts.stands (get_or es n d).1)
   equal_here later step d =
-      let now : e ≡ resolved_both puts.stands (get_or es n d) = now_is ∙ ap (resolved_both puts.stands) (get_or_default es n e d below) in
+      let now : e ≡ resolved_both puts.stands (get_or es n d) = now_is
+      ∙ ap (resolved_both puts.stands) (get_or_default es n e d below) in
       sym (ap (λ z. resolved later z.0) now) ∙ (step.equal 0 e (omega arith) ∙ ap (λ z. resolved later z.1) now)
 
   equal_now : (later : Substitution) → Solves (e ∷ []) 1 later → (k : ℕ) (d : Sides) → k < n + 1
-      → resolved later (resolved puts.stands (get_or es k d).0) ≡ resolved later (resolved puts.stands (get_or es k d).1)
+      → resolved later (resolved puts.stands (get_or es k d).0) ≡ resolved later
+      (resolved puts.stands (get_or es k d).1)
   equal_now later step k d lt =
       elim (cases_lt k n) [
         | inl before ↦ ap (resolved later) (puts.solves.equal k d before)

@@ -1,5 +1,6 @@
 -- Tuples, column by column.
-use Rattle.std.proofs.Common.{◌≡◌, ℕ, zero, suc, ◌<◌, List, [], ◌∷◌, map, length, get_or, refl, sym, ◌∙◌, ap, arith, All}
+use Rattle.std.proofs.Common.{◌≡◌, ℕ, zero, suc, ◌<◌, List, [], ◌∷◌, map, length, get_or, refl, sym, ◌∙◌, ap, arith}
+use Rattle.std.proofs.Common.{All}
 use Rattle.std.specs.Prelude.{slice_get}
 use Rattle.std.proofs.lemmas.List.Elements.{All-nil, All-cons, All-head, All-tail}
 use Rattle.ent_value.specs.Value.{kind_of}
@@ -45,7 +46,8 @@ Reads values member kinds valuation =
 -- an assignment gives a member's variables values of their kinds
 abbrev pub IsKinded : Assignment → ℕ → List Kind → Type 0
 IsKinded values member kinds =
-    (n : ℕ) → kind_of (worth values (variable_side member n (slice_get kinds n))) ≡ side_kind (variable_side member n (slice_get kinds n))
+    (n : ℕ) → kind_of (worth values (variable_side member n (slice_get kinds n))) ≡ side_kind
+    (variable_side member n (slice_get kinds n))
 
 pub term_is : (values : Assignment) (m : ℕ) (ks : List Kind) (V : Valuation) → Reads values m ks V
     → (t : Term Value) → worth values (term_side m ks t) ≡ value_of_term V t
@@ -74,9 +76,12 @@ module _ (values : Assignment) (l r : ℕ) (ks js : List Kind) where
     values_from_columns [] (u ∷ us) same hold = absurd (omega arith)
     values_from_columns (t ∷ ts) [] same hold = absurd (omega arith)
     values_from_columns (t ∷ ts) (u ∷ us) same hold =
-        let first = All-head (Holds values) (term_side l ks t, term_side r js u) (column_sides (term_side l ks) (term_side r js) ts us) hold in
-        let rest = All-tail (Holds values) (term_side l ks t, term_side r js u) (column_sides (term_side l ks) (term_side r js) ts us) hold in
-        let one : value_of_term V t ≡ value_of_term W u = sym (term_is values l ks V left t) ∙ (first ∙ term_is values r js W right u) in
+        let first = All-head (Holds values) (term_side l ks t, term_side r js u)
+        (column_sides (term_side l ks) (term_side r js) ts us) hold in
+        let rest = All-tail (Holds values) (term_side l ks t, term_side r js u)
+        (column_sides (term_side l ks) (term_side r js) ts us) hold in
+        let one : value_of_term V t ≡ value_of_term W u = sym (term_is values l ks V left t)
+        ∙ (first ∙ term_is values r js W right u) in
         let others = values_from_columns ts us (omega arith) rest in
         λ i. one i ∷ others i
 
@@ -87,6 +92,7 @@ module _ (values : Assignment) (l r : ℕ) (ks js : List Kind) where
     columns_from_values (t ∷ ts) (u ∷ us) same =
         let one : value_of_term V t ≡ value_of_term W u = cc in
         let others : map (value_of_term V) ts ≡ map (value_of_term W) us = cc in
-        All-cons (Holds values) (term_side l ks t, term_side r js u) (column_sides (term_side l ks) (term_side r js) ts us)
+        All-cons (Holds values) (term_side l ks t, term_side r js u)
+        (column_sides (term_side l ks) (term_side r js) ts us)
         (term_is values l ks V left t ∙ (one ∙ sym (term_is values r js W right u)))
         (columns_from_values ts us others)

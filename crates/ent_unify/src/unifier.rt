@@ -1,5 +1,6 @@
 //! The most general unifier of pairs of atoms.
-ghost use Rattle.std.specs.Prelude.{◌≡◌, ◌↔◌, ◌++◌, [], All, length, map, slice_index_or, IsTrue, IfOk, OnOk, MatchOption};
+ghost use Rattle.std.specs.Prelude.{◌≡◌, ◌↔◌, ◌++◌, [], All, length, map, slice_index_or, IsTrue, IfOk, OnOk};
+ghost use Rattle.std.specs.Prelude.{MatchOption};
 ghost use Rattle.std.specs.List.{flat_map};
 ghost use Rattle.std.specs.Option.{option_copied};
 ghost use Rattle.ent_semantics.specs.Term.{no_value};
@@ -55,7 +56,8 @@ fn push_binding(
     side: Side<'_>,
     stands: Side<'_>,
 ) -> Result<(), AllocError>
-    ensures { OnOk result (bindings.new.items ≡ bindings.old.items ++ binding_of (seen side.entry) (seen stands.entry)) }
+    ensures { OnOk result (bindings.new.items
+        ≡ bindings.old.items ++ binding_of (seen side.entry) (seen stands.entry)) }
 {
     if let Side::Variable(variable) = side {
         let stands = stands.to_owned(alloc)?;

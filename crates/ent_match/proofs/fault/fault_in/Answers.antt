@@ -14,7 +14,8 @@ loop-index-preserved-then-not-can_meet c =
 
 pub loop-index-preserved : goal.loop-index-preserved
 loop-index-preserved c =
-    one_more (MeetsOne c.args.members.now c.args.asker.now) c.loop-index.index c.loop-index.invariant c.in_default.ensures
+    one_more (MeetsOne c.args.members.now c.args.asker.now) c.loop-index.index c.loop-index.invariant
+    c.in_default.ensures
 
 pub returns : goal.returns
 returns c =

@@ -22,13 +22,16 @@ loop-owner-preserved c =
     elim c.if-can_meet.branch [
       | then-can_meet+in_default w ↦
           let none = subst (λ z. AreSoFar (take n ms) asker c.args.index z) w.in_default.is c.loop-owner.invariant in
-          subst (λ z. AreSoFar (take (n + 1) ms) asker c.args.index z) (sym (w.first-is ∙ ap (λ t. Some t) w.tx-then-can_meet.ensures))
-          (first_met ms c.requires.by_number asker c.args.index n c.owner-item.result c.loop-owner-test.true c.owner-item.is
+          subst (λ z. AreSoFar (take (n + 1) ms) asker c.args.index z)
+          (sym (w.first-is ∙ ap (λ t. Some t) w.tx-then-can_meet.ensures))
+          (first_met ms c.requires.by_number asker c.args.index n c.owner-item.result c.loop-owner-test.true
+          c.owner-item.is
           (c.can_meet.ensures.0 w.if-can_meet.true) none)
       | else-can_meet w ↦
           subst (λ z. AreSoFar (take (n + 1) ms) asker c.args.index z) (sym w.first-is)
           (skip ms c.requires.by_number asker c.args.index n c.owner-item.result c.loop-owner-test.true c.owner-item.is
-          c.loop-owner.first (λ m. true≢false (sym (c.can_meet.ensures.1 m) ∙ w.if-can_meet.false)) c.loop-owner.invariant)
+          c.loop-owner.first (λ m. true≢false (sym (c.can_meet.ensures.1 m) ∙ w.if-can_meet.false))
+          c.loop-owner.invariant)
     ]
 
 pub returns : goal.returns

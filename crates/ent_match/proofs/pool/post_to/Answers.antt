@@ -59,6 +59,8 @@ returns-in-Some-clause-why c =
     let new = insert old at m in
     let place = subst (λ xs. IsPlaceFor xs m at) c.as_slice.ensures.value c.place_of-at.ensures in
     let full = c.as_slice-2.ensures.value ∙ c.in_default.ensures.items in
-    let first : IsFirstUnsafe new c.in-Some.fault = subst (λ xs. IsFirstUnsafe xs c.in-Some.fault) full c.in-Some.ensures in
+    let first : IsFirstUnsafe new c.in-Some.fault =
+    subst (λ xs. IsFirstUnsafe xs c.in-Some.fault) full c.in-Some.ensures in
     let ordered = by_number-insert old at m c.requires.by_number c.requires.none place in
-    why_front old new m c.in-Some.fault (adds-insert old at m place.within) (not_safe new ordered c.in-Some.fault first.0) first
+    why_front old new m c.in-Some.fault (adds-insert old at m place.within)
+    (not_safe new ordered c.in-Some.fault first.0) first

@@ -5,7 +5,8 @@ use Rattle.ent_unify.proofs.atom.unifies.Goals as goal
 pub returns-then-not-has_relation_of : goal.returns-then-not-has_relation_of
 returns-then-not-has_relation_of c = (
   λ f. absurd (true≢false (sym f)),
-  λ u. absurd (true≢false (sym (c.has_relation_of.ensures.1 (ap (λ f. f.relation) u.one_fact)) ∙ c.if-not-has_relation_of.true)),
+  λ u. absurd (true≢false (sym (c.has_relation_of.ensures.1 (ap (λ f. f.relation) u.one_fact))
+      ∙ c.if-not-has_relation_of.true)),
 )
 
 pub returns-then-len : goal.returns-then-len

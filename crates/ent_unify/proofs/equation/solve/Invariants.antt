@@ -5,4 +5,5 @@ use Rattle.ent_unify.proofs.equation.solve.Given as goal
 -- the equations so far are solved
 abbrev pub invariant-loop-i : goal.invariant-loop-i
 invariant-loop-i l =
-    PutsSolution (map seen_equation l.fn.equations) l.i (map seen_equation l.fn.equations) (map seen_equation l.equations)
+    PutsSolution (map seen_equation l.fn.equations) l.i (map seen_equation l.fn.equations)
+    (map seen_equation l.equations)

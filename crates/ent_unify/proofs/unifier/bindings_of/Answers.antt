@@ -14,7 +14,8 @@ loop-i-preserved c =
     let in_given : i < length given = c.loop-i-test.true in
     let in_solved : i < length solved = omega arith in
     let below : i < length (map seen_equation given) = omega (arith, length-map seen_equation given) in
-    λ stands put. bindings_more stands (map seen_equation given) (map seen_equation solved) i (seen_equation g) (seen_equation s)
+    λ stands put. bindings_more stands (map seen_equation given) (map seen_equation solved) i (seen_equation g)
+    (seen_equation s)
     _ _ _ put below
     (ap seen_equation c.index-given-i.is ∙ sym (get_or-map seen_equation given i g (seen_equation g) in_given))
     (ap seen_equation c.index-solved-i.is ∙ sym (get_or-map seen_equation solved i s (seen_equation s) in_solved))

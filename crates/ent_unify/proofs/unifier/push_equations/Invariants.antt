@@ -6,6 +6,7 @@ use Rattle.ent_unify.proofs.unifier.push_equations.Given as goal
 -- the equations of the columns so far
 abbrev pub invariant-loop-column : goal.invariant-loop-column
 invariant-loop-column l = record {
-  pushed : map seen_equation l.equations.items ≡ map seen_equation l.fn.equations.items ++ take l.column (tuple_equations l.left l.right);
+  pushed : map seen_equation l.equations.items ≡ map seen_equation l.fn.equations.items ++ take l.column
+      (tuple_equations l.left l.right);
   bounds : All AreWithinBounds (map seen_equation l.equations.items);
 }

@@ -14,4 +14,9 @@ returns c =
     let puts = rw c.if-not-solve.false at c.solve.ensures in
     let same = ap (map seen_equation) c.requires.same in
     let of_given = subst (λ es. PutsSolution es (length es) es (map seen_equation c.solve.new.equations)) same puts in
-    record { stands = of_given.stands; solves = of_given.solves; are = c.in_ok-bindings.ensures of_given.stands of_given.put }
+    record {
+      stands = of_given.stands;
+      solves = of_given.solves;
+      are =
+          c.in_ok-bindings.ensures of_given.stands of_given.put;
+    }

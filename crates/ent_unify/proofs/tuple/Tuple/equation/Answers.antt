@@ -12,6 +12,7 @@ returns-clause-is c =
     let t = get_or ts n c.index-self-column.result in
     let u = get_or us n c.index-other-column.result in
     (λ i. (c.side.ensures.is i, c.side-2.ensures.is i))
-    ∙ column_at (term_side c.args.self.member c.args.self.kinds.now) (term_side c.args.other.member c.args.other.kinds.now)
+    ∙ column_at (term_side c.args.self.member c.args.self.kinds.now)
+    (term_side c.args.other.member c.args.other.kinds.now)
     ts us n t u _ c.requires.left c.requires.right (get_or_default ts n c.index-self-column.result t c.requires.left)
     (get_or_default us n c.index-other-column.result u c.requires.right)

@@ -12,7 +12,8 @@ loop-column-preserved c =
     let es = tuple_equations c.args.self c.args.other in
     let n = c.loop-column.column in
     let all = length-columns (term_side c.args.self.member c.args.self.kinds.now)
-    (term_side c.args.other.member c.args.other.kinds.now) c.args.self.terms.now c.args.other.terms.now c.requires.columns in
+    (term_side c.args.other.member c.args.other.kinds.now) c.args.self.terms.now c.args.other.terms.now
+    c.requires.columns in
     let below : n < length es = omega arith in
     record {
       room = omega (arith, length-set c.loop-column.equations n c.equation.result);
@@ -30,7 +31,8 @@ pub returns : goal.returns
 returns c =
     let es = tuple_equations c.args.self c.args.other in
     let all = length-columns (term_side c.args.self.member c.args.self.kinds.now)
-    (term_side c.args.other.member c.args.other.kinds.now) c.args.self.terms.now c.args.other.terms.now c.requires.columns in
+    (term_side c.args.other.member c.args.other.kinds.now) c.args.self.terms.now c.args.other.terms.now
+    c.requires.columns in
     decided es _ _ _ c.solve.result
     (filled_is es c.loop-column.equations (length c.args.self.terms.now) (omega arith)
     (λ k d below. c.loop-column.invariant.so_far k d (omega arith)) all)

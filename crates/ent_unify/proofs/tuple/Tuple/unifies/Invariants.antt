@@ -8,5 +8,6 @@ use Rattle.ent_unify.proofs.tuple.Tuple.unifies.Given as goal
 abbrev pub invariant-loop-column : goal.invariant-loop-column
 invariant-loop-column l = record {
   room : length l.equations ≡ 16;
-  so_far : (k : ℕ) (d : Equation) → k < l.column → IsAtPlace (tuple_equations l.self l.other) k (get_or l.equations k d);
+  so_far : (k : ℕ) (d : Equation) → k < l.column
+      → IsAtPlace (tuple_equations l.self l.other) k (get_or l.equations k d);
 }
