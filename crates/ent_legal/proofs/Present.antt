@@ -82,7 +82,8 @@ reached_apart forms laws s faithful reached =
     let kept = reached_kept forms laws s faithful reached in
     record {
       groups = λ one other at bt d.
-          groups_apart forms laws s kept one other (contains_in (members s) one at) (contains_in (members s) other bt) d;
+          groups_apart forms laws s kept one other (contains_in (members s) one at)
+          (contains_in (members s) other bt) d;
       active = λ one other at bt d.
           active_apart forms laws s kept one other (contains_in s.active one at) (contains_in s.active other bt) d;
     }

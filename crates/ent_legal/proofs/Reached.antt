@@ -87,7 +87,8 @@ taken_other job jobs left t pairs single is other at =
           (of_all (OtherJob job) t.behind other (pairs_second OtherJob t.before (job ∷ t.behind) all).0 b))
     ]
   where
-    by : (w : Work) → OtherWork w (One single) → is_single_of single.tx (record { work = w; tables = other.tables }) ≡ false
+    by : (w : Work) → OtherWork w (One single)
+        → is_single_of single.tx (record { work = w; tables = other.tables }) ≡ false
     by (One one) h = not_so (one.tx == single.tx) (λ e. h (same_number one.tx single.tx e))
     by (Joint asked) h = refl
 
@@ -131,7 +132,8 @@ module _ {F : Type 0} (forms : Forms F) (laws : Laws) where
       → is_ready prepared group ≡ ready → BeginsCommit prepared group ready reply new → Kept forms prepared
       → (prepared.running ≡ false → ⊥) → Kept forms new
   commit prepared group true reply new is step kept on =
-      as_is _ new step.1 (commits forms laws prepared kept group (unready (list_any (is_of group) prepared.active) is) on)
+      as_is _ new step.1
+      (commits forms laws prepared kept group (unready (list_any (is_of group) prepared.active) is) on)
     where
       unready : (b : Bool) → not b ≡ true → b ≡ false
       unready true e = sym e

@@ -60,8 +60,8 @@ pub fn journals_fit_the_fates<F>()
 }
 
 /// In every state that is reached members of two groups hold no conflicting uses, and neither do two members that
-/// aren't prepared. A lent job of one statement is its member's next one, and the tables that a job uses are the present
-/// ones: of one statement always, of a joint one where its members are exactly a component.
+/// aren't prepared. A lent job of one statement is its member's next one, and the tables that a job uses are the
+/// present ones: of one statement always, of a joint one where its members are exactly a component.
 pub fn lent_jobs_are_present<F>()
     ensures apart { (forms : Forms F) (s : State)
         → AreFaithful forms s.opening
