@@ -1,15 +1,17 @@
 -- The states that events lead to, and their books.
-use Rattle.std.specs.Prelude.{◌≡◌, ℕ, zero, suc, false, List, [], ◌∷◌, map, if◌then◌else◌}
+use Rattle.std.specs.Prelude.{◌≡◌, ℕ, zero, suc, false, not, List, [], ◌∷◌, map, if◌then◌else◌}
+use Rattle.std.specs.List.{filter}
 use Rattle.ent_set.specs.Sets as set
 use Rattle.ent_tree.specs.declared.declaration.Opening.{Opening}
 use Rattle.ent_tree.specs.declared.script.Script.{Script}
 use Rattle.ent_semantics.specs.declared.book.Book.{Book}
+use Rattle.ent_semantics.specs.declared.book.JointAnswer.{JointAnswer}
 use Rattle.ent_semantics.specs.Database.{Name, Database, opening_database, same_name}
 use Rattle.ent_closed.specs.Form.{Tables}
 use Rattle.ent_protocol.specs.Event.{Event, Reply, Submit, Submitted}
-use Rattle.ent_protocol.specs.Rollback.{put_back}
+use Rattle.ent_protocol.specs.Rollback.{put_back, is_joint_of}
 use Rattle.ent_protocol.specs.Run.{Forms}
-use Rattle.ent_protocol.specs.State.{State, by_number}
+use Rattle.ent_protocol.specs.State.{State, members, by_number}
 use Rattle.ent_protocol.specs.Step.{Step}
 
 -- ---- books
@@ -28,13 +30,21 @@ named_tables (first ∷ names) (rows ∷ tables) name =
 abbrev pub settled : State → Tables
 settled s = put_back s.changes s.tables
 
+-- the joint answers of members
+abbrev pub live_joints : State → List JointAnswer
+live_joints s = filter (is_joint_of (members s)) s.joints
+
+-- the joint answers of committed transactions, in the order in which they were made
+abbrev pub committed_joints : State → List JointAnswer
+committed_joints s = filter (λ joint. not (is_joint_of (members s) joint)) s.joints
+
 abbrev pub book_of : State → Book Database
 book_of s =
     record {
       opening = s.opening;
       scripts = map (λ own. own.script) s.submitted;
       journal = s.journal;
-      joint_answers = s.answered;
+      joint_answers = committed_joints s;
       fates = by_number (λ fated. fated.tx) s.fates;
       database = named_tables (table_names s.opening) (settled s);
     }
@@ -57,7 +67,6 @@ opened opening =
       tables = map (opening_database opening) (table_names opening);
       changes = [];
       journal = [];
-      answered = [];
       fates = [];
     }
 

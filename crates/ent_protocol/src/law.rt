@@ -6,7 +6,7 @@ ghost use Rattle.ent_protocol.specs.Event.{Event, Reply};
 ghost use Rattle.ent_protocol.specs.Numbers.{AreNumbered};
 ghost use Rattle.ent_protocol.specs.Partners.{Partners, flight_122, partners_opening, partners_pass};
 ghost use Rattle.ent_protocol.specs.Play.{Plays, is_idle};
-ghost use Rattle.ent_protocol.specs.Reached.{IsReached, LeadsTo, opened, settled};
+ghost use Rattle.ent_protocol.specs.Reached.{IsReached, LeadsTo, committed_joints, opened, settled};
 ghost use Rattle.ent_protocol.specs.Run.{Forms};
 ghost use Rattle.ent_protocol.specs.State.{State};
 ghost use Rattle.ent_protocol.specs.Step.{Step};
@@ -62,7 +62,7 @@ pub fn partner_passes_a_prepared_lock()
         × IsReached resolved last
         × (last.fates
         ≡ record { tx = 1; fate = Committed 1 1 } ∷ record { tx = 2; fate = Committed 2 1 } ∷ [])
-        × (last.answered
+        × (committed_joints last
         ≡ record {
           members = record { tx = 1; place = 1; grounding = flight_122 ∷ [] }
               ∷ record { tx = 2; place = 1; grounding = flight_122 ∷ [] } ∷ [];
