@@ -212,39 +212,35 @@ module _ {resolved : Forms ℕ} (partners : Partners resolved) where
                 inl (record { asked = pair; can = can_pick; least = least_pair; replies = refl; is = refl }),
                 (
                   joined,
-                  (
-                    least_taken,
-                    inl (record {
-                      outstanding = record {
-                        asked = pair;
-                        is_joint = refl;
-                        left = [];
-                        taken = lent_alone pair_job;
-                        component = record { present = pair_present; component = one_component };
-                      };
-                      groundings = Some taken;
-                      choice = refl;
-                      answers = (refl, refl);
-                    }),
-                  ),
+                  inl (record {
+                    meant = least_taken;
+                    outstanding = record {
+                      asked = pair;
+                      is_joint = refl;
+                      left = [];
+                      taken = lent_alone pair_job;
+                      component = record { present = pair_present; component = one_component };
+                    };
+                    groundings = Some taken;
+                    choice = refl;
+                    answers = (refl, refl);
+                  }),
                   (
                     lending joined (answered 1 Mickey) (books Mickey),
                     (refl, refl),
                     (
                       books_in joined 1 Mickey,
-                      (
-                        one_evaluated,
-                        inl (
-                          _,
-                          refl,
-                          record {
-                            left = [];
-                            taken = lent_alone (booking_job 1 Mickey set.empty);
-                            member = holds 1 Mickey;
-                            is_member = refl;
-                            steps = (refl, refl);
-                          },
-                        ),
+                      inl (
+                        _,
+                        refl,
+                        record {
+                          meant = one_evaluated;
+                          left = [];
+                          taken = lent_alone (booking_job 1 Mickey set.empty);
+                          member = holds 1 Mickey;
+                          is_member = refl;
+                          steps = (refl, refl);
+                        },
                       ),
                       (
                         one_prepared,
@@ -257,19 +253,17 @@ module _ {resolved : Forms ℕ} (partners : Partners resolved) where
                             (refl, refl),
                             (
                               both_booked,
-                              (
-                                two_evaluated,
-                                inl (
-                                  _,
-                                  refl,
-                                  record {
-                                    left = [];
-                                    taken = lent_alone (booking_job 2 Minnie first_booked);
-                                    member = holds 2 Minnie;
-                                    is_member = refl;
-                                    steps = (refl, refl);
-                                  },
-                                ),
+                              inl (
+                                _,
+                                refl,
+                                record {
+                                  meant = two_evaluated;
+                                  left = [];
+                                  taken = lent_alone (booking_job 2 Minnie first_booked);
+                                  member = holds 2 Minnie;
+                                  is_member = refl;
+                                  steps = (refl, refl);
+                                },
                               ),
                               (
                                 both_booked,

@@ -101,6 +101,6 @@ pub record Done : Type 0 where
   pub job : Job
   pub outcome : Outcome
 
--- what is kept of every result: its outcome is the meaning of its own work over its own tables
+-- what holds of a result that is accepted: its outcome is the meaning of its own work over its own tables
 abbrev pub IsEvaluated : Done → Type 0
 IsEvaluated done = IsOutcome done.job.work (tables_of done.job.tables) done.outcome
