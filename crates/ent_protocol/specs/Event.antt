@@ -49,5 +49,5 @@ pub data Reply (F : Type 0) : Type 0 where
   NotNow : Reply F
   Stale : (done : Done) → Reply F
   Busy : (reason : Reason) → Reply F
-  Full : Reply F
-  Faulty : (fault : F) → Reply F
+  Full : (script : Script) → Reply F
+  Faulty : (script : Script) → (fault : F) → Reply F
