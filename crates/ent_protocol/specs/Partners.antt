@@ -136,7 +136,11 @@ abbrev pub pair_job : Job
 pair_job =
     record {
       work = Joint pair;
-      tables = record { table = 0; rows = opening_database partners_opening (codes "Flights") } ∷ [];
+      tables = record {
+        table = 0;
+        kinds = kinds.Int ∷ kinds.Text ∷ [];
+        rows = opening_database partners_opening (codes "Flights");
+      } ∷ [];
     }
 
 -- both take flight 122, the least that goes to LA
@@ -154,7 +158,7 @@ booking_job tx own rows =
         place = 2;
         statement = forms.Insert 1 (own ∷ flight_122 ∷ []);
       });
-      tables = record { table = 1; rows = rows } ∷ [];
+      tables = record { table = 1; kinds = kinds.Text ∷ kinds.Int ∷ []; rows = rows } ∷ [];
     }
 
 abbrev pub booking_done : ℕ → Value → Rows → Done

@@ -45,7 +45,7 @@ abbrev pub joint_uses : List Asking → List Use
 joint_uses asked = with_uses (flat_map (λ asking. entangled_uses asking.statement) asked) []
 
 abbrev pub joint_job : State → List Asking → Job
-joint_job s asked = record { work = Joint asked; tables = seen_now s.tables (joint_uses asked) }
+joint_job s asked = record { work = Joint asked; tables = seen_now s.opening.tables s.tables (joint_uses asked) }
 
 -- ---- what an answer makes of the members
 
