@@ -3,6 +3,7 @@ pub mod Among
 pub mod Tidied
 pub mod TidySteps
 pub mod Led
+pub mod Closing
 pub mod Numbering
 pub mod Inserted
 pub mod Ring

@@ -30,6 +30,7 @@ pub data Reply (F : Type 0) : Type 0 where
   Started : (members : List ℕ) → Reply F
   Blocked : (holder : ℕ) → Reply F
   Lent : (job : Job) → Reply F
+  -- the fault's index of a post counts from 0
   HeldBack : (fault : Unsafe) → Reply F
   Posted : Reply F
   Prepared : Reply F

@@ -13,6 +13,7 @@ pub mod Quiet
 pub mod Run
 pub mod Step
 pub mod Reached
+pub mod Lookup
 pub mod Play
 pub mod Writers
 pub mod Partners
