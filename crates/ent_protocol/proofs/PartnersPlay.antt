@@ -130,10 +130,10 @@ module _ {resolved : Forms ℕ} (partners : Partners resolved) where
   posted = posting one_posted (fresh 2) (wants Minnie Mickey)
 
   abbrev picked : State
-  picked = record posted { lent = pair_job ∷ [] }
+  picked = record posted { lent = pair_job 1 2 ∷ [] }
 
   abbrev joined : State
-  joined = joining posted pair taken
+  joined = joining posted (pair 1 2) taken
 
   abbrev books_in : State → ℕ → Value → State
   books_in s tx own =
@@ -151,22 +151,22 @@ module _ {resolved : Forms ℕ} (partners : Partners resolved) where
 
   -- ---- the pick
 
-  pair_present : All (Contains (askings posted)) pair
+  pair_present : All (Contains (askings posted)) (pair 1 2)
   pair_present zero d h = (0, omega arith, refl)
   pair_present (suc zero) d h = (1, omega arith, refl)
   pair_present (suc (suc k)) d h = absurd (let r : suc (suc k) < 2 = h in omega arith)
 
-  present : IsPresentComponent posted pair
-  present = record { present = pair_present; component = one_component }
+  present : IsPresentComponent posted (pair 1 2)
+  present = record { present = pair_present; component = one_component 1 2 (omega arith) }
 
   not_there : {A : Type 0} (x : A) → Contains [] x → ⊥
   not_there x h = let r : h.0 < 0 = h.1 in omega arith
 
-  can_pick : CanBePicked posted pair
+  can_pick : CanBePicked posted (pair 1 2)
   can_pick =
       record {
         component = present;
-        untried = λ h. not_there pair h;
+        untried = λ h. not_there (pair 1 2) h;
         not_out = λ h. not_there h.0 h.1;
       }
 
@@ -203,23 +203,23 @@ module _ {resolved : Forms ℕ} (partners : Partners resolved) where
           (refl, refl),
           (
             one_posted,
-            inl (safe_one, refl, refl),
+            inl (safe_one 1, refl, refl),
             (
               posted,
-              inl (safe_two, refl, refl),
+              inl (safe_two 1 2, refl, refl),
               (
                 picked,
-                inl (record { asked = pair; can = can_pick; least = least_pair; replies = refl; is = refl }),
+                inl (record { asked = pair 1 2; can = can_pick; least = least_pair; replies = refl; is = refl }),
                 (
                   joined,
                   inl (record {
-                    meant = least_taken;
+                    meant = least_taken 1 2;
                     outstanding = record {
-                      asked = pair;
+                      asked = pair 1 2;
                       is_joint = refl;
                       left = [];
-                      taken = lent_alone pair_job;
-                      component = record { present = pair_present; component = one_component };
+                      taken = lent_alone (pair_job 1 2);
+                      component = record { present = pair_present; component = one_component 1 2 (omega arith) };
                     };
                     groundings = Some taken;
                     choice = refl;
