@@ -10,4 +10,6 @@ pub mod Ring
 pub mod WritersPlay
 pub mod PartnersPool
 pub mod PartnersChoice
+pub mod PairAnswered
 pub mod PartnersPlay
+pub mod PairsPlay

@@ -17,5 +17,6 @@ pub mod Lookup
 pub mod Play
 pub mod Writers
 pub mod Partners
+pub mod Pairs
 pub mod Tidy
 pub mod Numbers

@@ -1,5 +1,5 @@
 //! Laws of the protocol. Nothing here has a body; what holds is in the contracts.
-ghost use Rattle.std.specs.Prelude.{◌≡◌, ◌↔◌, ℕ, ◌∷◌, [], true, false, length, List, None, Some};
+ghost use Rattle.std.specs.Prelude.{◌≡◌, ◌↔◌, ℕ, ◌∷◌, [], true, false, length, map, List, None, Some};
 ghost use Rattle.ent_tree.specs.declared.declaration.Opening.{Opening};
 ghost use Rattle.ent_tree.specs.declared.script.Script.{Script};
 ghost use Rattle.ent_semantics.specs.Database.{Database};
@@ -8,10 +8,11 @@ ghost use Rattle.ent_semantics.specs.declared.book.Fate.TheVariants.{Committed};
 ghost use Rattle.ent_protocol.specs.Event.{Event, Reply};
 ghost use Rattle.ent_protocol.specs.Lookup.{Dormant, Finished, standing};
 ghost use Rattle.ent_protocol.specs.Numbers.{AreNumbered};
+ghost use Rattle.ent_protocol.specs.Pairs.{Askers, pairs_commit};
 ghost use Rattle.ent_protocol.specs.Partners.{Partners, flight_122, partners_opening, partners_pass};
 ghost use Rattle.ent_protocol.specs.Play.{IsPlayed, Plays, is_idle};
-ghost use Rattle.ent_protocol.specs.Reached.{CanClose, IsFinishedBook, IsGatheredAt, IsReached, LeadsTo, book_of, closing};
-ghost use Rattle.ent_protocol.specs.Reached.{committed_joints, opened, scripts_of, settled};
+ghost use Rattle.ent_protocol.specs.Reached.{CanClose, IsFinishedBook, IsGatheredAt, IsReached, LeadsTo};
+ghost use Rattle.ent_protocol.specs.Reached.{book_of, closing, committed_joints, opened, scripts_of, settled};
 ghost use Rattle.ent_protocol.specs.Run.{Forms};
 ghost use Rattle.ent_protocol.specs.State.{State};
 ghost use Rattle.ent_protocol.specs.Step.{Step};
@@ -97,4 +98,15 @@ pub fn partner_passes_a_prepared_lock()
           members = record { tx = 1; place = 1; grounding = flight_122 ∷ [] }
               ∷ record { tx = 2; place = 1; grounding = flight_122 ∷ [] } ∷ [];
         } ∷ []) }
+{}
+
+/// Two pairs are answered one after the other, and the second one commits first: the journal has the pairs in the order
+/// of their commits, and the joint answers stand in the order in which they were made.
+pub fn joint_answers_stand_as_made()
+    ensures { (resolved : Forms ℕ) (askers : Askers resolved)
+        → (last : State)
+        × Plays resolved (opened partners_opening) (pairs_commit askers) last
+        × (map (λ entry. entry.tx) (book_of last).journal ≡ 3 ∷ 4 ∷ 1 ∷ 2 ∷ [])
+        × (map (λ joint. map (λ member. member.tx) joint.members) (book_of last).joint_answers
+        ≡ (1 ∷ 2 ∷ []) ∷ (3 ∷ 4 ∷ []) ∷ []) }
 {}
