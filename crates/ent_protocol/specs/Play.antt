@@ -18,14 +18,14 @@ Plays {F} forms s (step ∷ more) last =
 -- A play of an input: its scripts are submitted to the opening's own state, all of them accepted, and then come these
 -- events, each with its reply.
 pub record IsPlayed {F : Type 0} (forms : Forms F) (opening : Opening) (scripts : List Script) (events : List Event)
-    (of_events : List (Reply F)) (last : State) : Type 0 where
+    (replied : List (Reply F)) (last : State) : Type 0 where
   pub first : State
   pub gathered : IsGatheredState forms (length scripts) first
   pub of_opening : first.opening ≡ opening
   pub of_scripts : scripts_of first ≡ scripts
   pub steps : List (Event × Reply F)
-  pub of_steps : map (λ step. step.0) steps ≡ events
-  pub replies_of_steps : map (λ step. step.1) steps ≡ of_events
+  pub events_are : map (λ step. step.0) steps ≡ events
+  pub replies_are : map (λ step. step.1) steps ≡ replied
   pub plays : Plays forms first steps last
 
 -- a refusal, or that there is nothing to do
