@@ -3,9 +3,9 @@ ghost use Rattle.std.specs.Prelude.{◌≡◌, IfOk};
 ghost use Rattle.ent_closing.specs.Environment.{environment_of};
 
 use crate::closing::{Closing, closed_list};
-use crate::copies::sequence_copy;
 use crate::environment::Environment;
 use ent_closed::{Atom, Binding, Entangled, Known, Membership};
+use ent_tree::Duplicate;
 use ent_value::Value;
 use std::alloc::{AllocError, Global};
 
@@ -75,7 +75,7 @@ impl Closing for Entangled<Known> {
         alloc: Global,
         environment: &Environment,
     ) -> Result<Entangled<Value>, AllocError> {
-        let variables = sequence_copy(alloc, &self.variables)?;
+        let variables = self.variables.copy(alloc)?;
         let posts = closed_list(alloc, environment, &self.posts)?;
         let heads = closed_list(alloc, environment, &self.heads)?;
         let atoms = closed_list(alloc, environment, &self.atoms)?;

@@ -2,7 +2,6 @@
 #![tactic(auto)]
 
 mod closing;
-mod copies;
 mod entangled;
 mod environment;
 mod operand;

@@ -6,9 +6,9 @@ ghost use Rattle.ent_closed.specs.Closing.{closed};
 ghost use Rattle.ent_closing.specs.Environment.{environment_of};
 
 use crate::closing::{Closing, closed_list, closed_sequence};
-use crate::copies::list_copy;
 use crate::environment::Environment;
 use ent_closed::{Known, Select, Statement, closing_keeps_the_meaning};
+use ent_tree::Duplicate;
 use ent_value::Value;
 use std::alloc::{AllocError, Global};
 
@@ -25,7 +25,7 @@ impl Closing for Select<Known> {
         alloc: Global,
         environment: &Environment,
     ) -> Result<Select<Value>, AllocError> {
-        let sources = list_copy(alloc, &self.sources)?;
+        let sources = self.sources.copy(alloc)?;
         let items = closed_sequence(alloc, environment, &self.items)?;
         let tests = closed_list(alloc, environment, &self.tests)?;
         Ok(Select {

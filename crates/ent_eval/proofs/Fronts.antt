@@ -1,6 +1,7 @@
--- What fails over the front of a row fails over the row.
+-- What fails over the front of a row fails over the row, and nothing is shown where every row fails.
 use Rattle.std.proofs.Common.{◌≡◌, ℕ, zero, suc, Bool, true, false, cond, List, [], ◌∷◌, ◌++◌, map, Option, Some}
-use Rattle.std.proofs.Common.{None, refl, ap, ◌∙◌}
+use Rattle.std.proofs.Common.{None, refl, sym, ap, ◌∙◌, append_assoc}
+use Rattle.std.proofs.lemmas.List.{append-nil}
 use Rattle.std.specs.Prelude.{◌&&◌, slice_get, slice_index_or}
 use Rattle.std.specs.List.{list_all, flat_map}
 use Rattle.ent_value.specs.Value.{value_cmp}
@@ -15,49 +16,27 @@ use Rattle.ent_eval.specs.Early.{value_there, may_compare, may_hold, may_meet}
 use Rattle.ent_eval.specs.Worth.{value_in}
 use Rattle.ent_eval.proofs.Combinations.{shown_of-append}
 
-column_stays : (front rest : List Value) (number : ℕ) (value : Value) → slice_get front number ≡ Some value
-    → slice_get (front ++ rest) number ≡ Some value
-column_stays [] rest number value e = cc
-column_stays (first ∷ front) rest zero value e = e
-column_stays (first ∷ front) rest (suc number) value e = column_stays front rest number value e
+column_there : (front rest : List Value) (number : ℕ) (value : Value) → slice_get front number ≡ Some value
+    → slice_index_or (front ++ rest) number no_value ≡ value
+column_there [] rest number value e = cc
+column_there (first ∷ front) rest zero value e = cc
+column_there (first ∷ front) rest (suc number) value e = column_there front rest number value e
 
-there_stays : (front rest : List Value) (operand : Operand Value) (value : Value)
-    → value_there front operand ≡ Some value → value_there (front ++ rest) operand ≡ Some value
-there_stays front rest (operands.Known known) value e = e
-there_stays front rest (operands.Column number) value e = column_stays front rest number value e
+-- what an operand is worth over a front, it is worth over the row
+pub there_worth : (front rest : List Value) (operand : Operand Value) (value : Value)
+    → value_there front operand ≡ Some value → value_in (front ++ rest) operand ≡ value
+there_worth front rest (operands.Known known) value e = cc
+there_worth front rest (operands.Column number) value e = column_there front rest number value e
 
-column_worth : (front : List Value) (number : ℕ) (value : Value) → slice_get front number ≡ Some value
-    → slice_index_or front number no_value ≡ value
-column_worth [] number value e = cc
-column_worth (first ∷ front) zero value e = cc
-column_worth (first ∷ front) (suc number) value e = column_worth front number value e
-
-there_worth : (front : List Value) (operand : Operand Value) (value : Value)
-    → value_there front operand ≡ Some value → value_in front operand ≡ value
-there_worth front (operands.Known known) value e = cc
-there_worth front (operands.Column number) value e = column_worth front number value e
-
-hold_stays : (front rest : List Value) (test : Test (Operand Value)) → may_hold front test ≡ false
-    → may_hold (front ++ rest) test ≡ false
-hold_stays front rest test = by (value_there front test.left) (value_there front test.right) refl refl
+hold_fails : (front rest : List Value) (test : Test (Operand Value)) → may_hold front test ≡ false
+    → holds (value_in (front ++ rest)) test ≡ false
+hold_fails front rest test = by (value_there front test.left) (value_there front test.right) refl refl
   where
     by : (left right : Option Value) → value_there front test.left ≡ left → value_there front test.right ≡ right
-        → may_compare test.comparison left right ≡ false → may_hold (front ++ rest) test ≡ false
+        → may_compare test.comparison left right ≡ false → holds (value_in (front ++ rest)) test ≡ false
     by (Some left) (Some right) l r e =
-        (λ i. may_compare test.comparison (there_stays front rest test.left left l i)
-        (there_stays front rest test.right right r i)) ∙ e
-    by (Some left) None l r e = absurd cc
-    by None right l r e = absurd cc
-
-hold_fails : (front : List Value) (test : Test (Operand Value)) → may_hold front test ≡ false
-    → holds (value_in front) test ≡ false
-hold_fails front test = by (value_there front test.left) (value_there front test.right) refl refl
-  where
-    by : (left right : Option Value) → value_there front test.left ≡ left → value_there front test.right ≡ right
-        → may_compare test.comparison left right ≡ false → holds (value_in front) test ≡ false
-    by (Some left) (Some right) l r e =
-        (λ i. compares test.comparison (value_cmp (there_worth front test.left left l i)
-        (there_worth front test.right right r i))) ∙ e
+        (λ i. compares test.comparison (value_cmp (there_worth front rest test.left left l i)
+        (there_worth front rest test.right right r i))) ∙ e
     by (Some left) None l r e = absurd cc
     by None right l r e = absurd cc
 
@@ -76,19 +55,22 @@ fails_too {A} p q each (x ∷ xs) e = by (p x) refl e (fails_too p q each xs)
     by true is e others = ap (λ b. q x && b) (others e) ∙ and_false (q x)
     by false is e others = ap (λ b. b && list_all q xs) (each x is)
 
-nothing_met : (items : List (Operand Value)) (tests : List (Test (Operand Value))) (row : List Value)
-    → meets value_in tests row ≡ false → shown_of items tests (row ∷ []) ≡ []
-nothing_met items tests row e = ap (λ b. map (λ row. map (value_in row) items) (cond b (row ∷ []) [])) e
+-- where a test fails over a front, it fails whatever follows
+pub meet_fails : (tests : List (Test (Operand Value))) (front rest : List Value) → may_meet tests front ≡ false
+    → meets value_in tests (front ++ rest) ≡ false
+meet_fails tests front rest e =
+    fails_too (may_hold front) (holds (value_in (front ++ rest))) (hold_fails front rest) tests e
 
--- where a test fails over a front, nothing behind it is shown
+-- where nothing that begins with a front meets the tests, nothing is shown of it
 pub nothing_shown : (items : List (Operand Value)) (tests : List (Test (Operand Value))) (front : List Value)
-    (sources : List (List (List Value))) → may_meet tests front ≡ false
+    (sources : List (List (List Value))) → ((rest : List Value) → meets value_in tests (front ++ rest) ≡ false)
     → shown_of items tests (combined front sources) ≡ []
-nothing_shown items tests front [] e =
-    nothing_met items tests front (fails_too (may_hold front) (holds (value_in front)) (hold_fails front) tests e)
-nothing_shown items tests front (rows ∷ more) e =
+nothing_shown items tests front [] fails =
+    ap (λ b. map (λ row. map (value_in row) items) (cond b (front ∷ []) []))
+    (sym (ap (meets value_in tests) (append-nil front)) ∙ fails [])
+nothing_shown items tests front (rows ∷ more) fails =
     all (λ row. nothing_shown items tests (front ++ row) more
-    (fails_too (may_hold front) (may_hold (front ++ row)) (hold_stays front row) tests e)) rows
+    (λ rest. ap (meets value_in tests) (append_assoc front row rest) ∙ fails (row ++ rest))) rows
   where
     each : List Value → List (List Value)
     each row = combined (front ++ row) more

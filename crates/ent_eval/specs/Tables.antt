@@ -1,6 +1,8 @@
 -- What tables hold.
 use Rattle.std.specs.Prelude.{List, map}
+use Rattle.ent_set.specs.Sets as set
 use Rattle.ent_value.specs.declared.value.Kind.{Kind}
+use Rattle.ent_value.specs.declared.value.Value.{Value}
 use Rattle.ent_rel.specs.Relation.{Relation}
 use Rattle.ent_semantics.specs.Database.{Rows}
 
@@ -9,3 +11,7 @@ kinds_in tables = map (λ table. table.kinds) tables
 
 abbrev pub rows_in : List Relation → List Rows
 rows_in tables = map (λ table. table.rows) tables
+
+-- the rows of each table, in order
+abbrev pub rows_listed : List Relation → List (List (List Value))
+rows_listed tables = map (λ table. set.ascending table.rows) tables

@@ -8,11 +8,12 @@ ghost use Rattle.ent_eval.specs.Change.{Changes, IsFault, insertion_of, image_or
 ghost use Rattle.ent_eval.specs.Kinds.{KeepsKinds};
 ghost use Rattle.ent_eval.specs.Worth.{value_in, image_of};
 
-use crate::condition::meets;
+use crate::first::first_values;
 use crate::outcome::Outcome;
+use crate::prepared::PreparedTests;
 use crate::row::{image_row, row_of};
 use ent_closed::Operand;
-use ent_rel::{Table, TableFull};
+use ent_rel::{StoredRow, Table, TableFull};
 use ent_semantics::Failure;
 use ent_tree::{Expression, Test};
 use ent_value::{Refusal, Row, Value};
@@ -44,7 +45,13 @@ pub(crate) fn deletion(
     ensures { let left = deletion table.now.rows (meets value_in tests.now) in
         IfOk result (λ outcome. Changes table.now (Ok left) outcome) }
 {
-    let (count, delta) = table.delete_rows(alloc, |row| meets(tests, &[], row.values()))?;
+    let prepared = PreparedTests::new(alloc, &[], tests)?;
+    let first = first_values(alloc, &[], tests, table.kinds())?;
+    let (count, delta) = table.delete_where(
+        alloc,
+        first.as_slice(),
+        |row: &StoredRow<'_>| prepared.meets(row),
+    )?;
     Ok(Outcome::Changed { count, delta })
 }
 
@@ -69,11 +76,12 @@ pub(crate) fn replacement(
     ensures { let after = replacement_of table.now.rows (meets value_in tests.now) (image_of image.now) in
         IfOk result (λ outcome. Changes table.now after outcome) }
 {
-    // Asked for what its contract tells: each row has these kinds, and so has its image.
-    let _ = table.kinds();
-    let replaced = table.replace(
+    let prepared = PreparedTests::new(alloc, &[], tests)?;
+    let first = first_values(alloc, &[], tests, table.kinds())?;
+    let replaced = table.replace_where(
         alloc,
-        |row| meets(tests, &[], row.values()),
+        first.as_slice(),
+        |old: &StoredRow<'_>| prepared.meets(old),
         |row: &Row| -> Result<Row, Refusal<Failure>>
             ensures { Gives (λ new. new) result (image_or_overflow (image_of image.entry.now) row.now) }
         { image_row(alloc, image, row.values()) },

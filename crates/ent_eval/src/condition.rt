@@ -1,5 +1,5 @@
 //! Conditions over a row.
-ghost use Rattle.std.specs.Prelude.{◌≡◌, ◌++◌};
+ghost use Rattle.std.specs.Prelude.{◌≡◌};
 ghost use Rattle.ent_semantics.specs.Selection.{compares, holds, meets};
 ghost use Rattle.ent_eval.specs.Early.{may_hold, may_meet};
 ghost use Rattle.ent_eval.specs.Worth.{value_in};
@@ -10,7 +10,8 @@ use ent_tree::{Comparison, Test};
 use ent_value::Value;
 use std::cmp::Ordering;
 
-fn compares(comparison: Comparison, order: Ordering) -> bool
+/// Whether two values in this order compare so.
+pub(crate) fn compares(comparison: Comparison, order: Ordering) -> bool
     ensures { result ≡ compares comparison order }
 {
     match comparison {
@@ -23,37 +24,37 @@ fn compares(comparison: Comparison, order: Ordering) -> bool
     }
 }
 
-fn holds(test: &Test<Operand<Value>>, front: &[Value], rest: &[Value]) -> bool
-    ensures { result ≡ holds (value_in (front.now ++ rest.now)) test.now }
+fn holds(test: &Test<Operand<Value>>, row: &[Value]) -> bool
+    ensures { result ≡ holds (value_in row.now) test.now }
 {
     let none = Value::Int(0);
-    let left = operand_value(front, rest, &test.left, &none);
-    let right = operand_value(front, rest, &test.right, &none);
+    let left = operand_value(row, &test.left, &none);
+    let right = operand_value(row, &test.right, &none);
     compares(test.comparison, left.cmp(right))
 }
 
-/// Whether a row that stands in two parts meets every test.
-pub(crate) fn meets(tests: &[Test<Operand<Value>>], front: &[Value], rest: &[Value]) -> bool
-    ensures { result ≡ meets value_in tests.now (front.now ++ rest.now) }
+/// Whether a row meets every test.
+pub(crate) fn meets(tests: &[Test<Operand<Value>>], row: &[Value]) -> bool
+    ensures { result ≡ meets value_in tests.now row.now }
 {
-    tests.iter().all(|test| holds(test, front, rest))
+    tests.iter().all(|test| holds(test, row))
 }
 
-/// Whether a test holds over the front of a row, which stands in two parts, or speaks of a column behind it.
-fn may_hold(test: &Test<Operand<Value>>, front: &[Value], rest: &[Value]) -> bool
-    ensures { result ≡ may_hold (front.now ++ rest.now) test.now }
+/// Whether a test holds over the front of a row, or speaks of a column behind it.
+fn may_hold(test: &Test<Operand<Value>>, front: &[Value]) -> bool
+    ensures { result ≡ may_hold front.now test.now }
 {
-    if let Some(left) = operand_there(front, rest, &test.left) {
-        if let Some(right) = operand_there(front, rest, &test.right) {
+    if let Some(left) = operand_there(front, &test.left) {
+        if let Some(right) = operand_there(front, &test.right) {
             return compares(test.comparison, left.cmp(right));
         }
     }
     true
 }
 
-/// Whether no test fails over the front of a row, which stands in two parts, whatever follows.
-pub(crate) fn may_meet(tests: &[Test<Operand<Value>>], front: &[Value], rest: &[Value]) -> bool
-    ensures { result ≡ may_meet tests.now (front.now ++ rest.now) }
+/// Whether no test fails over the front of a row, whatever follows.
+pub(crate) fn may_meet(tests: &[Test<Operand<Value>>], front: &[Value]) -> bool
+    ensures { result ≡ may_meet tests.now front.now }
 {
-    tests.iter().all(|test| may_hold(test, front, rest))
+    tests.iter().all(|test| may_hold(test, front))
 }

@@ -5,7 +5,7 @@ ghost use Rattle.ent_eval.specs.Job.{IsDone};
 use crate::evaluation::evaluate;
 use crate::job::OneJob;
 use crate::outcome::Outcome;
-use std::alloc::Global;
+use std::alloc::{AllocError, Global};
 use std::marker::Model;
 
 /// Work that was done, and what it came to: the meaning of its own statement over its own tables. It is made by
@@ -47,6 +47,16 @@ impl OneDone {
             Ok(outcome) => Ok(OneDone { job, outcome }),
             Err(_) => Err(NotDone { job }),
         }
+    }
+
+    /// The same: the statement and the outcome are copied, the tables are shared.
+    pub fn copy(&self, alloc: Global) -> Result<Self, AllocError>
+        ensures { IfOk result (λ copy. copy ≡ self.now) }
+    {
+        Ok(OneDone {
+            job: self.job.copy(alloc)?,
+            outcome: self.outcome.copy(alloc)?,
+        })
     }
 
     /// The work.

@@ -1,11 +1,13 @@
 //! Work of one transaction.
-ghost use Rattle.std.specs.Prelude.{◌≡◌, map};
+ghost use Rattle.std.specs.Prelude.{◌≡◌, ◌↔◌, IfOk, IsTrue, map};
 ghost use Rattle.std.specs.Arc.{arc_value};
 ghost use Rattle.ent_eval.specs.Job.{One, IsOne};
 
 use ent_closed::Statement;
 use ent_rel::Table;
+use ent_tree::{Duplicate, Same};
 use ent_value::{Sequence, Value};
+use std::alloc::{AllocError, Global};
 use std::marker::Model;
 use std::sync::Arc;
 
@@ -92,4 +94,56 @@ impl OneJob {
     {
         self.tables.as_slice()
     }
+
+    /// The same work: the statement is copied, the tables are shared.
+    pub fn copy(&self, alloc: Global) -> Result<Self, AllocError>
+        ensures { IfOk result (λ copy. copy ≡ self.now) }
+    {
+        let statement = self.statement.copy(alloc)?;
+        let tables = tables_shared(alloc, self.tables.as_slice())?;
+        Ok(OneJob {
+            tx: self.tx,
+            attempt: self.attempt,
+            place: self.place,
+            statement,
+            tables: Sequence::from_vec(tables),
+        })
+    }
+
+    /// Whether the two are the same work. It takes no memory.
+    pub fn is_same(&self, other: &OneJob) -> bool
+        ensures { IsTrue result ↔ (self.now ≡ other.now) }
+    {
+        self.tx == other.tx
+            && self.attempt == other.attempt
+            && self.place == other.place
+            && self.statement.is_same(&other.statement)
+            && are_same_tables(self.tables.as_slice(), other.tables.as_slice())
+    }
+}
+
+/// The same tables, which are shared.
+fn tables_shared(alloc: Global, tables: &[Arc<Table>]) -> Result<Vec<Arc<Table>>, AllocError>
+    ensures { IfOk result (λ shared. map arc_value shared.items ≡ map arc_value tables.now) }
+{
+    let mut shared = Vec::with_capacity(alloc, tables.len())?;
+    for table in tables {
+        shared.push(table.clone()?)?;
+    }
+    Ok(shared)
+}
+
+/// Whether two lists have the same tables, in the same order.
+fn are_same_tables(mine: &[Arc<Table>], theirs: &[Arc<Table>]) -> bool
+    ensures { IsTrue result ↔ (map arc_value mine.now ≡ map arc_value theirs.now) }
+{
+    if mine.len() != theirs.len() {
+        return false;
+    }
+    for index in 0..mine.len() {
+        if !mine[index].is_same(&theirs[index]) {
+            return false;
+        }
+    }
+    true
 }

@@ -1,7 +1,10 @@
 //! What evaluation answers.
+ghost use Rattle.std.specs.Prelude.{◌≡◌, IfOk};
+
 use ent_rel::Delta;
 use ent_semantics::Failure;
 use ent_value::{Row, Sequence, Value};
+use std::alloc::{AllocError, Global};
 
 /// What a statement comes to over its tables, which stay as they are.
 #[derive(Drop)]
@@ -14,4 +17,30 @@ pub enum Outcome {
     Value(Value),
     /// Why the statement can't be carried out.
     Fault(Failure),
+}
+
+impl Outcome {
+    pub fn copy(&self, alloc: Global) -> Result<Self, AllocError>
+        ensures { IfOk result (λ copy. copy ≡ self.now) }
+    {
+        match self {
+            Outcome::Rows(rows) => Ok(Outcome::Rows(rows_copy(alloc, rows.as_slice())?)),
+            Outcome::Changed { count, delta } => Ok(Outcome::Changed {
+                count: *count,
+                delta: delta.copy(alloc)?,
+            }),
+            Outcome::Value(value) => Ok(Outcome::Value(value.copy(alloc)?)),
+            Outcome::Fault(failure) => Ok(Outcome::Fault(*failure)),
+        }
+    }
+}
+
+fn rows_copy(alloc: Global, rows: &[Row]) -> Result<Sequence<Row>, AllocError>
+    ensures { IfOk result (λ copies. copies ≡ rows.now) }
+{
+    let mut copies = Vec::with_capacity(alloc, rows.len())?;
+    for row in rows {
+        copies.push(row.copy(alloc)?)?;
+    }
+    Ok(Sequence::from_vec(copies))
 }

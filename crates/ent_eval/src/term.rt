@@ -1,5 +1,5 @@
 //! What operands and expressions are worth.
-ghost use Rattle.std.specs.Prelude.{◌≡◌, ◌+ℤ◌, ◌-ℤ◌, ◌++◌, slice_get, slice_index_or};
+ghost use Rattle.std.specs.Prelude.{◌≡◌, ◌+ℤ◌, ◌-ℤ◌};
 ghost use Rattle.std.specs.Option.{option_copied};
 ghost use Rattle.ent_value.specs.Refusal.{Gives};
 ghost use Rattle.ent_semantics.specs.Term.{no_value, number_of, in_64_bits, expression_value};
@@ -12,60 +12,31 @@ use ent_tree::Expression;
 use ent_value::{Refusal, Value};
 use std::alloc::Global;
 
-/// The value of an operand over a row that stands in two parts; a column that isn't there stands for `none`.
+/// The value of an operand over a row; a column that isn't there stands for `none`.
 pub(crate) fn operand_value<'a>(
-    front: &'a [Value],
-    rest: &'a [Value],
+    row: &'a [Value],
     operand: &'a Operand<Value>,
     none: &'a Value,
 ) -> &'a Value
     requires { none.now ≡ no_value }
-    ensures { result.now ≡ value_in (front.now ++ rest.now) operand.now }
+    ensures { result.now ≡ value_in row.now operand.now }
 {
     match operand {
         Operand::Known(value) => value,
-        Operand::Column(number) => column_value(front, rest, *number, none),
+        Operand::Column(number) => row.get(*number).unwrap_or(none),
     }
 }
 
-/// The value of an operand over the front of a row, which stands in two parts, where it is there.
+/// The value of an operand over the front of a row, where it is there.
 pub(crate) fn operand_there<'a>(
     front: &'a [Value],
-    rest: &'a [Value],
     operand: &'a Operand<Value>,
 ) -> Option<&'a Value>
-    ensures { option_copied result ≡ value_there (front.now ++ rest.now) operand.now }
+    ensures { option_copied result ≡ value_there front.now operand.now }
 {
     match operand {
         Operand::Known(value) => Some(value),
-        Operand::Column(number) => column_there(front, rest, *number),
-    }
-}
-
-/// The value at a number in a row that stands in two parts.
-fn column_value<'a>(
-    front: &'a [Value],
-    rest: &'a [Value],
-    number: usize,
-    none: &'a Value,
-) -> &'a Value
-    ensures { result.now ≡ slice_index_or (front.now ++ rest.now) number none.now }
-{
-    if number < front.len() {
-        &front[number]
-    } else {
-        rest.get(number - front.len()).unwrap_or(none)
-    }
-}
-
-/// The value at a number in a row that stands in two parts, where it is there.
-fn column_there<'a>(front: &'a [Value], rest: &'a [Value], number: usize) -> Option<&'a Value>
-    ensures { option_copied result ≡ slice_get (front.now ++ rest.now) number }
-{
-    if number < front.len() {
-        front.get(number)
-    } else {
-        rest.get(number - front.len())
+        Operand::Column(number) => front.get(*number),
     }
 }
 
@@ -124,14 +95,14 @@ pub(crate) fn operand_expression(
 {
     let none = Value::Int(0);
     match expression {
-        Expression::Single(term) => Ok(operand_value(&[], row, term, &none).copy(alloc)?),
+        Expression::Single(term) => Ok(operand_value(row, term, &none).copy(alloc)?),
         Expression::Sum(left, right) => sum(
-            operand_value(&[], row, left, &none),
-            operand_value(&[], row, right, &none),
+            operand_value(row, left, &none),
+            operand_value(row, right, &none),
         ),
         Expression::Difference(left, right) => difference(
-            operand_value(&[], row, left, &none),
-            operand_value(&[], row, right, &none),
+            operand_value(row, left, &none),
+            operand_value(row, right, &none),
         ),
     }
 }

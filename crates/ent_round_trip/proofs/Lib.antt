@@ -6,3 +6,8 @@ pub mod Statements
 pub mod Conditions
 pub mod Items
 pub mod Scripts
+pub mod Keeping
+pub mod KeptOperands
+pub mod KeptSelects
+pub mod KeptEntangling
+pub mod KeptScripts

@@ -1,5 +1,5 @@
 //! What is read from a printed script.
-ghost use Rattle.std.specs.Prelude.{◌≡◌, Ok};
+ghost use Rattle.std.specs.Prelude.{◌≡◌, ℕ, Contains, List, Ok};
 ghost use Rattle.ent_tree.specs.declared.script.Input.{Input};
 ghost use Rattle.ent_tree.specs.declared.script.Script.{Script};
 ghost use Rattle.ent_tree.specs.Places.{unplaced_script};
@@ -32,4 +32,23 @@ pub fn printed_text_is_itself()
     printed_script_is_read();
     reader_is_exact();
     reading_is_exact();
+}
+
+/// Every script that is read from a text keeps the limits, and its names, texts and numbers can stand in a text.
+pub fn read_scripts_can_be_printed()
+    ensures { (text : List ℕ) (input : Input) (script : Script) → reading text ≡ Ok input
+        → Contains input.scripts script → ScriptFits script × IsReadable script }
+{
+    reader_is_exact();
+    reading_is_exact();
+}
+
+/// The text of every script that is read from a text is read again, as an input of that script alone, places aside.
+pub fn read_script_is_itself()
+    ensures { (text : List ℕ) (input : Input) (script : Script) → reading text ≡ Ok input
+        → Contains input.scripts script
+        → (again : Input) × (reading (script_text script) ≡ Ok again) × IsAlone script again }
+{
+    read_scripts_can_be_printed();
+    printed_text_is_itself();
 }

@@ -3,4 +3,7 @@
 
 mod laws;
 
-pub use laws::{printed_script_is_itself, printed_text_is_itself};
+pub use laws::{
+    printed_script_is_itself, printed_text_is_itself, read_script_is_itself,
+    read_scripts_can_be_printed,
+};

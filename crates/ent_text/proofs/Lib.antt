@@ -12,3 +12,4 @@ pub mod Found
 pub mod Slices
 pub mod Ends
 pub mod OneReading
+pub mod Moved

@@ -7,3 +7,4 @@ pub mod Reading
 pub mod Slices
 pub mod Lexing
 pub mod Ends
+pub mod Moved

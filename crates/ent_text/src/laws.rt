@@ -1,8 +1,10 @@
 //! Laws of reading: functions without a body, whose contracts say what holds of every text.
-ghost use Rattle.std.specs.Prelude.{◌≡◌, ◌↔◌, ◌⊎◌, ℕ, true, false, List, [], ◌∷◌, Ok, Err, slice_index};
+ghost use Rattle.std.specs.Prelude.{◌≡◌, ◌↔◌, ◌⊎◌, ℕ, ◌+◌, true, false, List, [], ◌∷◌, ◌++◌, length};
+ghost use Rattle.std.specs.Prelude.{map, Ok, Err, slice_index};
 ghost use Rattle.ent_text.specs.Reading.{AreTokens, HasFault};
 ghost use Rattle.ent_text.specs.Spelling.{Spells, IsLongest, is_blank};
 ghost use Rattle.ent_text.specs.Ends.{goes_on};
+ghost use Rattle.ent_text.specs.Moved.{moved};
 ghost use Rattle.ent_text.specs.Lexing.{tokens_of};
 ghost use Rattle.ent_text.specs.declared.fault.TextFault.{TextFault};
 ghost use Rattle.ent_text.specs.declared.token.Token.{Token};
@@ -34,4 +36,11 @@ pub fn pieces_end()
     ensures token { (bytes behind : List ℕ) (kind : TokenKind)
         → Spells bytes kind → goes_on kind (slice_index behind 0) ≡ false → IsLongest bytes behind }
     ensures blank { (byte : ℕ) (behind : List ℕ) → is_blank byte ≡ true → IsLongest (byte ∷ []) behind }
+{}
+
+/// A text is read alike wherever it stands behind a line end (byte 10): the tokens of two texts with a line end between
+/// them are those of the first, and those of the second so many bytes further on.
+pub fn line_end_parts_texts()
+    ensures { (front back : List ℕ) (these those : List Token) → AreTokens front these → AreTokens back those
+        → AreTokens (front ++ 10 ∷ back) (these ++ map (moved (length front + 1)) those) }
 {}

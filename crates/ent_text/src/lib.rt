@@ -21,7 +21,7 @@ mod word;
 
 pub use fault::TextFault;
 pub use keyword::Keyword;
-pub use laws::{one_reading, pieces_end, reader_is_exact};
+pub use laws::{line_end_parts_texts, one_reading, pieces_end, reader_is_exact};
 pub use numeral::Numeral;
 pub use symbol::Symbol;
 pub use token::{Token, TokenKind};

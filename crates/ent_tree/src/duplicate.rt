@@ -1,7 +1,7 @@
 //! Copies.
 ghost use Rattle.std.specs.Prelude.{◌≡◌, IfOk};
 
-use ent_value::Limited;
+use ent_value::{Kind, Limited, Sequence, Value};
 use std::alloc::{AllocError, Global};
 
 /// A part of a tree, of which a copy can be made.
@@ -9,6 +9,34 @@ pub trait Duplicate: Sized {
     /// A copy, equal to the part in everything, places included. It takes the memory of a new part.
     fn copy(&self, alloc: Global) -> Result<Self, AllocError>
         ensures { IfOk result (λ copy. copy ≡ self.now) };
+}
+
+impl Duplicate for usize {
+    fn copy(&self, _alloc: Global) -> Result<Self, AllocError> {
+        Ok(*self)
+    }
+}
+
+impl Duplicate for Kind {
+    fn copy(&self, _alloc: Global) -> Result<Self, AllocError> {
+        Ok(*self)
+    }
+}
+
+impl Duplicate for Value {
+    fn copy(&self, alloc: Global) -> Result<Self, AllocError> {
+        Value::copy(self, alloc)
+    }
+}
+
+impl<T: Duplicate + Drop> Duplicate for Sequence<T> {
+    fn copy(&self, alloc: Global) -> Result<Self, AllocError> {
+        let mut copies = Vec::with_capacity(alloc, self.len())?;
+        for element in self.as_slice() {
+            copies.push(element.copy(alloc)?)?;
+        }
+        Ok(Sequence::from_vec(copies))
+    }
 }
 
 impl<T: Duplicate + Drop, const LIMIT: usize> Duplicate for Limited<T, LIMIT> {

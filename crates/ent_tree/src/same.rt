@@ -1,13 +1,25 @@
 //! Equality.
 ghost use Rattle.std.specs.Prelude.{◌≡◌, ◌↔◌, IsTrue};
 
-use ent_value::{Limited, Name, Value};
+use ent_value::{Kind, Limited, Name, Sequence, Value};
 
 /// A part of a tree that can be compared with another.
 pub trait Same {
     /// Whether the two are equal in everything, places included.
     fn is_same(&self, other: &Self) -> bool
         ensures { IsTrue result ↔ (self.now ≡ other.now) };
+}
+
+impl Same for usize {
+    fn is_same(&self, other: &usize) -> bool {
+        self == other
+    }
+}
+
+impl Same for Kind {
+    fn is_same(&self, other: &Kind) -> bool {
+        self == other
+    }
 }
 
 impl Same for Name {
@@ -31,6 +43,12 @@ impl<T: Same> Same for Option<T> {
                 Some(theirs) => mine.is_same(theirs),
             },
         }
+    }
+}
+
+impl<T: Same> Same for Sequence<T> {
+    fn is_same(&self, other: &Sequence<T>) -> bool {
+        are_same(self.as_slice(), other.as_slice())
     }
 }
 

@@ -1,4 +1,4 @@
-use Rattle.std.proofs.Common.{◌≡◌, ◌++◌, map, take}
+use Rattle.std.proofs.Common.{◌≡◌, map, take}
 use Rattle.ent_semantics.specs.Term.{no_value}
 use Rattle.ent_eval.specs.Worth.{value_in}
 use Rattle.ent_eval.proofs.row.item_row.Given as goal
@@ -7,5 +7,5 @@ use Rattle.ent_eval.proofs.row.item_row.Given as goal
 abbrev pub invariant-loop-item : goal.invariant-loop-item
 invariant-loop-item l = record {
   none : l.none ≡ no_value;
-  shown : l.values.items ≡ map (value_in (l.front ++ l.rest)) (take l.item-index l.items);
+  shown : l.values.items ≡ map (value_in l.row) (take l.item-index l.items);
 }

@@ -1,10 +1,10 @@
 use Rattle.std.proofs.Common.{◌≡◌, ◌++◌, take}
 use Rattle.ent_eval.proofs.row.joined.Given as goal
 
--- the values of the first part so far
+-- the values of the front so far
 abbrev pub invariant-loop-value : goal.invariant-loop-value
-invariant-loop-value l = l.row.items ≡ take l.value-index l.front
+invariant-loop-value l = l.values.items ≡ take l.value-index l.front
 
--- the first part, and the values of the second so far
-abbrev pub invariant-loop-value-2 : goal.invariant-loop-value-2
-invariant-loop-value-2 l = l.row.items ≡ l.front ++ take l.value-index l.rest
+-- the front, and the values of the row so far
+abbrev pub invariant-loop-column : goal.invariant-loop-column
+invariant-loop-column l = l.values.items ≡ l.front ++ take l.column l.row

@@ -1,37 +1,58 @@
-use Rattle.std.proofs.lemmas.List.{append-nil}
-use Rattle.std.proofs.Common.{rules, ◌++◌, ap, sym, ◌∙◌, arith}
-use Rattle.ent_eval.specs.Combined.{combined, shown_of}
-use Rattle.ent_eval.proofs.Combinations.{one_row_more, whole_found}
+use Rattle.std.proofs.Common.{◌++◌, ◌-◌, length, take, drop, map, ap, sym, ◌∙◌, append-nil}
+use Rattle.std.proofs.Common.{List, subst, arith}
+use Rattle.std.specs.Arc.{arc_value}
+use Rattle.ent_value.specs.declared.value.Value.{Value}
+use Rattle.ent_rel.specs.Relation.{Relation}
+use Rattle.ent_tree.specs.declared.operand.Test.{Test}
+use Rattle.ent_closed.specs.declared.operand.Operand.{Operand}
+use Rattle.ent_eval.specs.Combined.{combined, shown_of, AreNarrowed}
 use Rattle.ent_eval.specs.Early.{may_meet}
-use Rattle.ent_eval.proofs.Fronts.{nothing_shown}
+use Rattle.ent_eval.specs.Tables.{rows_listed}
+use Rattle.ent_eval.proofs.Combinations.{one_row_more}
+use Rattle.ent_eval.proofs.Fronts.{meet_fails, nothing_shown}
+use Rattle.ent_eval.proofs.Searched.{all_searched, begins_with}
 use Rattle.ent_eval.proofs.select.+search.Goals as goal
-
-pub loop-row-preserved : goal.loop-row-preserved
-loop-row-preserved t c =
-    let select = c.args.select.now in
-    one_row_more select.items select.tests c.values-begun.result.now c.in-Some.more.now c.args.found.now.items
-    c.loop-row.found.items
-    c.search.new.found.items c.as_slice-row-items.result.now c.loop-row.row-index c.row-item.result (omega arith)
-    c.row-item.is c.loop-row.invariant
-    (c.in_ok-search-in-Some.ensures
-    ∙ (λ i. c.loop-row.found.items ++ shown_of select.items select.tests
-    (combined (c.values-begun.result.now ++ c.values.ensures i) c.in-Some.more.now)))
-
-pub returns-after-loop-row : goal.returns-after-loop-row
-returns-after-loop-row t c =
-    let select = c.args.select.now in
-    whole_found select.items select.tests c.args.front.now c.args.rest.now c.values-begun.result.now c.in-Some.more.now
-    c.args.found.now.items c.loop-row.found.items c.as_slice-row-items.result.now c.in-Some.rows.now
-    c.args.sources.now c.loop-row.row-index
-    (omega arith) c.loop-row.invariant (c.values-begun.ensures ∙ c.in_ok-joined-in-Some.ensures)
-    c.as_slice-row-items.ensures (search rules)
 
 pub returns-then-not-may_meet : goal.returns-then-not-may_meet
 returns-then-not-may_meet t c =
     let select = c.args.select.now in
+    let front = c.args.front.now in
     let found = c.args.found.now.items in
     let conditions = c.as_slice.ensures ∙ c.deref.ensures in
-    let fails = sym (λ i. may_meet (conditions i) (c.args.front.now ++ c.args.rest.now)) ∙ sym c.may_meet.ensures
-    ∙ c.if-not-may_meet.true in
-    sym (ap (λ rows. found ++ rows) (nothing_shown select.items select.tests (c.args.front.now ++ c.args.rest.now)
-    c.args.sources.now fails) ∙ append-nil found)
+    let fails = sym (λ i. may_meet (conditions i) front) ∙ sym c.may_meet.ensures ∙ c.if-not-may_meet.true in
+    sym (ap (λ rows. found ++ rows) (nothing_shown select.items select.tests front
+    (rows_listed (map arc_value c.args.sources.now)) (λ rest. meet_fails select.tests front rest fails))
+    ∙ append-nil found)
+
+pub loop-row-preserved : goal.loop-row-preserved
+loop-row-preserved t c =
+    let select = c.args.select.now in
+    let found = c.loop-row.found.items in
+    let sources = c.args.sources.now in
+    let more = rows_listed (map arc_value (take (length sources - 1) (drop 1 sources))) in
+    one_row_more select.items select.tests c.args.front.now more c.loop-row.rows c.next_row.new.self found
+    c.search.new.found.items c.in-Some.row c.in-Some.ensures
+    (c.in_ok-search-in-len1-up.ensures
+    ∙ ap (λ front. found ++ shown_of select.items select.tests (combined front more))
+    (c.values.ensures ∙ c.in_ok-begun-in-len1-up.ensures))
+    ∙ c.loop-row.invariant
+
+pub returns-in_default : goal.returns-in_default
+returns-in_default t c =
+    let select = c.args.select.now in
+    let front = c.args.front.now in
+    let found = c.args.found.now.items in
+    let sources = c.args.sources.now in
+    let table = arc_value c.table-item-2.result in
+    let rows = c.in_ok-rows-in-len1-up.rows in
+    let more = take (length sources - 1) (drop 1 sources) in
+    let P : List (Test (Operand Value)) → Type 0 =
+    λ tests. AreNarrowed tests front c.deref-in-len1-up-2.result.now.rows rows in
+    let Q : Relation → Type 0 = λ table. AreNarrowed select.tests front table.rows rows in
+    let are : AreNarrowed select.tests front table.rows rows =
+    subst Q c.deref-in-len1-up-2.ensures
+    (subst P (c.as_slice-in-len1-up.ensures ∙ c.deref-in-len1-up.ensures) c.in_ok-rows-in-len1-up.ensures) in
+    all_searched select.items select.tests front table.rows rows are (rows_listed (map arc_value more)) found
+    c.loop-row.found.items c.loop-row.rows c.loop-row.invariant c.in_default.ensures.0
+    ∙ ap (λ sources. found ++ shown_of select.items select.tests (combined front (rows_listed (map arc_value sources))))
+    (sym (begins_with sources c.table-item-2.result (omega arith) c.table-item-2.is))

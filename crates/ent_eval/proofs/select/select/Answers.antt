@@ -3,18 +3,17 @@ use Rattle.std.specs.Arc.{arc_value}
 use Rattle.ent_set.specs.Sets as set
 use Rattle.ent_value.specs.Value.{row_cmp}
 use Rattle.ent_eval.specs.Combined.{combined, shown_of}
-use Rattle.ent_eval.specs.Tables.{rows_in}
+use Rattle.ent_eval.specs.Tables.{rows_listed}
 use Rattle.ent_eval.proofs.Combinations.{combined_is}
 use Rattle.ent_eval.proofs.select.select.Goals as goal
 
 pub returns : goal.returns
 returns c =
     let select = c.args.select.now in
-    let rows = rows_in (map arc_value c.args.sources.now) in
+    let tables = map arc_value c.args.sources.now in
     c.from_vec.ensures ∙ c.in_ok-ascending.ensures
     ∙ ap (λ found. set.ascending (set.from_list {R = row_cmp} found))
     (c.in_ok-search.ensures
-    ∙ (λ i. c.new-found.ensures.items i ++ shown_of select.items select.tests
-    (combined [] (c.as_slice.ensures.value i)))
-    ∙ ap (λ sources. shown_of select.items select.tests (combined [] sources)) c.in_ok-sources.ensures
-    ∙ ap (shown_of select.items select.tests) (combined_is rows))
+    ∙ ap (λ found. found ++ shown_of select.items select.tests (combined [] (rows_listed tables)))
+    c.new-found.ensures.items
+    ∙ ap (shown_of select.items select.tests) (combined_is tables))

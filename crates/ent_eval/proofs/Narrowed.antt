@@ -1,0 +1,76 @@
+-- Tests over the rows with these first values, and over all rows.
+use Rattle.std.proofs.Common.{◌≡◌, Bool, true, false, cond, not, List, [], ◌∷◌, get_or, refl, sym, ap, ◌∙◌}
+use Rattle.std.specs.Prelude.{IsTrue, ◌&&◌, Result, Ok}
+use Rattle.std.specs.List.{filter, AllByRecursion}
+use Rattle.std.proofs.lemmas.List.Elements.{recursion_from_All, All-contains_itself}
+use Rattle.std.proofs.lemmas.Map.Views.{list_any-from_Contains}
+use Rattle.ent_set.specs.Sets as set
+use Rattle.ent_set.specs.Laws.{same_set, contains-retain, contains-ascending}
+use Rattle.ent_value.specs.Refusal.{◌>>=◌}
+use Rattle.ent_value.specs.Order.{rows_total, exact_rows, rows_equal}
+use Rattle.ent_value.specs.declared.value.Value.{Value}
+use Rattle.ent_rel.specs.Relation.{RowSet}
+use Rattle.ent_rel.specs.Change.{deletion, replacement, images_of}
+
+-- each row of a set in order is in the set
+pub in_order : (s : RowSet) → AllByRecursion (λ row. IsTrue (set.contains s row)) (set.ascending s)
+in_order s =
+    let rows = set.ascending s in
+    recursion_from_All (λ row. IsTrue (set.contains s row)) rows (λ k d h.
+    let row = get_or rows k d in
+    contains-ascending s row ∙ list_any-from_Contains rows_equal row rows (All-contains_itself rows k d h))
+
+retain_same : (s : RowSet) (p q : List Value → Bool)
+    → ((row : List Value) → IsTrue (set.contains s row) → p row ≡ q row) → set.retain s p ≡ set.retain s q
+retain_same s p q same = same_set rows_total exact_rows _ _ (λ row.
+    contains-retain rows_total s p row (λ x e. sym (ap p (exact_rows row x e)))
+    ∙ by row (set.contains s row) refl
+    ∙ sym (contains-retain rows_total s q row (λ x e. sym (ap q (exact_rows row x e)))))
+  where
+    by : (row : List Value) (b : Bool) → set.contains s row ≡ b
+        → (set.contains s row && p row) ≡ (set.contains s row && q row)
+    by row true e = ap (λ c. set.contains s row && c) (same row e)
+    by row false e = ap (λ b. b && p row) e ∙ sym (ap (λ b. b && q row) e)
+
+-- tests that were made ready agree with those of the statement, which want these first values
+module _ (s : RowSet) (first prepared met : List Value → Bool) (same : (row : List Value) → prepared row ≡ met row)
+    (wants : (row : List Value) → IsTrue (set.contains s row) → IsTrue (met row) → IsTrue (first row)) where
+  agree : (row : List Value) → IsTrue (set.contains s row) → (first row && prepared row) ≡ met row
+  agree row here = by (met row) refl
+    where
+      by : (b : Bool) → met row ≡ b → (first row && prepared row) ≡ met row
+      by true e = ap (λ a. a && prepared row) (wants row here e) ∙ same row
+      by false e = ap (λ a. first row && a) (same row ∙ e) ∙ none (first row) ∙ sym e
+        where
+          none : (a : Bool) → (a && false) ≡ false
+          none true = refl
+          none false = refl
+
+  narrowed : (rows : List (List Value)) → AllByRecursion (λ row. IsTrue (set.contains s row)) rows
+      → filter prepared (filter first rows) ≡ filter met rows
+  narrowed [] all = refl
+  narrowed (row ∷ rows) all = by (first row) (agree row all.0) (narrowed rows all.1)
+    where
+      by : (a : Bool) → (a && prepared row) ≡ met row → filter prepared (filter first rows) ≡ filter met rows
+          → filter prepared (cond a (row ∷ filter first rows) (filter first rows))
+          ≡ cond (met row) (row ∷ filter met rows) (filter met rows)
+      by true e h = λ i. cond (e i) (row ∷ h i) (h i)
+      by false e h = h ∙ ap (λ b. cond b (row ∷ filter met rows) (filter met rows)) e
+
+  pub rows_met : filter prepared (filter first (set.ascending s)) ≡ filter met (set.ascending s)
+  rows_met = narrowed (set.ascending s) (in_order s)
+
+  retained : set.retain s (λ row. first row && prepared row) ≡ set.retain s met
+  retained = retain_same s _ _ agree
+
+  left : set.retain s (λ row. not (first row && prepared row)) ≡ set.retain s (λ row. not (met row))
+  left = retain_same s _ _ (λ row here. ap not (agree row here))
+
+  pub deletion_met : deletion s (λ row. first row && prepared row) ≡ deletion s met
+  deletion_met = λ i. (set.len (retained i), left i)
+
+  pub replacement_met : {E : Type 0} (image : List Value → Result (List Value) E)
+      → replacement s (λ row. first row && prepared row) image ≡ replacement s met image
+  replacement_met image =
+      λ i. images_of image (set.ascending (retained i))
+      >>= λ images. Ok (set.len (retained i), set.insert_all (left i) images)

@@ -1,0 +1,12 @@
+pub mod Steps
+pub mod Rows
+pub mod Opened
+pub mod Known
+pub mod Columns
+pub mod Found
+pub mod Fitted
+pub mod Kept
+pub mod Noted
+pub mod Binding
+pub mod Leaving
+pub mod Grounded

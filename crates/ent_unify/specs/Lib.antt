@@ -1,0 +1,4 @@
+pub mod Side
+pub mod Equation
+pub mod Tuple
+pub mod Unifier

@@ -1,0 +1,38 @@
+//! Whether two atoms unify.
+ghost use Rattle.std.specs.Prelude.{◌≡◌, ◌↔◌, IsTrue};
+ghost use Rattle.ent_coordination.specs.Pool.{Unify};
+
+use crate::tuple::Tuple;
+use ent_closed::Atom;
+use ent_value::{Kind, Value};
+
+pub(crate) fn has_relation_of(atom: &Atom<Value>, other: &Atom<Value>) -> bool
+    ensures { IsTrue result ↔ (atom.now.relation ≡ other.now.relation) }
+{
+    atom.relation == other.relation
+}
+
+/// Whether some values of their variables make two atoms equal. Each atom comes with the kinds of its statement's
+/// variables; the variables of the two are different ones. It takes no memory.
+pub fn unifies(atom: &Atom<Value>, kinds: &[Kind], other: &Atom<Value>, others: &[Kind]) -> bool
+    ensures { IsTrue result ↔ Unify kinds.now atom.now others.now other.now }
+{
+    if !has_relation_of(atom, other) {
+        return false;
+    }
+    if atom.terms.len() != other.terms.len() {
+        return false;
+    }
+    let left = Tuple {
+        member: 0,
+        kinds,
+        terms: atom.terms.as_slice(),
+    };
+    let right = Tuple {
+        member: 1,
+        kinds: others,
+        terms: other.terms.as_slice(),
+    };
+    let none = Value::Int(0);
+    left.unifies(right, &none)
+}
