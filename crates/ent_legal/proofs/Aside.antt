@@ -151,8 +151,8 @@ module _ {F : Type 0} (forms : Forms F) (s : State) (kept : Kept forms s) where
   picks asked component =
       let present = present_all s asked component in
       let right : AllByRecursion
-      (AskingRight s.active s.tables (tables_of (seen_now s.tables (joint_uses asked)))) asked =
-      to_all (AskingRight s.active s.tables (tables_of (seen_now s.tables (joint_uses asked)))) asked (λ a at m mt tx.
+      (AskingRight s.active s.tables (tables_of (seen_now s.opening.tables s.tables (joint_uses asked)))) asked =
+      to_all (AskingRight s.active s.tables (tables_of (seen_now s.opening.tables s.tables (joint_uses asked)))) asked (λ a at m mt tx.
       let p = of_all (IsPresent s) asked a present at in
       let same = one_member forms s kept p.member m p.at mt (sym p.tx ∙ sym tx) in (
         level a.place m.place (p.place ∙ ap (λ (x : Member). x.place) same),
@@ -161,7 +161,7 @@ module _ {F : Type 0} (forms : Forms F) (s : State) (kept : Kept forms s) where
           holds = subst (λ x. HoldsUses x (entangled_uses a.statement)) same
               (of_all (PostedHolds s.submitted) s.active p.member kept.posted p.at p.posted a.statement p.next);
           alike = λ table used.
-              seen_same s.tables (joint_uses asked) table
+              seen_same s.opening.tables s.tables (joint_uses asked) table
               (used_got (flat_map (λ (asking : Asking). entangled_uses asking.statement) asked) [] table
               (used_flat asked a table at used));
         },
