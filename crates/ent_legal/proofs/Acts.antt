@@ -156,7 +156,8 @@ module _ (declared : List Create) (laws : Laws) (base : Database) (ps us : List 
     (makes : Makes declared x next tables new table removed added) where
   same_apart : (z : History) → AreApart z x → AreApart z next
   same_apart z apart =
-      subst (λ (held_uses : List Use). (number : ℕ) → (is_owned z.member.uses number ≡ true → is_used held_uses number ≡ false)
+      subst (λ (held_uses : List Use). (number : ℕ)
+      → (is_owned z.member.uses number ≡ true → is_used held_uses number ≡ false)
       × (is_owned held_uses number ≡ true → is_used z.member.uses number ≡ false)) (sym makes.uses) apart
 
   same_fit : (z : History) → Fit z x → Fit z next

@@ -5,7 +5,8 @@ use Rattle.std.proofs.Common.{All, Contains, slice_index_or, flat_map}
 use Rattle.std.specs.List.{AllByRecursion}
 use Rattle.ent_semantics.specs.Serial.{numbered}
 use Rattle.ent_protocol.specs.Job.{Job, Work, One, Joint, Asking, posted_of, tables_of}
-use Rattle.ent_protocol.specs.Member.{Next, Ordinary, Asks, Commits, RollsBack, next_in, next_of, askings, asking_of, pool}
+use Rattle.ent_protocol.specs.Member.{Next, Ordinary, Asks, Commits, RollsBack, next_in, next_of, askings}
+use Rattle.ent_protocol.specs.Member.{asking_of, pool}
 use Rattle.ent_protocol.specs.Member.{seen_now}
 use Rattle.ent_protocol.specs.PoolEvents.{IsPresentComponent, joint_job, joint_uses}
 use Rattle.ent_protocol.specs.Run.{Forms}
@@ -149,8 +150,9 @@ module _ {F : Type 0} (forms : Forms F) (s : State) (kept : Kept forms s) where
       → Kept forms (record s { lent = s.lent ++ joint_job s asked ∷ [] })
   picks asked component =
       let present = present_all s asked component in
-      let right : AllByRecursion (AskingRight s.active s.tables (tables_of (seen_now s.tables (joint_uses asked)))) asked =
-      to_all (AskingRight s.active s.tables (tables_of (seen_now s.tables (joint_uses asked)))) asked (λ a at m mt tx.
+      let right : AllByRecursion
+      (AskingRight s.active s.tables (tables_of (seen_now s.opening.tables s.tables (joint_uses asked)))) asked =
+      to_all (AskingRight s.active s.tables (tables_of (seen_now s.opening.tables s.tables (joint_uses asked)))) asked (λ a at m mt tx.
       let p = of_all (IsPresent s) asked a present at in
       let same = one_member forms s kept p.member m p.at mt (sym p.tx ∙ sym tx) in (
         level a.place m.place (p.place ∙ ap (λ (x : Member). x.place) same),
@@ -159,7 +161,7 @@ module _ {F : Type 0} (forms : Forms F) (s : State) (kept : Kept forms s) where
           holds = subst (λ x. HoldsUses x (entangled_uses a.statement)) same
               (of_all (PostedHolds s.submitted) s.active p.member kept.posted p.at p.posted a.statement p.next);
           alike = λ table used.
-              seen_same s.tables (joint_uses asked) table
+              seen_same s.opening.tables s.tables (joint_uses asked) table
               (used_got (flat_map (λ (asking : Asking). entangled_uses asking.statement) asked) [] table
               (used_flat asked a table at used));
         },
@@ -179,7 +181,8 @@ module _ {F : Type 0} (forms : Forms F) (s : State) (kept : Kept forms s) where
         resolved = kept.resolved;
         faithful = kept.faithful;
         posted = kept.posted;
-        jobs = all_joined (JobRight s.submitted s.active s.tables) s.lent (joint_job s asked ∷ []) kept.jobs (right, tt);
+        jobs = all_joined (JobRight s.submitted s.active s.tables) s.lent (joint_job s asked ∷ []) kept.jobs
+            (right, tt);
         jobs_apart = pairs_joined OtherJob s.lent (joint_job s asked ∷ []) kept.jobs_apart (tt, tt)
             (λ job other jt ot. elim ot [
               | inl same ↦ subst (OtherJob job) (sym same) (any_other job.work)

@@ -115,11 +115,6 @@ module _ (declared : List Create) (all : List Submitted) where
       ≡ sights declared history.member.tx 1 history.deeds first nothing_bound
   turn_sights history whole first = rw (turn_deeds history whole) refl
 
-  -- what the entangled statements see
-  pub sights_of : (histories : List History) (whole : AllByRecursion (IsWhole all) histories) (first last : Database)
-      → AreSerial declared histories first last → List Sight
-  sights_of histories whole first last serial = scripts_sights declared (turns_of all histories whole) first
-
   turns_grounded : (histories : List History) (whole : AllByRecursion (IsWhole all) histories) (first last : Database)
       → AreSerial declared histories first last
       → AllByRecursion (IsGrounded declared) (scripts_sights declared (turns_of all histories whole) first)
@@ -170,9 +165,6 @@ named_same (create ∷ more) (rows ∷ tables) name =
 module _ {F : Type 0} (forms : Forms F) (s : State) (kept : Kept forms s) where
   pub committed_whole : AllByRecursion (IsWhole s.submitted) kept.committed
   committed_whole = all_first (IsWhole s.submitted) kept.committed kept.prepared kept.whole
-
-  pub book_turns : List Turn
-  book_turns = turns_of s.submitted kept.committed committed_whole
 
   database_is : kept.base ≡ (book_of s).database
   database_is = sym kept.sound.undo ∙ (λ i name. sym (named_same s.opening.tables (settled s) name) i)

@@ -126,9 +126,6 @@ module _ (creates : List Create) (x : History) (member : Member) (st : TreeState
     (valuation : Valuation) (faithful : IsFaithful creates st f)
     (holds : HoldsUses x.member (statement_uses (closed (environment_of x.member) f)))
     (uses : member.uses ≡ x.member.uses) where
-  deed : Deed
-  deed = record { statement = st; valuation = valuation }
-
   pub covers_pushed : IsCovered creates x
       → IsCovered creates (with_deed x member (record { statement = st; valuation = valuation }))
   covers_pushed covered =
@@ -272,9 +269,6 @@ module _ (creates : List Create) (laws : Laws) (x : History) (asked : Entangled 
     (pair : IsFaithfulEntangled creates entangled form)
     (closes : closed_entangled (environment_of x.member) form ≡ asked) (tables : Tables)
     (wide : AreWide creates tables) (grounds : is_form_grounding (λ value. value) tables asked values ≡ true) where
-  env : Environment
-  env = environment_of x.member
-
   form_grounds : is_form_grounding (known_worth (environment_of x.member)) tables form values ≡ true
   form_grounds =
       sym (laws.closes_grounds (environment_of x.member) tables form values)

@@ -38,7 +38,8 @@ module _ {F : Type 0} (forms : Forms F) (laws : Laws) (s : State) (kept : Kept f
     (at : In x kept.others) (member : Member) (deed : Deed) (table : List ℕ) (removed added : List (List Value))
     (tx : member.tx ≡ x.member.tx) (place : member.place ≡ suc x.member.place) (unposted : member.posted ≡ false)
     (follows : Follows s.submitted (with_deed x member deed))
-    (makes : Makes s.opening.tables x (with_deed x member deed) s.tables (with_change table removed added s.tables) table
+    (makes : Makes s.opening.tables x (with_deed x member deed) s.tables
+    (with_change table removed added s.tables) table
     removed added)
     (none : (job : Job) → In job s.lent → is_single_of x.member.tx job ≡ false) where
   abbrev rest : List History
@@ -233,7 +234,8 @@ module _ {F : Type 0} (forms : Forms F) (laws : Laws) (s : State) (kept : Kept f
       let new = with_change table removed added s.tables in
       made forms laws s kept x at member deed table removed added tx place unposted
       (follows_pushed s.submitted x member deed follows tx place
-      (ordinary_oracled s.opening.tables laws x member n.0.statement n.0.form c n.0.faithful n.0.closes n.1 holds uses tx
+      (ordinary_oracled s.opening.tables laws x member n.0.statement n.0.form c n.0.faithful n.0.closes n.1 holds uses
+      tx
       group s.tables new answer told kept.sound.wide meaning) n.0.at)
       (ordinary_makes s.opening.tables laws x member n.0.statement n.0.form c n.0.faithful n.0.closes n.1 holds uses tx
       group s.tables new answer told kept.sound.wide meaning table removed added refl owns) none

@@ -177,7 +177,8 @@ module _ {F : Type 0} (forms : Forms F) (laws : Laws) (s : State) (kept : Kept f
       }
 
   -- the member of a statement of the answer
-  present_of : (m : Member) (a : Asking) → In m s.active → In a asked → m.tx ≡ a.tx → (p : IsPresent s a) × (p.member ≡ m)
+  present_of : (m : Member) (a : Asking) → In m s.active → In a asked → m.tx ≡ a.tx
+      → (p : IsPresent s a) × (p.member ≡ m)
   present_of m a mt at same =
       let p = of_all (IsPresent s) asked a present at in
       (p, one_member forms s kept p.member m p.at mt (sym p.tx ∙ sym same))

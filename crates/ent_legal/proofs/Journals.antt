@@ -85,7 +85,8 @@ to_commits : (tx number runs : ℕ) (fs : List Fated)
 to_commits tx number runs [] at = absurd at
 to_commits tx number runs (f ∷ fs) (inl same) =
     subst (λ (g : Fated). In (number, tx) (with_commit g.tx g.fate (commits_in fs))) same (inl refl)
-to_commits tx number runs (f ∷ fs) (inr at) = skip_commit (number, tx) f (commits_in fs) (to_commits tx number runs fs at)
+to_commits tx number runs (f ∷ fs) (inr at) =
+    skip_commit (number, tx) f (commits_in fs) (to_commits tx number runs fs at)
 
 from_entries : (tx number first : ℕ) (es : List Entry) → In (number, tx) (entry_numbers first es)
     → (k : ℕ) × (e : Entry) × (slice_get es k ≡ Some e) × (e.tx ≡ tx) × (number ≡ first + k)

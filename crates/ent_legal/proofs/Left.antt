@@ -10,7 +10,8 @@ use Rattle.ent_semantics.specs.declared.book.Fated.{Fated}
 use Rattle.ent_protocol.specs.Commit.{committing, committing_members, commit_fates, entry_of}
 use Rattle.ent_protocol.specs.Job.{Job, Work, One, Joint}
 use Rattle.ent_protocol.specs.Member.{is_of, is_tx, is_single_of}
-use Rattle.ent_protocol.specs.Rollback.{Cause, fated_as, fated_by, is_among, goes_with, dormant_by, fate_of, taken_out, put_back}
+use Rattle.ent_protocol.specs.Rollback.{Cause, fated_as, fated_by, is_among, goes_with, dormant_by, fate_of}
+use Rattle.ent_protocol.specs.Rollback.{taken_out, put_back}
 use Rattle.ent_protocol.specs.Run.{Forms}
 use Rattle.ent_protocol.specs.State.{State, Submitted, Member, Dormant, members, by_number}
 use Rattle.ent_legal.specs.History.{History}
@@ -18,7 +19,8 @@ use Rattle.ent_legal.specs.SerialState.{Follows, IsWhole}
 use Rattle.ent_legal.proofs.Lists.{In, Pairs, Same, of_all, to_all, all_joined, all_first, all_second, all_filtered}
 use Rattle.ent_legal.proofs.Lists.{of_filter, to_filter, in_either, in_first, any_some, any_in, any_none, of_map}
 use Rattle.ent_legal.proofs.Lists.{pairs_at, pairs_joined, pairs_filtered, pairs_across, clash, turned}
-use Rattle.ent_legal.proofs.Lists.{pairs_map, pairs_by, pairs_first, not_so, map_joined, map_filtered, same_filtered, filter_same}
+use Rattle.ent_legal.proofs.Lists.{pairs_map, pairs_by, pairs_first, not_so, map_joined, map_filtered}
+use Rattle.ent_legal.proofs.Lists.{same_filtered, filter_same}
 use Rattle.ent_legal.proofs.Frame.{Laws, Apart, serial_joined}
 use Rattle.ent_legal.proofs.Undo.{same_number, number_itself, differ}
 use Rattle.ent_legal.proofs.Sound.{Fit, fit_turned, leaves, stays, HaveLeft, sound_committed}
@@ -27,7 +29,8 @@ use Rattle.ent_legal.specs.Faithful.{is_used}
 use Rattle.ent_legal.proofs.Outcomes.{SameAt}
 use Rattle.ent_legal.proofs.Locks.{by_number_same, by_number_pairs}
 use Rattle.ent_legal.proofs.Jobs.{OtherJob, jobs_moved, stays_as_is}
-use Rattle.ent_legal.proofs.Kept.{Kept, PostedHolds, OtherMember, OtherFated, OtherDormant, member_of, entry_from, map_map, history_of, active_at}
+use Rattle.ent_legal.proofs.Kept.{Kept, PostedHolds, OtherMember, OtherFated, OtherDormant, member_of, entry_from}
+use Rattle.ent_legal.proofs.Kept.{map_map, history_of, active_at}
 use Rattle.ent_legal.proofs.Kept.{prepared_at, one_history, in_all}
 
 -- ---- members that go to the dormant list
@@ -390,9 +393,6 @@ module _ {F : Type 0} (forms : Forms F) (laws : Laws) (s : State) (kept : Kept f
         (is_among gone) parted x.0 (in_all forms s kept x.0 x.1)
         (ap (λ (y : Member). is_among gone y.tx) (sym x.2) ∙ is) table
         (subst (λ (y : Member). is_used y.uses table ≡ true) x.2 used))
-
-    gone_dormant : List Dormant
-    gone_dormant = filter_map (dormant_by s.submitted cause) (by_number (λ (m : Member). m.tx) gone)
 
     from_gone : (d : Dormant) → In d (filter_map (dormant_by s.submitted cause) (by_number (λ (m : Member). m.tx) gone))
         → (m : Member) × In m gone × (d.tx ≡ m.tx)

@@ -20,3 +20,4 @@ pub mod Reached
 pub mod SerialStates
 pub mod Books
 pub mod Journals
+pub mod Present

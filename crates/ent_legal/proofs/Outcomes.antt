@@ -1,12 +1,14 @@
 -- An outcome over the tables that a job saw is one over the present tables, where the two are alike.
 use Rattle.std.proofs.Common.{◌≡◌, ◌<◌, ℕ, zero, suc, ◌==◌, Bool, true, false, cond, ◌||◌, ◌&&◌, List, [], ◌∷◌, ◌++◌}
-use Rattle.std.proofs.Common.{map, length, refl, sym, ap, subst, ◌∙◌, inl, inr, arith, Option, Some, None, Result, Ok, Err}
+use Rattle.std.proofs.Common.{map, length, refl, sym, ap, subst, ◌∙◌, inl, inr, arith, Option, Some, None, Result}
+use Rattle.std.proofs.Common.{Ok, Err}
 use Rattle.std.proofs.Common.{slice_set, flat_map, nat_le}
 use Rattle.std.specs.List.{list_all}
 use Rattle.std.proofs.lemmas.List.{get_or-set_same}
 use Rattle.ent_set.specs.Sets as set
 use Rattle.ent_value.specs.declared.limits.TheConstants.{MOST_ROWS}
 use Rattle.ent_value.specs.declared.value.Value.{Value}
+use Rattle.ent_tree.specs.declared.declaration.Create.{Create}
 use Rattle.ent_semantics.specs.declared.answer.Answer.TheVariants as answers
 use Rattle.ent_semantics.specs.declared.answer.Failure.{Failure}
 use Rattle.ent_semantics.specs.declared.answer.Failure.TheVariants.{TableFull}
@@ -73,39 +75,39 @@ SameAt uses one other = (table : ℕ) → is_used uses table ≡ true → at_num
 abbrev pub HasRoom : List Use → Tables → Type 0
 HasRoom uses tables = (table : ℕ) → is_used uses table ≡ true → table < length tables
 
-pub seen_same : (tables : Tables) (uses : List Use) → SameAt uses (tables_of (seen_now tables uses)) tables
-seen_same tables [] table used = cc
-seen_same tables (own ∷ uses) table used = by (own.table == table) refl used (seen_same tables uses table)
+pub seen_same : (declared : List Create) (tables : Tables) (uses : List Use) → SameAt uses (tables_of (seen_now declared tables uses)) tables
+seen_same declared tables [] table used = cc
+seen_same declared tables (own ∷ uses) table used = by (own.table == table) refl used (seen_same declared tables uses table)
   where
     rest : Tables
-    rest = tables_of (seen_now tables uses)
+    rest = tables_of (seen_now declared tables uses)
 
     by : (b : Bool) → (own.table == table) ≡ b → (b || is_used uses table) ≡ true
         → (is_used uses table ≡ true
-        → at_number (tables_of (seen_now tables uses)) table ≡ at_number tables table)
-        → at_number (laid own.table (at_number tables own.table) (tables_of (seen_now tables uses))) table
+        → at_number (tables_of (seen_now declared tables uses)) table ≡ at_number tables table)
+        → at_number (laid own.table (at_number tables own.table) (tables_of (seen_now declared tables uses))) table
         ≡ at_number tables table
     by true is h more =
         let same = same_number own.table table is in
-        ap (λ n. at_number (laid n (at_number tables n) (tables_of (seen_now tables uses))) table) same
-        ∙ laid_here table (at_number tables table) (tables_of (seen_now tables uses))
+        ap (λ n. at_number (laid n (at_number tables n) (tables_of (seen_now declared tables uses))) table) same
+        ∙ laid_here table (at_number tables table) (tables_of (seen_now declared tables uses))
     by false is h more =
-        laid_elsewhere own.table table (at_number tables own.table) (tables_of (seen_now tables uses))
+        laid_elsewhere own.table table (at_number tables own.table) (tables_of (seen_now declared tables uses))
         (differ own.table table is) ∙ more h
 
-pub seen_room : (tables : Tables) (uses : List Use) → HasRoom uses (tables_of (seen_now tables uses))
-seen_room tables [] table used = cc
-seen_room tables (own ∷ uses) table used = by (own.table == table) refl used (seen_room tables uses table)
+pub seen_room : (declared : List Create) (tables : Tables) (uses : List Use) → HasRoom uses (tables_of (seen_now declared tables uses))
+seen_room declared tables [] table used = cc
+seen_room declared tables (own ∷ uses) table used = by (own.table == table) refl used (seen_room declared tables uses table)
   where
     by : (b : Bool) → (own.table == table) ≡ b → (b || is_used uses table) ≡ true
-        → (is_used uses table ≡ true → table < length (tables_of (seen_now tables uses)))
-        → table < length (laid own.table (at_number tables own.table) (tables_of (seen_now tables uses)))
+        → (is_used uses table ≡ true → table < length (tables_of (seen_now declared tables uses)))
+        → table < length (laid own.table (at_number tables own.table) (tables_of (seen_now declared tables uses)))
     by true is h more =
-        subst (λ n. table < length (laid n (at_number tables own.table) (tables_of (seen_now tables uses))))
+        subst (λ n. table < length (laid n (at_number tables own.table) (tables_of (seen_now declared tables uses))))
         (sym (same_number own.table table is))
-        (laid_room table (at_number tables own.table) (tables_of (seen_now tables uses)))
+        (laid_room table (at_number tables own.table) (tables_of (seen_now declared tables uses)))
     by false is h more =
-        laid_longer own.table table (at_number tables own.table) (tables_of (seen_now tables uses)) (more h)
+        laid_longer own.table table (at_number tables own.table) (tables_of (seen_now declared tables uses)) (more h)
 
 -- ---- outcomes
 

@@ -18,7 +18,7 @@ use Rattle.ent_protocol.specs.Event.{Event, Reply}
 use Rattle.ent_protocol.specs.Event as events
 use Rattle.ent_protocol.specs.Finish.{FinishesBy, Finishes, FinishesSingle, IsTaken, finished}
 use Rattle.ent_protocol.specs.Job.{Job, Work, One, Joint, Asking, Done, Single, Outcome, Shown, Changed, Bound, Choice}
-use Rattle.ent_protocol.specs.Job.{Fault, IsEvaluated, IsOutcome, IsEffect, tables_of, posted_of}
+use Rattle.ent_protocol.specs.Job.{Fault, IsOutcome, IsEffect, tables_of, posted_of}
 use Rattle.ent_protocol.specs.Member.{Next, Ordinary, Asks, Commits, RollsBack, active_member, next_of, is_lent}
 use Rattle.ent_protocol.specs.Member.{is_of, is_tx, is_single_of, environment_of}
 use Rattle.ent_protocol.specs.PoolEvents.{Picks, AnswersBy, Joins, JoinsOrIsStale, IsPresentComponent}
@@ -87,7 +87,8 @@ taken_other job jobs left t pairs single is other at =
           (of_all (OtherJob job) t.behind other (pairs_second OtherJob t.before (job ∷ t.behind) all).0 b))
     ]
   where
-    by : (w : Work) → OtherWork w (One single) → is_single_of single.tx (record { work = w; tables = other.tables }) ≡ false
+    by : (w : Work) → OtherWork w (One single)
+        → is_single_of single.tx (record { work = w; tables = other.tables }) ≡ false
     by (One one) h = not_so (one.tx == single.tx) (λ e. h (same_number one.tx single.tx e))
     by (Joint asked) h = refl
 
@@ -131,7 +132,8 @@ module _ {F : Type 0} (forms : Forms F) (laws : Laws) where
       → is_ready prepared group ≡ ready → BeginsCommit prepared group ready reply new → Kept forms prepared
       → (prepared.running ≡ false → ⊥) → Kept forms new
   commit prepared group true reply new is step kept on =
-      as_is _ new step.1 (commits forms laws prepared kept group (unready (list_any (is_of group) prepared.active) is) on)
+      as_is _ new step.1
+      (commits forms laws prepared kept group (unready (list_any (is_of group) prepared.active) is) on)
     where
       unready : (b : Bool) → not b ≡ true → b ≡ false
       unready true e = sym e
@@ -183,9 +185,9 @@ module _ {F : Type 0} (forms : Forms F) (laws : Laws) where
   by_outcome s m c (Choice groundings) reply new step kept after = absurd step
 
   single : (s : State) (done : Done) (of_job : Single) (reply : Reply F) (new : State) → done.job.work ≡ One of_job
-      → IsEvaluated done → FinishesSingle s done of_job reply new → Kept forms s → AreFaithful forms s.opening
+      → FinishesSingle s done of_job reply new → Kept forms s → AreFaithful forms s.opening
       → Kept forms new
-  single s done of_job reply new is evaluated step kept faithful =
+  single s done of_job reply new is step kept faithful =
       let f = found s of_job.tx step.member step.is_member in
       let fewer = taken_fewer done.job s.lent step.left step.taken in
       let left = with_jobs forms s kept step.left s.tried fewer
@@ -199,7 +201,7 @@ module _ {F : Type 0} (forms : Forms F) (laws : Laws) where
       one_member forms s kept right.member step.member right.at f.0 (right.tx ∙ sym f.1) ∙ x.2 in
       let effect : IsEffect of_job.statement (tables_of done.job.tables)
       (form_meaning closed_worth of_job.statement [] (tables_of done.job.tables) nothing_bound) done.outcome =
-      subst (λ w. IsOutcome w (tables_of done.job.tables) done.outcome) is evaluated in
+      subst (λ w. IsOutcome w (tables_of done.job.tables) done.outcome) is step.meant in
       let after : Kept forms (finished (record s { lent = step.left }) x.0.member of_job.statement done.outcome) =
       finishes_by forms laws (record s { lent = step.left }) left faithful x.0 x.1 of_job.statement
       (ap (next_of s) (sym same) ∙ right.next)
@@ -213,11 +215,10 @@ module _ {F : Type 0} (forms : Forms F) (laws : Laws) where
       (subst (λ (y : Member). Kept forms (finished (record s { lent = step.left }) y of_job.statement done.outcome))
       (sym x.2) after)
 
-  finish : (s : State) (done : Done) (reply : Reply F) (new : State) → IsEvaluated done → Finishes s done reply new
+  finish : (s : State) (done : Done) (reply : Reply F) (new : State) → Finishes s done reply new
       → Kept forms s → AreFaithful forms s.opening → Kept forms new
-  finish s done reply new evaluated (inl step) kept faithful =
-      single s done step.0 reply new step.1 evaluated step.2 kept faithful
-  finish s done reply new evaluated (inr step) kept faithful = as_is s new step.1.1 kept
+  finish s done reply new (inl step) kept faithful = single s done step.0 reply new step.1 step.2 kept faithful
+  finish s done reply new (inr step) kept faithful = as_is s new step.1.1 kept
 
   -- ---- joint answers
 
@@ -236,9 +237,9 @@ module _ {F : Type 0} (forms : Forms F) (laws : Laws) where
   answers_by s asked None seen left reply new step good kept faithful component right fewer apart =
       as_is _ new step.1 (with_jobs forms s kept left (asked ∷ s.tried) fewer apart)
 
-  answered : (s : State) (done : Done) (reply : Reply F) (new : State) → IsEvaluated done → Joins s done reply new
+  answered : (s : State) (done : Done) (reply : Reply F) (new : State) → Joins s done reply new
       → Kept forms s → AreFaithful forms s.opening → Kept forms new
-  answered s done reply new evaluated step kept faithful =
+  answered s done reply new step kept faithful =
       let out = step.outstanding in
       let seen = tables_of done.job.tables in
       let right : AllByRecursion (AskingRight s.active s.tables (tables_of done.job.tables)) out.asked =
@@ -247,17 +248,17 @@ module _ {F : Type 0} (forms : Forms F) (laws : Laws) where
       (taken_in done.job s.lent out.left out.taken)) in
       let chosen : IsOutcome (Joint out.asked) (tables_of done.job.tables) (Choice step.groundings) =
       subst (λ w. IsOutcome w (tables_of done.job.tables) (Choice step.groundings)) out.is_joint
-      (subst (IsOutcome done.job.work (tables_of done.job.tables)) step.choice evaluated) in
+      (subst (IsOutcome done.job.work (tables_of done.job.tables)) step.choice step.meant) in
       answers_by s out.asked step.groundings (tables_of done.job.tables) out.left reply new step.answers
       (λ values is. (subst (λ g. IsLeastChoiceIfAny (tables_of done.job.tables) (map posted_of out.asked) g) is
       chosen).choice.grounded)
       kept faithful out.component right (taken_fewer done.job s.lent out.left out.taken)
       (taken_apart done.job s.lent out.left out.taken kept.jobs_apart)
 
-  join : (s : State) (done : Done) (reply : Reply F) (new : State) → IsEvaluated done → JoinsOrIsStale s done reply new
+  join : (s : State) (done : Done) (reply : Reply F) (new : State) → JoinsOrIsStale s done reply new
       → Kept forms s → AreFaithful forms s.opening → Kept forms new
-  join s done reply new evaluated (inl step) kept faithful = answered s done reply new evaluated step kept faithful
-  join s done reply new evaluated (inr step) kept faithful = as_is s new step.1.1 kept
+  join s done reply new (inl step) kept faithful = answered s done reply new step kept faithful
+  join s done reply new (inr step) kept faithful = as_is s new step.1.1 kept
 
   -- ---- the other events
 
@@ -300,10 +301,10 @@ module _ {F : Type 0} (forms : Forms F) (laws : Laws) where
   stepped_on s (events.Begin tx) reply new step kept faithful =
       begins s tx (active_member s tx) reply new refl step kept faithful
   stepped_on s (events.Finish done) reply new step kept faithful =
-      finish s done reply new step.0 step.1 kept faithful
+      finish s done reply new step kept faithful
   stepped_on s events.Pick reply new step kept faithful = pick s reply new step kept
   stepped_on s (events.JoinAnswer done) reply new step kept faithful =
-      join s done reply new step.0 step.1 kept faithful
+      join s done reply new step kept faithful
   stepped_on s events.BreakCycle reply new step kept faithful = break s reply new step kept
   stepped_on s events.EndRun reply new step kept faithful = end_run s s.running reply new step kept
   stepped_on s events.Recall reply new step kept faithful =

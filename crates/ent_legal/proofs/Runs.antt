@@ -31,7 +31,8 @@ use Rattle.ent_legal.proofs.Sound.{Fit, AreApart, Sound, IsOwner}
 use Rattle.ent_legal.proofs.Undo.{same_number, number_itself}
 use Rattle.ent_legal.proofs.Locks.{by_number_same, by_number_pairs}
 use Rattle.ent_legal.proofs.Jobs.{JobRight, WorkRight}
-use Rattle.ent_legal.proofs.Kept.{Kept, PostedHolds, OtherDormant, OtherMember, member_of, history_of, map_map, active_at}
+use Rattle.ent_legal.proofs.Kept.{Kept, PostedHolds, OtherDormant, OtherMember, member_of, history_of, map_map}
+use Rattle.ent_legal.proofs.Kept.{active_at}
 use Rattle.ent_legal.proofs.Kept.{numbered_low, numbered_more, prepared_at, one_history}
 use Rattle.ent_legal.proofs.Left.{takes_out, among_in, in_among, fit_at}
 
@@ -351,7 +352,8 @@ module _ {F : Type 0} (forms : Forms F) (laws : Laws) (s : State) (kept : Kept f
         of_filter (is_of group) (members s) m
         ((by_number_same (λ (x : Member). x.tx) (filter (is_of group) (members s)) m).0 at)
 
-    gone_group : (x : History) → In x (kept.prepared ++ kept.others) → is_among (group_members s group) x.member.tx ≡ true
+    gone_group : (x : History) → In x (kept.prepared ++ kept.others)
+        → is_among (group_members s group) x.member.tx ≡ true
         → x.member.group ≡ group
     gone_group x at is =
         let r = among_in forms laws s kept (group_members s group) x.member.tx is in

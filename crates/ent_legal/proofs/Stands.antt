@@ -135,8 +135,8 @@ module _ {F : Type 0} (forms : Forms F) (laws : Laws) (s : State) (kept : Kept f
           unposted = unposted;
           next = next_same (numbered s.submitted x.member.tx) new x.member refl refl ∙ next;
           holds = holds_asked x.member (statement_uses c);
-          alike = seen_same s.tables (statement_uses c);
-          room = seen_room s.tables (statement_uses c);
+          alike = seen_same s.opening.tables s.tables (statement_uses c);
+          room = seen_room s.opening.tables s.tables (statement_uses c);
         } in
         kept_begun forms laws s kept x at (statement_uses c) x.member.posted free low unposted idle
         (λ is. clash x.member.posted is unposted) (s.lent ++ single_job s x.member c ∷ [])

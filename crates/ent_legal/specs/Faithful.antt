@@ -38,7 +38,8 @@ abbrev pub is_owned : List Use → ℕ → Bool
 is_owned uses table = list_any (λ own. (own.table == table) && (mode_rank own.mode == 1)) uses
 
 -- an entangled statement and its form have the same groundings, heads and posts
-pub record IsFaithfulEntangled (creates : List Create) (entangled : TreeEntangled) (form : Entangled Known) : Type 0 where
+pub record IsFaithfulEntangled (creates : List Create) (entangled : TreeEntangled) (form : Entangled Known)
+    : Type 0 where
   pub variables : length form.variables ≡ length (written_variables entangled)
   pub grounds : (tables : Tables) (environment : Environment) (valuation : Valuation) → AreWide creates tables
       → is_grounding creates (database_of creates tables) environment entangled valuation

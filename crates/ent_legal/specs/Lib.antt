@@ -1,3 +1,4 @@
 pub mod Faithful
 pub mod History
 pub mod SerialState
+pub mod Present

@@ -7,6 +7,7 @@ ghost use Rattle.ent_semantics.specs.Book.{JournalIsRight, RunGivesBook, book_si
 ghost use Rattle.ent_semantics.specs.Joint.{IsGrounded};
 ghost use Rattle.ent_semantics.specs.Serial.{Sight, Turn};
 ghost use Rattle.ent_legal.specs.Faithful.{AreFaithful};
+ghost use Rattle.ent_legal.specs.Present.{LentIsPresent, UsesAreApart};
 ghost use Rattle.ent_legal.specs.SerialState.{IsSerialState};
 
 use ent_closed::closing_keeps_the_meaning;
@@ -56,4 +57,22 @@ pub fn journals_fit_the_fates<F>()
     runs_go_on();
     closing_keeps_the_meaning();
     commits_are_numbered::<F>();
+}
+
+/// In every state that is reached members of two groups hold no conflicting uses, and neither do two members that
+/// aren't prepared. A lent job of one statement is its member's next one, and the tables that a job uses are the
+/// present ones: of one statement always, of a joint one where its members are exactly a component.
+pub fn lent_jobs_are_present<F>()
+    ensures apart { (forms : Forms F) (s : State)
+        → AreFaithful forms s.opening
+        → IsReached forms s
+        → UsesAreApart s }
+    ensures present { (forms : Forms F) (s : State)
+        → AreFaithful forms s.opening
+        → IsReached forms s
+        → LentIsPresent s }
+{
+    statements_keep_to_their_uses();
+    runs_go_on();
+    closing_keeps_the_meaning();
 }

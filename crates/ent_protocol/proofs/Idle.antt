@@ -124,9 +124,9 @@ module _ {F : Type 0} where
   idle_kept forms s (events.Submit script) reply new h idle = submits _ forms s script reply new h idle
   idle_kept forms s events.StartRun reply new h idle = starts s _ _ reply new h idle
   idle_kept forms s (events.Begin tx) reply new h idle = begins s tx _ reply new h idle
-  idle_kept forms s (events.Finish done) reply new h idle = finish s done reply new h.1 idle
+  idle_kept forms s (events.Finish done) reply new h idle = finish s done reply new h idle
   idle_kept forms s events.Pick reply new h idle = picks s reply new h idle
-  idle_kept forms s (events.JoinAnswer done) reply new h idle = joins s done reply new h.1 idle
+  idle_kept forms s (events.JoinAnswer done) reply new h idle = joins s done reply new h idle
   idle_kept forms s events.BreakCycle reply new h idle = breaks s reply new h idle
   idle_kept forms s events.EndRun reply new h idle = ends s _ reply new h idle
   idle_kept forms s events.Recall reply new h idle = not_idle reply _ h.0 refl idle

@@ -3,10 +3,13 @@ pub mod Among
 pub mod Tidied
 pub mod TidySteps
 pub mod Led
+pub mod Closing
 pub mod Numbering
 pub mod Inserted
 pub mod Ring
 pub mod WritersPlay
 pub mod PartnersPool
 pub mod PartnersChoice
+pub mod PairAnswered
 pub mod PartnersPlay
+pub mod PairsPlay

@@ -238,9 +238,9 @@ module _ {F : Type 0} where
   numbered forms s (events.Submit script) reply new step h = submits _ forms s script reply new step h
   numbered forms s events.StartRun reply new step h = starts s s.running s.dormant reply new step h
   numbered forms s (events.Begin tx) reply new step h = begins s tx (active_member s tx) reply new step h
-  numbered forms s (events.Finish done) reply new step h = finish s done reply new step.1 h
+  numbered forms s (events.Finish done) reply new step h = finish s done reply new step h
   numbered forms s events.Pick reply new step h = picks s reply new step h
-  numbered forms s (events.JoinAnswer done) reply new step h = join s done reply new step.1 h
+  numbered forms s (events.JoinAnswer done) reply new step h = join s done reply new step h
   numbered forms s events.BreakCycle reply new step h = breaks s reply new step h
   numbered forms s events.EndRun reply new step h = ends s _ reply new step h
   numbered forms s events.Recall reply new step h = as_it_is _ new step.1 h

@@ -26,7 +26,7 @@ use Rattle.ent_protocol.specs.Partners.{partners_opening, Mickey, Minnie, LA, fl
 use Rattle.ent_protocol.proofs.PartnersPool.{friend, both, two_cases}
 
 abbrev pub seen : Tables
-seen = tables_of pair_job.tables
+seen = tables_of (pair_job 1 2).tables
 
 abbrev flight_123 : Value
 flight_123 = Int (pos 123)
@@ -70,14 +70,15 @@ grounds tx own partner x =
 abbrev pub taken : List Valuation
 taken = (flight_122 ∷ []) ∷ (flight_122 ∷ []) ∷ []
 
-met : (post : Fact) → Contains (all_posts both taken) post → Contains (all_heads both taken) post
-met post there = of (two_cases _ _ post there)
+met : (one two : ℕ) (post : Fact) → Contains (all_posts (both one two) taken) post
+    → Contains (all_heads (both one two) taken) post
+met one two post there = of (two_cases _ _ post there)
   where
     of : (post ≡ record { relation = codes "R"; values = Minnie ∷ flight_122 ∷ [] })
         ⊎ (post ≡ record { relation = codes "R"; values = Mickey ∷ flight_122 ∷ [] })
-        → Contains (all_heads both taken) post
-    of (inl e) = subst (λ fact. Contains (all_heads both taken) fact) (sym e) (1, omega arith, refl)
-    of (inr e) = subst (λ fact. Contains (all_heads both taken) fact) (sym e) (0, omega arith, refl)
+        → Contains (all_heads (both one two) taken) post
+    of (inl e) = subst (λ fact. Contains (all_heads (both one two) taken) fact) (sym e) (1, omega arith, refl)
+    of (inr e) = subst (λ fact. Contains (all_heads (both one two) taken) fact) (sym e) (0, omega arith, refl)
 
 -- ---- the least one
 
@@ -137,24 +138,25 @@ not_less x y (inr e) f h = greater (sym (ap (λ z. choice_cmp ((z ∷ []) ∷ (y
     greater : Greater ≡ Less → ⊥
     greater z = cc
 
-least : (others : List Valuation) → IsChoice seen both others → choice_cmp others taken ≡ Less → ⊥
-least [] h less = absurd h.grounded
-least (v ∷ []) h less = absurd h.grounded.1
-least (v ∷ w ∷ []) h less =
-    let x = one_value 1 Mickey Minnie v h.grounded.0.grounds in
-    let y = one_value 2 Minnie Mickey w h.grounded.1.0.grounds in
+least : (one two : ℕ) (others : List Valuation) → IsChoice seen (both one two) others
+    → choice_cmp others taken ≡ Less → ⊥
+least one two [] h less = absurd h.grounded
+least one two (v ∷ []) h less = absurd h.grounded.1
+least one two (v ∷ w ∷ []) h less =
+    let x = one_value one Mickey Minnie v h.grounded.0.grounds in
+    let y = one_value two Minnie Mickey w h.grounded.1.0.grounds in
     not_less x.0 y.0 x.2 y.2 (sym (λ i. choice_cmp (x.1 i ∷ y.1 i ∷ []) taken) ∙ less)
-least (v ∷ w ∷ u ∷ more) h less = absurd h.grounded.1.1
+least one two (v ∷ w ∷ u ∷ more) h less = absurd h.grounded.1.1
 
-pub least_taken : IsLeastChoice seen both taken
-least_taken =
+pub least_taken : (one two : ℕ) → IsLeastChoice seen (both one two) taken
+least_taken one two =
     record {
       choice = record {
         grounded = (
-          record { kinds = refl; grounds = grounds 1 Mickey Minnie flight_122 },
-          (record { kinds = refl; grounds = grounds 2 Minnie Mickey flight_122 }, tt),
+          record { kinds = refl; grounds = grounds one Mickey Minnie flight_122 },
+          (record { kinds = refl; grounds = grounds two Minnie Mickey flight_122 }, tt),
         );
-        met = met;
+        met = met one two;
       };
-      least = least;
+      least = least one two;
     }

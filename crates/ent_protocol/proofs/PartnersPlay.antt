@@ -1,7 +1,7 @@
 -- The partners and the reader, event by event.
-use Rattle.std.proofs.Common.{◌≡◌, ◌⊎◌, inl, inr, ℕ, zero, suc, ◌+◌, ◌<◌, ◌≤◌, false, cond, ◌||◌, List, [], ◌∷◌}
-use Rattle.std.proofs.Common.{refl, sym, ap, subst, ◌∙◌, arith, Some}
-use Rattle.std.specs.Prelude.{All, Contains, codes, nat_le}
+use Rattle.std.proofs.Common.{◌≡◌, inl, ℕ, ◌+◌, false, cond, ◌||◌, List, [], ◌∷◌}
+use Rattle.std.proofs.Common.{refl, sym, ap, subst, ◌∙◌, arith}
+use Rattle.std.specs.Prelude.{codes, nat_le}
 use Rattle.std.specs.Ordering.{eq_by_cmp}
 use Rattle.ent_set.specs.Laws.{contains-empty, contains-insert, len-empty, len-insert, without-nothing}
 use Rattle.ent_set.specs.Sets as set
@@ -20,32 +20,32 @@ use Rattle.ent_protocol.specs.Commit.{preparing, committing}
 use Rattle.ent_protocol.specs.Event as events
 use Rattle.ent_protocol.specs.Event.{Reply}
 use Rattle.ent_protocol.specs.Finish.{finished, stepped, IsTaken}
-use Rattle.ent_protocol.specs.Job.{Job, Changed, Asking, IsEvaluated, tables_of}
-use Rattle.ent_protocol.specs.Member.{askings}
+use Rattle.ent_protocol.specs.Job.{Job, Changed, IsEvaluated, tables_of}
 use Rattle.ent_protocol.specs.Partners.{Partners, partners_opening, committing_script, flies_form, reads_form, asks}
-use Rattle.ent_protocol.specs.Partners.{Mickey, Minnie, flight_122, asking, pair, pair_job, booking_job}
+use Rattle.ent_protocol.specs.Partners.{Mickey, Minnie, flight_122, pair, pair_job, booking_job}
 use Rattle.ent_protocol.specs.Partners.{booking_done, first_booked, partners_pass}
 use Rattle.ent_protocol.specs.Play.{Plays}
-use Rattle.ent_protocol.specs.PoolEvents.{joining, first_tx, CanBePicked, IsPresentComponent}
+use Rattle.ent_protocol.specs.PoolEvents.{joining}
 use Rattle.ent_protocol.specs.Reached.{opened}
 use Rattle.ent_protocol.specs.Run.{Forms, SubmitsForm, submitting, starting}
 use Rattle.ent_protocol.specs.State.{State, Member}
 use Rattle.ent_protocol.specs.Uses.{shared, exclusive}
 use Rattle.ent_protocol.proofs.Inserted.{new_row, another_row}
-use Rattle.ent_protocol.proofs.PartnersChoice.{taken, least_taken}
-use Rattle.ent_protocol.proofs.PartnersPool.{one_component, safe_one, safe_two, two_cases}
+use Rattle.ent_protocol.proofs.PairAnswered.{lends_pair, joins_pair}
+use Rattle.ent_protocol.proofs.PartnersChoice.{taken}
+use Rattle.ent_protocol.proofs.PartnersPool.{safe_one, safe_two}
 use Rattle.ent_protocol.proofs.WritersPlay.{fresh}
 
 -- ---- members
 
-abbrev wants : Value → Value → Entangled Value
+abbrev pub wants : Value → Value → Entangled Value
 wants own partner = closed_entangled nothing_bound (asks own partner)
 
 abbrev books : Value → Statement Value
 books own = forms.Insert 1 (own ∷ flight_122 ∷ [])
 
 -- a partner that was answered, of the first one's group
-abbrev answered : ℕ → Value → Member
+abbrev pub answered : ℕ → Value → Member
 answered tx own =
     record {
       tx = tx;
@@ -130,10 +130,10 @@ module _ {resolved : Forms ℕ} (partners : Partners resolved) where
   posted = posting one_posted (fresh 2) (wants Minnie Mickey)
 
   abbrev picked : State
-  picked = record posted { lent = pair_job ∷ [] }
+  picked = record posted { lent = pair_job 1 2 ∷ [] }
 
   abbrev joined : State
-  joined = joining posted pair taken
+  joined = joining posted (pair 1 2) taken
 
   abbrev books_in : State → ℕ → Value → State
   books_in s tx own =
@@ -148,40 +148,6 @@ module _ {resolved : Forms ℕ} (partners : Partners resolved) where
 
   abbrev pub last : State
   last = committing (preparing both_booked (booked 2 Minnie)) 1
-
-  -- ---- the pick
-
-  pair_present : All (Contains (askings posted)) pair
-  pair_present zero d h = (0, omega arith, refl)
-  pair_present (suc zero) d h = (1, omega arith, refl)
-  pair_present (suc (suc k)) d h = absurd (let r : suc (suc k) < 2 = h in omega arith)
-
-  present : IsPresentComponent posted pair
-  present = record { present = pair_present; component = one_component }
-
-  not_there : {A : Type 0} (x : A) → Contains [] x → ⊥
-  not_there x h = let r : h.0 < 0 = h.1 in omega arith
-
-  can_pick : CanBePicked posted pair
-  can_pick =
-      record {
-        component = present;
-        untried = λ h. not_there pair h;
-        not_out = λ h. not_there h.0 h.1;
-      }
-
-  at_least_1 : (asking_now : Asking) → Contains (askings posted) asking_now → 1 ≤ asking_now.tx
-  at_least_1 a h = of (two_cases (asking 1 Mickey Minnie) (asking 2 Minnie Mickey) a h)
-    where
-      of : (a ≡ asking 1 Mickey Minnie) ⊎ (a ≡ asking 2 Minnie Mickey) → 1 ≤ a.tx
-      of (inl e) = let r : a.tx ≡ 1 = ap (λ (x : Asking). x.tx) e in omega arith
-      of (inr e) = let r : a.tx ≡ 2 = ap (λ (x : Asking). x.tx) e in omega arith
-
-  least_pair : (others : List Asking) → CanBePicked posted others → 1 ≤ first_tx others
-  least_pair [] h =
-      absurd (not_there h.component.component.first ((h.component.component.class h.component.component.first).1
-      (h.component.component.in_remainder, (zero, refl))))
-  least_pair (a ∷ more) h = at_least_1 a (h.component.present zero a (omega arith))
 
   -- ---- the play
 
@@ -203,48 +169,32 @@ module _ {resolved : Forms ℕ} (partners : Partners resolved) where
           (refl, refl),
           (
             one_posted,
-            inl (safe_one, refl, refl),
+            inl (safe_one 1, refl, refl),
             (
               posted,
-              inl (safe_two, refl, refl),
+              inl (safe_two 1 2, refl, refl),
               (
                 picked,
-                inl (record { asked = pair; can = can_pick; least = least_pair; replies = refl; is = refl }),
+                inl (lends_pair posted 1 2 (omega arith) refl refl refl),
                 (
                   joined,
-                  (
-                    least_taken,
-                    inl (record {
-                      outstanding = record {
-                        asked = pair;
-                        is_joint = refl;
-                        left = [];
-                        taken = lent_alone pair_job;
-                        component = record { present = pair_present; component = one_component };
-                      };
-                      groundings = Some taken;
-                      choice = refl;
-                      answers = (refl, refl);
-                    }),
-                  ),
+                  inl (joins_pair picked 1 2 (omega arith) refl refl),
                   (
                     lending joined (answered 1 Mickey) (books Mickey),
                     (refl, refl),
                     (
                       books_in joined 1 Mickey,
-                      (
-                        one_evaluated,
-                        inl (
-                          _,
-                          refl,
-                          record {
-                            left = [];
-                            taken = lent_alone (booking_job 1 Mickey set.empty);
-                            member = holds 1 Mickey;
-                            is_member = refl;
-                            steps = (refl, refl);
-                          },
-                        ),
+                      inl (
+                        _,
+                        refl,
+                        record {
+                          meant = one_evaluated;
+                          left = [];
+                          taken = lent_alone (booking_job 1 Mickey set.empty);
+                          member = holds 1 Mickey;
+                          is_member = refl;
+                          steps = (refl, refl);
+                        },
                       ),
                       (
                         one_prepared,
@@ -257,19 +207,17 @@ module _ {resolved : Forms ℕ} (partners : Partners resolved) where
                             (refl, refl),
                             (
                               both_booked,
-                              (
-                                two_evaluated,
-                                inl (
-                                  _,
-                                  refl,
-                                  record {
-                                    left = [];
-                                    taken = lent_alone (booking_job 2 Minnie first_booked);
-                                    member = holds 2 Minnie;
-                                    is_member = refl;
-                                    steps = (refl, refl);
-                                  },
-                                ),
+                              inl (
+                                _,
+                                refl,
+                                record {
+                                  meant = two_evaluated;
+                                  left = [];
+                                  taken = lent_alone (booking_job 2 Minnie first_booked);
+                                  member = holds 2 Minnie;
+                                  is_member = refl;
+                                  steps = (refl, refl);
+                                },
                               ),
                               (
                                 both_booked,

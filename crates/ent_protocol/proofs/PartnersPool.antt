@@ -25,25 +25,25 @@ two_cases x y z (suc (suc k), h, e) = absurd (omega arith)
 abbrev pub friend : ℕ → Value → Value → Posted
 friend tx own partner = posted_of (asking tx own partner)
 
-abbrev pub first : Posted
-first = friend 1 Mickey Minnie
+abbrev pub mickey : ℕ → Posted
+mickey tx = friend tx Mickey Minnie
 
-abbrev pub second : Posted
-second = friend 2 Minnie Mickey
+abbrev pub minnie : ℕ → Posted
+minnie tx = friend tx Minnie Mickey
 
-abbrev pub both : List Posted
-both = first ∷ second ∷ []
+abbrev pub both : ℕ → ℕ → List Posted
+both one two = mickey one ∷ minnie two ∷ []
 
 -- a closed atom of a name
 abbrev atom : Value → Atom Value
 atom name = atom_over (known_worth nothing_bound) (flies_as name)
 
-pub safe_one : IsSafe (first ∷ [])
-safe_one asker one other index a b c h k =
-    ap (λ (x : Posted). x.tx) (one_case first one b ∙ sym (one_case first other c))
+pub safe_one : (one : ℕ) → IsSafe (mickey one ∷ [])
+safe_one one asker first other index a b c h k =
+    ap (λ (x : Posted). x.tx) (one_case (mickey one) first b ∙ sym (one_case (mickey one) other c))
 
-pub safe_two : IsSafe both
-safe_two = grind (arith, rules)
+pub safe_two : (one two : ℕ) → IsSafe (both one two)
+safe_two one two = grind (arith, rules)
 
 -- ---- one component
 
@@ -57,8 +57,8 @@ under_122 name =
       one_fact = refl;
     }
 
-first_meets : CanMeet first 0 second
-first_meets =
+mickey_meets : (one two : ℕ) → CanMeet (mickey one) 0 (minnie two)
+mickey_meets one two =
     record {
       post = atom Minnie;
       is_post = refl;
@@ -67,8 +67,8 @@ first_meets =
       unify = under_122 Minnie;
     }
 
-second_meets : CanMeet second 0 first
-second_meets =
+minnie_meets : (one two : ℕ) → CanMeet (minnie two) 0 (mickey one)
+minnie_meets one two =
     record {
       post = atom Mickey;
       is_post = refl;
@@ -80,59 +80,60 @@ second_meets =
 abbrev everyone : ℕ → Bool
 everyone tx = true
 
-abbrev HasPartners : Posted → Type 0
-HasPartners asker =
-    (index : ℕ) (post : Atom Value) → slice_get asker.statement.posts index ≡ Some post
-    → (owner : Posted) × IsIn both everyone owner × CanMeet asker index owner
+module _ (one two : ℕ) (before : one < two) where
+  abbrev HasPartners : Posted → Type 0
+  HasPartners asker =
+      (index : ℕ) (post : Atom Value) → slice_get asker.statement.posts index ≡ Some post
+      → (owner : Posted) × IsIn (both one two) everyone owner × CanMeet asker index owner
 
-first_has : HasPartners first
-first_has zero post e = (second, ((1, omega arith, refl), refl), first_meets)
-first_has (suc k) post e = cc
+  first_has : HasPartners (mickey one)
+  first_has zero post e = (minnie two, ((1, omega arith, refl), refl), mickey_meets one two)
+  first_has (suc k) post e = cc
 
-second_has : HasPartners second
-second_has zero post e = (first, ((0, omega arith, refl), refl), second_meets)
-second_has (suc k) post e = cc
+  second_has : HasPartners (minnie two)
+  second_has zero post e = (mickey one, ((0, omega arith, refl), refl), minnie_meets one two)
+  second_has (suc k) post e = cc
 
--- what holds of both holds of each of the pool
-of_both : (P : Posted → Type 0) → P first → P second → (x : Posted) → Contains both x → P x
-of_both P h k x there = of (two_cases first second x there)
-  where
-    of : (x ≡ first) ⊎ (x ≡ second) → P x
-    of (inl e) = subst P (sym e) h
-    of (inr e) = subst P (sym e) k
+  -- what holds of both holds of each of the pool
+  of_both : (P : Posted → Type 0) → P (mickey one) → P (minnie two) → (x : Posted) → Contains (both one two) x → P x
+  of_both P h k x there = of (two_cases (mickey one) (minnie two) x there)
+    where
+      of : (x ≡ mickey one) ⊎ (x ≡ minnie two) → P x
+      of (inl e) = subst P (sym e) h
+      of (inr e) = subst P (sym e) k
 
-supported : IsSupported both everyone
-supported asker index post h e = of_both HasPartners first_has second_has asker h.0 index post e
+  supported : IsSupported (both one two) everyone
+  supported asker index post h e = of_both HasPartners first_has second_has asker h.0 index post e
 
-remains : (x : Posted) → Contains both x → IsInRemainder both x
-remains x there = record { among = everyone; supported = supported; is_in = (there, refl) }
+  remains : (x : Posted) → Contains (both one two) x → IsInRemainder (both one two) x
+  remains x there = record { among = everyone; supported = supported; is_in = (there, refl) }
 
-abbrev first_there : Contains both first
-first_there = (0, omega arith, refl)
+  abbrev first_there : Contains (both one two) (mickey one)
+  first_there = (0, omega arith, refl)
 
-abbrev second_there : Contains both second
-second_there = (1, omega arith, refl)
+  abbrev second_there : Contains (both one two) (minnie two)
+  second_there = (1, omega arith, refl)
 
-ascending : AllPairs (λ (one other : Posted). one.tx < other.tx) both
-ascending zero zero d i<j j<n = absurd (omega arith)
-ascending zero (suc zero) d i<j j<n = omega arith
-ascending zero (suc (suc j)) d i<j j<n = absurd (omega arith)
-ascending (suc i) zero d i<j j<n = absurd (omega arith)
-ascending (suc i) (suc zero) d i<j j<n = absurd (omega arith)
-ascending (suc i) (suc (suc j)) d i<j j<n = absurd (omega arith)
+  ascending : AllPairs (λ (x y : Posted). x.tx < y.tx) (both one two)
+  ascending zero zero d i<j j<n = absurd (omega arith)
+  ascending zero (suc zero) d i<j j<n = before
+  ascending zero (suc (suc j)) d i<j j<n = absurd (omega arith)
+  ascending (suc i) zero d i<j j<n = absurd (omega arith)
+  ascending (suc i) (suc zero) d i<j j<n = absurd (omega arith)
+  ascending (suc i) (suc (suc j)) d i<j j<n = absurd (omega arith)
 
-pub one_component : IsComponent both both
-one_component =
-    record {
-      first = first;
-      in_remainder = remains first first_there;
-      class = λ member. (
-        λ there. of_both (λ x. IsInRemainder both x × AreLinked both first x)
-            (remains first first_there, (zero, refl)) (
-              remains second second_there,
-              (suc zero, (second, (0, inl first_meets), remains second second_there, refl)),
-            ) member there,
-        λ h. h.0.is_in.0,
-      );
-      ascending = ascending;
-    }
+  pub one_component : IsComponent (both one two) (both one two)
+  one_component =
+      record {
+        first = mickey one;
+        in_remainder = remains (mickey one) first_there;
+        class = λ member. (
+          λ there. of_both (λ x. IsInRemainder (both one two) x × AreLinked (both one two) (mickey one) x)
+              (remains (mickey one) first_there, (zero, refl)) (
+                remains (minnie two) second_there,
+                (suc zero, (minnie two, (0, inl (mickey_meets one two)), remains (minnie two) second_there, refl)),
+              ) member there,
+          λ h. h.0.is_in.0,
+        );
+        ascending = ascending;
+      }

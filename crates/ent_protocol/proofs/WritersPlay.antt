@@ -163,38 +163,34 @@ played = (
         (refl, refl),
         (
           steps (lends started (fresh 1) 0) (holds (fresh 1) 0) 0,
-          (
-            evaluated_in_A,
-            inl (
-              _,
-              refl,
-              record {
-                left = [];
-                taken = taken 1 1 0;
-                member = holds (fresh 1) 0;
-                is_member = refl;
-                steps = (refl, refl);
-              },
-            ),
+          inl (
+            _,
+            refl,
+            record {
+              meant = evaluated_in_A;
+              left = [];
+              taken = taken 1 1 0;
+              member = holds (fresh 1) 0;
+              is_member = refl;
+              steps = (refl, refl);
+            },
           ),
           (
             lends (steps (lends started (fresh 1) 0) (holds (fresh 1) 0) 0) (fresh 2) 1,
             (refl, refl),
             (
               both,
-              (
-                evaluated_in_B 2 1,
-                inl (
-                  _,
-                  refl,
-                  record {
-                    left = [];
-                    taken = taken 2 1 1;
-                    member = holds (fresh 2) 1;
-                    is_member = refl;
-                    steps = (refl, refl);
-                  },
-                ),
+              inl (
+                _,
+                refl,
+                record {
+                  meant = evaluated_in_B 2 1;
+                  left = [];
+                  taken = taken 2 1 1;
+                  member = holds (fresh 2) 1;
+                  is_member = refl;
+                  steps = (refl, refl);
+                },
               ),
               (
                 both,
@@ -217,19 +213,17 @@ played = (
                       (refl, refl),
                       (
                         done_writing,
-                        (
-                          evaluated_in_B 1 2,
-                          inl (
-                            _,
-                            refl,
-                            record {
-                              left = [];
-                              taken = taken 1 2 1;
-                              member = holds first_writer 1;
-                              is_member = refl;
-                              steps = (refl, refl);
-                            },
-                          ),
+                        inl (
+                          _,
+                          refl,
+                          record {
+                            meant = evaluated_in_B 1 2;
+                            left = [];
+                            taken = taken 1 2 1;
+                            member = holds first_writer 1;
+                            is_member = refl;
+                            steps = (refl, refl);
+                          },
                         ),
                         (last, (refl, refl), refl),
                       ),

@@ -54,7 +54,7 @@ single_job s member statement =
         place = member.place;
         statement = statement;
       });
-      tables = seen_now s.tables (statement_uses statement);
+      tables = seen_now s.opening.tables s.tables (statement_uses statement);
     }
 
 abbrev pub lending : State → Member → Statement Value → State

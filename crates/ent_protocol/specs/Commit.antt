@@ -5,7 +5,7 @@ use Rattle.ent_semantics.specs.declared.book.Entry.{Entry}
 use Rattle.ent_semantics.specs.declared.book.Fate.TheVariants.{Committed}
 use Rattle.ent_semantics.specs.declared.book.Fated.{Fated}
 use Rattle.ent_protocol.specs.Member.{is_of, is_tx}
-use Rattle.ent_protocol.specs.Rollback.{is_among, is_joint_of}
+use Rattle.ent_protocol.specs.Rollback.{is_among}
 use Rattle.ent_protocol.specs.State.{State, Member}
 
 -- a member is prepared, the last so far
@@ -38,16 +38,14 @@ commit_numbers number (member ∷ more) = (number, member.tx) ∷ commit_numbers
 abbrev pub committing_members : State → ℕ → List Member
 committing_members s group = filter (is_of group) s.prepared
 
--- A group commits: its members get their journal entries in order of preparing, with consecutive numbers, and its joint
--- answers are kept; its uses are dropped.
+-- A group commits: its members get their journal entries in order of preparing, with consecutive numbers; its uses are
+-- dropped. Its joint answers stay where they stand, and are live no more, since their members are no members any more.
 abbrev pub committing : State → ℕ → State
 committing s group =
     let gone = committing_members s group in
     record s {
       prepared = filter (λ member. not (is_of group member)) s.prepared;
-      joints = filter (λ joint. not (is_joint_of gone joint)) s.joints;
       changes = filter (λ change. not (is_among gone change.tx)) s.changes;
       journal = s.journal ++ map entry_of gone;
-      answered = s.answered ++ filter (is_joint_of gone) s.joints;
       fates = s.fates ++ commit_fates (suc (length s.journal)) gone;
     }

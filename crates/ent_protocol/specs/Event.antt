@@ -30,6 +30,7 @@ pub data Reply (F : Type 0) : Type 0 where
   Started : (members : List ℕ) → Reply F
   Blocked : (holder : ℕ) → Reply F
   Lent : (job : Job) → Reply F
+  -- the fault's index of a post counts from 0
   HeldBack : (fault : Unsafe) → Reply F
   Posted : Reply F
   Prepared : Reply F
@@ -49,5 +50,5 @@ pub data Reply (F : Type 0) : Type 0 where
   NotNow : Reply F
   Stale : (done : Done) → Reply F
   Busy : (reason : Reason) → Reply F
-  Full : Reply F
-  Faulty : (fault : F) → Reply F
+  Full : (script : Script) → Reply F
+  Faulty : (script : Script) → (fault : F) → Reply F

@@ -12,7 +12,7 @@ use Rattle.ent_protocol.specs.Begin.{Refuses, with_member}
 use Rattle.ent_protocol.specs.Event.{Reply}
 use Rattle.ent_protocol.specs.Event as replies
 use Rattle.ent_protocol.specs.Job.{Job, One, Single, Done, Outcome, Shown, Changed, Bound, Choice, Fault}
-use Rattle.ent_protocol.specs.Job.{applied}
+use Rattle.ent_protocol.specs.Job.{applied, IsEvaluated}
 use Rattle.ent_protocol.specs.Member.{active_member}
 use Rattle.ent_protocol.specs.Rollback.{Failing, rolled_back, group_numbers}
 use Rattle.ent_protocol.specs.State.{State, Member, Change}
@@ -91,8 +91,9 @@ module _ {F : Type 0} where
       (reply ≡ replies.Stepped (answers.Value value)) × (new ≡ finished s member statement (Bound value))
   FinishesBy s member statement (Choice groundings) reply new = ⊥
 
-  -- The job is lent, and is lent no more.
+  -- The outcome is what the work means over its own tables. The job is lent, and is lent no more.
   pub record FinishesSingle (s : State) (done : Done) (single : Single) (reply : Reply F) (new : State) : Type 0 where
+    pub meant : IsEvaluated done
     pub left : List Job
     pub taken : IsTaken done.job s.lent left
     pub member : Member

@@ -1,6 +1,7 @@
 -- Jobs: work, with the tables that it uses as they stand.
 use Rattle.std.specs.Prelude.{◌≡◌, ℕ, zero, suc, map, List, [], ◌∷◌, Option, Result, Ok, Err, slice_index_or}
 use Rattle.ent_set.specs.Sets as set
+use Rattle.ent_value.specs.declared.value.Kind.{Kind}
 use Rattle.ent_value.specs.declared.value.Value.{Value}
 use Rattle.ent_semantics.specs.declared.answer.Answer.TheVariants as answers
 use Rattle.ent_semantics.specs.declared.answer.Failure.{Failure}
@@ -35,9 +36,10 @@ pub data Work : Type 0 where
   One : (single : Single) → Work
   Joint : (askings : List Asking) → Work
 
--- the rows of the table of a number
+-- the table of a number: the kinds of its columns, and its rows
 pub record Seen : Type 0 where
   pub table : ℕ
+  pub kinds : List Kind
   pub rows : Rows
 
 pub record Job : Type 0 where
@@ -101,6 +103,6 @@ pub record Done : Type 0 where
   pub job : Job
   pub outcome : Outcome
 
--- what is kept of every result: its outcome is the meaning of its own work over its own tables
+-- what holds of a result that is accepted: its outcome is the meaning of its own work over its own tables
 abbrev pub IsEvaluated : Done → Type 0
 IsEvaluated done = IsOutcome done.job.work (tables_of done.job.tables) done.outcome

@@ -13,8 +13,10 @@ pub mod Quiet
 pub mod Run
 pub mod Step
 pub mod Reached
+pub mod Lookup
 pub mod Play
 pub mod Writers
 pub mod Partners
+pub mod Pairs
 pub mod Tidy
 pub mod Numbers

@@ -3,7 +3,9 @@ use Rattle.std.specs.Prelude.{ℕ, Bool, true, false, ◌==◌, List, [], ◌∷
 use Rattle.std.specs.Prelude.{slice_index_or}
 use Rattle.std.specs.List.{filter, flat_map, list_any}
 use Rattle.ent_set.specs.Sets as set
+use Rattle.ent_value.specs.declared.value.Kind.{Kind}
 use Rattle.ent_value.specs.declared.value.Value.{Value}
+use Rattle.ent_tree.specs.declared.declaration.Create.{Create}
 use Rattle.ent_tree.specs.declared.script.End.{End}
 use Rattle.ent_tree.specs.declared.script.End.TheVariants.{Commit, Rollback}
 use Rattle.ent_semantics.specs.Database.{Environment, nothing_bound, with_values}
@@ -93,7 +95,16 @@ is_single_of tx job = work_of job.work
 abbrev pub is_lent : State → ℕ → Bool
 is_lent s tx = list_any (is_single_of tx) s.lent
 
+-- the kinds of the columns of the table of a number, as it is declared
+abbrev pub declared_kinds : List Create → ℕ → List Kind
+declared_kinds declared table =
+    slice_index_or (map (λ create. map (λ column. column.kind) create.columns) declared) table []
+
 -- the tables of some uses as they stand
-abbrev pub seen_now : Tables → List Use → List Seen
-seen_now tables uses =
-    map (λ own. record { table = own.table; rows = slice_index_or tables own.table set.empty }) uses
+abbrev pub seen_now : List Create → Tables → List Use → List Seen
+seen_now declared tables uses =
+    map (λ own. record {
+      table = own.table;
+      kinds = declared_kinds declared own.table;
+      rows = slice_index_or tables own.table set.empty;
+    }) uses

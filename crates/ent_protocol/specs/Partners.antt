@@ -129,20 +129,25 @@ abbrev pub asking : ℕ → Value → Value → Asking
 asking tx own partner =
     record { tx = tx; attempt = 1; place = 1; statement = closed_entangled nothing_bound (asks own partner) }
 
-abbrev pub pair : List Asking
-pair = asking 1 Mickey Minnie ∷ asking 2 Minnie Mickey ∷ []
+-- two transactions that ask for each other
+abbrev pub pair : ℕ → ℕ → List Asking
+pair one two = asking one Mickey Minnie ∷ asking two Minnie Mickey ∷ []
 
-abbrev pub pair_job : Job
-pair_job =
+abbrev pub pair_job : ℕ → ℕ → Job
+pair_job one two =
     record {
-      work = Joint pair;
-      tables = record { table = 0; rows = opening_database partners_opening (codes "Flights") } ∷ [];
+      work = Joint (pair one two);
+      tables = record {
+        table = 0;
+        kinds = kinds.Int ∷ kinds.Text ∷ [];
+        rows = opening_database partners_opening (codes "Flights");
+      } ∷ [];
     }
 
 -- both take flight 122, the least that goes to LA
-abbrev pub pair_done : Done
-pair_done =
-    record { job = pair_job; outcome = Choice (Some ((flight_122 ∷ []) ∷ (flight_122 ∷ []) ∷ [])) }
+abbrev pub pair_done : ℕ → ℕ → Done
+pair_done one two =
+    record { job = pair_job one two; outcome = Choice (Some ((flight_122 ∷ []) ∷ (flight_122 ∷ []) ∷ [])) }
 
 -- a partner's INSERT into bookings of these rows
 abbrev pub booking_job : ℕ → Value → Rows → Job
@@ -154,7 +159,7 @@ booking_job tx own rows =
         place = 2;
         statement = forms.Insert 1 (own ∷ flight_122 ∷ []);
       });
-      tables = record { table = 1; rows = rows } ∷ [];
+      tables = record { table = 1; kinds = kinds.Text ∷ kinds.Int ∷ []; rows = rows } ∷ [];
     }
 
 abbrev pub booking_done : ℕ → Value → Rows → Done
@@ -178,8 +183,8 @@ partners_pass partners =
     ∷ (events.StartRun, events.Started (1 ∷ 2 ∷ 3 ∷ []))
     ∷ (events.Begin 1, events.Posted)
     ∷ (events.Begin 2, events.Posted)
-    ∷ (events.Pick, events.Lent pair_job)
-    ∷ (events.JoinAnswer pair_done, events.Answered)
+    ∷ (events.Pick, events.Lent (pair_job 1 2))
+    ∷ (events.JoinAnswer (pair_done 1 2), events.Answered)
     ∷ (events.Begin 1, events.Lent (booking_job 1 Mickey set.empty))
     ∷ (events.Finish (booking_done 1 Mickey set.empty), counts_1)
     ∷ (events.Begin 1, events.Prepared)

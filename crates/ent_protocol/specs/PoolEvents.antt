@@ -12,7 +12,7 @@ use Rattle.ent_protocol.specs.Begin.{Refuses}
 use Rattle.ent_protocol.specs.Event.{Reply}
 use Rattle.ent_protocol.specs.Event as replies
 use Rattle.ent_protocol.specs.Finish.{IsTaken, stepped}
-use Rattle.ent_protocol.specs.Job.{Job, Joint, Asking, Done, Choice, posted_of}
+use Rattle.ent_protocol.specs.Job.{Job, Joint, Asking, Done, Choice, IsEvaluated, posted_of}
 use Rattle.ent_protocol.specs.Member.{askings, pool, is_tx, seen_now}
 use Rattle.ent_protocol.specs.State.{State, Member, Use, members}
 use Rattle.ent_protocol.specs.Begin.{with_uses}
@@ -45,7 +45,7 @@ abbrev pub joint_uses : List Asking → List Use
 joint_uses asked = with_uses (flat_map (λ asking. entangled_uses asking.statement) asked) []
 
 abbrev pub joint_job : State → List Asking → Job
-joint_job s asked = record { work = Joint asked; tables = seen_now s.tables (joint_uses asked) }
+joint_job s asked = record { work = Joint asked; tables = seen_now s.opening.tables s.tables (joint_uses asked) }
 
 -- ---- what an answer makes of the members
 
@@ -122,8 +122,10 @@ module _ {F : Type 0} where
   AnswersBy s asked (Some groundings) reply new = (reply ≡ replies.Answered) × (new ≡ joining s asked groundings)
   AnswersBy s asked None reply new = (reply ≡ replies.NoChoice) × (new ≡ record s { tried = asked ∷ s.tried })
 
-  -- with a choice the members are answered; without one the component is tried; the job is lent no more
+  -- The outcome is what the work means over its own tables. With a choice the members are answered; without one the
+  -- component is tried; the job is lent no more.
   pub record Joins (s : State) (done : Done) (reply : Reply F) (new : State) : Type 0 where
+    pub meant : IsEvaluated done
     pub outstanding : IsOutstandingJoint s done
     pub groundings : Option (List Valuation)
     pub choice : done.outcome ≡ Choice groundings

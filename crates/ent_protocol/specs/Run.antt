@@ -63,11 +63,11 @@ module _ {F : Type 0} where
   abbrev pub SubmitsForm : State → Script → Result (List (Statement Known)) F → Reply F → State → Type 0
   SubmitsForm s script (Ok form) reply new =
       (reply ≡ replies.Submitted (suc (length s.submitted))) × (new ≡ submitting s script form)
-  SubmitsForm s script (Err fault) reply new = Refuses s (replies.Faulty fault) reply new
+  SubmitsForm s script (Err fault) reply new = Refuses s (replies.Faulty script fault) reply new
 
-  -- not beyond the most scripts
+  -- not beyond the most scripts; a script that is refused is handed back
   abbrev pub SubmitsUnless : Bool → Forms F → State → Script → Reply F → State → Type 0
-  SubmitsUnless true forms s script reply new = Refuses s replies.Full reply new
+  SubmitsUnless true forms s script reply new = Refuses s (replies.Full script) reply new
   SubmitsUnless false forms s script reply new = SubmitsForm s script (forms.resolve s.opening script) reply new
 
   abbrev pub Submits : Forms F → State → Script → Reply F → State → Type 0

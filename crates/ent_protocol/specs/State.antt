@@ -62,7 +62,7 @@ pub record State : Type 0 where
   pub prepared : List Member
   -- the other members
   pub active : List Member
-  -- joint answers of members
+  -- joint answers in the order in which they were made, without those that were rolled back
   pub joints : List JointAnswer
   -- posted statements for which no choice was found
   pub tried : List (List Asking)
@@ -72,8 +72,6 @@ pub record State : Type 0 where
   -- what members changed, the newest first
   pub changes : List Change
   pub journal : List Entry
-  -- joint answers of committed transactions
-  pub answered : List JointAnswer
   pub fates : List Fated
 
 -- all members of the run

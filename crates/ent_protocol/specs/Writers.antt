@@ -80,7 +80,7 @@ job tx place table =
         place = place;
         statement = forms.Insert table (Int (pos tx) ∷ []);
       });
-      tables = record { table = table; rows = set.empty } ∷ [];
+      tables = record { table = table; kinds = kinds.Int ∷ []; rows = set.empty } ∷ [];
     }
 
 -- the row is new

@@ -4,4 +4,4 @@ use Rattle.ent_protocol.proofs.law.two_writers_deadlock.Goals as goal
 
 -- src/law.rt:24:1
 pub returns : goal.returns
-returns c = (last, played, refl, refl)
+returns c = (last, played, refl, refl, refl, refl, refl, refl)
