@@ -1,25 +1,30 @@
 -- Events that touch neither what members did nor the tables.
 use Rattle.std.proofs.Common.{◌≡◌, ◌<◌, ◌≤◌, ℕ, zero, suc, Bool, true, false, List, [], ◌∷◌, ◌++◌, map}
 use Rattle.std.proofs.Common.{length, refl, sym, ap, subst, ◌∙◌, inl, inr, arith}
-use Rattle.std.proofs.Common.{All, Contains, slice_index_or, flat_map}
-use Rattle.std.specs.List.{AllByRecursion}
+use Rattle.std.proofs.Common.{All, AllPairs, Contains, slice_index_or, flat_map, ◌==◌}
+use Rattle.std.specs.List.{AllByRecursion, filter, list_any}
 use Rattle.ent_semantics.specs.Serial.{numbered}
 use Rattle.ent_protocol.specs.Job.{Job, Work, One, Joint, Asking, posted_of, tables_of}
 use Rattle.ent_protocol.specs.Member.{Next, Ordinary, Asks, Commits, RollsBack, next_in, next_of, askings}
-use Rattle.ent_protocol.specs.Member.{asking_of, pool}
+use Rattle.ent_protocol.specs.Member.{asking_of, is_tx, pool}
 use Rattle.ent_protocol.specs.Member.{seen_now}
-use Rattle.ent_protocol.specs.PoolEvents.{IsPresentComponent, joint_job, joint_uses}
+use Rattle.ent_protocol.specs.PoolEvents.{IsPresentComponent, answered_groups, joint_job, joint_uses}
 use Rattle.ent_protocol.specs.Run.{Forms}
-use Rattle.ent_protocol.specs.State.{State, Member}
+use Rattle.ent_protocol.specs.State.{State, Member, members}
+use Rattle.ent_coordination.specs.Pool.{Posted}
+use Rattle.ent_legal.specs.History.{History}
+use Rattle.ent_legal.proofs.Answered.{OtherAsking}
+use Rattle.ent_legal.proofs.Undo.{number_itself}
 use Rattle.ent_protocol.specs.Uses.{entangled_uses}
 use Rattle.ent_legal.specs.Faithful.{is_used}
-use Rattle.ent_legal.proofs.Lists.{In, Pairs, of_all, to_all, all_joined}
+use Rattle.ent_legal.proofs.Lists.{In, Pairs, of_all, to_all, all_joined, any_in, to_map, to_filter, pairs_before}
+use Rattle.ent_legal.proofs.Lists.{in_first, in_second}
 use Rattle.ent_legal.proofs.Lists.{in_either, nobody, pairs_joined}
 use Rattle.ent_legal.proofs.Outcomes.{seen_same, used_first, used_second}
 use Rattle.ent_legal.proofs.Deeds.{HoldsUses}
 use Rattle.ent_legal.proofs.Locks.{used_got}
 use Rattle.ent_legal.proofs.Jobs.{JobRight, AskingRight, OtherJob, OtherWork}
-use Rattle.ent_legal.proofs.Kept.{Kept, PostedHolds, one_member}
+use Rattle.ent_legal.proofs.Kept.{Kept, PostedHolds, one_member, active_at, prepared_at}
 use Rattle.ent_legal.proofs.Joined.{IsPresent}
 
 -- ---- elements by index
@@ -45,13 +50,20 @@ in_contains (y ∷ ys) x (inr at) =
     let low = r.1 in
     (suc r.0, omega (arith, low), r.2)
 
-in_flat : {X Y : Type 0} (f : X → List Y) (xs : List X) (y : Y) → In y (flat_map f xs) → (x : X) × In x xs × In y (f x)
+pub in_flat : {X Y : Type 0} (f : X → List Y) (xs : List X) (y : Y) → In y (flat_map f xs) → (x : X) × In x xs × In y (f x)
 in_flat f [] y at = absurd at
 in_flat f (x ∷ xs) y at =
     elim (in_either (f x) (flat_map f xs) y at) [
       | inl a ↦ (x, inl refl, a)
       | inr b ↦ let r = in_flat f xs y b in (r.0, inr r.1, r.2)
     ]
+
+pub index_pairs : {X : Type 0} (R : X → X → Type 0) (xs : List X) → AllPairs R xs → Pairs R xs
+index_pairs R [] h = tt
+index_pairs R (x ∷ xs) h = (
+  all_index (R x) xs (λ k d low. h 0 (suc k) d (omega arith) (omega (arith, low))),
+  index_pairs R xs (λ i j d less low. h (suc i) (suc j) d (omega (arith, less)) (omega (arith, low))),
+)
 
 -- ---- members that ask
 
@@ -88,6 +100,37 @@ present_all s asked component =
     let r = in_flat (asking_of s) s.active a (contains_in (askings s) a c) in
     let q = asks_of s r.0 a r.2 in
     record { member = r.0; at = r.1; posted = q.0; next = q.1; tx = q.2; place = q.3 })
+
+-- the statements of a component are of distinct transactions
+pub askings_apart : (s : State) (asked : List Asking) → IsPresentComponent s asked → Pairs OtherAsking asked
+askings_apart s asked component =
+    pairs_before posted_of (λ (one other : Posted). one.tx < other.tx) OtherAsking (λ a b low e. unlike a.tx b.tx low e)
+    asked (index_pairs (λ (one other : Posted). one.tx < other.tx) (map posted_of asked) component.component.ascending)
+  where
+    unlike : (n m : ℕ) → n < m → n ≡ m → ⊥
+    unlike n m low e = omega (low, e, arith)
+
+-- there is one
+pub askings_some : (s : State) (asked : List Asking) → IsPresentComponent s asked → asked ≡ [] → ⊥
+askings_some s asked component none =
+    let c = component.component in
+    let at = contains_in (map posted_of asked) c.first ((c.class c.first).1 (c.in_remainder, (0, refl))) in
+    subst (λ many. In c.first (map posted_of many)) none at
+
+-- who is answered is of a group that is joined
+pub groups_answered : {F : Type 0} (forms : Forms F) (s : State) (kept : Kept forms s) (asked : List Asking)
+    (a : Asking) → In a asked → (x : History) → In x (kept.prepared ++ kept.others) → x.member.tx ≡ a.tx
+    → In x.member.group (answered_groups s asked)
+groups_answered forms s kept asked a at x xt same =
+    to_map (λ (m : Member). m.group)
+    (filter (λ (m : Member). list_any (λ (b : Asking). is_tx b.tx m) asked) (members s)) x.member
+    (to_filter (λ (m : Member). list_any (λ (b : Asking). is_tx b.tx m) asked) (members s) x.member
+    (elim (in_either kept.prepared kept.others x xt) [
+      | inl p ↦ in_first s.prepared s.active x.member (prepared_at forms s kept x p)
+      | inr q ↦ in_second s.prepared s.active x.member (active_at forms s kept x q)
+    ])
+    (any_in (λ (b : Asking). is_tx b.tx x.member) asked a at
+    (ap (λ n. n == a.tx) same ∙ number_itself a.tx)))
 
 -- where there is a component there is a member
 pub component_on : {F : Type 0} (forms : Forms F) (s : State) → Kept forms s → (asked : List Asking)
@@ -128,6 +171,8 @@ module _ {F : Type 0} (forms : Forms F) (s : State) (kept : Kept forms s) where
         not_prepared = kept.not_prepared;
         not_active = kept.not_active;
         scripts = kept.scripts;
+        joined = kept.joined;
+        committed_fated = kept.committed_fated;
         fated = kept.fated;
         fated_not_prepared = kept.fated_not_prepared;
         fated_not_active = kept.fated_not_active;
@@ -194,6 +239,8 @@ module _ {F : Type 0} (forms : Forms F) (s : State) (kept : Kept forms s) where
         not_prepared = kept.not_prepared;
         not_active = kept.not_active;
         scripts = kept.scripts;
+        joined = kept.joined;
+        committed_fated = kept.committed_fated;
         fated = kept.fated;
         fated_not_prepared = kept.fated_not_prepared;
         fated_not_active = kept.fated_not_active;

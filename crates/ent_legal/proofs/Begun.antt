@@ -16,12 +16,15 @@ use Rattle.ent_legal.specs.History.{History, Replays}
 use Rattle.ent_legal.specs.SerialState.{Follows, IsWhole}
 use Rattle.ent_legal.proofs.Lists.{In, Pairs, of_all, to_all, all_by, in_first, in_second, in_either, of_map}
 use Rattle.ent_legal.proofs.Lists.{to_map, clash, any_none, pairs_across}
+use Rattle.ent_legal.proofs.Lists.{map_joined}
 use Rattle.ent_legal.proofs.Frame.{Laws, IsCovered, apart_turned, WritesWithin, held}
 use Rattle.ent_legal.proofs.Undo.{same_number, other_number}
 use Rattle.ent_legal.proofs.Sound.{Fit, AreApart, fit_turned}
 use Rattle.ent_legal.proofs.Acts.{Keeps}
 use Rattle.ent_legal.proofs.Locks.{holds_more, used_from, free_active, free_prepared, apart_holding}
 use Rattle.ent_legal.proofs.Jobs.{JobRight, OtherJob, Stays, jobs_moved, stays_as_is}
+use Rattle.ent_legal.proofs.Asks.{history_asks}
+use Rattle.ent_legal.proofs.Joints.{JointsStand, stand_moved}
 use Rattle.ent_legal.proofs.Kept.{Kept, PostedHolds, member_of, kept_mapped, replaced_here, replaced_other, replaced_tx}
 use Rattle.ent_legal.proofs.Kept.{map_unchanged, one_history, active_at, prepared_at, in_all, one_member}
 
@@ -285,6 +288,41 @@ module _ {F : Type 0} (forms : Forms F) (laws : Laws) (s : State) (kept : Kept f
     on : s.running ≡ false → ⊥
     on off = subst (In x.member) (kept.idle off).1 (active_at forms s kept x at)
 
+    asks_entered : (y : History) → In y all → history_asks (entered new y) ≡ history_asks y
+    asks_entered y bt =
+        each (λ u v. history_asks v ≡ history_asks u) (λ u. refl) refl y bt
+
+    abbrev mapped : List History
+    mapped = map (entered new) kept.prepared ++ map (entered new) kept.others
+
+    -- one of the members now, and what it was
+    was : (z : History) → In z mapped → (y : History) × In y all × (z ≡ entered new y)
+    was z zt =
+        of_map (entered new) all z
+        (subst (In z) (sym (map_joined (entered new) kept.prepared kept.others)) zt)
+
+    group_entered : (y : History) → In y all → (entered new y).member.group ≡ y.member.group
+    group_entered y bt = each (λ u v. v.member.group ≡ u.member.group) (λ u. refl) refl y bt
+
+    joined_begun : JointsStand kept.committed mapped s.joints
+    joined_begun =
+        stand_moved kept.committed all mapped s.joints
+        (λ z zt.
+        let y = was z zt in
+        record {
+          old = y.0;
+          at = y.1;
+          asks = ap history_asks y.2 ∙ asks_entered y.0 y.1;
+          same_tx = ap (λ (h : History). h.member.tx) y.2 ∙ replaced_tx new y.0.member;
+          same_group = ap (λ (h : History). h.member.group) y.2 ∙ group_entered y.0 y.1;
+        })
+        (λ y bt. (
+          entered new y,
+          subst (In (entered new y)) (map_joined (entered new) kept.prepared kept.others)
+              (to_map (entered new) all y bt),
+          asks_entered y bt,
+        )) kept.joined
+
     pub kept_begun : PostedHolds s.submitted new → (lent : List Job)
         → AllByRecursion (JobRight s.submitted (map change s.active) s.tables) lent → Pairs OtherJob lent
         → Kept forms (record s { active = map change s.active; lent = lent })
@@ -293,4 +331,5 @@ module _ {F : Type 0} (forms : Forms F) (laws : Laws) (s : State) (kept : Kept f
         (kept_mapped forms laws s kept (entered new) change change (λ y bt. refl) (λ y bt. refl) keeps
         (λ y bt w. whole_same y (in_first kept.prepared kept.others y bt) w)
         (λ y bt w. follows_same y (in_second kept.prepared kept.others y bt) w)
-        s.joints lent (posted_begun own) jobs apart on (λ m mt. replaced_tx new m) (λ m mt. replaced_tx new m))
+        s.joints lent joined_begun (posted_begun own) jobs apart on (λ m mt. replaced_tx new m)
+        (λ m mt. replaced_tx new m))

@@ -83,7 +83,7 @@ module _ (declared : List Create) (all : List Submitted) where
   turn_deeds history whole =
       ap (λ sts. deeds_of sts (oracle_of history.deeds)) (sym whole.whole) ∙ deeds_again history.deeds whole.oracled
 
-  turn_run : (history : History) (whole : IsWhole all history) (first last : Database)
+  pub turn_run : (history : History) (whole : IsWhole all history) (first last : Database)
       → Replays declared history first last
       → script_run declared whole.own.script (oracle_of history.deeds) first
       ≡ Some (record {
@@ -110,7 +110,7 @@ module _ (declared : List Create) (all : List Submitted) where
       (scripts_run declared (turns_of all more whole.1) r.database))) (turn_run history whole.0 first serial.0 serial.1)
       ∙ ap (option_map (ran_first history.member.answers)) (turns_run more whole.1 serial.0 last serial.2)
 
-  turn_sights : (history : History) (whole : IsWhole all history) (first : Database)
+  pub turn_sights : (history : History) (whole : IsWhole all history) (first : Database)
       → script_sights declared (turn_of all history whole) first
       ≡ sights declared history.member.tx 1 history.deeds first nothing_bound
   turn_sights history whole first = rw (turn_deeds history whole) refl

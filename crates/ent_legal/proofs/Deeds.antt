@@ -33,6 +33,7 @@ use Rattle.ent_legal.specs.Faithful.{number_of, is_used, is_owned, IsFaithful, I
 use Rattle.ent_legal.specs.History.{History}
 use Rattle.ent_legal.specs.SerialState.{IsOracled, Follows}
 use Rattle.ent_legal.proofs.Lists.{all_joined}
+use Rattle.ent_legal.proofs.Asks.{asks_at}
 use Rattle.ent_legal.proofs.Frame.{Laws, held, WritesWithin, IsCovered}
 use Rattle.ent_legal.proofs.Undo.{same_number, number_itself}
 use Rattle.ent_legal.proofs.Acts.{OwnsFirst, Makes}
@@ -118,6 +119,15 @@ plain_grounded creates (tree.Delete delete) tx place database environment plain 
 plain_grounded creates (tree.Update update) tx place database environment plain = tt
 plain_grounded creates (tree.Set setting) tx place database environment plain = tt
 
+plain_asks : (st : TreeStatement) → IsPlain st → (tx place : ℕ) (environment : Environment)
+    → asks_at tx place st [] environment ≡ []
+plain_asks (tree.Entangled entangled) plain tx place environment = absurd plain
+plain_asks (tree.Select select) plain tx place environment = refl
+plain_asks (tree.Insert insert) plain tx place environment = refl
+plain_asks (tree.Delete delete) plain tx place environment = refl
+plain_asks (tree.Update update) plain tx place environment = refl
+plain_asks (tree.Set setting) plain tx place environment = refl
+
 -- a member with one deed more
 abbrev pub with_deed : History → Member → Deed → History
 with_deed x member deed = record { member = member; deeds = x.deeds ++ deed ∷ [] }
@@ -191,6 +201,9 @@ module _ (creates : List Create) (laws : Laws) (x : History) (member : Member) (
 
   pub ordinary_oracled : IsOracled (record { statement = st; valuation = [] })
   ordinary_oracled = plain_oracled st plain
+
+  pub ordinary_asks : (number index : ℕ) (environment : Environment) → asks_at number index st [] environment ≡ []
+  ordinary_asks number index environment = plain_asks st plain number index environment
 
   pub ordinary_makes : (table : List ℕ) (removed added : List (List Value))
       → with_change table removed added tables ≡ new → OwnsFirst x.member.uses table

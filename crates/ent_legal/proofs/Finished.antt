@@ -8,6 +8,7 @@ use Rattle.ent_semantics.specs.declared.answer.Answer.TheVariants as answers
 use Rattle.ent_semantics.specs.Serial.{Deed}
 use Rattle.ent_closed.specs.Form.{Tables, closed_worth, form_meaning}
 use Rattle.ent_closed.specs.declared.statement.Statement.{Statement}
+use Rattle.ent_meant.specs.Tables.{database_of}
 use Rattle.ent_protocol.specs.Begin.{replaced}
 use Rattle.ent_protocol.specs.Finish.{table_of, variable_of, with_change, with_bound, noted, stepped, finished}
 use Rattle.ent_protocol.specs.Job.{Job, Outcome, Shown, Changed, Bound, Choice, Fault}
@@ -30,7 +31,13 @@ use Rattle.ent_legal.proofs.Deeds.{HoldsUses, with_deed, owns_table, follows_pus
 use Rattle.ent_legal.proofs.Deeds.{values_bound}
 use Rattle.ent_legal.proofs.Jobs.{Stays, Moves}
 use Rattle.ent_legal.proofs.Jobs.{jobs_moved, stays_as_is}
-use Rattle.ent_legal.proofs.Kept.{Kept, OtherMember, PostedHolds, member_of, history_of, active_at, one_member}
+use Rattle.ent_legal.proofs.Asks.{asks_at, asks_of, history_asks, asks_pushed, replays_in}
+use Rattle.ent_legal.proofs.Joints.{Was, stand_moved, unchanged}
+use Rattle.ent_legal.proofs.Deeds.{ordinary_asks}
+use Rattle.std.proofs.Common.{append-nil, length}
+use Rattle.ent_semantics.specs.Database.{Environment, nothing_bound}
+use Rattle.ent_legal.proofs.Kept.{Kept, OtherMember, PostedHolds, member_of, history_of, active_at, in_all}
+use Rattle.ent_legal.proofs.Kept.{one_history, one_member}
 use Rattle.ent_legal.proofs.Kept.{replaced_here, replaced_other, replaced_tx}
 use Rattle.ent_legal.proofs.Stands.{ordinary_next, follows_of}
 
@@ -41,7 +48,9 @@ module _ {F : Type 0} (forms : Forms F) (laws : Laws) (s : State) (kept : Kept f
     (makes : Makes s.opening.tables x (with_deed x member deed) s.tables
     (with_change table removed added s.tables) table
     removed added)
-    (none : (job : Job) → In job s.lent → is_single_of x.member.tx job ≡ false) where
+    (none : (job : Job) → In job s.lent → is_single_of x.member.tx job ≡ false)
+    (plain : (number index : ℕ) (environment : Environment)
+    → asks_at number index deed.statement deed.valuation environment ≡ []) where
   abbrev rest : List History
   rest = filter (λ y. not (has_tx x.member.tx y)) kept.others
 
@@ -120,6 +129,67 @@ module _ {F : Type 0} (forms : Forms F) (laws : Laws) (s : State) (kept : Kept f
         ]),
   )
 
+  abbrev old : List History
+  old = kept.prepared ++ kept.others
+
+  abbrev now : List History
+  now = kept.prepared ++ (rest ++ with_deed x member deed ∷ [])
+
+  asks_same : history_asks (with_deed x member deed) ≡ history_asks x
+  asks_same =
+      let r = replays_in s.opening.tables old kept.base (database_of s.opening.tables s.tables) kept.sound.serial x
+      (in_all forms s kept x at) in
+      ap (λ n. asks_of n 1 (x.deeds ++ deed ∷ []) nothing_bound) tx
+      ∙ asks_pushed s.opening.tables x r.0 r.1 deed r.2
+      ∙ ap (λ more. history_asks x ++ more) (plain x.member.tx (suc (length x.deeds)) (environment_of x.member))
+      ∙ append-nil (history_asks x)
+
+  was : (y : History) → In y now → Was old y
+  was y yt =
+      elim (in_either kept.prepared (rest ++ with_deed x member deed ∷ []) y yt) [
+        | inl a ↦ unchanged y (in_first kept.prepared kept.others y a)
+        | inr b ↦ elim (in_either rest (with_deed x member deed ∷ []) y b) [
+          | inl c ↦ unchanged y
+              (in_second kept.prepared kept.others y
+              (of_filter (λ y. not (has_tx x.member.tx y)) kept.others y c).0)
+          | inr d ↦ elim d [
+            | inl same ↦ record {
+              old = x;
+              at = in_all forms s kept x at;
+              asks = ap history_asks same ∙ asks_same;
+              same_tx = ap (λ (h : History). h.member.tx) same ∙ tx;
+              same_group = ap (λ (h : History). h.member.group) same ∙ makes.group;
+            }
+            | inr bad ↦ absurd bad
+          ]
+        ]
+      ]
+
+  is_now : (y : History) → In y old → (z : History) × In z now × (history_asks z ≡ history_asks y)
+  is_now y yt =
+      elim (in_either kept.prepared kept.others y yt) [
+        | inl a ↦ (y, in_first kept.prepared (rest ++ with_deed x member deed ∷ []) y a, refl)
+        | inr b ↦ by (has_tx x.member.tx y) refl b
+      ]
+    where
+      by : (c : Bool) → has_tx x.member.tx y ≡ c → In y kept.others
+          → (z : History) × In z now × (history_asks z ≡ history_asks y)
+      by true is b =
+          let same = one_history old y x kept.sound.fit (in_all forms s kept y b) (in_all forms s kept x at)
+          (same_number y.member.tx x.member.tx is) in (
+            with_deed x member deed,
+            in_second kept.prepared (rest ++ with_deed x member deed ∷ []) (with_deed x member deed)
+                (in_second rest (with_deed x member deed ∷ []) (with_deed x member deed) (inl refl)),
+            asks_same ∙ ap history_asks (sym same),
+          )
+      by false is b = (
+        y,
+        in_second kept.prepared (rest ++ with_deed x member deed ∷ []) y
+            (in_first rest (with_deed x member deed ∷ []) y
+            (to_filter (λ y. not (has_tx x.member.tx y)) kept.others y b (ap not is))),
+        refl,
+      )
+
   pub made : Kept forms (record s {
     active = map (replaced member) s.active;
     tables = with_change table removed added s.tables;
@@ -191,6 +261,8 @@ module _ {F : Type 0} (forms : Forms F) (laws : Laws) (s : State) (kept : Kept f
             kept.not_active d r.0 dt r.1
             (sym (replaced_tx member r.0) ∙ ap (λ (w : Member). w.tx) (sym r.2) ∙ e);
         scripts = kept.scripts;
+        joined = stand_moved kept.committed old now s.joints was is_now kept.joined;
+        committed_fated = kept.committed_fated;
         fated = kept.fated;
         fated_not_prepared = kept.fated_not_prepared;
         fated_not_active = λ d m dt mt e.
@@ -239,6 +311,8 @@ module _ {F : Type 0} (forms : Forms F) (laws : Laws) (s : State) (kept : Kept f
       group s.tables new answer told kept.sound.wide meaning) n.0.at)
       (ordinary_makes s.opening.tables laws x member n.0.statement n.0.form c n.0.faithful n.0.closes n.1 holds uses tx
       group s.tables new answer told kept.sound.wide meaning table removed added refl owns) none
+      (ordinary_asks s.opening.tables laws x member n.0.statement n.0.form c n.0.faithful n.0.closes n.1 holds uses tx
+      group s.tables new answer told kept.sound.wide meaning)
 
   pub finishes_by : (outcome : Outcome)
       → Lands c s.tables (environment_of x.member)

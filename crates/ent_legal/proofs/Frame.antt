@@ -19,6 +19,7 @@ use Rattle.ent_semantics.specs.Statement.{statement_meaning}
 use Rattle.ent_semantics.specs.Uses.{changes, Agree, Covers, EffectsAlike, KeepsOthers, RunsAlike, CoversAll}
 use Rattle.ent_closed.specs.Closing.{closed, closed_entangled}
 use Rattle.ent_closed.specs.Form.{Tables, closed_worth, known_worth, form_meaning, is_form_grounding}
+use Rattle.ent_closed.specs.Form.{form_heads, form_posts}
 use Rattle.ent_closed.specs.declared.entangled.Entangled.{Entangled as FormEntangled}
 use Rattle.ent_closed.specs.declared.operand.Known.{Known}
 use Rattle.ent_closed.specs.declared.statement.Statement.{Statement as FormStatement}
@@ -58,6 +59,12 @@ pub record Laws : Type 0 where
       (valuation : Valuation)
       → is_form_grounding (λ value. value) tables (closed_entangled environment entangled) valuation
       ≡ is_form_grounding (known_worth environment) tables entangled valuation
+  pub closes_heads : (environment : Environment) (entangled : FormEntangled Known) (valuation : Valuation)
+      → form_heads (λ value. value) (closed_entangled environment entangled) valuation
+      ≡ form_heads (known_worth environment) entangled valuation
+  pub closes_posts : (environment : Environment) (entangled : FormEntangled Known) (valuation : Valuation)
+      → form_posts (λ value. value) (closed_entangled environment entangled) valuation
+      ≡ form_posts (known_worth environment) entangled valuation
 
 -- ---- uses by name
 

@@ -1,6 +1,6 @@
 -- Members are answered together, and their groups become one.
-use Rattle.std.proofs.Common.{◌≡◌, ◌⊎◌, ◌<◌, ℕ, suc, Bool, true, false, cond, List, [], ◌∷◌, ◌++◌, map}
-use Rattle.std.proofs.Common.{length, refl, sym, ap, subst, ◌∙◌, inl, inr, arith, Option, Some, None}
+use Rattle.std.proofs.Common.{◌≡◌, ◌⊎◌, ◌<◌, ℕ, suc, true, false, cond, List, [], ◌∷◌, ◌++◌, map}
+use Rattle.std.proofs.Common.{length, refl, sym, ap, subst, ◌∙◌, inl, inr, arith, Some}
 use Rattle.std.proofs.Common.{append-nil, slice_get}
 use Rattle.std.specs.List.{AllByRecursion}
 use Rattle.ent_tree.specs.declared.entangled.Entangled.{Entangled as TreeEntangled}
@@ -9,7 +9,7 @@ use Rattle.ent_tree.specs.declared.script.Statement.TheVariants as tree
 use Rattle.ent_semantics.specs.declared.answer.Answer.TheVariants as answers
 use Rattle.ent_semantics.specs.Database.{Database}
 use Rattle.ent_semantics.specs.Entangled.{Valuation}
-use Rattle.ent_semantics.specs.Serial.{Deed, numbered}
+use Rattle.ent_semantics.specs.Serial.{numbered}
 use Rattle.ent_semantics.specs.declared.book.JointAnswer.{JointAnswer}
 use Rattle.ent_semantics.specs.Uses.{Agree, Covers}
 use Rattle.ent_closed.specs.Closing.{closed, closed_entangled}
@@ -20,10 +20,10 @@ use Rattle.ent_closed.specs.declared.statement.Statement.TheVariants as statemen
 use Rattle.ent_coordination.specs.Choice.{AreGroundings}
 use Rattle.ent_meant.specs.Tables.{database_of}
 use Rattle.ent_protocol.specs.Job.{Job, Asking, posted_of}
-use Rattle.ent_protocol.specs.Member.{Asks, next_of, is_tx, environment_of}
+use Rattle.ent_protocol.specs.Member.{Asks, next_of, environment_of}
 use Rattle.ent_protocol.specs.PoolEvents.{answered_by, answered_among, joined_label, in_joined_group}
 use Rattle.ent_protocol.specs.Run.{Forms}
-use Rattle.ent_protocol.specs.State.{State, Submitted, Member}
+use Rattle.ent_protocol.specs.State.{State, Member}
 use Rattle.ent_protocol.specs.Uses.{statement_uses, entangled_uses}
 use Rattle.ent_legal.specs.Faithful.{number_of, is_used, is_owned, IsFaithful, IsFaithfulEntangled}
 use Rattle.ent_legal.specs.Faithful.{AreFaithful}
@@ -32,7 +32,7 @@ use Rattle.ent_legal.specs.SerialState.{Follows, IsWhole, IsOracled}
 use Rattle.ent_legal.proofs.Lists.{In, Pairs, of_all, to_all, in_either, of_map, to_map, clash}
 use Rattle.ent_legal.proofs.Lists.{pairs_across}
 use Rattle.ent_legal.proofs.Frame.{Laws, IsCovered, held}
-use Rattle.ent_legal.proofs.Undo.{same_number}
+use Rattle.ent_legal.proofs.Undo.{number_itself}
 use Rattle.ent_legal.proofs.Sound.{Fit, AreApart}
 use Rattle.ent_legal.proofs.Acts.{Keeps}
 use Rattle.ent_legal.proofs.Outcomes.{grounding_same}
@@ -41,96 +41,29 @@ use Rattle.ent_legal.proofs.Deeds.{HoldsUses, with_deed, covers_pushed, follows_
 use Rattle.ent_legal.proofs.Deeds.{asked_grounds}
 use Rattle.ent_legal.proofs.Jobs.{JobRight, OtherJob, AskingRight, StillAsks, Stays, Moves, jobs_moved}
 use Rattle.ent_legal.proofs.Jobs.{holds_own, next_same}
+use Rattle.ent_semantics.specs.declared.answer.Fact.{Fact}
+use Rattle.ent_semantics.specs.declared.book.Member.{Member as JointMember}
+use Rattle.ent_semantics.specs.Book.{AreApart as AreApartMembers}
+use Rattle.ent_semantics.specs.Entangled.{written_variables}
+use Rattle.ent_closed.specs.Form.{form_posts}
+use Rattle.ent_coordination.specs.Choice.{all_posts, all_heads}
+use Rattle.ent_protocol.specs.PoolEvents.{joint_members}
+use Rattle.ent_legal.proofs.Deeds.{asked_length}
+use Rattle.ent_legal.proofs.Lists.{pairs_at, pairs_by}
+use Rattle.ent_legal.proofs.Asks.{Ask, ask_member, ask_heads, ask_posts, asks_at, asks_place, history_asks}
+use Rattle.ent_legal.proofs.Asks.{asks_pushed, replays_in}
+use Rattle.ent_legal.proofs.Answered.{answered_keeps, deed_at, deeds_among, statement_deed, joint_member, IsAnswered}
+use Rattle.ent_legal.proofs.Answered.{IsLeft, answered_or_left, nonempty, from_joint, from_heads, joint_pairs}
+use Rattle.ent_legal.proofs.Answered.{OtherAsking}
+use Rattle.ent_semantics.specs.Database.{nothing_bound}
+use Rattle.ent_protocol.specs.PoolEvents.{joint_answer}
+use Rattle.ent_legal.proofs.Joints.{JointsRight, AsksOf, OtherTx, OneGroup, AreParted, right_same, right_joined}
+use Rattle.ent_legal.proofs.Joints.{of_own}
+use Rattle.ent_legal.proofs.Lists.{in_first, in_second, any_in, map_joined}
+use Rattle.std.proofs.Common.{◌==◌}
 use Rattle.ent_legal.proofs.Kept.{Kept, PostedHolds, member_of, kept_mapped, history_of, active_at}
-use Rattle.ent_legal.proofs.Kept.{one_member, map_alike}
+use Rattle.ent_legal.proofs.Kept.{one_member, map_alike, in_all, one_history, committed_apart}
 use Rattle.ent_legal.proofs.Stands.{IsNext, asking_next, follows_of}
-
--- ---- what an answer keeps of a member
-
-answered_keeps : {A : Type 0} (field : Member → A)
-    → ((asking : Asking) (values : Valuation) (m : Member) → field (answered_by asking values m) ≡ field m)
-    → (asked : List Asking) (groundings : List Valuation) (m : Member)
-    → field (answered_among asked groundings m) ≡ field m
-answered_keeps field same [] groundings m = refl
-answered_keeps field same (a ∷ asked) [] m = refl
-answered_keeps field same (a ∷ asked) (values ∷ more) m =
-    by (is_tx a.tx m) (answered_keeps field same asked more m)
-  where
-    by : (b : Bool) → field (answered_among asked more m) ≡ field m
-        → field (cond b (answered_by a values m) (answered_among asked more m)) ≡ field m
-    by true rest = same a values m
-    by false rest = rest
-
--- ---- the deeds that it adds
-
-abbrev statement_deed : Valuation → Option TreeStatement → List Deed
-statement_deed values None = []
-statement_deed values (Some st) = record { statement = st; valuation = values } ∷ []
-
-abbrev deed_at : Member → Valuation → Option Submitted → List Deed
-deed_at m values None = []
-deed_at m values (Some own) = statement_deed values (numbered own.script.statements m.place)
-
-abbrev deeds_among : List Submitted → List Asking → List Valuation → Member → List Deed
-deeds_among submitted [] groundings m = []
-deeds_among submitted (a ∷ asked) [] m = []
-deeds_among submitted (a ∷ asked) (values ∷ more) m =
-    cond (is_tx a.tx m) (deed_at m values (numbered submitted m.tx)) (deeds_among submitted asked more m)
-
--- a statement of the answer is a member's
-record IsAnswered (submitted : List Submitted) (seen : Tables) (asked : List Asking) (groundings : List Valuation)
-    (m : Member) : Type 0 where
-  pub asking : Asking
-  pub values : Valuation
-  pub at : In asking asked
-  pub tx : m.tx ≡ asking.tx
-  pub grounds : is_form_grounding (λ value. value) seen asking.statement values ≡ true
-  pub member : answered_among asked groundings m ≡ answered_by asking values m
-  pub deeds : deeds_among submitted asked groundings m ≡ deed_at m values (numbered submitted m.tx)
-
-record IsLeft (submitted : List Submitted) (asked : List Asking) (groundings : List Valuation) (m : Member)
-    : Type 0 where
-  pub member : answered_among asked groundings m ≡ m
-  pub deeds : deeds_among submitted asked groundings m ≡ []
-
-answered_or_left : (submitted : List Submitted) (seen : Tables) (asked : List Asking) (groundings : List Valuation)
-    (m : Member) → AreGroundings seen (map posted_of asked) groundings
-    → IsAnswered submitted seen asked groundings m ⊎ IsLeft submitted asked groundings m
-answered_or_left submitted seen [] groundings m good = inr (record { member = refl; deeds = refl })
-answered_or_left submitted seen (a ∷ asked) [] m good = inr (record { member = refl; deeds = refl })
-answered_or_left submitted seen (a ∷ asked) (values ∷ more) m good =
-    by (is_tx a.tx m) refl (answered_or_left submitted seen asked more m good.1)
-  where
-    by : (b : Bool) → is_tx a.tx m ≡ b
-        → IsAnswered submitted seen asked more m ⊎ IsLeft submitted asked more m
-        → IsAnswered submitted seen (a ∷ asked) (values ∷ more) m ⊎ IsLeft submitted (a ∷ asked) (values ∷ more) m
-    by true is rest =
-        inl (record {
-          asking = a;
-          values = values;
-          at = inl refl;
-          tx = same_number m.tx a.tx is;
-          grounds = good.0.grounds;
-          member = ap (λ b. cond b (answered_by a values m) (answered_among asked more m)) is;
-          deeds = ap (λ b. cond b (deed_at m values (numbered submitted m.tx)) (deeds_among submitted asked more m)) is;
-        })
-    by false is (inl r) =
-        inl (record {
-          asking = r.asking;
-          values = r.values;
-          at = inr r.at;
-          tx = r.tx;
-          grounds = r.grounds;
-          member = ap (λ b. cond b (answered_by a values m) (answered_among asked more m)) is ∙ r.member;
-          deeds = ap (λ b. cond b (deed_at m values (numbered submitted m.tx)) (deeds_among submitted asked more m)) is
-              ∙ r.deeds;
-        })
-    by false is (inr r) =
-        inr (record {
-          member = ap (λ b. cond b (answered_by a values m) (answered_among asked more m)) is ∙ r.member;
-          deeds = ap (λ b. cond b (deed_at m values (numbered submitted m.tx)) (deeds_among submitted asked more m)) is
-              ∙ r.deeds;
-        })
 
 -- a statement is of a member that is posted before it
 pub record IsPresent (s : State) (asking : Asking) : Type 0 where
@@ -140,6 +73,17 @@ pub record IsPresent (s : State) (asking : Asking) : Type 0 where
   pub next : next_of s member ≡ Asks asking.statement
   pub tx : asking.tx ≡ member.tx
   pub place : asking.place ≡ member.place
+
+-- groups that are joined have one label
+label_same : (groups : List ℕ) (one other : ℕ) → In one groups → In other groups
+    → joined_label groups one ≡ joined_label groups other
+label_same [] one other at bt = absurd at
+label_same (first ∷ more) one other at bt = label_first one at ∙ sym (label_first other bt)
+  where
+    label_first : (group : ℕ) → In group (first ∷ more) → joined_label (first ∷ more) group ≡ first
+    label_first group here =
+        ap (λ b. cond b first group)
+        (any_in (λ joined. joined == group) (first ∷ more) group here (number_itself group))
 
 module _ {F : Type 0} (forms : Forms F) (laws : Laws) (s : State) (kept : Kept forms s)
     (faithful : AreFaithful forms s.opening) (asked : List Asking) (groundings : List Valuation) (seen : Tables)
@@ -444,6 +388,17 @@ module _ {F : Type 0} (forms : Forms F) (laws : Laws) (s : State) (kept : Kept f
         )
       ]) kept.jobs
 
+  long : (x : History) (r : Answering x) → length r.answered.values ≡ length (written_variables r.pair.entangled)
+  long x r =
+      let pair = r.pair in
+      let faith : IsFaithful s.opening.tables (tree.Entangled pair.entangled) (statements.Entangled pair.form) =
+      subst (IsFaithful s.opening.tables (tree.Entangled pair.entangled)) pair.form_is
+      (subst (λ st. IsFaithful s.opening.tables st r.next.form) pair.is r.next.faithful) in
+      asked_length s.opening.tables laws x r.answered.asking.statement r.answered.values pair.entangled pair.form faith
+      pair.faithful pair.closes s.tables kept.sound.wide
+      (sym (grounding_same seen s.tables r.answered.asking.statement r.answered.values r.asks.alike)
+      ∙ r.answered.grounds)
+
   posted_joined : AllByRecursion (PostedHolds s.submitted) (map change s.active)
   posted_joined =
       to_all (PostedHolds s.submitted) (map change s.active) (λ other ot.
@@ -455,21 +410,308 @@ module _ {F : Type 0} (forms : Forms F) (laws : Laws) (s : State) (kept : Kept f
             (next_same (numbered s.submitted m.0.tx) m.0 (in_joined_group groups m.0) refl refl ∙ next))
       ]))
 
-  pub joins : (joints : List JointAnswer) (left : List Job) → ((job : Job) → In job left → In job s.lent)
-      → Pairs OtherJob left → (s.running ≡ false → ⊥)
-      → Kept forms (record s {
-        prepared = map (in_joined_group groups) s.prepared;
-        active = map (λ m. in_joined_group groups (answered_among asked groundings m)) s.active;
-        joints = joints;
-        lent = left;
-      })
-  joins joints left fewer apart on =
-      subst (λ ms. Kept forms (record s {
-        prepared = ms;
-        active = map change s.active;
-        joints = joints;
-        lent = left;
-      })) prepared_change
-      (kept_mapped forms laws s kept entered change change (λ x at. refl) (λ x at. refl) keeps whole_entered
-      follows_entered joints left posted_joined (jobs_joined left fewer) apart on (λ m mt. tx_kept m)
-      (λ m mt. tx_kept m))
+  -- ---- the joint answer
+
+  abbrev new_ask : (x : History) → Answering x → Ask
+  new_ask x r =
+      record {
+        tx = x.member.tx;
+        place = suc (length x.deeds);
+        valuation = r.answered.values;
+        entangled = r.pair.entangled;
+        environment = environment_of x.member;
+      }
+
+  -- an entangled statement that is answered now
+  abbrev NewAsk : Ask → Type 0
+  NewAsk ask = (x : History) × In x kept.others × (r : Answering x) × (ask ≡ new_ask x r)
+
+  new_member : (x : History) → In x kept.others → (r : Answering x)
+      → ask_member (new_ask x r) ≡ joint_member r.answered.asking r.answered.values
+  new_member x at r =
+      let p = present_of x.member r.answered.asking (active_at forms s kept x at) r.answered.at r.answered.tx in
+      let place : suc (length x.deeds) ≡ r.answered.asking.place =
+      sym r.follows.place ∙ ap (λ (m : Member). m.place) (sym p.1) ∙ sym p.0.place in
+      λ i. record { tx = r.answered.tx i; place = place i; grounding = r.answered.values }
+
+  asks_answered : (x : History) → In x kept.others → (r : Answering x)
+      → history_asks (entered x) ≡ history_asks x ++ new_ask x r ∷ []
+  asks_answered x at r =
+      let run = replays_in s.opening.tables (kept.prepared ++ kept.others) kept.base
+      (database_of s.opening.tables s.tables) kept.sound.serial x (in_all forms s kept x at) in
+      ap history_asks r.is
+      ∙ asks_pushed s.opening.tables x run.0 run.1
+      (record { statement = r.next.statement; valuation = r.answered.values }) run.2
+      ∙ ap (λ st. history_asks x
+      ++ asks_at x.member.tx (suc (length x.deeds)) st r.answered.values (environment_of x.member)) r.pair.is
+
+  asks_left : (x : History) → IsLeft s.submitted asked groundings x.member → history_asks (entered x) ≡ history_asks x
+  asks_left x l = ap history_asks (left_is x l)
+
+  -- the one that a statement of the answer is of
+  answering_of : (a : Asking) → In a asked → (x : History) × In x kept.others × (r : Answering x) × (x.member.tx ≡ a.tx)
+  answering_of a at =
+      let p = of_all (IsPresent s) asked a present at in
+      let y = history_of forms s kept p.member p.at in
+      let tx : y.0.member.tx ≡ a.tx = ap (λ (m : Member). m.tx) (sym y.2) ∙ sym p.tx in
+      elim (case_of y.0 y.1) [
+        | inl r ↦ (y.0, y.1, r, tx)
+        | inr l ↦ absurd (l.none a at tx)
+      ]
+
+  module _ (apart : Pairs OtherAsking asked) (some : asked ≡ [] → ⊥)
+      (choice : (post : Fact) → In post (all_posts (map posted_of asked) groundings)
+      → In post (all_heads (map posted_of asked) groundings))
+      (grouped : (a : Asking) → In a asked → (x : History) → In x (kept.prepared ++ kept.others)
+      → x.member.tx ≡ a.tx → In x.member.group groups) where
+    joint_apart : Pairs OtherTx (joint_members asked groundings)
+    joint_apart = joint_pairs asked groundings apart
+
+    -- a place of the answer is that of the member that is answered there
+    same_place : (m : JointMember) → In m (joint_members asked groundings) → (x : History) → In x kept.others
+        → (r : Answering x) → x.member.tx ≡ m.tx → m ≡ ask_member (new_ask x r)
+    same_place m mt x at r tx =
+        elim (pairs_at OtherTx (λ a b h e. h (sym e)) (joint_members asked groundings) m
+        (joint_member r.answered.asking r.answered.values) joint_apart mt r.answered.in_joint) [
+          | inl e ↦ e ∙ sym (new_member x at r)
+          | inr differ_so ↦ absurd (differ_so (sym tx ∙ r.answered.tx))
+        ]
+
+    posts_are : (x : History) (r : Answering x)
+        → ask_posts (new_ask x r) ≡ form_posts (λ value. value) r.answered.asking.statement r.answered.values
+    posts_are x r =
+        r.pair.faithful.demands (environment_of x.member) r.answered.values (long x r)
+        ∙ sym (laws.closes_posts (environment_of x.member) r.pair.form r.answered.values)
+        ∙ ap (λ e. form_posts (λ value. value) e r.answered.values) r.pair.closes
+
+    heads_are : (x : History) (r : Answering x)
+        → ask_heads (new_ask x r) ≡ form_heads (λ value. value) r.answered.asking.statement r.answered.values
+    heads_are x r =
+        r.pair.faithful.offers (environment_of x.member) r.answered.values (long x r)
+        ∙ sym (laws.closes_heads (environment_of x.member) r.pair.form r.answered.values)
+        ∙ ap (λ e. form_heads (λ value. value) e r.answered.values) r.pair.closes
+
+    new_right : JointsRight NewAsk (joint_answer asked groundings ∷ [])
+    new_right =
+        record {
+          up = λ ask a. (
+            joint_answer asked groundings,
+            inl refl,
+            subst (λ m. In m (joint_members asked groundings)) (sym (ap ask_member a.3 ∙ new_member a.0 a.1 a.2))
+                a.2.answered.in_joint,
+          );
+          down = λ j jt m mt. elim jt [
+            | inl e ↦
+                let at = subst (λ (x : JointAnswer). In m x.members) e mt in
+                let f = from_joint asked groundings m at in
+                let y = answering_of f.0 f.2 in (
+                  new_ask y.0 y.2,
+                  (y.0, y.1, y.2, refl),
+                  same_place m at y.0 y.1 y.2 (y.3 ∙ ap (λ (n : JointMember). n.tx) (sym f.3)),
+                )
+            | inr bad ↦ absurd bad
+          ];
+          once = subst (Pairs AreApartMembers) (sym (append-nil (joint_members asked groundings)))
+              (pairs_by OtherTx AreApartMembers (joint_members asked groundings) (λ a b h e. absurd (h e)) joint_apart);
+          some = λ j jt e. elim jt [
+            | inl same ↦ nonempty seen asked groundings good some (ap (λ (x : JointAnswer). x.members) (sym same) ∙ e)
+            | inr bad ↦ absurd bad
+          ];
+          distinct = λ j jt. elim jt [
+            | inl same ↦ subst (λ (x : JointAnswer). Pairs OtherTx x.members) (sym same) joint_apart
+            | inr bad ↦ absurd bad
+          ];
+          met = λ j jt ask a mt post pt. elim jt [
+            | inl same ↦
+                let at = a.2.answered.demands post (subst (In post) (ap ask_posts a.3 ∙ posts_are a.0 a.2) pt) in
+                let f = from_heads asked groundings post (choice post at) in
+                let y = answering_of f.0 f.2 in
+                let asking : f.0 ≡ y.2.answered.asking =
+                elim (pairs_at OtherAsking (λ u v h e. h (sym e)) asked f.0 y.2.answered.asking apart f.2
+                y.2.answered.at) [
+                  | inl e ↦ e
+                  | inr differ_so ↦ absurd (differ_so (sym y.3 ∙ y.2.answered.tx))
+                ] in
+                let place = same_place (joint_member f.0 f.1) f.3 y.0 y.1 y.2 y.3 in
+                let values : f.1 ≡ y.2.answered.values = ap (λ (n : JointMember). n.grounding) place in (
+                  new_ask y.0 y.2,
+                  (y.0, y.1, y.2, refl),
+                  subst (λ (x : JointAnswer). In (ask_member (new_ask y.0 y.2)) x.members) (sym same)
+                      (subst (λ n. In n (joint_members asked groundings)) place f.3),
+                  subst (In post) (sym (heads_are y.0 y.2))
+                      (subst (λ v. In post (form_heads (λ value. value) y.2.answered.asking.statement v)) values
+                      (subst (λ (z : Asking). In post (form_heads (λ value. value) z.statement f.1)) asking f.4)),
+                )
+            | inr bad ↦ absurd bad
+          ];
+        }
+
+    -- ---- the joint answers with it
+
+    abbrev now : List History
+    now = map entered kept.prepared ++ map entered kept.others
+
+    abbrev answered_now : List JointAnswer
+    answered_now = s.joints ++ joint_answer asked groundings ∷ []
+
+    entered_of : (y : History) → In y now → (x : History) × In x (kept.prepared ++ kept.others) × (y ≡ entered x)
+    entered_of y yt =
+        of_map entered (kept.prepared ++ kept.others) y
+        (subst (In y) (sym (map_joined entered kept.prepared kept.others)) yt)
+
+    entered_now : (x : History) → In x (kept.prepared ++ kept.others) → In (entered x) now
+    entered_now x at =
+        subst (In (entered x)) (map_joined entered kept.prepared kept.others)
+        (to_map entered (kept.prepared ++ kept.others) x at)
+
+    tx_of : (x y : History) → y ≡ entered x → x.member.tx ≡ y.member.tx
+    tx_of x y is = sym (tx_kept x.member) ∙ ap (λ (h : History). h.member.tx) (sym is)
+
+    group_of : (x y : History) → y ≡ entered x → y.member.group ≡ joined_label groups x.member.group
+    group_of x y is = ap (λ (h : History). h.member.group) is ∙ group_kept x.member
+
+    -- what a member passed is what it had passed, and what is answered now
+    asks_now : (x : History) → In x (kept.prepared ++ kept.others) → (ask : Ask)
+        → In ask (history_asks (entered x)) → In ask (history_asks x) ⊎ NewAsk ask
+    asks_now x xt ask at =
+        elim (in_either kept.prepared kept.others x xt) [
+          | inl p ↦ inl (subst (In ask) (asks_left x (prepared_left x p)) at)
+          | inr q ↦ elim (case_of x q) [
+            | inl r ↦ elim (in_either (history_asks x) (new_ask x r ∷ []) ask
+                (subst (In ask) (asks_answered x q r) at)) [
+                  | inl a ↦ inl a
+                  | inr b ↦ elim b [
+                    | inl same ↦ inr (x, q, r, same)
+                    | inr bad ↦ absurd bad
+                  ]
+                ]
+            | inr l ↦ inl (subst (In ask) (asks_left x l) at)
+          ]
+        ]
+
+    asks_before : (x : History) → In x (kept.prepared ++ kept.others) → (ask : Ask) → In ask (history_asks x)
+        → In ask (history_asks (entered x))
+    asks_before x xt ask at =
+        elim (in_either kept.prepared kept.others x xt) [
+          | inl p ↦ subst (In ask) (sym (asks_left x (prepared_left x p))) at
+          | inr q ↦ elim (case_of x q) [
+            | inl r ↦ subst (In ask) (sym (asks_answered x q r))
+                (in_first (history_asks x) (new_ask x r ∷ []) ask at)
+            | inr l ↦ subst (In ask) (sym (asks_left x l)) at
+          ]
+        ]
+
+    asks_new : (ask : Ask) (n : NewAsk ask) → In ask (history_asks (entered n.0))
+    asks_new ask n =
+        subst (In ask) (sym (asks_answered n.0 n.1 n.2))
+        (in_second (history_asks n.0) (new_ask n.0 n.2 ∷ []) ask (inl n.3))
+
+    new_apart : (one other : Ask) → AsksOf (kept.committed ++ (kept.prepared ++ kept.others)) one → NewAsk other
+        → AreApartMembers (ask_member one) (ask_member other)
+    new_apart one other a n same place =
+        let x = n.0 in
+        let xt = in_all forms s kept x n.1 in
+        let tx : x.member.tx ≡ a.0.member.tx =
+        ap (λ (k : Ask). k.tx) (sym n.3) ∙ sym same ∙ of_own a.0 one a.2 in
+        elim (in_either kept.committed (kept.prepared ++ kept.others) a.0 a.1) [
+          | inl c ↦ committed_apart forms s kept a.0 x c xt tx
+          | inr b ↦
+              let same_one = one_history (kept.prepared ++ kept.others) x a.0 kept.sound.fit xt b tx in
+              let low = asks_place x.member.tx 1 x.deeds nothing_bound one
+              (subst (λ (h : History). In one (history_asks h)) (sym same_one) a.2) in
+              let high : one.place ≡ suc (length x.deeds) = place ∙ ap (λ (k : Ask). k.place) n.3 in
+              absurd (omega (low, high, arith))
+        ]
+
+    right_now : JointsRight (AsksOf (kept.committed ++ now)) answered_now
+    right_now =
+        right_same (λ ask. AsksOf (kept.committed ++ (kept.prepared ++ kept.others)) ask ⊎ NewAsk ask)
+        (AsksOf (kept.committed ++ now)) answered_now
+        (λ ask a. elim a [
+          | inl h ↦ elim (in_either kept.committed (kept.prepared ++ kept.others) h.0 h.1) [
+            | inl c ↦ (h.0, in_first kept.committed now h.0 c, h.2)
+            | inr b ↦ (
+              entered h.0,
+              in_second kept.committed now (entered h.0) (entered_now h.0 b),
+              asks_before h.0 b ask h.2,
+            )
+          ]
+          | inr n ↦ (
+            entered n.0,
+            in_second kept.committed now (entered n.0) (entered_now n.0 (in_all forms s kept n.0 n.1)),
+            asks_new ask n,
+          )
+        ])
+        (λ ask a. elim (in_either kept.committed now a.0 a.1) [
+          | inl c ↦ inl (a.0, in_first kept.committed (kept.prepared ++ kept.others) a.0 c, a.2)
+          | inr b ↦
+              let y = entered_of a.0 b in
+              elim (asks_now y.0 y.1 ask (subst (λ (h : History). In ask (history_asks h)) y.2 a.2)) [
+                | inl p ↦ inl (y.0, in_second kept.committed (kept.prepared ++ kept.others) y.0 y.1, p)
+                | inr n ↦ inr n
+              ]
+        ])
+        (right_joined (AsksOf (kept.committed ++ (kept.prepared ++ kept.others))) NewAsk s.joints
+        (joint_answer asked groundings ∷ []) new_apart kept.joined.right new_right)
+
+    -- one that is answered is of a group that is joined
+    joins_groups : (one : JointMember) → In one (joint_members asked groundings) → (x : History)
+        → In x (kept.prepared ++ kept.others) → x.member.tx ≡ one.tx → In x.member.group groups
+    joins_groups one ot x xt tx =
+        let a = from_joint asked groundings one ot in
+        grouped a.0 a.2 x xt (tx ∙ ap (λ (m : JointMember). m.tx) a.3)
+
+    one_group_now : OneGroup now answered_now
+    one_group_now joint jt one other ot pt x y xt yt e f =
+        let u = entered_of x xt in
+        let v = entered_of y yt in
+        let eu = tx_of u.0 x u.2 ∙ e in
+        let ev = tx_of v.0 y v.2 ∙ f in
+        group_of u.0 x u.2
+        ∙ elim (in_either s.joints (joint_answer asked groundings ∷ []) joint jt) [
+          | inl old ↦ ap (joined_label groups)
+              (kept.joined.one_group joint old one other ot pt u.0 v.0 u.1 v.1 eu ev)
+          | inr new ↦ elim new [
+            | inl same ↦ label_same groups u.0.member.group v.0.member.group
+                (joins_groups one (subst (λ (j : JointAnswer). In one j.members) same ot) u.0 u.1 eu)
+                (joins_groups other (subst (λ (j : JointAnswer). In other j.members) same pt) v.0 v.1 ev)
+            | inr bad ↦ absurd bad
+          ]
+        ]
+        ∙ sym (group_of v.0 y v.2)
+
+    parted_now : AreParted kept.committed now answered_now
+    parted_now joint jt one other ot pt x y xt yt e f =
+        elim (in_either s.joints (joint_answer asked groundings ∷ []) joint jt) [
+          | inl old ↦
+              let u = entered_of x xt in
+              kept.joined.parted joint old one other ot pt u.0 y u.1 yt (tx_of u.0 x u.2 ∙ e) f
+          | inr new ↦ elim new [
+            | inl same ↦
+                let a = from_joint asked groundings other (subst (λ (j : JointAnswer). In other j.members) same pt) in
+                let z = answering_of a.0 a.2 in
+                committed_apart forms s kept y z.0 yt (in_all forms s kept z.0 z.1)
+                (z.3 ∙ ap (λ (m : JointMember). m.tx) (sym a.3) ∙ sym f)
+            | inr bad ↦ absurd bad
+          ]
+        ]
+
+    pub joins : (left : List Job) → ((job : Job) → In job left → In job s.lent) → Pairs OtherJob left
+        → (s.running ≡ false → ⊥)
+        → Kept forms (record s {
+          prepared = map (in_joined_group groups) s.prepared;
+          active = map (λ m. in_joined_group groups (answered_among asked groundings m)) s.active;
+          joints = answered_now;
+          lent = left;
+        })
+    joins left fewer jobs_apart on =
+        subst (λ ms. Kept forms (record s {
+          prepared = ms;
+          active = map change s.active;
+          joints = answered_now;
+          lent = left;
+        })) prepared_change
+        (kept_mapped forms laws s kept entered change change (λ x at. refl) (λ x at. refl) keeps whole_entered
+        follows_entered answered_now left
+        (record { right = right_now; one_group = one_group_now; parted = parted_now }) posted_joined
+        (jobs_joined left fewer) jobs_apart on (λ m mt. tx_kept m) (λ m mt. tx_kept m))

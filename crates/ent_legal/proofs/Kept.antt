@@ -5,6 +5,7 @@ use Rattle.std.specs.List.{AllByRecursion}
 use Rattle.ent_semantics.specs.declared.book.Entry.{Entry}
 use Rattle.ent_semantics.specs.declared.book.Fated.{Fated}
 use Rattle.ent_semantics.specs.declared.book.JointAnswer.{JointAnswer}
+use Rattle.ent_legal.proofs.Joints.{JointsStand}
 use Rattle.ent_semantics.specs.Database.{Database, opening_database}
 use Rattle.ent_semantics.specs.Serial.{numbered}
 use Rattle.ent_value.specs.declared.value.Value.{Value}
@@ -21,7 +22,7 @@ use Rattle.ent_legal.specs.Faithful.{AreFaithful}
 use Rattle.ent_legal.specs.History.{History, AreSerial}
 use Rattle.ent_legal.specs.SerialState.{Follows, IsWhole}
 use Rattle.ent_legal.proofs.Lists.{In, Pairs, Same, of_all, to_all, all_map, all_joined, all_first, all_second, of_map}
-use Rattle.ent_legal.proofs.Lists.{to_map, in_second, pairs_map}
+use Rattle.ent_legal.proofs.Lists.{to_map, in_second, in_either, pairs_map}
 use Rattle.ent_legal.proofs.Frame.{Laws}
 use Rattle.ent_legal.proofs.Sound.{Sound, Fit}
 use Rattle.ent_legal.proofs.Acts.{Keeps, sound_mapped, pairs_within}
@@ -76,6 +77,11 @@ pub record Kept {F : Type 0} (forms : Forms F) (s : State) : Type 0 where
       → member.tx ≡ dormant.tx → ⊥
   pub scripts : AllByRecursion (λ (dormant : Dormant). (own : Submitted) × (numbered s.submitted dormant.tx ≡ Some own))
       s.dormant
+  -- joint answers are whole and good
+  pub joined : JointsStand committed (prepared ++ others) s.joints
+  -- a committed transaction has a fate
+  pub committed_fated : (history : History) → In history committed
+      → (fated : Fated) × In fated s.fates × (fated.tx ≡ history.member.tx)
   -- each has one fate at most, and then it is neither a member nor dormant
   pub fated : Pairs OtherFated s.fates
   pub fated_not_prepared : (fated : Fated) (member : Member) → In fated s.fates → In member s.prepared
@@ -127,6 +133,7 @@ module _ {F : Type 0} (forms : Forms F) (laws : Laws) (s : State) (kept : Kept f
       → ((x : History) → In x kept.prepared → IsWhole s.submitted x → IsWhole s.submitted (h x))
       → ((x : History) → In x kept.others → Follows s.submitted x → Follows s.submitted (h x))
       → (joints : List JointAnswer) (lent : List Job)
+      → JointsStand kept.committed (map h kept.prepared ++ map h kept.others) joints
       → AllByRecursion (PostedHolds s.submitted) (map f s.active)
       → AllByRecursion (JobRight s.submitted (map f s.active) s.tables) lent → Pairs OtherJob lent
       → (s.running ≡ false → ⊥)
@@ -138,7 +145,7 @@ module _ {F : Type 0} (forms : Forms F) (laws : Laws) (s : State) (kept : Kept f
         joints = joints;
         lent = lent;
       })
-  kept_mapped of_prepared of_others keeps wholes follows joints lent posted jobs apart on g_tx f_tx =
+  kept_mapped of_prepared of_others keeps wholes follows joints lent joined posted jobs apart on g_tx f_tx =
       record {
         committed = kept.committed;
         prepared = map h kept.prepared;
@@ -174,6 +181,8 @@ module _ {F : Type 0} (forms : Forms F) (laws : Laws) (s : State) (kept : Kept f
         not_active = λ d m dt mt e.
             let r = of_map f s.active m mt in
             kept.not_active d r.0 dt r.1 (sym (f_tx r.0 r.1) ∙ ap (λ (x : Member). x.tx) (sym r.2) ∙ e);
+        joined = joined;
+        committed_fated = kept.committed_fated;
         fated = kept.fated;
         fated_not_prepared = λ d m dt mt e.
             let r = of_map g s.prepared m mt in
@@ -247,6 +256,16 @@ module _ {F : Type 0} (forms : Forms F) (s : State) (kept : Kept forms s) where
 
   pub prepared_at : (x : History) → In x kept.prepared → In x.member s.prepared
   prepared_at x at = subst (In x.member) kept.of_prepared (to_map member_of kept.prepared x at)
+
+  -- a committed transaction is no member
+  pub committed_apart : (x y : History) → In x kept.committed → In y (kept.prepared ++ kept.others)
+      → y.member.tx ≡ x.member.tx → ⊥
+  committed_apart x y at bt same =
+      let f = kept.committed_fated x at in
+      elim (in_either kept.prepared kept.others y bt) [
+        | inl a ↦ kept.fated_not_prepared f.0 y.member f.1 (prepared_at y a) (same ∙ sym f.2)
+        | inr b ↦ kept.fated_not_active f.0 y.member f.1 (active_at y b) (same ∙ sym f.2)
+      ]
 
   pub in_all : (x : History) → In x kept.others → In x (kept.prepared ++ kept.others)
   in_all x at = in_second kept.prepared kept.others x at

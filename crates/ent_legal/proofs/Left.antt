@@ -32,6 +32,8 @@ use Rattle.ent_legal.proofs.Jobs.{OtherJob, jobs_moved, stays_as_is}
 use Rattle.ent_legal.proofs.Kept.{Kept, PostedHolds, OtherMember, OtherFated, OtherDormant, member_of, entry_from}
 use Rattle.ent_legal.proofs.Kept.{map_map, history_of, active_at}
 use Rattle.ent_legal.proofs.Kept.{prepared_at, one_history, in_all}
+use Rattle.ent_legal.proofs.Lists.{in_second}
+use Rattle.ent_legal.proofs.Joints.{JointsStand, stand_committed, stand_left}
 
 -- ---- members that go to the dormant list
 
@@ -89,6 +91,12 @@ of_commit number (m ∷ ms) f (inl same) = (m, inl refl, ap (λ (x : Fated). x.t
 of_commit number (m ∷ ms) f (inr more) =
     let r = of_commit (suc number) ms f more in
     (r.0, inr r.1, r.2)
+
+to_commit : (number : ℕ) (ms : List Member) (m : Member) → In m ms
+    → (f : Fated) × In f (commit_fates number ms) × (f.tx ≡ m.tx)
+to_commit number [] m at = absurd at
+to_commit number (x ∷ ms) m (inl same) = (_, inl refl, ap (λ (y : Member). y.tx) (sym same))
+to_commit number (x ∷ ms) m (inr at) = let r = to_commit (suc number) ms m at in (r.0, inr r.1, r.2)
 
 commit_pairs : (number : ℕ) (ms : List Member) → Pairs OtherMember ms → Pairs OtherFated (commit_fates number ms)
 commit_pairs number [] pairs = tt
@@ -205,6 +213,18 @@ module _ {F : Type 0} (forms : Forms F) (laws : Laws) (s : State) (kept : Kept f
   pub in_among : (gone : List Member) (m : Member) → In m gone → is_among gone m.tx ≡ true
   in_among gone m at = any_in (is_tx m.tx) gone m at (number_itself m.tx)
 
+  -- a committed transaction isn't among members
+  pub committed_stays : (gone : List Member) → ((m : Member) → In m gone → In m (members s)) → (y : History)
+      → In y kept.committed → is_among gone y.member.tx ≡ false
+  committed_stays gone of_state y yt =
+      not_so (is_among gone y.member.tx) (λ is.
+      let m = among_in gone y.member.tx is in
+      let f = kept.committed_fated y yt in
+      elim (in_either s.prepared s.active m.0 (of_state m.0 m.1)) [
+        | inl p ↦ kept.fated_not_prepared f.0 m.0 f.1 p (m.2 ∙ sym f.2)
+        | inr q ↦ kept.fated_not_active f.0 m.0 f.1 q (m.2 ∙ sym f.2)
+      ])
+
   -- ---- commit
 
   module _ (group : ℕ) (ready : list_any (is_of group) s.active ≡ false) (on : s.running ≡ false → ⊥) where
@@ -271,6 +291,44 @@ module _ {F : Type 0} (forms : Forms F) (laws : Laws) (s : State) (kept : Kept f
         ap (map member_of) (filter_same (λ x. q x.member.tx) (λ x. p x.member) kept.prepared same)
         ∙ map_filtered member_of p kept.prepared ∙ ap (filter p) kept.of_prepared
 
+    joined_commit : JointsStand (kept.committed ++ filter (leaves gone) kept.prepared)
+        (filter (stays gone) kept.prepared ++ kept.others) s.joints
+    joined_commit =
+        stand_committed kept.committed all (filter (leaves gone) kept.prepared)
+        (filter (stays gone) kept.prepared ++ kept.others) s.joints parts
+        (λ x at. in_first kept.prepared kept.others x (of_filter (leaves gone) kept.prepared x at).0)
+        (λ x at. (from_stay x at).0)
+        (λ x y at bt same.
+        let f = of_filter (leaves gone) kept.prepared x at in
+        let g = from_stay y bt in
+        not_of_group y g.0 g.1 (same ∙ of_group x (in_first kept.prepared kept.others x f.0) f.1)) kept.joined
+      where
+        parts : (x : History) → In x all
+            → In x (filter (leaves gone) kept.prepared) ⊎ In x (filter (stays gone) kept.prepared ++ kept.others)
+        parts x at =
+            elim (in_either kept.prepared kept.others x at) [
+              | inl a ↦ by (gone x.member.tx) refl a
+              | inr b ↦ inr (in_second (filter (stays gone) kept.prepared) kept.others x b)
+            ]
+          where
+            by : (c : Bool) → is_among (committing_members s group) x.member.tx ≡ c → In x kept.prepared
+                → In x (filter (leaves gone) kept.prepared)
+                ⊎ In x (filter (stays gone) kept.prepared ++ kept.others)
+            by true is a = inl (to_filter (leaves gone) kept.prepared x a is)
+            by false is a =
+                inr (in_first (filter (stays gone) kept.prepared) kept.others x
+                (to_filter (stays gone) kept.prepared x a (ap not is)))
+
+        from_stay : (y : History) → In y (filter (stays gone) kept.prepared ++ kept.others)
+            → In y all × (gone y.member.tx ≡ false)
+        from_stay y yt =
+            elim (in_either (filter (stays gone) kept.prepared) kept.others y yt) [
+              | inl p ↦
+                  let f = of_filter (stays gone) kept.prepared y p in
+                  (in_first kept.prepared kept.others y f.0, turned (gone y.member.tx) f.1)
+              | inr q ↦ (in_second kept.prepared kept.others y q, not_gone y q)
+            ]
+
     committing_apart : Pairs OtherMember (committing_members s group)
     committing_apart =
         pairs_filtered OtherMember (is_of group) s.prepared (subst (Pairs OtherMember) kept.of_prepared
@@ -313,6 +371,25 @@ module _ {F : Type 0} (forms : Forms F) (laws : Laws) (s : State) (kept : Kept f
               kept.not_prepared d m dt (of_filter (λ x. not (is_of group x)) s.prepared m mt).0 e;
           not_active = kept.not_active;
           scripts = kept.scripts;
+          joined = joined_commit;
+          committed_fated = λ h ht.
+              elim (in_either kept.committed (filter (leaves gone) kept.prepared) h ht) [
+                | inl p ↦
+                    let r = kept.committed_fated h p in (
+                      r.0,
+                      in_first s.fates (commit_fates (suc (length s.journal)) (committing_members s group)) r.0 r.1,
+                      r.2,
+                    )
+                | inr q ↦
+                    let f = of_filter (leaves gone) kept.prepared h q in
+                    let r = to_commit (suc (length s.journal)) (committing_members s group) h.member
+                    (to_filter (is_of group) s.prepared h.member (prepared_at forms s kept h f.0)
+                    (sym (gone_is h f.0) ∙ f.1)) in (
+                      r.0,
+                      in_second s.fates (commit_fates (suc (length s.journal)) (committing_members s group)) r.0 r.1,
+                      r.2,
+                    )
+              ];
           fated = pairs_joined OtherFated s.fates (commit_fates (suc (length s.journal)) (committing_members s group))
               kept.fated (commit_pairs (suc (length s.journal)) (committing_members s group) committing_apart)
               (λ f g ft gt e.
@@ -372,7 +449,9 @@ module _ {F : Type 0} (forms : Forms F) (laws : Laws) (s : State) (kept : Kept f
   module _ (gone : List Member) (cause : Cause) (apart_members : Pairs (λ (a b : Member). a.tx ≡ b.tx → ⊥) gone)
       (of_state : (m : Member) → In m gone → In m (members s))
       (parted : (x y : History) → In x all → In y all → is_among gone x.member.tx ≡ true
-      → is_among gone y.member.tx ≡ false → Apart x.member y.member) where
+      → is_among gone y.member.tx ≡ false → Apart x.member y.member)
+      (closed : (x y : History) → In x all → In y all → x.member.group ≡ y.member.group
+      → is_among gone x.member.tx ≡ true → is_among gone y.member.tx ≡ true) where
     abbrev out : Member → Bool
     out m = not (is_among gone m.tx)
 
@@ -449,6 +528,31 @@ module _ {F : Type 0} (forms : Forms F) (laws : Laws) (s : State) (kept : Kept f
         clash (is_among gone m.tx) (ap (is_among gone) (e ∙ r.2) ∙ in_among gone r.0 r.1)
         (turned (is_among gone m.tx) stay)
 
+    abbrev left_all : List History
+    left_all = filter (stays (is_among gone)) kept.prepared ++ filter (stays (is_among gone)) kept.others
+
+    from_left : (y : History) → In y left_all → In y all × (is_among gone y.member.tx ≡ false)
+    from_left y yt =
+        elim (in_either (filter (stays (is_among gone)) kept.prepared) (filter (stays (is_among gone)) kept.others) y yt) [
+          | inl p ↦
+              let f = of_filter (stays (is_among gone)) kept.prepared y p in
+              (in_first kept.prepared kept.others y f.0, turned (is_among gone y.member.tx) f.1)
+          | inr q ↦
+              let f = of_filter (stays (is_among gone)) kept.others y q in
+              (in_second kept.prepared kept.others y f.0, turned (is_among gone y.member.tx) f.1)
+        ]
+
+    to_left : (y : History) → In y all → is_among gone y.member.tx ≡ false → In y left_all
+    to_left y yt is =
+        elim (in_either kept.prepared kept.others y yt) [
+          | inl p ↦ in_first (filter (stays (is_among gone)) kept.prepared)
+              (filter (stays (is_among gone)) kept.others) y
+              (to_filter (stays (is_among gone)) kept.prepared y p (ap not is))
+          | inr q ↦ in_second (filter (stays (is_among gone)) kept.prepared)
+              (filter (stays (is_among gone)) kept.others) y
+              (to_filter (stays (is_among gone)) kept.others y q (ap not is))
+        ]
+
     pub takes_out : Kept forms (taken_out gone cause s)
     takes_out =
         record {
@@ -522,6 +626,11 @@ module _ {F : Type 0} (forms : Forms F) (laws : Laws) (s : State) (kept : Kept f
               let r = from_gone d dt in
               let own = own_of r.0 (of_state r.0 r.1) in
               (own.0, ap (numbered s.submitted) r.2 ∙ own.1)));
+          joined = stand_left kept.committed all left_all gone s.joints from_left to_left closed
+              (committed_stays gone of_state) kept.joined;
+          committed_fated = λ h ht.
+              let r = kept.committed_fated h ht in
+              (r.0, in_first s.fates gone_fated r.0 r.1, r.2);
           fated = pairs_joined OtherFated s.fates gone_fated kept.fated
               (fated_pairs s.submitted cause (by_number (λ (m : Member). m.tx) gone) gone_apart)
               (λ f g ft gt e.

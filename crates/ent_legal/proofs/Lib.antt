@@ -21,3 +21,7 @@ pub mod SerialStates
 pub mod Books
 pub mod Journals
 pub mod Present
+pub mod Asks
+pub mod Joints
+pub mod Answered
+pub mod Legal

@@ -282,6 +282,16 @@ module _ {X Y : Type 0} (f : X → Y) where
   pairs_map R [] pairs = tt
   pairs_map R (x ∷ xs) pairs = (all_map (R (f x)) xs pairs.0, pairs_map R xs pairs.1)
 
+  all_before : (P : Y → Type 0) (Q : X → Type 0) → ((x : X) → P (f x) → Q x) → (xs : List X)
+      → AllByRecursion P (map f xs) → AllByRecursion Q xs
+  all_before P Q g [] all = tt
+  all_before P Q g (x ∷ xs) all = (g x all.0, all_before P Q g xs all.1)
+
+  pub pairs_before : (R : Y → Y → Type 0) (S : X → X → Type 0) → ((a b : X) → R (f a) (f b) → S a b)
+      → (xs : List X) → Pairs R (map f xs) → Pairs S xs
+  pairs_before R S g [] pairs = tt
+  pairs_before R S g (x ∷ xs) pairs = (all_before (R (f x)) (S x) (g x) xs pairs.0, pairs_before R S g xs pairs.1)
+
   pub map_joined : (xs ys : List X) → map f (xs ++ ys) ≡ map f xs ++ map f ys
   map_joined [] ys = refl
   map_joined (x ∷ xs) ys = ap (λ more. f x ∷ more) (map_joined xs ys)

@@ -1,5 +1,5 @@
 -- Every state that is reached keeps what the opening's own state has.
-use Rattle.std.proofs.Common.{◌≡◌, inl, inr, ℕ, zero, suc, ◌==◌, Bool, true, false, ◌||◌, List, [], ◌∷◌, ◌++◌, map}
+use Rattle.std.proofs.Common.{◌≡◌, inl, inr, ℕ, zero, suc, ◌==◌, Bool, true, false, ◌||◌, List, [], ◌∷◌, map}
 use Rattle.std.proofs.Common.{refl, sym, ap, subst, ◌∙◌, not, Option, Some, None, Result, Ok, Err}
 use Rattle.std.specs.List.{AllByRecursion, filter, list_any}
 use Rattle.ent_value.specs.declared.value.Value.{Value}
@@ -10,7 +10,7 @@ use Rattle.ent_closed.specs.Form.{Tables, closed_worth, form_meaning}
 use Rattle.ent_closed.specs.declared.entangled.Entangled.{Entangled}
 use Rattle.ent_closed.specs.declared.operand.Known.{Known}
 use Rattle.ent_closed.specs.declared.statement.Statement.{Statement}
-use Rattle.ent_coordination.specs.Choice.{AreGroundings, IsLeastChoiceIfAny}
+use Rattle.ent_coordination.specs.Choice.{IsChoice, IsLeastChoiceIfAny, all_heads, all_posts}
 use Rattle.ent_protocol.specs.Begin.{BeginsOrdinary, Posts, BeginsEntangled, BeginsCommit, BeginsNext, BeginsUnless}
 use Rattle.ent_protocol.specs.Begin.{BeginsMember}
 use Rattle.ent_protocol.specs.Commit.{preparing, is_ready}
@@ -22,7 +22,7 @@ use Rattle.ent_protocol.specs.Job.{Fault, IsOutcome, IsEffect, tables_of, posted
 use Rattle.ent_protocol.specs.Member.{Next, Ordinary, Asks, Commits, RollsBack, active_member, next_of, is_lent}
 use Rattle.ent_protocol.specs.Member.{is_of, is_tx, is_single_of, environment_of}
 use Rattle.ent_protocol.specs.PoolEvents.{Picks, AnswersBy, Joins, JoinsOrIsStale, IsPresentComponent}
-use Rattle.ent_protocol.specs.PoolEvents.{joint_answer, answered_groups}
+use Rattle.ent_protocol.specs.PoolEvents.{answered_groups}
 use Rattle.ent_protocol.specs.Reached.{opened, LeadsTo, IsReached}
 use Rattle.ent_protocol.specs.Rollback.{Asked, Failing, NoOne}
 use Rattle.ent_protocol.specs.Run.{Forms, SubmitsForm, SubmitsUnless, StartsWith, BreaksIfAny, EndsWhileRunning}
@@ -42,7 +42,8 @@ use Rattle.ent_legal.proofs.Stands.{lends, posts, prepares}
 use Rattle.ent_legal.proofs.Left.{commits}
 use Rattle.ent_legal.proofs.Finished.{finishes_by}
 use Rattle.ent_legal.proofs.Joined.{joins}
-use Rattle.ent_legal.proofs.Aside.{with_jobs, picks, present_all, component_on}
+use Rattle.ent_legal.proofs.Aside.{with_jobs, picks, present_all, component_on, contains_in, in_contains}
+use Rattle.ent_legal.proofs.Aside.{askings_apart, askings_some, groups_answered}
 use Rattle.ent_legal.proofs.Runs.{submits, starts, rolls_back, ends, kept_opened}
 
 -- ---- what is found and taken
@@ -225,16 +226,21 @@ module _ {F : Type 0} (forms : Forms F) (laws : Laws) where
   answers_by : (s : State) (asked : List Asking) (groundings : Option (List Valuation)) (seen : Tables)
       (left : List Job) (reply : Reply F) (new : State)
       → AnswersBy (record s { lent = left }) asked groundings reply new
-      → ((values : List Valuation) → groundings ≡ Some values → AreGroundings seen (map posted_of asked) values)
+      → ((values : List Valuation) → groundings ≡ Some values → IsChoice seen (map posted_of asked) values)
       → Kept forms s → AreFaithful forms s.opening → IsPresentComponent s asked
       → AllByRecursion (AskingRight s.active s.tables seen) asked
       → ((job : Job) → In job left → In job s.lent) → Pairs OtherJob left → Kept forms new
-  answers_by s asked (Some values) seen left reply new step good kept faithful component right fewer apart =
+  answers_by s asked (Some values) seen left reply new step chosen kept faithful component right fewer apart =
       as_is _ new step.1
       (joins forms laws s kept faithful asked values seen (answered_groups (record s { lent = left }) asked)
-      (good values refl) (present_all s asked component) right (s.joints ++ joint_answer asked values ∷ []) left fewer
+      (chosen values refl).grounded (present_all s asked component) right (askings_apart s asked component)
+      (askings_some s asked component)
+      (λ post at.
+      contains_in (all_heads (map posted_of asked) values) post
+      ((chosen values refl).met post (in_contains (all_posts (map posted_of asked) values) post at)))
+      (λ a at x xt same. groups_answered forms s kept asked a at x xt same) left fewer
       apart (component_on forms s kept asked component))
-  answers_by s asked None seen left reply new step good kept faithful component right fewer apart =
+  answers_by s asked None seen left reply new step chosen kept faithful component right fewer apart =
       as_is _ new step.1 (with_jobs forms s kept left (asked ∷ s.tried) fewer apart)
 
   answered : (s : State) (done : Done) (reply : Reply F) (new : State) → Joins s done reply new
@@ -251,7 +257,7 @@ module _ {F : Type 0} (forms : Forms F) (laws : Laws) where
       (subst (IsOutcome done.job.work (tables_of done.job.tables)) step.choice step.meant) in
       answers_by s out.asked step.groundings (tables_of done.job.tables) out.left reply new step.answers
       (λ values is. (subst (λ g. IsLeastChoiceIfAny (tables_of done.job.tables) (map posted_of out.asked) g) is
-      chosen).choice.grounded)
+      chosen).choice)
       kept faithful out.component right (taken_fewer done.job s.lent out.left out.taken)
       (taken_apart done.job s.lent out.left out.taken kept.jobs_apart)
 

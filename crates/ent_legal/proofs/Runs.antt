@@ -1,4 +1,5 @@
 -- Scripts come, and runs start and end.
+use Rattle.std.proofs.Common.{Bool}
 use Rattle.std.proofs.Common.{◌≡◌, ◌≤◌, ℕ, suc, ◌==◌, true, false, not, List, [], ◌∷◌, ◌++◌, map}
 use Rattle.std.proofs.Common.{length, take, drop, refl, sym, ap, subst, ◌∙◌, inl, inr, arith, Some}
 use Rattle.std.proofs.Common.{Ok, slice_get, take-append-drop}
@@ -35,6 +36,8 @@ use Rattle.ent_legal.proofs.Kept.{Kept, PostedHolds, OtherDormant, OtherMember, 
 use Rattle.ent_legal.proofs.Kept.{active_at}
 use Rattle.ent_legal.proofs.Kept.{numbered_low, numbered_more, prepared_at, one_history}
 use Rattle.ent_legal.proofs.Left.{takes_out, among_in, in_among, fit_at}
+use Rattle.ent_legal.proofs.Asks.{history_asks}
+use Rattle.ent_legal.proofs.Joints.{JointsStand, stand_started}
 
 -- ---- a script comes
 
@@ -164,6 +167,8 @@ module _ {F : Type 0} (forms : Forms F) (s : State) (kept : Kept forms s) (scrip
             (λ (d : Dormant). (o : Submitted) × (numbered more d.tx ≡ Some o)) s.dormant
             (λ d r. (r.0, numbered_more s.submitted (own ∷ []) d.tx r.0 r.1)) kept.scripts)
             ((own, numbered_last s.submitted own), tt);
+        joined = kept.joined;
+        committed_fated = kept.committed_fated;
         fated = kept.fated;
         fated_not_prepared = kept.fated_not_prepared;
         fated_not_active = kept.fated_not_active;
@@ -254,6 +259,31 @@ module _ {F : Type 0} (forms : Forms F) (s : State) (kept : Kept forms s) (off :
       → (d : Dormant) × In d firsts × (m ≡ fresh d)
   active_of m at = of_map fresh firsts m ((by_number_same (λ (x : Member). x.tx) (map fresh firsts) m).0 at)
 
+  no_history : (x : History) → In x (kept.prepared ++ kept.others) → ⊥
+  no_history x at =
+      elim (in_either kept.prepared kept.others x at) [
+        | inl a ↦ subst (In x) no_prepared a
+        | inr b ↦ subst (In x) no_others b
+      ]
+
+  new_history : (y : History) → In y (kept.prepared ++ map begun firsts)
+      → (d : Dormant) × In d firsts × (y ≡ begun d)
+  new_history y at =
+      elim (in_either kept.prepared (map begun firsts) y at) [
+        | inl a ↦ absurd (subst (In y) no_prepared a)
+        | inr b ↦ of_map begun firsts y b
+      ]
+
+  joined_started : JointsStand kept.committed (kept.prepared ++ map begun firsts) s.joints
+  joined_started =
+      stand_started kept.committed (kept.prepared ++ kept.others) (kept.prepared ++ map begun firsts) s.joints no_history
+      (λ y yt. ap history_asks (new_history y yt).2)
+      (λ x y xt yt same.
+      let d = new_history y yt in
+      let f = kept.committed_fated x xt in
+      kept.fated_not_dormant f.0 d.0 f.1 (first_in d.0 d.1)
+      (ap (λ (h : History). h.member.tx) (sym d.2) ∙ same ∙ sym f.2)) kept.joined
+
   pub starts : Kept forms (starting s)
   starts =
       record {
@@ -297,6 +327,8 @@ module _ {F : Type 0} (forms : Forms F) (s : State) (kept : Kept forms s) (off :
         scripts = to_all (λ (d : Dormant). (o : Submitted) × (numbered s.submitted d.tx ≡ Some o)) later (λ d dt.
             of_all (λ (d : Dormant). (o : Submitted) × (numbered s.submitted d.tx ≡ Some o)) s.dormant d kept.scripts
             (later_in d dt));
+        joined = joined_started;
+        committed_fated = kept.committed_fated;
         fated = kept.fated;
         fated_not_prepared = kept.fated_not_prepared;
         fated_not_active = λ f m ft mt e.
@@ -373,6 +405,15 @@ module _ {F : Type 0} (forms : Forms F) (laws : Laws) (s : State) (kept : Kept f
         (to_filter (is_of group) (members s) x.member (history_member x at)
         (ap (λ n. n == group) same ∙ number_itself group)))) is
 
+    closed_group : (x y : History) → In x (kept.prepared ++ kept.others) → In y (kept.prepared ++ kept.others)
+        → x.member.group ≡ y.member.group → is_among (group_members s group) x.member.tx ≡ true
+        → is_among (group_members s group) y.member.tx ≡ true
+    closed_group x y xt yt same is = by (is_among (group_members s group) y.member.tx) refl
+      where
+        by : (b : Bool) → is_among (group_members s group) y.member.tx ≡ b → b ≡ true
+        by true e = refl
+        by false e = absurd (stays_group y yt e (sym same ∙ gone_group x xt is))
+
     pub rolls_back : Kept forms (rolled_back group cause s)
     rolls_back =
         takes_out forms laws s kept (group_members s group) cause
@@ -384,9 +425,9 @@ module _ {F : Type 0} (forms : Forms F) (laws : Laws) (s : State) (kept : Kept f
           | inl same ↦ clash (is_among (group_members s group) x.member.tx) here
               (ap (λ (h : History). is_among (group_members s group) h.member.tx) same ∙ there)
           | inr fit ↦ fit.groups (λ e. stays_group y bt there (sym e ∙ gone_group x at here))
-        ])
+        ]) closed_group
 
-  everyone : (m : Member) → In m (members s) → is_among (members s) m.tx ≡ true
+  pub everyone : (m : Member) → In m (members s) → is_among (members s) m.tx ≡ true
   everyone m at = in_among forms laws s kept (members s) m at
 
   all_out : Kept forms (taken_out (members s) NoOne s)
@@ -394,6 +435,7 @@ module _ {F : Type 0} (forms : Forms F) (laws : Laws) (s : State) (kept : Kept f
       takes_out forms laws s kept (members s) NoOne members_apart (λ m at. at)
       (λ x y at bt here there. clash (is_among (members s) y.member.tx)
       (everyone y.member (history_member y bt)) there)
+      (λ x y xt yt same is. everyone y.member (history_member y yt))
 
   pub ends : Kept forms (ending s)
   ends =
@@ -427,6 +469,8 @@ module _ {F : Type 0} (forms : Forms F) (laws : Laws) (s : State) (kept : Kept f
         not_prepared = out.not_prepared;
         not_active = out.not_active;
         scripts = out.scripts;
+        joined = out.joined;
+        committed_fated = out.committed_fated;
         fated = out.fated;
         fated_not_prepared = out.fated_not_prepared;
         fated_not_active = out.fated_not_active;
@@ -471,6 +515,19 @@ kept_opened forms opening faithful =
       not_prepared = λ d m dt mt e. dt;
       not_active = λ d m dt mt e. dt;
       scripts = tt;
+      joined = record {
+        right = record {
+          up = λ a at. absurd at.1;
+          down = λ j jt m mt. absurd jt;
+          once = tt;
+          some = λ j jt e. jt;
+          distinct = λ j jt. absurd jt;
+          met = λ j jt a at mt post pt. absurd jt;
+        };
+        one_group = λ j jt one other ot pt x y xt yt e f. absurd jt;
+        parted = λ j jt one other ot pt x y xt yt e f. jt;
+      };
+      committed_fated = λ h at. absurd at;
       fated = tt;
       fated_not_prepared = λ f m ft mt e. ft;
       fated_not_active = λ f m ft mt e. ft;

@@ -32,7 +32,10 @@ use Rattle.ent_legal.proofs.Deeds.{HoldsUses}
 use Rattle.ent_legal.proofs.Scripts.{next_ordinary, next_asking, next_committing, turn_at, turn_end, take_whole}
 use Rattle.ent_legal.proofs.Locks.{holds_asked}
 use Rattle.ent_legal.proofs.Jobs.{JobRight, SingleRight, OtherJob, OtherWork, jobs_moved, stays_as_is, next_same}
-use Rattle.ent_legal.proofs.Kept.{Kept, OtherMember, PostedHolds, member_of, history_of, active_at}
+use Rattle.ent_legal.proofs.Lists.{in_first, in_second}
+use Rattle.ent_legal.proofs.Undo.{same_number}
+use Rattle.ent_legal.proofs.Joints.{stand_moved, unchanged}
+use Rattle.ent_legal.proofs.Kept.{Kept, one_history, in_all, OtherMember, PostedHolds, member_of, history_of, active_at}
 use Rattle.ent_legal.proofs.Begun.{taking, jobs_begun, new_at, kept_begun}
 
 pub numbered_in : {X : Type 0} (xs : List X) (n : ℕ) (x : X) → numbered xs n ≡ Some x → In x xs
@@ -171,6 +174,41 @@ module _ {F : Type 0} (forms : Forms F) (laws : Laws) (s : State) (kept : Kept f
     abbrev left : Member → Bool
     left other = not (is_tx x.member.tx other)
 
+    abbrev now : List History
+    now = (kept.prepared ++ x ∷ []) ++ filter (λ y. not (has_tx x.member.tx y)) kept.others
+
+    from_now : (y : History) → In y now → In y (kept.prepared ++ kept.others)
+    from_now y yt =
+        elim (in_either (kept.prepared ++ x ∷ []) (filter (λ y. not (has_tx x.member.tx y)) kept.others) y yt) [
+          | inl a ↦ elim (in_either kept.prepared (x ∷ []) y a) [
+            | inl b ↦ in_first kept.prepared kept.others y b
+            | inr b ↦ elim b [
+              | inl same ↦ in_second kept.prepared kept.others y (subst (λ z. In z kept.others) (sym same) at)
+              | inr bad ↦ absurd bad
+            ]
+          ]
+          | inr b ↦ in_second kept.prepared kept.others y
+              (of_filter (λ y. not (has_tx x.member.tx y)) kept.others y b).0
+        ]
+
+    to_now : (y : History) → In y (kept.prepared ++ kept.others) → In y now
+    to_now y yt =
+        elim (in_either kept.prepared kept.others y yt) [
+          | inl a ↦ in_first (kept.prepared ++ x ∷ []) (filter (λ y. not (has_tx x.member.tx y)) kept.others) y
+              (in_first kept.prepared (x ∷ []) y a)
+          | inr b ↦ by (has_tx x.member.tx y) refl b
+        ]
+      where
+        by : (c : Bool) → has_tx x.member.tx y ≡ c → In y kept.others → In y now
+        by true is b =
+            in_first (kept.prepared ++ x ∷ []) (filter (λ y. not (has_tx x.member.tx y)) kept.others) y
+            (in_second kept.prepared (x ∷ []) y
+            (inl (one_history (kept.prepared ++ kept.others) y x kept.sound.fit (in_all forms s kept y b)
+            (in_all forms s kept x at) (same_number y.member.tx x.member.tx is))))
+        by false is b =
+            in_second (kept.prepared ++ x ∷ []) (filter (λ y. not (has_tx x.member.tx y)) kept.others) y
+            (to_filter (λ y. not (has_tx x.member.tx y)) kept.others y b (ap not is))
+
     prepares_one : next_of s x.member ≡ Commits → Kept forms (preparing s x.member)
     prepares_one next =
         record {
@@ -220,6 +258,9 @@ module _ {F : Type 0} (forms : Forms F) (laws : Laws) (s : State) (kept : Kept f
           ];
           not_active = λ d m dt mt e. kept.not_active d m dt (of_filter left s.active m mt).0 e;
           scripts = kept.scripts;
+          joined = stand_moved kept.committed (kept.prepared ++ kept.others) now s.joints
+              (λ y yt. unchanged y (from_now y yt)) (λ y yt. (y, to_now y yt, refl)) kept.joined;
+          committed_fated = kept.committed_fated;
           fated = kept.fated;
           fated_not_prepared = λ d m dt mt e. elim (in_either s.prepared (x.member ∷ []) m mt) [
             | inl a ↦ kept.fated_not_prepared d m dt a e

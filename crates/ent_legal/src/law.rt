@@ -3,7 +3,7 @@ ghost use Rattle.std.specs.Prelude.{Contains, List};
 ghost use Rattle.ent_protocol.specs.Reached.{IsReached, book_of};
 ghost use Rattle.ent_protocol.specs.Run.{Forms};
 ghost use Rattle.ent_protocol.specs.State.{State};
-ghost use Rattle.ent_semantics.specs.Book.{JournalIsRight, RunGivesBook, book_sights};
+ghost use Rattle.ent_semantics.specs.Book.{IsLegal, JournalIsRight, RunGivesBook, book_sights};
 ghost use Rattle.ent_semantics.specs.Joint.{IsGrounded};
 ghost use Rattle.ent_semantics.specs.Serial.{Sight, Turn};
 ghost use Rattle.ent_legal.specs.Faithful.{AreFaithful};
@@ -52,6 +52,22 @@ pub fn journals_fit_the_fates<F>()
         → AreFaithful forms s.opening
         → IsReached forms s
         → JournalIsRight (book_of s) }
+{
+    statements_keep_to_their_uses();
+    runs_go_on();
+    closing_keeps_the_meaning();
+    commits_are_numbered::<F>();
+}
+
+/// In every state that is reached the book is legal: its journal and its fates fit together; the committed transactions,
+/// run alone in the order of their commits with some answers of an oracle, give what the book says; each entangled
+/// statement of that run stands in one joint answer, with the oracle's answer, and nothing else stands in one; and each
+/// joint answer is good over that run.
+pub fn reached_states_are_legal<F>()
+    ensures { (forms : Forms F) (s : State)
+        → AreFaithful forms s.opening
+        → IsReached forms s
+        → IsLegal (book_of s) }
 {
     statements_keep_to_their_uses();
     runs_go_on();

@@ -13,6 +13,8 @@ returns-clause-apart c h forms s faithful reached =
       goes_on = h.runs_go_on.ensures;
       closes = h.closing_keeps_the_meaning.ensures.meaning;
       closes_grounds = h.closing_keeps_the_meaning.ensures.grounds;
+      closes_heads = h.closing_keeps_the_meaning.ensures.heads;
+      closes_posts = h.closing_keeps_the_meaning.ensures.posts;
     } in
     reached_apart forms laws s faithful reached
 
@@ -27,5 +29,7 @@ returns-clause-present c h forms s faithful reached =
       goes_on = h.runs_go_on.ensures;
       closes = h.closing_keeps_the_meaning.ensures.meaning;
       closes_grounds = h.closing_keeps_the_meaning.ensures.grounds;
+      closes_heads = h.closing_keeps_the_meaning.ensures.heads;
+      closes_posts = h.closing_keeps_the_meaning.ensures.posts;
     } in
     reached_present forms laws s faithful reached

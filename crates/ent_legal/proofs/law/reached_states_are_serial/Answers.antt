@@ -13,5 +13,7 @@ returns c h forms s faithful reached =
       goes_on = h.runs_go_on.ensures;
       closes = h.closing_keeps_the_meaning.ensures.meaning;
       closes_grounds = h.closing_keeps_the_meaning.ensures.grounds;
+      closes_heads = h.closing_keeps_the_meaning.ensures.heads;
+      closes_posts = h.closing_keeps_the_meaning.ensures.posts;
     } in
     reached_serial forms laws s faithful reached
