@@ -11,6 +11,7 @@ pub mod Jobs
 pub mod Kept
 pub mod Begun
 pub mod Stands
+pub mod Fates
 pub mod Left
 pub mod Finished
 pub mod Joined

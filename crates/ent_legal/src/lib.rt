@@ -7,5 +7,5 @@ mod law;
 
 pub use law::{
     committed_runs_give_the_book, journals_fit_the_fates, lent_jobs_are_present,
-    reached_states_are_serial,
+    reached_states_are_legal, reached_states_are_serial,
 };
