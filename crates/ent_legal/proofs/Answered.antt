@@ -1,6 +1,6 @@
 -- What an answer makes of each member, and which statement each place of the joint answer is of.
 use Rattle.std.proofs.Common.{◌≡◌, ◌⊎◌, Bool, true, false, cond, List, [], ◌∷◌, map, refl, ap, ◌∙◌, inl, inr, Option}
-use Rattle.std.proofs.Common.{Some, None}
+use Rattle.std.proofs.Common.{Some, None, ℕ, ◌==◌, sym}
 use Rattle.ent_tree.specs.declared.script.Statement.{Statement as TreeStatement}
 use Rattle.ent_semantics.specs.declared.answer.Fact.{Fact}
 use Rattle.ent_semantics.specs.declared.book.Member.{Member as JointMember}
@@ -9,11 +9,11 @@ use Rattle.ent_semantics.specs.Serial.{Deed, numbered}
 use Rattle.ent_closed.specs.Form.{Tables, form_heads, form_posts, is_form_grounding}
 use Rattle.ent_coordination.specs.Choice.{AreGroundings, all_posts, all_heads}
 use Rattle.ent_protocol.specs.Job.{Asking, posted_of}
-use Rattle.ent_protocol.specs.Member.{is_tx}
-use Rattle.ent_protocol.specs.PoolEvents.{answered_by, answered_among, joint_members}
-use Rattle.ent_protocol.specs.State.{Submitted, Member}
-use Rattle.ent_legal.proofs.Lists.{In, Pairs, of_all, to_all, in_either, in_first, in_second}
-use Rattle.ent_legal.proofs.Undo.{same_number, differ}
+use Rattle.ent_protocol.specs.Member.{is_tx, Asks, next_of}
+use Rattle.ent_protocol.specs.PoolEvents.{answered_by, answered_among, joint_members, joined_label}
+use Rattle.ent_protocol.specs.State.{State, Submitted, Member}
+use Rattle.ent_legal.proofs.Undo.{number_itself, same_number, differ}
+use Rattle.ent_legal.proofs.Lists.{any_in, In, Pairs, of_all, to_all, in_either, in_first, in_second}
 use Rattle.ent_legal.proofs.Joints.{OtherTx}
 
 -- ---- what an answer keeps of a member
@@ -152,7 +152,8 @@ from_heads (a ∷ many) (v ∷ gs) fact at =
 abbrev pub OtherAsking : Asking → Asking → Type 0
 OtherAsking one other = one.tx ≡ other.tx → ⊥
 
-pub joint_pairs : (many : List Asking) (gs : List Valuation) → Pairs OtherAsking many → Pairs OtherTx (joint_members many gs)
+pub joint_pairs : (many : List Asking) (gs : List Valuation) → Pairs OtherAsking many
+    → Pairs OtherTx (joint_members many gs)
 joint_pairs [] gs pairs = tt
 joint_pairs (a ∷ many) [] pairs = tt
 joint_pairs (a ∷ many) (v ∷ gs) pairs = (
@@ -161,3 +162,25 @@ joint_pairs (a ∷ many) (v ∷ gs) pairs = (
       of_all (OtherAsking a) many r.0 pairs.0 r.2 (e ∙ ap (λ (x : JointMember). x.tx) r.3)),
   joint_pairs many gs pairs.1,
 )
+
+-- ---- members that are answered
+
+-- a statement is of a member that is posted before it
+pub record IsPresent (s : State) (asking : Asking) : Type 0 where
+  pub member : Member
+  pub at : In member s.active
+  pub posted : member.posted ≡ true
+  pub next : next_of s member ≡ Asks asking.statement
+  pub tx : asking.tx ≡ member.tx
+  pub place : asking.place ≡ member.place
+
+-- groups that are joined have one label
+pub label_same : (groups : List ℕ) (one other : ℕ) → In one groups → In other groups
+    → joined_label groups one ≡ joined_label groups other
+label_same [] one other at bt = absurd at
+label_same (first ∷ more) one other at bt = label_first one at ∙ sym (label_first other bt)
+  where
+    label_first : (group : ℕ) → In group (first ∷ more) → joined_label (first ∷ more) group ≡ first
+    label_first group here =
+        ap (λ b. cond b first group)
+        (any_in (λ joined. joined == group) (first ∷ more) group here (number_itself group))

@@ -1,31 +1,28 @@
 -- Events that touch neither what members did nor the tables.
-use Rattle.std.proofs.Common.{◌≡◌, ◌<◌, ◌≤◌, ℕ, zero, suc, Bool, true, false, List, [], ◌∷◌, ◌++◌, map}
-use Rattle.std.proofs.Common.{length, refl, sym, ap, subst, ◌∙◌, inl, inr, arith}
-use Rattle.std.proofs.Common.{All, AllPairs, Contains, slice_index_or, flat_map, ◌==◌}
+use Rattle.std.proofs.Common.{◌≡◌, ◌<◌, ◌≤◌, ℕ, zero, suc, Bool, true, false, List, [], ◌∷◌, ◌++◌, map, length, refl}
+use Rattle.std.proofs.Common.{sym, ap, subst, ◌∙◌, inl, inr, arith, All, AllPairs, Contains, slice_index_or, flat_map}
+use Rattle.std.proofs.Common.{◌==◌}
 use Rattle.std.specs.List.{AllByRecursion, filter, list_any}
 use Rattle.ent_semantics.specs.Serial.{numbered}
+use Rattle.ent_coordination.specs.Pool.{Posted}
 use Rattle.ent_protocol.specs.Job.{Job, Work, One, Joint, Asking, posted_of, tables_of}
-use Rattle.ent_protocol.specs.Member.{Next, Ordinary, Asks, Commits, RollsBack, next_in, next_of, askings}
-use Rattle.ent_protocol.specs.Member.{asking_of, is_tx, pool}
-use Rattle.ent_protocol.specs.Member.{seen_now}
+use Rattle.ent_protocol.specs.Member.{Next, Ordinary, Asks, Commits, RollsBack, next_in, next_of, askings, asking_of}
+use Rattle.ent_protocol.specs.Member.{is_tx, pool, seen_now}
 use Rattle.ent_protocol.specs.PoolEvents.{IsPresentComponent, answered_groups, joint_job, joint_uses}
 use Rattle.ent_protocol.specs.Run.{Forms}
 use Rattle.ent_protocol.specs.State.{State, Member, members}
-use Rattle.ent_coordination.specs.Pool.{Posted}
-use Rattle.ent_legal.specs.History.{History}
-use Rattle.ent_legal.proofs.Answered.{OtherAsking}
-use Rattle.ent_legal.proofs.Undo.{number_itself}
 use Rattle.ent_protocol.specs.Uses.{entangled_uses}
+use Rattle.ent_legal.specs.History.{History}
 use Rattle.ent_legal.specs.Faithful.{is_used}
+use Rattle.ent_legal.proofs.Answered.{OtherAsking, IsPresent}
+use Rattle.ent_legal.proofs.Undo.{number_itself}
 use Rattle.ent_legal.proofs.Lists.{In, Pairs, of_all, to_all, all_joined, any_in, to_map, to_filter, pairs_before}
-use Rattle.ent_legal.proofs.Lists.{in_first, in_second}
-use Rattle.ent_legal.proofs.Lists.{in_either, nobody, pairs_joined}
+use Rattle.ent_legal.proofs.Lists.{in_first, in_second, in_either, nobody, pairs_joined}
 use Rattle.ent_legal.proofs.Outcomes.{seen_same, used_first, used_second}
 use Rattle.ent_legal.proofs.Deeds.{HoldsUses}
 use Rattle.ent_legal.proofs.Locks.{used_got}
 use Rattle.ent_legal.proofs.Jobs.{JobRight, AskingRight, OtherJob, OtherWork}
 use Rattle.ent_legal.proofs.Kept.{Kept, PostedHolds, one_member, active_at, prepared_at}
-use Rattle.ent_legal.proofs.Joined.{IsPresent}
 
 -- ---- elements by index
 
@@ -50,7 +47,8 @@ in_contains (y ∷ ys) x (inr at) =
     let low = r.1 in
     (suc r.0, omega (arith, low), r.2)
 
-pub in_flat : {X Y : Type 0} (f : X → List Y) (xs : List X) (y : Y) → In y (flat_map f xs) → (x : X) × In x xs × In y (f x)
+pub in_flat : {X Y : Type 0} (f : X → List Y) (xs : List X) (y : Y) → In y (flat_map f xs)
+    → (x : X) × In x xs × In y (f x)
 in_flat f [] y at = absurd at
 in_flat f (x ∷ xs) y at =
     elim (in_either (f x) (flat_map f xs) y at) [
@@ -197,7 +195,8 @@ module _ {F : Type 0} (forms : Forms F) (s : State) (kept : Kept forms s) where
       let present = present_all s asked component in
       let right : AllByRecursion
       (AskingRight s.active s.tables (tables_of (seen_now s.opening.tables s.tables (joint_uses asked)))) asked =
-      to_all (AskingRight s.active s.tables (tables_of (seen_now s.opening.tables s.tables (joint_uses asked)))) asked (λ a at m mt tx.
+      to_all (AskingRight s.active s.tables (tables_of (seen_now s.opening.tables s.tables (joint_uses asked))))
+      asked (λ a at m mt tx.
       let p = of_all (IsPresent s) asked a present at in
       let same = one_member forms s kept p.member m p.at mt (sym p.tx ∙ sym tx) in (
         level a.place m.place (p.place ∙ ap (λ (x : Member). x.place) same),

@@ -1,21 +1,23 @@
 -- The entangled statements of what a member did, whatever the database.
-use Rattle.std.proofs.Common.{◌≡◌, ◌<◌, ℕ, suc, ◌+◌, Bool, true, false, cond, List, [], ◌∷◌, ◌++◌, map, length, refl, sym, ap}
-use Rattle.std.proofs.Common.{subst, ◌∙◌, inl, inr, arith, Option, Some, None, Result, Ok, Err, nat_le, append_assoc, append-nil}
+use Rattle.std.proofs.Common.{◌≡◌, ◌<◌, ℕ, suc, ◌+◌, Bool, true, false, cond, List, [], ◌∷◌, ◌++◌, map, length, refl}
+use Rattle.std.proofs.Common.{sym, ap, subst, ◌∙◌, inl, inr, arith, Option, Some, None, Result, Ok, Err, nat_le}
+use Rattle.std.proofs.Common.{append_assoc, append-nil}
 use Rattle.std.specs.Option.{option_map}
 use Rattle.ent_set.specs.Sets as set
+use Rattle.ent_value.specs.declared.limits.TheConstants.{MOST_ROWS}
+use Rattle.ent_value.specs.declared.value.Value.{Value}
 use Rattle.ent_tree.specs.declared.declaration.Create.{Create}
 use Rattle.ent_tree.specs.declared.entangled.Entangled.{Entangled}
 use Rattle.ent_tree.specs.declared.script.Statement.{Statement}
 use Rattle.ent_tree.specs.declared.script.Statement.TheVariants as statements
-use Rattle.ent_value.specs.declared.limits.TheConstants.{MOST_ROWS}
-use Rattle.ent_value.specs.declared.value.Value.{Value}
 use Rattle.ent_semantics.specs.declared.answer.Answer.{Answer}
 use Rattle.ent_semantics.specs.declared.answer.Answer.TheVariants as answers
 use Rattle.ent_semantics.specs.declared.answer.Fact.{Fact}
 use Rattle.ent_semantics.specs.declared.answer.Failure.{Failure}
 use Rattle.ent_semantics.specs.declared.answer.Failure.TheVariants.{TableFull}
 use Rattle.ent_semantics.specs.declared.book.Member.{Member as JointMember}
-use Rattle.ent_semantics.specs.Database.{Name, Rows, Database, Environment, Table, nothing_bound, table_named, with_value, with_values}
+use Rattle.ent_semantics.specs.Database.{Name, Rows, Database, Environment, Table, nothing_bound, table_named}
+use Rattle.ent_semantics.specs.Database.{with_value, with_values}
 use Rattle.ent_semantics.specs.Effect.{Effect, changed, or_overflow, setting}
 use Rattle.ent_semantics.specs.Entangled.{Valuation, heads, posts, bound_values}
 use Rattle.ent_semantics.specs.Serial.{Deed, Run, Sight, answered_first, after, run, seen, seen_after, sights}
@@ -99,7 +101,8 @@ AreOne one other = one ≡ other
 same_effect : (one other : Effect Database) → AreOne (Ok one) (Ok other) → one ≡ other
 same_effect one other e = cc
 
-changed_environment : (table : Table Database) (count : ℕ) (rows : Rows) (database : Database) (environment : Environment)
+changed_environment : (table : Table Database) (count : ℕ) (rows : Rows) (database : Database)
+    (environment : Environment)
     (effect : Effect Database) → AreOne (changed table count rows database environment) (Ok effect)
     → effect.environment ≡ environment
 changed_environment table count rows database environment effect h = by (nat_le (set.len rows) MOST_ROWS) h
@@ -138,7 +141,8 @@ next_is declared (statements.Entangled entangled) valuation database environment
 next_is declared (statements.Insert insert) valuation database environment effect h =
     changed_environment (table_named insert.table.name)
     (cond (set.contains (database insert.table.name) (map (known_value environment) insert.values)) 0 1)
-    (set.insert (database insert.table.name) (map (known_value environment) insert.values)) database environment effect h
+    (set.insert (database insert.table.name) (map (known_value environment) insert.values)) database environment
+    effect h
 next_is declared (statements.Delete delete) valuation database environment effect h =
     ap (λ (x : Effect Database). x.environment) (sym (same_effect _ effect h))
 next_is declared (statements.Update update) valuation database environment effect h =

@@ -1,6 +1,6 @@
 -- A member takes the uses of its next statement.
-use Rattle.std.proofs.Common.{◌≡◌, ◌⊎◌, ◌<◌, ℕ, ◌==◌, Bool, true, false, List, ◌++◌, map, length}
-use Rattle.std.proofs.Common.{refl, sym, ap, subst, ◌∙◌, inl, inr, None}
+use Rattle.std.proofs.Common.{◌≡◌, ◌⊎◌, ◌<◌, ℕ, ◌==◌, Bool, true, false, List, ◌++◌, map, length, refl, sym, ap}
+use Rattle.std.proofs.Common.{subst, ◌∙◌, inl, inr, None}
 use Rattle.std.specs.List.{AllByRecursion}
 use Rattle.ent_semantics.specs.Database.{Database}
 use Rattle.ent_semantics.specs.Uses.{Covers}
@@ -14,9 +14,8 @@ use Rattle.ent_protocol.specs.Uses.{blocker}
 use Rattle.ent_legal.specs.Faithful.{number_of, is_used, is_owned}
 use Rattle.ent_legal.specs.History.{History, Replays}
 use Rattle.ent_legal.specs.SerialState.{Follows, IsWhole}
-use Rattle.ent_legal.proofs.Lists.{In, Pairs, of_all, to_all, all_by, in_first, in_second, in_either, of_map}
-use Rattle.ent_legal.proofs.Lists.{to_map, clash, any_none, pairs_across}
-use Rattle.ent_legal.proofs.Lists.{map_joined}
+use Rattle.ent_legal.proofs.Lists.{In, Pairs, of_all, to_all, all_by, in_first, in_second, in_either, of_map, to_map}
+use Rattle.ent_legal.proofs.Lists.{clash, any_none, pairs_across, map_joined}
 use Rattle.ent_legal.proofs.Frame.{Laws, IsCovered, apart_turned, WritesWithin, held}
 use Rattle.ent_legal.proofs.Undo.{same_number, other_number}
 use Rattle.ent_legal.proofs.Sound.{Fit, AreApart, fit_turned}
@@ -25,8 +24,8 @@ use Rattle.ent_legal.proofs.Locks.{holds_more, used_from, free_active, free_prep
 use Rattle.ent_legal.proofs.Jobs.{JobRight, OtherJob, Stays, jobs_moved, stays_as_is}
 use Rattle.ent_legal.proofs.Asks.{history_asks}
 use Rattle.ent_legal.proofs.Joints.{JointsStand, stand_moved}
-use Rattle.ent_legal.proofs.Kept.{Kept, PostedHolds, member_of, kept_mapped, replaced_here, replaced_other, replaced_tx}
-use Rattle.ent_legal.proofs.Kept.{map_unchanged, one_history, active_at, prepared_at, in_all, one_member}
+use Rattle.ent_legal.proofs.Kept.{Kept, PostedHolds, member_of, kept_mapped, replaced_here, replaced_other}
+use Rattle.ent_legal.proofs.Kept.{replaced_tx, map_unchanged, one_history, active_at, prepared_at, in_all, one_member}
 
 -- a member that takes uses, and is posted or not
 abbrev pub taking : Member → List Use → Bool → Member

@@ -1,6 +1,6 @@
 -- A member does one statement more: an ordinary one, or an entangled one that is answered.
-use Rattle.std.proofs.Common.{◌≡◌, ◌<◌, ℕ, suc, ◌==◌, Bool, true, false, ◌||◌, ◌&&◌, List, [], ◌∷◌, ◌++◌, map}
-use Rattle.std.proofs.Common.{length, take, refl, sym, ap, subst, ◌∙◌, Some, Result, Ok, slice_get}
+use Rattle.std.proofs.Common.{◌≡◌, ◌<◌, ℕ, suc, ◌==◌, Bool, true, false, ◌||◌, ◌&&◌, List, [], ◌∷◌, ◌++◌, map, length}
+use Rattle.std.proofs.Common.{take, refl, sym, ap, subst, ◌∙◌, Some, Result, Ok, slice_get}
 use Rattle.std.specs.List.{AllByRecursion}
 use Rattle.ent_value.specs.declared.value.Value.{Value}
 use Rattle.ent_tree.specs.declared.declaration.Create.{Create}

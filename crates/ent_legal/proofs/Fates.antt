@@ -1,39 +1,13 @@
 -- Members that leave get a fate, or go to the dormant list.
-use Rattle.std.proofs.Common.{suc, length}
-use Rattle.std.proofs.Common.{◌≡◌, ◌⊎◌, ℕ, Bool, true, false, not, List, [], ◌∷◌, ◌++◌}
-use Rattle.std.proofs.Common.{map, refl, sym, ap, subst, ◌∙◌, inl, inr, Option, Some, None}
-use Rattle.std.specs.List.{filter, list_any, filter_map, cons_option}
-use Rattle.ent_semantics.specs.Database.{opening_database}
-use Rattle.ent_semantics.specs.Serial.{numbered}
+use Rattle.std.proofs.Common.{suc, ◌≡◌, ℕ, List, [], ◌∷◌, refl, sym, ap, ◌∙◌, inl, inr, Option, Some, None}
+use Rattle.std.specs.List.{filter_map, cons_option}
 use Rattle.ent_semantics.specs.declared.book.Fate.{Fate}
 use Rattle.ent_semantics.specs.declared.book.Fated.{Fated}
-use Rattle.ent_protocol.specs.Commit.{committing, committing_members, commit_fates, entry_of}
-use Rattle.ent_protocol.specs.Job.{Job, Work, One, Joint}
-use Rattle.ent_protocol.specs.Member.{is_of, is_tx, is_single_of}
-use Rattle.ent_protocol.specs.Rollback.{Cause, fated_as, fated_by, is_among, goes_with, dormant_by, fate_of}
-use Rattle.ent_protocol.specs.Rollback.{taken_out, put_back}
-use Rattle.ent_protocol.specs.Run.{Forms}
-use Rattle.ent_protocol.specs.State.{State, Submitted, Member, Dormant, members, by_number}
-use Rattle.ent_legal.specs.History.{History}
-use Rattle.ent_legal.specs.SerialState.{Follows, IsWhole}
-use Rattle.ent_legal.proofs.Lists.{In, Pairs, Same, of_all, to_all, all_joined, all_first, all_second, all_filtered}
-use Rattle.ent_legal.proofs.Lists.{of_filter, to_filter, in_either, in_first, any_some, any_in, any_none, of_map}
-use Rattle.ent_legal.proofs.Lists.{pairs_at, pairs_joined, pairs_filtered, pairs_across, clash, turned}
-use Rattle.ent_legal.proofs.Lists.{pairs_map, pairs_by, pairs_first, not_so, map_joined, map_filtered}
-use Rattle.ent_legal.proofs.Lists.{same_filtered, filter_same}
-use Rattle.ent_legal.proofs.Frame.{Laws, Apart, serial_joined}
-use Rattle.ent_legal.proofs.Undo.{same_number, number_itself, differ}
-use Rattle.ent_legal.proofs.Sound.{Fit, fit_turned, leaves, stays, HaveLeft, sound_committed}
-use Rattle.ent_legal.proofs.Sound.{sound_taken, restored_used}
-use Rattle.ent_legal.specs.Faithful.{is_used}
-use Rattle.ent_legal.proofs.Outcomes.{SameAt}
-use Rattle.ent_legal.proofs.Locks.{by_number_same, by_number_pairs}
-use Rattle.ent_legal.proofs.Jobs.{OtherJob, jobs_moved, stays_as_is}
-use Rattle.ent_legal.proofs.Kept.{Kept, PostedHolds, OtherMember, OtherFated, OtherDormant, member_of, entry_from}
-use Rattle.ent_legal.proofs.Kept.{map_map, history_of, active_at}
-use Rattle.ent_legal.proofs.Kept.{prepared_at, one_history, in_all}
-use Rattle.ent_legal.proofs.Lists.{in_second}
-use Rattle.ent_legal.proofs.Joints.{JointsStand, stand_committed, stand_left}
+use Rattle.ent_protocol.specs.Commit.{commit_fates}
+use Rattle.ent_protocol.specs.Rollback.{Cause, fated_as, fated_by, dormant_by, fate_of}
+use Rattle.ent_protocol.specs.State.{Submitted, Member, Dormant}
+use Rattle.ent_legal.proofs.Lists.{In, Pairs, of_all, to_all, pairs_at}
+use Rattle.ent_legal.proofs.Kept.{OtherMember, OtherFated, OtherDormant}
 
 -- ---- members that go to the dormant list
 

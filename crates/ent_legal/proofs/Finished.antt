@@ -1,11 +1,12 @@
 -- A member makes its ordinary statement: the result of its job is accepted.
-use Rattle.std.proofs.Common.{◌≡◌, ◌⊎◌, ◌<◌, ℕ, suc, ◌==◌, Bool, true, false, not, List, [], ◌∷◌, ◌++◌, map}
-use Rattle.std.proofs.Common.{refl, sym, ap, subst, ◌∙◌, inl, inr, arith, Ok}
+use Rattle.std.proofs.Common.{◌≡◌, ◌⊎◌, ◌<◌, ℕ, suc, ◌==◌, Bool, true, false, not, List, [], ◌∷◌, ◌++◌, map, refl}
+use Rattle.std.proofs.Common.{sym, ap, subst, ◌∙◌, inl, inr, arith, Ok, append-nil, length}
 use Rattle.std.specs.List.{filter}
 use Rattle.ent_value.specs.declared.value.Value.{Value}
 use Rattle.ent_semantics.specs.declared.answer.Answer.{Answer}
 use Rattle.ent_semantics.specs.declared.answer.Answer.TheVariants as answers
 use Rattle.ent_semantics.specs.Serial.{Deed}
+use Rattle.ent_semantics.specs.Database.{Environment, nothing_bound}
 use Rattle.ent_closed.specs.Form.{Tables, closed_worth, form_meaning}
 use Rattle.ent_closed.specs.declared.statement.Statement.{Statement}
 use Rattle.ent_meant.specs.Tables.{database_of}
@@ -20,25 +21,20 @@ use Rattle.ent_legal.specs.Faithful.{is_used, is_owned, AreFaithful}
 use Rattle.ent_legal.specs.History.{History}
 use Rattle.ent_legal.specs.SerialState.{Follows}
 use Rattle.ent_legal.proofs.Lists.{In, Same, of_all, to_all, all_joined, all_filtered, of_filter, to_filter}
-use Rattle.ent_legal.proofs.Lists.{in_either, in_first, in_second, of_map, to_map, map_joined, clash, turned, pairs_at}
-use Rattle.ent_legal.proofs.Lists.{pairs_map, pairs_by}
+use Rattle.ent_legal.proofs.Lists.{in_either, in_first, in_second, of_map, to_map, map_joined, clash, turned}
+use Rattle.ent_legal.proofs.Lists.{pairs_at, pairs_map, pairs_by}
 use Rattle.ent_legal.proofs.Frame.{Laws, apart_turned}
 use Rattle.ent_legal.proofs.Undo.{at_number, same_number, other_number, differ, set_elsewhere}
 use Rattle.ent_legal.proofs.Sound.{AreApart, has_tx, last}
 use Rattle.ent_legal.proofs.Acts.{OwnsFirst, Makes, sound_made}
 use Rattle.ent_legal.proofs.Outcomes.{SameAt, Lands}
 use Rattle.ent_legal.proofs.Deeds.{HoldsUses, with_deed, owns_table, follows_pushed, ordinary_makes, ordinary_oracled}
-use Rattle.ent_legal.proofs.Deeds.{values_bound}
-use Rattle.ent_legal.proofs.Jobs.{Stays, Moves}
-use Rattle.ent_legal.proofs.Jobs.{jobs_moved, stays_as_is}
+use Rattle.ent_legal.proofs.Deeds.{values_bound, ordinary_asks}
+use Rattle.ent_legal.proofs.Jobs.{Stays, Moves, jobs_moved, stays_as_is}
 use Rattle.ent_legal.proofs.Asks.{asks_at, asks_of, history_asks, asks_pushed, replays_in}
 use Rattle.ent_legal.proofs.Joints.{Was, stand_moved, unchanged}
-use Rattle.ent_legal.proofs.Deeds.{ordinary_asks}
-use Rattle.std.proofs.Common.{append-nil, length}
-use Rattle.ent_semantics.specs.Database.{Environment, nothing_bound}
 use Rattle.ent_legal.proofs.Kept.{Kept, OtherMember, PostedHolds, member_of, history_of, active_at, in_all}
-use Rattle.ent_legal.proofs.Kept.{one_history, one_member}
-use Rattle.ent_legal.proofs.Kept.{replaced_here, replaced_other, replaced_tx}
+use Rattle.ent_legal.proofs.Kept.{one_history, one_member, replaced_here, replaced_other, replaced_tx}
 use Rattle.ent_legal.proofs.Stands.{ordinary_next, follows_of}
 
 module _ {F : Type 0} (forms : Forms F) (laws : Laws) (s : State) (kept : Kept forms s) (x : History)

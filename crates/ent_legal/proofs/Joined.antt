@@ -1,89 +1,56 @@
 -- Members are answered together, and their groups become one.
-use Rattle.std.proofs.Common.{◌≡◌, ◌⊎◌, ◌<◌, ℕ, suc, true, false, cond, List, [], ◌∷◌, ◌++◌, map}
-use Rattle.std.proofs.Common.{length, refl, sym, ap, subst, ◌∙◌, inl, inr, arith, Some}
-use Rattle.std.proofs.Common.{append-nil, slice_get}
+use Rattle.std.proofs.Common.{◌≡◌, ◌⊎◌, ◌<◌, ℕ, suc, true, false, List, [], ◌∷◌, ◌++◌, map, length, refl, sym, ap}
+use Rattle.std.proofs.Common.{subst, ◌∙◌, inl, inr, arith, Some, append-nil, slice_get}
 use Rattle.std.specs.List.{AllByRecursion}
 use Rattle.ent_tree.specs.declared.entangled.Entangled.{Entangled as TreeEntangled}
 use Rattle.ent_tree.specs.declared.script.Statement.{Statement as TreeStatement}
 use Rattle.ent_tree.specs.declared.script.Statement.TheVariants as tree
 use Rattle.ent_semantics.specs.declared.answer.Answer.TheVariants as answers
-use Rattle.ent_semantics.specs.Database.{Database}
-use Rattle.ent_semantics.specs.Entangled.{Valuation}
+use Rattle.ent_semantics.specs.Database.{Database, nothing_bound}
+use Rattle.ent_semantics.specs.Entangled.{Valuation, written_variables}
 use Rattle.ent_semantics.specs.Serial.{numbered}
 use Rattle.ent_semantics.specs.declared.book.JointAnswer.{JointAnswer}
 use Rattle.ent_semantics.specs.Uses.{Agree, Covers}
+use Rattle.ent_semantics.specs.declared.answer.Fact.{Fact}
+use Rattle.ent_semantics.specs.declared.book.Member.{Member as JointMember}
+use Rattle.ent_semantics.specs.Book.{AreApart as AreApartMembers}
 use Rattle.ent_closed.specs.Closing.{closed, closed_entangled}
-use Rattle.ent_closed.specs.Form.{Tables, form_heads, is_form_grounding}
+use Rattle.ent_closed.specs.Form.{Tables, form_heads, is_form_grounding, form_posts}
 use Rattle.ent_closed.specs.declared.entangled.Entangled.{Entangled}
 use Rattle.ent_closed.specs.declared.operand.Known.{Known}
 use Rattle.ent_closed.specs.declared.statement.Statement.TheVariants as statements
-use Rattle.ent_coordination.specs.Choice.{AreGroundings}
+use Rattle.ent_coordination.specs.Choice.{AreGroundings, all_posts, all_heads}
 use Rattle.ent_meant.specs.Tables.{database_of}
 use Rattle.ent_protocol.specs.Job.{Job, Asking, posted_of}
-use Rattle.ent_protocol.specs.Member.{Asks, next_of, environment_of}
-use Rattle.ent_protocol.specs.PoolEvents.{answered_by, answered_among, joined_label, in_joined_group}
+use Rattle.ent_protocol.specs.Member.{next_of, environment_of}
+use Rattle.ent_protocol.specs.PoolEvents.{answered_by, answered_among, joined_label, in_joined_group, joint_members}
+use Rattle.ent_protocol.specs.PoolEvents.{joint_answer}
 use Rattle.ent_protocol.specs.Run.{Forms}
 use Rattle.ent_protocol.specs.State.{State, Member}
 use Rattle.ent_protocol.specs.Uses.{statement_uses, entangled_uses}
-use Rattle.ent_legal.specs.Faithful.{number_of, is_used, is_owned, IsFaithful, IsFaithfulEntangled}
-use Rattle.ent_legal.specs.Faithful.{AreFaithful}
+use Rattle.ent_legal.specs.Faithful.{number_of, is_used, is_owned, IsFaithful, IsFaithfulEntangled, AreFaithful}
 use Rattle.ent_legal.specs.History.{History, Replays}
 use Rattle.ent_legal.specs.SerialState.{Follows, IsWhole, IsOracled}
-use Rattle.ent_legal.proofs.Lists.{In, Pairs, of_all, to_all, in_either, of_map, to_map, clash}
-use Rattle.ent_legal.proofs.Lists.{pairs_across}
+use Rattle.ent_legal.proofs.Lists.{In, Pairs, of_all, in_either, of_map, to_map, pairs_across}
+use Rattle.ent_legal.proofs.Lists.{pairs_at, in_first, in_second, map_joined}
 use Rattle.ent_legal.proofs.Frame.{Laws, IsCovered, held}
-use Rattle.ent_legal.proofs.Undo.{number_itself}
 use Rattle.ent_legal.proofs.Sound.{Fit, AreApart}
 use Rattle.ent_legal.proofs.Acts.{Keeps}
 use Rattle.ent_legal.proofs.Outcomes.{grounding_same}
 use Rattle.ent_legal.proofs.Scripts.{replays_pushed}
-use Rattle.ent_legal.proofs.Deeds.{HoldsUses, with_deed, covers_pushed, follows_pushed, IsPair, pair_of, asked_meaning}
-use Rattle.ent_legal.proofs.Deeds.{asked_grounds}
-use Rattle.ent_legal.proofs.Jobs.{JobRight, OtherJob, AskingRight, StillAsks, Stays, Moves, jobs_moved}
-use Rattle.ent_legal.proofs.Jobs.{holds_own, next_same}
-use Rattle.ent_semantics.specs.declared.answer.Fact.{Fact}
-use Rattle.ent_semantics.specs.declared.book.Member.{Member as JointMember}
-use Rattle.ent_semantics.specs.Book.{AreApart as AreApartMembers}
-use Rattle.ent_semantics.specs.Entangled.{written_variables}
-use Rattle.ent_closed.specs.Form.{form_posts}
-use Rattle.ent_coordination.specs.Choice.{all_posts, all_heads}
-use Rattle.ent_protocol.specs.PoolEvents.{joint_members}
-use Rattle.ent_legal.proofs.Deeds.{asked_length}
-use Rattle.ent_legal.proofs.Lists.{pairs_at, pairs_by}
+use Rattle.ent_legal.proofs.Deeds.{HoldsUses, with_deed, covers_pushed, follows_pushed, IsPair, pair_of}
+use Rattle.ent_legal.proofs.Deeds.{asked_meaning, asked_grounds, asked_length}
+use Rattle.ent_legal.proofs.Jobs.{OtherJob, AskingRight, StillAsks, Moves}
 use Rattle.ent_legal.proofs.Asks.{Ask, ask_member, ask_heads, ask_posts, asks_at, asks_place, history_asks}
 use Rattle.ent_legal.proofs.Asks.{asks_pushed, replays_in}
 use Rattle.ent_legal.proofs.Answered.{answered_keeps, deed_at, deeds_among, statement_deed, joint_member, IsAnswered}
 use Rattle.ent_legal.proofs.Answered.{IsLeft, answered_or_left, nonempty, from_joint, from_heads, joint_pairs}
-use Rattle.ent_legal.proofs.Answered.{OtherAsking}
-use Rattle.ent_semantics.specs.Database.{nothing_bound}
-use Rattle.ent_protocol.specs.PoolEvents.{joint_answer}
-use Rattle.ent_legal.proofs.Joints.{JointsRight, AsksOf, OtherTx, OneGroup, AreParted, right_same, right_joined}
-use Rattle.ent_legal.proofs.Joints.{of_own}
-use Rattle.ent_legal.proofs.Lists.{in_first, in_second, any_in, map_joined}
-use Rattle.std.proofs.Common.{◌==◌}
-use Rattle.ent_legal.proofs.Kept.{Kept, PostedHolds, member_of, kept_mapped, history_of, active_at}
-use Rattle.ent_legal.proofs.Kept.{one_member, map_alike, in_all, one_history, committed_apart}
+use Rattle.ent_legal.proofs.Answered.{OtherAsking, IsPresent, label_same}
+use Rattle.ent_legal.proofs.Joints.{JointsRight, JointsStand, AsksOf, OtherTx, right_one, stand_joined, of_own}
+use Rattle.ent_legal.proofs.Kept.{Kept, member_of, kept_mapped, history_of, active_at, one_member}
+use Rattle.ent_legal.proofs.Kept.{map_alike, in_all, one_history, committed_apart}
+use Rattle.ent_legal.proofs.Moved.{posted_joined, jobs_joined}
 use Rattle.ent_legal.proofs.Stands.{IsNext, asking_next, follows_of}
-
--- a statement is of a member that is posted before it
-pub record IsPresent (s : State) (asking : Asking) : Type 0 where
-  pub member : Member
-  pub at : In member s.active
-  pub posted : member.posted ≡ true
-  pub next : next_of s member ≡ Asks asking.statement
-  pub tx : asking.tx ≡ member.tx
-  pub place : asking.place ≡ member.place
-
--- groups that are joined have one label
-label_same : (groups : List ℕ) (one other : ℕ) → In one groups → In other groups
-    → joined_label groups one ≡ joined_label groups other
-label_same [] one other at bt = absurd at
-label_same (first ∷ more) one other at bt = label_first one at ∙ sym (label_first other bt)
-  where
-    label_first : (group : ℕ) → In group (first ∷ more) → joined_label (first ∷ more) group ≡ first
-    label_first group here =
-        ap (λ b. cond b first group)
-        (any_in (λ joined. joined == group) (first ∷ more) group here (number_itself group))
 
 module _ {F : Type 0} (forms : Forms F) (laws : Laws) (s : State) (kept : Kept forms s)
     (faithful : AreFaithful forms s.opening) (asked : List Asking) (groundings : List Valuation) (seen : Tables)
@@ -353,41 +320,6 @@ module _ {F : Type 0} (forms : Forms F) (laws : Laws) (s : State) (kept : Kept f
       further : (n : ℕ) → n < suc n
       further n = omega arith
 
-  stays_left : (m : Member) → Stays s.tables s.tables m (in_joined_group groups m)
-  stays_left m =
-      record {
-        tx = refl;
-        place = refl;
-        bound = refl;
-        posts = λ e. e;
-        holds = holds_own m;
-        alike = λ table used. refl;
-      }
-
-  jobs_joined : (left : List Job) → ((job : Job) → In job left → In job s.lent)
-      → AllByRecursion (JobRight s.submitted (map change s.active) s.tables) left
-  jobs_joined left fewer =
-      jobs_moved s.submitted s.active (map change s.active) s.tables s.tables s.lent left fewer
-      (λ other ot.
-      let m = of_map change s.active other ot in (
-        m.0,
-        m.1,
-        elim (moves_or_stays m.0 m.1) [
-          | inl moved ↦ inr (subst (Moves m.0) (sym m.2) moved.0)
-          | inr e ↦ inl (subst (Stays s.tables s.tables m.0) (sym (m.2 ∙ e)) (stays_left m.0))
-        ],
-      ))
-      (λ one ot is has.
-      elim (moves_or_stays one ot) [
-        | inl moved ↦ clash one.posted moved.1 is
-        | inr e ↦ (
-          change one,
-          to_map change s.active one ot,
-          subst (Stays s.tables s.tables one) (sym e) (stays_left one),
-          ap (λ (z : Member). z.posted) e ∙ is,
-        )
-      ]) kept.jobs
-
   long : (x : History) (r : Answering x) → length r.answered.values ≡ length (written_variables r.pair.entangled)
   long x r =
       let pair = r.pair in
@@ -398,17 +330,6 @@ module _ {F : Type 0} (forms : Forms F) (laws : Laws) (s : State) (kept : Kept f
       pair.faithful pair.closes s.tables kept.sound.wide
       (sym (grounding_same seen s.tables r.answered.asking.statement r.answered.values r.asks.alike)
       ∙ r.answered.grounds)
-
-  posted_joined : AllByRecursion (PostedHolds s.submitted) (map change s.active)
-  posted_joined =
-      to_all (PostedHolds s.submitted) (map change s.active) (λ other ot.
-      let m = of_map change s.active other ot in
-      subst (PostedHolds s.submitted) (sym m.2) (elim (moves_or_stays m.0 m.1) [
-        | inl moved ↦ λ is. clash (change m.0).posted is moved.2
-        | inr e ↦ subst (PostedHolds s.submitted) (sym e) (λ is wanted next.
-            of_all (PostedHolds s.submitted) s.active m.0 kept.posted m.1 is wanted
-            (next_same (numbered s.submitted m.0.tx) m.0 (in_joined_group groups m.0) refl refl ∙ next))
-      ]))
 
   -- ---- the joint answer
 
@@ -491,60 +412,61 @@ module _ {F : Type 0} (forms : Forms F) (laws : Laws) (s : State) (kept : Kept f
         ∙ sym (laws.closes_heads (environment_of x.member) r.pair.form r.answered.values)
         ∙ ap (λ e. form_heads (λ value. value) e r.answered.values) r.pair.closes
 
+    same_asking : (a : Asking) → In a asked → (x : History) (r : Answering x) → x.member.tx ≡ a.tx
+        → a ≡ r.answered.asking
+    same_asking a at x r tx =
+        elim (pairs_at OtherAsking (λ u v h e. h (sym e)) asked a r.answered.asking apart at r.answered.at) [
+          | inl e ↦ e
+          | inr differ_so ↦ absurd (differ_so (sym tx ∙ r.answered.tx))
+        ]
+
+    -- what a place of the answer offers is offered by a statement that is answered now
+    offered : (a : Asking) (v : Valuation) → In a asked → In (joint_member a v) (joint_members asked groundings)
+        → (post : Fact) → In post (form_heads (λ value. value) a.statement v)
+        → (other : Ask) × NewAsk other × In (ask_member other) (joint_members asked groundings)
+        × In post (ask_heads other)
+    offered a v at mt post pt = by (answering_of a at)
+      where
+        by : (x : History) × In x kept.others × (r : Answering x) × (x.member.tx ≡ a.tx)
+            → (other : Ask) × NewAsk other × In (ask_member other) (joint_members asked groundings)
+            × In post (ask_heads other)
+        by y =
+            let place = same_place (joint_member a v) mt y.0 y.1 y.2 y.3 in (
+              new_ask y.0 y.2,
+              (y.0, y.1, y.2, refl),
+              subst (λ n. In n (joint_members asked groundings)) place mt,
+              subst (In post) (sym (heads_are y.0 y.2))
+                  (subst (λ w. In post (form_heads (λ value. value) y.2.answered.asking.statement w))
+                  (ap (λ (n : JointMember). n.grounding) place)
+                  (subst (λ (z : Asking). In post (form_heads (λ value. value) z.statement v))
+                  (same_asking a at y.0 y.2 y.3) pt)),
+            )
+
+    -- what a statement demands that is answered now is offered by one
+    met_now : (ask : Ask) → NewAsk ask → (post : Fact) → In post (ask_posts ask)
+        → (other : Ask) × NewAsk other × In (ask_member other) (joint_members asked groundings)
+        × In post (ask_heads other)
+    met_now ask a post pt =
+        let f = from_heads asked groundings post
+        (choice post (a.2.answered.demands post (subst (In post) (ap ask_posts a.3 ∙ posts_are a.0 a.2) pt))) in
+        offered f.0 f.1 f.2 f.3 post f.4
+
+    down_now : (m : JointMember) → In m (joint_members asked groundings)
+        → (ask : Ask) × NewAsk ask × (m ≡ ask_member ask)
+    down_now m mt =
+        let f = from_joint asked groundings m mt in
+        let y = answering_of f.0 f.2 in (
+          new_ask y.0 y.2,
+          (y.0, y.1, y.2, refl),
+          same_place m mt y.0 y.1 y.2 (y.3 ∙ ap (λ (n : JointMember). n.tx) (sym f.3)),
+        )
+
     new_right : JointsRight NewAsk (joint_answer asked groundings ∷ [])
     new_right =
-        record {
-          up = λ ask a. (
-            joint_answer asked groundings,
-            inl refl,
-            subst (λ m. In m (joint_members asked groundings)) (sym (ap ask_member a.3 ∙ new_member a.0 a.1 a.2))
-                a.2.answered.in_joint,
-          );
-          down = λ j jt m mt. elim jt [
-            | inl e ↦
-                let at = subst (λ (x : JointAnswer). In m x.members) e mt in
-                let f = from_joint asked groundings m at in
-                let y = answering_of f.0 f.2 in (
-                  new_ask y.0 y.2,
-                  (y.0, y.1, y.2, refl),
-                  same_place m at y.0 y.1 y.2 (y.3 ∙ ap (λ (n : JointMember). n.tx) (sym f.3)),
-                )
-            | inr bad ↦ absurd bad
-          ];
-          once = subst (Pairs AreApartMembers) (sym (append-nil (joint_members asked groundings)))
-              (pairs_by OtherTx AreApartMembers (joint_members asked groundings) (λ a b h e. absurd (h e)) joint_apart);
-          some = λ j jt e. elim jt [
-            | inl same ↦ nonempty seen asked groundings good some (ap (λ (x : JointAnswer). x.members) (sym same) ∙ e)
-            | inr bad ↦ absurd bad
-          ];
-          distinct = λ j jt. elim jt [
-            | inl same ↦ subst (λ (x : JointAnswer). Pairs OtherTx x.members) (sym same) joint_apart
-            | inr bad ↦ absurd bad
-          ];
-          met = λ j jt ask a mt post pt. elim jt [
-            | inl same ↦
-                let at = a.2.answered.demands post (subst (In post) (ap ask_posts a.3 ∙ posts_are a.0 a.2) pt) in
-                let f = from_heads asked groundings post (choice post at) in
-                let y = answering_of f.0 f.2 in
-                let asking : f.0 ≡ y.2.answered.asking =
-                elim (pairs_at OtherAsking (λ u v h e. h (sym e)) asked f.0 y.2.answered.asking apart f.2
-                y.2.answered.at) [
-                  | inl e ↦ e
-                  | inr differ_so ↦ absurd (differ_so (sym y.3 ∙ y.2.answered.tx))
-                ] in
-                let place = same_place (joint_member f.0 f.1) f.3 y.0 y.1 y.2 y.3 in
-                let values : f.1 ≡ y.2.answered.values = ap (λ (n : JointMember). n.grounding) place in (
-                  new_ask y.0 y.2,
-                  (y.0, y.1, y.2, refl),
-                  subst (λ (x : JointAnswer). In (ask_member (new_ask y.0 y.2)) x.members) (sym same)
-                      (subst (λ n. In n (joint_members asked groundings)) place f.3),
-                  subst (In post) (sym (heads_are y.0 y.2))
-                      (subst (λ v. In post (form_heads (λ value. value) y.2.answered.asking.statement v)) values
-                      (subst (λ (z : Asking). In post (form_heads (λ value. value) z.statement f.1)) asking f.4)),
-                )
-            | inr bad ↦ absurd bad
-          ];
-        }
+        right_one NewAsk (joint_answer asked groundings)
+        (λ ask a.
+        subst (λ m. In m (joint_members asked groundings)) (sym (ap ask_member a.3 ∙ new_member a.0 a.1 a.2))
+        a.2.answered.in_joint) down_now joint_apart (nonempty seen asked groundings good some) met_now
 
     -- ---- the joint answers with it
 
@@ -563,12 +485,6 @@ module _ {F : Type 0} (forms : Forms F) (laws : Laws) (s : State) (kept : Kept f
     entered_now x at =
         subst (In (entered x)) (map_joined entered kept.prepared kept.others)
         (to_map entered (kept.prepared ++ kept.others) x at)
-
-    tx_of : (x y : History) → y ≡ entered x → x.member.tx ≡ y.member.tx
-    tx_of x y is = sym (tx_kept x.member) ∙ ap (λ (h : History). h.member.tx) (sym is)
-
-    group_of : (x y : History) → y ≡ entered x → y.member.group ≡ joined_label groups x.member.group
-    group_of x y is = ap (λ (h : History). h.member.group) is ∙ group_kept x.member
 
     -- what a member passed is what it had passed, and what is answered now
     asks_now : (x : History) → In x (kept.prepared ++ kept.others) → (ask : Ask)
@@ -623,37 +539,6 @@ module _ {F : Type 0} (forms : Forms F) (laws : Laws) (s : State) (kept : Kept f
               absurd (omega (low, high, arith))
         ]
 
-    right_now : JointsRight (AsksOf (kept.committed ++ now)) answered_now
-    right_now =
-        right_same (λ ask. AsksOf (kept.committed ++ (kept.prepared ++ kept.others)) ask ⊎ NewAsk ask)
-        (AsksOf (kept.committed ++ now)) answered_now
-        (λ ask a. elim a [
-          | inl h ↦ elim (in_either kept.committed (kept.prepared ++ kept.others) h.0 h.1) [
-            | inl c ↦ (h.0, in_first kept.committed now h.0 c, h.2)
-            | inr b ↦ (
-              entered h.0,
-              in_second kept.committed now (entered h.0) (entered_now h.0 b),
-              asks_before h.0 b ask h.2,
-            )
-          ]
-          | inr n ↦ (
-            entered n.0,
-            in_second kept.committed now (entered n.0) (entered_now n.0 (in_all forms s kept n.0 n.1)),
-            asks_new ask n,
-          )
-        ])
-        (λ ask a. elim (in_either kept.committed now a.0 a.1) [
-          | inl c ↦ inl (a.0, in_first kept.committed (kept.prepared ++ kept.others) a.0 c, a.2)
-          | inr b ↦
-              let y = entered_of a.0 b in
-              elim (asks_now y.0 y.1 ask (subst (λ (h : History). In ask (history_asks h)) y.2 a.2)) [
-                | inl p ↦ inl (y.0, in_second kept.committed (kept.prepared ++ kept.others) y.0 y.1, p)
-                | inr n ↦ inr n
-              ]
-        ])
-        (right_joined (AsksOf (kept.committed ++ (kept.prepared ++ kept.others))) NewAsk s.joints
-        (joint_answer asked groundings ∷ []) new_apart kept.joined.right new_right)
-
     -- one that is answered is of a group that is joined
     joins_groups : (one : JointMember) → In one (joint_members asked groundings) → (x : History)
         → In x (kept.prepared ++ kept.others) → x.member.tx ≡ one.tx → In x.member.group groups
@@ -661,40 +546,28 @@ module _ {F : Type 0} (forms : Forms F) (laws : Laws) (s : State) (kept : Kept f
         let a = from_joint asked groundings one ot in
         grouped a.0 a.2 x xt (tx ∙ ap (λ (m : JointMember). m.tx) a.3)
 
-    one_group_now : OneGroup now answered_now
-    one_group_now joint jt one other ot pt x y xt yt e f =
-        let u = entered_of x xt in
-        let v = entered_of y yt in
-        let eu = tx_of u.0 x u.2 ∙ e in
-        let ev = tx_of v.0 y v.2 ∙ f in
-        group_of u.0 x u.2
-        ∙ elim (in_either s.joints (joint_answer asked groundings ∷ []) joint jt) [
-          | inl old ↦ ap (joined_label groups)
-              (kept.joined.one_group joint old one other ot pt u.0 v.0 u.1 v.1 eu ev)
-          | inr new ↦ elim new [
-            | inl same ↦ label_same groups u.0.member.group v.0.member.group
-                (joins_groups one (subst (λ (j : JointAnswer). In one j.members) same ot) u.0 u.1 eu)
-                (joins_groups other (subst (λ (j : JointAnswer). In other j.members) same pt) v.0 v.1 ev)
-            | inr bad ↦ absurd bad
-          ]
-        ]
-        ∙ sym (group_of v.0 y v.2)
-
-    parted_now : AreParted kept.committed now answered_now
-    parted_now joint jt one other ot pt x y xt yt e f =
-        elim (in_either s.joints (joint_answer asked groundings ∷ []) joint jt) [
-          | inl old ↦
-              let u = entered_of x xt in
-              kept.joined.parted joint old one other ot pt u.0 y u.1 yt (tx_of u.0 x u.2 ∙ e) f
-          | inr new ↦ elim new [
-            | inl same ↦
-                let a = from_joint asked groundings other (subst (λ (j : JointAnswer). In other j.members) same pt) in
-                let z = answering_of a.0 a.2 in
-                committed_apart forms s kept y z.0 yt (in_all forms s kept z.0 z.1)
-                (z.3 ∙ ap (λ (m : JointMember). m.tx) (sym a.3) ∙ sym f)
-            | inr bad ↦ absurd bad
-          ]
-        ]
+    joined_now : JointsStand kept.committed now answered_now
+    joined_now =
+        stand_joined kept.committed (kept.prepared ++ kept.others) now s.joints (joint_answer asked groundings) NewAsk
+        (joined_label groups)
+        (λ y yt.
+        let x = entered_of y yt in
+        record {
+          old = x.0;
+          at = x.1;
+          same_tx = ap (λ (h : History). h.member.tx) x.2 ∙ tx_kept x.0.member;
+          group = ap (λ (h : History). h.member.group) x.2 ∙ group_kept x.0.member;
+          asks = λ ask at. asks_now x.0 x.1 ask (subst (λ (h : History). In ask (history_asks h)) x.2 at);
+        })
+        (λ x xt. (entered x, entered_now x xt, asks_before x xt))
+        (λ ask n. (entered n.0, entered_now n.0 (in_all forms s kept n.0 n.1), asks_new ask n)) new_apart
+        (λ one other ot pt x y xt yt e f.
+        label_same groups x.member.group y.member.group (joins_groups one ot x xt e) (joins_groups other pt y yt f))
+        (λ other ot y yt e.
+        let a = from_joint asked groundings other ot in
+        let z = answering_of a.0 a.2 in
+        committed_apart forms s kept y z.0 yt (in_all forms s kept z.0 z.1)
+        (z.3 ∙ ap (λ (m : JointMember). m.tx) (sym a.3) ∙ sym e)) new_right kept.joined
 
     pub joins : (left : List Job) → ((job : Job) → In job left → In job s.lent) → Pairs OtherJob left
         → (s.running ≡ false → ⊥)
@@ -713,5 +586,7 @@ module _ {F : Type 0} (forms : Forms F) (laws : Laws) (s : State) (kept : Kept f
         })) prepared_change
         (kept_mapped forms laws s kept entered change change (λ x at. refl) (λ x at. refl) keeps whole_entered
         follows_entered answered_now left
-        (record { right = right_now; one_group = one_group_now; parted = parted_now }) posted_joined
-        (jobs_joined left fewer) jobs_apart on (λ m mt. tx_kept m) (λ m mt. tx_kept m))
+        joined_now
+        (posted_joined forms s kept groups change moves_or_stays)
+        (jobs_joined forms s kept groups change moves_or_stays left fewer) jobs_apart on (λ m mt. tx_kept m)
+        (λ m mt. tx_kept m))

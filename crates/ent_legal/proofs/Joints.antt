@@ -1,6 +1,6 @@
 -- Joint answers that are whole and good, over some entangled statements that were answered.
 use Rattle.std.proofs.Common.{◌≡◌, ◌⊎◌, Bool, true, false, List, [], ◌∷◌, ◌++◌, refl, sym, ap, subst, ◌∙◌, inl, inr}
-use Rattle.std.proofs.Common.{cond, not, append_assoc}
+use Rattle.std.proofs.Common.{cond, not, append_assoc, ℕ, append-nil}
 use Rattle.std.specs.List.{filter}
 use Rattle.ent_semantics.specs.declared.answer.Fact.{Fact}
 use Rattle.ent_semantics.specs.declared.book.JointAnswer.{JointAnswer}
@@ -10,8 +10,9 @@ use Rattle.ent_semantics.specs.Database.{nothing_bound}
 use Rattle.ent_protocol.specs.Rollback.{is_among, is_joint_of}
 use Rattle.ent_protocol.specs.State.{Member}
 use Rattle.ent_legal.specs.History.{History}
-use Rattle.ent_legal.proofs.Lists.{In, Pairs, in_first, in_second, in_either, of_filter, to_filter}
-use Rattle.ent_legal.proofs.Lists.{pairs_joined, pairs_first, pairs_second, pairs_across, any_none, any_some, clash, turned}
+use Rattle.ent_legal.proofs.Lists.{pairs_by, In, Pairs, in_first, in_second, in_either, of_filter, to_filter}
+use Rattle.ent_legal.proofs.Lists.{pairs_joined, pairs_first, pairs_second, pairs_across, any_none, any_some, clash}
+use Rattle.ent_legal.proofs.Lists.{turned}
 use Rattle.ent_legal.proofs.Asks.{Ask, ask_member, ask_heads, ask_posts, history_asks, asks_tx}
 
 abbrev pub OtherTx : JointMember → JointMember → Type 0
@@ -164,6 +165,35 @@ right_joined A B js ks apart left right =
             (r.0, inr r.1, r.2, r.3)
       ];
     }
+
+-- a joint answer alone
+pub right_one : (A : Ask → Type 0) (joint : JointAnswer)
+    → ((ask : Ask) → A ask → In (ask_member ask) joint.members)
+    → ((member : JointMember) → In member joint.members → (ask : Ask) × A ask × (member ≡ ask_member ask))
+    → Pairs OtherTx joint.members → (joint.members ≡ [] → ⊥)
+    → ((ask : Ask) → A ask → (post : Fact) → In post (ask_posts ask)
+    → (other : Ask) × A other × In (ask_member other) joint.members × In post (ask_heads other))
+    → JointsRight A (joint ∷ [])
+right_one A joint up down apart some met =
+    record {
+      up = λ ask a. (joint, inl refl, up ask a);
+      down = λ j jt m mt. down m (subst (λ (x : JointAnswer). In m x.members) (only j jt) mt);
+      once = subst (Pairs AreApart) (sym (append-nil joint.members))
+          (pairs_by OtherTx AreApart joint.members (λ a b h e. absurd (h e)) apart);
+      some = λ j jt e. some (ap (λ (x : JointAnswer). x.members) (sym (only j jt)) ∙ e);
+      distinct = λ j jt. subst (λ (x : JointAnswer). Pairs OtherTx x.members) (sym (only j jt)) apart;
+      met = λ j jt ask a mt post pt.
+          let r = met ask a post pt in (
+            r.0,
+            r.1,
+            subst (λ (x : JointAnswer). In (ask_member r.0) x.members) (sym (only j jt)) r.2,
+            r.3,
+          );
+    }
+  where
+    only : (j : JointAnswer) → In j (joint ∷ []) → j ≡ joint
+    only j (inl same) = same
+    only j (inr bad) = absurd bad
 
 -- ---- joint answers of committed transactions and of members
 
@@ -367,4 +397,81 @@ module _ (committed all stay : List History) (gone : List Member) (joints : List
         parted = λ joint jt one other ot pt x y xt yt e f.
             stand.parted joint (of_filter (λ j. not (is_joint_of gone j)) joints joint jt).0 one other ot pt x y
             (stay_in x xt).0 yt e f;
+      }
+
+-- ---- members are answered together
+
+-- a member now, and what it was: it has passed some entangled statements more, and its group has another label
+pub record Went (N : Ask → Type 0) (label : ℕ → ℕ) (before : List History) (y : History) : Type 0 where
+  pub old : History
+  pub at : In old before
+  pub same_tx : y.member.tx ≡ old.member.tx
+  pub group : y.member.group ≡ label old.member.group
+  pub asks : (ask : Ask) → In ask (history_asks y) → In ask (history_asks old) ⊎ N ask
+
+module _ (committed before now : List History) (joints : List JointAnswer) (new : JointAnswer) (N : Ask → Type 0)
+    (label : ℕ → ℕ) (went : (y : History) → In y now → Went N label before y)
+    (on : (x : History) → In x before → (y : History) × In y now
+    × ((ask : Ask) → In ask (history_asks x) → In ask (history_asks y)))
+    (passed : (ask : Ask) → N ask → AsksOf now ask)
+    (apart : (one other : Ask) → AsksOf (committed ++ before) one → N other
+    → AreApart (ask_member one) (ask_member other))
+    (one_label : (one other : JointMember) → In one new.members → In other new.members → (x y : History)
+    → In x before → In y before → x.member.tx ≡ one.tx → y.member.tx ≡ other.tx
+    → label x.member.group ≡ label y.member.group)
+    (live : (other : JointMember) → In other new.members → (y : History) → In y committed
+    → y.member.tx ≡ other.tx → ⊥)
+    (new_right : JointsRight N (new ∷ [])) (stand : JointsStand committed before joints) where
+  right_now : JointsRight (AsksOf (committed ++ now)) (joints ++ new ∷ [])
+  right_now =
+      right_same (λ ask. AsksOf (committed ++ before) ask ⊎ N ask) (AsksOf (committed ++ now)) (joints ++ new ∷ [])
+      (λ ask a. elim a [
+        | inl h ↦ elim (in_either committed before h.0 h.1) [
+          | inl c ↦ (h.0, in_first committed now h.0 c, h.2)
+          | inr b ↦ let z = on h.0 b in (z.0, in_second committed now z.0 z.1, z.2 ask h.2)
+        ]
+        | inr n ↦ let z = passed ask n in (z.0, in_second committed now z.0 z.1, z.2)
+      ])
+      (λ ask a. elim (in_either committed now a.0 a.1) [
+        | inl c ↦ inl (a.0, in_first committed before a.0 c, a.2)
+        | inr b ↦
+            let w = went a.0 b in
+            elim (w.asks ask a.2) [
+              | inl p ↦ inl (w.old, in_second committed before w.old w.at, p)
+              | inr n ↦ inr n
+            ]
+      ])
+      (right_joined (AsksOf (committed ++ before)) N joints (new ∷ []) apart stand.right new_right)
+
+  one_group_now : OneGroup now (joints ++ new ∷ [])
+  one_group_now joint jt one other ot pt x y xt yt e f =
+      let u = went x xt in
+      let v = went y yt in
+      let eu = sym u.same_tx ∙ e in
+      let ev = sym v.same_tx ∙ f in
+      u.group
+      ∙ elim (in_either joints (new ∷ []) joint jt) [
+        | inl a ↦ ap label (stand.one_group joint a one other ot pt u.old v.old u.at v.at eu ev)
+        | inr b ↦ elim b [
+          | inl same ↦ one_label one other (subst (λ (j : JointAnswer). In one j.members) same ot)
+              (subst (λ (j : JointAnswer). In other j.members) same pt) u.old v.old u.at v.at eu ev
+          | inr bad ↦ absurd bad
+        ]
+      ]
+      ∙ sym v.group
+
+  pub stand_joined : JointsStand committed now (joints ++ new ∷ [])
+  stand_joined =
+      record {
+        right = right_now;
+        one_group = one_group_now;
+        parted = λ joint jt one other ot pt x y xt yt e f. elim (in_either joints (new ∷ []) joint jt) [
+          | inl a ↦
+              let u = went x xt in
+              stand.parted joint a one other ot pt u.old y u.at yt (sym u.same_tx ∙ e) f
+          | inr b ↦ elim b [
+            | inl same ↦ live other (subst (λ (j : JointAnswer). In other j.members) same pt) y yt f
+            | inr bad ↦ absurd bad
+          ]
+        ];
       }

@@ -2,13 +2,12 @@
 use Rattle.std.proofs.Common.{◌≡◌, ◌≤◌, ℕ, zero, suc, ◌==◌, Bool, true, false, cond, List, [], ◌∷◌, ◌++◌, map, length}
 use Rattle.std.proofs.Common.{refl, sym, ap, subst, ◌∙◌, inl, inr, arith, Some, Ok, slice_get}
 use Rattle.std.specs.List.{AllByRecursion}
+use Rattle.ent_value.specs.declared.value.Value.{Value}
 use Rattle.ent_semantics.specs.declared.book.Entry.{Entry}
 use Rattle.ent_semantics.specs.declared.book.Fated.{Fated}
 use Rattle.ent_semantics.specs.declared.book.JointAnswer.{JointAnswer}
-use Rattle.ent_legal.proofs.Joints.{JointsStand}
 use Rattle.ent_semantics.specs.Database.{Database, opening_database}
 use Rattle.ent_semantics.specs.Serial.{numbered}
-use Rattle.ent_value.specs.declared.value.Value.{Value}
 use Rattle.ent_closed.specs.declared.entangled.Entangled.{Entangled}
 use Rattle.ent_meant.specs.Tables.{database_of}
 use Rattle.ent_protocol.specs.Begin.{replaced}
@@ -21,8 +20,9 @@ use Rattle.ent_protocol.specs.Uses.{entangled_uses}
 use Rattle.ent_legal.specs.Faithful.{AreFaithful}
 use Rattle.ent_legal.specs.History.{History, AreSerial}
 use Rattle.ent_legal.specs.SerialState.{Follows, IsWhole}
-use Rattle.ent_legal.proofs.Lists.{In, Pairs, Same, of_all, to_all, all_map, all_joined, all_first, all_second, of_map}
-use Rattle.ent_legal.proofs.Lists.{to_map, in_second, in_either, pairs_map}
+use Rattle.ent_legal.proofs.Joints.{JointsStand}
+use Rattle.ent_legal.proofs.Lists.{In, Pairs, Same, of_all, to_all, all_map, all_joined, all_first, all_second}
+use Rattle.ent_legal.proofs.Lists.{of_map, to_map, in_second, in_either, pairs_map}
 use Rattle.ent_legal.proofs.Frame.{Laws}
 use Rattle.ent_legal.proofs.Sound.{Sound, Fit}
 use Rattle.ent_legal.proofs.Acts.{Keeps, sound_mapped, pairs_within}

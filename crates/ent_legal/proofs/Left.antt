@@ -1,38 +1,33 @@
 -- A group commits; members are taken out.
-use Rattle.std.proofs.Common.{suc, length}
-use Rattle.std.proofs.Common.{◌≡◌, ◌⊎◌, ℕ, Bool, true, false, not, List, [], ◌∷◌, ◌++◌}
-use Rattle.std.proofs.Common.{map, refl, sym, ap, subst, ◌∙◌, inl, inr, Option, Some, None}
-use Rattle.std.specs.List.{filter, list_any, filter_map, cons_option}
+use Rattle.std.proofs.Common.{suc, length, ◌≡◌, ◌⊎◌, ℕ, Bool, true, false, not, List, ◌++◌, map, refl, sym, ap, subst}
+use Rattle.std.proofs.Common.{◌∙◌, inl, inr, Some}
+use Rattle.std.specs.List.{filter, list_any, filter_map}
 use Rattle.ent_semantics.specs.Database.{opening_database}
 use Rattle.ent_semantics.specs.Serial.{numbered}
-use Rattle.ent_semantics.specs.declared.book.Fate.{Fate}
 use Rattle.ent_semantics.specs.declared.book.Fated.{Fated}
 use Rattle.ent_protocol.specs.Commit.{committing, committing_members, commit_fates, entry_of}
 use Rattle.ent_protocol.specs.Job.{Job, Work, One, Joint}
 use Rattle.ent_protocol.specs.Member.{is_of, is_tx, is_single_of}
-use Rattle.ent_protocol.specs.Rollback.{Cause, fated_as, fated_by, is_among, goes_with, dormant_by, fate_of}
-use Rattle.ent_protocol.specs.Rollback.{taken_out, put_back}
+use Rattle.ent_protocol.specs.Rollback.{Cause, fated_by, is_among, goes_with, dormant_by, taken_out, put_back}
 use Rattle.ent_protocol.specs.Run.{Forms}
 use Rattle.ent_protocol.specs.State.{State, Submitted, Member, Dormant, members, by_number}
 use Rattle.ent_legal.specs.History.{History}
 use Rattle.ent_legal.specs.SerialState.{Follows, IsWhole}
+use Rattle.ent_legal.specs.Faithful.{is_used}
 use Rattle.ent_legal.proofs.Lists.{In, Pairs, Same, of_all, to_all, all_joined, all_first, all_second, all_filtered}
 use Rattle.ent_legal.proofs.Lists.{of_filter, to_filter, in_either, in_first, any_some, any_in, any_none, of_map}
-use Rattle.ent_legal.proofs.Lists.{pairs_at, pairs_joined, pairs_filtered, pairs_across, clash, turned}
-use Rattle.ent_legal.proofs.Lists.{pairs_map, pairs_by, pairs_first, not_so, map_joined, map_filtered}
-use Rattle.ent_legal.proofs.Lists.{same_filtered, filter_same}
+use Rattle.ent_legal.proofs.Lists.{pairs_at, pairs_joined, pairs_filtered, pairs_across, clash, turned, pairs_map}
+use Rattle.ent_legal.proofs.Lists.{pairs_by, pairs_first, not_so, map_joined, map_filtered, same_filtered}
+use Rattle.ent_legal.proofs.Lists.{filter_same, in_second}
 use Rattle.ent_legal.proofs.Frame.{Laws, Apart, serial_joined}
 use Rattle.ent_legal.proofs.Undo.{same_number, number_itself, differ}
-use Rattle.ent_legal.proofs.Sound.{Fit, fit_turned, leaves, stays, HaveLeft, sound_committed}
-use Rattle.ent_legal.proofs.Sound.{sound_taken, restored_used}
-use Rattle.ent_legal.specs.Faithful.{is_used}
+use Rattle.ent_legal.proofs.Sound.{Fit, fit_turned, leaves, stays, HaveLeft, sound_committed, sound_taken}
+use Rattle.ent_legal.proofs.Sound.{restored_used}
 use Rattle.ent_legal.proofs.Outcomes.{SameAt}
 use Rattle.ent_legal.proofs.Locks.{by_number_same, by_number_pairs}
 use Rattle.ent_legal.proofs.Jobs.{OtherJob, jobs_moved, stays_as_is}
 use Rattle.ent_legal.proofs.Kept.{Kept, PostedHolds, OtherMember, OtherFated, OtherDormant, member_of, entry_from}
-use Rattle.ent_legal.proofs.Kept.{map_map, history_of, active_at}
-use Rattle.ent_legal.proofs.Kept.{prepared_at, one_history, in_all}
-use Rattle.ent_legal.proofs.Lists.{in_second}
+use Rattle.ent_legal.proofs.Kept.{map_map, history_of, active_at, prepared_at, one_history, in_all}
 use Rattle.ent_legal.proofs.Joints.{JointsStand, stand_committed, stand_left}
 use Rattle.ent_legal.proofs.Fates.{of_dormant, dormant_pairs, of_commit, to_commit, commit_pairs, of_fated}
 use Rattle.ent_legal.proofs.Fates.{fated_pairs, fate_or_dormant}
@@ -373,7 +368,8 @@ module _ {F : Type 0} (forms : Forms F) (laws : Laws) (s : State) (kept : Kept f
 
     from_left : (y : History) → In y left_all → In y all × (is_among gone y.member.tx ≡ false)
     from_left y yt =
-        elim (in_either (filter (stays (is_among gone)) kept.prepared) (filter (stays (is_among gone)) kept.others) y yt) [
+        elim (in_either (filter (stays (is_among gone)) kept.prepared)
+        (filter (stays (is_among gone)) kept.others) y yt) [
           | inl p ↦
               let f = of_filter (stays (is_among gone)) kept.prepared y p in
               (in_first kept.prepared kept.others y f.0, turned (is_among gone y.member.tx) f.1)

@@ -25,4 +25,5 @@ pub mod Present
 pub mod Asks
 pub mod Joints
 pub mod Answered
+pub mod Moved
 pub mod Legal

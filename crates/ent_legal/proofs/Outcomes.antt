@@ -75,9 +75,11 @@ SameAt uses one other = (table : ℕ) → is_used uses table ≡ true → at_num
 abbrev pub HasRoom : List Use → Tables → Type 0
 HasRoom uses tables = (table : ℕ) → is_used uses table ≡ true → table < length tables
 
-pub seen_same : (declared : List Create) (tables : Tables) (uses : List Use) → SameAt uses (tables_of (seen_now declared tables uses)) tables
+pub seen_same : (declared : List Create) (tables : Tables) (uses : List Use)
+    → SameAt uses (tables_of (seen_now declared tables uses)) tables
 seen_same declared tables [] table used = cc
-seen_same declared tables (own ∷ uses) table used = by (own.table == table) refl used (seen_same declared tables uses table)
+seen_same declared tables (own ∷ uses) table used =
+    by (own.table == table) refl used (seen_same declared tables uses table)
   where
     rest : Tables
     rest = tables_of (seen_now declared tables uses)
@@ -95,9 +97,11 @@ seen_same declared tables (own ∷ uses) table used = by (own.table == table) re
         laid_elsewhere own.table table (at_number tables own.table) (tables_of (seen_now declared tables uses))
         (differ own.table table is) ∙ more h
 
-pub seen_room : (declared : List Create) (tables : Tables) (uses : List Use) → HasRoom uses (tables_of (seen_now declared tables uses))
+pub seen_room : (declared : List Create) (tables : Tables) (uses : List Use)
+    → HasRoom uses (tables_of (seen_now declared tables uses))
 seen_room declared tables [] table used = cc
-seen_room declared tables (own ∷ uses) table used = by (own.table == table) refl used (seen_room declared tables uses table)
+seen_room declared tables (own ∷ uses) table used =
+    by (own.table == table) refl used (seen_room declared tables uses table)
   where
     by : (b : Bool) → (own.table == table) ≡ b → (b || is_used uses table) ≡ true
         → (is_used uses table ≡ true → table < length (tables_of (seen_now declared tables uses)))

@@ -16,7 +16,7 @@ use Rattle.ent_legal.proofs.Sound.{AreApart as ApartHistories, Fit, fit_turned}
 use Rattle.ent_legal.proofs.Jobs.{JobRight, WorkRight, SingleRight, AskingRight}
 use Rattle.ent_legal.proofs.Kept.{Kept, history_of}
 use Rattle.ent_legal.proofs.Aside.{contains_in, in_contains, present_all}
-use Rattle.ent_legal.proofs.Joined.{IsPresent}
+use Rattle.ent_legal.proofs.Answered.{IsPresent}
 use Rattle.ent_legal.proofs.Reached.{reached_kept}
 use Rattle.ent_legal.proofs.Runs.{member_history}
 

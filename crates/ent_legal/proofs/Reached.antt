@@ -1,6 +1,6 @@
 -- Every state that is reached keeps what the opening's own state has.
-use Rattle.std.proofs.Common.{◌≡◌, inl, inr, ℕ, zero, suc, ◌==◌, Bool, true, false, ◌||◌, List, [], ◌∷◌, map}
-use Rattle.std.proofs.Common.{refl, sym, ap, subst, ◌∙◌, not, Option, Some, None, Result, Ok, Err}
+use Rattle.std.proofs.Common.{◌≡◌, inl, inr, ℕ, zero, suc, ◌==◌, Bool, true, false, ◌||◌, List, [], ◌∷◌, map, refl}
+use Rattle.std.proofs.Common.{sym, ap, subst, ◌∙◌, not, Option, Some, None, Result, Ok, Err}
 use Rattle.std.specs.List.{AllByRecursion, filter, list_any}
 use Rattle.ent_value.specs.declared.value.Value.{Value}
 use Rattle.ent_tree.specs.declared.script.Script.{Script}
@@ -17,8 +17,8 @@ use Rattle.ent_protocol.specs.Commit.{preparing, is_ready}
 use Rattle.ent_protocol.specs.Event.{Event, Reply}
 use Rattle.ent_protocol.specs.Event as events
 use Rattle.ent_protocol.specs.Finish.{FinishesBy, Finishes, FinishesSingle, IsTaken, finished}
-use Rattle.ent_protocol.specs.Job.{Job, Work, One, Joint, Asking, Done, Single, Outcome, Shown, Changed, Bound, Choice}
-use Rattle.ent_protocol.specs.Job.{Fault, IsOutcome, IsEffect, tables_of, posted_of}
+use Rattle.ent_protocol.specs.Job.{Job, Work, One, Joint, Asking, Done, Single, Outcome, Shown, Changed, Bound}
+use Rattle.ent_protocol.specs.Job.{Choice, Fault, IsOutcome, IsEffect, tables_of, posted_of}
 use Rattle.ent_protocol.specs.Member.{Next, Ordinary, Asks, Commits, RollsBack, active_member, next_of, is_lent}
 use Rattle.ent_protocol.specs.Member.{is_of, is_tx, is_single_of, environment_of}
 use Rattle.ent_protocol.specs.PoolEvents.{Picks, AnswersBy, Joins, JoinsOrIsStale, IsPresentComponent}

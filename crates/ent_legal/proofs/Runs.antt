@@ -1,10 +1,7 @@
 -- Scripts come, and runs start and end.
-use Rattle.std.proofs.Common.{Bool}
-use Rattle.std.proofs.Common.{◌≡◌, ◌≤◌, ℕ, suc, ◌==◌, true, false, not, List, [], ◌∷◌, ◌++◌, map}
-use Rattle.std.proofs.Common.{length, take, drop, refl, sym, ap, subst, ◌∙◌, inl, inr, arith, Some}
-use Rattle.std.proofs.Common.{Ok, slice_get, take-append-drop}
+use Rattle.std.proofs.Common.{Bool, ◌≡◌, ◌≤◌, ℕ, suc, ◌==◌, true, false, not, List, [], ◌∷◌, ◌++◌, map, length, take}
+use Rattle.std.proofs.Common.{drop, refl, sym, ap, subst, ◌∙◌, inl, inr, arith, Some, Ok, slice_get, take-append-drop}
 use Rattle.std.specs.List.{AllByRecursion, filter}
-use Rattle.ent_group.specs.declared.members.TheConstants.{MOST_MEMBERS}
 use Rattle.ent_tree.specs.declared.declaration.Create.{Create}
 use Rattle.ent_tree.specs.declared.declaration.Opening.{Opening}
 use Rattle.ent_tree.specs.declared.script.Script.{Script}
@@ -23,18 +20,18 @@ use Rattle.ent_protocol.specs.State.{State, Submitted, Dormant, Member, members,
 use Rattle.ent_legal.specs.Faithful.{AreFaithful}
 use Rattle.ent_legal.specs.History.{History, AreSerial}
 use Rattle.ent_legal.specs.SerialState.{Follows, IsWhole}
-use Rattle.ent_legal.proofs.Lists.{In, Pairs, of_all, to_all, all_by, all_joined, all_second, all_map}
-use Rattle.ent_legal.proofs.Lists.{in_first, in_second, in_either, of_map, nobody, pairs_joined, pairs_first}
-use Rattle.ent_legal.proofs.Lists.{pairs_second, pairs_across, pairs_map, pairs_by, pairs_of, pairs_filtered, of_filter}
-use Rattle.ent_legal.proofs.Lists.{to_filter, filter_empty, clash}
+use Rattle.ent_group.specs.declared.members.TheConstants.{MOST_MEMBERS}
+use Rattle.ent_legal.proofs.Lists.{In, Pairs, of_all, to_all, all_by, all_joined, all_second, all_map, in_first}
+use Rattle.ent_legal.proofs.Lists.{in_second, in_either, of_map, nobody, pairs_joined, pairs_first, pairs_second}
+use Rattle.ent_legal.proofs.Lists.{pairs_across, pairs_map, pairs_by, pairs_of, pairs_filtered, of_filter, to_filter}
+use Rattle.ent_legal.proofs.Lists.{filter_empty, clash}
 use Rattle.ent_legal.proofs.Frame.{Laws, IsCovered}
 use Rattle.ent_legal.proofs.Sound.{Fit, AreApart, Sound, IsOwner}
 use Rattle.ent_legal.proofs.Undo.{same_number, number_itself}
 use Rattle.ent_legal.proofs.Locks.{by_number_same, by_number_pairs}
 use Rattle.ent_legal.proofs.Jobs.{JobRight, WorkRight}
 use Rattle.ent_legal.proofs.Kept.{Kept, PostedHolds, OtherDormant, OtherMember, member_of, history_of, map_map}
-use Rattle.ent_legal.proofs.Kept.{active_at}
-use Rattle.ent_legal.proofs.Kept.{numbered_low, numbered_more, prepared_at, one_history}
+use Rattle.ent_legal.proofs.Kept.{active_at, numbered_low, numbered_more, prepared_at, one_history}
 use Rattle.ent_legal.proofs.Left.{takes_out, among_in, in_among, fit_at}
 use Rattle.ent_legal.proofs.Asks.{history_asks}
 use Rattle.ent_legal.proofs.Joints.{JointsStand, stand_started}
@@ -276,7 +273,8 @@ module _ {F : Type 0} (forms : Forms F) (s : State) (kept : Kept forms s) (off :
 
   joined_started : JointsStand kept.committed (kept.prepared ++ map begun firsts) s.joints
   joined_started =
-      stand_started kept.committed (kept.prepared ++ kept.others) (kept.prepared ++ map begun firsts) s.joints no_history
+      stand_started kept.committed (kept.prepared ++ kept.others) (kept.prepared ++ map begun firsts) s.joints
+      no_history
       (λ y yt. ap history_asks (new_history y yt).2)
       (λ x y xt yt same.
       let d = new_history y yt in

@@ -1,6 +1,6 @@
 -- What stands next for a member, as a statement and its form; and how a member begins it.
-use Rattle.std.proofs.Common.{◌≡◌, ◌<◌, ℕ, zero, suc, Bool, true, false, not, List, [], ◌∷◌, ◌++◌, map}
-use Rattle.std.proofs.Common.{length, refl, sym, ap, subst, ◌∙◌, inl, inr, Some, None, Ok, slice_get, append_assoc}
+use Rattle.std.proofs.Common.{◌≡◌, ◌<◌, ℕ, zero, suc, Bool, true, false, not, List, [], ◌∷◌, ◌++◌, map, length, refl}
+use Rattle.std.proofs.Common.{sym, ap, subst, ◌∙◌, inl, inr, Some, None, Ok, slice_get, append_assoc}
 use Rattle.std.specs.List.{AllByRecursion, filter}
 use Rattle.ent_value.specs.declared.value.Value.{Value}
 use Rattle.ent_tree.specs.declared.script.Statement.{Statement as TreeStatement}
@@ -21,21 +21,20 @@ use Rattle.ent_protocol.specs.Uses.{statement_uses, entangled_uses, blocker}
 use Rattle.ent_legal.specs.Faithful.{is_used, IsFaithful, AreFaithful}
 use Rattle.ent_legal.specs.History.{History}
 use Rattle.ent_legal.specs.SerialState.{Follows, IsWhole}
-use Rattle.ent_legal.proofs.Lists.{In, of_all, all_joined, all_filtered, of_filter}
-use Rattle.ent_legal.proofs.Lists.{to_filter, in_either, pairs_joined, any_none, clash}
-use Rattle.ent_legal.proofs.Lists.{map_joined, map_filtered, same_filtered, Same, pairs_filtered}
+use Rattle.ent_legal.proofs.Lists.{In, of_all, all_joined, all_filtered, of_filter, to_filter, in_either}
+use Rattle.ent_legal.proofs.Lists.{pairs_joined, any_none, clash, map_joined, map_filtered, same_filtered, Same}
+use Rattle.ent_legal.proofs.Lists.{pairs_filtered, in_first, in_second}
 use Rattle.ent_legal.proofs.Frame.{Laws}
-use Rattle.ent_legal.proofs.Undo.{other_number, differ}
+use Rattle.ent_legal.proofs.Undo.{other_number, differ, same_number}
 use Rattle.ent_legal.proofs.Sound.{has_tx, first}
 use Rattle.ent_legal.proofs.Outcomes.{seen_same, seen_room}
 use Rattle.ent_legal.proofs.Deeds.{HoldsUses}
 use Rattle.ent_legal.proofs.Scripts.{next_ordinary, next_asking, next_committing, turn_at, turn_end, take_whole}
 use Rattle.ent_legal.proofs.Locks.{holds_asked}
 use Rattle.ent_legal.proofs.Jobs.{JobRight, SingleRight, OtherJob, OtherWork, jobs_moved, stays_as_is, next_same}
-use Rattle.ent_legal.proofs.Lists.{in_first, in_second}
-use Rattle.ent_legal.proofs.Undo.{same_number}
 use Rattle.ent_legal.proofs.Joints.{stand_moved, unchanged}
-use Rattle.ent_legal.proofs.Kept.{Kept, one_history, in_all, OtherMember, PostedHolds, member_of, history_of, active_at}
+use Rattle.ent_legal.proofs.Kept.{Kept, one_history, in_all, OtherMember, PostedHolds, member_of, history_of}
+use Rattle.ent_legal.proofs.Kept.{active_at}
 use Rattle.ent_legal.proofs.Begun.{taking, jobs_begun, new_at, kept_begun}
 
 pub numbered_in : {X : Type 0} (xs : List X) (n : ℕ) (x : X) → numbered xs n ≡ Some x → In x xs

@@ -59,10 +59,10 @@ pub fn journals_fit_the_fates<F>()
     commits_are_numbered::<F>();
 }
 
-/// In every state that is reached the book is legal: its journal and its fates fit together; the committed transactions,
-/// run alone in the order of their commits with some answers of an oracle, give what the book says; each entangled
-/// statement of that run stands in one joint answer, with the oracle's answer, and nothing else stands in one; and each
-/// joint answer is good over that run.
+/// In every state that is reached the book is legal: its journal and its fates fit together; the committed
+/// transactions, run alone in the order of their commits with some answers of an oracle, give what the book says; each
+/// entangled statement of that run stands in one joint answer, with the oracle's answer, and nothing else stands in
+/// one; and each joint answer is good over that run.
 pub fn reached_states_are_legal<F>()
     ensures { (forms : Forms F) (s : State)
         → AreFaithful forms s.opening
