@@ -74,7 +74,8 @@ module _ (links : List Link) (removed : List Bool) (n : ℕ) (o : Link) (below :
                   | inl kept ↦ inl (kept_more join kept)
                   | inr kept ↦ inr (kept_more (flipped join) kept)
                 ]
-                | inr one ↦ inl (subst (IsKept (take (n + 1) links) removed) one (last_link links n o below is, remains))
+                | inr one ↦ inl (subst (IsKept (take (n + 1) links) removed) one
+                    (last_link links n o below is, remains))
               ]
               | inr other ↦ inr (subst (λ j. IsKept (take (n + 1) links) removed (flipped j)) other
                   (last_link links n o below is, remains))

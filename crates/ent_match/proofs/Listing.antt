@@ -97,7 +97,8 @@ listed_more pool joins removed seen new n a lists fresh class s at unseen is_cla
           class,
           subst (λ xs. Contains {X = List ℕ} xs class) (sym pushed) (Contains-push lists class),
           subst (λ xs. Contains xs member.tx) (sym is_class.class_is)
-              (contains_tx (marked_in is_class.marks pool) member (at_marked is_class.marks pool member p at_p reached)),
+              (contains_tx (marked_in is_class.marks pool) member
+              (at_marked is_class.marks pool member p at_p reached)),
         )
       ];
     }
@@ -249,7 +250,8 @@ module _ (pool : List Posted) (ordered : IsByNumber pool) (safe : IsSafe pool) (
           | inl kept ↦
               let offer = s.sound join kept.0 in
               let is_b : offer.asker ≡ b = one_place pool join.to offer.asker b offer.asks to in
-              let is_a : offer.owner.owner ≡ a = one_place pool join.from offer.owner.owner a offer.owner.offers from in (
+              let is_a : offer.owner.owner ≡ a = one_place pool join.from offer.owner.owner a
+              offer.owner.offers from in (
                 (
                   offer.index,
                   inr (subst (λ z. CanMeet b offer.index z) is_a
