@@ -114,7 +114,8 @@ module _ (name : Name) where
   one_kind : (x y : Kind) → Some x ≡ Some y → x ≡ y
   one_kind x y e = cc
 
-  here_to : (kind found : Kind) (side : Option Kind × Term) (more : List (Option Kind × Term)) → of_side side ≡ Some found
+  here_to : (kind found : Kind) (side : Option Kind × Term) (more : List (Option Kind × Term))
+      → of_side side ≡ Some found
       → walk (Some found) more ≡ Some kind
       → IsFirst kind [] side ⊎ CutWhere (λ before. IsFirst kind (side ∷ before)) more
   here_to kind found side more is e = inl (is ∙ sym (stays found more) ∙ e, tt)

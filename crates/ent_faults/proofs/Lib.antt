@@ -2,6 +2,7 @@ pub mod Steps
 pub mod Heads
 pub mod Membership
 pub mod Found
+pub mod Earlier
 pub mod Stands
 pub mod EntangledHeads
 pub mod ScriptHeads

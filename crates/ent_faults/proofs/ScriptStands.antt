@@ -3,7 +3,7 @@ use Rattle.std.proofs.Common.{◌≡◌, true, false, Bool, not, ◌&&◌, List,
 use Rattle.std.proofs.Common.{inl}
 use Rattle.std.proofs.Common.{inr, refl}
 use Rattle.std.specs.Prelude.{◌↔◌, ◌==◌}
-use Rattle.std.specs.List.{Contains, zip}
+use Rattle.std.specs.List.{Contains, flat_map, zip}
 use Rattle.ent_value.specs.declared.value.Kind.{Kind}
 use Rattle.ent_tree.specs.declared.entangled.Condition.{Condition}
 use Rattle.ent_tree.specs.declared.entangled.Condition.TheVariants as conditions
@@ -18,6 +18,7 @@ use Rattle.ent_tree.specs.declared.script.Statement.{Statement}
 use Rattle.ent_tree.specs.declared.script.Statement.TheVariants as statements
 use Rattle.ent_tree.specs.declared.select.Select.{Select}
 use Rattle.ent_semantics.specs.Database.{Name}
+use Rattle.ent_semantics.specs.Entangled.{term_variables}
 use Rattle.ent_form.specs.declared.catalogue.TableSchema.{TableSchema}
 use Rattle.ent_form.specs.declared.fault.FormFault.{FormFault}
 use Rattle.ent_form.specs.declared.fault.FormFault.TheVariants.{Arity, WrongKind, Unbound, Repeated}
@@ -31,15 +32,18 @@ use Rattle.ent_faults.specs.EntangledFaults.{select_kinds, demanding, demanding_
 use Rattle.ent_faults.specs.EntangledFaults.{members_faults, membership_faults, memberships_faults, body_variables}
 use Rattle.ent_faults.specs.EntangledFaults.{term_faults, terms_faults, term_kind, binds_faults, taking, offer_faults}
 use Rattle.ent_faults.specs.EntangledFaults.{others_faults, entangled_faults}
-use Rattle.ent_faults.specs.EntangledStanding.{IsMemberFault, demanding_sides, IsMembershipFault}
-use Rattle.ent_faults.specs.EntangledStanding.{IsSubselectFault, IsTermFault, IsTaken}
-use Rattle.ent_faults.specs.EntangledStanding.{taking_all, IsOtherFault, noted_others}
-use Rattle.ent_faults.specs.EntangledStanding.{IsEntangledFault}
+use Rattle.ent_faults.specs.EntangledStanding.{IsMemberFault, demanding_sides, IsMembersFault, IsMembershipFault}
+use Rattle.ent_faults.specs.EntangledStanding.{IsSubselectFault, IsSubselectsFault, IsTermFault, IsTermsFault, IsTaken}
+use Rattle.ent_faults.specs.EntangledStanding.{item_variables, item_hosts, other_variables, IsItemsFault, IsOtherFault}
+use Rattle.ent_faults.specs.EntangledStanding.{IsOthersFault, IsEntangledFault}
 use Rattle.ent_faults.specs.ScriptFaults.{bound_after, bound_by, statement_faults, statements_faults, script_faults}
 use Rattle.ent_faults.specs.ScriptStanding.{IsStatementFault, IsScriptFault}
+use Rattle.ent_faults.proofs.Earlier.{Alike, taking_all, noted_others, term_noted, terms_noted, items_noted}
+use Rattle.ent_faults.proofs.Earlier.{others_noted, all_taken, term_alike, other_alike, same_by}
 use Rattle.ent_faults.proofs.Found.{where_stands, kinds_stand, unless_stands, none_with, among, not_among}
 use Rattle.ent_faults.proofs.Membership.{both, turned, either, holding, none_there, contains_append, CutWhere}
 use Rattle.ent_faults.proofs.Membership.{cut_nil, cut_cons}
+use Rattle.ent_faults.proofs.Membership.{alike, cut_same}
 use Rattle.ent_faults.proofs.Stands.{number_stands, repetitions_stand, value_stands, select_stands, insert_stands}
 use Rattle.ent_faults.proofs.Stands.{delete_stands, update_stands, set_stands}
 
@@ -174,6 +178,25 @@ module _ (body : List Name) (bound : Bound) (fault : FormFault) where
       (offer_stands more (taking taken item.binds) (noted earlier item.term)))
       (turned (cut_cons (IsItemBehind taken earlier) item more)))
 
+  -- in the variables as they are written
+  listed_stands : (all : List Term) (earlier : List Name)
+      → Contains (terms_faults body bound earlier all) fault ↔ IsTermsFault body bound earlier all fault
+  listed_stands all earlier =
+      both (terms_stand all earlier) (cut_same (IsTermBehind earlier)
+      (λ before term. IsTermFault body bound (earlier ++ flat_map term_variables before) term fault) (λ before term.
+      term_alike body bound fault (noted_terms earlier before) (earlier ++ flat_map term_variables before) term
+      (terms_noted before earlier earlier (λ name. alike))) all)
+
+  items_stand : (all : List EntangledItem)
+      → Contains (offer_faults body bound [] [] all) fault ↔ IsItemsFault body bound all fault
+  items_stand all =
+      both (offer_stands all [] []) (cut_same (IsItemBehind [] [])
+      (λ before item. IsTermFault body bound (flat_map item_variables before) item.term fault
+      ⊎ IsTaken (flat_map item_hosts before) item.binds fault) (λ before item.
+      either (term_alike body bound fault (noted_items [] before) (flat_map item_variables before) item.term
+      (items_noted before [] [] (λ name. alike)))
+      (same_by (λ taken. IsTaken taken item.binds fault) (all_taken before []))) all)
+
   nothing_else : {P : Type 0} → P ↔ (⊥ ⊎ P)
   nothing_else {P} = (inr, other)
     where
@@ -196,7 +219,7 @@ module _ (body : List Name) (bound : Bound) (fault : FormFault) where
         let next = noted_terms earlier tuple.terms in
         both (contains_append (terms_faults body bound earlier tuple.terms)
         (others_faults body demanded bound next more) fault)
-        (both (either (terms_stand tuple.terms earlier) (others_stand more next))
+        (both (either (listed_stands tuple.terms earlier) (others_stand more next))
         (turned (cut_cons (IsOtherBehind earlier) (conditions.InAnswer tuple relation) more)))
     others_stand (conditions.Test test ∷ more) earlier =
         let middle = noted earlier test.left in
@@ -210,10 +233,21 @@ module _ (body : List Name) (bound : Bound) (fault : FormFault) where
         (both (contains_append left (right ++ compared) fault)
         (either (term_stands earlier test.left)
         (both (contains_append right compared fault)
-        (either (term_stands middle test.right)
+        (either (both (term_stands middle test.right) (term_alike body bound fault middle
+        (earlier ++ term_variables test.left) test.right (term_noted earlier earlier test.left (λ name. alike))))
         (kinds_stand (term_kind demanded bound test.left) (term_kind demanded bound test.right) wrong fault)))))
         (others_stand more next))
         (turned (cut_cons (IsOtherBehind earlier) (conditions.Test test) more)))
+
+    conditions_stand : (all : List Condition) (earlier plain : List Name) → Alike earlier plain
+        → Contains (others_faults body demanded bound earlier all) fault
+        ↔ IsOthersFault body demanded bound plain all fault
+    conditions_stand all earlier plain same =
+        both (others_stand all earlier) (cut_same (IsOtherBehind earlier)
+        (λ before condition. IsOtherFault body demanded bound (plain ++ flat_map other_variables before) condition
+        fault) (λ before condition.
+        other_alike body demanded bound fault (noted_others earlier before) (plain ++ flat_map other_variables before)
+        condition (others_noted before earlier plain same)) all)
 
 -- ---- statements and scripts
 
@@ -229,10 +263,11 @@ entangled_stands tables bound entangled fault =
     both (contains_append inner (offer ++ (again ++ others)) fault)
     (either (memberships_stand tables bound fault entangled.conditions none_bound)
     (both (contains_append offer (again ++ others) fault)
-    (either (offer_stands body bound fault entangled.items [] [])
+    (either (items_stand body bound fault entangled.items)
     (both (contains_append again others fault)
     (either (repetitions_stand entangled.relations fault)
-    (others_stand body bound fault demanded entangled.conditions (noted_items [] entangled.items)))))))
+    (conditions_stand body bound fault demanded entangled.conditions (noted_items [] entangled.items)
+    (flat_map item_variables entangled.items) (items_noted entangled.items [] [] (λ name. alike))))))))
 
 module _ (tables : List TableSchema) where
   pub statement_stands : (bound : Bound) (statement : Statement) (fault : FormFault)

@@ -1,6 +1,6 @@
 -- Which faults stand in an entangled statement, and where.
 use Rattle.std.specs.Prelude.{◌≡◌, ◌⊎◌, List, [], ◌∷◌, ◌++◌, length, Option, Some, None}
-use Rattle.std.specs.List.{Contains, zip}
+use Rattle.std.specs.List.{Contains, flat_map, zip}
 use Rattle.ent_value.specs.declared.value.Kind.{Kind}
 use Rattle.ent_tree.specs.declared.entangled.Condition.{Condition}
 use Rattle.ent_tree.specs.declared.entangled.Condition.TheVariants as conditions
@@ -12,14 +12,15 @@ use Rattle.ent_tree.specs.declared.entangled.Tuple.{Tuple}
 use Rattle.ent_tree.specs.declared.operand.Identifier.{Identifier}
 use Rattle.ent_tree.specs.declared.select.Select.{Select}
 use Rattle.ent_semantics.specs.Database.{Name}
+use Rattle.ent_semantics.specs.Entangled.{term_variables}
 use Rattle.ent_form.specs.declared.catalogue.TableSchema.{TableSchema}
 use Rattle.ent_form.specs.declared.fault.FormFault.{FormFault}
 use Rattle.ent_form.specs.declared.fault.FormFault.TheVariants.{Arity, WrongKind, Unbound, Repeated}
-use Rattle.ent_form.specs.Entangled.{noted, noted_terms, noted_items, term_place}
+use Rattle.ent_form.specs.Entangled.{term_place}
 use Rattle.ent_form.specs.Kinds.{Bound, none_bound}
 use Rattle.ent_form.specs.Lookup.{value_place}
 use Rattle.ent_faults.specs.AllFaults.{value_kind}
-use Rattle.ent_faults.specs.EntangledFaults.{select_kinds, demanding, demanded_from, body_variables, term_kind, taking}
+use Rattle.ent_faults.specs.EntangledFaults.{select_kinds, demanding, demanded_from, body_variables, term_kind}
 use Rattle.ent_faults.specs.Standing.{IsRepetition, IsValueFault, Differ, IsSelectFault}
 
 -- ---- IN (SELECT ..)
@@ -77,25 +78,31 @@ IsTermFault body bound earlier (terms.Variable variable) fault =
 abbrev pub IsTermsFault : List Name → Bound → List Name → List Term → FormFault → Type 0
 IsTermsFault body bound earlier all fault =
     (before : List Term) × (term : Term) × (after : List Term) × (all ≡ before ++ term ∷ after)
-    × IsTermFault body bound (noted_terms earlier before) term fault
+    × IsTermFault body bound (earlier ++ flat_map term_variables before) term fault
 
 -- a host variable that was bound before
 abbrev pub IsTaken : List Name → Option Identifier → FormFault → Type 0
 IsTaken taken None fault = ⊥
 IsTaken taken (Some variable) fault = Contains taken variable.name × (fault ≡ Repeated variable.place)
 
--- the host variables that items bind, behind these
-abbrev pub taking_all : List Name → List EntangledItem → List Name
-taking_all taken [] = taken
-taking_all taken (item ∷ more) = taking_all (taking taken item.binds) more
+-- the variable of an item, and the host variable that it binds, where it has one
+abbrev pub item_variables : EntangledItem → List Name
+item_variables item = term_variables item.term
+
+abbrev pub item_hosts : EntangledItem → List Name
+item_hosts item = host_of item.binds
+  where
+    host_of : Option Identifier → List Name
+    host_of (Some variable) = variable.name ∷ []
+    host_of None = []
 
 -- one of the items has a term with a fault, or binds a host variable that one before it binds
 abbrev pub IsItemsFault : List Name → Bound → List EntangledItem → FormFault → Type 0
 IsItemsFault body bound all fault =
     (before : List EntangledItem) × (item : EntangledItem) × (after : List EntangledItem)
     × (all ≡ before ++ item ∷ after)
-    × (IsTermFault body bound (noted_items [] before) item.term fault
-    ⊎ IsTaken (taking_all [] before) item.binds fault)
+    × (IsTermFault body bound (flat_map item_variables before) item.term fault
+    ⊎ IsTaken (flat_map item_hosts before) item.binds fault)
 
 -- a term of a postcondition or of a test has a fault, or a test is of two kinds
 abbrev pub IsOtherFault : List Name → Bound → Bound → List Name → Condition → FormFault → Type 0
@@ -104,23 +111,22 @@ IsOtherFault body demanded bound earlier (conditions.InAnswer tuple relation) fa
     IsTermsFault body bound earlier tuple.terms fault
 IsOtherFault body demanded bound earlier (conditions.Test test) fault =
     IsTermFault body bound earlier test.left fault
-    ⊎ (IsTermFault body bound (noted earlier test.left) test.right fault
+    ⊎ (IsTermFault body bound (earlier ++ term_variables test.left) test.right fault
     ⊎ (Differ (term_kind demanded bound test.left) (term_kind demanded bound test.right)
     × (fault ≡ WrongKind (term_place test.right))))
 
--- the variables of postconditions and tests, behind these
-abbrev pub noted_others : List Name → List Condition → List Name
-noted_others earlier [] = earlier
-noted_others earlier (conditions.InSelect tuple select ∷ more) = noted_others earlier more
-noted_others earlier (conditions.InAnswer tuple relation ∷ more) = noted_others (noted_terms earlier tuple.terms) more
-noted_others earlier (conditions.Test test ∷ more) = noted_others (noted (noted earlier test.left) test.right) more
+-- the variables of a postcondition or a test
+abbrev pub other_variables : Condition → List Name
+other_variables (conditions.InSelect tuple select) = []
+other_variables (conditions.InAnswer tuple relation) = flat_map term_variables tuple.terms
+other_variables (conditions.Test test) = term_variables test.left ++ term_variables test.right
 
 -- one of the conditions has such a fault, with the variables that appear before it
 abbrev pub IsOthersFault : List Name → Bound → Bound → List Name → List Condition → FormFault → Type 0
 IsOthersFault body demanded bound earlier all fault =
     (before : List Condition) × (condition : Condition) × (after : List Condition)
     × (all ≡ before ++ condition ∷ after)
-    × IsOtherFault body demanded bound (noted_others earlier before) condition fault
+    × IsOtherFault body demanded bound (earlier ++ flat_map other_variables before) condition fault
 
 -- ---- the statement
 
@@ -132,4 +138,4 @@ IsEntangledFault tables bound entangled fault =
     IsSubselectsFault tables bound entangled.conditions fault
     ⊎ (IsItemsFault body bound entangled.items fault
     ⊎ (IsRepetition entangled.relations fault
-    ⊎ IsOthersFault body demanded bound (noted_items [] entangled.items) entangled.conditions fault))
+    ⊎ IsOthersFault body demanded bound (flat_map item_variables entangled.items) entangled.conditions fault))

@@ -1,2 +1,5 @@
 pub mod Fault
 pub mod Posting
+pub mod Links
+pub mod Remainder
+pub mod Components

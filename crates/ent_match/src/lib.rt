@@ -1,14 +1,17 @@
 //! A pool of posted entangled statements that stays safe, and its components.
 //!
 //! A caller may rely on it that a statement is posted exactly where each post of the pool still unifies with the heads
-//! of one statement at most, that what stands in the way is named, and that the components are exactly those of the
-//! pool.
+//! of one statement at most, that what stands in the way is named, and that the components are components of the
+//! pool, which hold each statement of its remainder.
 #![tactic(auto)]
 
+mod components;
 mod fault;
+mod link;
 mod meets;
 mod member;
 mod pool;
+mod remainder;
 
 pub use fault::{PostFault, Unsafe};
 pub use member::Member;

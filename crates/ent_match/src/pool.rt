@@ -1,13 +1,15 @@
 //! The pool.
-ghost use Rattle.std.specs.Prelude.{◌≡◌, [], OnOk, OnErr, IfErr, filter};
+ghost use Rattle.std.specs.Prelude.{◌≡◌, [], IfOk, OnOk, OnErr, IfErr, filter};
 ghost use Rattle.ent_coordination.specs.Pool.{IsSafe};
+ghost use Rattle.ent_match.specs.Components.{AreComponents, lists_in};
 ghost use Rattle.ent_match.specs.Fault.{IsByNumber};
 ghost use Rattle.ent_match.specs.Posting.{HasNone, IsPostedTo, IsWhyWith, IsPlaceFor, is_of_other};
 
+use crate::components::components_of;
 use crate::fault::{PostFault, fault_of};
 use crate::member::Member;
 use ent_group::Tx;
-use std::alloc::Global;
+use std::alloc::{AllocError, Global};
 use std::marker::Model;
 
 /// Posted statements, at most one a transaction. Contracts see them by number of their transactions. A pool is safe:
@@ -58,6 +60,14 @@ impl Pool {
         ensures why { IfErr result (λ e. IsWhyWith self.old member e.1) }
     {
         post_to(&mut self.members, member)
+    }
+
+    /// The components: of each the transactions by number.
+    pub fn components(&self, alloc: Global) -> Result<Vec<Vec<Tx>>, AllocError>
+        ensures { IfOk result (λ lists. AreComponents self.now (lists_in lists.items)) }
+    {
+        let members = self.members();
+        components_of(alloc, members)
     }
 
     /// Takes the statement of a transaction out, where there is one. It takes no memory.
