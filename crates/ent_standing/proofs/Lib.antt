@@ -1,0 +1,9 @@
+pub mod Lists
+pub mod Times
+pub mod Acts
+pub mod Onward
+pub mod Left
+pub mod Places
+pub mod Placed
+pub mod Asked
+pub mod Lent
