@@ -1,0 +1,10 @@
+pub mod Listed
+pub mod Meets
+pub mod Safe
+pub mod Component
+pub mod Choice
+pub mod Answered
+pub mod Steps
+pub mod Waiting
+pub mod Members
+pub mod HeldBackPlay

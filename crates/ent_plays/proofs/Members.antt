@@ -1,0 +1,42 @@
+-- Members as they come to stand, and jobs that are lent alone.
+use Rattle.std.proofs.Common.{ℕ, false, [], ◌∷◌, refl}
+use Rattle.std.specs.Prelude.{codes}
+use Rattle.ent_value.specs.declared.value.Value.TheVariants.{Text}
+use Rattle.ent_semantics.specs.declared.answer.Answer.TheVariants as answers
+use Rattle.ent_protocol.specs.Finish.{IsTaken}
+use Rattle.ent_protocol.specs.Job.{Job}
+use Rattle.ent_protocol.specs.Partners.{flight_122}
+use Rattle.ent_protocol.specs.State.{Member}
+use Rattle.ent_protocol.specs.Uses.{shared}
+use Rattle.ent_plays.specs.Wish.{Wish}
+
+-- at its first statement, in this attempt
+abbrev pub fresh : ℕ → ℕ → Member
+fresh tx attempt =
+    record {
+      tx = tx;
+      attempt = attempt;
+      group = tx;
+      place = 1;
+      bound = [];
+      answers = [];
+      uses = [];
+      posted = false;
+    }
+
+-- its first statement was answered with flight 122, and it is of the group of this label
+abbrev pub answered : ℕ → ℕ → ℕ → Wish → Member
+answered tx attempt group wish =
+    record {
+      tx = tx;
+      attempt = attempt;
+      group = group;
+      place = 2;
+      bound = (codes "f", flight_122) ∷ [];
+      answers = answers.Heads (record { relation = wish.relation; values = Text wish.own ∷ flight_122 ∷ [] } ∷ []) ∷ [];
+      uses = shared 0 ∷ [];
+      posted = false;
+    }
+
+pub alone : (job : Job) → IsTaken job (job ∷ []) []
+alone job = record { before = []; behind = []; is_there = refl; others = refl }

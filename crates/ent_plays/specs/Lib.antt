@@ -1,0 +1,3 @@
+pub mod Wish
+pub mod Scripts
+pub mod HeldBack
