@@ -19,7 +19,7 @@ use Rattle.ent_plays.specs.Wish as wishes
 use Rattle.ent_plays.proofs.Choice.{seen, taken, least_taken, have_partners}
 use Rattle.ent_plays.proofs.Component.{chosen, are_served, are_closed, joined, ascends, component, remains, linked_on}
 use Rattle.ent_plays.proofs.Component.{joined_by}
-use Rattle.ent_plays.proofs.Listed.{none_there, image_of, image_there, filtered_of, all_where, each_passes}
+use Rattle.ent_plays.proofs.Listed.{none_there, by_first, image_of, image_there, filtered_of, all_where, each_passes}
 
 pub all_posted : (friends : List Friend) → map posted_of (map asking friends) ≡ map posted friends
 all_posted [] = refl
@@ -99,10 +99,12 @@ module _ (s : State) (friends : List Friend) (asked : askings s ≡ map asking f
     answered = replies.Answered
 
     pub joins : have_partners members ≡ true → (left : List Job) → IsTaken (wishes.joint_job members) s.lent left
-        → Joins s (joint_done members) answered (joining (record s { lent = left }) (map asking members) (taken members))
+        → Joins s (joint_done members) answered
+        (joining (record s { lent = left }) (map asking members) (taken members))
     joins h left is_taken =
         record {
-          meant = subst (λ xs. IsLeastChoice seen xs (taken members)) (sym (all_posted members)) (least_taken members h);
+          meant = subst (λ xs. IsLeastChoice seen xs (taken members)) (sym (all_posted members))
+              (least_taken members h);
           outstanding = record {
             asked = map asking members;
             is_joint = refl;
@@ -184,3 +186,12 @@ grown s friends asked among served members member next there is_chosen join apar
     out k =
         let x = image_of posted members (posted next) k in
         no_other x.0.tx next.tx (sym (ap (λ (p : Posted). p.tx) x.2)) (each_passes _ members x.0 apart x.1)
+
+-- where nothing is posted no joint result is outstanding
+pub gone : (s : State) → askings s ≡ [] → (done : Done) → IsOutstandingJoint s done → ⊥
+gone s none done h =
+    let first = h.component.component.in_remainder.is_in.0 in
+    none_there _ (subst (λ xs. Contains (map posted_of xs) h.component.component.first) none first)
+
+pub one_lent : (job other : Job) → Contains (job ∷ []) other → other ≡ job
+one_lent job other h = by_first job other [] (λ e. e) (λ more. absurd (none_there _ more)) h

@@ -1,19 +1,21 @@
 -- The third who is held back, event by event.
-use Rattle.std.proofs.Common.{inl, inr, ℕ, Bool, true, List, [], ◌∷◌, ◌++◌, map, refl, arith}
+use Rattle.std.proofs.Common.{inl, inr, ℕ, List, [], ◌∷◌, ◌++◌, map, refl, arith}
 use Rattle.ent_protocol.specs.Begin.{posting}
 use Rattle.ent_protocol.specs.Commit.{preparing, committing}
 use Rattle.ent_protocol.specs.Partners.{partners_opening}
 use Rattle.ent_protocol.specs.Play.{Plays}
-use Rattle.ent_protocol.specs.PoolEvents.{joining}
+use Rattle.ent_protocol.specs.Event as replies
+use Rattle.ent_protocol.specs.PoolEvents.{joining, Lends}
 use Rattle.ent_protocol.specs.Reached.{opened}
 use Rattle.ent_protocol.specs.Run.{Forms, submitting, starting, ending}
 use Rattle.ent_protocol.specs.State.{State}
 use Rattle.ent_tree.specs.declared.script.End.TheVariants.{Commit}
-use Rattle.ent_plays.specs.HeldBack.{mickey, minnie, asks_form, first_asks, two_friends, holds_back, posts_later}
-use Rattle.ent_plays.specs.Scripts.{ScriptOf, script}
-use Rattle.ent_plays.specs.Wish.{Friend, asking, wants, joint_job}
+use Rattle.ent_plays.specs.HeldBack.{mickey, minnie, two_friends, holds_back, posts_later}
+use Rattle.ent_plays.specs.Scripts.{ScriptOf, asks_form, script}
+use Rattle.ent_plays.specs.Wish.{Friend, asking, wants, joint_job, first_asks}
 use Rattle.ent_plays.proofs.Answered.{AreTogether, lends, joins, nothing_out}
 use Rattle.ent_plays.proofs.Choice.{taken}
+use Rattle.ent_plays.proofs.Component.{everyone}
 use Rattle.ent_plays.proofs.Members.{fresh, answered, alone}
 use Rattle.ent_plays.proofs.Safe.{safe, first_unsafe}
 use Rattle.ent_plays.proofs.Steps.{plays_on, submits}
@@ -22,22 +24,20 @@ use Rattle.ent_plays.proofs.Waiting.{quiet}
 abbrev three_friends : List Friend
 three_friends = first_asks 1 mickey ∷ first_asks 2 minnie ∷ first_asks 3 minnie ∷ []
 
-abbrev all : ℕ → Bool
-all tx = true
-
-together : AreTogether two_friends all (first_asks 1 mickey) (first_asks 2 minnie ∷ [])
+pub together : AreTogether two_friends everyone (first_asks 1 mickey) (first_asks 2 minnie ∷ [])
 together = record { are = refl; served = refl; closed = refl; star = refl; by_number = refl }
 
-module _ {resolved : Forms ℕ} (one : ScriptOf resolved 8 (asks_form mickey) Commit)
-    (two : ScriptOf resolved 8 (asks_form minnie) Commit) (third : ScriptOf resolved 1 (asks_form minnie) Commit) where
+module _ {resolved : Forms ℕ} (one : ScriptOf resolved 8 (asks_form mickey ∷ []) Commit)
+    (two : ScriptOf resolved 8 (asks_form minnie ∷ []) Commit)
+    (third : ScriptOf resolved 1 (asks_form minnie ∷ []) Commit) where
   abbrev one_in : State
-  one_in = submitting (opened partners_opening) (script one) (asks_form mickey)
+  one_in = submitting (opened partners_opening) (script one) (asks_form mickey ∷ [])
 
   abbrev two_in : State
-  two_in = submitting one_in (script two) (asks_form minnie)
+  two_in = submitting one_in (script two) (asks_form minnie ∷ [])
 
   abbrev three_in : State
-  three_in = submitting two_in (script third) (asks_form minnie)
+  three_in = submitting two_in (script third) (asks_form minnie ∷ [])
 
   abbrev started : State
   started = starting three_in
@@ -53,6 +53,9 @@ module _ {resolved : Forms ℕ} (one : ScriptOf resolved 8 (asks_form mickey) Co
 
   abbrev joined : State
   joined = joining two_posted (map asking two_friends) (taken two_friends)
+
+  lends_both : Lends {F = ℕ} two_posted (replies.Lent (joint_job two_friends)) picked
+  lends_both = lends two_posted two_friends refl everyone _ _ together refl (nothing_out two_posted _ refl) refl
 
   held : Plays resolved (opened partners_opening) (holds_back one two third) joined
   held = (
@@ -83,8 +86,8 @@ module _ {resolved : Forms ℕ} (one : ScriptOf resolved 8 (asks_form mickey) Co
                 ),
                 (
                   picked,
-                  inl (lends two_posted two_friends refl all _ _ together refl (nothing_out two_posted _ refl) refl),
-                  (joined, inl (joins picked two_friends refl all _ _ together refl [] (alone _)), refl),
+                  inl lends_both,
+                  (joined, inl (joins picked two_friends refl everyone _ _ together refl [] (alone _)), refl),
                 ),
               ),
             ),
@@ -116,7 +119,7 @@ module _ {resolved : Forms ℕ} (one : ScriptOf resolved 8 (asks_form mickey) Co
       (
         third_posted,
         inl (safe (first_asks 3 minnie ∷ []) refl, refl, refl),
-        (last, inl (quiet third_posted (first_asks 3 minnie ∷ []) refl refl refl refl refl, refl, refl), refl),
+        (last, inl (quiet third_posted (first_asks 3 minnie ∷ []) refl refl (λ tx. refl) refl refl, refl, refl), refl),
       ),
     ),
   )

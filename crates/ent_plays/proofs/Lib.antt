@@ -7,4 +7,10 @@ pub mod Answered
 pub mod Steps
 pub mod Waiting
 pub mod Members
+pub mod Changed
 pub mod HeldBackPlay
+pub mod GrownPlay
+pub mod ShrunkPlay
+pub mod EarlierPlay
+pub mod TwicePlay
+pub mod LinkedPlay

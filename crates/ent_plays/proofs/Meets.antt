@@ -52,8 +52,8 @@ can_meet friend other h =
 same_post : (x y : Atom Value) → ◌≡◌ (Some x) (Some y) → x ≡ y
 same_post x y e = cc
 
-pub no_post : (k : ℕ) (friend : Friend) (post : Atom Value) → slice_get (posted friend).statement.posts (suc k) ≡ Some post
-    → ⊥
+pub no_post : (k : ℕ) (friend : Friend) (post : Atom Value)
+    → slice_get (posted friend).statement.posts (suc k) ≡ Some post → ⊥
 no_post k friend post e = cc
 
 first_name : (x y : Name) (xs ys : List Value) → Text x ∷ xs ≡ Text y ∷ ys → x ≡ y

@@ -5,7 +5,8 @@ use Rattle.std.specs.Prelude.{Contains, ◌==◌, nat_lt}
 use Rattle.std.specs.List.{list_all}
 use Rattle.std.specs.Ordering.{is_lt}
 use Rattle.std.specs.declared.cmp.Ordering.TheVariants.{Less}
-use Rattle.ent_coordination.specs.Pool.{Posted, CanMeet, IsSafe, Unsafe, HasHeadFor, IsFirstUnsafe, IsUnsafeAt, unsafe_cmp}
+use Rattle.ent_coordination.specs.Pool.{Posted, CanMeet, IsSafe, Unsafe, HasHeadFor, IsFirstUnsafe, IsUnsafeAt}
+use Rattle.ent_coordination.specs.Pool.{unsafe_cmp}
 use Rattle.ent_plays.specs.Wish.{Friend, posted}
 use Rattle.ent_plays.proofs.Listed.{image_of, image_there, each_passes, unless, both_true, same_number}
 use Rattle.ent_plays.proofs.Meets.{meets, met_by, can_meet}
@@ -27,7 +28,8 @@ pub met_in : (friends : List Friend) (asker : Posted) (index : ℕ) (owner : Pos
 met_in friends asker index owner a b h =
     let x = image_of posted friends asker a in
     let y = image_of posted friends owner b in
-    let is = met_by x.0 y.0 index (subst (λ p. CanMeet p index (posted y.0)) x.2 (subst (λ p. CanMeet asker index p) y.2 h))
+    let is = met_by x.0 y.0 index
+    (subst (λ p. CanMeet p index (posted y.0)) x.2 (subst (λ p. CanMeet asker index p) y.2 h))
     in record {
       friend = x.0;
       asks = x.1;
@@ -106,7 +108,8 @@ not_both false h e = cc
 
 pub none_less : (friends : List Friend) (fault : Unsafe) → none_earlier fault friends ≡ true → (other : Unsafe)
     → IsUnsafeAt (map posted friends) other → unsafe_cmp other fault ≢ Less
-none_less friends fault h other at less = not_both _ later (ap is_lt (sym (ap (λ (u : Unsafe). unsafe_cmp u fault) is) ∙ less))
+none_less friends fault h other at less =
+    not_both _ later (ap is_lt (sym (ap (λ (u : Unsafe). unsafe_cmp u fault) is) ∙ less))
   where
     one : Met friends at.1.asker other.index at.1.partner
     one = met_in friends at.1.asker other.index at.1.partner at.1.asks at.1.offers at.1.meets
@@ -135,8 +138,8 @@ none_less friends fault h other at less = not_both _ later (ap is_lt (sym (ap (�
     later : not (is_lt (unsafe_cmp (fault_of one.friend one.other two.other) fault)) ≡ true
     later =
         unless _ _ (met_twice (λ friend first again second.
-        not (nat_lt first.tx second.tx) || not (is_lt (unsafe_cmp (fault_of friend first second) fault))) friends h one.friend
-        one.other two.friend two.other one.asks one.offers two.asks two.offers
+        not (nat_lt first.tx second.tx) || not (is_lt (unsafe_cmp (fault_of friend first second) fault))) friends h
+        one.friend one.other two.friend two.other one.asks one.offers two.asks two.offers
         (ap (λ n. n == two.friend.tx) (sym asker ∙ again) ∙ equal_itself two.friend.tx) one.meet two.meet)
         (sym (λ i. nat_lt (first i) (second i)) ∙ below other.first other.second at.0)
 

@@ -1,13 +1,14 @@
 -- A run in which nobody is left but friends that nobody answers may end.
 use Rattle.std.proofs.Common.{◌≡◌, inl, inr, ℕ, zero, ◌<◌, Bool, true, false, ◌||◌, not, List, [], ◌∷◌, map}
 use Rattle.std.proofs.Common.{ap, subst, ◌∙◌, arith}
-use Rattle.std.specs.Prelude.{Contains, slice_get}
-use Rattle.std.specs.List.{list_all, list_any}
+use Rattle.std.specs.Prelude.{slice_get}
+use Rattle.std.specs.List.{list_all}
 use Rattle.ent_group.specs.Cycle.{IsInRing, Closes}
 use Rattle.ent_coordination.specs.Component.{IsInRemainder}
 use Rattle.ent_coordination.specs.Pool.{Posted}
-use Rattle.ent_protocol.specs.Job.{posted_of}
-use Rattle.ent_protocol.specs.Member.{askings, is_single_of}
+use Rattle.ent_protocol.specs.Job.{Asking, posted_of}
+use Rattle.ent_protocol.specs.Member.{askings, is_lent}
+use Rattle.ent_protocol.specs.PoolEvents.{IsPresentComponent}
 use Rattle.ent_protocol.specs.Quiet.{IsQuiet, HasJobOut}
 use Rattle.ent_protocol.specs.State.{State, Member}
 use Rattle.ent_protocol.specs.Waits.{waits}
@@ -53,17 +54,21 @@ not_true : (b : Bool) → b ≡ false → b ≡ true → ⊥
 not_true b e h = cc
 
 pub quiet : (s : State) (friends : List Friend) → askings s ≡ map asking friends → nobody_meets friends ≡ true
-    → s.lent ≡ [] → all_wait s ≡ true → waits s ≡ [] → IsQuiet s
-quiet s friends asked nobody lent_is wait waits_is =
+    → ((tx : ℕ) → is_lent s tx ≡ false) → all_wait s ≡ true → waits s ≡ [] → IsQuiet s
+quiet s friends asked nobody no_single wait waits_is =
     record {
-      nothing_out = λ tx out. nothing tx out;
+      nothing_out = nothing;
       nobody_moves = λ tx can. false_true _ _ (each_passes _ s.active can.member wait can.active) can.waiting;
-      all_tried = λ tx untried. none_remains friends nobody untried.component.component.first
-          (subst (λ xs. IsInRemainder xs untried.component.component.first)
-          (ap (map posted_of) asked ∙ all_posted friends) untried.component.component.in_remainder);
+      all_tried = λ tx untried. no_component untried.asked untried.component;
       no_deadlock = no_ring (waits s) waits_is;
     }
   where
+    no_component : (others : List Asking) → IsPresentComponent s others → ⊥
+    no_component others h =
+        none_remains friends nobody h.component.first
+        (subst (λ xs. IsInRemainder xs h.component.first) (ap (map posted_of) asked ∙ all_posted friends)
+        h.component.in_remainder)
+
     nothing : (tx : ℕ) → HasJobOut s tx → ⊥
-    nothing tx (inl h) = not_true _ (ap (list_any (is_single_of tx)) lent_is) h
-    nothing tx (inr h) = none_there h.out.0 (subst (λ jobs. Contains jobs h.out.0) lent_is h.out.1)
+    nothing tx (inl h) = not_true _ (no_single tx) h
+    nothing tx (inr h) = no_component h.asked h.component

@@ -1,14 +1,11 @@
 -- A third who offers what the second does is held back until both have committed, and then waits alone.
 use Rattle.std.specs.Prelude.{ℕ, List, [], ◌∷◌, codes}
 use Rattle.ent_tree.specs.declared.script.End.TheVariants.{Commit}
-use Rattle.ent_closed.specs.declared.operand.Known.{Known}
-use Rattle.ent_closed.specs.declared.statement.Statement.{Statement}
-use Rattle.ent_closed.specs.declared.statement.Statement.TheVariants as forms
 use Rattle.ent_protocol.specs.Event.{Event, Reply}
 use Rattle.ent_protocol.specs.Event as events
 use Rattle.ent_protocol.specs.Run.{Forms}
-use Rattle.ent_plays.specs.Scripts.{ScriptOf, script}
-use Rattle.ent_plays.specs.Wish.{Wish, Friend, in_R, asks, joint_job, joint_done}
+use Rattle.ent_plays.specs.Scripts.{ScriptOf, asks_form, script}
+use Rattle.ent_plays.specs.Wish.{Wish, Friend, in_R, first_asks, joint_job, joint_done}
 
 abbrev pub mickey : Wish
 mickey = in_R (codes "Mickey") (codes "Minnie")
@@ -16,19 +13,12 @@ mickey = in_R (codes "Mickey") (codes "Minnie")
 abbrev pub minnie : Wish
 minnie = in_R (codes "Minnie") (codes "Mickey")
 
--- SELECT own, fno AS @f INTO ANSWER R .., and no other statement
-abbrev pub asks_form : Wish → List (Statement Known)
-asks_form wish = forms.Entangled (asks wish) ∷ []
-
--- a transaction of the first run, whose first statement is its wish
-abbrev pub first_asks : ℕ → Wish → Friend
-first_asks tx wish = record { tx = tx; attempt = 1; place = 1; wish = wish }
-
 abbrev pub two_friends : List Friend
 two_friends = first_asks 1 mickey ∷ first_asks 2 minnie ∷ []
 
-module _ {resolved : Forms ℕ} (one : ScriptOf resolved 8 (asks_form mickey) Commit)
-    (two : ScriptOf resolved 8 (asks_form minnie) Commit) (third : ScriptOf resolved 1 (asks_form minnie) Commit) where
+module _ {resolved : Forms ℕ} (one : ScriptOf resolved 8 (asks_form mickey ∷ []) Commit)
+    (two : ScriptOf resolved 8 (asks_form minnie ∷ []) Commit)
+    (third : ScriptOf resolved 1 (asks_form minnie ∷ []) Commit) where
   -- the post of the first one would unify with the heads of the second and the third
   abbrev pub holds_back : List (Event × Reply ℕ)
   holds_back =

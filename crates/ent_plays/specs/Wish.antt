@@ -52,6 +52,10 @@ pub record Friend : Type 0 where
   pub place : ℕ
   pub wish : Wish
 
+-- at its first statement, in the first run
+abbrev pub first_asks : ℕ → Wish → Friend
+first_asks tx wish = record { tx = tx; attempt = 1; place = 1; wish = wish }
+
 abbrev pub asking : Friend → Asking
 asking friend =
     record { tx = friend.tx; attempt = friend.attempt; place = friend.place; statement = wants friend.wish }
