@@ -3,4 +3,5 @@ pub mod Kinds
 pub mod Change
 pub mod Meant
 pub mod Setting
-pub mod Job
+pub mod Seen
+pub mod Work

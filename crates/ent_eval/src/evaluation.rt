@@ -41,7 +41,7 @@ fn binding(alloc: Global, expression: &Expression<Value>) -> Result<Outcome, All
 /// What a closed ordinary statement comes to over the tables that it names, in the order in which it names them: what
 /// it means in each database in which they stand. The tables stay; a change that is told can be applied to its one
 /// table.
-pub fn evaluate(
+pub fn statement_outcome(
     alloc: Global,
     statement: &Statement<Value>,
     tables: &[Arc<Table>],

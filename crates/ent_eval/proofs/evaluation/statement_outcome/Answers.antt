@@ -2,7 +2,7 @@ use Rattle.std.proofs.Common.{◌≡◌, ap, sym, ◌∙◌, map}
 use Rattle.std.specs.Arc.{arc_value}
 use Rattle.ent_closed.specs.declared.statement.Statement.TheVariants as statements
 use Rattle.ent_eval.proofs.Changes.{if_ok, deleted_so, updated_so, applied_so}
-use Rattle.ent_eval.proofs.evaluation.evaluate.Goals as goal
+use Rattle.ent_eval.proofs.evaluation.statement_outcome.Goals as goal
 
 pub returns-in-Insert-clause-change : goal.returns-in-Insert-clause-change
 returns-in-Insert-clause-change c =
