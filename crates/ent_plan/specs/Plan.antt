@@ -9,8 +9,9 @@ use Rattle.ent_value.specs.declared.value.Value.{Value}
 use Rattle.ent_semantics.specs.declared.answer.Fact.{Fact}
 use Rattle.ent_semantics.specs.Entangled.{Valuation}
 use Rattle.ent_semantics.specs.Term.{no_value}
+use Rattle.ent_closed.specs.Form.{Tables}
 use Rattle.ent_closed.specs.declared.entangled.Atom.{Atom}
-use Rattle.ent_coordination.specs.Choice.{all_heads, all_posts}
+use Rattle.ent_coordination.specs.Choice.{AreGroundings, all_heads, all_posts}
 use Rattle.ent_coordination.specs.Pool.{Posted}
 use Rattle.ent_plan.specs.declared.slot.Slot.{Slot}
 use Rattle.ent_plan.specs.declared.slot.Slot.TheVariants.{Fixed, Class}
@@ -81,3 +82,11 @@ HasDistinctHeads member = AllPairs (λ (one other : Atom Value). one.relation �
 
 abbrev pub HaveDistinctHeads : List Posted → Type 0
 HaveDistinctHeads members = (member : Posted) → Contains members member → HasDistinctHeads member
+
+-- ---- the coordinating choices of a plan
+
+-- groundings of the statements over the tables that are those of the plan under some values of the classes' kinds
+abbrev pub IsGroundedSpread : Tables → Plan → List Valuation → Type 0
+IsGroundedSpread tables plan groundings =
+    (values : List Value) × (kinds_of values ≡ plan.kinds) × (groundings ≡ spread plan values)
+    × AreGroundings tables plan.members (spread plan values)

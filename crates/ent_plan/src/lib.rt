@@ -6,6 +6,8 @@
 //! where no groundings do. The classes are numbered such that lists of their values are in the order of the choices.
 #![tactic(auto)]
 
+mod law;
 mod slot;
 
+pub use law::{plan_has_the_choices, plan_keeps_the_order, plan_names_its_classes};
 pub use slot::Slot;
