@@ -1,7 +1,7 @@
 -- The plan of the coordinating choices of posted statements: what each of their written variables is.
-use Rattle.std.specs.Prelude.{◌≡◌, ◌≢◌, ◌<◌, ◌⊎◌, ◌↔◌, ℕ, suc, List, [], ◌∷◌, length, map, AllPairs, Contains}
+use Rattle.std.specs.Prelude.{◌≡◌, ◌≢◌, ◌<◌, ◌⊎◌, ◌↔◌, ◌==◌, ℕ, suc, Bool, List, [], ◌∷◌, length, map, AllPairs, Contains}
 use Rattle.std.specs.Prelude.{slice_index_or}
-use Rattle.std.specs.List.{flat_map}
+use Rattle.std.specs.List.{filter, flat_map, list_any}
 use Rattle.ent_value.specs.Value.{kind_of, kinds_of}
 use Rattle.ent_value.specs.declared.value.Kind.{Kind}
 use Rattle.ent_value.specs.declared.value.Kind.TheVariants as kinds
@@ -75,6 +75,14 @@ abbrev pub HaveNoPlan : List Posted → Type 0
 HaveNoPlan members = (groundings : List Valuation) → AreKindedFor members groundings → AreMet members groundings → ⊥
 
 -- ---- of which statements there are plans
+
+-- a statement is of one of some transactions
+abbrev pub is_named : List ℕ → Posted → Bool
+is_named txs member = list_any (λ tx. tx == member.tx) txs
+
+-- the statements of some transactions
+abbrev pub named : List Posted → List ℕ → List Posted
+named pool txs = filter (is_named txs) pool
 
 -- a statement's heads are of distinct relations
 abbrev pub HasDistinctHeads : Posted → Type 0

@@ -12,4 +12,5 @@ sources_of statement = flat_map (λ membership. membership.select.sources) state
 
 -- the tables by number, each once
 abbrev pub tables_named : List Posted → List ℕ
-tables_named members = set.ascending (set.from_list {R = nat_cmp} (flat_map (λ member. sources_of member.statement) members))
+tables_named members =
+    set.ascending (set.from_list {R = nat_cmp} (flat_map (λ member. sources_of member.statement) members))

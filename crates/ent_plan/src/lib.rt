@@ -6,8 +6,14 @@
 //! where no groundings do. The classes are numbered such that lists of their values are in the order of the choices.
 #![tactic(auto)]
 
+mod class;
+mod join_plan;
 mod law;
+mod named;
+mod pair;
 mod slot;
+mod table;
 
+pub use join_plan::{JoinPlan, combine};
 pub use law::{plan_has_the_choices, plan_keeps_the_order, plan_names_its_classes};
 pub use slot::Slot;
