@@ -1,1 +1,2 @@
 pub mod Environment
+pub mod Bindings

@@ -1,11 +1,13 @@
 //! The host variables that a script has bound.
-ghost use Rattle.std.specs.Prelude.{◌≡◌, OnOk, OnErr};
+ghost use Rattle.std.specs.Prelude.{◌≡◌, [], ◌∷◌, ◌++◌, OnOk, OnErr};
 ghost use Rattle.std.specs.Option.{option_copied};
 ghost use Rattle.ent_semantics.specs.Database.{nothing_bound, with_value};
+ghost use Rattle.ent_closing.specs.Bindings.{bound_in};
 ghost use Rattle.ent_closing.specs.Environment.{environment_of};
 
 use ent_value::{Name, Sequence, Value};
 use std::alloc::{AllocError, Global};
+use std::marker::Model;
 
 /// A host variable, and what it was bound to.
 #[derive(Drop)]
@@ -14,17 +16,30 @@ struct Binding {
     value: Value,
 }
 
-/// The host variables that a script has bound, each with its value.
+/// The host variables that a script has bound, each with its value. Contracts see the list of the bindings, in the
+/// order of their making: of those of one variable the last counts.
 #[derive(Drop)]
 pub struct Environment {
-    /// In the order of their making: of the bindings of one variable the last counts.
     bindings: Sequence<Binding>,
+}
+
+impl Model for Environment {
+    ghost use Rattle.std.specs.Prelude.{List};
+    ghost use Rattle.ent_value.specs.declared.value.Value.{Value as Bound};
+    ghost use Rattle.ent_semantics.specs.Database.{Name};
+
+    ghost Value = { List (Name × Bound) };
+
+    ghost use Rattle.ent_closing.specs.Bindings.{bound_in};
+
+    ghost view = { λ e. bound_in e.bindings };
 }
 
 impl Environment {
     /// The environment that binds nothing. It takes no memory.
     pub fn new(alloc: Global) -> Self
-        ensures { environment_of result ≡ nothing_bound }
+        ensures bindings { result ≡ [] }
+        ensures nothing { environment_of result ≡ nothing_bound }
     {
         Environment {
             bindings: Sequence::new(alloc),
@@ -33,8 +48,9 @@ impl Environment {
 
     /// Binds a host variable to a value, whatever it was bound to. Where memory runs out nothing changes.
     pub fn bind(&mut self, variable: Name, value: Value) -> Result<(), AllocError>
+        ensures bindings { OnOk result (self.new ≡ self.old ++ (variable, value) ∷ []) }
         ensures ok { OnOk result (environment_of self.new ≡ with_value (environment_of self.old) variable value) }
-        ensures err { OnErr result (environment_of self.new ≡ environment_of self.old) }
+        ensures err { OnErr result (self.new ≡ self.old) }
     {
         self.bindings.push(Binding { variable, value })?;
         Ok(())
@@ -44,12 +60,19 @@ impl Environment {
     pub fn value_of(&self, variable: &Name) -> Option<&Value>
         ensures { option_copied result ≡ environment_of self.now variable.now }
     {
-        let mut found = None;
-        for binding in self.bindings.as_slice() {
-            if binding.variable == *variable {
-                found = Some(&binding.value);
-            }
-        }
-        found
+        last_value(self.bindings.as_slice(), variable)
     }
+}
+
+/// The value of the last binding of a host variable.
+fn last_value<'a>(bindings: &'a [Binding], variable: &Name) -> Option<&'a Value>
+    ensures { option_copied result ≡ environment_of (bound_in bindings.now) variable.now }
+{
+    let mut found = None;
+    for binding in bindings {
+        if binding.variable == *variable {
+            found = Some(&binding.value);
+        }
+    }
+    found
 }

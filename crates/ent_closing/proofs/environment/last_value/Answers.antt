@@ -1,17 +1,17 @@
-use Rattle.std.proofs.Common.{ap, sym, ◌∙◌, cond, Some, arith}
+use Rattle.std.proofs.Common.{refl, ap, sym, ◌∙◌, cond, Some, arith}
 use Rattle.std.specs.Option.{option_copied}
 use Rattle.ent_closing.proofs.Bindings.{bound_more}
-use Rattle.ent_closing.proofs.environment.Environment.value_of.Goals as goal
-use Rattle.ent_closing.proofs.environment.Environment.value_of.Goals.{then-eq, else-eq}
+use Rattle.ent_closing.proofs.environment.last_value.Goals as goal
+use Rattle.ent_closing.proofs.environment.last_value.Goals.{then-eq, else-eq}
 
 pub loop-binding-preserved : goal.loop-binding-preserved
 loop-binding-preserved c =
-    let bindings = c.args.self.now.bindings in
+    let bindings = c.args.bindings.now in
     let index = c.loop-binding.binding-index in
     let binding = c.binding-item.result in
-    bound_more bindings c.as_slice-binding-items.result.now index binding c.args.variable.now
+    bound_more bindings bindings index binding c.args.variable.now
     (option_copied c.loop-binding.found) (option_copied c.if-eq.found)
-    c.as_slice-binding-items.ensures (omega arith) c.binding-item.is c.loop-binding.invariant
+    refl (omega arith) c.binding-item.is c.loop-binding.invariant
     (elim c.if-eq.branch [
       | then-eq w ↦ ap option_copied w.found-is ∙ ap (λ b. cond b (Some binding.value)
           (option_copied c.loop-binding.found)) (sym w.if-eq.true ∙ c.eq.ensures)
