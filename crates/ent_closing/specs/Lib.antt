@@ -1,2 +1,1 @@
 pub mod Environment
-pub mod Bindings

@@ -2,25 +2,17 @@
 ghost use Rattle.std.specs.Prelude.{◌≡◌, [], ◌∷◌, ◌++◌, OnOk, OnErr};
 ghost use Rattle.std.specs.Option.{option_copied};
 ghost use Rattle.ent_semantics.specs.Database.{nothing_bound, with_value};
-ghost use Rattle.ent_closing.specs.Bindings.{bound_in};
 ghost use Rattle.ent_closing.specs.Environment.{environment_of};
 
-use ent_value::{Name, Sequence, Value};
+use ent_value::{Name, Value};
 use std::alloc::{AllocError, Global};
 use std::marker::Model;
-
-/// A host variable, and what it was bound to.
-#[derive(Drop)]
-struct Binding {
-    variable: Name,
-    value: Value,
-}
 
 /// The host variables that a script has bound, each with its value. Contracts see the list of the bindings, in the
 /// order of their making: of those of one variable the last counts.
 #[derive(Drop)]
 pub struct Environment {
-    bindings: Sequence<Binding>,
+    bindings: Vec<(Name, Value)>,
 }
 
 impl Model for Environment {
@@ -30,9 +22,7 @@ impl Model for Environment {
 
     ghost Value = { List (Name × Bound) };
 
-    ghost use Rattle.ent_closing.specs.Bindings.{bound_in};
-
-    ghost view = { λ e. bound_in e.bindings };
+    ghost view = { λ e. e.bindings.items };
 }
 
 impl Environment {
@@ -42,7 +32,7 @@ impl Environment {
         ensures nothing { environment_of result ≡ nothing_bound }
     {
         Environment {
-            bindings: Sequence::new(alloc),
+            bindings: Vec::new(alloc),
         }
     }
 
@@ -52,8 +42,17 @@ impl Environment {
         ensures ok { OnOk result (environment_of self.new ≡ with_value (environment_of self.old) variable value) }
         ensures err { OnErr result (self.new ≡ self.old) }
     {
-        self.bindings.push(Binding { variable, value })?;
+        self.bindings.push((variable, value))?;
         Ok(())
+    }
+
+    /// Binds host variables, one after the other. Where memory runs out nothing changes.
+    pub fn bind_all(&mut self, bound: Vec<(Name, Value)>) -> Result<(), AllocError>
+        ensures ok { OnOk result (self.new ≡ self.old ++ bound.items) }
+        ensures err { OnErr result (self.new ≡ self.old) }
+    {
+        let mut bound = bound;
+        self.bindings.append(&mut bound)
     }
 
     /// What a host variable is bound to.
@@ -65,13 +64,13 @@ impl Environment {
 }
 
 /// The value of the last binding of a host variable.
-fn last_value<'a>(bindings: &'a [Binding], variable: &Name) -> Option<&'a Value>
-    ensures { option_copied result ≡ environment_of (bound_in bindings.now) variable.now }
+fn last_value<'a>(bindings: &'a [(Name, Value)], variable: &Name) -> Option<&'a Value>
+    ensures { option_copied result ≡ environment_of bindings.now variable.now }
 {
     let mut found = None;
     for binding in bindings {
-        if binding.variable == *variable {
-            found = Some(&binding.value);
+        if binding.0 == *variable {
+            found = Some(&binding.1);
         }
     }
     found
