@@ -1,11 +1,11 @@
 -- Who is dormant was submitted, and stands once in the list.
-use Rattle.std.proofs.Common.{◌≡◌, ◌<◌, ◌≤◌, ℕ, ◌+◌, false, Bool, List, [], ◌∷◌, ◌++◌, length, map, refl, sym, ap, subst, ◌∙◌, arith, nat_eq, length-append}
+use Rattle.std.proofs.Common.{◌≡◌, ◌<◌, ◌≤◌, ℕ, ◌+◌, false, Bool, List, [], ◌∷◌, ◌++◌, length, map, sym, ap, subst, ◌∙◌, arith, nat_eq, length-append}
 use Rattle.std.specs.List.{AllByRecursion, IsDistinct}
 use Rattle.std.proofs.lemmas.Bool.Decides.{nat_tests}
 use Rattle.ent_tree.specs.declared.declaration.Opening.{Opening}
 use Rattle.ent_form.specs.declared.catalogue.TableSchema.{TableSchema}
 use Rattle.ent_protocol.specs.State.{Submitted, Dormant}
-use Rattle.ent_core.specs.Run.{Run}
+use Rattle.ent_members.specs.Run.{Run}
 use Rattle.ent_core.specs.Store.{IsKept}
 
 abbrev IsWithin : ℕ → Dormant → Type 0
@@ -53,7 +53,7 @@ kept_submitted schemas opening submitted submitted' dormant dormant' running run
     let A : List Dormant → Type 0 = λ all. AllByRecursion (λ (one : Dormant). one.tx ≤ length submitted') all in
     let D : List Dormant → Type 0 = λ all. IsDistinct nat_eq (numbers all) in
     let within : AllByRecursion (IsWithin (length submitted')) dormant =
-        subst (λ (most : ℕ). AllByRecursion (IsWithin most) dormant) (sym n) (later (length submitted) dormant kept.arrived) in
+    subst (λ (most : ℕ). AllByRecursion (IsWithin most) dormant) (sym n) (later (length submitted) dormant kept.arrived) in
     record {
       declared = kept.declared;
       formed = kept.formed;

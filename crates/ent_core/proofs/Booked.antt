@@ -1,23 +1,21 @@
 -- The tables of a book, and the book of a state in which no run is on.
-use Rattle.std.proofs.Common.{◌≡◌, ◌≤◌, ◌⊎◌, inl, inr, ℕ, zero, suc, Bool, true, false, cond, ◌||◌, List, [], ◌∷◌, ◌++◌, length, map, take, refl, sym, ap, ◌∙◌, arith, not}
+use Rattle.std.proofs.Common.{◌≡◌, ◌≤◌, ◌⊎◌, inl, inr, ℕ, zero, suc, false, cond, List, [], ◌∷◌, ◌++◌, length, map, take, refl, sym, ap, ◌∙◌, arith, not}
 use Rattle.std.specs.List.{filter, list_any}
 use Rattle.std.specs.Arc.{arc_value}
 use Rattle.std.specs.declared.sync.Arc.{Arc}
 use Rattle.std.proofs.lemmas.Simd.{map-map}
 use Rattle.std.proofs.lemmas.List.{length-map, take-map}
-use Rattle.ent_set.specs.Sets as set
 use Rattle.ent_rel.specs.Relation.{Relation}
 use Rattle.ent_tree.specs.declared.declaration.Create.{Create}
-use Rattle.ent_semantics.specs.declared.book.Book.{Book}
 use Rattle.ent_semantics.specs.declared.book.JointAnswer.{JointAnswer}
 use Rattle.ent_semantics.specs.declared.book.Member.{Member as JointMember}
-use Rattle.ent_semantics.specs.Database.{Name, Rows, Database, same_name}
+use Rattle.ent_semantics.specs.Database.{Name, Rows, same_name}
 use Rattle.ent_closed.specs.Form.{Tables}
 use Rattle.ent_form.specs.declared.catalogue.TableSchema.{TableSchema}
 use Rattle.ent_form.specs.Catalogue.{schemas_of, names_of, table_schema}
 use Rattle.ent_book.specs.declared.table.NamedTable.{NamedTable}
 use Rattle.ent_book.specs.Tables.{tables_database}
-use Rattle.ent_protocol.specs.Reached.{named_tables, table_names, book_of, settled, committed_joints, closing, CanClose}
+use Rattle.ent_protocol.specs.Reached.{named_tables, table_names, book_of, settled, committed_joints}
 use Rattle.ent_protocol.specs.Rollback.{is_joint_of, is_among}
 use Rattle.ent_protocol.specs.State.{State, Member, members}
 use Rattle.ent_protocol.specs.Tidy.{IsTidy}
@@ -60,7 +58,7 @@ module _ {Z : Type 0} where
       let rows : List Relation → Tables = rows_in in
       let names_cut : map (λ entry. entry.name) entries ≡ take n (names_of schemas) = names ∙ sym (take-map f n schemas) in
       let tables_cut : rows_in (map relation_of entries) ≡ take n (rows_in (map arc_value arcs)) =
-          ap rows tables ∙ ap rows (sym (take-map arc_value n arcs)) ∙ sym (take-map (λ (t : Relation). t.rows) n (map arc_value arcs)) in
+      ap rows tables ∙ ap rows (sym (take-map arc_value n arcs)) ∙ sym (take-map (λ (t : Relation). t.rows) n (map arc_value arcs)) in
       λ i name.
       (listed entries name ∙ (λ j. named_tables (names_cut j) (tables_cut j) name)
       ∙ cut (names_of schemas) (rows_in (map arc_value arcs)) n name (either short)) i
@@ -93,7 +91,7 @@ pub book_settled : (s : State) → IsTidy s → settled s ≡ s.tables → s.run
 book_settled s tidy rest off =
     let nobody : members s ≡ [] = λ i. append (tidy.no_prepared off i) (tidy.no_active off i) in
     let joints : s.joints ≡ committed_joints s =
-        sym (all_committed s.joints) ∙ (λ i. filter (λ joint. not (is_joint_of (sym nobody i) joint)) s.joints) in
+    sym (all_committed s.joints) ∙ (λ i. filter (λ joint. not (is_joint_of (sym nobody i) joint)) s.joints) in
     λ i. record (book_at_rest s) {
       joint_answers = joints i;
       database = named_tables (table_names s.opening) (sym rest i);

@@ -1,17 +1,15 @@
 -- A step leads from a state that is kept to one that is kept.
-use Rattle.std.proofs.Common.{◌≡◌, ℕ, suc, sym, subst, ap, ◌∙◌, refl, Result, Ok, Err, Option, Some, None}
+use Rattle.std.proofs.Common.{◌≡◌, suc, sym, subst, ap, ◌∙◌, refl, Result, Ok, Err, Option, Some, None}
 use Rattle.std.specs.Prelude.{IfOk, OnErr}
-use Rattle.ent_value.specs.Refusal.{Gives}
-use Rattle.ent_value.specs.declared.refusal.Refusal.{Refusal}
 use Rattle.ent_tree.specs.declared.declaration.Opening.{Opening}
 use Rattle.ent_form.specs.declared.fault.FormFault.{FormFault}
 use Rattle.ent_form.specs.OpeningFault.{opening_fault, unless}
 use Rattle.ent_protocol.specs.Event.{Event, Reply}
-use Rattle.ent_protocol.specs.Reached.{LeadsTo, IsReached, opened}
+use Rattle.ent_protocol.specs.Reached.{LeadsTo, opened}
 use Rattle.ent_protocol.specs.State.{State}
 use Rattle.ent_protocol.specs.Step.{Step}
 use Rattle.ent_core.specs.Kept.{IsKeptState}
-use Rattle.ent_core.specs.Resolved.{resolved_forms}
+use Rattle.ent_resolved.specs.Resolved.{resolved_forms}
 use Rattle.ent_core.proofs.Opened.{same_opening}
 
 pub kept_next : (s new : State) (event : Event) (reply : Reply FormFault) → IsKeptState s

@@ -4,4 +4,5 @@ pub mod ByNumber
 pub mod Keeping
 pub mod Opened
 pub mod Opening
+pub mod Starting
 pub mod Told

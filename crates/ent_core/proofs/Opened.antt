@@ -1,7 +1,6 @@
 -- No event changes the opening.
 use Rattle.std.proofs.Common.{◌≡◌, inl, inr, ℕ, Bool, true, false, List, [], ◌∷◌, refl, ap, ◌∙◌, Option, Some, None, Result, Ok, Err}
 use Rattle.ent_value.specs.declared.value.Value.{Value}
-use Rattle.ent_tree.specs.declared.declaration.Opening.{Opening}
 use Rattle.ent_tree.specs.declared.script.Script.{Script}
 use Rattle.ent_semantics.specs.Entangled.{Valuation}
 use Rattle.ent_closed.specs.declared.entangled.Entangled.{Entangled}

@@ -1,11 +1,10 @@
 -- A core that is opened.
-use Rattle.std.proofs.Common.{◌≡◌, false, List, [], map, refl, sym, ap, ◌∙◌, Option, Some, None, Result, Ok, Err}
+use Rattle.std.proofs.Common.{◌≡◌, false, List, [], map, refl, sym, ap, ◌∙◌, Option, Some, None, Ok}
 use Rattle.std.proofs.lemmas.Simd.{map-map}
 use Rattle.std.specs.List.{IsDistinct}
 use Rattle.ent_tree.specs.declared.declaration.Create.{Create}
 use Rattle.ent_tree.specs.declared.declaration.Opening.{Opening}
-use Rattle.ent_semantics.specs.Database.{Name, opening_database}
-use Rattle.ent_closed.specs.Form.{Tables}
+use Rattle.ent_semantics.specs.Database.{opening_database}
 use Rattle.ent_form.specs.declared.catalogue.TableSchema.{TableSchema}
 use Rattle.ent_form.specs.declared.fault.FormFault.{FormFault}
 use Rattle.ent_form.specs.Catalogue.{schemas_of}
@@ -13,7 +12,7 @@ use Rattle.ent_form.specs.OpeningFault.{opening_fault, unless}
 use Rattle.ent_kinded.specs.Opened.{opening_tables}
 use Rattle.ent_protocol.specs.Reached.{opened, table_names}
 use Rattle.ent_protocol.specs.State.{State, Submitted, Dormant}
-use Rattle.ent_core.specs.Run.{Run}
+use Rattle.ent_members.specs.Run.{Run}
 use Rattle.ent_core.specs.Store.{IsKept}
 
 -- what an opening's catalogue tells
@@ -24,20 +23,20 @@ catalogued (Some fault) schemas tables e = absurd cc
 
 pub kept_opened_store : (opening : Opening) (schemas : List TableSchema) (submitted : List Submitted) (dormant : List Dormant) (run : Run)
     → unless (opening_fault opening) (schemas_of opening.tables) ≡ Ok schemas → submitted ≡ [] → dormant ≡ []
-    → run ≡ record { prepared = []; active = [] } → IsKept schemas opening submitted dormant false run
+    → run.prepared ≡ [] → run.active ≡ [] → IsKept schemas opening submitted dormant false run
 unfolding IsDistinct
-kept_opened_store opening schemas submitted dormant run e none nobody at_rest =
+kept_opened_store opening schemas submitted dormant run e none nobody no_prepared no_active =
     let h = catalogued (opening_fault opening) (schemas_of opening.tables) schemas e in
-    let first : IsKept schemas opening [] [] false (record { prepared = []; active = [] }) =
-        record {
-          declared = h.1;
-          formed = h.0;
-          arrived = tt;
-          distinct = tt;
-          idle_prepared = λ off. refl;
-          idle_active = λ off. refl;
-        } in
-    rw (none, nobody, at_rest) first
+    let first : IsKept schemas opening [] [] false run =
+    record {
+      declared = h.1;
+      formed = h.0;
+      arrived = tt;
+      distinct = tt;
+      idle_prepared = λ off. no_prepared;
+      idle_active = λ off. no_active;
+    } in
+    rw (none, nobody) first
 
 -- the tables of an opening stand under their names
 pub tables_opened : (opening : Opening) → opening_tables opening ≡ map (opening_database opening) (table_names opening)

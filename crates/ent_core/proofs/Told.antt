@@ -1,11 +1,13 @@
--- The table of a name, by its number in the catalogue.
-use Rattle.std.proofs.Common.{◌≡◌, ◌<◌, ◌≤◌, length, get_or, arith, ℕ, zero, suc, Bool, true, false, cond, List, [], ◌∷◌, map, refl, sym, ap, ◌∙◌, Option, Some, None, slice_get}
+-- What is told of tables and of members.
+use Rattle.std.proofs.Common.{◌≡◌, ◌<◌, ◌≤◌, length, get_or, arith, ℕ, zero, suc, true, false, cond, List, [], ◌∷◌, map, refl, sym, ap, ◌∙◌, Option, Some, None, slice_get}
 use Rattle.std.specs.Option.{option_map}
 use Rattle.ent_semantics.specs.Database.{Name, Rows, same_name}
 use Rattle.ent_closed.specs.Form.{Tables}
 use Rattle.ent_form.specs.declared.catalogue.TableSchema.{TableSchema}
 use Rattle.ent_form.specs.Catalogue.{names_of, table_from, table_named}
-use Rattle.ent_protocol.specs.Lookup.{rows_under}
+use Rattle.ent_protocol.specs.Lookup.{rows_under, answers_of, group_of, member_of}
+use Rattle.ent_protocol.specs.Rollback.{group_numbers}
+use Rattle.ent_protocol.specs.State.{State, Member}
 
 abbrev next : ℕ × TableSchema → ℕ × TableSchema
 next found = (suc found.0, found.1)
@@ -59,3 +61,18 @@ pub past_all : {A B C : Type 0} (f : A → B) (g : B → C) (xs : List A) (k : �
 past_all f g [] k past = refl
 past_all f g (y ∷ ys) zero past = absurd (omega arith)
 past_all f g (y ∷ ys) (suc k) past = past_all f g ys k (omega arith)
+
+-- ---- members
+
+pub answers_found : (s : State) (tx : ℕ) (member : Member) → Some member ≡ member_of s tx → member.answers ≡ answers_of s tx
+answers_found s tx member e = rw (← e) refl
+
+pub answers_none : (s : State) (tx : ℕ) → None ≡ member_of s tx → [] ≡ answers_of s tx
+answers_none s tx e = rw (← e) refl
+
+pub group_found : (s : State) (tx : ℕ) (member : Member) → Some member ≡ member_of s tx
+    → group_numbers s member.group ≡ group_of s tx
+group_found s tx member e = rw (← e) refl
+
+pub group_none : (s : State) (tx : ℕ) → None ≡ member_of s tx → [] ≡ group_of s tx
+group_none s tx e = rw (← e) refl

@@ -2,6 +2,4 @@ pub mod Closing
 pub mod Fates
 pub mod Kept
 pub mod Reply
-pub mod Resolved
-pub mod Run
 pub mod Store

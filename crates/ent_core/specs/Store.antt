@@ -1,5 +1,5 @@
 -- What a core's store keeps, and how its parts are seen.
-use Rattle.std.specs.Prelude.{◌≡◌, ◌≤◌, ℕ, Bool, false, List, [], map, length, reverse, None, nat_eq}
+use Rattle.std.specs.Prelude.{◌≡◌, ◌≤◌, Bool, false, List, [], map, length, reverse, None, nat_eq}
 use Rattle.std.specs.List.{AllByRecursion, IsDistinct}
 use Rattle.ent_tree.specs.declared.declaration.Opening.{Opening}
 use Rattle.ent_rel.specs.Relation.{Relation}
@@ -9,7 +9,7 @@ use Rattle.ent_form.specs.Catalogue.{schemas_of}
 use Rattle.ent_form.specs.OpeningFault.{opening_fault}
 use Rattle.ent_undo.specs.Change.{Change as Noted}
 use Rattle.ent_protocol.specs.State.{Submitted, Dormant, Change}
-use Rattle.ent_core.specs.Run.{Run}
+use Rattle.ent_members.specs.Run.{Run}
 
 abbrev pub rows_in : List Relation → Tables
 rows_in tables = map (λ table. table.rows) tables

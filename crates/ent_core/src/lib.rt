@@ -12,7 +12,7 @@ mod lookup;
 mod open;
 mod reached;
 mod reply;
-mod run;
+mod start_run;
 mod store;
 mod submit;
 mod submitted;

@@ -4,10 +4,10 @@ ghost use Rattle.ent_value.specs.Refusal.{Gives};
 ghost use Rattle.ent_form.specs.OpeningFault.{opening_fault, unless};
 ghost use Rattle.ent_protocol.specs.Reached.{opened};
 
-use crate::run::Run;
 use crate::store::Store;
 use ent_form::{Catalogue, FormFault};
 use ent_loading::load_tables;
+use ent_members::Run;
 use ent_tree::Opening;
 use ent_undo::UndoLog;
 use ent_value::Refusal;

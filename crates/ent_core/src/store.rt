@@ -1,7 +1,7 @@
 //! What a core holds.
-use crate::run::{Entrant, Run};
 use crate::submitted::SubmittedScript;
 use ent_form::Catalogue;
+use ent_members::{Entrant, Run};
 use ent_rel::Table;
 use ent_semantics::{Entry, Fated, JointAnswer};
 use ent_tree::Opening;
@@ -57,5 +57,5 @@ impl Model for Store {
     } };
 
     ghost invariant = { λ s.
-      IsKept s.catalogue.tables s.opening s.submitted.items s.dormant.items s.running s.run };
+        IsKept s.catalogue.tables s.opening s.submitted.items s.dormant.items s.running s.run };
 }

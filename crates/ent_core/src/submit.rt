@@ -2,16 +2,16 @@
 ghost use Rattle.std.specs.Prelude.{◌≡◌, ◌<◌, IfOk, IfErr, OnErr, OnOk, length};
 ghost use Rattle.ent_value.specs.Refusal.{Gives};
 ghost use Rattle.ent_core.specs.Reply.{reply_seen};
-ghost use Rattle.ent_core.specs.Resolved.{resolved_forms};
+ghost use Rattle.ent_resolved.specs.Resolved.{resolved_forms};
 ghost use Rattle.ent_form.specs.Catalogue.{schemas_of};
 ghost use Rattle.ent_protocol.specs.Run.{Submits};
 
 use crate::reply::Reply;
-use crate::run::Entrant;
 use crate::store::Store;
 use crate::submitted::SubmittedScript;
 use ent_closed::{Known, Statement};
 use ent_form::{Catalogue, FormFault, resolve};
+use ent_members::Entrant;
 use ent_tree::{MOST_SCRIPTS, MOST_STATEMENTS, Opening, Script};
 use ent_value::{Limited, Refusal};
 use std::alloc::{AllocFailed, Global};
@@ -29,7 +29,6 @@ fn resolved(
     let plain = resolve(alloc, catalogue, script)?;
     Ok(plain.statements)
 }
-
 
 /// Takes a script that may be taken.
 pub(crate) fn submit(store: &mut Store, script: Script) -> Result<Reply, AllocFailed<Script>>
@@ -50,7 +49,9 @@ pub(crate) fn submit(store: &mut Store, script: Script) -> Result<Reply, AllocFa
         return Err(AllocFailed { value: script });
     }
     let tx = before as u64 + 1;
-    store.submitted.push_reserved(SubmittedScript::new(script, form));
+    store
+        .submitted
+        .push_reserved(SubmittedScript::new(script, form));
     store.dormant.push_reserved(Entrant::new(tx, 0));
     Ok(Reply::Submitted(tx))
 }

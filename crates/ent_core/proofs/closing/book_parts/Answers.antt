@@ -1,4 +1,4 @@
-use Rattle.std.proofs.Common.{◌≡◌, ◌∙◌, ap, map}
+use Rattle.std.proofs.Common.{◌∙◌, ap, map}
 use Rattle.std.specs.Arc.{arc_value}
 use Rattle.ent_protocol.specs.Reached.{named_tables, table_names}
 use Rattle.ent_protocol.specs.State.{State}

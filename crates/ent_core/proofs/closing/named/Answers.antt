@@ -1,4 +1,4 @@
-use Rattle.std.proofs.Common.{◌≡◌, ◌≤◌, inl, inr, ap, arith, length, None}
+use Rattle.std.proofs.Common.{inl, inr, ap, arith, length}
 use Rattle.ent_core.proofs.Booked.{named_so_far}
 use Rattle.ent_core.proofs.closing.named.Goals as goal
 

@@ -1,4 +1,4 @@
-use Rattle.std.proofs.Common.{◌≡◌, ◌≤◌, ◌-◌, ◌∙◌, suc, ap, arith, length, subst, sym}
+use Rattle.std.proofs.Common.{◌≡◌, ◌-◌, ◌∙◌, suc, ap, arith}
 use Rattle.ent_core.specs.Fates.{place_of}
 use Rattle.ent_core.proofs.ByNumber.{place_within, sorted_from}
 use Rattle.ent_core.proofs.fates.fates_by_number.Goals as goal

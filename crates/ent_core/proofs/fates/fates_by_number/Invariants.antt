@@ -1,4 +1,4 @@
-use Rattle.std.proofs.Common.{◌≡◌, ◌≤◌, ℕ, drop, length}
+use Rattle.std.proofs.Common.{◌≡◌, ◌≤◌, drop, length}
 use Rattle.ent_protocol.specs.State.{by_number}
 use Rattle.ent_core.proofs.fates.fates_by_number.Given as goal
 

@@ -1,6 +1,6 @@
-use Rattle.std.proofs.Common.{◌≡◌, ◌<◌, ◌≤◌, ◌∙◌, ap, sym, Some, None, map, slice_get, length, get_or, Option, arith, List}
+use Rattle.std.proofs.Common.{◌≡◌, ◌∙◌, ap, sym, Some, map, slice_get, List}
 use Rattle.std.specs.Arc.{arc_value}
-use Rattle.ent_rel.specs.Relation.{Relation, RowSet}
+use Rattle.ent_rel.specs.Relation.{Relation}
 use Rattle.ent_closed.specs.Form.{Tables}
 use Rattle.ent_protocol.specs.Lookup.{present_rows, rows_under}
 use Rattle.ent_protocol.specs.State.{State}
@@ -16,7 +16,7 @@ returns-in-Some-get c =
     let name = c.args.name.now in
     let found = c.in-Some-get.ensures.lookup in
     let there : slice_get (rows_in (map arc_value c.deref.result.now)) c.in-Some.number ≡ Some (arc_value c.in-Some-get.table.now).rows =
-        at_place arc_value (λ (t : Relation). t.rows) c.deref.result.now c.in-Some.number c.in-Some-get.table.now found.3.0 found.1 in
+    at_place arc_value (λ (t : Relation). t.rows) c.deref.result.now c.in-Some.number c.in-Some-get.table.now found.3.0 found.1 in
     ap (λ (t : Relation). Some t.rows) c.deref-in-Some-get.ensures ∙ sym there
     ∙ ap (λ (arcs : List _). slice_get (rows_in (map arc_value arcs)) c.in-Some.number) c.deref.ensures.value
     ∙ ap (rows_found tables) c.in-Some.ensures ∙ found_under inside.catalogue.tables tables name

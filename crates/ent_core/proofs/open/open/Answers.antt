@@ -1,16 +1,13 @@
-use Rattle.std.proofs.Common.{◌≡◌, ◌∙◌, ap, sym, List, [], map}
-use Rattle.std.specs.Arc.{arc_value}
+use Rattle.std.proofs.Common.{◌∙◌}
 use Rattle.ent_protocol.specs.Reached.{opened}
-use Rattle.ent_protocol.specs.State.{State}
-use Rattle.ent_core.specs.Store.{changes_seen, rows_in}
-use Rattle.ent_core.specs.contracts.store.Store.{the_view}
+use Rattle.ent_core.specs.Store.{changes_seen}
 use Rattle.ent_core.proofs.Opening.{kept_opened_store, opened_store, tables_opened}
 use Rattle.ent_core.proofs.open.open.Goals as goal
 
 pub invariant_of-result : goal.invariant_of-result
 invariant_of-result c =
     kept_opened_store c.args.opening c.in_ok-catalogue.catalogue.tables c.new.result.items c.new-2.result.items c.new-3.result
-    c.in_ok-catalogue.ensures c.new.ensures.items c.new-2.ensures.items c.new-3.ensures
+    c.in_ok-catalogue.ensures c.new.ensures.items c.new-2.ensures.items c.new-3.ensures.prepared c.new-3.ensures.active
 
 pub returns : goal.returns
 returns c =
@@ -19,8 +16,8 @@ returns c =
     (λ i. record (opened c.args.opening) {
       submitted = c.new.ensures.items i;
       dormant = c.new-2.ensures.items i;
-      prepared = (c.new-3.ensures i).prepared;
-      active = (c.new-3.ensures i).active;
+      prepared = c.new-3.ensures.prepared i;
+      active = c.new-3.ensures.active i;
       joints = c.new-4.ensures.items i;
       tables = tables i;
       changes = changes_seen (c.new-5.ensures i);
