@@ -1,0 +1,122 @@
+//! One member.
+ghost use Rattle.std.specs.Prelude.{◌≡◌};
+ghost use Rattle.ent_protocol.specs.Run.{fresh};
+
+use crate::entrant::Entrant;
+use crate::table_use::Use;
+use ent_closing::Environment;
+use ent_group::Tx;
+use ent_semantics::Answer;
+use std::alloc::Global;
+use std::marker::Model;
+
+/// A member of the present run. Its place is the number of its next statement, from 1.
+#[derive(Drop)]
+pub struct Member {
+    tx: Tx,
+    attempt: u64,
+    group: Tx,
+    environment: Environment,
+    /// One for each statement before its next one.
+    answers: Vec<Answer>,
+    uses: Vec<Use>,
+    is_posted: bool,
+}
+
+impl Model for Member {
+    ghost use Rattle.std.specs.Prelude.{suc, length};
+    ghost use Rattle.ent_protocol.specs.State.{Member as Seen};
+
+    ghost Value = { Seen };
+
+    ghost view = { λ m. record {
+      tx = m.tx;
+      attempt = m.attempt;
+      group = m.group;
+      place = suc (length m.answers.items);
+      bound = m.environment;
+      answers = m.answers.items;
+      uses = m.uses.items;
+      posted = m.is_posted;
+    } };
+}
+
+impl Member {
+    /// A member of a run that starts, in a group of its own, at its first statement. It takes no memory.
+    pub(crate) fn fresh(alloc: Global, entrant: Entrant) -> Self
+        ensures { result ≡ fresh entrant }
+    {
+        Member {
+            tx: entrant.tx(),
+            attempt: entrant.runs() + 1,
+            group: entrant.tx(),
+            environment: Environment::new(alloc),
+            answers: Vec::new(alloc),
+            uses: Vec::new(alloc),
+            is_posted: false,
+        }
+    }
+
+    pub fn tx(&self) -> Tx
+        ensures { result ≡ self.now.tx }
+    {
+        self.tx
+    }
+
+    /// The runs that it took part in, this one counted.
+    pub fn attempt(&self) -> u64
+        ensures { result ≡ self.now.attempt }
+    {
+        self.attempt
+    }
+
+    /// The label of its group: members of one label are of one group.
+    pub fn group(&self) -> Tx
+        ensures { result ≡ self.now.group }
+    {
+        self.group
+    }
+
+    /// The number of its next statement, from 1.
+    pub fn place(&self) -> usize
+        ensures { result ≡ self.now.place }
+    {
+        self.answers.len() + 1
+    }
+
+    /// What its host variables are bound to.
+    pub fn environment(&self) -> &Environment
+        ensures { result.now ≡ self.now.bound }
+    {
+        &self.environment
+    }
+
+    /// The answers of its statements so far.
+    pub fn answers(&self) -> &[Answer]
+        ensures { result.now ≡ self.now.answers }
+    {
+        self.answers.as_slice()
+    }
+
+    /// The answers, moved and not copied.
+    pub fn into_answers(self) -> Vec<Answer>
+        ensures { result.items ≡ self.answers }
+    {
+        let Member { answers, .. } = self;
+        answers
+    }
+
+    /// The uses that it holds.
+    pub fn uses(&self) -> &[Use]
+        ensures { result.now ≡ self.now.uses }
+    {
+        self.uses.as_slice()
+    }
+
+    /// Whether its next statement is in the pool.
+    pub fn is_posted(&self) -> bool
+        ensures { result ≡ self.now.posted }
+    {
+        self.is_posted
+    }
+}

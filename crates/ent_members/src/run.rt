@@ -1,0 +1,154 @@
+//! The members of a run.
+ghost use Rattle.std.specs.Prelude.{◌≡◌, ℕ, ◌+◌, ◌≤◌, ◌==◌, ◌++◌, [], length, map, IfOk, nat_eq};
+ghost use Rattle.std.specs.List.{IsDistinct};
+ghost use Rattle.std.specs.Option.{option_copied};
+ghost use Rattle.ent_protocol.specs.Lookup.{member_of, running_members};
+ghost use Rattle.ent_protocol.specs.Member.{active_member, is_prepared};
+ghost use Rattle.ent_protocol.specs.Rollback.{group_members, group_numbers};
+ghost use Rattle.ent_protocol.specs.Run.{fresh};
+ghost use Rattle.ent_protocol.specs.State.{State, by_number, members};
+ghost use Rattle.ent_members.specs.Leavers.{leaver_of, leavers_in};
+ghost use Rattle.ent_members.specs.Run.{with_run, tx_of};
+
+use crate::entrant::Entrant;
+use crate::leavers::{Leavers, gather};
+use crate::member::Member;
+use crate::search::{is_among, member_in};
+use crate::start::fresh_members;
+use ent_group::{MOST_MEMBERS, Members, Tx};
+use std::alloc::{AllocError, Global};
+use std::marker::Model;
+
+/// The members of a run, up to [`MOST_MEMBERS`]: those that are prepared, in the order in which they prepared, and the
+/// others, which are active.
+#[derive(Drop)]
+pub struct Run {
+    prepared: Vec<Member>,
+    active: Vec<Member>,
+}
+
+impl Model for Run {
+    ghost use Rattle.ent_members.specs.Run.{Run as Seen, IsRun};
+
+    ghost Value = { Seen };
+
+    ghost view = { λ r. record { prepared = r.prepared.items; active = r.active.items } };
+
+    ghost invariant = { λ r. IsRun r.prepared.items r.active.items };
+}
+
+impl Run {
+    /// No member. It takes no memory.
+    pub fn new(alloc: Global) -> Self
+        ensures prepared { result.prepared ≡ [] }
+        ensures active { result.active ≡ [] }
+    {
+        Run {
+            prepared: Vec::new(alloc),
+            active: Vec::new(alloc),
+        }
+    }
+
+    /// The members of a run that starts: each of those who enter, in a group of its own, at its first statement.
+    pub fn start(alloc: Global, entrants: &[Entrant]) -> Result<Self, AllocError>
+        requires bound { length entrants.now ≤ MOST_MEMBERS }
+        requires distinct { IsDistinct nat_eq (map (λ e. e.tx) entrants.now) }
+        ensures prepared { IfOk result (λ run. run.prepared ≡ []) }
+        ensures active { IfOk result (λ run. run.active ≡ by_number tx_of (map fresh entrants.now)) }
+    {
+        let active = fresh_members(alloc, entrants)?;
+        Ok(Run {
+            prepared: Vec::new(alloc),
+            active,
+        })
+    }
+
+    pub fn len(&self) -> usize
+        ensures len { result ≡ length self.now.prepared + length self.now.active }
+        ensures bound { length self.now.prepared + length self.now.active ≤ MOST_MEMBERS }
+    {
+        self.prepared.len() + self.active.len()
+    }
+
+    pub fn is_empty(&self) -> bool
+        ensures { result ≡ (length self.now.prepared + length self.now.active == 0) }
+    {
+        self.len() == 0
+    }
+
+    /// The members that are prepared, in the order in which they prepared.
+    pub fn prepared(&self) -> &[Member]
+        ensures { result.now ≡ self.now.prepared }
+    {
+        self.prepared.as_slice()
+    }
+
+    /// The other members.
+    pub fn active(&self) -> &[Member]
+        ensures list { result.now ≡ self.now.active }
+        ensures distinct { IsDistinct nat_eq (map tx_of self.now.active) }
+    {
+        self.active.as_slice()
+    }
+
+    /// The member of a number that isn't prepared.
+    pub fn active_member(&self, tx: Tx) -> Option<&Member>
+        ensures { (s : State) → option_copied result ≡ active_member (with_run self.now s) tx }
+    {
+        member_in(self.active(), tx)
+    }
+
+    /// The member of a number, prepared or not.
+    pub fn member(&self, tx: Tx) -> Option<&Member>
+        ensures { (s : State) → option_copied result ≡ member_of (with_run self.now s) tx }
+    {
+        match member_in(self.prepared(), tx) {
+            Some(member) => Some(member),
+            None => member_in(self.active(), tx),
+        }
+    }
+
+    /// Whether the member of a number is prepared.
+    pub fn is_prepared(&self, tx: Tx) -> bool
+        ensures { (s : State) → result ≡ is_prepared (with_run self.now s) tx }
+    {
+        is_among(self.prepared(), tx)
+    }
+
+    /// All members, by number.
+    pub fn numbers(&self) -> Members
+        ensures { (s : State) → result ≡ running_members (with_run self.now s) }
+    {
+        self.all_leavers().numbers()
+    }
+
+    /// The members of the group with a label, by number.
+    pub fn group_numbers(&self, group: Tx) -> Members
+        ensures { (s : State) → result ≡ group_numbers (with_run self.now s) group }
+    {
+        self.leavers(group).numbers()
+    }
+
+    /// The members of the group with a label, as they leave the run.
+    pub fn leavers(&self, group: Tx) -> Leavers
+        ensures { (s : State) → result ≡ map leaver_of (group_members (with_run self.now s) group) }
+    {
+        self.leavers_within(Some(group))
+    }
+
+    /// All members, as they leave the run.
+    pub fn all_leavers(&self) -> Leavers
+        ensures { (s : State) → result ≡ map leaver_of (by_number tx_of (members (with_run self.now s))) }
+    {
+        self.leavers_within(None)
+    }
+
+    fn leavers_within(&self, group: Option<Tx>) -> Leavers
+        ensures { result ≡ leavers_in group (self.now.prepared ++ self.now.active) }
+    {
+        let mut leavers = Leavers::new();
+        gather(self.active.as_slice(), group, &mut leavers);
+        gather(self.prepared.as_slice(), group, &mut leavers);
+        leavers
+    }
+}
