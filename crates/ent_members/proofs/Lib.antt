@@ -1,1 +1,3 @@
 pub mod ByNumber
+pub mod InWay
+pub mod Closed

@@ -7,15 +7,18 @@
 #![tactic(auto)]
 
 mod entrant;
+mod in_way;
 mod leavers;
 mod member;
 mod run;
 mod search;
 mod start;
 mod table_use;
+mod uses;
 
 pub use entrant::Entrant;
 pub use leavers::{Leaver, Leavers};
 pub use member::Member;
 pub use run::Run;
 pub use table_use::Use;
+pub use uses::{MOST_USES, Uses, entangled_uses, statement_uses, uses_are_kept_by_closing};

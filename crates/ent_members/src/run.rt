@@ -7,14 +7,17 @@ ghost use Rattle.ent_protocol.specs.Member.{active_member, is_prepared};
 ghost use Rattle.ent_protocol.specs.Rollback.{group_members, group_numbers};
 ghost use Rattle.ent_protocol.specs.Run.{fresh};
 ghost use Rattle.ent_protocol.specs.State.{State, by_number, members};
+ghost use Rattle.ent_protocol.specs.Uses.{blocker};
 ghost use Rattle.ent_members.specs.Leavers.{leaver_of, leavers_in};
 ghost use Rattle.ent_members.specs.Run.{with_run, tx_of};
 
 use crate::entrant::Entrant;
+use crate::in_way::{Passed, least_in_way};
 use crate::leavers::{Leavers, gather};
 use crate::member::Member;
 use crate::search::{is_among, member_in};
 use crate::start::fresh_members;
+use crate::table_use::Use;
 use ent_group::{MOST_MEMBERS, Members, Tx};
 use std::alloc::{AllocError, Global};
 use std::marker::Model;
@@ -141,6 +144,15 @@ impl Run {
         ensures { (s : State) → result ≡ map leaver_of (by_number tx_of (members (with_run self.now s))) }
     {
         self.leavers_within(None)
+    }
+
+    /// The least member that holds a use in conflict with one of those that a member asks for, save itself and the
+    /// prepared members of its group.
+    pub fn blocker(&self, asker: &Member, asked: &[Use]) -> Option<Tx>
+        ensures { (s : State) → result ≡ blocker (with_run self.now s) asker.now asked.now }
+    {
+        let least = least_in_way(self.active(), asked, Passed::Itself(asker.tx()), None);
+        least_in_way(self.prepared(), asked, Passed::Group(asker.group()), least)
     }
 
     fn leavers_within(&self, group: Option<Tx>) -> Leavers
