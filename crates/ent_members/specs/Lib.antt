@@ -4,3 +4,5 @@ pub mod Leavers
 pub mod Uses
 pub mod Places
 pub mod Passed
+pub mod Changes
+pub mod Moves

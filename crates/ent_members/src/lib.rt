@@ -6,10 +6,13 @@
 //! that a call that finds no memory leaves them as they were.
 #![tactic(auto)]
 
+mod change;
 mod entrant;
+mod hold;
 mod in_way;
 mod leavers;
 mod member;
+mod moves;
 mod run;
 mod search;
 mod start;
