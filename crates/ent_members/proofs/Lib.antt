@@ -3,3 +3,4 @@ pub mod InWay
 pub mod Closed
 pub mod OneMember
 pub mod Moved
+pub mod JoinedGroups

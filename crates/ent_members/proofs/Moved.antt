@@ -1,6 +1,6 @@
 -- Members that leave a list.
-use Rattle.std.proofs.Common.{◌≡◌, ℕ, zero, suc, ◌+◌, ◌<◌, ◌≤◌, Bool, true, false, not, nat_eq, ◌==◌, if◌then◌else◌, List, [], ◌∷◌, ◌++◌, length, map, take, drop, get_or, refl, sym, ap, subst, ◌∙◌, arith}
-use Rattle.std.specs.Prelude.{Some, filter, count_by}
+use Rattle.std.proofs.Common.{◌≡◌, ℕ, suc, ◌<◌, ◌≤◌, Bool, true, false, not, ◌||◌, nat_eq, ◌==◌, if◌then◌else◌, List, [], ◌∷◌, ◌++◌, length, map, take, drop, get_or, refl, sym, ap, subst, ◌∙◌, arith}
+use Rattle.std.specs.Prelude.{filter}
 use Rattle.std.specs.List.{IsDistinct, AllByRecursion, remove, list_any}
 use Rattle.std.proofs.lemmas.List.{length-append, length-take, length-drop}
 use Rattle.std.proofs.lemmas.List.Sums.{count_by-le-length, length-filter}
@@ -62,3 +62,21 @@ run_prepared prepared active i d member lt run =
       distinct = subst (λ ms. IsDistinct nat_eq (map tx_of ms)) (sym (removed_at active i d run.distinct lt))
           (distinct_filter (λ other. not (is_tx (get_or active i d).tx other)) active run.distinct);
     }
+
+among_if : (gone : List Member) (tx : ℕ)
+    → list_any (λ n. n == tx) (map tx_of gone) ≡ is_among gone tx
+among_if [] tx = refl
+among_if (x ∷ gone) tx = ap (λ b. (x.tx == tx) || b) (among_if gone tx)
+
+pub filtered_out : (gone xs : List Member)
+    → filter (is_not_of (map tx_of gone)) xs ≡ filter (λ member. not (is_among gone member.tx)) xs
+filtered_out gone [] = refl
+filtered_out gone (x ∷ xs) =
+    ap (λ b. if not b then x ∷ filter (is_not_of (map tx_of gone)) xs else filter (is_not_of (map tx_of gone)) xs)
+    (among_if gone x.tx)
+    ∙ ap (λ ms. if not (is_among gone x.tx) then x ∷ ms else ms) (filtered_out gone xs)
+
+pub run_committed : (p : Member → Bool) (prepared active : List Member) → IsRun prepared active
+    → IsRun (filter p prepared) active
+run_committed p prepared active run =
+    record { bound = omega (arith, run.bound, shorter p prepared); distinct = run.distinct }

@@ -6,3 +6,4 @@ pub mod Places
 pub mod Passed
 pub mod Changes
 pub mod Moves
+pub mod Joined

@@ -10,6 +10,7 @@ mod change;
 mod entrant;
 mod hold;
 mod in_way;
+mod join;
 mod leavers;
 mod member;
 mod moves;

@@ -144,6 +144,13 @@ impl Member {
         Ok(())
     }
 
+    /// Its group has another label.
+    pub(crate) fn set_group(&mut self, group: Tx)
+        ensures { self.new ≡ record self.old { group = group } }
+    {
+        self.group = group;
+    }
+
     /// It takes the answer of its statement, and is at the next one.
     pub(crate) fn step(&mut self, answer: Answer) -> Result<(), AllocError>
         ensures ok { OnOk result (self.new ≡ stepped answer self.old) }

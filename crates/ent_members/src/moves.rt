@@ -1,10 +1,11 @@
 //! Members that go from one list to another, or leave.
-ghost use Rattle.std.specs.Prelude.{◌≡◌, map, filter, IsSome, OnOk, OnErr, nat_eq};
-ghost use Rattle.std.specs.List.{IsDistinct, list_any};
+ghost use Rattle.std.specs.Prelude.{◌≡◌, ◌+◌, ◌≤◌, ◌++◌, filter, IsSome, OnOk, OnErr};
+ghost use Rattle.std.specs.List.{list_any};
+ghost use Rattle.std.specs.Vec.{vec_capacity, vec_len};
 ghost use Rattle.ent_protocol.specs.Member.{is_of};
-ghost use Rattle.ent_members.specs.Moves.{Prepares, is_not_of, run_of};
+ghost use Rattle.ent_members.specs.Moves.{Prepares, is_not_of, is_of_another, run_of};
 ghost use Rattle.ent_members.specs.Places.{found};
-ghost use Rattle.ent_members.specs.Run.{IsRun, tx_of};
+ghost use Rattle.ent_members.specs.Run.{IsRun};
 
 use crate::member::Member;
 use crate::search::place_of;
@@ -45,4 +46,24 @@ pub(crate) fn remove(members: &mut Vec<Member>, numbers: &Members)
     ensures { members.new.items ≡ filter (is_not_of numbers.now) members.old.items }
 {
     members.retain(|member| !numbers.contains(member.tx()));
+}
+
+/// Takes the members of the group with a label out, in order, and puts them to others; there is room for them.
+pub(crate) fn take_group(members: &mut Vec<Member>, group: Tx, taken: &mut Vec<Member>)
+    requires { vec_len taken.old + vec_len members.old ≤ vec_capacity taken.old }
+    ensures kept { members.new.items ≡ filter (is_of_another group) members.old.items }
+    ensures taken { taken.new.items ≡ taken.old.items ++ filter (is_of group) members.old.items }
+    ensures fewer { vec_len members.new ≤ vec_len members.old }
+    ensures more { vec_len taken.new ≤ vec_len taken.old + vec_len members.old }
+    ensures room { vec_capacity members.new ≡ vec_capacity members.old }
+    ensures room_for_taken { vec_capacity taken.new ≡ vec_capacity taken.old }
+{
+    if let Some(member) = members.pop() {
+        take_group(members, group, taken);
+        if member.group() == group {
+            taken.push_reserved(member);
+        } else {
+            members.push_reserved(member);
+        }
+    }
 }

@@ -1,29 +1,34 @@
 //! The members of a run.
 ghost use Rattle.std.specs.Prelude.{◌≡◌, ℕ, ◌+◌, ◌≤◌, ◌==◌, ◌++◌, [], length, map, filter, nat_eq};
-ghost use Rattle.std.specs.Prelude.{IfOk, OnOk, OnErr, IsSome};
+ghost use Rattle.std.specs.Prelude.{List, IfOk, OnOk, OnErr, IsSome};
 ghost use Rattle.std.specs.List.{IsDistinct};
 ghost use Rattle.std.specs.Option.{option_copied};
+ghost use Rattle.std.specs.Vec.{vec_capacity};
 ghost use Rattle.ent_protocol.specs.Begin.{holding};
-ghost use Rattle.ent_protocol.specs.Commit.{is_ready};
+ghost use Rattle.ent_protocol.specs.Commit.{committing_members, is_ready};
 ghost use Rattle.ent_protocol.specs.Finish.{stepped};
 ghost use Rattle.ent_protocol.specs.Lookup.{member_of, running_members};
 ghost use Rattle.ent_protocol.specs.Member.{active_member, is_prepared};
+ghost use Rattle.ent_protocol.specs.Job.{Asking};
+ghost use Rattle.ent_protocol.specs.PoolEvents.{answered_groups};
 ghost use Rattle.ent_protocol.specs.Rollback.{group_members, group_numbers};
 ghost use Rattle.ent_protocol.specs.Run.{fresh};
-ghost use Rattle.ent_protocol.specs.State.{State, by_number, members};
+ghost use Rattle.ent_protocol.specs.State.{Member as Seen, State, by_number, members};
 ghost use Rattle.ent_protocol.specs.Uses.{blocker};
 ghost use Rattle.ent_members.specs.Changes.{posting, stepping};
+ghost use Rattle.ent_members.specs.Joined.{JoinGroups, labels_in};
 ghost use Rattle.ent_members.specs.Leavers.{leaver_of, leavers_in};
-ghost use Rattle.ent_members.specs.Moves.{Prepares, is_not_of};
+ghost use Rattle.ent_members.specs.Moves.{Leave, Prepares, is_not_of, is_of_another};
 ghost use Rattle.ent_members.specs.Places.{Changes, found};
 ghost use Rattle.ent_members.specs.Run.{with_run, tx_of};
 
 use crate::change;
 use crate::entrant::Entrant;
 use crate::in_way::{Passed, least_in_way};
+use crate::join::{gather_labels, join_groups};
 use crate::leavers::{Leavers, gather};
 use crate::member::Member;
-use crate::moves::{any_of, prepare, remove};
+use crate::moves::{any_of, prepare, remove, take_group};
 use crate::search::{is_among, member_in};
 use crate::start::fresh_members;
 use crate::table_use::Use;
@@ -233,10 +238,38 @@ impl Run {
         !any_of(self.active(), group)
     }
 
+    /// The groups of the members of these numbers become one. It takes no memory.
+    pub fn join_groups(&mut self, numbers: &Members)
+        ensures list { JoinGroups (labels_in numbers.now (self.old.prepared ++ self.old.active)) self.old self.new }
+        ensures answered { (s : State) (asked : List Asking) → numbers.now ≡ map (λ asking. asking.tx) asked
+            → JoinGroups (answered_groups (with_run self.old s) asked) self.old self.new }
+    {
+        let mut labels = Members::new();
+        gather_labels(self.prepared.as_slice(), numbers, &mut labels);
+        gather_labels(self.active.as_slice(), numbers, &mut labels);
+        join_groups(&mut self.prepared, &labels);
+        join_groups(&mut self.active, &labels);
+    }
+
+    /// The prepared members of the group with a label commit: they leave the run, in the order in which they prepared,
+    /// and come in the room that is made for them. It takes no memory.
+    pub fn commit(&mut self, group: Tx, room: Vec<Member>) -> Vec<Member>
+        requires empty { room.items ≡ [] }
+        requires room { MOST_MEMBERS ≤ vec_capacity room }
+        ensures committed { (s : State) → result.items ≡ committing_members (with_run self.old s) group }
+        ensures prepared { self.new.prepared ≡ filter (is_of_another group) self.old.prepared }
+        ensures active { self.new.active ≡ self.old.active }
+    {
+        let mut committed = room;
+        take_group(&mut self.prepared, group, &mut committed);
+        committed
+    }
+
     /// Members of these numbers are taken out of the run. It takes no memory.
     pub fn remove(&mut self, numbers: &Members)
         ensures prepared { self.new.prepared ≡ filter (is_not_of numbers.now) self.old.prepared }
         ensures active { self.new.active ≡ filter (is_not_of numbers.now) self.old.active }
+        ensures leave { (gone : List Seen) → numbers.now ≡ map tx_of gone → Leave gone self.old self.new }
     {
         remove(&mut self.prepared, numbers);
         remove(&mut self.active, numbers);

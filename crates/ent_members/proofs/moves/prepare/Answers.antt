@@ -1,8 +1,7 @@
-use Rattle.std.proofs.Common.{◌≡◌, ℕ, List, [], ◌∷◌, ◌++◌, not, get_or, filter, sym, ap, subst, ◌∙◌}
+use Rattle.std.proofs.Common.{◌≡◌, List, [], ◌∷◌, ◌++◌, not, get_or, filter, ap, subst, ◌∙◌}
 use Rattle.ent_protocol.specs.Member.{is_tx}
 use Rattle.ent_protocol.specs.State.{Member}
 use Rattle.ent_members.specs.Places.{IsAt}
-use Rattle.ent_members.specs.Run.{IsRun}
 use Rattle.ent_members.proofs.Moved.{run_prepared}
 use Rattle.ent_members.proofs.OneMember.{found_at, removed_at}
 use Rattle.ent_members.proofs.moves.prepare.Goals as goal
