@@ -1,7 +1,6 @@
+pub mod Alone
 mod Changes
-mod Combinations
-mod Fronts
+pub mod Effects
 mod Images
 mod Narrowed
-mod Searched
-mod Wanted
+pub mod Standing

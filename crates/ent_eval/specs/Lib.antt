@@ -1,10 +1,7 @@
 pub mod Worth
-pub mod Combined
-pub mod Early
-pub mod Prepared
-pub mod Tables
 pub mod Kinds
 pub mod Change
 pub mod Meant
 pub mod Setting
-pub mod Job
+pub mod Seen
+pub mod Work

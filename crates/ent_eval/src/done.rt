@@ -1,86 +1,134 @@
-//! Work that was done.
-ghost use Rattle.std.specs.Prelude.{◌≡◌, IfOk, IfErr};
-ghost use Rattle.ent_eval.specs.Job.{IsDone};
+//! Jobs that were done.
+ghost use Rattle.std.specs.Prelude.{◌≡◌, IfOk, IfErr, map};
+ghost use Rattle.std.specs.Arc.{arc_value};
+ghost use Rattle.ent_protocol.specs.Job.{IsEvaluated, Single as AloneWork};
+ghost use Rattle.ent_protocol.specs.Job as jobs;
+ghost use Rattle.ent_eval.specs.Seen.{relation_of};
+ghost use Rattle.ent_eval.specs.Work.{CanBeMade, IsOne, IsRight, alone_seen, outcome_seen};
 
-use crate::evaluation::evaluate;
-use crate::job::OneJob;
-use crate::outcome::Outcome;
+use crate::evaluation::statement_outcome;
+use crate::job::Job;
+use crate::outcome::{JobOutcome, Outcome};
+use crate::seen::Seen;
+use crate::single::Single;
+use crate::work::Work;
+use ent_rel::Table;
 use std::alloc::{AllocError, Global};
 use std::marker::Model;
+use std::sync::Arc;
 
-/// Work that was done, and what it came to: the meaning of its own statement over its own tables. It is made by
+/// A job that was done, and what it came to: the meaning of its own work over its own tables. It is made by
 /// evaluation alone.
 #[derive(Drop)]
-pub struct OneDone {
-    job: OneJob,
-    outcome: Outcome,
+pub struct Done {
+    job: Job,
+    outcome: JobOutcome,
 }
 
-impl Model for OneDone {
+impl Model for Done {
     ghost use Rattle.std.specs.Coded.{codes};
-    ghost use Rattle.ent_rel.specs.Relation.{coded_relation};
-    ghost use Rattle.ent_eval.specs.Job.{DoneWork, IsDone};
+    ghost use Rattle.ent_rel.specs.Relation.{coded_rows};
+    ghost use Rattle.ent_protocol.specs.Job.{Done as JobDone};
 
-    ghost Value = { DoneWork };
+    ghost Value = { JobDone };
 
-    ghost coded = { Prim.hlevel (codes, coded_relation) };
+    ghost coded = { Prim.hlevel (codes, coded_rows) };
 
-    ghost view = { λ d. record { one = d.job; outcome = d.outcome } };
+    ghost use Rattle.ent_eval.specs.Work.{IsRight, outcome_seen};
 
-    ghost invariant = { λ d. IsDone record { one = d.job; outcome = d.outcome } };
+    ghost view = { λ d. record { job = d.job; outcome = outcome_seen d.outcome } };
+
+    ghost invariant = { λ d. IsRight record { job = d.job; outcome = outcome_seen d.outcome } };
 }
 
-/// Work that there was no memory to do.
+/// A job that there was no memory to do.
 #[derive(Drop)]
 pub struct NotDone {
-    pub job: OneJob,
+    pub job: Job,
 }
 
-impl OneDone {
-    /// Does the work. Where memory runs out it comes back.
-    pub fn of(alloc: Global, job: OneJob) -> Result<Self, NotDone>
-        ensures ok { IfOk result (λ done. done.one ≡ job) }
-        ensures meaning { IfOk result (λ done. IsDone done) }
-        ensures err { IfErr result (λ refused. refused.job ≡ job) }
-    {
-        match evaluate(alloc, job.statement(), job.tables()) {
-            Ok(outcome) => Ok(OneDone { job, outcome }),
-            Err(_) => Err(NotDone { job }),
-        }
-    }
-
-    /// The same: the statement and the outcome are copied, the tables are shared.
+impl Done {
+    /// The same: statements and the outcome are copied, tables are shared.
     pub fn copy(&self, alloc: Global) -> Result<Self, AllocError>
         ensures { IfOk result (λ copy. copy ≡ self.now) }
     {
-        Ok(OneDone {
-            job: self.job.copy(alloc)?,
-            outcome: self.outcome.copy(alloc)?,
-        })
+        let job = self.job.copy(alloc)?;
+        let outcome = self.outcome.copy(alloc)?;
+        Ok(Done { job, outcome })
     }
 
-    /// The work.
-    pub fn job(&self) -> &OneJob
-        ensures { result.now ≡ self.now.one }
+    pub fn job(&self) -> &Job
+        ensures { result.now ≡ self.now.job }
     {
         &self.job
     }
 
-    /// What it came to.
-    pub fn outcome(&self) -> &Outcome
-        ensures outcome { result.now ≡ self.now.outcome }
-        ensures meaning { IsDone self.now }
+    /// What the job came to.
+    pub fn outcome(&self) -> &JobOutcome
+        ensures outcome { outcome_seen result.now ≡ self.now.outcome }
+        ensures meaning { IsEvaluated self.now }
+        ensures change { CanBeMade self.now.job.tables self.now.outcome }
     {
         &self.outcome
     }
 
-    /// The work, and what it came to.
-    pub fn into_parts(self) -> (OneJob, Outcome)
-        ensures job { result.0 ≡ self.one }
-        ensures outcome { result.1 ≡ self.outcome }
-        ensures meaning { IsDone self }
+    /// The job, and what it came to.
+    pub fn into_parts(self) -> (Job, JobOutcome)
+        ensures job { result.0 ≡ self.job }
+        ensures outcome { outcome_seen result.1 ≡ self.outcome }
+        ensures meaning { IsEvaluated self }
+        ensures change { CanBeMade self.job.tables self.outcome }
     {
-        let OneDone { job, outcome } = self;
+        let Done { job, outcome } = self;
         (job, outcome)
+    }
+}
+
+/// The tables, which are shared.
+fn tables_shared(alloc: Global, tables: &[Seen]) -> Result<Vec<Arc<Table>>, AllocError>
+    ensures { IfOk result (λ shared. map arc_value shared.items ≡ map relation_of tables.now) }
+{
+    let mut shared = Vec::with_capacity(alloc, tables.len())?;
+    for seen in tables {
+        shared.push(seen.table().clone()?)?;
+    }
+    Ok(shared)
+}
+
+/// What the statement of one transaction comes to.
+fn one_outcome(alloc: Global, single: &Single, tables: &[Seen]) -> Result<Outcome, AllocError>
+    requires { IsOne single.now tables.now }
+    ensures { IfOk result (λ outcome. IsRight record {
+      job = record { work = jobs.One single.now; tables = tables.now };
+      outcome = alone_seen outcome;
+    }) }
+{
+    let shared = tables_shared(alloc, tables)?;
+    let outcome = statement_outcome(alloc, single.statement(), shared.as_slice())?;
+    Ok(outcome)
+}
+
+/// What the job of one statement comes to.
+fn outcome_of(alloc: Global, job: &Job) -> Result<JobOutcome, AllocError>
+    requires { (single : AloneWork) × (job.now.work ≡ jobs.One single) }
+    ensures { IfOk result (λ outcome. IsRight record { job = job.now; outcome = outcome_seen outcome }) }
+{
+    match job.work() {
+        Work::One(single) => Ok(JobOutcome::One(one_outcome(alloc, single, job.tables())?)),
+        // It is work of one statement.
+        Work::Joint(_) => unreachable!(),
+    }
+}
+
+/// Does the job of one statement. Where memory runs out it comes back.
+pub fn evaluate_one(alloc: Global, job: Job) -> Result<Done, NotDone>
+    requires { (single : AloneWork) × (job.work ≡ jobs.One single) }
+    ensures ok { IfOk result (λ done. done.job ≡ job) }
+    ensures meaning { IfOk result (λ done. IsEvaluated done) }
+    ensures err { IfErr result (λ refused. refused.job ≡ job) }
+{
+    match outcome_of(alloc, &job) {
+        Ok(outcome) => Ok(Done { job, outcome }),
+        Err(_) => Err(NotDone { job }),
     }
 }

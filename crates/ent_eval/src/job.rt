@@ -1,149 +1,90 @@
-//! Work of one transaction.
-ghost use Rattle.std.specs.Prelude.{◌≡◌, ◌↔◌, IfOk, IsTrue, map};
-ghost use Rattle.std.specs.Arc.{arc_value};
-ghost use Rattle.ent_eval.specs.Job.{One, IsOne};
+//! Jobs.
+ghost use Rattle.std.specs.Prelude.{◌≡◌, ◌↔◌, IfOk, IsTrue};
+ghost use Rattle.ent_protocol.specs.Job as jobs;
+ghost use Rattle.ent_eval.specs.Work.{IsOne, IsJoint, IsWork, work_seen};
 
-use ent_closed::Statement;
-use ent_rel::Table;
+use crate::asking::Asking;
+use crate::seen::Seen;
+use crate::single::Single;
+use crate::work::Work;
 use ent_tree::{Duplicate, Same};
-use ent_value::{Sequence, Value};
+use ent_value::Sequence;
 use std::alloc::{AllocError, Global};
 use std::marker::Model;
-use std::sync::Arc;
 
-/// A closed ordinary statement at a place of a transaction, in one of its attempts, and the tables that it names, in
-/// the order in which it names them. It fits them.
+/// Work, and the tables that it uses as they stand. A statement that is to be carried out alone fits its tables; posted
+/// statements are one component of the pool that they make, which is safe.
 #[derive(Drop)]
-pub struct OneJob {
-    tx: u64,
-    attempt: u64,
-    place: u64,
-    statement: Statement<Value>,
-    tables: Sequence<Arc<Table>>,
+pub struct Job {
+    work: Work,
+    tables: Sequence<Seen>,
 }
 
-impl Model for OneJob {
-    ghost use Rattle.std.specs.Prelude.{map};
-    ghost use Rattle.std.specs.Arc.{arc_value};
+impl Model for Job {
     ghost use Rattle.std.specs.Coded.{codes};
-    ghost use Rattle.ent_rel.specs.Relation.{coded_relation};
-    ghost use Rattle.ent_eval.specs.Job.{One, one, IsOne};
+    ghost use Rattle.ent_rel.specs.Relation.{coded_rows};
+    ghost use Rattle.ent_protocol.specs.Job.{Job as WorkWithTables};
 
-    ghost Value = { One };
+    ghost Value = { WorkWithTables };
 
-    ghost coded = { Prim.hlevel (codes, coded_relation) };
+    ghost coded = { Prim.hlevel (codes, coded_rows) };
 
-    ghost view = { λ j. one j.tx j.attempt j.place j.statement (map arc_value j.tables) };
+    ghost use Rattle.ent_eval.specs.Work.{IsWork, work_seen};
 
-    ghost invariant = { λ j. IsOne (one j.tx j.attempt j.place j.statement (map arc_value j.tables)) };
+    ghost view = { λ j. record { work = work_seen j.work; tables = j.tables } };
+
+    ghost invariant = { λ j. IsWork (work_seen j.work) j.tables };
 }
 
-impl OneJob {
-    ghost use Rattle.ent_eval.specs.Job.{one};
-
-    /// The work of a statement that fits its tables.
-    pub fn new(
-        tx: u64,
-        attempt: u64,
-        place: u64,
-        statement: Statement<Value>,
-        tables: Sequence<Arc<Table>>,
-    ) -> Self
-        requires { IsOne (one tx attempt place statement (map arc_value tables)) }
-        ensures { result ≡ one tx attempt place statement (map arc_value tables) }
+impl Job {
+    /// The job of a statement over the tables that it uses, in the order in which it names them.
+    pub fn one(single: Single, tables: Sequence<Seen>) -> Self
+        requires { IsOne single tables }
+        ensures { result ≡ record { work = jobs.One single; tables = tables } }
     {
-        OneJob {
-            tx,
-            attempt,
-            place,
-            statement,
+        Job {
+            work: Work::One(single),
             tables,
         }
     }
 
-    /// The transaction's number.
-    pub fn tx(&self) -> u64
-        ensures { result ≡ self.now.tx }
+    /// The job of posted statements, by number of their transactions, over the tables that they use, by number.
+    pub fn joint(asked: Sequence<Asking>, tables: Sequence<Seen>) -> Self
+        requires { IsJoint asked tables }
+        ensures { result ≡ record { work = jobs.Joint asked; tables = tables } }
     {
-        self.tx
+        Job {
+            work: Work::Joint(asked),
+            tables,
+        }
     }
 
-    /// Which of the transaction's attempts it is.
-    pub fn attempt(&self) -> u64
-        ensures { result ≡ self.now.attempt }
+    pub fn work(&self) -> &Work
+        ensures work { work_seen result.now ≡ self.now.work }
+        ensures fits { IsWork self.now.work self.now.tables }
     {
-        self.attempt
+        &self.work
     }
 
-    /// The statement's place in its script.
-    pub fn place(&self) -> u64
-        ensures { result ≡ self.now.place }
-    {
-        self.place
-    }
-
-    pub fn statement(&self) -> &Statement<Value>
-        ensures statement { result.now ≡ self.now.statement }
-        ensures fits { IsOne self.now }
-    {
-        &self.statement
-    }
-
-    pub fn tables(&self) -> &[Arc<Table>]
-        ensures { map arc_value result.now ≡ self.now.tables }
+    pub fn tables(&self) -> &[Seen]
+        ensures { result.now ≡ self.now.tables }
     {
         self.tables.as_slice()
     }
 
-    /// The same work: the statement is copied, the tables are shared.
+    /// The same job: statements are copied, tables are shared.
     pub fn copy(&self, alloc: Global) -> Result<Self, AllocError>
         ensures { IfOk result (λ copy. copy ≡ self.now) }
     {
-        let statement = self.statement.copy(alloc)?;
-        let tables = tables_shared(alloc, self.tables.as_slice())?;
-        Ok(OneJob {
-            tx: self.tx,
-            attempt: self.attempt,
-            place: self.place,
-            statement,
-            tables: Sequence::from_vec(tables),
-        })
+        let work = self.work.copy(alloc)?;
+        let tables = self.tables.copy(alloc)?;
+        Ok(Job { work, tables })
     }
 
-    /// Whether the two are the same work. It takes no memory.
-    pub fn is_same(&self, other: &OneJob) -> bool
+    /// Whether the two are the same, tables row by row. It takes no memory.
+    pub fn is_same(&self, other: &Job) -> bool
         ensures { IsTrue result ↔ (self.now ≡ other.now) }
     {
-        self.tx == other.tx
-            && self.attempt == other.attempt
-            && self.place == other.place
-            && self.statement.is_same(&other.statement)
-            && are_same_tables(self.tables.as_slice(), other.tables.as_slice())
+        self.work.is_same(&other.work) && self.tables.is_same(&other.tables)
     }
-}
-
-/// The same tables, which are shared.
-fn tables_shared(alloc: Global, tables: &[Arc<Table>]) -> Result<Vec<Arc<Table>>, AllocError>
-    ensures { IfOk result (λ shared. map arc_value shared.items ≡ map arc_value tables.now) }
-{
-    let mut shared = Vec::with_capacity(alloc, tables.len())?;
-    for table in tables {
-        shared.push(table.clone()?)?;
-    }
-    Ok(shared)
-}
-
-/// Whether two lists have the same tables, in the same order.
-fn are_same_tables(mine: &[Arc<Table>], theirs: &[Arc<Table>]) -> bool
-    ensures { IsTrue result ↔ (map arc_value mine.now ≡ map arc_value theirs.now) }
-{
-    if mine.len() != theirs.len() {
-        return false;
-    }
-    for index in 0..mine.len() {
-        if !mine[index].is_same(&theirs[index]) {
-            return false;
-        }
-    }
-    true
 }

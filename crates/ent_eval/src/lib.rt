@@ -1,22 +1,29 @@
-//! Evaluation of closed statements over tables.
+//! Evaluation of closed statements over tables, and jobs.
 //!
-//! A caller may rely on [`evaluate`]: its outcome is what the statement means in each database in which the tables
-//! stand.
+//! A caller may rely on [`statement_outcome`]: what it tells of an ordinary statement is what the statement means in each
+//! database in which its tables stand. A [`Job`] is work with the tables that it uses, and a [`Done`] keeps that its
+//! outcome is the meaning of its own work over its own tables.
 #![tactic(auto)]
 
+mod asking;
 mod change;
-mod condition;
 mod done;
 mod evaluation;
-mod first;
 mod job;
+mod law;
 mod outcome;
-mod prepared;
 mod row;
-mod select;
+mod seen;
+mod single;
 mod term;
+mod work;
 
-pub use done::{NotDone, OneDone};
-pub use evaluation::evaluate;
-pub use job::OneJob;
-pub use outcome::Outcome;
+pub use asking::Asking;
+pub use done::{Done, NotDone, evaluate_one};
+pub use evaluation::statement_outcome;
+pub use job::Job;
+pub use law::{components_stand_alone, lent_tables_stand};
+pub use outcome::{JobOutcome, Outcome};
+pub use seen::Seen;
+pub use single::Single;
+pub use work::Work;

@@ -3,6 +3,7 @@ ghost use Rattle.std.specs.Prelude.{◌≡◌, IfOk};
 
 use ent_rel::Delta;
 use ent_semantics::Failure;
+use ent_tree::Duplicate;
 use ent_value::{Row, Sequence, Value};
 use std::alloc::{AllocError, Global};
 
@@ -43,4 +44,25 @@ fn rows_copy(alloc: Global, rows: &[Row]) -> Result<Sequence<Row>, AllocError>
         copies.push(row.copy(alloc)?)?;
     }
     Ok(Sequence::from_vec(copies))
+}
+
+/// What a job comes to.
+#[derive(Drop)]
+pub enum JobOutcome {
+    /// What the statement of one transaction comes to.
+    One(Outcome),
+    /// The least coordinating choice of posted statements, a value for each written variable of each of them; none where
+    /// there is none.
+    Choice(Option<Sequence<Sequence<Value>>>),
+}
+
+impl JobOutcome {
+    pub fn copy(&self, alloc: Global) -> Result<Self, AllocError>
+        ensures { IfOk result (λ copy. copy ≡ self.now) }
+    {
+        match self {
+            JobOutcome::One(outcome) => Ok(JobOutcome::One(outcome.copy(alloc)?)),
+            JobOutcome::Choice(groundings) => Ok(JobOutcome::Choice(groundings.copy(alloc)?)),
+        }
+    }
 }

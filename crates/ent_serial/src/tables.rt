@@ -8,9 +8,9 @@ ghost use Rattle.ent_semantics.specs.Database.{with_value};
 ghost use Rattle.ent_closed.specs.Closing.{closed};
 ghost use Rattle.ent_closed.specs.Form.{known_worth, form_meaning};
 ghost use Rattle.ent_closing.specs.Environment.{environment_of};
+ghost use Rattle.ent_select.specs.Tables.{kinds_in, rows_in};
 ghost use Rattle.ent_eval.specs.Change.{IsApplicable};
 ghost use Rattle.ent_eval.specs.Meant.{effect_of, set_variable};
-ghost use Rattle.ent_eval.specs.Tables.{kinds_in, rows_in};
 ghost use Rattle.ent_rel.specs.Change.{changed_rows};
 ghost use Rattle.ent_serial.specs.Following.{CanFollow};
 ghost use Rattle.ent_serial.specs.Ready.{IsReady, IsSetting};
@@ -19,7 +19,7 @@ ghost use Rattle.ent_serial.specs.Tables.{effect, no_table};
 use crate::naming::{changed_table, tables_named};
 use ent_closed::{Known, Statement};
 use ent_closing::{Environment, closed};
-use ent_eval::{Outcome, evaluate};
+use ent_eval::{Outcome, statement_outcome};
 use ent_rel::{Delta, Table, TableFull};
 use ent_semantics::{Answer, Failure};
 use ent_undo::UndoLog;
@@ -99,7 +99,7 @@ impl Tables {
     {
         let statement = closed(alloc, form, environment)?;
         let named = tables_named(alloc, self.tables.as_slice(), &statement)?;
-        let outcome = evaluate(alloc, &statement, named.as_slice())?;
+        let outcome = statement_outcome(alloc, &statement, named.as_slice())?;
         Ok((statement, outcome))
     }
 

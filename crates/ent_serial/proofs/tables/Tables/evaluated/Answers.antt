@@ -3,15 +3,15 @@ use Rattle.std.specs.Arc.{arc_value}
 use Rattle.ent_value.specs.declared.value.Value.{Value}
 use Rattle.ent_closed.specs.declared.statement.Statement.{Statement}
 use Rattle.ent_closing.specs.Environment.{environment_of}
+use Rattle.ent_select.specs.Tables.{kinds_in}
 use Rattle.ent_eval.specs.Meant.{tables_named}
-use Rattle.ent_eval.specs.Tables.{kinds_in}
 use Rattle.ent_serial.specs.Ready.{IsReady}
 use Rattle.ent_serial.proofs.Evaluated.{meant_here, can_follow}
 use Rattle.ent_serial.proofs.Places.{tables_of, named_fit}
 use Rattle.ent_serial.proofs.tables.Tables.evaluated.Goals as goal
 
-pub evaluate-requires : goal.evaluate-requires
-evaluate-requires c =
+pub statement_outcome-requires : goal.statement_outcome-requires
+statement_outcome-requires c =
     let tables = c.args.self.now in
     let statement = c.in_ok-statement.statement in
     let ready : IsReady (kinds_in tables) statement = subst (λ (s : Statement Value). IsReady (kinds_in tables) s) (sym c.in_ok-statement.ensures.closed) c.requires in

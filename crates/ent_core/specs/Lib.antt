@@ -1,0 +1,5 @@
+pub mod Closing
+pub mod Fates
+pub mod Kept
+pub mod Reply
+pub mod Store

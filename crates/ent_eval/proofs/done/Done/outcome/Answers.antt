@@ -1,0 +1,6 @@
+use Rattle.std.proofs.Common.{subst}
+use Rattle.ent_eval.specs.Work.{IsRight}
+use Rattle.ent_eval.proofs.done.Done.outcome.Goals as goal
+
+pub returns-clause-change : goal.returns-clause-change
+returns-clause-change c = let right = subst IsRight c.self.view_is c.self.invariant in right.change

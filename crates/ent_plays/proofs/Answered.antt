@@ -1,0 +1,197 @@
+-- Friends of the pool of a state are picked, and answered together; or their result is stale.
+use Rattle.std.proofs.Common.{◌≡◌, ℕ, zero, suc, ◌≤◌, Bool, true, false, List, [], ◌∷◌, ◌++◌, map}
+use Rattle.std.proofs.Common.{refl, sym, ap, subst, ◌∙◌, arith, rules, Some}
+use Rattle.std.specs.Prelude.{Contains, nat_le, ◌==◌, if◌then◌else◌}
+use Rattle.std.specs.List.{list_all}
+use Rattle.ent_coordination.specs.Component.{IsComponent, IsInRemainder, AreJoined}
+use Rattle.ent_coordination.specs.Choice.{IsLeastChoice}
+use Rattle.ent_coordination.specs.Pool.{Posted}
+use Rattle.ent_protocol.specs.Event.{Reply}
+use Rattle.ent_protocol.specs.Event as replies
+use Rattle.ent_protocol.specs.Finish.{IsOutstandingSingle, IsTaken}
+use Rattle.ent_protocol.specs.Job.{Job, One, Joint, Single, Asking, Done, posted_of}
+use Rattle.ent_protocol.specs.Member.{askings, pool}
+use Rattle.ent_protocol.specs.PoolEvents.{joining, joint_job, first_tx, CanBePicked, IsOut, IsOutstandingJoint}
+use Rattle.ent_protocol.specs.PoolEvents.{IsPresentComponent, Lends, Joins}
+use Rattle.ent_protocol.specs.State.{State}
+use Rattle.ent_plays.specs.Wish.{Friend, asking, posted, joint_done}
+use Rattle.ent_plays.specs.Wish as wishes
+use Rattle.ent_plays.proofs.Choice.{seen, taken, least_taken, have_partners}
+use Rattle.ent_plays.proofs.Component.{chosen, are_served, are_closed, joined, ascends, component, remains, linked_on}
+use Rattle.ent_plays.proofs.Component.{joined_by}
+use Rattle.ent_plays.proofs.Listed.{none_there, by_first, image_of, image_there, filtered_of, all_where, each_passes}
+
+pub all_posted : (friends : List Friend) → map posted_of (map asking friends) ≡ map posted friends
+all_posted [] = refl
+all_posted (friend ∷ friends) = ap (λ more. posted friend ∷ more) (all_posted friends)
+
+at_most : (n m : ℕ) → nat_le n m ≡ true → n ≤ m
+at_most n m h = grind (arith, rules)
+
+-- what has to be so of the members of a component
+pub record AreTogether (friends : List Friend) (among : ℕ → Bool) (first : Friend) (more : List Friend) : Type 0 where
+  pub are : chosen friends among ≡ first ∷ more
+  pub served : are_served friends among ≡ true
+  pub closed : are_closed friends among ≡ true
+  pub star : list_all (joined first) more ≡ true
+  pub by_number : ascends (first ∷ more) ≡ true
+
+-- a state in whose pool are these friends, and no other
+module _ (s : State) (friends : List Friend) (asked : askings s ≡ map asking friends) where
+  pool_is : pool s ≡ map posted friends
+  pool_is = ap (map posted_of) asked ∙ all_posted friends
+
+  module _ (among : ℕ → Bool) (first : Friend) (more : List Friend)
+      (together : AreTogether friends among first more) where
+    abbrev members : List Friend
+    members = first ∷ more
+
+    member_there : (friend : Friend) → Contains members friend → Contains friends friend
+    member_there friend h =
+        (filtered_of (λ friend. among friend.tx) friends friend
+        (subst (λ xs. Contains xs friend) (sym together.are) h)).0
+
+    pub present : IsPresentComponent s (map asking members)
+    present =
+        record {
+          present = all_where (Contains (askings s)) (map asking members) (λ z there.
+              let x = image_of asking members z there in
+              subst (λ xs. Contains xs z) (sym asked)
+              (subst (λ y. Contains (map asking friends) y) (sym x.2)
+              (image_there asking friends x.0 (member_there x.0 x.1))));
+          component = subst (λ xs. IsComponent xs (map posted_of (map asking members))) (sym pool_is)
+              (subst (IsComponent (map posted friends)) (sym (all_posted members))
+              (component friends among first more together.are together.served together.closed together.star
+              together.by_number));
+        }
+
+    least : list_all (λ friend. nat_le first.tx friend.tx) friends ≡ true → (others : List Asking)
+        → CanBePicked s others → first.tx ≤ first_tx others
+    least h [] can =
+        absurd (none_there _ ((can.component.component.class can.component.component.first).1
+        (can.component.component.in_remainder, (zero, refl))))
+    least h (a ∷ others) can =
+        let x = image_of asking friends a
+        (subst (λ xs. Contains xs a) asked (can.component.present zero a (omega arith))) in
+        subst (λ n. first.tx ≤ n) (sym (ap (λ (a : Asking). a.tx) x.2))
+        (at_most first.tx x.0.tx (each_passes _ friends x.0 h x.1))
+
+    abbrev lent : Reply ℕ
+    lent = replies.Lent (joint_job s (map asking members))
+
+    pub lends : s.tried ≡ [] → (IsOut s (map asking members) → ⊥)
+        → list_all (λ friend. nat_le first.tx friend.tx) friends ≡ true
+        → Lends s lent (record s { lent = s.lent ++ joint_job s (map asking members) ∷ [] })
+    lends tried_is not_out h =
+        record {
+          asked = map asking members;
+          can = record {
+            component = present;
+            untried = λ tried. none_there _ (subst (λ xs. Contains xs (map asking members)) tried_is tried);
+            not_out = not_out;
+          };
+          least = least h;
+          replies = refl;
+          is = refl;
+        }
+
+    abbrev answered : Reply ℕ
+    answered = replies.Answered
+
+    pub joins : have_partners members ≡ true → (left : List Job) → IsTaken (wishes.joint_job members) s.lent left
+        → Joins s (joint_done members) answered
+        (joining (record s { lent = left }) (map asking members) (taken members))
+    joins h left is_taken =
+        record {
+          meant = subst (λ xs. IsLeastChoice seen xs (taken members)) (sym (all_posted members))
+              (least_taken members h);
+          outstanding = record {
+            asked = map asking members;
+            is_joint = refl;
+            left = left;
+            taken = is_taken;
+            component = present;
+          };
+          groundings = Some (taken members);
+          choice = refl;
+          answers = (refl, refl);
+        }
+
+-- ---- what isn't outstanding
+
+none_taken : (job : Job) (before behind : List Job) → ◌≡◌ {A = List Job} [] (before ++ job ∷ behind) → ⊥
+none_taken job [] behind e = cc
+none_taken job (x ∷ before) behind e = cc
+
+pub not_lent : (job : Job) (jobs left : List Job) → jobs ≡ [] → IsTaken job jobs left → ⊥
+not_lent job jobs left e h = none_taken job h.before h.behind (sym e ∙ h.is_there)
+
+pub nothing_out : (s : State) (asked : List Asking) → s.lent ≡ [] → IsOut s asked → ⊥
+nothing_out s asked e h = none_there h.0 (subst (λ jobs. Contains jobs h.0) e h.1)
+
+pub stale_joint : (s : State) (done : Done) → s.lent ≡ [] → IsOutstandingJoint s done → ⊥
+stale_joint s done e h = not_lent done.job s.lent h.left e h.taken
+
+pub stale_single : (s : State) (done : Done) → s.lent ≡ [] → IsOutstandingSingle s done → ⊥
+stale_single s done e h = not_lent done.job s.lent h.1 e h.3
+
+one_or_joint : (single : Single) (asked : List Asking) → One single ≡ Joint asked → ⊥
+one_or_joint single asked e = cc
+
+-- a result of one statement is no joint one, nor the other way round
+pub not_joint : (s : State) (done : Done) (single : Single) → done.job.work ≡ One single → IsOutstandingJoint s done
+    → ⊥
+not_joint s done single e h = one_or_joint single h.asked (sym e ∙ h.is_joint)
+
+pub not_single : (s : State) (done : Done) (asked : List Asking) → done.job.work ≡ Joint asked
+    → IsOutstandingSingle s done → ⊥
+not_single s done asked e h = one_or_joint h.0 asked (sym h.2 ∙ e)
+
+-- ---- a component that grew
+
+no_class : (pool ones : List Posted) (member next : Posted) → Contains ones member → AreJoined member next
+    → IsInRemainder pool next → (Contains ones next → ⊥) → IsComponent pool ones → ⊥
+no_class pool ones member next there join remains out h =
+    let way = ((h.class member).0 there).1 in
+    out ((h.class next).1 (remains, (suc way.0, linked_on pool way.0 h.first member next way.1 join remains)))
+
+same_work : (one other : List Asking) → Joint one ≡ Joint other → one ≡ other
+same_work one other e = cc
+
+number_itself : (n m : ℕ) → n ≡ m → (n == m) ≡ true
+number_itself n m e = grind (arith, rules)
+
+differs : (b : Bool) → b ≡ true → b ≡ false → ⊥
+differs b h e = cc
+
+-- the result of a component with a member of which another one, who remains, is joined, and who isn't of it
+pub grown : (s : State) (friends : List Friend) → askings s ≡ map asking friends → (among : ℕ → Bool)
+    → are_served friends among ≡ true → (members : List Friend) (member next : Friend) → Contains members member
+    → Contains (chosen friends among) next → joined member next ≡ true
+    → list_all (λ other. if other.tx == next.tx then false else true) members ≡ true
+    → IsOutstandingJoint s (joint_done members) → ⊥
+grown s friends asked among served members member next there is_chosen join apart h =
+    no_class (map posted friends) (map posted members) (posted member) (posted next)
+    (image_there posted members member there) (joined_by friends among member next join)
+    (remains friends among served next is_chosen) out
+    (subst (IsComponent (map posted friends)) (all_posted members)
+    (subst (λ xs. IsComponent xs (map posted_of (map asking members))) (ap (map posted_of) asked ∙ all_posted friends)
+    (subst (λ xs. IsComponent (pool s) (map posted_of xs)) (sym (same_work (map asking members) h.asked h.is_joint))
+    h.component.component)))
+  where
+    no_other : (n m : ℕ) → n ≡ m → (if n == m then false else true) ≡ true → ⊥
+    no_other n m e k = grind (arith, rules)
+
+    out : Contains (map posted members) (posted next) → ⊥
+    out k =
+        let x = image_of posted members (posted next) k in
+        no_other x.0.tx next.tx (sym (ap (λ (p : Posted). p.tx) x.2)) (each_passes _ members x.0 apart x.1)
+
+-- where nothing is posted no joint result is outstanding
+pub gone : (s : State) → askings s ≡ [] → (done : Done) → IsOutstandingJoint s done → ⊥
+gone s none done h =
+    let first = h.component.component.in_remainder.is_in.0 in
+    none_there _ (subst (λ xs. Contains (map posted_of xs) h.component.component.first) none first)
+
+pub one_lent : (job other : Job) → Contains (job ∷ []) other → other ≡ job
+one_lent job other h = by_first job other [] (λ e. e) (λ more. absurd (none_there _ more)) h

@@ -1,0 +1,16 @@
+pub mod Listed
+pub mod Meets
+pub mod Safe
+pub mod Component
+pub mod Choice
+pub mod Answered
+pub mod Steps
+pub mod Waiting
+pub mod Members
+pub mod Changed
+pub mod HeldBackPlay
+pub mod GrownPlay
+pub mod ShrunkPlay
+pub mod EarlierPlay
+pub mod TwicePlay
+pub mod LinkedPlay

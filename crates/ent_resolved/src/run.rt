@@ -1,0 +1,98 @@
+//! Laws of states that are reached by scripts resolved over an opening without a fault.
+ghost use Rattle.std.specs.Prelude.{◌≡◌, Contains, List, None};
+ghost use Rattle.ent_tree.specs.declared.declaration.Opening.{Opening};
+ghost use Rattle.ent_tree.specs.declared.script.Script.{Script};
+ghost use Rattle.ent_form.specs.OpeningFault.{opening_fault};
+ghost use Rattle.ent_legal.specs.Present.{LentIsPresent, UsesAreApart};
+ghost use Rattle.ent_legal.specs.SerialState.{IsSerialState};
+ghost use Rattle.ent_protocol.specs.Reached.{IsFinishedBook, IsReached, book_of};
+ghost use Rattle.ent_protocol.specs.State.{State};
+ghost use Rattle.ent_resolved.specs.Resolved.{resolved_forms};
+ghost use Rattle.ent_semantics.specs.Book.{IsLegal, JournalIsRight, RunGivesBook, book_sights};
+ghost use Rattle.ent_semantics.specs.Database.{Database};
+ghost use Rattle.ent_semantics.specs.declared.book.Book.{Book};
+ghost use Rattle.ent_semantics.specs.Joint.{IsGrounded};
+ghost use Rattle.ent_semantics.specs.Serial.{Sight, Turn};
+
+use crate::form::resolved_forms_are_faithful;
+use ent_form::FormFault;
+use ent_legal::{
+    committed_runs_give_the_book, journals_fit_the_fates, lent_jobs_are_present,
+    reached_states_are_legal, reached_states_are_serial,
+};
+
+/// Every state that is reached is a serial state: the committed transactions, run alone in the order of their commits,
+/// give the settled database, and the members of the run, one after the other from there, give the present tables.
+pub fn resolved_runs_are_serial()
+    ensures { (s : State) → opening_fault s.opening ≡ None → IsReached resolved_forms s → IsSerialState s }
+{
+    resolved_forms_are_faithful();
+    reached_states_are_serial::<FormFault>();
+}
+
+/// In every state that is reached the committed transactions, run alone in the order of their commits with some answers
+/// of an oracle, give the answers and the database of the book; each answer of the oracle is a grounding over the
+/// database that its statement sees.
+pub fn resolved_runs_give_the_book()
+    ensures { (s : State)
+        → opening_fault s.opening ≡ None
+        → IsReached resolved_forms s
+        → (turns : List Turn)
+        × RunGivesBook (book_of s) turns
+        × ((sight : Sight)
+        → Contains (book_sights (book_of s) turns) sight
+        → IsGrounded s.opening.tables sight) }
+{
+    resolved_forms_are_faithful();
+    committed_runs_give_the_book::<FormFault>();
+}
+
+/// In every state that is reached the journal and the fates fit together: each transaction has one fate at most and one
+/// entry at most, and it has committed with a number exactly where the entry of that number is its own.
+pub fn resolved_journals_fit_the_fates()
+    ensures { (s : State)
+        → opening_fault s.opening ≡ None
+        → IsReached resolved_forms s
+        → JournalIsRight (book_of s) }
+{
+    resolved_forms_are_faithful();
+    journals_fit_the_fates::<FormFault>();
+}
+
+/// In every state that is reached the book is legal.
+pub fn resolved_runs_are_legal()
+    ensures { (s : State)
+        → opening_fault s.opening ≡ None
+        → IsReached resolved_forms s
+        → IsLegal (book_of s) }
+{
+    resolved_forms_are_faithful();
+    reached_states_are_legal::<FormFault>();
+}
+
+/// In every state that is reached members of two groups hold no conflicting uses, and neither do two members that
+/// aren't prepared. A lent job of one statement is its member's next one, and the tables that a job uses are the
+/// present ones: of one statement always, of a joint one where its members are exactly a component.
+pub fn resolved_jobs_are_present()
+    ensures apart { (s : State)
+        → opening_fault s.opening ≡ None
+        → IsReached resolved_forms s
+        → UsesAreApart s }
+    ensures present { (s : State)
+        → opening_fault s.opening ≡ None
+        → IsReached resolved_forms s
+        → LentIsPresent s }
+{
+    resolved_forms_are_faithful();
+    lent_jobs_are_present::<FormFault>();
+}
+
+/// Each finished book of an opening without a fault and of some scripts is legal.
+pub fn finished_books_are_legal()
+    ensures { (opening : Opening) (scripts : List Script) (book : Book Database)
+        → opening_fault opening ≡ None
+        → IsFinishedBook resolved_forms opening scripts book
+        → IsLegal book }
+{
+    resolved_runs_are_legal();
+}

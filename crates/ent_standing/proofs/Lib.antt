@@ -1,0 +1,13 @@
+pub mod Lists
+pub mod Times
+pub mod Acts
+pub mod Onward
+pub mod Left
+pub mod Places
+pub mod Placed
+pub mod Asked
+pub mod Lent
+pub mod Classes
+pub mod Groups
+pub mod Together
+pub mod Grouped

@@ -1,0 +1,38 @@
+//! Laws of reached states. What holds is in the contracts.
+ghost use Rattle.std.specs.Prelude.{◌≤◌, length};
+ghost use Rattle.ent_group.specs.declared.members.TheConstants.{MOST_MEMBERS};
+ghost use Rattle.ent_protocol.specs.Event.{Event, Reply};
+ghost use Rattle.ent_protocol.specs.Reached.{IsReached};
+ghost use Rattle.ent_protocol.specs.Run.{Forms};
+ghost use Rattle.ent_protocol.specs.State.{State, members};
+ghost use Rattle.ent_protocol.specs.Step.{Step};
+ghost use Rattle.ent_standing.specs.Groups.{GroupsAreClasses};
+ghost use Rattle.ent_standing.specs.Lent.{LentStandOnce};
+ghost use Rattle.ent_standing.specs.Standing.{GoesOn, StandOnce};
+
+/// Every event keeps the opening, and the list of scripts that were submitted grows at its end alone.
+pub fn steps_go_on<F>()
+    ensures { (forms : Forms F) (s : State) (event : Event) (reply : Reply F) (new : State)
+        → Step forms s event reply new
+        → GoesOn s new }
+{}
+
+/// In every state that is reached each transaction that was submitted is a member, is dormant or has a fate: one of
+/// these, and once. So members are distinct; and there are 64 at most.
+pub fn transactions_stand_once<F>()
+    ensures once { (forms : Forms F) (s : State) → IsReached forms s → StandOnce s }
+    ensures few { (forms : Forms F) (s : State) → IsReached forms s → length (members s) ≤ MOST_MEMBERS }
+{}
+
+/// In every state that is reached a lent job stands once: two jobs of a statement are of two transactions, and two
+/// joint jobs aren't of the same statements. The member of a job of one statement stands before it, in this attempt and
+/// at this place, neither posted nor prepared.
+pub fn lent_jobs_stand_once<F>()
+    ensures { (forms : Forms F) (s : State) → IsReached forms s → LentStandOnce s }
+{}
+
+/// In every state that is reached the groups are the classes of the least equivalence on the members that joins those of
+/// a live joint answer.
+pub fn groups_are_classes<F>()
+    ensures { (forms : Forms F) (s : State) → IsReached forms s → GroupsAreClasses s }
+{}

@@ -1,0 +1,8 @@
+//! Where transactions stand in a state that is reached, whatever the forms of their scripts.
+//!
+//! The functions here have no body: their contracts are laws of the definitions of ent_protocol.
+#![tactic(auto)]
+
+mod law;
+
+pub use law::{groups_are_classes, lent_jobs_stand_once, steps_go_on, transactions_stand_once};
