@@ -1,1 +1,6 @@
 pub mod ByNumber
+pub mod InWay
+pub mod Closed
+pub mod OneMember
+pub mod Moved
+pub mod JoinedGroups
