@@ -27,3 +27,4 @@ pub mod Joints
 pub mod Answered
 pub mod Moved
 pub mod Legal
+pub mod Once

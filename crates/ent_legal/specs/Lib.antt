@@ -2,3 +2,4 @@ pub mod Faithful
 pub mod History
 pub mod SerialState
 pub mod Present
+pub mod Answered

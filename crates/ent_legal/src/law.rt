@@ -1,11 +1,12 @@
 //! Laws of reached states. What holds is in the contracts; the bodies only call laws of lower crates.
-ghost use Rattle.std.specs.Prelude.{Contains, List};
+ghost use Rattle.std.specs.Prelude.{ℕ, Contains, List};
 ghost use Rattle.ent_protocol.specs.Reached.{IsReached, book_of};
 ghost use Rattle.ent_protocol.specs.Run.{Forms};
 ghost use Rattle.ent_protocol.specs.State.{State};
 ghost use Rattle.ent_semantics.specs.Book.{IsLegal, JournalIsRight, RunGivesBook, book_sights};
 ghost use Rattle.ent_semantics.specs.Joint.{IsGrounded};
 ghost use Rattle.ent_semantics.specs.Serial.{Sight, Turn};
+ghost use Rattle.ent_legal.specs.Answered.{HasAsked, IsAnsweredOnce};
 ghost use Rattle.ent_legal.specs.Faithful.{AreFaithful};
 ghost use Rattle.ent_legal.specs.Present.{LentIsPresent, UsesAreApart};
 ghost use Rattle.ent_legal.specs.SerialState.{IsSerialState};
@@ -87,6 +88,20 @@ pub fn lent_jobs_are_present<F>()
         → AreFaithful forms s.opening
         → IsReached forms s
         → LentIsPresent s }
+{
+    statements_keep_to_their_uses();
+    runs_go_on();
+    closing_keeps_the_meaning();
+}
+
+/// In every state that is reached each entangled statement of a transaction that has committed stands in exactly one of
+/// the joint answers that were made and not rolled back.
+pub fn committed_asks_are_answered_once<F>()
+    ensures { (forms : Forms F) (s : State) (tx place : ℕ)
+        → AreFaithful forms s.opening
+        → IsReached forms s
+        → HasAsked s tx place
+        → IsAnsweredOnce s tx place }
 {
     statements_keep_to_their_uses();
     runs_go_on();
