@@ -28,3 +28,4 @@ pub mod Answered
 pub mod Moved
 pub mod Legal
 pub mod Once
+pub mod GroupRuns

@@ -1,18 +1,24 @@
--- Entangled statements of committed transactions, and the joint answers in which they stand.
-use Rattle.std.specs.Prelude.{◌≡◌, ◌==◌, ◌&&◌, ℕ, Bool, [], ◌∷◌, Contains, Some}
+-- Entangled statements that transactions have passed, and the joint answers in which they stand.
+use Rattle.std.specs.Prelude.{◌≡◌, ◌<◌, ◌⊎◌, ◌==◌, ◌&&◌, ℕ, Bool, [], ◌∷◌, Contains, Some}
 use Rattle.std.specs.List.{filter, list_any}
 use Rattle.ent_tree.specs.declared.entangled.Entangled.{Entangled}
 use Rattle.ent_tree.specs.declared.script.Statement.TheVariants as statements
 use Rattle.ent_semantics.specs.declared.book.Entry.{Entry}
 use Rattle.ent_semantics.specs.declared.book.JointAnswer.{JointAnswer}
+use Rattle.ent_semantics.specs.declared.book.Member.{Member as JointMember}
 use Rattle.ent_semantics.specs.Serial.{numbered}
-use Rattle.ent_protocol.specs.State.{State, Submitted}
+use Rattle.ent_protocol.specs.State.{State, Submitted, Member}
 
--- a transaction that has committed has an entangled statement at this place of its script
+-- a transaction has committed, or is prepared, or is a member that stands behind this place
+abbrev pub IsPast : State → ℕ → ℕ → Type 0
+IsPast s tx place =
+    ((entry : Entry) × Contains s.journal entry × (entry.tx ≡ tx))
+    ⊎ ((member : Member) × Contains s.prepared member × (member.tx ≡ tx))
+    ⊎ ((member : Member) × Contains s.active member × (member.tx ≡ tx) × (place < member.place))
+
+-- it has passed an entangled statement at this place of its script
 pub record HasAsked (s : State) (tx place : ℕ) : Type 0 where
-  pub entry : Entry
-  pub committed : Contains s.journal entry
-  pub own : entry.tx ≡ tx
+  pub past : IsPast s tx place
   pub submitted : Submitted
   pub of_tx : numbered s.submitted tx ≡ Some submitted
   pub entangled : Entangled
@@ -25,3 +31,9 @@ stands_in tx place joint = list_any (λ member. (member.tx == tx) && (member.pla
 -- it stands in exactly one of the joint answers that were made and not rolled back
 abbrev pub IsAnsweredOnce : State → ℕ → ℕ → Type 0
 IsAnsweredOnce s tx place = (joint : JointAnswer) × (filter (stands_in tx place) s.joints ≡ joint ∷ [])
+
+-- each member of such a joint answer is a statement that was passed
+abbrev pub NothingElse : State → Type 0
+NothingElse s =
+    (joint : JointAnswer) (member : JointMember) → Contains s.joints joint → Contains joint.members member
+    → HasAsked s member.tx member.place

@@ -3,3 +3,4 @@ pub mod History
 pub mod SerialState
 pub mod Present
 pub mod Answered
+pub mod GroupRuns

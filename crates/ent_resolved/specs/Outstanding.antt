@@ -1,4 +1,4 @@
--- Results that are outstanding: their jobs are lent, and their members and tables are as they were when these were made.
+-- Results that are outstanding: their jobs are lent, and members and tables are as they were when these were made.
 use Rattle.std.specs.Prelude.{◌≡◌, List, Contains}
 use Rattle.ent_protocol.specs.Event.{Reply, Stale}
 use Rattle.ent_protocol.specs.Job.{Single, Asking, Done, One, Joint, tables_of}

@@ -4,7 +4,8 @@ ghost use Rattle.ent_tree.specs.declared.declaration.Opening.{Opening};
 ghost use Rattle.ent_tree.specs.declared.script.Script.{Script};
 ghost use Rattle.ent_form.specs.declared.fault.FormFault.{FormFault};
 ghost use Rattle.ent_form.specs.OpeningFault.{opening_fault};
-ghost use Rattle.ent_legal.specs.Answered.{HasAsked, IsAnsweredOnce};
+ghost use Rattle.ent_legal.specs.Answered.{HasAsked, IsAnsweredOnce, NothingElse};
+ghost use Rattle.ent_legal.specs.GroupRuns.{GroupRuns, UnownedIsSettled};
 ghost use Rattle.ent_legal.specs.Present.{LentIsPresent, UsesAreApart};
 ghost use Rattle.ent_legal.specs.SerialState.{IsSerialState};
 ghost use Rattle.ent_protocol.specs.Event.{Finish, JoinAnswer, Reply};
@@ -23,8 +24,8 @@ ghost use Rattle.ent_semantics.specs.Serial.{Sight, Turn};
 use crate::form::resolved_forms_are_faithful;
 use ent_form::FormFault;
 use ent_legal::{
-    committed_asks_are_answered_once, committed_runs_give_the_book, journals_fit_the_fates,
-    lent_jobs_are_present, reached_states_are_legal, reached_states_are_serial,
+    committed_runs_give_the_book, groups_run_alone, journals_fit_the_fates, lent_jobs_are_present,
+    passed_asks_are_answered_once, reached_states_are_legal, reached_states_are_serial,
 };
 use ent_standing::lent_jobs_stand_once;
 
@@ -94,17 +95,39 @@ pub fn resolved_jobs_are_present()
     lent_jobs_are_present::<FormFault>();
 }
 
-/// In every state that is reached each entangled statement of a transaction that has committed stands in exactly one of
-/// the joint answers that were made and not rolled back.
+/// In every state that is reached each entangled statement that a transaction has passed, which has committed or is a
+/// member, stands in exactly one of the joint answers that were made and not rolled back; and nothing else stands in
+/// one.
 pub fn resolved_asks_are_answered_once()
-    ensures { (s : State) (tx place : ℕ)
+    ensures once { (s : State) (tx place : ℕ)
         → opening_fault s.opening ≡ None
         → IsReached resolved_forms s
         → HasAsked s tx place
         → IsAnsweredOnce s tx place }
+    ensures nothing_else { (s : State)
+        → opening_fault s.opening ≡ None
+        → IsReached resolved_forms s
+        → NothingElse s }
 {
     resolved_forms_are_faithful();
-    committed_asks_are_answered_once::<FormFault>();
+    passed_asks_are_answered_once::<FormFault>();
+}
+
+/// In every state that is reached a group runs alone: what its prepared members did, one after the other from the
+/// settled database, gives their answers; so does what each other member of it did, from there, and the tables that
+/// this one uses stand as that run leaves them. A table that nobody uses exclusively is the settled one.
+pub fn resolved_groups_run_alone()
+    ensures runs { (s : State) (group : ℕ)
+        → opening_fault s.opening ≡ None
+        → IsReached resolved_forms s
+        → GroupRuns s group }
+    ensures settled { (s : State)
+        → opening_fault s.opening ≡ None
+        → IsReached resolved_forms s
+        → UnownedIsSettled s }
+{
+    resolved_forms_are_faithful();
+    groups_run_alone::<FormFault>();
 }
 
 /// In every state that is reached a result is accepted only where it is outstanding: its job is lent, its transaction
