@@ -27,3 +27,5 @@ pub mod Joints
 pub mod Answered
 pub mod Moved
 pub mod Legal
+pub mod Once
+pub mod GroupRuns
