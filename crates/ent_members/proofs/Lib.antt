@@ -1,1 +1,5 @@
 pub mod ByNumber
+pub mod InWay
+pub mod Closed
+pub mod OneMember
+pub mod Moved

@@ -6,16 +6,22 @@
 //! that a call that finds no memory leaves them as they were.
 #![tactic(auto)]
 
+mod change;
 mod entrant;
+mod hold;
+mod in_way;
 mod leavers;
 mod member;
+mod moves;
 mod run;
 mod search;
 mod start;
 mod table_use;
+mod uses;
 
 pub use entrant::Entrant;
 pub use leavers::{Leaver, Leavers};
 pub use member::Member;
 pub use run::Run;
 pub use table_use::Use;
+pub use uses::{MOST_USES, Uses, entangled_uses, statement_uses, uses_are_kept_by_closing};

@@ -1,13 +1,18 @@
 //! One member.
-ghost use Rattle.std.specs.Prelude.{◌≡◌};
+ghost use Rattle.std.specs.Prelude.{◌≡◌, OnOk, OnErr};
+ghost use Rattle.ent_protocol.specs.Begin.{holding};
+ghost use Rattle.ent_protocol.specs.Finish.{stepped};
 ghost use Rattle.ent_protocol.specs.Run.{fresh};
+ghost use Rattle.ent_members.specs.Changes.{posting, stepping};
 
 use crate::entrant::Entrant;
+use crate::hold::with_uses;
 use crate::table_use::Use;
 use ent_closing::Environment;
 use ent_group::Tx;
 use ent_semantics::Answer;
-use std::alloc::Global;
+use ent_value::{Name, Value};
+use std::alloc::{AllocError, Global};
 use std::marker::Model;
 
 /// A member of the present run. Its place is the number of its next statement, from 1.
@@ -118,5 +123,50 @@ impl Member {
         ensures { result ≡ self.now.posted }
     {
         self.is_posted
+    }
+
+    /// It holds the uses that are asked for too.
+    pub(crate) fn hold(&mut self, alloc: Global, asked: &[Use]) -> Result<(), AllocError>
+        ensures ok { OnOk result (self.new ≡ holding self.old asked.now) }
+        ensures err { OnErr result (self.new ≡ self.old) }
+    {
+        self.uses = with_uses(alloc, self.uses.as_slice(), asked)?;
+        Ok(())
+    }
+
+    /// It holds the uses that are asked for too, and its next statement is in the pool.
+    pub(crate) fn post(&mut self, alloc: Global, asked: &[Use]) -> Result<(), AllocError>
+        ensures ok { OnOk result (self.new ≡ posting asked.now self.old) }
+        ensures err { OnErr result (self.new ≡ self.old) }
+    {
+        self.hold(alloc, asked)?;
+        self.is_posted = true;
+        Ok(())
+    }
+
+    /// It takes the answer of its statement, and is at the next one.
+    pub(crate) fn step(&mut self, answer: Answer) -> Result<(), AllocError>
+        ensures ok { OnOk result (self.new ≡ stepped answer self.old) }
+        ensures err { OnErr result (self.new ≡ self.old) }
+    {
+        self.answers.push(answer)?;
+        self.is_posted = false;
+        Ok(())
+    }
+
+    /// It takes the answer of its statement, which binds host variables, and is at the next one.
+    pub(crate) fn step_bound(
+        &mut self,
+        answer: Answer,
+        bound: Vec<(Name, Value)>,
+    ) -> Result<(), AllocError>
+        ensures ok { OnOk result (self.new ≡ stepping answer bound.items self.old) }
+        ensures err { OnErr result (self.new ≡ self.old) }
+    {
+        self.answers.reserve(1)?;
+        self.environment.bind_all(bound)?;
+        self.answers.push_reserved(answer);
+        self.is_posted = false;
+        Ok(())
     }
 }

@@ -1,21 +1,35 @@
 //! The members of a run.
-ghost use Rattle.std.specs.Prelude.{◌≡◌, ℕ, ◌+◌, ◌≤◌, ◌==◌, ◌++◌, [], length, map, IfOk, nat_eq};
+ghost use Rattle.std.specs.Prelude.{◌≡◌, ℕ, ◌+◌, ◌≤◌, ◌==◌, ◌++◌, [], length, map, filter, nat_eq};
+ghost use Rattle.std.specs.Prelude.{IfOk, OnOk, OnErr, IsSome};
 ghost use Rattle.std.specs.List.{IsDistinct};
 ghost use Rattle.std.specs.Option.{option_copied};
+ghost use Rattle.ent_protocol.specs.Begin.{holding};
+ghost use Rattle.ent_protocol.specs.Commit.{is_ready};
+ghost use Rattle.ent_protocol.specs.Finish.{stepped};
 ghost use Rattle.ent_protocol.specs.Lookup.{member_of, running_members};
 ghost use Rattle.ent_protocol.specs.Member.{active_member, is_prepared};
 ghost use Rattle.ent_protocol.specs.Rollback.{group_members, group_numbers};
 ghost use Rattle.ent_protocol.specs.Run.{fresh};
 ghost use Rattle.ent_protocol.specs.State.{State, by_number, members};
+ghost use Rattle.ent_protocol.specs.Uses.{blocker};
+ghost use Rattle.ent_members.specs.Changes.{posting, stepping};
 ghost use Rattle.ent_members.specs.Leavers.{leaver_of, leavers_in};
+ghost use Rattle.ent_members.specs.Moves.{Prepares, is_not_of};
+ghost use Rattle.ent_members.specs.Places.{Changes, found};
 ghost use Rattle.ent_members.specs.Run.{with_run, tx_of};
 
+use crate::change;
 use crate::entrant::Entrant;
+use crate::in_way::{Passed, least_in_way};
 use crate::leavers::{Leavers, gather};
 use crate::member::Member;
+use crate::moves::{any_of, prepare, remove};
 use crate::search::{is_among, member_in};
 use crate::start::fresh_members;
+use crate::table_use::Use;
 use ent_group::{MOST_MEMBERS, Members, Tx};
+use ent_semantics::Answer;
+use ent_value::{Name, Value};
 use std::alloc::{AllocError, Global};
 use std::marker::Model;
 
@@ -23,6 +37,7 @@ use std::marker::Model;
 /// others, which are active.
 #[derive(Drop)]
 pub struct Run {
+    alloc: Global,
     prepared: Vec<Member>,
     active: Vec<Member>,
 }
@@ -44,6 +59,7 @@ impl Run {
         ensures active { result.active ≡ [] }
     {
         Run {
+            alloc,
             prepared: Vec::new(alloc),
             active: Vec::new(alloc),
         }
@@ -58,6 +74,7 @@ impl Run {
     {
         let active = fresh_members(alloc, entrants)?;
         Ok(Run {
+            alloc,
             prepared: Vec::new(alloc),
             active,
         })
@@ -141,6 +158,88 @@ impl Run {
         ensures { (s : State) → result ≡ map leaver_of (by_number tx_of (members (with_run self.now s))) }
     {
         self.leavers_within(None)
+    }
+
+    /// The least member that holds a use in conflict with one of those that a member asks for, save itself and the
+    /// prepared members of its group.
+    pub fn blocker(&self, asker: &Member, asked: &[Use]) -> Option<Tx>
+        ensures { (s : State) → result ≡ blocker (with_run self.now s) asker.now asked.now }
+    {
+        let least = least_in_way(self.active(), asked, Passed::Itself(asker.tx()), None);
+        least_in_way(self.prepared(), asked, Passed::Group(asker.group()), least)
+    }
+
+    /// A member that isn't prepared holds the uses that are asked for too. Where memory runs out nothing changes.
+    pub fn hold(&mut self, tx: Tx, asked: &[Use]) -> Result<(), AllocError>
+        requires { IsSome (found self.old.active tx) }
+        ensures ok { OnOk result (Changes (λ member. holding member asked.now) tx self.old.active self.new.active) }
+        ensures prepared { self.new.prepared ≡ self.old.prepared }
+        ensures err { OnErr result (self.new ≡ self.old) }
+    {
+        change::hold(self.alloc, self.active.as_mut_slice(), tx, asked)
+    }
+
+    /// A member that isn't prepared holds the uses that are asked for too, and its next statement is in the pool.
+    /// Where memory runs out nothing changes.
+    pub fn post(&mut self, tx: Tx, asked: &[Use]) -> Result<(), AllocError>
+        requires { IsSome (found self.old.active tx) }
+        ensures ok { OnOk result (Changes (posting asked.now) tx self.old.active self.new.active) }
+        ensures prepared { self.new.prepared ≡ self.old.prepared }
+        ensures err { OnErr result (self.new ≡ self.old) }
+    {
+        change::post(self.alloc, self.active.as_mut_slice(), tx, asked)
+    }
+
+    /// A member that isn't prepared takes the answer of its statement, and is at the next one. Where memory runs out
+    /// nothing changes.
+    pub fn step(&mut self, tx: Tx, answer: Answer) -> Result<(), AllocError>
+        requires { IsSome (found self.old.active tx) }
+        ensures ok { OnOk result (Changes (stepped answer) tx self.old.active self.new.active) }
+        ensures prepared { self.new.prepared ≡ self.old.prepared }
+        ensures err { OnErr result (self.new ≡ self.old) }
+    {
+        change::step(self.active.as_mut_slice(), tx, answer)
+    }
+
+    /// A member that isn't prepared takes the answer of its statement, which binds host variables, and is at the next
+    /// one. Where memory runs out nothing changes.
+    pub fn step_bound(
+        &mut self,
+        tx: Tx,
+        answer: Answer,
+        bound: Vec<(Name, Value)>,
+    ) -> Result<(), AllocError>
+        requires { IsSome (found self.old.active tx) }
+        ensures ok { OnOk result (Changes (stepping answer bound.items) tx self.old.active self.new.active) }
+        ensures prepared { self.new.prepared ≡ self.old.prepared }
+        ensures err { OnErr result (self.new ≡ self.old) }
+    {
+        change::step_bound(self.active.as_mut_slice(), tx, answer, bound)
+    }
+
+    /// A member is prepared, the last so far. Where memory runs out nothing changes.
+    pub fn prepare(&mut self, tx: Tx) -> Result<(), AllocError>
+        requires { IsSome (found self.old.active tx) }
+        ensures ok { OnOk result (Prepares tx self.old self.new) }
+        ensures err { OnErr result (self.new ≡ self.old) }
+    {
+        prepare(&mut self.prepared, &mut self.active, tx)
+    }
+
+    /// Whether every member of the group with a label is prepared.
+    pub fn is_ready(&self, group: Tx) -> bool
+        ensures { (s : State) → result ≡ is_ready (with_run self.now s) group }
+    {
+        !any_of(self.active(), group)
+    }
+
+    /// Members of these numbers are taken out of the run. It takes no memory.
+    pub fn remove(&mut self, numbers: &Members)
+        ensures prepared { self.new.prepared ≡ filter (is_not_of numbers.now) self.old.prepared }
+        ensures active { self.new.active ≡ filter (is_not_of numbers.now) self.old.active }
+    {
+        remove(&mut self.prepared, numbers);
+        remove(&mut self.active, numbers);
     }
 
     fn leavers_within(&self, group: Option<Tx>) -> Leavers
