@@ -29,3 +29,4 @@ pub mod Moved
 pub mod Legal
 pub mod Once
 pub mod GroupRuns
+pub mod Good

@@ -4,3 +4,4 @@ pub mod SerialState
 pub mod Present
 pub mod Answered
 pub mod GroupRuns
+pub mod GoodAnswers

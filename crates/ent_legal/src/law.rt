@@ -8,6 +8,7 @@ ghost use Rattle.ent_semantics.specs.Joint.{IsGrounded};
 ghost use Rattle.ent_semantics.specs.Serial.{Sight, Turn};
 ghost use Rattle.ent_legal.specs.Answered.{HasAsked, IsAnsweredOnce, NothingElse};
 ghost use Rattle.ent_legal.specs.Faithful.{AreFaithful};
+ghost use Rattle.ent_legal.specs.GoodAnswers.{AnswersAreGood};
 ghost use Rattle.ent_legal.specs.GroupRuns.{GroupRuns, UnownedIsSettled};
 ghost use Rattle.ent_legal.specs.Present.{LentIsPresent, UsesAreApart};
 ghost use Rattle.ent_legal.specs.SerialState.{IsSerialState};
@@ -126,6 +127,20 @@ pub fn groups_run_alone<F>()
         → AreFaithful forms s.opening
         → IsReached forms s
         → UnownedIsSettled s }
+{
+    statements_keep_to_their_uses();
+    runs_go_on();
+    closing_keeps_the_meaning();
+}
+
+/// In every state that is reached each joint answer that was made and not rolled back is good over the run that gives
+/// the present tables: its members are of distinct transactions, each grounding is one over the database that its
+/// statement sees there, and what one of them demands one of them offers.
+pub fn joint_answers_are_good<F>()
+    ensures { (forms : Forms F) (s : State)
+        → AreFaithful forms s.opening
+        → IsReached forms s
+        → AnswersAreGood s }
 {
     statements_keep_to_their_uses();
     runs_go_on();

@@ -5,6 +5,7 @@ ghost use Rattle.ent_tree.specs.declared.script.Script.{Script};
 ghost use Rattle.ent_form.specs.declared.fault.FormFault.{FormFault};
 ghost use Rattle.ent_form.specs.OpeningFault.{opening_fault};
 ghost use Rattle.ent_legal.specs.Answered.{HasAsked, IsAnsweredOnce, NothingElse};
+ghost use Rattle.ent_legal.specs.GoodAnswers.{AnswersAreGood};
 ghost use Rattle.ent_legal.specs.GroupRuns.{GroupRuns, UnownedIsSettled};
 ghost use Rattle.ent_legal.specs.Present.{LentIsPresent, UsesAreApart};
 ghost use Rattle.ent_legal.specs.SerialState.{IsSerialState};
@@ -24,8 +25,9 @@ ghost use Rattle.ent_semantics.specs.Serial.{Sight, Turn};
 use crate::form::resolved_forms_are_faithful;
 use ent_form::FormFault;
 use ent_legal::{
-    committed_runs_give_the_book, groups_run_alone, journals_fit_the_fates, lent_jobs_are_present,
-    passed_asks_are_answered_once, reached_states_are_legal, reached_states_are_serial,
+    committed_runs_give_the_book, groups_run_alone, joint_answers_are_good, journals_fit_the_fates,
+    lent_jobs_are_present, passed_asks_are_answered_once, reached_states_are_legal,
+    reached_states_are_serial,
 };
 use ent_standing::lent_jobs_stand_once;
 
@@ -128,6 +130,19 @@ pub fn resolved_groups_run_alone()
 {
     resolved_forms_are_faithful();
     groups_run_alone::<FormFault>();
+}
+
+/// In every state that is reached each joint answer that was made and not rolled back is good over the run that gives
+/// the present tables: its members are of distinct transactions, each grounding is one over the database that its
+/// statement sees there, and what one of them demands one of them offers.
+pub fn resolved_answers_are_good()
+    ensures { (s : State)
+        → opening_fault s.opening ≡ None
+        → IsReached resolved_forms s
+        → AnswersAreGood s }
+{
+    resolved_forms_are_faithful();
+    joint_answers_are_good::<FormFault>();
 }
 
 /// In every state that is reached a result is accepted only where it is outstanding: its job is lent, its transaction
