@@ -32,7 +32,7 @@ at_any : {X : Type 0} (xs : List X) (k : ℕ) (z d : X) → k < length xs → ge
 at_any xs k z d below is = get_or_default xs k d z below ∙ is
 
 -- elements that differ in a number stand at one place where it is the same
-same_place : {X : Type 0} (f : X → ℕ) (xs : List X) → AllPairs (λ (x y : X). f x ≢ f y) xs → (i j : ℕ) (x y : X)
+pub same_place : {X : Type 0} (f : X → ℕ) (xs : List X) → AllPairs (λ (x y : X). f x ≢ f y) xs → (i j : ℕ) (x y : X)
     → i < length xs → j < length xs → get_or xs i x ≡ x → get_or xs j y ≡ y → f x ≡ f y → i ≡ j
 same_place f xs apart i j x y below_i below_j is_x is_y same =
     elim (cases_lt i j) [
@@ -45,7 +45,7 @@ same_place f xs apart i j x y below_i below_j is_x is_y same =
       ]
     ]
 
-same_element : {X : Type 0} (xs : List X) (i j : ℕ) (x y : X) → i ≡ j → i < length xs → get_or xs i x ≡ x
+pub same_element : {X : Type 0} (xs : List X) (i j : ℕ) (x y : X) → i ≡ j → i < length xs → get_or xs i x ≡ x
     → get_or xs j y ≡ y → x ≡ y
 same_element xs i j x y same below is_x is_y =
     sym is_x ∙ (get_or_default xs i x y below ∙ (ap (λ k. get_or xs k y) same ∙ is_y))

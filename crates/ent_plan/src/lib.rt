@@ -15,5 +15,7 @@ mod slot;
 mod table;
 
 pub use join_plan::{JoinPlan, combine};
-pub use law::{plan_has_the_choices, plan_keeps_the_order, plan_names_its_classes};
+pub use law::{
+    component_is_named, plan_has_the_choices, plan_keeps_the_order, plan_names_its_classes,
+};
 pub use slot::Slot;
