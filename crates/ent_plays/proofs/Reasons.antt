@@ -57,7 +57,10 @@ least_out s friends asked n h no_single out = (inr out, least)
 ring_waits : (xs : List ℕ) (end tx : ℕ) → Contains xs tx → (other : ℕ) × Contains (links_to xs end) (tx, other)
 ring_waits [] end tx h = absurd (none_there tx h)
 ring_waits (x ∷ []) end tx h =
-    by_first x tx [] (λ e. (end, subst (λ z. Contains {X = ℕ × ℕ} ((x, end) ∷ []) (z, end)) (sym e) (first_there (x, end) [])))
+    by_first x tx [] (λ e. (
+      end,
+      subst (λ z. Contains {X = ℕ × ℕ} ((x, end) ∷ []) (z, end)) (sym e) (first_there (x, end) []),
+    ))
     (λ later. absurd (none_there tx later)) h
 ring_waits (x ∷ y ∷ ys) end tx h =
     by_first x tx (y ∷ ys) (λ e. (

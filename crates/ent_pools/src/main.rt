@@ -1,6 +1,6 @@
-//! Plays scenarios of pools and of unifiers: a line a call, the answer that is expected. Without a word it goes over the
-//! stored ones and stops at the first reply that differs; with the word `play` it reads one from standard input and
-//! writes the replies.
+//! Plays scenarios of pools and of unifiers: a line a call, the answer that is expected. Without a word it goes over
+//! the stored ones and stops at the first reply that differs; with the word `play` it reads one from standard input
+//! and writes the replies.
 #![tactic(auto)]
 
 mod atoms;
