@@ -120,11 +120,13 @@ same_statements (x ∷ xs) (y ∷ ys) one other there back =
 pub component_named : (pool members : List Posted) → IsByNumber pool → IsComponent pool members
     → named pool (map (λ (member : Posted). member.tx) members) ≡ members
 component_named pool members ordered component =
-    same_statements (named pool txs) members
-    (AllPairs-filter (λ (one other : Posted). one.tx < other.tx) (is_named txs) pool ordered) component.ascending to back
+    same_statements (named pool txs) members by_number component.ascending to back
   where
     txs : List ℕ
     txs = map (λ (member : Posted). member.tx) members
+
+    by_number : IsByNumber (named pool txs)
+    by_number = AllPairs-filter (λ (one other : Posted). one.tx < other.tx) (is_named txs) pool ordered
 
     in_pool : (member : Posted) → Contains members member → Contains pool member
     in_pool member there = ((component.class member).0 there).0.is_in.0
