@@ -7,3 +7,4 @@ pub mod Named
 pub mod Used
 pub mod Faithful
 pub mod Outstanding
+pub mod Setting

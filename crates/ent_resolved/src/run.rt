@@ -1,5 +1,5 @@
 //! Laws of states that are reached by scripts resolved over an opening without a fault.
-ghost use Rattle.std.specs.Prelude.{◌≡◌, ◌⊎◌, ℕ, Contains, List, None};
+ghost use Rattle.std.specs.Prelude.{◌≡◌, ◌⊎◌, ◌∷◌, [], ℕ, Contains, List, None};
 ghost use Rattle.ent_tree.specs.declared.declaration.Opening.{Opening};
 ghost use Rattle.ent_tree.specs.declared.script.Script.{Script};
 ghost use Rattle.ent_form.specs.declared.fault.FormFault.{FormFault};
@@ -11,13 +11,16 @@ ghost use Rattle.ent_legal.specs.Present.{LentIsPresent, UsesAreApart};
 ghost use Rattle.ent_legal.specs.SerialState.{IsSerialState};
 ghost use Rattle.ent_protocol.specs.Event.{Finish, JoinAnswer, Reply};
 ghost use Rattle.ent_protocol.specs.Job.{Done};
-ghost use Rattle.ent_protocol.specs.Reached.{IsFinishedBook, IsReached, book_of};
+ghost use Rattle.ent_protocol.specs.Play.{Plays};
+ghost use Rattle.ent_protocol.specs.Reached.{IsFinishedBook, IsReached, book_of, opened};
 ghost use Rattle.ent_protocol.specs.State.{State};
 ghost use Rattle.ent_protocol.specs.Step.{Step};
 ghost use Rattle.ent_resolved.specs.Outstanding.{IsHandedBack, IsOutstanding, IsOutstandingTogether};
 ghost use Rattle.ent_resolved.specs.Resolved.{resolved_forms};
+ghost use Rattle.ent_resolved.specs.Setting.{bare_opening, one, setter_commits};
 ghost use Rattle.ent_semantics.specs.Book.{IsLegal, JournalIsRight, RunGivesBook, book_sights};
 ghost use Rattle.ent_semantics.specs.Database.{Database};
+ghost use Rattle.ent_semantics.specs.declared.answer.Answer.TheVariants.{Value};
 ghost use Rattle.ent_semantics.specs.declared.book.Book.{Book};
 ghost use Rattle.ent_semantics.specs.Joint.{IsGrounded};
 ghost use Rattle.ent_semantics.specs.Serial.{Sight, Turn};
@@ -29,6 +32,7 @@ use ent_legal::{
     lent_jobs_are_present, passed_asks_are_answered_once, reached_states_are_legal,
     reached_states_are_serial,
 };
+use ent_protocol::plays_lead_on;
 use ent_standing::lent_jobs_stand_once;
 
 /// Every state that is reached is a serial state: the committed transactions, run alone in the order of their commits,
@@ -172,4 +176,16 @@ pub fn finished_books_are_legal()
         → IsLegal book }
 {
     resolved_runs_are_legal();
+}
+
+/// A script that binds a host variable is resolved over an opening without a fault, and commits: so there is a state of
+/// which the laws above say something.
+pub fn a_resolved_script_commits()
+    ensures { (last : State)
+        × Plays resolved_forms (opened bare_opening) setter_commits last
+        × (opening_fault last.opening ≡ None)
+        × IsReached resolved_forms last
+        × (last.journal ≡ record { tx = 1; answers = Value one ∷ [] } ∷ []) }
+{
+    plays_lead_on::<FormFault>();
 }
