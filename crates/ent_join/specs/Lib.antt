@@ -1,0 +1,4 @@
+pub mod Ticks
+pub mod Cursor
+pub mod Search
+pub mod Going
