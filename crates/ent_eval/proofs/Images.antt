@@ -18,9 +18,10 @@ use Rattle.ent_semantics.specs.Term.{no_value, number_of, in_64_bits, is_64_bits
 use Rattle.ent_semantics.specs.declared.answer.Failure.{Failure}
 use Rattle.ent_closed.specs.declared.operand.Operand.{Operand}
 use Rattle.ent_closed.specs.declared.operand.Operand.TheVariants as operands
+use Rattle.ent_select.specs.Worth.{value_in}
 use Rattle.ent_eval.specs.Change.{image_or_overflow}
 use Rattle.ent_eval.specs.Kinds.{operand_kind, expression_kind, KeepsKinds}
-use Rattle.ent_eval.specs.Worth.{value_in, image_of, there_or_overflow}
+use Rattle.ent_eval.specs.Worth.{image_of, there_or_overflow}
 
 kind_of_column : (row : List Value) (number : ℕ) (kind : Kind) → slice_get (kinds_of row) number ≡ Some kind
     → kind_of (slice_index_or row number no_value) ≡ kind

@@ -1,7 +1,3 @@
 mod Changes
-mod Combinations
-mod Fronts
 mod Images
 mod Narrowed
-mod Searched
-mod Wanted

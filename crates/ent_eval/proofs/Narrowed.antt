@@ -1,24 +1,13 @@
--- Tests over the rows with these first values, and over all rows.
-use Rattle.std.proofs.Common.{◌≡◌, Bool, true, false, cond, not, List, [], ◌∷◌, get_or, refl, sym, ap, ◌∙◌}
+-- Changes of the rows with these first values, and of all rows.
+use Rattle.std.proofs.Common.{◌≡◌, Bool, true, false, not, List, refl, sym, ap, ◌∙◌}
 use Rattle.std.specs.Prelude.{IsTrue, ◌&&◌, Result, Ok}
-use Rattle.std.specs.List.{filter, AllByRecursion}
-use Rattle.std.proofs.lemmas.List.Elements.{recursion_from_All, All-contains_itself}
-use Rattle.std.proofs.lemmas.Map.Views.{list_any-from_Contains}
 use Rattle.ent_set.specs.Sets as set
-use Rattle.ent_set.specs.Laws.{same_set, contains-retain, contains-ascending}
+use Rattle.ent_set.specs.Laws.{same_set, contains-retain}
 use Rattle.ent_value.specs.Refusal.{◌>>=◌}
-use Rattle.ent_value.specs.Order.{rows_total, exact_rows, rows_equal}
+use Rattle.ent_value.specs.Order.{rows_total, exact_rows}
 use Rattle.ent_value.specs.declared.value.Value.{Value}
 use Rattle.ent_rel.specs.Relation.{RowSet}
 use Rattle.ent_rel.specs.Change.{deletion, replacement, images_of}
-
--- each row of a set in order is in the set
-pub in_order : (s : RowSet) → AllByRecursion (λ row. IsTrue (set.contains s row)) (set.ascending s)
-in_order s =
-    let rows = set.ascending s in
-    recursion_from_All (λ row. IsTrue (set.contains s row)) rows (λ k d h.
-    let row = get_or rows k d in
-    contains-ascending s row ∙ list_any-from_Contains rows_equal row rows (All-contains_itself rows k d h))
 
 retain_same : (s : RowSet) (p q : List Value → Bool)
     → ((row : List Value) → IsTrue (set.contains s row) → p row ≡ q row) → set.retain s p ≡ set.retain s q
@@ -45,20 +34,6 @@ module _ (s : RowSet) (first prepared met : List Value → Bool) (same : (row : 
           none : (a : Bool) → (a && false) ≡ false
           none true = refl
           none false = refl
-
-  narrowed : (rows : List (List Value)) → AllByRecursion (λ row. IsTrue (set.contains s row)) rows
-      → filter prepared (filter first rows) ≡ filter met rows
-  narrowed [] all = refl
-  narrowed (row ∷ rows) all = by (first row) (agree row all.0) (narrowed rows all.1)
-    where
-      by : (a : Bool) → (a && prepared row) ≡ met row → filter prepared (filter first rows) ≡ filter met rows
-          → filter prepared (cond a (row ∷ filter first rows) (filter first rows))
-          ≡ cond (met row) (row ∷ filter met rows) (filter met rows)
-      by true e h = λ i. cond (e i) (row ∷ h i) (h i)
-      by false e h = h ∙ ap (λ b. cond b (row ∷ filter met rows) (filter met rows)) e
-
-  pub rows_met : filter prepared (filter first (set.ascending s)) ≡ filter met (set.ascending s)
-  rows_met = narrowed (set.ascending s) (in_order s)
 
   retained : set.retain s (λ row. first row && prepared row) ≡ set.retain s met
   retained = retain_same s _ _ agree

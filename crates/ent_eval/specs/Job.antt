@@ -3,9 +3,9 @@ use Rattle.std.specs.Prelude.{ℕ, List}
 use Rattle.ent_value.specs.declared.value.Value.{Value}
 use Rattle.ent_rel.specs.Relation.{Relation}
 use Rattle.ent_closed.specs.declared.statement.Statement.{Statement}
+use Rattle.ent_select.specs.Tables.{kinds_in, rows_in}
 use Rattle.ent_eval.specs.Kinds.{Fits}
 use Rattle.ent_eval.specs.Meant.{IsMeant, CanBeApplied}
-use Rattle.ent_eval.specs.Tables.{kinds_in, rows_in}
 use Rattle.ent_eval.specs.declared.outcome.Outcome.{Outcome}
 
 -- a closed ordinary statement at a place of a transaction in one of its attempts, and the tables that it names

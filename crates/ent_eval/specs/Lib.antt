@@ -1,8 +1,4 @@
 pub mod Worth
-pub mod Combined
-pub mod Early
-pub mod Prepared
-pub mod Tables
 pub mod Kinds
 pub mod Change
 pub mod Meant

@@ -1,4 +1,4 @@
--- What the parts of a closed statement are worth, and what is beyond 64 bits.
+-- What images of rows are, and what is beyond 64 bits.
 use Rattle.std.specs.Prelude.{List, map, Option, Some, None, Result, Ok, Err}
 use Rattle.ent_value.specs.declared.value.Value.{Value}
 use Rattle.ent_tree.specs.declared.operand.Expression.{Expression}
@@ -7,15 +7,7 @@ use Rattle.ent_semantics.specs.Term.{expression_value}
 use Rattle.ent_semantics.specs.declared.answer.Failure.{Failure}
 use Rattle.ent_semantics.specs.declared.answer.Failure.TheVariants.{Overflow}
 use Rattle.ent_closed.specs.declared.operand.Operand.{Operand}
-use Rattle.ent_closed.specs.Form.{operand_worth}
-
--- a value is worth itself
-abbrev pub itself : Value → Value
-itself value = value
-
--- what an operand is worth over a row
-abbrev pub value_in : List Value → Operand Value → Value
-value_in = operand_worth itself
+use Rattle.ent_select.specs.Worth.{value_in}
 
 -- a row with each column changed to its expression's value; nothing where one is beyond 64 bits
 abbrev pub image_of : List (Expression (Operand Value)) → List Value → Option (List Value)

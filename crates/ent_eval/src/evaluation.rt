@@ -2,18 +2,18 @@
 ghost use Rattle.std.specs.Prelude.{◌≡◌, [], ◌∷◌, IfOk, length, map};
 ghost use Rattle.std.specs.Arc.{arc_value};
 ghost use Rattle.ent_semantics.specs.Term.{expression_value};
+ghost use Rattle.ent_select.specs.Tables.{kinds_in, rows_in};
+ghost use Rattle.ent_select.specs.Worth.{itself};
 ghost use Rattle.ent_eval.specs.Setting.{Binds};
 ghost use Rattle.ent_eval.specs.Kinds.{Fits};
 ghost use Rattle.ent_eval.specs.Meant.{IsMeant, CanBeApplied};
-ghost use Rattle.ent_eval.specs.Tables.{kinds_in, rows_in};
-ghost use Rattle.ent_eval.specs.Worth.{itself};
 
 use crate::change::{deletion, insertion, replacement};
 use crate::outcome::Outcome;
-use crate::select::select;
 use crate::term::known_expression;
 use ent_closed::Statement;
 use ent_rel::Table;
+use ent_select::all;
 use ent_tree::Expression;
 use ent_value::{Refusal, Value};
 use std::alloc::{AllocError, Global};
@@ -51,7 +51,7 @@ pub fn evaluate(
     ensures change { IfOk result (λ outcome. CanBeApplied (map arc_value tables.now) outcome) }
 {
     match statement {
-        Statement::Select(query) => Ok(Outcome::Rows(select(alloc, query, tables)?)),
+        Statement::Select(query) => Ok(Outcome::Rows(all(alloc, query, tables)?)),
         // It isn't ordinary.
         Statement::Entangled(_) => unreachable!(),
         Statement::Insert { values, .. } => insertion(alloc, only(tables), values.as_slice()),

@@ -5,15 +5,11 @@
 #![tactic(auto)]
 
 mod change;
-mod condition;
 mod done;
 mod evaluation;
-mod first;
 mod job;
 mod outcome;
-mod prepared;
 mod row;
-mod select;
 mod term;
 
 pub use done::{NotDone, OneDone};

@@ -1,12 +1,10 @@
-//! Rows that statements put in or show.
-ghost use Rattle.std.specs.Prelude.{◌≡◌, ◌++◌, IfOk, map, slice_index_or};
+//! Rows that statements put in.
+ghost use Rattle.std.specs.Prelude.{◌≡◌, IfOk};
 ghost use Rattle.ent_value.specs.Refusal.{Gives};
-ghost use Rattle.ent_semantics.specs.Term.{no_value};
-ghost use Rattle.ent_eval.specs.Worth.{value_in, image_of, there_or_overflow};
+ghost use Rattle.ent_eval.specs.Worth.{image_of, there_or_overflow};
 
-use crate::term::{operand_expression, operand_value};
+use crate::term::operand_expression;
 use ent_closed::Operand;
-use ent_rel::StoredRow;
 use ent_semantics::Failure;
 use ent_tree::Expression;
 use ent_value::{Refusal, Row, Value};
@@ -21,80 +19,6 @@ pub(crate) fn row_of(alloc: Global, values: &[Value]) -> Result<Row, AllocError>
         row.push(value.copy(alloc)?)?;
     }
     Ok(Row::from_vec(row))
-}
-
-/// The values of a front and those of a row behind it, in one row.
-pub(crate) fn joined(alloc: Global, front: &[Value], row: &StoredRow<'_>) -> Result<Row, AllocError>
-    ensures { IfOk result (λ joined. joined ≡ front.now ++ row.now) }
-{
-    let mut values = Vec::new(alloc);
-    for value in front {
-        values.push(value.copy(alloc)?)?;
-    }
-    for column in 0..row.len() {
-        values.push(row.cell(column).to_value(alloc)?)?;
-    }
-    Ok(Row::from_vec(values))
-}
-
-/// What items show of a row.
-pub(crate) fn item_row(
-    alloc: Global,
-    items: &[Operand<Value>],
-    row: &[Value],
-) -> Result<Row, AllocError>
-    ensures { IfOk result (λ shown. shown ≡ map (value_in row.now) items.now) }
-{
-    let none = Value::Int(0);
-    let mut values = Vec::with_capacity(alloc, items.len())?;
-    for item in items {
-        values.push(operand_value(row, item, &none).copy(alloc)?)?;
-    }
-    Ok(Row::from_vec(values))
-}
-
-/// What items show of a front and a row behind it.
-pub(crate) fn shown_row(
-    alloc: Global,
-    items: &[Operand<Value>],
-    front: &[Value],
-    row: &StoredRow<'_>,
-) -> Result<Row, AllocError>
-    ensures { IfOk result (λ shown. shown ≡ map (value_in (front.now ++ row.now)) items.now) }
-{
-    let mut values = Vec::with_capacity(alloc, items.len())?;
-    for item in items {
-        values.push(shown_value(alloc, item, front, row)?)?;
-    }
-    Ok(Row::from_vec(values))
-}
-
-/// What an item shows of a front and a row behind it; a column that isn't there shows as 0.
-fn shown_value(
-    alloc: Global,
-    item: &Operand<Value>,
-    front: &[Value],
-    row: &StoredRow<'_>,
-) -> Result<Value, AllocError>
-    ensures { IfOk result (λ value. value ≡ value_in (front.now ++ row.now) item.now) }
-{
-    match item {
-        Operand::Known(value) => value.copy(alloc),
-        Operand::Column(number) => match front.get(*number) {
-            Some(value) => value.copy(alloc),
-            None => column_value(alloc, *number - front.len(), row),
-        },
-    }
-}
-
-/// The value of a column of a row; a column that isn't there shows as 0.
-fn column_value(alloc: Global, number: usize, row: &StoredRow<'_>) -> Result<Value, AllocError>
-    ensures { IfOk result (λ value. value ≡ slice_index_or row.now number no_value) }
-{
-    if number < row.len() {
-        return row.cell(number).to_value(alloc);
-    }
-    Ok(Value::Int(0))
 }
 
 /// A row with each column changed to its expression's value, all being worked out over the row as it was; an overflow

@@ -1,44 +1,16 @@
-//! What operands and expressions are worth.
+//! What expressions are worth.
 ghost use Rattle.std.specs.Prelude.{◌≡◌, ◌+ℤ◌, ◌-ℤ◌};
-ghost use Rattle.std.specs.Option.{option_copied};
 ghost use Rattle.ent_value.specs.Refusal.{Gives};
-ghost use Rattle.ent_semantics.specs.Term.{no_value, number_of, in_64_bits, expression_value};
-ghost use Rattle.ent_eval.specs.Early.{value_there};
-ghost use Rattle.ent_eval.specs.Worth.{itself, value_in, there_or_overflow};
+ghost use Rattle.ent_semantics.specs.Term.{number_of, in_64_bits, expression_value};
+ghost use Rattle.ent_select.specs.Worth.{itself, value_in};
+ghost use Rattle.ent_eval.specs.Worth.{there_or_overflow};
 
 use ent_closed::Operand;
+use ent_select::operand_value;
 use ent_semantics::Failure;
 use ent_tree::Expression;
 use ent_value::{Refusal, Value};
 use std::alloc::Global;
-
-/// The value of an operand over a row; a column that isn't there stands for `none`.
-pub(crate) fn operand_value<'a>(
-    row: &'a [Value],
-    operand: &'a Operand<Value>,
-    none: &'a Value,
-) -> &'a Value
-    requires { none.now ≡ no_value }
-    ensures { result.now ≡ value_in row.now operand.now }
-{
-    match operand {
-        Operand::Known(value) => value,
-        Operand::Column(number) => row.get(*number).unwrap_or(none),
-    }
-}
-
-/// The value of an operand over the front of a row, where it is there.
-pub(crate) fn operand_there<'a>(
-    front: &'a [Value],
-    operand: &'a Operand<Value>,
-) -> Option<&'a Value>
-    ensures { option_copied result ≡ value_there front.now operand.now }
-{
-    match operand {
-        Operand::Known(value) => Some(value),
-        Operand::Column(number) => front.get(*number),
-    }
-}
 
 /// The number that a value is; a text, which is of the wrong kind for a sum or a difference, counts as 0.
 fn number_of(value: &Value) -> i64

@@ -28,9 +28,9 @@ use Rattle.ent_form.specs.Catalogue.{schemas_of, names_of}
 use Rattle.ent_form.specs.Form.{statement_in}
 use Rattle.ent_form.specs.Kinds.{Bound}
 use Rattle.ent_form.specs.OpeningFault.{Check, ◌before◌, declarations_fault, first_of, opening_fault, opening_row_fault}
+use Rattle.ent_select.specs.Tables.{kinds_in, rows_in}
 use Rattle.ent_eval.specs.Kinds.{Fits}
 use Rattle.ent_eval.specs.Meant.{tables_named}
-use Rattle.ent_eval.specs.Tables.{kinds_in, rows_in}
 use Rattle.ent_book.specs.declared.table.NamedTable.{NamedTable}
 use Rattle.ent_book.specs.Tables.{tables_database}
 use Rattle.ent_meant.specs.Tables.{database_of, effect_of, AreWide, HaveDistinctColumns, Answers}

@@ -22,9 +22,9 @@ use Rattle.ent_closed.specs.declared.statement.Statement.{Statement}
 use Rattle.ent_closed.specs.declared.statement.Statement.TheVariants as statements
 use Rattle.ent_closed.specs.declared.operand.Known.{Known}
 use Rattle.ent_closed.specs.Form.{Tables, closed_worth, known_worth, form_meaning, table_numbered}
+use Rattle.ent_select.specs.Tables.{kinds_in, rows_in}
 use Rattle.ent_eval.specs.Change.{IsApplicable}
 use Rattle.ent_eval.specs.Meant.{tables_named, rows_under, changed_table, effect_of, IsMeant, CanBeApplied}
-use Rattle.ent_eval.specs.Tables.{kinds_in, rows_in}
 use Rattle.ent_eval.specs.declared.outcome.Outcome.{Outcome}
 use Rattle.ent_eval.specs.declared.outcome.Outcome.TheVariants as outcomes
 use Rattle.ent_serial.specs.Following.{CanFollow}

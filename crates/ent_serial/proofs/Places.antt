@@ -7,9 +7,9 @@ use Rattle.ent_value.specs.declared.value.Kind.{Kind}
 use Rattle.ent_value.specs.declared.value.Value.{Value}
 use Rattle.ent_rel.specs.Relation.{Relation}
 use Rattle.ent_closed.specs.declared.statement.Statement.{Statement}
+use Rattle.ent_select.specs.Tables.{kinds_in, rows_in}
 use Rattle.ent_eval.specs.Kinds.{Fits}
 use Rattle.ent_eval.specs.Meant.{tables_named, rows_under}
-use Rattle.ent_eval.specs.Tables.{kinds_in, rows_in}
 use Rattle.ent_serial.specs.Ready.{IsReady}
 use Rattle.ent_serial.specs.Tables.{no_table}
 

@@ -14,7 +14,7 @@ use Rattle.ent_semantics.specs.Database.{Environment}
 use Rattle.ent_closed.specs.declared.operand.Known.{Known}
 use Rattle.ent_closed.specs.declared.statement.Statement.{Statement}
 use Rattle.ent_closed.specs.Form.{Tables}
-use Rattle.ent_eval.specs.Tables.{rows_in}
+use Rattle.ent_select.specs.Tables.{rows_in}
 use Rattle.ent_serial.specs.Outcome.{Outcome, committed_first, fated_first}
 use Rattle.ent_serial.specs.Resolved.{FormRun, form_run_of, answered, form_run, form_fated}
 use Rattle.ent_serial.specs.Tables.{run_of}

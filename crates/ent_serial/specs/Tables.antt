@@ -8,7 +8,7 @@ use Rattle.ent_semantics.specs.declared.book.Fated.{Fated}
 use Rattle.ent_semantics.specs.Database.{Environment}
 use Rattle.ent_semantics.specs.Effect.{Effect}
 use Rattle.ent_closed.specs.Form.{Tables}
-use Rattle.ent_eval.specs.Tables.{rows_in}
+use Rattle.ent_select.specs.Tables.{rows_in}
 use Rattle.ent_serial.specs.Outcome.{Outcome}
 use Rattle.ent_serial.specs.Resolved.{FormRun, form_run_of}
 

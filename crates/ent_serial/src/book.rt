@@ -7,7 +7,7 @@ ghost use Rattle.ent_form.specs.Catalogue.{schemas_of, names_of};
 ghost use Rattle.ent_form.specs.Opening.{rows_named};
 ghost use Rattle.ent_form.specs.OpeningFault.{opening_fault};
 ghost use Rattle.ent_book.specs.Tables.{book_seen};
-ghost use Rattle.ent_eval.specs.Tables.{kinds_in, rows_in};
+ghost use Rattle.ent_select.specs.Tables.{kinds_in, rows_in};
 ghost use Rattle.ent_kinded.specs.Kinds.{column_kinds};
 ghost use Rattle.ent_kinded.specs.Opened.{opening_tables};
 ghost use Rattle.ent_serial.specs.Outcome.{IsOrdinary, serial_book};

@@ -1,9 +1,9 @@
 //! The tables that a closed ordinary statement names.
 ghost use Rattle.std.specs.Prelude.{◌≡◌, ◌<◌, All, IfOk, length, map, slice_index_or};
 ghost use Rattle.std.specs.Arc.{arc_value};
+ghost use Rattle.ent_select.specs.Tables.{kinds_in};
 ghost use Rattle.ent_eval.specs.Kinds.{Fits};
 ghost use Rattle.ent_eval.specs.Meant.{changed_table, tables_named};
-ghost use Rattle.ent_eval.specs.Tables.{kinds_in};
 ghost use Rattle.ent_serial.specs.Ready.{IsReady};
 ghost use Rattle.ent_serial.specs.Tables.{no_table};
 

@@ -4,7 +4,7 @@ ghost use Rattle.ent_value.specs.Refusal.{Gives};
 ghost use Rattle.ent_undo.specs.Change.{of_others, rolled_back};
 ghost use Rattle.ent_semantics.specs.Database.{nothing_bound};
 ghost use Rattle.ent_closing.specs.Environment.{environment_of};
-ghost use Rattle.ent_eval.specs.Tables.{kinds_in, rows_in};
+ghost use Rattle.ent_select.specs.Tables.{kinds_in, rows_in};
 ghost use Rattle.ent_serial.specs.Ending.{EndsAs};
 ghost use Rattle.ent_serial.specs.Ready.{AreReady, ScriptsAreReady};
 ghost use Rattle.ent_serial.specs.Resolved.{form_run, form_outcomes};

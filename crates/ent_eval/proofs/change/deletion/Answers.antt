@@ -1,8 +1,8 @@
 use Rattle.std.proofs.Common.{rules, [], ap, sym, ◌∙◌, Ok, append-nil}
 use Rattle.ent_rel.specs.First.{has_first}
 use Rattle.ent_semantics.specs.Selection.{meets}
-use Rattle.ent_eval.specs.Prepared.{prepared_meets}
-use Rattle.ent_eval.specs.Worth.{value_in}
+use Rattle.ent_select.specs.Prepared.{prepared_meets}
+use Rattle.ent_select.specs.Worth.{value_in}
 use Rattle.ent_eval.proofs.Narrowed.{deletion_met}
 use Rattle.ent_eval.proofs.change.deletion.Goals as goal
 

@@ -5,9 +5,10 @@ use Rattle.ent_rel.specs.Relation.{RowSet, bounded}
 use Rattle.ent_semantics.specs.Selection.{meets}
 use Rattle.ent_semantics.specs.declared.answer.Failure.{Failure}
 use Rattle.ent_value.specs.Refusal.{◌>>=◌}
+use Rattle.ent_select.specs.Prepared.{prepared_meets}
+use Rattle.ent_select.specs.Worth.{value_in}
 use Rattle.ent_eval.specs.Change.{Changes, image_or_overflow, or_full}
-use Rattle.ent_eval.specs.Prepared.{prepared_meets}
-use Rattle.ent_eval.specs.Worth.{value_in, image_of}
+use Rattle.ent_eval.specs.Worth.{image_of}
 use Rattle.ent_eval.proofs.Changes.{if_ok, replaced, refused_so}
 use Rattle.ent_eval.proofs.Images.{image_of_kinds}
 use Rattle.ent_eval.proofs.Narrowed.{replacement_met}

@@ -3,7 +3,7 @@ use Rattle.std.proofs.lemmas.List.{take_all}
 use Rattle.ent_set.specs.Sets as set
 use Rattle.ent_value.specs.Value.{row_cmp}
 use Rattle.ent_form.specs.Opening.{rows_named}
-use Rattle.ent_eval.specs.Tables.{rows_in}
+use Rattle.ent_select.specs.Tables.{rows_in}
 use Rattle.ent_serial.proofs.Loading.{opened}
 use Rattle.ent_serial.proofs.book.load.Goals as goal
 

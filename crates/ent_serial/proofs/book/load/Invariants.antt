@@ -4,7 +4,7 @@ use Rattle.ent_set.specs.Sets as set
 use Rattle.ent_value.specs.Value.{row_cmp}
 use Rattle.ent_form.specs.Opening.{rows_named}
 use Rattle.ent_kinded.specs.Kinds.{column_kinds}
-use Rattle.ent_eval.specs.Tables.{kinds_in, rows_in}
+use Rattle.ent_select.specs.Tables.{kinds_in, rows_in}
 use Rattle.ent_serial.proofs.book.load.Given as goal
 
 -- the tables so far

@@ -1,7 +1,7 @@
 use Rattle.std.proofs.Common.{◌≡◌, ◌∙◌, ap, length, map}
 use Rattle.std.specs.Arc.{arc_value}
 use Rattle.ent_book.specs.Tables.{tables_database}
-use Rattle.ent_eval.specs.Tables.{rows_in}
+use Rattle.ent_select.specs.Tables.{rows_in}
 use Rattle.ent_meant.specs.Tables.{database_of}
 use Rattle.ent_serial.proofs.Booking.{are_ready, as_many, book_with, is_serial, same_database}
 use Rattle.ent_serial.proofs.book.serial_book.Goals as goal

@@ -2,7 +2,7 @@ use Rattle.std.proofs.Common.{ap, ◌∙◌}
 use Rattle.std.specs.Prelude.{is_ok}
 use Rattle.ent_semantics.specs.Database.{nothing_bound}
 use Rattle.ent_closing.specs.Environment.{environment_of}
-use Rattle.ent_eval.specs.Tables.{kinds_in, rows_in}
+use Rattle.ent_select.specs.Tables.{kinds_in, rows_in}
 use Rattle.ent_serial.proofs.Runs.{ran_as}
 use Rattle.ent_serial.proofs.Undone.{restored}
 use Rattle.ent_serial.proofs.runner.run_script.Goals as goal

@@ -1,5 +1,5 @@
 use Rattle.std.proofs.Common.{◌≡◌, ◌≤◌, ◌+◌, [], drop}
-use Rattle.ent_eval.specs.Tables.{kinds_in, rows_in}
+use Rattle.ent_select.specs.Tables.{kinds_in, rows_in}
 use Rattle.ent_serial.specs.Ready.{ScriptsAreReady}
 use Rattle.ent_serial.specs.Resolved.{form_outcomes}
 use Rattle.ent_serial.proofs.Runs.{with_before}

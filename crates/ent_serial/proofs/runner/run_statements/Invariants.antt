@@ -1,7 +1,7 @@
 use Rattle.std.proofs.Common.{◌≡◌, ◌∷◌, [], drop}
 use Rattle.ent_undo.specs.Change.{of_others, rolled_back}
 use Rattle.ent_closing.specs.Environment.{environment_of}
-use Rattle.ent_eval.specs.Tables.{kinds_in, rows_in}
+use Rattle.ent_select.specs.Tables.{kinds_in, rows_in}
 use Rattle.ent_serial.specs.Ready.{AreReady}
 use Rattle.ent_serial.specs.Resolved.{form_run}
 use Rattle.ent_serial.proofs.Runs.{with_answers}

@@ -3,8 +3,8 @@ use Rattle.std.specs.Arc.{arc_value}
 use Rattle.ent_value.specs.declared.value.Value.{Value}
 use Rattle.ent_closed.specs.declared.statement.Statement.{Statement}
 use Rattle.ent_closing.specs.Environment.{environment_of}
+use Rattle.ent_select.specs.Tables.{kinds_in}
 use Rattle.ent_eval.specs.Meant.{tables_named}
-use Rattle.ent_eval.specs.Tables.{kinds_in}
 use Rattle.ent_serial.specs.Ready.{IsReady}
 use Rattle.ent_serial.proofs.Evaluated.{meant_here, can_follow}
 use Rattle.ent_serial.proofs.Places.{tables_of, named_fit}

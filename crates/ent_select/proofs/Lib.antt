@@ -1,0 +1,5 @@
+mod Combinations
+mod Fronts
+mod Narrowed
+mod Searched
+mod Wanted

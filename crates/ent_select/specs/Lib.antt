@@ -1,0 +1,5 @@
+pub mod Worth
+pub mod Combined
+pub mod Early
+pub mod Prepared
+pub mod Tables

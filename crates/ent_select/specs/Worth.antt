@@ -1,0 +1,13 @@
+-- What operands of a closed statement are worth.
+use Rattle.std.specs.Prelude.{List}
+use Rattle.ent_value.specs.declared.value.Value.{Value}
+use Rattle.ent_closed.specs.declared.operand.Operand.{Operand}
+use Rattle.ent_closed.specs.Form.{operand_worth}
+
+-- a value is worth itself
+abbrev pub itself : Value → Value
+itself value = value
+
+-- what an operand is worth over a row
+abbrev pub value_in : List Value → Operand Value → Value
+value_in = operand_worth itself

@@ -1,0 +1,18 @@
+//! SELECT over tables.
+//!
+//! A caller may rely on [`all`]: the ascending list of the result's rows, each once. What it rests on serves other
+//! statements too: tests of a WHERE that are made ready once for all rows, and the values that they want in the first
+//! columns.
+#![tactic(auto)]
+
+mod condition;
+mod first;
+mod prepared;
+mod row;
+mod select;
+mod term;
+
+pub use first::first_values;
+pub use prepared::PreparedTests;
+pub use select::all;
+pub use term::operand_value;
