@@ -1,6 +1,6 @@
 -- The steps of a search, over plain lists.
-use Rattle.std.proofs.Common.{◌≡◌, ◌≢◌, ◌⊎◌, ℕ, zero, suc, ◌+◌, ◌-◌, ◌<◌, ◌≤◌, ◌^◌, Bool, true, false, List, [], ◌∷◌, ◌++◌}
-use Rattle.std.proofs.Common.{length, take, refl, sym, ◌∙◌, ap, subst, inl, inr, arith, append_assoc, length-append}
+use Rattle.std.proofs.Common.{◌≡◌, ◌≢◌, ℕ, ◌+◌, ◌-◌, ◌<◌, ◌^◌, Bool, true, false, List, [], ◌∷◌, ◌++◌}
+use Rattle.std.proofs.Common.{length, take, refl, sym, ◌∙◌, ap, subst, inl, inr, arith, append_assoc}
 use Rattle.std.proofs.lemmas.Bool.Decides.{nat_tests}
 use Rattle.std.specs.Ordering.{ordering_then, ordering_reverse}
 use Rattle.std.specs.declared.cmp.Ordering.{Ordering}
@@ -52,7 +52,7 @@ same_order Less y v e h = λ _. h (values_total.antisymm v y ∙ ap ordering_rev
 same_order Equal y v e h = λ f. cc
 same_order Greater y v e h = λ f. cc
 
-value_cmp-self : (v : Value) → value_cmp v v ≡ Equal
+pub value_cmp-self : (v : Value) → value_cmp v v ≡ Equal
 value_cmp-self v = own_reverse (value_cmp v v) (values_total.antisymm v v)
   where
     own_reverse : (o : Ordering) → o ≡ ordering_reverse o → o ≡ Equal
@@ -119,7 +119,8 @@ searched_with passes count left less old pushed remaining after new value true e
     found = (
       value ∷ found.0,
       found.1 ∙ moved old pushed value push found.0,
-      least_with passes count left less old pushed remaining after found.0 value e c push ascending complete next found.2,
+      least_with passes count left less old pushed remaining after found.0 value e c push ascending complete next
+          found.2,
     )
 searched_with passes count left less old pushed remaining after new value false e c push ascending complete next is
     found = cc

@@ -43,7 +43,8 @@ impl<'a> Cursor<'a> {
 
     /// The next value, or `None` after the last. It is one tick.
     pub(crate) fn next_value(&mut self, ticks: &mut Ticks) -> Option<&'a Value>
-        ensures value { MatchOption result ((self.old ≡ []) × (self.new ≡ [])) (λ value. IsNext self.old self.new value.now) }
+        ensures value { MatchOption result ((self.old ≡ []) × (self.new ≡ []))
+            (λ value. IsNext self.old self.new value.now) }
         ensures ticks { ticks.new ≡ (if is_some result then ticked 1 ticks.old else ticks.old) }
     {
         if let [first, others @ ..] = self.rows {

@@ -1,8 +1,8 @@
-use Rattle.std.proofs.Common.{◌≡◌, ◌-◌, ◌<◌, ◌∷◌, List, length, take, drop, get_or, ap, sym, ◌∙◌, subst, arith}
+use Rattle.std.proofs.Common.{◌≡◌, ◌-◌, ◌<◌, ◌∷◌, length, take, drop, subst, arith}
 use Rattle.std.specs.Prelude.{slice_index_or}
 use Rattle.ent_semantics.specs.Term.{no_value}
 use Rattle.ent_join.specs.Cursor.{PassesOver}
-use Rattle.ent_join.proofs.Walked.{first_and_others, column_is, passes_over_more, all_first, all_others}
+use Rattle.ent_join.proofs.Walked.{first_and_others, passes_over_more, all_first, all_others}
 use Rattle.ent_join.proofs.cursor.rows_behind.Goals as goal
 
 pub loop-left-preserved : goal.loop-left-preserved

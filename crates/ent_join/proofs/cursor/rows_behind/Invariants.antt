@@ -1,4 +1,4 @@
-use Rattle.std.proofs.Common.{◌<◌, List, length}
+use Rattle.std.proofs.Common.{◌<◌, length}
 use Rattle.std.specs.List.{AllByRecursion}
 use Rattle.ent_join.specs.Cursor.{PassesOver}
 use Rattle.ent_join.proofs.cursor.rows_behind.Given as goal

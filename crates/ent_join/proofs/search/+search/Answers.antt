@@ -1,6 +1,5 @@
-use Rattle.std.proofs.Common.{◌≡◌, ◌+◌, ◌-◌, ◌∷◌, ◌++◌, [], refl, ap, sym, ◌∙◌, arith, length}
+use Rattle.std.proofs.Common.{◌≡◌, ◌+◌, ◌-◌, ◌∷◌, ◌++◌, [], refl, ap, ◌∙◌, arith, length}
 use Rattle.std.specs.Prelude.{vec_len}
-use Rattle.ent_join.specs.Search.{NonePasses}
 use Rattle.ent_join.proofs.Steps.{searched_with, searched_none, complete_after, ascending_after, none_at_all, pushed_is}
 use Rattle.ent_join.proofs.Steps.{popped, no_dead_end, ends_on, ticked_with, ticked_one}
 use Rattle.ent_join.specs.Ticks.{ticked}
