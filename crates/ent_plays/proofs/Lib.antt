@@ -11,6 +11,7 @@ pub mod Members
 pub mod Changed
 pub mod HeldBackPlay
 pub mod BusyPlay
+pub mod FailurePlay
 pub mod GrownPlay
 pub mod ShrunkPlay
 pub mod EarlierPlay
