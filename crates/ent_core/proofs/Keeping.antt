@@ -6,16 +6,23 @@ use Rattle.ent_form.specs.declared.fault.FormFault.{FormFault}
 use Rattle.ent_form.specs.OpeningFault.{opening_fault, unless}
 use Rattle.ent_protocol.specs.Event.{Event, Reply}
 use Rattle.ent_protocol.specs.Reached.{LeadsTo, opened}
+use Rattle.ent_protocol.specs.Run.{Forms}
 use Rattle.ent_protocol.specs.State.{State}
 use Rattle.ent_protocol.specs.Step.{Step}
 use Rattle.ent_core.specs.Kept.{IsKeptState}
 use Rattle.ent_resolved.specs.Resolved.{resolved_forms}
-use Rattle.ent_core.proofs.Opened.{same_opening}
+use Rattle.ent_standing.specs.Standing.{GoesOn}
 
-pub kept_next : (s new : State) (event : Event) (reply : Reply FormFault) → IsKeptState s
+-- what the law of steps says
+abbrev pub StepsGoOn : Type 0
+StepsGoOn =
+    (forms : Forms FormFault) (s : State) (event : Event) (reply : Reply FormFault) (new : State)
+    → Step forms s event reply new → GoesOn s new
+
+pub kept_next : StepsGoOn → (s new : State) (event : Event) (reply : Reply FormFault) → IsKeptState s
     → Step resolved_forms s event reply new → IsKeptState new
-kept_next s new event reply kept step =
-    let same = same_opening resolved_forms s event reply new step in
+kept_next law s new event reply kept step =
+    let same = (law resolved_forms s event reply new step).opening in
     let P : Opening → Type 0 = λ opening. LeadsTo resolved_forms (suc kept.reached.0) (opened opening) new in
     record {
       reached = (suc kept.reached.0, subst P (sym same) (s, event, reply, kept.reached.1, step));
@@ -23,11 +30,11 @@ kept_next s new event reply kept step =
     }
 
 -- what a call left that made a step, or changed nothing
-pub kept_after : {R E : Type 0} (seen : R → Reply FormFault) (s new : State) (event : Event) (result : Result R E)
+pub kept_after : {R E : Type 0} → StepsGoOn → (seen : R → Reply FormFault) (s new : State) (event : Event) (result : Result R E)
     → IsKeptState s → IfOk result (λ reply. Step resolved_forms s event (seen reply) new) → OnErr result (new ≡ s)
     → IsKeptState new
-kept_after seen s new event (Ok reply) kept ok err = kept_next s new event (seen reply) kept ok
-kept_after seen s new event (Err e) kept ok err = subst IsKeptState (sym err) kept
+kept_after law seen s new event (Ok reply) kept ok err = kept_next law s new event (seen reply) kept ok
+kept_after law seen s new event (Err e) kept ok err = subst IsKeptState (sym err) kept
 
 -- an opening's own state
 unfaulted : (opening : Opening) (check : Option FormFault) (s : State) → unless check (opened opening) ≡ Ok s

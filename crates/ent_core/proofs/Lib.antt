@@ -2,7 +2,7 @@ pub mod Arrivals
 pub mod Booked
 pub mod ByNumber
 pub mod Keeping
-pub mod Opened
 pub mod Opening
 pub mod Starting
 pub mod Told
+pub mod Whereabouts

@@ -6,6 +6,7 @@ use Rattle.ent_tree.specs.declared.declaration.Opening.{Opening}
 use Rattle.ent_form.specs.declared.catalogue.TableSchema.{TableSchema}
 use Rattle.ent_members.specs.Run.{Run}
 use Rattle.ent_protocol.specs.Event.{Reply, Started}
+use Rattle.ent_protocol.specs.Job.{Asking}
 use Rattle.ent_protocol.specs.Run.{Starts, StartsWith, fresh, numbers_of, starting}
 use Rattle.ent_protocol.specs.State.{State, Submitted, Dormant, Member, by_number}
 use Rattle.ent_core.specs.Store.{IsKept}
@@ -101,14 +102,14 @@ starts_with s false [] reply new off some replies is = absurd (omega arith)
 starts_with s false (first ∷ more) reply new off some replies is = (replies, is)
 
 pub started : (F : Type 0) (s now : State) (count : ℕ) (dormant' : List Dormant) (prepared' active' : List Member)
-    (members : List ℕ) → s ≡ now → s.running ≡ false → s.tried ≡ [] → s.prepared ≡ [] → 0 < length s.dormant
+    (members : List ℕ) (tried' : List (List Asking)) → s ≡ now → s.running ≡ false → tried' ≡ [] → s.prepared ≡ [] → 0 < length s.dormant
     → count ≡ min (length s.dormant) MOST_MEMBERS → prepared' ≡ []
     → active' ≡ by_number (λ member. member.tx) (map fresh (take count s.dormant)) → dormant' ≡ drop count s.dormant
     → members ≡ numbers_of (prepared' ++ active')
     → Starts {F = F} now (Started members)
-    (record s { running = true; prepared = prepared'; active = active'; dormant = dormant' })
-started F s now count dormant' prepared' active' members same off untried none some least no_prepared actives left numbered =
-    let new : State = record s { running = true; prepared = prepared'; active = active'; dormant = dormant' } in
+    (record s { running = true; prepared = prepared'; active = active'; dormant = dormant'; tried = tried' })
+started F s now count dormant' prepared' active' members tried' same off untried none some least no_prepared actives left numbered =
+    let new : State = record s { running = true; prepared = prepared'; active = active'; dormant = dormant'; tried = tried' } in
     let first : active' ≡ (starting s).active =
     actives ∙ ap (λ (all : List Dormant). by_number (λ (member : Member). member.tx) (map fresh all)) (taken_most MOST_MEMBERS count s.dormant least) in
     let rest : dormant' ≡ drop MOST_MEMBERS s.dormant = left ∙ left_most MOST_MEMBERS count s.dormant least in

@@ -2,4 +2,5 @@ pub mod Closing
 pub mod Fates
 pub mod Kept
 pub mod Reply
+pub mod Standing
 pub mod Store

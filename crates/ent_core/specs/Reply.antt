@@ -8,6 +8,7 @@ use Rattle.ent_core.specs.declared.reply.Reply.TheVariants as given
 abbrev pub reply_seen : Given → Reply FormFault
 reply_seen (given.Submitted tx) = replies.Submitted tx
 reply_seen (given.Started members) = replies.Started members
+reply_seen given.Recalled = replies.Recalled
 reply_seen given.Absent = replies.Absent
 reply_seen given.NotNow = replies.NotNow
 reply_seen (given.Full script) = replies.Full script

@@ -3,6 +3,7 @@ ghost use Rattle.std.specs.Prelude.{◌≡◌};
 ghost use Rattle.std.specs.Option.{option_copied, option_map};
 ghost use Rattle.ent_protocol.specs.Lookup.{answers_of, dormant_at, entry_at, group_of, present_rows};
 ghost use Rattle.ent_protocol.specs.Lookup.{running_members};
+ghost use Rattle.ent_semantics.specs.Serial.{numbered};
 
 use crate::store::Store;
 use ent_group::{Members, Tx};
@@ -11,24 +12,28 @@ use ent_rel::Table;
 use ent_semantics::{Answer, Entry};
 use ent_value::Name;
 
+/// The element of a number, from 1.
+pub(crate) fn numbered<T>(list: &[T], number: usize) -> Option<&T>
+    ensures { option_copied result ≡ numbered list.now number }
+{
+    if number == 0 {
+        return None;
+    }
+    list.get(number - 1)
+}
+
 /// The transaction at a place of the dormant list, from 1.
 pub(crate) fn dormant(store: &Store, place: usize) -> Option<&Entrant>
     ensures { option_copied result ≡ dormant_at store.now place }
 {
-    if place == 0 {
-        return None;
-    }
-    store.dormant.get(place - 1)
+    numbered(store.dormant.as_slice(), place)
 }
 
 /// The journal's entry of a number, from 1.
 pub(crate) fn entry(store: &Store, number: usize) -> Option<&Entry>
     ensures { option_copied result ≡ entry_at store.now number }
 {
-    if number == 0 {
-        return None;
-    }
-    store.journal.get(number - 1)
+    numbered(store.journal.as_slice(), number)
 }
 
 /// The table of a name as it stands, where one is declared.

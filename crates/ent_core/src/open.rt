@@ -32,5 +32,7 @@ pub(crate) fn open(alloc: Global, opening: Opening) -> Result<Store, Refusal<For
         log: UndoLog::new(alloc),
         journal: Vec::new(alloc),
         fates: Vec::new(alloc),
+        tried: Vec::new(alloc),
+        lent: Vec::new(alloc),
     })
 }

@@ -3,10 +3,11 @@ ghost use Rattle.std.specs.Prelude.{◌≡◌, IfOk, IfErr, OnErr};
 ghost use Rattle.std.specs.Option.{option_copied, option_map};
 ghost use Rattle.ent_book.specs.Tables.{book_seen};
 ghost use Rattle.ent_core.specs.Reply.{reply_seen};
+ghost use Rattle.ent_core.specs.Standing.{standing_seen};
 ghost use Rattle.ent_form.specs.OpeningFault.{opening_fault, unless};
-ghost use Rattle.ent_protocol.specs.Event.{StartRun, Submit};
+ghost use Rattle.ent_protocol.specs.Event.{Recall, StartRun, Submit};
 ghost use Rattle.ent_protocol.specs.Lookup.{answers_of, dormant_at, entry_at, group_of, present_rows};
-ghost use Rattle.ent_protocol.specs.Lookup.{running_members};
+ghost use Rattle.ent_protocol.specs.Lookup.{running_members, standing};
 ghost use Rattle.ent_protocol.specs.Reached.{CanClose, IsFinishedBook, book_of, opened, scripts_of};
 ghost use Rattle.ent_protocol.specs.Step.{Step};
 ghost use Rattle.ent_resolved.specs.Resolved.{resolved_forms};
@@ -18,7 +19,9 @@ ghost use Rattle.ent_core.specs.declared.closing.NotDone.{NotDone};
 use crate::closing::{NotClosed, NotDone, book, book_parts, can_close};
 use crate::lookup;
 use crate::open::open;
+use crate::recall::recall;
 use crate::reply::Reply;
+use crate::standing::{Standing, standing_of};
 use crate::start_run::start_run;
 use crate::store::Store;
 use crate::submit::submit;
@@ -30,6 +33,7 @@ use ent_protocol::{closing_gives_the_book, reached_states_are_tidy};
 use ent_rel::Table;
 use ent_resolved::resolved_runs_are_legal;
 use ent_semantics::{Answer, Book, Entry};
+use ent_standing::steps_go_on;
 use ent_tree::{Opening, Script};
 use ent_value::{Name, Refusal, Sequence};
 use std::alloc::{AllocError, AllocFailed, Global};
@@ -67,8 +71,8 @@ impl Core {
         })
     }
 
-    /// Takes a script, which stands last in the dormant list, and answers its number; or refuses it with its first fault
-    /// of form, or where as many as there may be were submitted. Where memory runs out the script comes back.
+    /// Takes a script, which stands last in the dormant list, and answers its number; or refuses it with its first
+    /// fault of form, or where as many as there may be were submitted. Where memory runs out the script comes back.
     pub fn submit(&mut self, script: Script) -> Result<Reply, AllocFailed<Script>>
         ensures ok { IfOk result (λ reply. Step resolved_forms self.old (Submit script) (reply_seen reply) self.new) }
         ensures err { OnErr result (self.new ≡ self.old) }
@@ -76,6 +80,7 @@ impl Core {
         ensures legal { IsLegal (book_of self.new) }
     {
         resolved_runs_are_legal();
+        steps_go_on::<FormFault>();
         submit(&mut self.store, script)
     }
 
@@ -87,7 +92,19 @@ impl Core {
         ensures legal { IsLegal (book_of self.new) }
     {
         resolved_runs_are_legal();
+        steps_go_on::<FormFault>();
         start_run(&mut self.store)
+    }
+
+    /// Lends no job any more, whoever has one. It takes no memory.
+    pub fn recall(&mut self) -> Reply
+        ensures step { Step resolved_forms self.old Recall (reply_seen result) self.new }
+        ensures legal { IsLegal (book_of self.new) }
+    {
+        resolved_runs_are_legal();
+        steps_go_on::<FormFault>();
+        recall(&mut self.store);
+        Reply::Recalled
     }
 
     /// The book, where no run is on and nobody waits for one; else, and where memory runs out, the core comes back.
@@ -97,7 +114,9 @@ impl Core {
             IsFinishedBook resolved_forms self.opening (scripts_of self) (book_seen book)) }
         ensures legal { IfOk result (λ book. IsLegal (book_seen book)) }
         ensures returned { IfErr result (λ refused. refused.core ≡ self) }
-        ensures not_done { IfErr result (λ refused. (fault : NotDone) → refused.refusal ≡ Fault fault → ¬ CanClose self) }
+        ensures not_done { IfErr result (λ refused. (fault : NotDone)
+            → refused.refusal ≡ Fault fault
+            → ¬ CanClose self) }
     {
         // Laws: the tables are settled where no run is on, and the book is finished and legal.
         reached_states_are_tidy::<FormFault>();
@@ -169,5 +188,11 @@ impl Core {
         ensures { option_map (λ table. table.now.rows) result ≡ present_rows self.now name.now }
     {
         lookup::table(&self.store, name)
+    }
+    /// Where a transaction stands; nowhere where no script has its number.
+    pub fn standing(&self, tx: Tx) -> Option<Standing>
+        ensures { option_map standing_seen result ≡ standing self.now tx }
+    {
+        standing_of(&self.store, tx)
     }
 }

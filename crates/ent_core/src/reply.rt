@@ -10,6 +10,8 @@ pub enum Reply {
     Submitted(u64),
     /// The members of the run that starts, by number.
     Started(Members),
+    /// No job is lent any more.
+    Recalled,
     /// It is not there: no such member of the run, or no transaction for a run.
     Absent,
     /// Not at this time.

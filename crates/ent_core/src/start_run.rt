@@ -35,6 +35,7 @@ pub(crate) fn start_run(store: &mut Store) -> Result<Reply, AllocError>
     let run = Run::start(store.alloc, &store.dormant[..count])?;
     let members = run.numbers();
     drop_first(&mut store.dormant, count);
+    store.tried.clear();
     store.run = run;
     store.running = true;
     Ok(Reply::Started(members))

@@ -1,11 +1,13 @@
 //! What a core holds.
 use crate::submitted::SubmittedScript;
+use ent_eval::{Asking, Job};
 use ent_form::Catalogue;
 use ent_members::{Entrant, Run};
 use ent_rel::Table;
 use ent_semantics::{Entry, Fated, JointAnswer};
 use ent_tree::Opening;
 use ent_undo::UndoLog;
+use ent_value::Sequence;
 use std::alloc::Global;
 use std::marker::Model;
 use std::sync::Arc;
@@ -22,6 +24,8 @@ pub(crate) struct Store {
     pub(crate) running: bool,
     pub(crate) run: Run,
     pub(crate) joints: Vec<JointAnswer>,
+    pub(crate) tried: Vec<Sequence<Asking>>,
+    pub(crate) lent: Vec<Job>,
     pub(crate) tables: Vec<Arc<Table>>,
     pub(crate) log: UndoLog,
     pub(crate) journal: Vec<Entry>,
@@ -29,7 +33,7 @@ pub(crate) struct Store {
 }
 
 impl Model for Store {
-    ghost use Rattle.std.specs.Prelude.{[], map};
+    ghost use Rattle.std.specs.Prelude.{map};
     ghost use Rattle.std.specs.Arc.{arc_value};
     ghost use Rattle.std.specs.Coded.{codes};
     ghost use Rattle.ent_rel.specs.Relation.{coded_rows};
@@ -48,8 +52,8 @@ impl Model for Store {
       prepared = s.run.prepared;
       active = s.run.active;
       joints = s.joints.items;
-      tried = [];
-      lent = [];
+      tried = s.tried.items;
+      lent = s.lent.items;
       tables = rows_in (map arc_value s.tables.items);
       changes = changes_seen s.log;
       journal = s.journal.items;

@@ -34,6 +34,12 @@ impl SubmittedScript {
         &self.script
     }
 
+    pub(crate) fn form(&self) -> &[Statement<Known>]
+        ensures { result.now ≡ self.now.form }
+    {
+        self.form.as_slice()
+    }
+
     pub(crate) fn into_script(self) -> Script
         ensures { result ≡ self.script }
     {

@@ -6,3 +6,4 @@ pub mod Facts
 pub mod Meeting
 pub mod Planning
 pub mod Selection
+pub mod Components

@@ -32,7 +32,7 @@ at_any : {X : Type 0} (xs : List X) (k : ℕ) (z d : X) → k < length xs → ge
 at_any xs k z d below is = get_or_default xs k d z below ∙ is
 
 -- elements that differ in a number stand at one place where it is the same
-same_place : {X : Type 0} (f : X → ℕ) (xs : List X) → AllPairs (λ (x y : X). f x ≢ f y) xs → (i j : ℕ) (x y : X)
+pub same_place : {X : Type 0} (f : X → ℕ) (xs : List X) → AllPairs (λ (x y : X). f x ≢ f y) xs → (i j : ℕ) (x y : X)
     → i < length xs → j < length xs → get_or xs i x ≡ x → get_or xs j y ≡ y → f x ≡ f y → i ≡ j
 same_place f xs apart i j x y below_i below_j is_x is_y same =
     elim (cases_lt i j) [
@@ -45,7 +45,7 @@ same_place f xs apart i j x y below_i below_j is_x is_y same =
       ]
     ]
 
-same_element : {X : Type 0} (xs : List X) (i j : ℕ) (x y : X) → i ≡ j → i < length xs → get_or xs i x ≡ x
+pub same_element : {X : Type 0} (xs : List X) (i j : ℕ) (x y : X) → i ≡ j → i < length xs → get_or xs i x ≡ x
     → get_or xs j y ≡ y → x ≡ y
 same_element xs i j x y same below is_x is_y =
     sym is_x ∙ (get_or_default xs i x y below ∙ (ap (λ k. get_or xs k y) same ∙ is_y))
@@ -104,7 +104,8 @@ module _ (members : List Posted) (one : IsPool members) (safe : IsSafe members) 
         let same_tx = safe asker.member owner.member owner_too.member index.0
         (asker.index, asker.within, asker.member_is) (owner.index, owner.within, owner.member_is)
         (owner_too.index, owner_too.within, owner_too.member_is) meets meets_too in
-        let same_index = same_place (λ (member : Posted). member.tx) members one owner.index owner_too.index owner.member
+        let same_index = same_place (λ (member : Posted). member.tx) members one owner.index owner_too.index
+        owner.member
         owner_too.member owner.within owner_too.within owner.member_is owner_too.member_is same_tx in
         let same_member = same_element members owner.index owner_too.index owner.member owner_too.member same_index
         owner.within owner.member_is owner_too.member_is in
@@ -113,12 +114,14 @@ module _ (members : List Posted) (one : IsPool members) (safe : IsSafe members) 
           (let p = owner.place_is in let q = owner_too.place_is in omega arith),
           same_head owner.member.statement.heads (distinct owner.member (owner.index, owner.within, owner.member_is))
               head.atom other.atom owner.there
-              (subst (λ (member : Posted). Contains member.statement.heads other.atom) (sym same_member) owner_too.there)
+              (subst (λ (member : Posted). Contains member.statement.heads other.atom) (sym same_member)
+              owner_too.there)
               relation,
         )
       where
         unify_as : (p h : Placed) (a b : Posted) → p.kinds ≡ a.statement.variables → h.kinds ≡ b.statement.variables
-            → DoUnify p h → DoUnify (record p { kinds = a.statement.variables }) (record h { kinds = b.statement.variables })
+            → DoUnify p h
+            → DoUnify (record p { kinds = a.statement.variables }) (record h { kinds = b.statement.variables })
         unify_as p h a b ka kb u =
             subst (λ ks. DoUnify (record p { kinds = ks }) (record h { kinds = b.statement.variables })) ka
             (subst (λ ks. DoUnify p (record h { kinds = ks })) kb u)

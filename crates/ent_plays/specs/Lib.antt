@@ -1,6 +1,7 @@
 pub mod Wish
 pub mod Scripts
 pub mod HeldBack
+pub mod Busy
 pub mod Grown
 pub mod Shrunk
 pub mod Earlier

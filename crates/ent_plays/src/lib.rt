@@ -8,5 +8,5 @@ mod play;
 
 pub use play::{
     component_grows, component_shrinks_back, job_outlives_its_attempt, linked_roll_back_together,
-    results_are_taken_once, third_is_held_back,
+    results_are_taken_once, run_is_busy, third_is_held_back,
 };

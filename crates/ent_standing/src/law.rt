@@ -31,8 +31,8 @@ pub fn lent_jobs_stand_once<F>()
     ensures { (forms : Forms F) (s : State) → IsReached forms s → LentStandOnce s }
 {}
 
-/// In every state that is reached the groups are the classes of the least equivalence on the members that joins those of
-/// a live joint answer.
+/// In every state that is reached the groups are the classes of the least equivalence on the members that joins those
+/// of a live joint answer.
 pub fn groups_are_classes<F>()
     ensures { (forms : Forms F) (s : State) → IsReached forms s → GroupsAreClasses s }
 {}

@@ -23,4 +23,6 @@ returns c =
       changes = changes_seen (c.new-5.ensures i);
       journal = c.new-6.ensures.items i;
       fates = c.new-7.ensures.items i;
+      tried = c.new-8.ensures.items i;
+      lent = c.new-9.ensures.items i;
     })

@@ -1,4 +1,4 @@
-use Rattle.std.proofs.Common.{◌≡◌, ◌<◌, ◌∙◌, refl, ap, arith, length, take, List, min}
+use Rattle.std.proofs.Common.{◌≡◌, ◌<◌, ◌∙◌, ap, arith, length, take, List, min}
 use Rattle.ent_form.specs.declared.fault.FormFault.{FormFault}
 use Rattle.ent_group.specs.declared.members.TheConstants.{MOST_MEMBERS}
 use Rattle.ent_protocol.specs.State.{State, Dormant, by_number}
@@ -24,7 +24,7 @@ returns-clause-ok c =
     let some : 0 < length c.store.inside.dormant.items = omega arith in
     let waiting : c.len-waiting.result ≡ length c.store.inside.dormant.items = omega arith in
     let least : c.min-count.result ≡ min (length c.store.inside.dormant.items) MOST_MEMBERS = c.min-count.ensures ∙ ap (λ n. min n 64) waiting in
-    started FormFault s c.args.store.now c.min-count.result c.drop_first.new.list.items c.in_ok-run.run'.prepared c.in_ok-run.run'.active c.numbers-members.result
-    c.store.view_is c.if-store.false refl (c.store.invariant.idle_prepared c.if-store.false) some least c.in_ok-run.ensures.prepared
+    started FormFault s c.args.store.now c.min-count.result c.drop_first.new.list.items c.in_ok-run.run'.prepared c.in_ok-run.run'.active c.numbers-members.result c.clear.new.self.items
+    c.store.view_is c.if-store.false c.clear.ensures.items (c.store.invariant.idle_prepared c.if-store.false) some least c.in_ok-run.ensures.prepared
     (c.in_ok-run.ensures.active ∙ ap (λ (all : List Dormant). by_number tx_of (map fresh (take c.min-count.result all))) c.deref.ensures.value)
     c.drop_first.ensures (c.numbers-members.ensures s)
