@@ -1,5 +1,6 @@
 -- Lists that are put in order by number.
-use Rattle.std.proofs.Common.{◌≡◌, ℕ, suc, ◌≤◌, Bool, true, false, nat_lt, nat_eq, if◌then◌else◌, List, [], ◌∷◌, ◌++◌, length, map, insert, refl, sym, ap, subst, ◌∙◌, arith, rules}
+use Rattle.std.proofs.Common.{◌≡◌, ℕ, suc, ◌≤◌, Bool, true, false, nat_lt, nat_eq, if◌then◌else◌, List, [], ◌∷◌, ◌++◌}
+use Rattle.std.proofs.Common.{length, map, insert, refl, sym, ap, subst, ◌∙◌, arith, rules}
 use Rattle.std.specs.Prelude.{Option, Some, None}
 use Rattle.std.specs.List.{filter, IsDistinct, AllByRecursion}
 use Rattle.std.proofs.lemmas.Bool.Decides.{nat_tests}
@@ -18,7 +19,8 @@ place_if n m false le = omega (arith, le)
 module _ {A : Type 0} where
   -- ---- putting one in
 
-  inserted_if : (number : A → ℕ) (x y : A) (ys : List A) (b : Bool) → inserted number x ys ≡ insert ys (place_in number ys (number x)) x
+  inserted_if : (number : A → ℕ) (x y : A) (ys : List A) (b : Bool)
+      → inserted number x ys ≡ insert ys (place_in number ys (number x)) x
       → (if b then x ∷ y ∷ ys else y ∷ inserted number x ys)
       ≡ insert (y ∷ ys) (if b then 0 else suc (place_in number ys (number x))) x
   inserted_if number x y ys true rest = refl
@@ -32,7 +34,8 @@ module _ {A : Type 0} where
 
   pub place_bound : (number : A → ℕ) (xs : List A) (n : ℕ) → place_in number xs n ≤ length xs
   place_bound number [] n = omega arith
-  place_bound number (x ∷ xs) n = place_if (place_in number xs n) (length xs) (nat_lt n (number x)) (place_bound number xs n)
+  place_bound number (x ∷ xs) n =
+      place_if (place_in number xs n) (length xs) (nat_lt n (number x)) (place_bound number xs n)
 
   longer_if : (number : A → ℕ) (x y : A) (ys : List A) (b : Bool) → length (inserted number x ys) ≡ suc (length ys)
       → length (if b then x ∷ y ∷ ys else y ∷ inserted number x ys) ≡ suc (suc (length ys))
@@ -41,11 +44,13 @@ module _ {A : Type 0} where
 
   pub length-inserted : (number : A → ℕ) (x : A) (xs : List A) → length (inserted number x xs) ≡ suc (length xs)
   length-inserted number x [] = refl
-  length-inserted number x (y ∷ ys) = longer_if number x y ys (nat_lt (number x) (number y)) (length-inserted number x ys)
+  length-inserted number x (y ∷ ys) =
+      longer_if number x y ys (nat_lt (number x) (number y)) (length-inserted number x ys)
 
   pub length-by_number : (number : A → ℕ) (xs : List A) → length (by_number number xs) ≡ length xs
   length-by_number number [] = refl
-  length-by_number number (x ∷ xs) = length-inserted number x (by_number number xs) ∙ ap suc (length-by_number number xs)
+  length-by_number number (x ∷ xs) =
+      length-inserted number x (by_number number xs) ∙ ap suc (length-by_number number xs)
 
 -- ---- distinct numbers
 
@@ -163,7 +168,8 @@ leaver_numbers (x ∷ xs) = ap (λ ns. x.tx ∷ ns) (leaver_numbers xs)
 
 append_if : (group : Option ℕ) (x : Member) (xs ys : List Member) (leavers : List Leaver) (b : Bool)
     → gathered group (xs ++ ys) leavers ≡ gathered group xs (gathered group ys leavers)
-    → (if b then inserted number_of (leaver_of x) (gathered group (xs ++ ys) leavers) else gathered group (xs ++ ys) leavers)
+    → (if b then inserted number_of (leaver_of x) (gathered group (xs ++ ys) leavers)
+    else gathered group (xs ++ ys) leavers)
     ≡ (if b then inserted number_of (leaver_of x) (gathered group xs (gathered group ys leavers))
     else gathered group xs (gathered group ys leavers))
 append_if group x xs ys leavers true rest = ap (inserted number_of (leaver_of x)) rest

@@ -1,5 +1,6 @@
 -- Those that are in the way.
-use Rattle.std.proofs.Common.{◌≡◌, ℕ, Bool, true, false, not, ◌==◌, ◌&&◌, if◌then◌else◌, List, [], ◌∷◌, ◌++◌, map, refl, sym, ap, ◌∙◌}
+use Rattle.std.proofs.Common.{◌≡◌, ℕ, Bool, true, false, not, ◌==◌, ◌&&◌, if◌then◌else◌, List, [], ◌∷◌, ◌++◌, map}
+use Rattle.std.proofs.Common.{refl, sym, ap, ◌∙◌}
 use Rattle.std.specs.List.{filter}
 use Rattle.std.proofs.lemmas.List.{map-append, append-nil}
 use Rattle.std.proofs.lemmas.List.Elements.{filter-append}
@@ -20,7 +21,7 @@ twice_if asked x xs false way more is rest =
     sym (ap (λ b. if b then x ∷ filter (is_in_way asked) xs else filter (is_in_way asked) xs) is
     ∙ ap (λ ms. if way then x ∷ ms else ms) rest)
 
-filtered_twice : (asked : List Use) (passed : Passed) (xs : List Member)
+pub filtered_twice : (asked : List Use) (passed : Passed) (xs : List Member)
     → filter (stands_in_way asked passed) xs
     ≡ filter (is_in_way asked) (filter (λ holder. not (is_passed passed holder)) xs)
 filtered_twice asked passed [] = refl

@@ -4,3 +4,5 @@ pub mod Closed
 pub mod OneMember
 pub mod Moved
 pub mod JoinedGroups
+pub mod Lists
+pub mod Waiting

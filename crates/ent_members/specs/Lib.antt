@@ -7,3 +7,4 @@ pub mod Passed
 pub mod Changes
 pub mod Moves
 pub mod Joined
+pub mod Waits

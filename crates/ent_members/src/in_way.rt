@@ -4,6 +4,7 @@ ghost use Rattle.std.specs.List.{list_any};
 ghost use Rattle.ent_protocol.specs.Uses.{is_in_way, least, uses_conflict};
 ghost use Rattle.ent_members.specs.Passed.{is_passed, stands_in_way};
 ghost use Rattle.ent_members.specs.Run.{tx_of};
+ghost use Rattle.ent_members.specs.Waits.{is_awaited_over, waits_over};
 
 use crate::member::Member;
 use crate::table_use::Use;
@@ -74,4 +75,30 @@ pub(crate) fn least_in_way(
     } else {
         beyond
     }
+}
+
+/// Whether a member of a group, with one member in its way, waits for another.
+fn waits_over(group: Tx, holder: &Member, other: &Member) -> bool
+    ensures { result ≡ waits_over group other.now holder.now }
+{
+    if holder.group() == group {
+        holder.tx() == other.tx()
+    } else {
+        other.group() == holder.group()
+    }
+}
+
+/// Whether one of a list that is in the way and not passed makes a member of a group wait for another.
+pub(crate) fn is_awaited_over(
+    holders: &[Member],
+    asked: &[Use],
+    passed: Passed,
+    group: Tx,
+    other: &Member,
+) -> bool
+    ensures { result ≡ list_any (is_awaited_over asked.now passed group other.now) holders.now }
+{
+    holders.iter().any(|holder| {
+        !is_passed(passed, holder) && is_in_way(asked, holder) && waits_over(group, holder, other)
+    })
 }

@@ -11,6 +11,7 @@ mod entrant;
 mod hold;
 mod in_way;
 mod join;
+mod law;
 mod leavers;
 mod member;
 mod moves;
@@ -21,6 +22,7 @@ mod table_use;
 mod uses;
 
 pub use entrant::Entrant;
+pub use law::awaited_members_are_waited_for;
 pub use leavers::{Leaver, Leavers};
 pub use member::Member;
 pub use run::Run;

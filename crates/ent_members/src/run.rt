@@ -21,10 +21,11 @@ ghost use Rattle.ent_members.specs.Leavers.{leaver_of, leavers_in};
 ghost use Rattle.ent_members.specs.Moves.{Leave, Prepares, is_not_of, is_of_another};
 ghost use Rattle.ent_members.specs.Places.{Changes, found};
 ghost use Rattle.ent_members.specs.Run.{with_run, tx_of};
+ghost use Rattle.ent_members.specs.Waits.{is_awaited};
 
 use crate::change;
 use crate::entrant::Entrant;
-use crate::in_way::{Passed, least_in_way};
+use crate::in_way::{Passed, is_awaited_over, least_in_way};
 use crate::join::{gather_labels, join_groups};
 use crate::leavers::{Leavers, gather};
 use crate::member::Member;
@@ -172,6 +173,21 @@ impl Run {
     {
         let least = least_in_way(self.active(), asked, Passed::Itself(asker.tx()), None);
         least_in_way(self.prepared(), asked, Passed::Group(asker.group()), least)
+    }
+
+    /// Whether a member that asks for uses would wait for another member, which isn't prepared.
+    pub fn awaits(&self, asker: &Member, asked: &[Use], other: &Member) -> bool
+        ensures { (s : State) → result ≡ is_awaited (with_run self.now s) asker.now asked.now other.now }
+    {
+        let group = asker.group();
+        is_awaited_over(self.prepared(), asked, Passed::Group(group), group, other)
+            || is_awaited_over(
+                self.active(),
+                asked,
+                Passed::Itself(asker.tx()),
+                group,
+                other,
+            )
     }
 
     /// A member that isn't prepared holds the uses that are asked for too. Where memory runs out nothing changes.

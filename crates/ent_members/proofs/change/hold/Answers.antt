@@ -6,7 +6,8 @@ use Rattle.ent_members.proofs.change.hold.Goals as goal
 
 pub returns-in-Some-clause-ok : goal.returns-in-Some-clause-ok
 returns-in-Some-clause-ok c =
-    changes c.hold.result (λ (member : Member). holding member c.args.asked.now) c.args.members.now c.args.tx c.in-Some.at
+    changes c.hold.result (λ (member : Member). holding member c.args.asked.now) c.args.members.now c.args.tx
+    c.in-Some.at
     c.index-members-at.result c.hold.new.self (λ member. refl) c.requires c.in-Some.ensures.some
     c.hold.ensures.ok
 

@@ -1,4 +1,5 @@
-use Rattle.std.proofs.Common.{◌≡◌, ◌+◌, ◌==◌, ℕ, Bool, List, [], ◌∷◌, ◌++◌, length, take, true, false, if◌then◌else◌, append_assoc, sym, ap, arith, ◌∙◌}
+use Rattle.std.proofs.Common.{◌≡◌, ◌+◌, ◌==◌, ℕ, Bool, List, [], ◌∷◌, ◌++◌, length, take, true, false, if◌then◌else◌}
+use Rattle.std.proofs.Common.{append_assoc, sym, ap, arith, ◌∙◌}
 use Rattle.std.specs.List.{list_any}
 use Rattle.std.proofs.lemmas.List.{append-nil, length-append}
 use Rattle.ent_members.specs.Joined.{labels_in}
@@ -37,7 +38,8 @@ loop-member-preserved c =
       }
       | else-contains w ↦ record {
         so_far = w.labels-is ∙ c.loop-member.invariant.so_far
-            ∙ ap (λ (ls : List ℕ). c.args.labels.now ++ ls) (sym (next_labels c false w.if-contains.false ∙ append-nil _));
+            ∙ ap (λ (ls : List ℕ). c.args.labels.now ++ ls)
+            (sym (next_labels c false w.if-contains.false ∙ append-nil _));
         room = omega (arith, ap length w.labels-is, c.loop-member.invariant.room);
         bound = c.loop-member.invariant.bound;
       }

@@ -13,6 +13,7 @@ loop-member-preserved c =
     ∙ ap (λ (group : ℕ). record read { group = group })
     (c.joined_label-group.ensures ∙ ap (joined_label c.args.labels.now) c.group.ensures) in
     ap (set ms i) written
-    ∙ map_over_more (in_joined_group c.args.labels.now) c.args.members.now ms i read (omega (arith, c.loop-member-test.true))
+    ∙ map_over_more (in_joined_group c.args.labels.now) c.args.members.now ms i read
+    (omega (arith, c.loop-member-test.true))
     c.loop-member.invariant
     (ap (get_or ms i) c.member-item.is)

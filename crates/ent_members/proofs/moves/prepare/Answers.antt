@@ -15,7 +15,8 @@ returns-in-Some-clause-ok c = λ member there.
     subst (λ (ms : List Member). IsAt ms c.args.tx c.in-Some.at) c.as_slice.ensures.value c.in-Some.ensures.some in
     let same : get_or active c.in-Some.at gone ≡ member = found_at active c.args.tx c.in-Some.at gone member at there in
     record {
-      prepared = c.push_reserved.ensures.items ∙ ap (λ (ms : List Member). ms ++ gone ∷ []) c.in_ok-reserve.ensures.items
+      prepared = c.push_reserved.ensures.items
+          ∙ ap (λ (ms : List Member). ms ++ gone ∷ []) c.in_ok-reserve.ensures.items
           ∙ ap (λ (m : Member). prepared ++ m ∷ []) (c.remove-member.ensures.value ∙ same);
       active = c.remove-member.ensures.items
           ∙ removed_at active c.in-Some.at gone c.requires.run.distinct at.in_range

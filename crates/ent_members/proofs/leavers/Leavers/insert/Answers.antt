@@ -11,7 +11,8 @@ pub put_at-requires-clause-place : goal.put_at-requires-clause-place
 put_at-requires-clause-place c =
     let held = take c.self.inside.len c.self.inside.leavers in
     let at : c.place_for-at.result ≡ place_in number_of held c.args.leaver.tx = c.place_for-at.ensures
-    ∙ ap (λ (ls : List Leaver). place_in number_of ls c.args.leaver.tx) (c.as_slice.ensures.list ∙ sym c.self.view_is) in
+    ∙ ap (λ (ls : List Leaver). place_in number_of ls c.args.leaver.tx)
+    (c.as_slice.ensures.list ∙ sym c.self.view_is) in
     omega (
       arith,
       at,

@@ -13,4 +13,5 @@ returns c = λ s.
     let others = map tx_of (filter (stands_in_way asked (Itself c.tx.result)) c.active.result.now) ++ [] in
     c.least_in_way.ensures others (c.least_in_way-least.ensures [] refl)
     ∙ rw (c.group.ensures, c.tx.ensures, c.active.ensures.list, c.prepared.ensures)
-    (ap least (in_way_of asked c.args.asker.now.group c.args.asker.now.tx c.args.self.now.prepared c.args.self.now.active))
+    (ap least (in_way_of asked c.args.asker.now.group c.args.asker.now.tx c.args.self.now.prepared
+    c.args.self.now.active))

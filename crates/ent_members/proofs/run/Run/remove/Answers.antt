@@ -8,7 +8,8 @@ use Rattle.ent_members.proofs.run.Run.remove.Goals as goal
 pub invariant_of-self : goal.invariant_of-self
 invariant_of-self c =
     rw (c.remove.ensures, c.remove-2.ensures)
-    (run_filtered (is_not_of c.args.numbers.now) c.self.inside.prepared.items c.self.inside.active.items c.self.invariant)
+    (run_filtered (is_not_of c.args.numbers.now) c.self.inside.prepared.items c.self.inside.active.items
+    c.self.invariant)
 
 pub returns-clause-leave : goal.returns-clause-leave
 returns-clause-leave c = λ gone is. record {
