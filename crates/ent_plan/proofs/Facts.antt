@@ -105,7 +105,8 @@ module _ (atoms : Posted → List (Atom Value)) (values : ℕ → Valuation) whe
         | inl mine ↦
             let found = mapped_from (placed_at n member.statement.variables) (atoms member) placed mine in
             let fact : fact_under first found.0 ≡ fact_at values placed =
-            sym (ap (λ vs. fact_under vs found.0) (values_first values n first more are)) ∙ ap (fact_at values) found.2 in
+            sym (ap (λ vs. fact_under vs found.0) (values_first values n first more are))
+            ∙ ap (fact_at values) found.2 in
             subst (Contains (here ++ facts atoms members more)) fact
             (Contains-append_left here (facts atoms members more) (fact_under first found.0)
             (contains_map (fact_under first) (atoms member) found.0 found.1))

@@ -104,7 +104,8 @@ module _ (members : List Posted) (one : IsPool members) (safe : IsSafe members) 
         let same_tx = safe asker.member owner.member owner_too.member index.0
         (asker.index, asker.within, asker.member_is) (owner.index, owner.within, owner.member_is)
         (owner_too.index, owner_too.within, owner_too.member_is) meets meets_too in
-        let same_index = same_place (λ (member : Posted). member.tx) members one owner.index owner_too.index owner.member
+        let same_index = same_place (λ (member : Posted). member.tx) members one owner.index owner_too.index
+        owner.member
         owner_too.member owner.within owner_too.within owner.member_is owner_too.member_is same_tx in
         let same_member = same_element members owner.index owner_too.index owner.member owner_too.member same_index
         owner.within owner.member_is owner_too.member_is in
@@ -113,12 +114,14 @@ module _ (members : List Posted) (one : IsPool members) (safe : IsSafe members) 
           (let p = owner.place_is in let q = owner_too.place_is in omega arith),
           same_head owner.member.statement.heads (distinct owner.member (owner.index, owner.within, owner.member_is))
               head.atom other.atom owner.there
-              (subst (λ (member : Posted). Contains member.statement.heads other.atom) (sym same_member) owner_too.there)
+              (subst (λ (member : Posted). Contains member.statement.heads other.atom) (sym same_member)
+              owner_too.there)
               relation,
         )
       where
         unify_as : (p h : Placed) (a b : Posted) → p.kinds ≡ a.statement.variables → h.kinds ≡ b.statement.variables
-            → DoUnify p h → DoUnify (record p { kinds = a.statement.variables }) (record h { kinds = b.statement.variables })
+            → DoUnify p h
+            → DoUnify (record p { kinds = a.statement.variables }) (record h { kinds = b.statement.variables })
         unify_as p h a b ka kb u =
             subst (λ ks. DoUnify (record p { kinds = ks }) (record h { kinds = b.statement.variables })) ka
             (subst (λ ks. DoUnify p (record h { kinds = ks })) kb u)

@@ -43,7 +43,8 @@ placed_step atoms members i member old new fresh below is so_far pushed fresh_is
     let next : suc i ≡ i + 1 = omega arith in
     pushed
     ∙ ((λ t. so_far t ++ fresh_is t)
-    ∙ (ap (λ p. placed_from atoms 0 (take i members) ++ map (placed_at p member.statement.variables) (atoms member)) place
+    ∙ (ap (λ p. placed_from atoms 0 (take i members) ++ map (placed_at p member.statement.variables) (atoms member))
+    place
     ∙ (sym (placed_more atoms 0 members i member below is) ∙ ap (λ n. placed_from atoms 0 (take n members)) next)))
 
 -- ---- one more head

@@ -96,7 +96,9 @@ abbrev first_kinds : List Classes → List Kind
 first_kinds classes = map (λ (c : Classes). c.first.kind) classes
 
 no_class : Classes
-no_class = (let x : Variables = record { member = 0; index = 0; kind = kinds.Int } in record { representative = x; first = x })
+no_class =
+    let x : Variables = record { member = 0; index = 0; kind = kinds.Int } in
+    record { representative = x; first = x }
 
 module _ (bs : List Binding) (K : List (List Kind)) (classes : List Classes) (rows : List (List Slot))
     (are : AreRows bs K classes rows) where
@@ -118,7 +120,8 @@ module _ (bs : List Binding) (K : List (List Kind)) (classes : List Classes) (ro
   slot_at : ℕ → ℕ → Slot
   slot_at m k = get_or (get_or rows m []) k (Class 0)
 
-  slot_stands : (m k : ℕ) → m < length K → k < length (get_or K m []) → Stands bs classes (variable_at K m k) (slot_at m k)
+  slot_stands : (m k : ℕ) → m < length K → k < length (get_or K m [])
+      → Stands bs classes (variable_at K m k) (slot_at m k)
   unfolding slot_at
   slot_stands m k below_m below_k = are.stands m k (Class 0) below_m below_k
 
@@ -209,7 +212,8 @@ module _ (bs : List Binding) (K : List (List Kind)) (classes : List Classes) (ro
       (let e : Variable (get_or classes n no_class).representative ≡ Constant w =
       sym (left.1 no_class) ∙ (same ∙ right) in cc)
   worth_same values x y (Class n) (Class k) left right same =
-      let e : Variable (get_or classes n no_class).representative ≡ Variable (get_or classes k no_class).representative =
+      let e : Variable (get_or classes n no_class).representative
+      ≡ Variable (get_or classes k no_class).representative =
       sym (left.1 no_class) ∙ (same ∙ right.1 no_class) in
       let r : (get_or classes n no_class).representative ≡ (get_or classes k no_class).representative = cc in
       ap (λ i. get_or values i no_value) (one_number n k left.0 right.0 r)

@@ -35,12 +35,12 @@ numbered_append a (Class n ∷ slots) b others c (inr new) right =
 -- ---- one slot
 
 -- the classes with what one more slot has put down
-pub record IsStep (bs : List Binding) (K : List (List Kind)) (old new : List Classes) (x : Variables) (s : Slot) : Type 0
-  where
-    pub stands : Stands bs new x s
-    pub numbered : AreNumbered (length old) (s ∷ []) (length new)
-    pub kept : (n : ℕ) (d : Classes) → n < length old → get_or new n d ≡ get_or old n d
-    pub classes : AreClasses bs K new
+pub record IsStep (bs : List Binding) (K : List (List Kind)) (old new : List Classes) (x : Variables) (s : Slot) :
+    Type 0 where
+  pub stands : Stands bs new x s
+  pub numbered : AreNumbered (length old) (s ∷ []) (length new)
+  pub kept : (n : ℕ) (d : Classes) → n < length old → get_or new n d ≡ get_or old n d
+  pub classes : AreClasses bs K new
 
 module _ (bs : List Binding) (K : List (List Kind)) (x : Variables) (of_members : IsVariableOf K x) where
   with_class : (old : List Classes) (r : Variables) → AreClasses bs K old → class_of bs x ≡ Variable r → IsNewTo old r

@@ -1,6 +1,6 @@
 -- The plan of the coordinating choices of posted statements: what each of their written variables is.
-use Rattle.std.specs.Prelude.{◌≡◌, ◌≢◌, ◌<◌, ◌⊎◌, ◌↔◌, ◌==◌, ℕ, suc, Bool, List, [], ◌∷◌, length, map, AllPairs, Contains}
-use Rattle.std.specs.Prelude.{slice_index_or}
+use Rattle.std.specs.Prelude.{◌≡◌, ◌≢◌, ◌<◌, ◌⊎◌, ◌↔◌, ◌==◌, ℕ, suc, Bool, List, [], ◌∷◌, length, map}
+use Rattle.std.specs.Prelude.{AllPairs, Contains, slice_index_or}
 use Rattle.std.specs.List.{filter, flat_map, list_any}
 use Rattle.ent_value.specs.Value.{kind_of, kinds_of}
 use Rattle.ent_value.specs.declared.value.Kind.{Kind}
@@ -40,7 +40,8 @@ IsSpread plan groundings = (values : List Value) × (kinds_of values ≡ plan.ki
 
 -- a valuation for each statement, each value being of its variable's kind
 abbrev pub AreKindedFor : List Posted → List Valuation → Type 0
-AreKindedFor members groundings = map kinds_of groundings ≡ map (λ (member : Posted). member.statement.variables) members
+AreKindedFor members groundings =
+    map kinds_of groundings ≡ map (λ (member : Posted). member.statement.variables) members
 
 -- each post is equal to a head
 abbrev pub AreMet : List Posted → List Valuation → Type 0

@@ -117,7 +117,8 @@ impl JoinPlan {
         requires one { IsPool members.items }
         requires safe { IsSafe members.items }
         requires heads { HaveDistinctHeads members.items }
-        ensures { IfOk result (λ plan. MatchOption plan (HaveNoPlan members.items) (λ some. some.members ≡ members.items)) }
+        ensures { IfOk result (λ plan. MatchOption plan (HaveNoPlan members.items)
+            (λ some. some.members ≡ members.items)) }
     {
         let Some(found) = slots_of(alloc, members.as_slice())? else {
             return Ok(None);

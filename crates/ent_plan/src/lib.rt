@@ -1,9 +1,9 @@
-//! The plan of a component's coordinating choices.
+//! The plan of the coordinating choices of posted statements.
 //!
-//! [`combine`] makes of posted statements that are to answer each other a [`JoinPlan`]: each written variable is a value
-//! or a class of variables that have one value. A caller may rely on the plan being exact: groundings make each post
-//! equal to a head exactly where they are what the plan makes of one value for each class, and there is no plan exactly
-//! where no groundings do. The classes are numbered such that lists of their values are in the order of the choices.
+//! [`combine`] makes of statements of a pool a [`JoinPlan`]: each written variable is a value, or of a class of
+//! variables that have one value. A caller may rely on it that the plan is exact: groundings make each post equal to a
+//! head exactly where they are what the plan makes of one value for each class, and there is no plan exactly where no
+//! groundings do. The classes are numbered such that the lists of their values are in the order of the choices.
 #![tactic(auto)]
 
 mod class;

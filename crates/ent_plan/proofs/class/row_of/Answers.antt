@@ -13,7 +13,8 @@ loop-index-preserved c =
     let n = c.loop-index.index in
     let at = sym (kinds_at c.args.kinds.now m _ refl) in
     let below : n < length (get_or K m []) = subst (λ (ks : List Kind). n < length ks) at c.loop-index-test.true in
-    let x = ap (λ (ks : List Kind). let v : Variables = record { member = m; index = n; kind = get_or ks n kinds.Int } in v) at in
+    let variable = λ (ks : List Kind).
+    let x : Variables = record { member = m; index = n; kind = get_or ks n kinds.Int } in x in
     row_more c.args.unifier.now K m n c.args.classes.now.items c.loop-index.classes.items c.slot_of.new.classes.items
-    c.loop-index.slots c.push.new.self _ c.in_ok-slot.slot below x c.loop-index.invariant c.in_ok-slot.ensures
-    c.in_ok-push.ensures.ok
+    c.loop-index.slots c.push.new.self _ c.in_ok-slot.slot below (ap variable at) c.loop-index.invariant
+    c.in_ok-slot.ensures c.in_ok-push.ensures.ok

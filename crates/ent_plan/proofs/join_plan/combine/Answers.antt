@@ -27,5 +27,6 @@ of-requires-clause-heads c =
 
 pub returns : goal.returns
 returns c =
-    subst (λ (xs : List Posted). IfOk c.of.result (λ plan. MatchOption plan (HaveNoPlan xs) (λ some. some.members ≡ xs)))
+    subst (λ (members : List Posted). IfOk c.of.result
+    (λ plan. MatchOption plan (HaveNoPlan members) (λ some. some.members ≡ members)))
     (copied _ _ _ c.args.txs.now c.in_ok-members.ensures c.members.ensures.members) c.of.ensures

@@ -20,7 +20,8 @@ loop-head-preserved c =
           let pushed = pushed_pair c.loop-head.pairs.items c.if-unifies.pairs.items w.member_atom.result
           w.member_atom-then-unifies.result c.args.post c.head-item.result
           (ap (λ pairs. pairs.items) w.pairs-is ∙ w.in_ok-push.ensures.items) w.member_atom.ensures.member
-          w.member_atom.ensures.atom w.member_atom-then-unifies.ensures.member w.member_atom-then-unifies.ensures.atom in
+          w.member_atom.ensures.atom w.member_atom-then-unifies.ensures.member
+          w.member_atom-then-unifies.ensures.atom in
           subst (PutsPairs post (heads ++ head ∷ []) old new) (sym w.is_met-is)
           (head_met post heads head old mid new c.loop-head.is_met (c.unifies.ensures.unify.0 w.if-unifies.true) pushed
           c.loop-head.invariant)
