@@ -32,7 +32,7 @@ use Rattle.ent_legal.proofs.Books.{sights_grounded}
 use Rattle.ent_legal.proofs.Journals.{journal_right, pairs_index}
 use Rattle.ent_legal.proofs.Reached.{reached_kept}
 
-to_flat : (histories : List History) (x : History) (ask : Ask) → In x histories → In ask (history_asks x)
+pub to_flat : (histories : List History) (x : History) (ask : Ask) → In x histories → In ask (history_asks x)
     → In ask (flat_map history_asks histories)
 to_flat [] x ask at mt = absurd at
 to_flat (y ∷ ys) x ask (inl same) mt =

@@ -27,3 +27,6 @@ pub mod Joints
 pub mod Answered
 pub mod Moved
 pub mod Legal
+pub mod Once
+pub mod GroupRuns
+pub mod Good

@@ -14,7 +14,7 @@ use Rattle.ent_legal.proofs.Aside.{contains_in, in_contains}
 use Rattle.ent_legal.proofs.Reached.{reached_kept}
 
 module _ {F : Type 0} (forms : Forms F) (s : State) (kept : Kept forms s) where
-  pub kept_serial : IsSerialState s
+  abbrev pub kept_serial : IsSerialState s
   kept_serial =
       record {
         committed = kept.committed;

@@ -2,3 +2,6 @@ pub mod Faithful
 pub mod History
 pub mod SerialState
 pub mod Present
+pub mod Answered
+pub mod GroupRuns
+pub mod GoodAnswers

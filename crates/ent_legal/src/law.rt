@@ -1,12 +1,15 @@
 //! Laws of reached states. What holds is in the contracts; the bodies only call laws of lower crates.
-ghost use Rattle.std.specs.Prelude.{Contains, List};
+ghost use Rattle.std.specs.Prelude.{ℕ, Contains, List};
 ghost use Rattle.ent_protocol.specs.Reached.{IsReached, book_of};
 ghost use Rattle.ent_protocol.specs.Run.{Forms};
 ghost use Rattle.ent_protocol.specs.State.{State};
 ghost use Rattle.ent_semantics.specs.Book.{IsLegal, JournalIsRight, RunGivesBook, book_sights};
 ghost use Rattle.ent_semantics.specs.Joint.{IsGrounded};
 ghost use Rattle.ent_semantics.specs.Serial.{Sight, Turn};
+ghost use Rattle.ent_legal.specs.Answered.{HasAsked, IsAnsweredOnce, NothingElse};
 ghost use Rattle.ent_legal.specs.Faithful.{AreFaithful};
+ghost use Rattle.ent_legal.specs.GoodAnswers.{AnswersAreGood};
+ghost use Rattle.ent_legal.specs.GroupRuns.{GroupRuns, UnownedIsSettled};
 ghost use Rattle.ent_legal.specs.Present.{LentIsPresent, UsesAreApart};
 ghost use Rattle.ent_legal.specs.SerialState.{IsSerialState};
 
@@ -87,6 +90,57 @@ pub fn lent_jobs_are_present<F>()
         → AreFaithful forms s.opening
         → IsReached forms s
         → LentIsPresent s }
+{
+    statements_keep_to_their_uses();
+    runs_go_on();
+    closing_keeps_the_meaning();
+}
+
+/// In every state that is reached each entangled statement that a transaction has passed, which has committed or is a
+/// member, stands in exactly one of the joint answers that were made and not rolled back; and nothing else stands in
+/// one.
+pub fn passed_asks_are_answered_once<F>()
+    ensures once { (forms : Forms F) (s : State) (tx place : ℕ)
+        → AreFaithful forms s.opening
+        → IsReached forms s
+        → HasAsked s tx place
+        → IsAnsweredOnce s tx place }
+    ensures nothing_else { (forms : Forms F) (s : State)
+        → AreFaithful forms s.opening
+        → IsReached forms s
+        → NothingElse s }
+{
+    statements_keep_to_their_uses();
+    runs_go_on();
+    closing_keeps_the_meaning();
+}
+
+/// In every state that is reached a group runs alone: what its prepared members did, one after the other from the
+/// settled database, gives their answers; so does what each other member of it did, from there, and the tables that
+/// this one uses stand as that run leaves them. A table that nobody uses exclusively is the settled one.
+pub fn groups_run_alone<F>()
+    ensures runs { (forms : Forms F) (s : State) (group : ℕ)
+        → AreFaithful forms s.opening
+        → IsReached forms s
+        → GroupRuns s group }
+    ensures settled { (forms : Forms F) (s : State)
+        → AreFaithful forms s.opening
+        → IsReached forms s
+        → UnownedIsSettled s }
+{
+    statements_keep_to_their_uses();
+    runs_go_on();
+    closing_keeps_the_meaning();
+}
+
+/// In every state that is reached each joint answer that was made and not rolled back is good over the run that gives
+/// the present tables: its members are of distinct transactions, each grounding is one over the database that its
+/// statement sees there, and what one of them demands one of them offers.
+pub fn joint_answers_are_good<F>()
+    ensures { (forms : Forms F) (s : State)
+        → AreFaithful forms s.opening
+        → IsReached forms s
+        → AnswersAreGood s }
 {
     statements_keep_to_their_uses();
     runs_go_on();

@@ -5,3 +5,4 @@ pub mod Marks
 pub mod Offered
 pub mod Joins
 pub mod Listing
+pub mod Alike

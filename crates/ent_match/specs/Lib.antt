@@ -3,3 +3,4 @@ pub mod Posting
 pub mod Links
 pub mod Remainder
 pub mod Components
+pub mod Same

@@ -7,6 +7,7 @@
 
 mod components;
 mod fault;
+mod law;
 mod link;
 mod meets;
 mod member;
@@ -14,5 +15,6 @@ mod pool;
 mod remainder;
 
 pub use fault::{PostFault, Unsafe};
+pub use law::same_statements_are_alike;
 pub use member::Member;
 pub use pool::Pool;

@@ -25,7 +25,7 @@ pub all_posted : (friends : List Friend) → map posted_of (map asking friends) 
 all_posted [] = refl
 all_posted (friend ∷ friends) = ap (λ more. posted friend ∷ more) (all_posted friends)
 
-at_most : (n m : ℕ) → nat_le n m ≡ true → n ≤ m
+pub at_most : (n m : ℕ) → nat_le n m ≡ true → n ≤ m
 at_most n m h = grind (arith, rules)
 
 -- what has to be so of the members of a component
@@ -40,6 +40,15 @@ pub record AreTogether (friends : List Friend) (among : ℕ → Bool) (first : F
 module _ (s : State) (friends : List Friend) (asked : askings s ≡ map asking friends) where
   pool_is : pool s ≡ map posted friends
   pool_is = ap (map posted_of) asked ∙ all_posted friends
+
+  -- a component begins with none before the first of all
+  pub first_at_least : (n : ℕ) → list_all (λ friend. nat_le n friend.tx) friends ≡ true → (others : List Asking)
+      → IsPresentComponent s others → n ≤ first_tx others
+  first_at_least n h [] is =
+      absurd (none_there _ ((is.component.class is.component.first).1 (is.component.in_remainder, (zero, refl))))
+  first_at_least n h (a ∷ others) is =
+      let x = image_of asking friends a (subst (λ xs. Contains xs a) asked (is.present zero a (omega arith))) in
+      subst (λ tx. n ≤ tx) (sym (ap (λ (a : Asking). a.tx) x.2)) (at_most n x.0.tx (each_passes _ friends x.0 h x.1))
 
   module _ (among : ℕ → Bool) (first : Friend) (more : List Friend)
       (together : AreTogether friends among first more) where
@@ -67,14 +76,7 @@ module _ (s : State) (friends : List Friend) (asked : askings s ≡ map asking f
 
     least : list_all (λ friend. nat_le first.tx friend.tx) friends ≡ true → (others : List Asking)
         → CanBePicked s others → first.tx ≤ first_tx others
-    least h [] can =
-        absurd (none_there _ ((can.component.component.class can.component.component.first).1
-        (can.component.component.in_remainder, (zero, refl))))
-    least h (a ∷ others) can =
-        let x = image_of asking friends a
-        (subst (λ xs. Contains xs a) asked (can.component.present zero a (omega arith))) in
-        subst (λ n. first.tx ≤ n) (sym (ap (λ (a : Asking). a.tx) x.2))
-        (at_most first.tx x.0.tx (each_passes _ friends x.0 h x.1))
+    least h others can = first_at_least first.tx h others can.component
 
     abbrev lent : Reply ℕ
     lent = replies.Lent (joint_job s (map asking members))

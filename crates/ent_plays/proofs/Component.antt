@@ -153,8 +153,8 @@ module _ (friends : List Friend) (among : ℕ → Bool) where
           λ h. let x = image_of posted (first ∷ more) member h in
               subst (λ p. IsInRemainder (map posted friends) p × AreLinked (map posted friends) (posted first) p)
               (sym x.2) (remains served x.0 (there x.0 x.1), linked x.0 x.1),
-          λ h. let x = reached closed h.1.0 (posted first) member first (there first (first_there first more)) refl h.1.1
-              in
+          λ h. let own = there first (first_there first more) in
+              let x = reached closed h.1.0 (posted first) member first own refl h.1.1 in
               subst (λ p. Contains (map posted (first ∷ more)) p) (sym x.2)
               (image_there posted (first ∷ more) x.0 (subst (λ xs. Contains xs x.0) is x.1)),
         );

@@ -6,9 +6,12 @@ pub mod Choice
 pub mod Answered
 pub mod Steps
 pub mod Waiting
+pub mod Reasons
 pub mod Members
 pub mod Changed
 pub mod HeldBackPlay
+pub mod BusyPlay
+pub mod FailurePlay
 pub mod GrownPlay
 pub mod ShrunkPlay
 pub mod EarlierPlay

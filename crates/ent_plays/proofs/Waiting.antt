@@ -26,7 +26,7 @@ not_both : (b : Bool) → not b ≡ true → b ≡ true → ⊥
 not_both true h e = cc
 not_both false h e = cc
 
-none_remains : (friends : List Friend) → nobody_meets friends ≡ true → (x : Posted)
+pub none_remains : (friends : List Friend) → nobody_meets friends ≡ true → (x : Posted)
     → IsInRemainder (map posted friends) x → ⊥
 none_remains friends h x remains =
     let is = image_of posted friends x remains.is_in.0 in
@@ -46,7 +46,7 @@ no_ring waiting e tx h = of h.0 (subst (λ xs. Closes xs h.0) e h.1)
 abbrev pub all_wait : State → Bool
 all_wait s = list_all (λ (member : Member). member.posted) s.active
 
-false_true : (b c : Bool) → b ≡ true → (b || c) ≡ false → ⊥
+pub false_true : (b c : Bool) → b ≡ true → (b || c) ≡ false → ⊥
 false_true true c e h = cc
 false_true false c e h = cc
 

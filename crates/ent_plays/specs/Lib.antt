@@ -1,6 +1,8 @@
 pub mod Wish
 pub mod Scripts
 pub mod HeldBack
+pub mod Busy
+pub mod Failure
 pub mod Grown
 pub mod Shrunk
 pub mod Earlier

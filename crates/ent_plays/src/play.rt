@@ -1,13 +1,17 @@
 //! Plays. Nothing here has a body; what holds is in the contracts.
-ghost use Rattle.std.specs.Prelude.{◌≡◌, ◌∷◌, ◌++◌, ℕ, [], Some, codes, false, map};
+ghost use Rattle.std.specs.Prelude.{◌≡◌, ◌∷◌, ◌++◌, ℕ, [], None, Some, codes, false, map};
 ghost use Rattle.ent_tree.specs.declared.script.End.TheVariants.{Commit, Rollback};
-ghost use Rattle.ent_semantics.specs.declared.book.Fate.TheVariants.{Committed, GaveUp, RolledBack};
+ghost use Rattle.ent_semantics.specs.declared.book.Fate.TheVariants.{Committed, Failed, GaveUp, RolledBack};
+ghost use Rattle.ent_semantics.specs.declared.answer.Failure.TheVariants.{Overflow};
+ghost use Rattle.ent_closed.specs.declared.operand.Known.TheVariants.{Constant};
 ghost use Rattle.ent_protocol.specs.Partners.{partners_opening};
 ghost use Rattle.ent_protocol.specs.Play.{Plays};
 ghost use Rattle.ent_protocol.specs.Reached.{book_of, closing, committed_joints, opened};
 ghost use Rattle.ent_protocol.specs.Run.{Forms};
 ghost use Rattle.ent_protocol.specs.State.{State, members};
+ghost use Rattle.ent_plays.specs.Busy.{cycle_stands, deletes_form, is_busy};
 ghost use Rattle.ent_plays.specs.Earlier.{job_outlives, next_attempt};
+ghost use Rattle.ent_plays.specs.Failure.{partner_gives_up, set_fails, sets_too_much};
 ghost use Rattle.ent_plays.specs.Grown.{A_for_B, B_for_A, C_for_A, all_are_answered, job_is_late};
 ghost use Rattle.ent_plays.specs.HeldBack.{holds_back, mickey, minnie, posts_later};
 ghost use Rattle.ent_plays.specs.Linked.{B_for_C, C_for_B, first_link, second_link, updates_form};
@@ -97,4 +101,29 @@ pub fn component_shrinks_back()
         ∷ record { tx = 2; fate = Committed 2 1 } ∷ [])
         × (last.dormant ≡ record { tx = 3; runs = 1 } ∷ [])
         × (map (λ joint. map (λ member. member.tx) joint.members) (committed_joints last) ≡ (1 ∷ 2 ∷ []) ∷ []) }
+{}
+
+/// While something can happen the run can't end, and the reason is told: who can begin, the component that is untried,
+/// whose job is out, and the cycle in which each waits for the other. Broken, it takes both back, and the run ends.
+pub fn run_is_busy()
+    ensures { (resolved : Forms ℕ) (one : ScriptOf resolved 8 (asks_form mickey ∷ deletes_form ∷ []) Commit)
+        (two : ScriptOf resolved 8 (asks_form minnie ∷ deletes_form ∷ []) Commit)
+        → (last : State)
+        × Plays resolved (opened partners_opening) (is_busy one two ++ cycle_stands) last
+        × (last.fates ≡ [])
+        × (last.dormant ≡ record { tx = 1; runs = 1 } ∷ record { tx = 2; runs = 1 } ∷ [])
+        × (last.tables ≡ (opened partners_opening).tables)
+        × (closing last ≡ None) }
+{}
+
+/// A statement of one fails: it has its fate, and its partner, prepared already, goes back with it and has its other
+/// run, in which it gives up.
+pub fn failure_takes_the_group_back()
+    ensures { (resolved : Forms ℕ)
+        (one : ScriptOf resolved 8 (asks_form mickey ∷ sets_too_much Constant ∷ []) Commit)
+        (two : ScriptOf resolved 2 (asks_form minnie ∷ []) Commit)
+        → (last : State)
+        × Plays resolved (opened partners_opening) (set_fails one two ++ partner_gives_up) last
+        × (last.fates ≡ record { tx = 1; fate = Failed Overflow 1 } ∷ record { tx = 2; fate = GaveUp 2 } ∷ [])
+        × (closing last ≡ Some (book_of last)) }
 {}

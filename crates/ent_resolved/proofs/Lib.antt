@@ -6,3 +6,5 @@ pub mod Fitted
 pub mod Named
 pub mod Used
 pub mod Faithful
+pub mod Outstanding
+pub mod Setting

@@ -224,7 +224,8 @@ module _ (creates : List Create) where
       unfolding delete_in
       delete_right delete form e =
           let table = bound_given (table_in (schemas_of creates) delete.table) _ form e in
-          let tests = bound_given (tests_in (table_scope delete.table.name table.0) bound delete.tests) _ form table.2 in
+          let scope = table_scope delete.table.name table.0 in
+          let tests = bound_given (tests_in scope bound delete.tests) _ form table.2 in
           let here = found_in creates delete.table table.0 table.1 in
           subst (IsRight (statements.Delete delete)) (one_answer (forms.Delete table.0.0 tests.0) form tests.2)
           (record {

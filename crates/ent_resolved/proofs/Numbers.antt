@@ -94,7 +94,11 @@ pub found_named : (creates : List Create) (name : Name) (found : ℕ × TableSch
     → table_named (schemas_of creates) name ≡ Some found → Found creates name found
 found_named creates name found e =
     let told = found_from creates name 0 found e in
-    record { number = none_before found.0 (number_of creates name) told.counted; declared = told.declared; width = told.width }
+    record {
+      number = none_before found.0 (number_of creates name) told.counted;
+      declared = told.declared;
+      width = told.width;
+    }
 
 pub found_in : (creates : List Create) (table : Identifier) (found : ℕ × TableSchema)
     → table_in (schemas_of creates) table ≡ Ok found → Found creates table.name found

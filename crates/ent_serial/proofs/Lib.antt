@@ -8,5 +8,4 @@ pub mod Evaluated
 pub mod Resolving
 pub mod Same
 pub mod Stepping
-pub mod Loading
 pub mod Booking

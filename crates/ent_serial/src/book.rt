@@ -1,10 +1,7 @@
 //! The book of an input: its tables loaded, its scripts run.
-ghost use Rattle.std.specs.Prelude.{◌≡◌, None, Some, IfOk, length, map, slice_get};
+ghost use Rattle.std.specs.Prelude.{◌≡◌, None, IfOk, length, map};
 ghost use Rattle.std.specs.Arc.{arc_value};
-ghost use Rattle.ent_set.specs.Sets as set;
-ghost use Rattle.ent_value.specs.Value.{row_cmp};
 ghost use Rattle.ent_form.specs.Catalogue.{schemas_of, names_of};
-ghost use Rattle.ent_form.specs.Opening.{rows_named};
 ghost use Rattle.ent_form.specs.OpeningFault.{opening_fault};
 ghost use Rattle.ent_book.specs.Tables.{book_seen};
 ghost use Rattle.ent_select.specs.Tables.{kinds_in, rows_in};
@@ -16,15 +13,16 @@ ghost use Rattle.ent_serial.specs.Resolved.{AreResolved};
 use crate::runner::run_scripts;
 use crate::tables::Tables;
 use ent_book::NamedTable;
-use ent_form::{Catalogue, ColumnSchema, Plain, TableSchema, opening_rows};
+use ent_form::{Catalogue, Plain};
 use ent_kinded::{
     effects_keep_kinds, kinded_tables_are_wide, opening_tables_are_kinded, resolved_statements_fit,
 };
+use ent_loading::load_tables;
 use ent_meant::{declared_columns_are_distinct, resolved_means_the_same};
-use ent_rel::{Table, TableFull};
+use ent_rel::Table;
 use ent_semantics::Book;
 use ent_tree::{Input, Opening};
-use ent_value::{Kind, Refusal, Sequence};
+use ent_value::Sequence;
 use std::alloc::{AllocError, Global};
 use std::sync::Arc;
 
@@ -88,51 +86,6 @@ fn load(alloc: Global, catalogue: &Catalogue, opening: &Opening) -> Result<Table
     ensures rows { IfOk result (λ tables. rows_in tables ≡ opening_tables opening.now) }
     ensures kinds { IfOk result (λ tables. kinds_in tables ≡ map column_kinds catalogue.now.tables) }
 {
-    let mut tables = Vec::with_capacity(alloc, catalogue.tables.len())?;
-    for (number, schema) in catalogue.tables.as_slice().iter().enumerate() {
-        let table = load_table(alloc, catalogue, number, schema, opening)?;
-        tables.push(Arc::new(alloc, table)?)?;
-    }
+    let tables = load_tables(alloc, catalogue, opening)?;
     Ok(Tables::from_vec(tables))
-}
-
-/// The table of a number with its opening rows.
-fn load_table(
-    alloc: Global,
-    catalogue: &Catalogue,
-    number: usize,
-    schema: &TableSchema,
-    opening: &Opening,
-) -> Result<Table, AllocError>
-    requires tables { catalogue.now.tables ≡ schemas_of opening.now.tables }
-    requires formed { opening_fault opening.now ≡ None }
-    requires number { slice_get catalogue.now.tables number ≡ Some schema.now }
-    ensures rows { IfOk result (λ table.
-        table.rows ≡ set.from_list {R = row_cmp} (rows_named opening.now schema.now.name)) }
-    ensures kinds { IfOk result (λ table. table.kinds ≡ column_kinds schema.now) }
-{
-    // A law: the rows have the kinds of the table's columns.
-    opening_tables_are_kinded();
-    // Asked for its bound alone: an input has no more opening rows than a table may have.
-    let _ = opening.rows.len();
-    let kinds = kinds_of(alloc, schema.columns.as_slice())?;
-    let rows = opening_rows(alloc, catalogue, number, opening)?;
-    match Table::load(alloc, kinds, rows) {
-        Ok(table) => Ok(table),
-        Err(refused) => match refused.refusal {
-            Refusal::Memory => Err(AllocError),
-            // So no table is too full.
-            Refusal::Fault(TableFull) => unreachable!(),
-        },
-    }
-}
-
-fn kinds_of(alloc: Global, columns: &[ColumnSchema]) -> Result<Vec<Kind>, AllocError>
-    ensures { IfOk result (λ kinds. kinds.items ≡ map (λ column. column.kind) columns.now) }
-{
-    let mut kinds = Vec::with_capacity(alloc, columns.len())?;
-    for column in columns {
-        kinds.push(column.kind)?;
-    }
-    Ok(kinds)
 }

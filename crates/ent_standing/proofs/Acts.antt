@@ -144,7 +144,8 @@ module _ {F : Type 0} (forms : Forms F) (P : State → Type 0) (kept : AreKept P
       (new : State) → FinishesBy (record s { lent = left }) m c outcome reply new → ComesBack s m left → P s → P new
   by_outcome s m left c (Fault failure) reply new step back h =
       as_is _ new step.1
-      (kept.rolls_back (record s { lent = left }) m.group (Failing m.tx failure) (kept.takes s back.job left back.taken h))
+      (kept.rolls_back (record s { lent = left }) m.group (Failing m.tx failure)
+      (kept.takes s back.job left back.taken h))
   by_outcome s m left c (Shown rows) reply new step back h =
       as_is _ new step.1 (kept.finishes s m left c (Shown rows) back h)
   by_outcome s m left c (Changed count removed added) reply new step back h =

@@ -7,3 +7,7 @@ pub mod Places
 pub mod Placed
 pub mod Asked
 pub mod Lent
+pub mod Classes
+pub mod Groups
+pub mod Together
+pub mod Grouped

@@ -1,8 +1,9 @@
 -- Elements of lists, what holds of each two of them, and how often a number stands in one.
 use Rattle.std.proofs.Common.{◌≡◌, ◌⊎◌, ◌<◌, ◌≤◌, ℕ, zero, suc, Bool, true, false, cond, not, ◌||◌, ◌==◌, List, []}
 use Rattle.std.proofs.Common.{◌∷◌, ◌++◌, map, length, refl, sym, ap, subst, ◌∙◌, inl, inr, arith, rules}
-use Rattle.std.proofs.Common.{All, AllPairs, Contains, slice_index_or}
+use Rattle.std.proofs.Common.{All, AllPairs, Contains, slice_index_or, nat_lt}
 use Rattle.std.specs.List.{AllByRecursion, filter, list_any}
+use Rattle.ent_protocol.specs.State.{inserted, by_number}
 
 -- ---- truth values and numbers
 
@@ -231,3 +232,24 @@ module _ {X Y : Type 0} (f : X → Y) where
   to_map [] x at = absurd at
   to_map (z ∷ xs) x (inl same) = inl (ap f same)
   to_map (z ∷ xs) x (inr at) = inr (to_map xs x at)
+
+-- ---- by number
+
+module _ {X : Type 0} (number : X → ℕ) where
+  from_inserted : (x : X) (xs : List X) (y : X) → In y (inserted number x xs) → (y ≡ x) ⊎ In y xs
+  from_inserted x [] y (inl same) = inl same
+  from_inserted x [] y (inr bad) = absurd bad
+  from_inserted x (z ∷ xs) y at =
+      by (nat_lt (number x) (number z)) at (λ (h : In y (inserted number x xs)). from_inserted x xs y h)
+    where
+      by : (b : Bool) → In y (cond b (x ∷ z ∷ xs) (z ∷ inserted number x xs))
+          → (In y (inserted number x xs) → (y ≡ x) ⊎ In y xs) → (y ≡ x) ⊎ In y (z ∷ xs)
+      by true (inl same) rest = inl same
+      by true (inr more) rest = inr more
+      by false (inl same) rest = inr (inl same)
+      by false (inr more) rest = elim (rest more) [ inl a ↦ inl a | inr b ↦ inr (inr b) ]
+
+  pub from_by_number : (xs : List X) (y : X) → In y (by_number number xs) → In y xs
+  from_by_number [] y at = absurd at
+  from_by_number (x ∷ xs) y at =
+      elim (from_inserted x (by_number number xs) y at) [ inl a ↦ inl a | inr b ↦ inr (from_by_number xs y b) ]

@@ -6,6 +6,7 @@ ghost use Rattle.ent_protocol.specs.Reached.{IsReached};
 ghost use Rattle.ent_protocol.specs.Run.{Forms};
 ghost use Rattle.ent_protocol.specs.State.{State, members};
 ghost use Rattle.ent_protocol.specs.Step.{Step};
+ghost use Rattle.ent_standing.specs.Groups.{GroupsAreClasses};
 ghost use Rattle.ent_standing.specs.Lent.{LentStandOnce};
 ghost use Rattle.ent_standing.specs.Standing.{GoesOn, StandOnce};
 
@@ -28,4 +29,10 @@ pub fn transactions_stand_once<F>()
 /// at this place, neither posted nor prepared.
 pub fn lent_jobs_stand_once<F>()
     ensures { (forms : Forms F) (s : State) → IsReached forms s → LentStandOnce s }
+{}
+
+/// In every state that is reached the groups are the classes of the least equivalence on the members that joins those
+/// of a live joint answer.
+pub fn groups_are_classes<F>()
+    ensures { (forms : Forms F) (s : State) → IsReached forms s → GroupsAreClasses s }
 {}

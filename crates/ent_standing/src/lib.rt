@@ -5,4 +5,4 @@
 
 mod law;
 
-pub use law::{lent_jobs_stand_once, steps_go_on, transactions_stand_once};
+pub use law::{groups_are_classes, lent_jobs_stand_once, steps_go_on, transactions_stand_once};

@@ -13,10 +13,11 @@ use Rattle.ent_semantics.specs.Term.{no_value}
 use Rattle.ent_closed.specs.Form.{term_worth}
 use Rattle.ent_closed.specs.declared.entangled.Atom.{Atom}
 use Rattle.ent_closed.specs.declared.entangled.Term.{Term}
-use Rattle.ent_coordination.specs.Pool.{AreOfKinds, Unify}
+use Rattle.ent_coordination.specs.Pool.{AreOfKinds, Unify, fact_under}
 use Rattle.ent_unify.specs.Side.{Assignment, worth, side_kind}
 use Rattle.ent_unify.specs.Equation.{HaveSolution, AreRefuted, IsDecided}
 use Rattle.ent_unify.specs.Tuple.{variable_side, term_side, column_sides}
+use Rattle.ent_unify.specs.Unifier.{AreApart}
 use Rattle.ent_unify.proofs.Places.{length-map}
 use Rattle.ent_unify.proofs.Tuples.{Reads, IsKinded, columns_kinded, values_from_columns, columns_from_values}
 
@@ -123,38 +124,59 @@ unify_from_solution ks atom js other relation same solution =
 abbrev pub value_in : List Valuation → Assignment
 value_in valuations x = get_or (get_or valuations x.member []) x.index no_value
 
-pub not_unify : (ks : List Kind) (atom : Atom Value) (js : List Kind) (other : Atom Value)
-    → AreRefuted (column_sides (term_side 0 ks) (term_side 1 js) atom.terms other.terms) → Unify ks atom js other → ⊥
-not_unify ks atom js other refuted u =
-    let v = value_in (u.values ∷ u.other_values ∷ []) in
-    let left = kinds_from ks u.values u.of_kinds in
-    let right = kinds_from js u.other_values u.of_other_kinds in
+pub are_apart : (ks : List Kind) (atom : Atom Value) (js : List Kind) (other : Atom Value)
+    → AreRefuted (column_sides (term_side 0 ks) (term_side 1 js) atom.terms other.terms) → AreApart ks atom js other
+are_apart ks atom js other refuted values others left right one_fact =
+    let v = value_in (values ∷ others ∷ []) in
     refuted v
-    (columns_kinded v 0 1 ks js atom.terms other.terms (kinded_of v 0 ks u.values (λ n k. refl) left)
-    (kinded_of v 1 js u.other_values (λ n k. refl) right))
-    (columns_from_values v 0 1 ks js u.values u.other_values (reads_of v 0 ks u.values (λ n k. refl) left)
-    (reads_of v 1 js u.other_values (λ n k. refl) right) atom.terms other.terms (ap (λ f. f.values) u.one_fact))
+    (columns_kinded v 0 1 ks js atom.terms other.terms (kinded_of v 0 ks values (λ n k. refl) left)
+    (kinded_of v 1 js others (λ n k. refl) right))
+    (columns_from_values v 0 1 ks js values others (reads_of v 0 ks values (λ n k. refl) left)
+    (reads_of v 1 js others (λ n k. refl) right) atom.terms other.terms (ap (λ f. f.values) one_fact))
 
-pub other_length : (ks : List Kind) (atom : Atom Value) (js : List Kind) (other : Atom Value) → Unify ks atom js other
-    → length atom.terms ≡ length other.terms
-other_length ks atom js other u =
-    sym (length-map (term_worth (λ value. value) u.values) atom.terms)
-    ∙ (ap (λ f. length f.values) u.one_fact ∙ length-map (term_worth (λ value. value) u.other_values) other.terms)
+-- atoms that values within bounds make one fact aren't apart
+pub not_unify : (ks : List Kind) (atom : Atom Value) (js : List Kind) (other : Atom Value)
+    → AreApart ks atom js other → Unify ks atom js other → ⊥
+not_unify ks atom js other apart u =
+    apart u.values u.other_values (kinds_from ks u.values u.of_kinds) (kinds_from js u.other_values u.of_other_kinds)
+    u.one_fact
+
+pub other_length : (atom other : Atom Value) (values others : Valuation)
+    → fact_under values atom ≡ fact_under others other → length atom.terms ≡ length other.terms
+other_length atom other values others one_fact =
+    sym (length-map (term_worth (λ value. value) values) atom.terms)
+    ∙ (ap (λ f. length f.values) one_fact ∙ length-map (term_worth (λ value. value) others) other.terms)
+
+-- what is told of two atoms: whether they unify, and where they don't, that they are apart
+pub record AreTold (ks : List Kind) (atom : Atom Value) (js : List Kind) (other : Atom Value) (b : Bool) : Type 0 where
+  pub unify : IsTrue b ↔ Unify ks atom js other
+  pub apart : b ≡ false → AreApart ks atom js other
+
+pub told_apart : (ks : List Kind) (atom : Atom Value) (js : List Kind) (other : Atom Value) → AreApart ks atom js other
+    → AreTold ks atom js other false
+told_apart ks atom js other apart =
+    record {
+      unify = (λ f. absurd (true≢false (sym f)), λ u. absurd (not_unify ks atom js other apart u));
+      apart = λ f. apart;
+    }
 
 -- what the equations of two tuples tell of their atoms
-pub unify_decided : (ks : List Kind) (atom : Atom Value) (js : List Kind) (other : Atom Value)
+pub told_by : (ks : List Kind) (atom : Atom Value) (js : List Kind) (other : Atom Value)
     (ts us : List (Term Value)) (b : Bool)
     → atom.relation ≡ other.relation → length atom.terms ≡ length other.terms → ts ≡ atom.terms → us ≡ other.terms
-    → IsDecided (column_sides (term_side 0 ks) (term_side 1 js) ts us) b → IsTrue b ↔ Unify ks atom js other
-unify_decided ks atom js other ts us true relation same left right decided =
+    → IsDecided (column_sides (term_side 0 ks) (term_side 1 js) ts us) b → AreTold ks atom js other b
+told_by ks atom js other ts us true relation same left right decided =
     let P : List (Term Value) → List (Term Value)
     → Type 0 = λ xs ys. HaveSolution (column_sides (term_side 0 ks) (term_side 1 js) xs ys) in
     let first : P atom.terms us = subst (λ xs. P xs us) left decided in
     let second : P atom.terms other.terms = subst (P atom.terms) right first in
-    (λ h. unify_from_solution ks atom js other relation same second, λ u. refl)
-unify_decided ks atom js other ts us false relation same left right decided =
+    record {
+      unify = (λ h. unify_from_solution ks atom js other relation same second, λ u. refl);
+      apart = λ f. absurd (true≢false f);
+    }
+told_by ks atom js other ts us false relation same left right decided =
     let P : List (Term Value) → List (Term Value)
     → Type 0 = λ xs ys. AreRefuted (column_sides (term_side 0 ks) (term_side 1 js) xs ys) in
     let first : P atom.terms us = subst (λ xs. P xs us) left decided in
     let second : P atom.terms other.terms = subst (P atom.terms) right first in
-    (λ h. absurd (true≢false (sym h)), λ u. absurd (not_unify ks atom js other second u))
+    told_apart ks atom js other (are_apart ks atom js other second)

@@ -5,6 +5,7 @@ use Rattle.std.specs.Prelude.{IfSome}
 use Rattle.std.specs.List.{flat_map}
 use Rattle.std.proofs.lemmas.Bool.{cases_Bool}
 use Rattle.std.proofs.lemmas.List.{flat_map_more, take_more, append_assoc}
+use Rattle.ent_value.specs.declared.value.Kind.{Kind}
 use Rattle.ent_value.specs.declared.value.Value.{Value}
 use Rattle.ent_semantics.specs.Entangled.{Valuation}
 use Rattle.ent_unify.specs.declared.unifier.Binding.{Binding}
@@ -13,7 +14,8 @@ use Rattle.ent_unify.specs.declared.variable.Representative.TheVariants.{Constan
 use Rattle.ent_unify.specs.declared.variable.Variable.{Variable as Variables}
 use Rattle.ent_unify.specs.Side.{Assignment, worth, Substitution, resolved, same_variable}
 use Rattle.ent_unify.specs.Equation.{Sides, Holds, resolved_both}
-use Rattle.ent_unify.specs.Unifier.{class_of, constant_in, binding_of, bindings_under, value_in, Agrees}
+use Rattle.ent_unify.specs.Unifier.{class_of, constant_in, binding_of, bindings_under, value_in, IsVariableOf}
+use Rattle.ent_unify.specs.Unifier.{Agrees}
 use Rattle.ent_unify.proofs.Places.{get_or-map}
 use Rattle.ent_unify.proofs.Solving.{same_variable-self, same_variable-true}
 
@@ -149,35 +151,44 @@ constant_case : (s : Representative) (values : Assignment) (w : Value) → worth
 constant_case (Constant value) values w is = sym is
 constant_case (Variable x) values w is = tt
 
-pub agrees_from_kept : (stands : Substitution) (es : List Sides) (bs : List Binding) (V : List Valuation)
-    → bs ≡ flat_map (bindings_under stands) es
-    → ((x : Variables) → worth (value_in V) (stands x) ≡ value_in V x) → Agrees bs V
-agrees_from_kept stands es bs V is kept =
+pub agrees_from_kept : (K : List (List Kind)) (stands : Substitution) (es : List Sides) (bs : List Binding)
+    (V : List Valuation) → bs ≡ flat_map (bindings_under stands) es
+    → ((x : Variables) → worth (value_in V) (stands x) ≡ value_in V x) → Agrees K bs V
+agrees_from_kept K stands es bs V is kept =
     let are : AreOf stands bs = subst (AreOf stands) (sym is) (are_of_all stands es) in
     let by = λ (x : Variables). class_worth (value_in V) stands bs x are kept in
     record {
-      classes = λ x y same. sym (by x) ∙ (ap (worth (value_in V)) same ∙ by y);
-      constants = λ x. constant_case (class_of bs x) (value_in V) (value_in V x) (by x);
+      classes = λ x y of_x of_y same. sym (by x) ∙ (ap (worth (value_in V)) same ∙ by y);
+      constants = λ x of_x. constant_case (class_of bs x) (value_in V) (value_in V x) (by x);
     }
 
 constant_is : (o : Representative) (value w : Value) → o ≡ Constant value → IfSome (constant_in o) (λ v. w ≡ v)
     → w ≡ value
 constant_is o value w is h = subst (λ s. IfSome (constant_in s) (λ v. w ≡ v)) is h
 
-agree_sides : (bs : List Binding) (V : List Valuation) (l r : Representative)
-    → resolved (class_of bs) l ≡ resolved (class_of bs) r → Agrees bs V → worth (value_in V) l ≡ worth (value_in V) r
-agree_sides bs V (Constant c) (Constant d) same agrees = cc
-agree_sides bs V (Constant c) (Variable y) same agrees =
-    sym (constant_is (class_of bs y) c (value_in V y) (sym same) (agrees.constants y))
-agree_sides bs V (Variable x) (Constant d) same agrees =
-    constant_is (class_of bs x) d (value_in V x) same (agrees.constants x)
-agree_sides bs V (Variable x) (Variable y) same agrees = agrees.classes x y same
+-- a value, or a variable of a member
+abbrev pub IsSideOf : List (List Kind) → Representative → Type 0
+IsSideOf K (Constant value) = Unit {0}
+IsSideOf K (Variable x) = IsVariableOf K x
 
-pub holds_from_agrees : (stands : Substitution) (es : List Sides) (bs : List Binding) (V : List Valuation)
-    → bs ≡ flat_map (bindings_under stands) es
+abbrev pub AreSidesOf : List (List Kind) → Sides → Type 0
+AreSidesOf K equation = IsSideOf K equation.0 × IsSideOf K equation.1
+
+agree_sides : (K : List (List Kind)) (bs : List Binding) (V : List Valuation) (l r : Representative)
+    → IsSideOf K l → IsSideOf K r → resolved (class_of bs) l ≡ resolved (class_of bs) r → Agrees K bs V
+    → worth (value_in V) l ≡ worth (value_in V) r
+agree_sides K bs V (Constant c) (Constant d) left right same agrees = cc
+agree_sides K bs V (Constant c) (Variable y) left right same agrees =
+    sym (constant_is (class_of bs y) c (value_in V y) (sym same) (agrees.constants y right))
+agree_sides K bs V (Variable x) (Constant d) left right same agrees =
+    constant_is (class_of bs x) d (value_in V x) same (agrees.constants x left)
+agree_sides K bs V (Variable x) (Variable y) left right same agrees = agrees.classes x y left right same
+
+pub holds_from_agrees : (K : List (List Kind)) (stands : Substitution) (es : List Sides) (bs : List Binding)
+    (V : List Valuation) → bs ≡ flat_map (bindings_under stands) es
     → ((k : ℕ) (d : Sides) → k < length es → resolved stands (get_or es k d).0 ≡ resolved stands (get_or es k d).1)
-    → Agrees bs V → All (Holds (value_in V)) es
-holds_from_agrees stands es bs V is equal agrees k d below =
+    → All (AreSidesOf K) es → Agrees K bs V → All (Holds (value_in V)) es
+holds_from_agrees K stands es bs V is equal sides agrees k d below =
     let are : AreOf stands bs = subst (AreOf stands) (sym is) (are_of_all stands es) in
     let e = get_or es k d in
     let left : resolved (class_of bs) e.0 ≡ resolved stands e.0 =
@@ -186,4 +197,5 @@ holds_from_agrees stands es bs V is equal agrees k d below =
     let right : resolved (class_of bs) e.1 ≡ resolved stands e.1 =
     class_side stands bs e.1
     (λ x at. found stands bs x are (subst (OccursIn x) (sym is) (occurs_right stands x es k d below at))) in
-    agree_sides bs V e.0 e.1 (left ∙ (equal k d below ∙ sym right)) agrees
+    let of_members = sides k d below in
+    agree_sides K bs V e.0 e.1 of_members.0 of_members.1 (left ∙ (equal k d below ∙ sym right)) agrees

@@ -1,24 +1,27 @@
 -- Pairs of atoms and their equations.
 use Rattle.std.proofs.Common.{◌≡◌, ℕ, zero, suc, ◌+◌, ◌<◌, List, [], ◌∷◌, ◌++◌, map, take, length, get_or, refl, sym}
 use Rattle.std.proofs.Common.{◌∙◌, ap, subst, All, Option, Some, None}
-use Rattle.std.specs.Prelude.{MatchOption}
+use Rattle.std.specs.Prelude.{MatchOption, slice_get}
 use Rattle.std.specs.List.{flat_map}
 use Rattle.std.proofs.lemmas.List.{take_more, flat_map_more}
 use Rattle.std.proofs.lemmas.List.Elements.{All-push, All-nil, All-cons, All-head, All-tail, All-append}
 use Rattle.ent_value.specs.Value.{kinds_of}
 use Rattle.ent_value.specs.declared.value.Kind.{Kind}
+use Rattle.ent_value.specs.declared.value.Value.{Value}
 use Rattle.ent_semantics.specs.Entangled.{Valuation}
+use Rattle.ent_closed.specs.declared.entangled.Term.{Term}
+use Rattle.ent_closed.specs.declared.entangled.Term.TheVariants as terms
 use Rattle.ent_coordination.specs.Pool.{AreOfKinds}
 use Rattle.ent_unify.specs.declared.tuple.Tuple.{Tuple}
 use Rattle.ent_unify.specs.declared.unifier.Binding.{Binding}
 use Rattle.ent_unify.specs.declared.unifier.MemberAtom.{MemberAtom}
 use Rattle.ent_unify.specs.Side.{Assignment}
 use Rattle.ent_unify.specs.Equation.{Sides, Holds, HasKinds, AreWithinBounds, AreRefuted}
-use Rattle.ent_unify.specs.Tuple.{term_side, column_sides, tuple_equations}
+use Rattle.ent_unify.specs.Tuple.{variable_side, term_side, column_sides, tuple_equations}
 use Rattle.ent_unify.specs.Unifier.{AreKinded, AreAllOfKinds, AreEqual, NoneEquals, value_in, IsMostGeneral}
 use Rattle.ent_unify.specs.Unifier.{pair_equations, IsPlain, AreEquationsOf, AreBindingsOf}
 use Rattle.ent_unify.proofs.Atoms.{values_under, values_by_kinds, reads_under, reads_of, kinded_of}
-use Rattle.ent_unify.proofs.Classes.{agrees_from_kept, holds_from_agrees}
+use Rattle.ent_unify.proofs.Classes.{agrees_from_kept, holds_from_agrees, IsSideOf, AreSidesOf}
 use Rattle.ent_unify.proofs.Solutions.{has_solution}
 use Rattle.ent_unify.proofs.Tuples.{Reads, IsKinded, columns_kinded, values_from_columns, columns_from_values}
 
@@ -112,6 +115,30 @@ all_kinded values K kinded pairs =
         columns_kinded values left.member right.member (get_or K left.member []) (get_or K right.member [])
         left.atom.now.terms right.atom.now.terms (kinded left.member) (kinded right.member)
 
+-- the sides of a pair's equations are values and variables of the members
+sides_of_option : (K : List (List Kind)) (m n : ℕ) (o : Option Kind) → slice_get (get_or K m []) n ≡ o
+    → IsSideOf K (variable_side m n o)
+sides_of_option K m n (Some kind) is = is
+sides_of_option K m n None is = tt
+
+side_of_term : (K : List (List Kind)) (m : ℕ) (t : Term Value) → IsSideOf K (term_side m (get_or K m []) t)
+side_of_term K m (terms.Known value) = tt
+side_of_term K m (terms.Variable n) = sides_of_option K m n (slice_get (get_or K m []) n) refl
+
+sides_of_columns : (K : List (List Kind)) (l r : ℕ) (ts us : List (Term Value))
+    → All (AreSidesOf K) (column_sides (term_side l (get_or K l [])) (term_side r (get_or K r [])) ts us)
+sides_of_columns K l r [] us = All-nil (AreSidesOf K)
+sides_of_columns K l r (t ∷ ts) [] = All-nil (AreSidesOf K)
+sides_of_columns K l r (t ∷ ts) (u ∷ us) =
+    All-cons (AreSidesOf K) _ _ (side_of_term K l t, side_of_term K r u) (sides_of_columns K l r ts us)
+
+all_sides : (K : List (List Kind)) (pairs : List Pair) → All (AreSidesOf K) (flat_map (pair_equations K) pairs)
+all_sides K pairs =
+    all_together (AreSidesOf K) (pair_equations K) pairs (λ k d below. one (get_or pairs k d))
+  where
+    one : (pair : Pair) → All (AreSidesOf K) (pair_equations K pair)
+    one (left, right) = sides_of_columns K left.member right.member left.atom.now.terms right.atom.now.terms
+
 -- ---- all pairs
 
 none_equals : (K : List (List Kind)) (pairs : List Pair) (es : List Sides) → AreEquationsOf K pairs es → AreRefuted es
@@ -153,12 +180,13 @@ most_general K pairs es bs are puts =
     let solution = has_solution es puts.stands puts.solves in
     record {
       exact = λ V kinded. (
-        (λ equal. agrees_from_kept puts.stands es bs V is (puts.solves.kept (value_in V)
+        (λ equal. agrees_from_kept K puts.stands es bs V is (puts.solves.kept (value_in V)
             (subst (All (Holds (value_in V))) (sym are.are)
             (all_hold (value_in V) K V (reads_kinded K V kinded) pairs equal)))),
         (λ agrees. all_equal (value_in V) K V (reads_kinded K V kinded) pairs are.plain
             (subst (All (Holds (value_in V))) are.are
-            (holds_from_agrees puts.stands es bs V is puts.solves.equal agrees))),
+            (holds_from_agrees K puts.stands es bs V is puts.solves.equal
+            (subst (All (AreSidesOf K)) (sym are.are) (all_sides K pairs)) agrees))),
       );
       some = valuations_from (values_under solution.values) K;
       of_kinds = valuations_of_kinds (values_under solution.values) K

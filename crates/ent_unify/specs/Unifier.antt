@@ -1,6 +1,6 @@
 -- Unifiers: what stands for the variables of several members.
 use Rattle.std.specs.Prelude.{◌≡◌, ◌↔◌, List, [], ◌∷◌, ◌++◌, map, length, All, Option, Some, None}
-use Rattle.std.specs.Prelude.{if◌then◌else◌, slice_index_or, IfSome}
+use Rattle.std.specs.Prelude.{if◌then◌else◌, slice_get, slice_index_or, IfSome}
 use Rattle.std.specs.List.{flat_map}
 use Rattle.std.specs.Borrow.{Bor}
 use Rattle.ent_value.specs.Value.{kinds_of}
@@ -8,6 +8,7 @@ use Rattle.ent_value.specs.declared.value.Kind.{Kind}
 use Rattle.ent_value.specs.declared.value.Value.{Value}
 use Rattle.ent_semantics.specs.Entangled.{Valuation}
 use Rattle.ent_semantics.specs.Term.{no_value}
+use Rattle.ent_closed.specs.declared.entangled.Atom.{Atom}
 use Rattle.ent_coordination.specs.Pool.{AreOfKinds, fact_under}
 use Rattle.ent_unify.specs.declared.unifier.Binding.{Binding}
 use Rattle.ent_unify.specs.declared.unifier.MemberAtom.{MemberAtom}
@@ -62,17 +63,29 @@ constant_of bindings x = constant_in (class_of bindings x)
 abbrev pub value_in : List Valuation → Variables → Value
 value_in valuations x = slice_index_or (slice_index_or valuations x.member []) x.index no_value
 
--- valuations give one value to all of a class, and to a class with a constant that one
-pub record Agrees (bindings : List Binding) (valuations : List Valuation) : Type 0 where
-  pub classes : (x y : Variables) → class_of bindings x ≡ class_of bindings y
-      → value_in valuations x ≡ value_in valuations y
-  pub constants : (x : Variables) → IfSome (constant_of bindings x) (λ value. value_in valuations x ≡ value)
+-- no values of the kinds make two atoms one fact, be they within bounds or not
+abbrev pub AreApart : List Kind → Atom Value → List Kind → Atom Value → Type 0
+AreApart kinds atom others other =
+    (values other_values : Valuation) → kinds_of values ≡ kinds → kinds_of other_values ≡ others
+    → fact_under values atom ≡ fact_under other_values other → ⊥
+
+-- a variable of one of the members, of its kind
+abbrev pub IsVariableOf : List (List Kind) → Variables → Type 0
+IsVariableOf kinds x = slice_get (slice_index_or kinds x.member []) x.index ≡ Some x.kind
+
+-- valuations give one value to all of the members' variables that are of one class, and to those of a class with a
+-- constant that one
+pub record Agrees (kinds : List (List Kind)) (bindings : List Binding) (valuations : List Valuation) : Type 0 where
+  pub classes : (x y : Variables) → IsVariableOf kinds x → IsVariableOf kinds y
+      → class_of bindings x ≡ class_of bindings y → value_in valuations x ≡ value_in valuations y
+  pub constants : (x : Variables) → IsVariableOf kinds x
+      → IfSome (constant_of bindings x) (λ value. value_in valuations x ≡ value)
 
 -- values of the kinds make all pairs equal exactly where they agree with the unifier, and there are such values
 pub record IsMostGeneral (kinds : List (List Kind)) (pairs : List (MemberAtom × MemberAtom)) (bindings : List Binding)
     : Type 0 where
   pub exact : (valuations : List Valuation) → AreKinded kinds valuations
-      → All (AreEqual valuations) pairs ↔ Agrees bindings valuations
+      → All (AreEqual valuations) pairs ↔ Agrees kinds bindings valuations
   pub some : List Valuation
   pub of_kinds : AreAllOfKinds kinds some
   pub equal : All (AreEqual some) pairs

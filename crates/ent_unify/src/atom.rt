@@ -1,6 +1,7 @@
 //! Whether two atoms unify.
-ghost use Rattle.std.specs.Prelude.{◌≡◌, ◌↔◌, IsTrue};
+ghost use Rattle.std.specs.Prelude.{◌≡◌, ◌↔◌, IsTrue, false};
 ghost use Rattle.ent_coordination.specs.Pool.{Unify};
+ghost use Rattle.ent_unify.specs.Unifier.{AreApart};
 
 use crate::tuple::Tuple;
 use ent_closed::Atom;
@@ -13,9 +14,11 @@ pub(crate) fn has_relation_of(atom: &Atom<Value>, other: &Atom<Value>) -> bool
 }
 
 /// Whether some values of their variables make two atoms equal. Each atom comes with the kinds of its statement's
-/// variables; the variables of the two are different ones. It takes no memory.
+/// variables; the variables of the two are different ones. Where it answers no, not even values beyond the bounds of
+/// their kinds make them equal. It takes no memory.
 pub fn unifies(atom: &Atom<Value>, kinds: &[Kind], other: &Atom<Value>, others: &[Kind]) -> bool
-    ensures { IsTrue result ↔ Unify kinds.now atom.now others.now other.now }
+    ensures unify { IsTrue result ↔ Unify kinds.now atom.now others.now other.now }
+    ensures apart { result ≡ false → AreApart kinds.now atom.now others.now other.now }
 {
     if !has_relation_of(atom, other) {
         return false;

@@ -1,0 +1,64 @@
+-- Who is dormant was submitted, and stands once in the list.
+use Rattle.std.proofs.Common.{◌≡◌, ◌<◌, ◌≤◌, ℕ, ◌+◌, false, Bool, List, [], ◌∷◌, ◌++◌, length, map, sym, ap, subst, ◌∙◌, arith, nat_eq, length-append}
+use Rattle.std.specs.List.{AllByRecursion, IsDistinct}
+use Rattle.std.proofs.lemmas.Bool.Decides.{nat_tests}
+use Rattle.ent_tree.specs.declared.declaration.Opening.{Opening}
+use Rattle.ent_form.specs.declared.catalogue.TableSchema.{TableSchema}
+use Rattle.ent_protocol.specs.State.{Submitted, Dormant}
+use Rattle.ent_members.specs.Run.{Run}
+use Rattle.ent_core.specs.Store.{IsKept}
+
+abbrev IsWithin : ℕ → Dormant → Type 0
+IsWithin most own = own.tx ≤ most
+
+later : (most : ℕ) (dormant : List Dormant) → AllByRecursion (IsWithin most) dormant
+    → AllByRecursion (IsWithin (most + 1)) dormant
+later most [] all = tt
+later most (own ∷ more) all = (omega (arith, all.0), later most more all.1)
+
+arrived_last : (most : ℕ) (dormant : List Dormant) (last : Dormant) → AllByRecursion (IsWithin most) dormant
+    → IsWithin most last → AllByRecursion (IsWithin most) (dormant ++ last ∷ [])
+arrived_last most [] last all within = (within, tt)
+arrived_last most (own ∷ more) last all within = (all.0, arrived_last most more last all.1 within)
+
+abbrev numbers : List Dormant → List ℕ
+numbers dormant = map (λ own. own.tx) dormant
+
+apart : (n m : ℕ) → n < m → nat_eq n m ≡ false
+apart n m less = grind (arith, nat_tests)
+
+-- one that stood before the last stands there no more than once
+once_more : (n : ℕ) (dormant : List Dormant) (last : Dormant) → AllByRecursion (λ m. nat_eq n m ≡ false) (numbers dormant)
+    → n < last.tx → AllByRecursion (λ m. nat_eq n m ≡ false) (numbers (dormant ++ last ∷ []))
+once_more n [] last all less = (apart n last.tx less, tt)
+once_more n (own ∷ more) last all less = (all.0, once_more n more last all.1 less)
+
+distinct_last : (most : ℕ) (dormant : List Dormant) (last : Dormant) → AllByRecursion (IsWithin most) dormant
+    → most < last.tx → IsDistinct nat_eq (numbers dormant) → IsDistinct nat_eq (numbers (dormant ++ last ∷ []))
+unfolding IsDistinct
+distinct_last most [] last all less distinct = (tt, tt)
+distinct_last most (own ∷ more) last all less distinct =
+    let first : own.tx ≤ most = all.0 in
+    let before : own.tx < last.tx = omega arith in
+    (once_more own.tx more last distinct.0 before, distinct_last most more last all.1 less distinct.1)
+
+-- one script more, and who waits for a run with it
+pub kept_submitted : (schemas : List TableSchema) (opening : Opening) (submitted submitted' : List Submitted)
+    (dormant dormant' : List Dormant) (running : Bool) (run : Run) (own : Submitted) (last : Dormant)
+    → IsKept schemas opening submitted dormant running run
+    → submitted' ≡ submitted ++ own ∷ [] → dormant' ≡ dormant ++ last ∷ [] → last.tx ≡ length submitted + 1
+    → IsKept schemas opening submitted' dormant' running run
+kept_submitted schemas opening submitted submitted' dormant dormant' running run own last kept more now next =
+    let n : length submitted' ≡ length submitted + 1 = ap length more ∙ length-append submitted (own ∷ []) in
+    let A : List Dormant → Type 0 = λ all. AllByRecursion (λ (one : Dormant). one.tx ≤ length submitted') all in
+    let D : List Dormant → Type 0 = λ all. IsDistinct nat_eq (numbers all) in
+    let within : AllByRecursion (IsWithin (length submitted')) dormant =
+    subst (λ (most : ℕ). AllByRecursion (IsWithin most) dormant) (sym n) (later (length submitted) dormant kept.arrived) in
+    record {
+      declared = kept.declared;
+      formed = kept.formed;
+      arrived = subst A (sym now) (arrived_last (length submitted') dormant last within (omega arith));
+      distinct = subst D (sym now) (distinct_last (length submitted) dormant last kept.arrived (omega arith) kept.distinct);
+      idle_prepared = kept.idle_prepared;
+      idle_active = kept.idle_active;
+    }

@@ -1,0 +1,8 @@
+pub mod Arrivals
+pub mod Booked
+pub mod ByNumber
+pub mod Keeping
+pub mod Opening
+pub mod Starting
+pub mod Told
+pub mod Whereabouts

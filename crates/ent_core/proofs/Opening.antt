@@ -1,0 +1,51 @@
+-- A core that is opened.
+use Rattle.std.proofs.Common.{◌≡◌, false, List, [], map, refl, sym, ap, ◌∙◌, Option, Some, None, Ok}
+use Rattle.std.proofs.lemmas.Simd.{map-map}
+use Rattle.std.specs.List.{IsDistinct}
+use Rattle.ent_tree.specs.declared.declaration.Create.{Create}
+use Rattle.ent_tree.specs.declared.declaration.Opening.{Opening}
+use Rattle.ent_semantics.specs.Database.{opening_database}
+use Rattle.ent_form.specs.declared.catalogue.TableSchema.{TableSchema}
+use Rattle.ent_form.specs.declared.fault.FormFault.{FormFault}
+use Rattle.ent_form.specs.Catalogue.{schemas_of}
+use Rattle.ent_form.specs.OpeningFault.{opening_fault, unless}
+use Rattle.ent_kinded.specs.Opened.{opening_tables}
+use Rattle.ent_protocol.specs.Reached.{opened, table_names}
+use Rattle.ent_protocol.specs.State.{State, Submitted, Dormant}
+use Rattle.ent_members.specs.Run.{Run}
+use Rattle.ent_core.specs.Store.{IsKept}
+
+-- what an opening's catalogue tells
+pub catalogued : (check : Option FormFault) (schemas tables : List TableSchema) → unless check schemas ≡ Ok tables
+    → (check ≡ None) × (tables ≡ schemas)
+catalogued None schemas tables e = (refl, let same : schemas ≡ tables = cc in sym same)
+catalogued (Some fault) schemas tables e = absurd cc
+
+pub kept_opened_store : (opening : Opening) (schemas : List TableSchema) (submitted : List Submitted) (dormant : List Dormant) (run : Run)
+    → unless (opening_fault opening) (schemas_of opening.tables) ≡ Ok schemas → submitted ≡ [] → dormant ≡ []
+    → run.prepared ≡ [] → run.active ≡ [] → IsKept schemas opening submitted dormant false run
+unfolding IsDistinct
+kept_opened_store opening schemas submitted dormant run e none nobody no_prepared no_active =
+    let h = catalogued (opening_fault opening) (schemas_of opening.tables) schemas e in
+    let first : IsKept schemas opening [] [] false run =
+    record {
+      declared = h.1;
+      formed = h.0;
+      arrived = tt;
+      distinct = tt;
+      idle_prepared = λ off. no_prepared;
+      idle_active = λ off. no_active;
+    } in
+    rw (none, nobody) first
+
+-- the tables of an opening stand under their names
+pub tables_opened : (opening : Opening) → opening_tables opening ≡ map (opening_database opening) (table_names opening)
+tables_opened opening = sym (map-map (opening_database opening) (λ (create : Create). create.name.name) opening.tables)
+
+-- the first state, or the first fault
+pub opened_store : (opening : Opening) (schemas : List TableSchema) (s : State)
+    → unless (opening_fault opening) (schemas_of opening.tables) ≡ Ok schemas → s ≡ opened opening
+    → unless (opening_fault opening) (opened opening) ≡ Ok s
+opened_store opening schemas s e is =
+    let h = catalogued (opening_fault opening) (schemas_of opening.tables) schemas e in
+    ap (λ check. unless check (opened opening)) h.0 ∙ ap (λ (x : State). Ok x) (sym is)

@@ -1,0 +1,6 @@
+pub mod Closing
+pub mod Fates
+pub mod Kept
+pub mod Reply
+pub mod Standing
+pub mod Store

@@ -1,0 +1,25 @@
+//! The core: scripts that are run at once, statement by statement.
+//!
+//! A [`Core`] is opened over an opening, takes scripts, and makes one event a call. Its type keeps that its state is
+//! reached: events led to it from the state of its opening. A caller may rely on it that each call's reply and the
+//! state that it leaves are those of its event, that after want of memory the state is as it was, and that a look-up
+//! takes no memory.
+#![tactic(auto)]
+
+mod closing;
+mod fates;
+mod lookup;
+mod open;
+mod reached;
+mod recall;
+mod reply;
+mod standing;
+mod start_run;
+mod store;
+mod submit;
+mod submitted;
+
+pub use closing::{NotClosed, NotDone};
+pub use reached::Core;
+pub use reply::Reply;
+pub use standing::{Standing, Turn};

@@ -1,0 +1,77 @@
+//! What is told of a core without an event. No look-up takes memory.
+ghost use Rattle.std.specs.Prelude.{◌≡◌};
+ghost use Rattle.std.specs.Option.{option_copied, option_map};
+ghost use Rattle.ent_protocol.specs.Lookup.{answers_of, dormant_at, entry_at, group_of, present_rows};
+ghost use Rattle.ent_protocol.specs.Lookup.{running_members};
+ghost use Rattle.ent_semantics.specs.Serial.{numbered};
+
+use crate::store::Store;
+use ent_group::{Members, Tx};
+use ent_members::Entrant;
+use ent_rel::Table;
+use ent_semantics::{Answer, Entry};
+use ent_value::Name;
+
+/// The element of a number, from 1.
+pub(crate) fn numbered<T>(list: &[T], number: usize) -> Option<&T>
+    ensures { option_copied result ≡ numbered list.now number }
+{
+    if number == 0 {
+        return None;
+    }
+    list.get(number - 1)
+}
+
+/// The transaction at a place of the dormant list, from 1.
+pub(crate) fn dormant(store: &Store, place: usize) -> Option<&Entrant>
+    ensures { option_copied result ≡ dormant_at store.now place }
+{
+    numbered(store.dormant.as_slice(), place)
+}
+
+/// The journal's entry of a number, from 1.
+pub(crate) fn entry(store: &Store, number: usize) -> Option<&Entry>
+    ensures { option_copied result ≡ entry_at store.now number }
+{
+    numbered(store.journal.as_slice(), number)
+}
+
+/// The table of a name as it stands, where one is declared.
+pub(crate) fn table<'a>(store: &'a Store, name: &Name) -> Option<&'a Table>
+    ensures { option_map (λ table. table.now.rows) result ≡ present_rows store.now name.now }
+{
+    match store.catalogue.table_named(name) {
+        Some((number, _)) => match store.tables.get(number) {
+            Some(table) => Some(&**table),
+            None => None,
+        },
+        None => None,
+    }
+}
+
+/// The members of the run, by number.
+pub(crate) fn members(store: &Store) -> Members
+    ensures { result ≡ running_members store.now }
+{
+    store.run.numbers()
+}
+
+/// The group of a member, by number; nobody where it is no member.
+pub(crate) fn group(store: &Store, tx: Tx) -> Members
+    ensures { result ≡ group_of store.now tx }
+{
+    match store.run.member(tx) {
+        Some(member) => store.run.group_numbers(member.group()),
+        None => Members::new(),
+    }
+}
+
+/// The answers of a member's statements so far; none where it is no member.
+pub(crate) fn answers(store: &Store, tx: Tx) -> &[Answer]
+    ensures { result.now ≡ answers_of store.now tx }
+{
+    match store.run.member(tx) {
+        Some(member) => member.answers(),
+        None => &[],
+    }
+}

@@ -1,0 +1,38 @@
+//! A core is opened.
+ghost use Rattle.std.specs.Prelude.{◌≡◌};
+ghost use Rattle.ent_value.specs.Refusal.{Gives};
+ghost use Rattle.ent_form.specs.OpeningFault.{opening_fault, unless};
+ghost use Rattle.ent_protocol.specs.Reached.{opened};
+
+use crate::store::Store;
+use ent_form::{Catalogue, FormFault};
+use ent_loading::load_tables;
+use ent_members::Run;
+use ent_tree::Opening;
+use ent_undo::UndoLog;
+use ent_value::Refusal;
+use std::alloc::Global;
+
+/// The store of an opening without a fault: its tables with their rows, no script, no run.
+pub(crate) fn open(alloc: Global, opening: Opening) -> Result<Store, Refusal<FormFault>>
+    ensures { Gives (λ store. store) result (unless (opening_fault opening) (opened opening)) }
+{
+    let catalogue = Catalogue::of(alloc, &opening)?;
+    let tables = load_tables(alloc, &catalogue, &opening)?;
+    Ok(Store {
+        alloc,
+        opening,
+        catalogue,
+        submitted: Vec::new(alloc),
+        dormant: Vec::new(alloc),
+        running: false,
+        run: Run::new(alloc),
+        joints: Vec::new(alloc),
+        tables,
+        log: UndoLog::new(alloc),
+        journal: Vec::new(alloc),
+        fates: Vec::new(alloc),
+        tried: Vec::new(alloc),
+        lent: Vec::new(alloc),
+    })
+}

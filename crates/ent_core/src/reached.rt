@@ -1,0 +1,198 @@
+//! The core whose type keeps that its state is reached.
+ghost use Rattle.std.specs.Prelude.{◌≡◌, IfOk, IfErr, OnErr};
+ghost use Rattle.std.specs.Option.{option_copied, option_map};
+ghost use Rattle.ent_book.specs.Tables.{book_seen};
+ghost use Rattle.ent_core.specs.Reply.{reply_seen};
+ghost use Rattle.ent_core.specs.Standing.{standing_seen};
+ghost use Rattle.ent_form.specs.OpeningFault.{opening_fault, unless};
+ghost use Rattle.ent_protocol.specs.Event.{Recall, StartRun, Submit};
+ghost use Rattle.ent_protocol.specs.Lookup.{answers_of, dormant_at, entry_at, group_of, present_rows};
+ghost use Rattle.ent_protocol.specs.Lookup.{running_members, standing};
+ghost use Rattle.ent_protocol.specs.Reached.{CanClose, IsFinishedBook, book_of, opened, scripts_of};
+ghost use Rattle.ent_protocol.specs.Step.{Step};
+ghost use Rattle.ent_resolved.specs.Resolved.{resolved_forms};
+ghost use Rattle.ent_semantics.specs.Book.{IsLegal};
+ghost use Rattle.ent_value.specs.Refusal.{Gives};
+ghost use Rattle.ent_value.specs.declared.refusal.Refusal.TheVariants.{Fault};
+ghost use Rattle.ent_core.specs.declared.closing.NotDone.{NotDone};
+
+use crate::closing::{NotClosed, NotDone, book, book_parts, can_close};
+use crate::lookup;
+use crate::open::open;
+use crate::recall::recall;
+use crate::reply::Reply;
+use crate::standing::{Standing, standing_of};
+use crate::start_run::start_run;
+use crate::store::Store;
+use crate::submit::submit;
+use ent_book::NamedTable;
+use ent_form::FormFault;
+use ent_group::{Members, Tx};
+use ent_members::Entrant;
+use ent_protocol::{closing_gives_the_book, reached_states_are_tidy};
+use ent_rel::Table;
+use ent_resolved::resolved_runs_are_legal;
+use ent_semantics::{Answer, Book, Entry};
+use ent_standing::steps_go_on;
+use ent_tree::{Opening, Script};
+use ent_value::{Name, Refusal, Sequence};
+use std::alloc::{AllocError, AllocFailed, Global};
+use std::marker::Model;
+
+/// Scripts that are run at once over an opening. Contracts see the protocol's state; it is always reached: events led
+/// to it from the opening's own state.
+#[derive(Drop)]
+pub struct Core {
+    store: Store,
+}
+
+impl Model for Core {
+    ghost use Rattle.std.specs.Coded.{codes};
+    ghost use Rattle.ent_rel.specs.Relation.{coded_rows};
+    ghost use Rattle.ent_protocol.specs.State.{State};
+    ghost use Rattle.ent_core.specs.Kept.{IsKeptState};
+
+    ghost Value = { State };
+
+    ghost coded = { Prim.hlevel (codes, coded_rows) };
+
+    ghost view = { λ c. c.store };
+
+    ghost invariant = { λ c. IsKeptState c.store };
+}
+
+impl Core {
+    /// A core over an opening, with its tables loaded: no script, no run. Else the opening's first fault of form.
+    pub fn open(alloc: Global, opening: Opening) -> Result<Self, Refusal<FormFault>>
+        ensures { Gives (λ core. core) result (unless (opening_fault opening) (opened opening)) }
+    {
+        Ok(Core {
+            store: open(alloc, opening)?,
+        })
+    }
+
+    /// Takes a script, which stands last in the dormant list, and answers its number; or refuses it with its first
+    /// fault of form, or where as many as there may be were submitted. Where memory runs out the script comes back.
+    pub fn submit(&mut self, script: Script) -> Result<Reply, AllocFailed<Script>>
+        ensures ok { IfOk result (λ reply. Step resolved_forms self.old (Submit script) (reply_seen reply) self.new) }
+        ensures err { OnErr result (self.new ≡ self.old) }
+        ensures returned { IfErr result (λ refused. refused.value ≡ script) }
+        ensures legal { IsLegal (book_of self.new) }
+    {
+        resolved_runs_are_legal();
+        steps_go_on::<FormFault>();
+        submit(&mut self.store, script)
+    }
+
+    /// Makes the first of the dormant list, as many as a run may have, members of a run. Refused while a run is on, and
+    /// where nothing is dormant.
+    pub fn start_run(&mut self) -> Result<Reply, AllocError>
+        ensures ok { IfOk result (λ reply. Step resolved_forms self.old StartRun (reply_seen reply) self.new) }
+        ensures err { OnErr result (self.new ≡ self.old) }
+        ensures legal { IsLegal (book_of self.new) }
+    {
+        resolved_runs_are_legal();
+        steps_go_on::<FormFault>();
+        start_run(&mut self.store)
+    }
+
+    /// Lends no job any more, whoever has one. It takes no memory.
+    pub fn recall(&mut self) -> Reply
+        ensures step { Step resolved_forms self.old Recall (reply_seen result) self.new }
+        ensures legal { IsLegal (book_of self.new) }
+    {
+        resolved_runs_are_legal();
+        steps_go_on::<FormFault>();
+        recall(&mut self.store);
+        Reply::Recalled
+    }
+
+    /// The book, where no run is on and nobody waits for one; else, and where memory runs out, the core comes back.
+    pub fn close(self) -> Result<Book<Sequence<NamedTable>>, NotClosed>
+        ensures book { IfOk result (λ book. book_seen book ≡ book_of self) }
+        ensures finished { IfOk result (λ book.
+            IsFinishedBook resolved_forms self.opening (scripts_of self) (book_seen book)) }
+        ensures legal { IfOk result (λ book. IsLegal (book_seen book)) }
+        ensures returned { IfErr result (λ refused. refused.core ≡ self) }
+        ensures not_done { IfErr result (λ refused. (fault : NotDone)
+            → refused.refusal ≡ Fault fault
+            → ¬ CanClose self) }
+    {
+        // Laws: the tables are settled where no run is on, and the book is finished and legal.
+        reached_states_are_tidy::<FormFault>();
+        closing_gives_the_book::<FormFault>();
+        resolved_runs_are_legal();
+        if can_close(&self.store) {
+            match book_parts(&self.store) {
+                Ok(parts) => {
+                    let Core { store } = self;
+                    Ok(book(store, parts))
+                }
+                Err(AllocError) => Err(NotClosed {
+                    core: self,
+                    refusal: Refusal::Memory,
+                }),
+            }
+        } else {
+            Err(NotClosed {
+                core: self,
+                refusal: Refusal::Fault(NotDone),
+            })
+        }
+    }
+
+    /// Whether a run is on.
+    pub fn running(&self) -> bool
+        ensures { result ≡ self.now.running }
+    {
+        self.store.running
+    }
+
+    /// The members of the run, by number.
+    pub fn members(&self) -> Members
+        ensures { result ≡ running_members self.now }
+    {
+        lookup::members(&self.store)
+    }
+
+    /// The group of a member, by number; nobody where it is no member.
+    pub fn group(&self, tx: Tx) -> Members
+        ensures { result ≡ group_of self.now tx }
+    {
+        lookup::group(&self.store, tx)
+    }
+
+    /// The answers of a member's statements so far; none where it is no member.
+    pub fn answers(&self, tx: Tx) -> &[Answer]
+        ensures { result.now ≡ answers_of self.now tx }
+    {
+        lookup::answers(&self.store, tx)
+    }
+
+    /// The transaction at a place of the dormant list, from 1, and in how many runs it was.
+    pub fn dormant(&self, place: usize) -> Option<&Entrant>
+        ensures { option_copied result ≡ dormant_at self.now place }
+    {
+        lookup::dormant(&self.store, place)
+    }
+
+    /// The journal's entry of a number, from 1.
+    pub fn entry(&self, number: usize) -> Option<&Entry>
+        ensures { option_copied result ≡ entry_at self.now number }
+    {
+        lookup::entry(&self.store, number)
+    }
+
+    /// The table of a name as it stands, where one is declared.
+    pub fn table(&self, name: &Name) -> Option<&Table>
+        ensures { option_map (λ table. table.now.rows) result ≡ present_rows self.now name.now }
+    {
+        lookup::table(&self.store, name)
+    }
+    /// Where a transaction stands; nowhere where no script has its number.
+    pub fn standing(&self, tx: Tx) -> Option<Standing>
+        ensures { option_map standing_seen result ≡ standing self.now tx }
+    {
+        standing_of(&self.store, tx)
+    }
+}

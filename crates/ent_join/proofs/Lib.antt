@@ -1,0 +1,10 @@
+pub mod Walked
+pub mod Steps
+pub mod Begun
+pub mod Guiding
+pub mod Between
+pub mod Deduped
+pub mod Keys
+pub mod Tied
+pub mod Held
+pub mod Chosen

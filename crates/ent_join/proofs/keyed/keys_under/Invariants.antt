@@ -1,0 +1,7 @@
+use Rattle.std.proofs.Common.{◌≡◌, ◌++◌, drop}
+use Rattle.ent_join.specs.Keyed.{keys_under}
+use Rattle.ent_join.proofs.keyed.keys_under.Given as goal
+
+abbrev pub invariant-loop-row : goal.invariant-loop-row
+invariant-loop-row l =
+    l.keys.items ++ keys_under l.columns l.classes (drop l.row-index l.rows) ≡ keys_under l.columns l.classes l.rows

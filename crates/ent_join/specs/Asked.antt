@@ -1,0 +1,60 @@
+-- What the statements of a plan ask of the values of its classes.
+use Rattle.std.specs.Prelude.{◌==◌, ℕ, List, [], ◌∷◌, ◌++◌, map, Option, Some, None, if◌then◌else◌}
+use Rattle.std.specs.List.{cons_option}
+use Rattle.ent_set.specs.Sets as set
+use Rattle.ent_value.specs.declared.value.Value.{Value}
+use Rattle.ent_tree.specs.declared.operand.Test.{Test}
+use Rattle.ent_rel.specs.Relation.{Relation}
+use Rattle.ent_semantics.specs.Database.{Rows}
+use Rattle.ent_semantics.specs.Selection.{meets, selection}
+use Rattle.ent_closed.specs.declared.entangled.Membership.{Membership}
+use Rattle.ent_closed.specs.declared.entangled.Term.{Term}
+use Rattle.ent_closed.specs.declared.statement.Select.{Select}
+use Rattle.ent_coordination.specs.Pool.{Posted}
+use Rattle.ent_plan.specs.declared.slot.Slot.{Slot}
+use Rattle.ent_select.specs.Tables.{rows_in}
+use Rattle.ent_select.specs.Worth.{value_in}
+use Rattle.ent_join.specs.Index.{Indexed}
+use Rattle.ent_join.specs.Keyed.{index_under, term_slot}
+
+-- the table that stands beside a number
+abbrev pub table_at : ℕ → List ℕ → List Relation → Option Relation
+table_at number [] tables = None
+table_at number (other ∷ numbers) [] = None
+table_at number (other ∷ numbers) (table ∷ tables) =
+    if other == number then Some table else table_at number numbers tables
+
+-- the tables that stand beside some numbers
+abbrev pub tables_at : List ℕ → List Relation → List ℕ → List Relation
+tables_at numbers tables [] = []
+tables_at numbers tables (source ∷ sources) =
+    cons_option (table_at source numbers tables) (tables_at numbers tables sources)
+
+-- the rows of a sub-select's result, over tables beside their numbers
+abbrev pub select_rows : List ℕ → List Relation → Select Value → Rows
+select_rows numbers tables select =
+    selection (meets value_in select.tests) (λ row. map (value_in row) select.items)
+    (rows_in (tables_at numbers tables select.sources))
+
+abbrev pub membership_index : List ℕ → List Relation → List Slot → Membership Value → Indexed
+membership_index numbers tables slots membership =
+    index_under (map (term_slot slots) membership.terms)
+    (set.ascending (select_rows numbers tables membership.select))
+
+-- an index for each tuple of the statements
+abbrev pub all_indexes : List ℕ → List Relation → List Posted → List (List Slot) → List Indexed
+all_indexes numbers tables [] slots = []
+all_indexes numbers tables (member ∷ members) [] = []
+all_indexes numbers tables (member ∷ members) (slots ∷ others) =
+    map (membership_index numbers tables slots) member.statement.atoms ++ all_indexes numbers tables members others
+
+abbrev pub slot_test : List Slot → Test (Term Value) → Test Slot
+slot_test slots test =
+    record { left = term_slot slots test.left; comparison = test.comparison; right = term_slot slots test.right }
+
+-- the tests of the statements
+abbrev pub all_tests : List Posted → List (List Slot) → List (Test Slot)
+all_tests [] slots = []
+all_tests (member ∷ members) [] = []
+all_tests (member ∷ members) (slots ∷ others) =
+    map (slot_test slots) member.statement.tests ++ all_tests members others

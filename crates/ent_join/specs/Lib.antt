@@ -1,0 +1,10 @@
+pub mod Ticks
+pub mod Cursor
+pub mod Search
+pub mod Going
+pub mod Index
+pub mod Frame
+pub mod Keyed
+pub mod Asked
+pub mod Ranged
+pub mod Laid

@@ -1,0 +1,204 @@
+//! What the statements of a plan ask of the values of its classes, made ready for a search.
+ghost use Rattle.std.specs.Prelude.{◌≡◌, ◌++◌, [], IfOk, OnOk, map};
+ghost use Rattle.std.specs.Arc.{arc_value};
+ghost use Rattle.std.specs.Option.{option_copied, option_map};
+ghost use Rattle.ent_join.specs.Asked.{all_indexes, all_tests, membership_index, slot_test, table_at, tables_at};
+
+use crate::frame::Frame;
+use crate::index::Index;
+use crate::keyed::{columns_of, index_of, term_slot};
+use ent_closed::{Membership, Term};
+use ent_match::Member;
+use ent_plan::Slot;
+use ent_rel::Table;
+use ent_select::all;
+use ent_tree::Test;
+use ent_value::{Kind, Sequence, Value};
+use std::alloc::{AllocError, Global};
+use std::sync::Arc;
+
+/// The table that stands beside a number.
+fn table_at<'a>(
+    number: usize,
+    numbers: &[usize],
+    tables: &'a [Arc<Table>],
+) -> Option<&'a Arc<Table>>
+    ensures { option_map arc_value (option_copied result) ≡ table_at number numbers.now (map arc_value tables.now) }
+{
+    if let [other, numbers @ ..] = numbers {
+        if let [table, tables @ ..] = tables {
+            if *other == number {
+                return Some(table);
+            }
+            return table_at(number, numbers, tables);
+        }
+    }
+    None
+}
+
+/// The tables that stand beside some numbers, shared.
+fn tables_at(
+    alloc: Global,
+    numbers: &[usize],
+    tables: &[Arc<Table>],
+    sources: &[usize],
+) -> Result<Vec<Arc<Table>>, AllocError>
+    ensures { IfOk result (λ found. map arc_value found.items
+        ≡ tables_at numbers.now (map arc_value tables.now) sources.now) }
+{
+    let mut found = Vec::new(alloc);
+    for source in sources {
+        if let Some(table) = table_at(*source, numbers, tables) {
+            found.push(table.clone()?)?;
+        }
+    }
+    Ok(found)
+}
+
+/// The index of the values under which a tuple is a row of its sub-select's result.
+fn membership_index(
+    alloc: Global,
+    numbers: &[usize],
+    tables: &[Arc<Table>],
+    slots: &[Slot],
+    membership: &Membership<Value>,
+) -> Result<Index, AllocError>
+    ensures { IfOk result (λ index. index
+        ≡ membership_index numbers.now (map arc_value tables.now) slots.now membership.now) }
+{
+    let sources = tables_at(alloc, numbers, tables, membership.select.sources.as_slice())?;
+    let rows = all(alloc, &membership.select, sources.as_slice())?;
+    let columns = columns_of(alloc, slots, membership.terms.as_slice())?;
+    index_of(alloc, columns.as_slice(), rows.as_slice())
+}
+
+/// Puts the indexes of a statement's tuples behind others.
+fn push_indexes(
+    alloc: Global,
+    numbers: &[usize],
+    tables: &[Arc<Table>],
+    slots: &[Slot],
+    memberships: &[Membership<Value>],
+    indexes: &mut Vec<Index>,
+) -> Result<(), AllocError>
+    ensures { OnOk result (indexes.new.items
+        ≡ indexes.old.items
+        ++ map (membership_index numbers.now (map arc_value tables.now) slots.now) memberships.now) }
+{
+    for membership in memberships {
+        indexes.push(membership_index(alloc, numbers, tables, slots, membership)?)?;
+    }
+    Ok(())
+}
+
+/// Puts the indexes of all tuples of statements behind others.
+fn push_all_indexes(
+    alloc: Global,
+    numbers: &[usize],
+    tables: &[Arc<Table>],
+    members: &[Member],
+    slots: &[Sequence<Slot>],
+    indexes: &mut Vec<Index>,
+) -> Result<(), AllocError>
+    ensures { OnOk result (indexes.new.items
+        ≡ indexes.old.items ++ all_indexes numbers.now (map arc_value tables.now) members.now slots.now) }
+{
+    if let [member, members @ ..] = members {
+        if let [first, slots @ ..] = slots {
+            let memberships = member.statement().atoms.as_slice();
+            push_indexes(
+                alloc,
+                numbers,
+                tables,
+                first.as_slice(),
+                memberships,
+                indexes,
+            )?;
+            return push_all_indexes(alloc, numbers, tables, members, slots, indexes);
+        }
+    }
+    Ok(())
+}
+
+fn slot_test(
+    alloc: Global,
+    slots: &[Slot],
+    test: &Test<Term<Value>>,
+) -> Result<Test<Slot>, AllocError>
+    ensures { IfOk result (λ made. made ≡ slot_test slots.now test.now) }
+{
+    Ok(Test {
+        left: term_slot(alloc, slots, &test.left)?,
+        comparison: test.comparison,
+        right: term_slot(alloc, slots, &test.right)?,
+    })
+}
+
+/// Puts the tests of a statement behind others.
+fn push_tests(
+    alloc: Global,
+    slots: &[Slot],
+    tests: &[Test<Term<Value>>],
+    made: &mut Vec<Test<Slot>>,
+) -> Result<(), AllocError>
+    ensures { OnOk result (made.new.items ≡ made.old.items ++ map (slot_test slots.now) tests.now) }
+{
+    for test in tests {
+        made.push(slot_test(alloc, slots, test)?)?;
+    }
+    Ok(())
+}
+
+/// Puts the tests of all statements behind others.
+fn push_all_tests(
+    alloc: Global,
+    members: &[Member],
+    slots: &[Sequence<Slot>],
+    made: &mut Vec<Test<Slot>>,
+) -> Result<(), AllocError>
+    ensures { OnOk result (made.new.items ≡ made.old.items ++ all_tests members.now slots.now) }
+{
+    if let [member, members @ ..] = members {
+        if let [first, slots @ ..] = slots {
+            let tests = member.statement().tests.as_slice();
+            push_tests(alloc, first.as_slice(), tests, made)?;
+            return push_all_tests(alloc, members, slots, made);
+        }
+    }
+    Ok(())
+}
+
+fn kinds_copy(alloc: Global, kinds: &[Kind]) -> Result<Sequence<Kind>, AllocError>
+    ensures { IfOk result (λ copy. copy ≡ kinds.now) }
+{
+    let mut copy = Sequence::new(alloc);
+    for kind in kinds {
+        copy.push(*kind)?;
+    }
+    Ok(copy)
+}
+
+/// What statements ask whose written variables have these slots, the classes having these kinds.
+pub(crate) fn frame_of(
+    alloc: Global,
+    numbers: &[usize],
+    tables: &[Arc<Table>],
+    members: &[Member],
+    slots: &[Sequence<Slot>],
+    kinds: &[Kind],
+) -> Result<Frame, AllocError>
+    ensures indexes { IfOk result (λ frame. frame.indexes
+        ≡ all_indexes numbers.now (map arc_value tables.now) members.now slots.now) }
+    ensures tests { IfOk result (λ frame. frame.tests ≡ all_tests members.now slots.now) }
+    ensures kinds { IfOk result (λ frame. frame.kinds ≡ kinds.now) }
+{
+    let mut indexes = Vec::new(alloc);
+    push_all_indexes(alloc, numbers, tables, members, slots, &mut indexes)?;
+    let mut tests = Vec::new(alloc);
+    push_all_tests(alloc, members, slots, &mut tests)?;
+    Ok(Frame {
+        indexes: Sequence::from_vec(indexes),
+        tests: Sequence::from_vec(tests),
+        kinds: kinds_copy(alloc, kinds)?,
+    })
+}

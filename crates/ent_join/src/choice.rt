@@ -1,0 +1,100 @@
+//! The least coordinating choice.
+ghost use Rattle.std.specs.Prelude.{◌≡◌, IfOk, List, map};
+ghost use Rattle.std.specs.Arc.{arc_value};
+ghost use Rattle.ent_closed.specs.Form.{Tables};
+ghost use Rattle.ent_coordination.specs.Choice.{IsLeastChoiceIfAny};
+ghost use Rattle.ent_plan.specs.Plan.{slot_value};
+ghost use Rattle.ent_join.specs.Laid.{AreLaid};
+ghost use Rattle.ent_join.specs.Ranged.{AreRanged};
+
+use crate::asked::frame_of;
+use crate::search::least;
+use crate::ticks::Ticks;
+use ent_plan::{JoinPlan, Slot, plan_has_the_choices, plan_keeps_the_order};
+use ent_rel::Table;
+use ent_value::{Sequence, Value};
+use std::alloc::{AllocError, Global};
+use std::sync::Arc;
+
+/// What a slot is worth under a value for each class.
+fn slot_value(alloc: Global, values: &[Value], slot: &Slot) -> Result<Value, AllocError>
+    ensures { IfOk result (λ value. value ≡ slot_value values.now slot.now) }
+{
+    match slot {
+        Slot::Fixed(value) => value.copy(alloc),
+        Slot::Class(number) => match values.get(*number) {
+            None => Ok(Value::Int(0)),
+            Some(value) => value.copy(alloc),
+        },
+    }
+}
+
+fn valuation(alloc: Global, values: &[Value], slots: &[Slot]) -> Result<Sequence<Value>, AllocError>
+    ensures { IfOk result (λ valuation. valuation ≡ map (slot_value values.now) slots.now) }
+{
+    let mut valuation = Sequence::new(alloc);
+    for slot in slots {
+        valuation.push(slot_value(alloc, values, slot)?)?;
+    }
+    Ok(valuation)
+}
+
+/// The valuations of statements under a value for each class.
+fn valuations(
+    alloc: Global,
+    values: &[Value],
+    slots: &[Sequence<Slot>],
+) -> Result<Sequence<Sequence<Value>>, AllocError>
+    ensures { IfOk result (λ all. all ≡ map (map (slot_value values.now)) slots.now) }
+{
+    let mut all = Sequence::new(alloc);
+    for some in slots {
+        all.push(valuation(alloc, values, some.as_slice())?)?;
+    }
+    Ok(all)
+}
+
+/// The least coordinating choice of the plan's statements over tables, a grounding for each statement; `None` where
+/// there is none. The tables are those of [`JoinPlan::tables`], in that order.
+pub fn first(
+    alloc: Global,
+    plan: &JoinPlan,
+    tables: &[Arc<Table>],
+) -> Result<Option<Sequence<Sequence<Value>>>, AllocError>
+    requires { AreRanged plan.now.members }
+    ensures { IfOk result (λ choice. (laid : Tables)
+        → AreLaid plan.now.members (map arc_value tables.now) laid
+        → IsLeastChoiceIfAny laid plan.now.members choice) }
+{
+    let mut ticks = Ticks::new();
+    first_with(alloc, plan, tables, &mut ticks)
+}
+
+/// What [`first`] answers. Each value that the search was given is one tick.
+pub fn first_with(
+    alloc: Global,
+    plan: &JoinPlan,
+    tables: &[Arc<Table>],
+    ticks: &mut Ticks,
+) -> Result<Option<Sequence<Sequence<Value>>>, AllocError>
+    requires { AreRanged plan.now.members }
+    ensures { IfOk result (λ choice. (laid : Tables)
+        → AreLaid plan.now.members (map arc_value tables.now) laid
+        → IsLeastChoiceIfAny laid plan.now.members choice) }
+{
+    plan_has_the_choices();
+    plan_keeps_the_order();
+    let members = plan.members();
+    let frame = frame_of(
+        alloc,
+        plan.tables(),
+        tables,
+        members,
+        plan.slots(),
+        plan.kinds(),
+    )?;
+    match least(alloc, &frame, plan.kinds().len(), ticks)? {
+        None => Ok(None),
+        Some(values) => Ok(Some(valuations(alloc, values.values(), plan.slots())?)),
+    }
+}

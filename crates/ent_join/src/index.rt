@@ -1,0 +1,131 @@
+//! Indexes of the results of sub-selects, by classes of variables.
+ghost use Rattle.std.specs.Prelude.{◌≡◌, ◌<◌, ◌≤◌, true, false, length, IfSome};
+ghost use Rattle.std.specs.List.{AllByRecursion, filter};
+ghost use Rattle.std.specs.List.Sorted.{IsPartitionPoint, IsStrictlySortedBy};
+ghost use Rattle.std.specs.Ordering.{is_le, is_lt};
+ghost use Rattle.ent_value.specs.Value.{row_cmp};
+ghost use Rattle.ent_join.specs.Cursor.{column_values};
+ghost use Rattle.ent_join.specs.Index.{IsIndexed, begun_cmp, begins_so, column_of, goes_on, rows_after};
+
+use crate::cursor::Cursor;
+use ent_value::{Row, Sequence, Value};
+use std::cmp::Ordering;
+use std::marker::Model;
+
+/// Rows with a value for each of some classes, in order. The classes ascend.
+#[derive(Drop)]
+pub(crate) struct Index {
+    classes: Sequence<usize>,
+    rows: Sequence<Row>,
+}
+
+impl Model for Index {
+    ghost use Rattle.ent_join.specs.Index.{Indexed, IsIndexed};
+
+    ghost Value = { Indexed };
+
+    ghost view = { λ i. record { classes = i.classes; rows = i.rows } };
+
+    ghost invariant = { λ i. IsIndexed (record { classes = i.classes; rows = i.rows }) };
+}
+
+impl Index {
+    /// The index of classes and rows that are in order.
+    pub(crate) fn new(classes: Sequence<usize>, rows: Sequence<Row>) -> Self
+        requires { IsIndexed (record { classes = classes; rows = rows }) }
+        ensures { result ≡ record { classes = classes; rows = rows } }
+    {
+        Index { classes, rows }
+    }
+
+    /// The column of a class, where the index has it.
+    pub(crate) fn column_of(&self, class: usize) -> Option<usize>
+        ensures column { result ≡ column_of class self.now.classes }
+        ensures within { IfSome result (λ column. column < length self.now.classes) }
+    {
+        column_of(class, self.classes.as_slice())
+    }
+
+    /// A walk over the values of a column in the rows with the values that their classes have in a beginning.
+    pub(crate) fn walk(&self, beginning: &[Value], column: usize) -> Cursor<'_>
+        requires { column < length self.now.classes }
+        ensures { result ≡ column_values column (rows_after beginning.now self.now) }
+    {
+        Cursor::new(self.rows_after(beginning), column)
+    }
+
+    /// Whether there is a row with the values that its classes have in a beginning.
+    pub(crate) fn goes_on(&self, beginning: &[Value]) -> bool
+        ensures { result ≡ goes_on beginning.now self.now }
+    {
+        !self.rows_after(beginning).is_empty()
+    }
+
+    /// The rows with the values that their classes have in a beginning.
+    pub(crate) fn rows_after(&self, beginning: &[Value]) -> &[Row]
+        ensures rows { result.now ≡ rows_after beginning.now self.now }
+        ensures widths { AllByRecursion (λ row. length row ≡ length self.now.classes) result.now }
+    {
+        rows_between(beginning, self.classes.as_slice(), self.rows.as_slice())
+    }
+}
+
+fn column_of(class: usize, classes: &[usize]) -> Option<usize>
+    ensures column { result ≡ column_of class classes.now }
+    ensures within { IfSome result (λ column. column < length classes.now) }
+{
+    for (column, other) in classes.iter().enumerate() {
+        if *other == class {
+            return Some(column);
+        }
+    }
+    None
+}
+
+/// How a row compares with the values that its classes have in a beginning.
+fn begun_cmp(beginning: &[Value], classes: &[usize], row: &[Value]) -> Ordering
+    ensures { result ≡ begun_cmp beginning.now classes.now row.now }
+{
+    if let [class, classes @ ..] = classes {
+        if let [value, row @ ..] = row {
+            return match beginning.get(*class) {
+                None => Ordering::Equal,
+                Some(known) => value.cmp(known).then(begun_cmp(beginning, classes, row)),
+            };
+        }
+    }
+    Ordering::Equal
+}
+
+/// How many rows come before those that begin so.
+fn count_before(beginning: &[Value], classes: &[usize], rows: &[Row]) -> usize
+    requires sorted { IsStrictlySortedBy row_cmp rows.now }
+    requires widths { AllByRecursion (λ row. length row ≡ length classes.now) rows.now }
+    ensures within { result ≤ length rows.now }
+    ensures point { IsPartitionPoint (λ row. is_lt (begun_cmp beginning.now classes.now row) ≡ true)
+        (λ row. is_lt (begun_cmp beginning.now classes.now row) ≡ false) rows.now result }
+{
+    rows.partition_point(|row| begun_cmp(beginning, classes, row.values()).is_lt())
+}
+
+/// How many rows come before those behind the ones that begin so.
+fn count_up_to(beginning: &[Value], classes: &[usize], rows: &[Row]) -> usize
+    requires sorted { IsStrictlySortedBy row_cmp rows.now }
+    requires widths { AllByRecursion (λ row. length row ≡ length classes.now) rows.now }
+    ensures within { result ≤ length rows.now }
+    ensures point { IsPartitionPoint (λ row. is_le (begun_cmp beginning.now classes.now row) ≡ true)
+        (λ row. is_le (begun_cmp beginning.now classes.now row) ≡ false) rows.now result }
+{
+    rows.partition_point(|row| begun_cmp(beginning, classes, row.values()).is_le())
+}
+
+/// The rows that begin so, which lie side by side.
+fn rows_between<'a>(beginning: &[Value], classes: &[usize], rows: &'a [Row]) -> &'a [Row]
+    requires sorted { IsStrictlySortedBy row_cmp rows.now }
+    requires widths { AllByRecursion (λ row. length row ≡ length classes.now) rows.now }
+    ensures { result.now ≡ filter (begins_so beginning.now classes.now) rows.now }
+{
+    let start = count_before(beginning, classes, rows);
+    let end = count_up_to(beginning, classes, rows);
+    &rows[start..end]
+}

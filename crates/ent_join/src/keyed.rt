@@ -1,0 +1,183 @@
+//! Indexes of sub-selects' results: each row that agrees with the columns, by the values of their classes.
+ghost use Rattle.std.specs.Prelude.{◌≡◌, IfOk, map};
+ghost use Rattle.std.specs.Option.{option_copied};
+ghost use Rattle.ent_set.specs.Sets as set;
+ghost use Rattle.ent_value.specs.Value.{row_cmp};
+ghost use Rattle.ent_join.specs.Keyed.{agree, ascending_classes, class_numbers, index_under, is_class, is_wanted};
+ghost use Rattle.ent_join.specs.Keyed.{key_under, keys_under, term_slot, value_under};
+
+use crate::index::Index;
+use ent_closed::Term;
+use ent_plan::Slot;
+use ent_value::{Row, Sequence, Value};
+use std::alloc::{AllocError, Global};
+
+/// What a term is whose statement's written variables have these slots.
+pub(crate) fn term_slot(
+    alloc: Global,
+    slots: &[Slot],
+    term: &Term<Value>,
+) -> Result<Slot, AllocError>
+    ensures { IfOk result (λ slot. slot ≡ term_slot slots.now term.now) }
+{
+    match term {
+        Term::Known(value) => Ok(Slot::Fixed(value.copy(alloc)?)),
+        Term::Variable(number) => match slots.get(*number) {
+            None => Ok(Slot::Fixed(Value::Int(0))),
+            Some(slot) => slot_copy(alloc, slot),
+        },
+    }
+}
+
+fn slot_copy(alloc: Global, slot: &Slot) -> Result<Slot, AllocError>
+    ensures { IfOk result (λ copy. copy ≡ slot.now) }
+{
+    match slot {
+        Slot::Fixed(value) => Ok(Slot::Fixed(value.copy(alloc)?)),
+        Slot::Class(number) => Ok(Slot::Class(*number)),
+    }
+}
+
+/// What the terms of a tuple are.
+pub(crate) fn columns_of(
+    alloc: Global,
+    slots: &[Slot],
+    terms: &[Term<Value>],
+) -> Result<Sequence<Slot>, AllocError>
+    ensures { IfOk result (λ columns. columns ≡ map (term_slot slots.now) terms.now) }
+{
+    let mut columns = Sequence::new(alloc);
+    for term in terms {
+        columns.push(term_slot(alloc, slots, term)?)?;
+    }
+    Ok(columns)
+}
+
+/// The classes of columns, ascending, each once.
+fn classes_of(alloc: Global, columns: &[Slot]) -> Result<Vec<usize>, AllocError>
+    ensures { IfOk result (λ classes. classes.items ≡ ascending_classes columns.now) }
+{
+    let mut classes = class_numbers(alloc, columns)?;
+    classes.sort()?;
+    classes.dedup();
+    Ok(classes)
+}
+
+fn class_numbers(alloc: Global, columns: &[Slot]) -> Result<Vec<usize>, AllocError>
+    ensures { IfOk result (λ classes. classes.items ≡ class_numbers columns.now) }
+{
+    let mut classes = Vec::new(alloc);
+    for slot in columns {
+        if let Slot::Class(number) = slot {
+            classes.push(*number)?;
+        }
+    }
+    Ok(classes)
+}
+
+/// The value of a row in the first column of a class.
+fn value_under<'a>(number: usize, columns: &[Slot], row: &'a [Value]) -> Option<&'a Value>
+    ensures { option_copied result ≡ value_under number columns.now row.now }
+{
+    if let [slot, columns @ ..] = columns {
+        if let [value, row @ ..] = row {
+            if is_class(slot, number) {
+                return Some(value);
+            }
+            return value_under(number, columns, row);
+        }
+    }
+    None
+}
+
+fn is_class(slot: &Slot, number: usize) -> bool
+    ensures { result ≡ is_class number slot.now }
+{
+    match slot {
+        Slot::Fixed(_) => false,
+        Slot::Class(other) => *other == number,
+    }
+}
+
+/// Whether a value is what a column wants: a known one, or that of the first column of its class.
+fn is_wanted(columns: &[Slot], row: &[Value], slot: &Slot, value: &Value) -> bool
+    ensures { result ≡ is_wanted columns.now row.now slot.now value.now }
+{
+    match slot {
+        Slot::Fixed(known) => known.cmp(value).is_eq(),
+        Slot::Class(number) => match value_under(*number, columns, row) {
+            None => false,
+            Some(found) => found.cmp(value).is_eq(),
+        },
+    }
+}
+
+/// Whether each of some columns of a row has what it wants.
+fn agree(columns: &[Slot], row: &[Value], slots: &[Slot], values: &[Value]) -> bool
+    ensures { result ≡ agree columns.now row.now slots.now values.now }
+{
+    match slots {
+        [] => values.is_empty(),
+        [slot, slots @ ..] => {
+            if let [value, values @ ..] = values {
+                return is_wanted(columns, row, slot, value) && agree(columns, row, slots, values);
+            }
+            false
+        }
+    }
+}
+
+/// The values of a row under some classes.
+fn key_under(
+    alloc: Global,
+    columns: &[Slot],
+    row: &[Value],
+    classes: &[usize],
+) -> Result<Row, AllocError>
+    ensures { IfOk result (λ key. key ≡ key_under columns.now row.now classes.now) }
+{
+    let mut key = Vec::with_capacity(alloc, classes.len())?;
+    for class in classes {
+        match value_under(*class, columns, row) {
+            None => key.push(Value::Int(0))?,
+            Some(value) => key.push(value.copy(alloc)?)?,
+        }
+    }
+    Ok(Row::from_vec(key))
+}
+
+/// The keys of the rows that agree with the columns.
+fn keys_under(
+    alloc: Global,
+    columns: &[Slot],
+    classes: &[usize],
+    rows: &[Row],
+) -> Result<Vec<Row>, AllocError>
+    ensures { IfOk result (λ keys. keys.items ≡ keys_under columns.now classes.now rows.now) }
+{
+    let mut keys = Vec::new(alloc);
+    for row in rows {
+        if agree(columns, row.values(), columns, row.values()) {
+            keys.push(key_under(alloc, columns, row.values(), classes)?)?;
+        }
+    }
+    Ok(keys)
+}
+
+/// Rows in order, each once.
+fn ordered(mut rows: Vec<Row>) -> Result<Vec<Row>, AllocError>
+    ensures { IfOk result (λ sorted. sorted.items ≡ set.ascending (set.from_list {R = row_cmp} rows.items)) }
+{
+    rows.sort()?;
+    rows.dedup();
+    Ok(rows)
+}
+
+/// The index of the rows of a sub-select's result that agree with the columns of a tuple.
+pub(crate) fn index_of(alloc: Global, columns: &[Slot], rows: &[Row]) -> Result<Index, AllocError>
+    ensures { IfOk result (λ index. index ≡ index_under columns.now rows.now) }
+{
+    let classes = classes_of(alloc, columns)?;
+    let keys = ordered(keys_under(alloc, columns, classes.as_slice(), rows)?)?;
+    Ok(Index::new(Sequence::from_vec(classes), Sequence::from_vec(keys)))
+}

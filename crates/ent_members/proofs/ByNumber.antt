@@ -1,0 +1,182 @@
+-- Lists that are put in order by number.
+use Rattle.std.proofs.Common.{◌≡◌, ℕ, suc, ◌≤◌, Bool, true, false, nat_lt, nat_eq, if◌then◌else◌, List, [], ◌∷◌, ◌++◌}
+use Rattle.std.proofs.Common.{length, map, insert, refl, sym, ap, subst, ◌∙◌, arith, rules}
+use Rattle.std.specs.Prelude.{Option, Some, None}
+use Rattle.std.specs.List.{filter, IsDistinct, AllByRecursion}
+use Rattle.std.proofs.lemmas.Bool.Decides.{nat_tests}
+use Rattle.ent_protocol.specs.Member.{is_of}
+use Rattle.ent_protocol.specs.Run.{fresh}
+use Rattle.ent_protocol.specs.State.{Member, Dormant, inserted, by_number}
+use Rattle.ent_members.specs.declared.leavers.Leaver.{Leaver}
+use Rattle.ent_members.specs.Leavers.{leaver_of, number_of, numbers_in, is_within, gathered, leavers_in}
+use Rattle.ent_members.specs.Order.{place_in}
+use Rattle.ent_members.specs.Run.{IsRun, tx_of}
+
+place_if : (n m : ℕ) (b : Bool) → n ≤ m → (if b then 0 else suc n) ≤ suc m
+place_if n m true le = omega arith
+place_if n m false le = omega (arith, le)
+
+module _ {A : Type 0} where
+  -- ---- putting one in
+
+  inserted_if : (number : A → ℕ) (x y : A) (ys : List A) (b : Bool)
+      → inserted number x ys ≡ insert ys (place_in number ys (number x)) x
+      → (if b then x ∷ y ∷ ys else y ∷ inserted number x ys)
+      ≡ insert (y ∷ ys) (if b then 0 else suc (place_in number ys (number x))) x
+  inserted_if number x y ys true rest = refl
+  inserted_if number x y ys false rest = ap (λ zs. y ∷ zs) rest
+
+  pub inserted_at : (number : A → ℕ) (x : A) (xs : List A)
+      → inserted number x xs ≡ insert xs (place_in number xs (number x)) x
+  inserted_at number x [] = refl
+  inserted_at number x (y ∷ ys) =
+      inserted_if number x y ys (nat_lt (number x) (number y)) (inserted_at number x ys)
+
+  pub place_bound : (number : A → ℕ) (xs : List A) (n : ℕ) → place_in number xs n ≤ length xs
+  place_bound number [] n = omega arith
+  place_bound number (x ∷ xs) n =
+      place_if (place_in number xs n) (length xs) (nat_lt n (number x)) (place_bound number xs n)
+
+  longer_if : (number : A → ℕ) (x y : A) (ys : List A) (b : Bool) → length (inserted number x ys) ≡ suc (length ys)
+      → length (if b then x ∷ y ∷ ys else y ∷ inserted number x ys) ≡ suc (suc (length ys))
+  longer_if number x y ys true rest = refl
+  longer_if number x y ys false rest = ap suc rest
+
+  pub length-inserted : (number : A → ℕ) (x : A) (xs : List A) → length (inserted number x xs) ≡ suc (length xs)
+  length-inserted number x [] = refl
+  length-inserted number x (y ∷ ys) =
+      longer_if number x y ys (nat_lt (number x) (number y)) (length-inserted number x ys)
+
+  pub length-by_number : (number : A → ℕ) (xs : List A) → length (by_number number xs) ≡ length xs
+  length-by_number number [] = refl
+  length-by_number number (x ∷ xs) =
+      length-inserted number x (by_number number xs) ∙ ap suc (length-by_number number xs)
+
+-- ---- distinct numbers
+
+eq_sym : (a b : ℕ) → nat_eq a b ≡ false → nat_eq b a ≡ false
+eq_sym a b is = grind (arith, nat_tests)
+
+all_if : (P : ℕ → Type 0) (x y : Member) (ys : List Member) (b : Bool) → P x.tx → P y.tx
+    → AllByRecursion P (map tx_of ys) → AllByRecursion P (map tx_of (inserted tx_of x ys))
+    → AllByRecursion P (map tx_of (if b then x ∷ y ∷ ys else y ∷ inserted tx_of x ys))
+all_if P x y ys true px py here rest = (px, (py, here))
+all_if P x y ys false px py here rest = (py, rest)
+
+all-inserted : (P : ℕ → Type 0) (x : Member) (xs : List Member) → P x.tx → AllByRecursion P (map tx_of xs)
+    → AllByRecursion P (map tx_of (inserted tx_of x xs))
+all-inserted P x [] px all = (px, all)
+all-inserted P x (y ∷ ys) px all =
+    all_if P x y ys (nat_lt x.tx y.tx) px all.0 all.1 (all-inserted P x ys px all.1)
+
+all-by_number : (P : ℕ → Type 0) (xs : List Member) → AllByRecursion P (map tx_of xs)
+    → AllByRecursion P (map tx_of (by_number tx_of xs))
+all-by_number P [] all = all
+all-by_number P (x ∷ xs) all = all-inserted P x (by_number tx_of xs) all.0 (all-by_number P xs all.1)
+
+distinct_if : (x y : Member) (ys : List Member) (b : Bool)
+    → AllByRecursion (λ n. nat_eq x.tx n ≡ false) (map tx_of (y ∷ ys)) → IsDistinct nat_eq (map tx_of (y ∷ ys))
+    → IsDistinct nat_eq (map tx_of (inserted tx_of x ys))
+    → IsDistinct nat_eq (map tx_of (if b then x ∷ y ∷ ys else y ∷ inserted tx_of x ys))
+unfolding IsDistinct
+distinct_if x y ys true apart distinct rest = (apart, distinct)
+distinct_if x y ys false apart distinct rest =
+    (all-inserted (λ n. nat_eq y.tx n ≡ false) x ys (eq_sym x.tx y.tx apart.0) distinct.0, rest)
+
+distinct-inserted : (x : Member) (xs : List Member) → AllByRecursion (λ n. nat_eq x.tx n ≡ false) (map tx_of xs)
+    → IsDistinct nat_eq (map tx_of xs) → IsDistinct nat_eq (map tx_of (inserted tx_of x xs))
+unfolding IsDistinct
+distinct-inserted x [] apart distinct = (apart, distinct)
+distinct-inserted x (y ∷ ys) apart distinct =
+    distinct_if x y ys (nat_lt x.tx y.tx) apart distinct (distinct-inserted x ys apart.1 distinct.1)
+
+distinct-by_number : (xs : List Member) → IsDistinct nat_eq (map tx_of xs)
+    → IsDistinct nat_eq (map tx_of (by_number tx_of xs))
+unfolding IsDistinct
+distinct-by_number [] distinct = distinct
+distinct-by_number (x ∷ xs) distinct =
+    distinct-inserted x (by_number tx_of xs) (all-by_number (λ n. nat_eq x.tx n ≡ false) xs distinct.0)
+    (distinct-by_number xs distinct.1)
+
+fresh_numbers : (entrants : List Dormant) → map tx_of (map fresh entrants) ≡ map (λ (e : Dormant). e.tx) entrants
+fresh_numbers [] = refl
+fresh_numbers (e ∷ entrants) = ap (λ ns. e.tx ∷ ns) (fresh_numbers entrants)
+
+fresh_length : (entrants : List Dormant) → length (map fresh entrants) ≡ length entrants
+fresh_length [] = refl
+fresh_length (e ∷ entrants) = ap suc (fresh_length entrants)
+
+none_distinct : IsDistinct nat_eq (map tx_of [])
+unfolding IsDistinct
+none_distinct = search rules
+
+pub no_member : IsRun [] []
+no_member = record { bound = omega arith; distinct = none_distinct }
+
+pub starts : (entrants : List Dormant) → length entrants ≤ 64
+    → IsDistinct nat_eq (map (λ (e : Dormant). e.tx) entrants) → IsRun [] (by_number tx_of (map fresh entrants))
+starts entrants bound distinct =
+    record {
+      bound = omega (arith, bound, length-by_number tx_of (map fresh entrants), fresh_length entrants);
+      distinct = distinct-by_number (map fresh entrants)
+          (subst (IsDistinct nat_eq) (sym (fresh_numbers entrants)) distinct);
+    }
+
+-- ---- those who leave
+
+leaver_if : (x y : Member) (ys : List Member) (b : Bool)
+    → map leaver_of (inserted tx_of x ys) ≡ inserted number_of (leaver_of x) (map leaver_of ys)
+    → map leaver_of (if b then x ∷ y ∷ ys else y ∷ inserted tx_of x ys)
+    ≡ (if b then leaver_of x ∷ leaver_of y ∷ map leaver_of ys
+    else leaver_of y ∷ inserted number_of (leaver_of x) (map leaver_of ys))
+leaver_if x y ys true rest = refl
+leaver_if x y ys false rest = ap (λ ls. leaver_of y ∷ ls) rest
+
+leavers-inserted : (x : Member) (xs : List Member)
+    → map leaver_of (inserted tx_of x xs) ≡ inserted number_of (leaver_of x) (map leaver_of xs)
+leavers-inserted x [] = refl
+leavers-inserted x (y ∷ ys) = leaver_if x y ys (nat_lt x.tx y.tx) (leavers-inserted x ys)
+
+within_if : (group : Option ℕ) (x : Member) (xs : List Member) (b : Bool)
+    → gathered group xs [] ≡ map leaver_of (by_number tx_of (filter (is_within group) xs))
+    → (if b then inserted number_of (leaver_of x) (gathered group xs []) else gathered group xs [])
+    ≡ map leaver_of (by_number tx_of (if b then x ∷ filter (is_within group) xs else filter (is_within group) xs))
+within_if group x xs true rest =
+    ap (inserted number_of (leaver_of x)) rest
+    ∙ sym (leavers-inserted x (by_number tx_of (filter (is_within group) xs)))
+within_if group x xs false rest = rest
+
+leavers_are : (group : Option ℕ) (xs : List Member)
+    → leavers_in group xs ≡ map leaver_of (by_number tx_of (filter (is_within group) xs))
+leavers_are group [] = refl
+leavers_are group (x ∷ xs) = within_if group x xs (is_within group x) (leavers_are group xs)
+
+all_within : (xs : List Member) → filter (is_within None) xs ≡ xs
+all_within [] = refl
+all_within (x ∷ xs) = ap (λ ys. x ∷ ys) (all_within xs)
+
+pub group_leavers : (group : ℕ) (xs : List Member)
+    → leavers_in (Some group) xs ≡ map leaver_of (by_number tx_of (filter (is_of group) xs))
+group_leavers group xs = leavers_are (Some group) xs
+
+pub every_leaver : (xs : List Member) → leavers_in None xs ≡ map leaver_of (by_number tx_of xs)
+every_leaver xs = leavers_are None xs ∙ ap (λ ys. map leaver_of (by_number tx_of ys)) (all_within xs)
+
+pub leaver_numbers : (xs : List Member) → numbers_in (map leaver_of xs) ≡ map tx_of xs
+leaver_numbers [] = refl
+leaver_numbers (x ∷ xs) = ap (λ ns. x.tx ∷ ns) (leaver_numbers xs)
+
+append_if : (group : Option ℕ) (x : Member) (xs ys : List Member) (leavers : List Leaver) (b : Bool)
+    → gathered group (xs ++ ys) leavers ≡ gathered group xs (gathered group ys leavers)
+    → (if b then inserted number_of (leaver_of x) (gathered group (xs ++ ys) leavers)
+    else gathered group (xs ++ ys) leavers)
+    ≡ (if b then inserted number_of (leaver_of x) (gathered group xs (gathered group ys leavers))
+    else gathered group xs (gathered group ys leavers))
+append_if group x xs ys leavers true rest = ap (inserted number_of (leaver_of x)) rest
+append_if group x xs ys leavers false rest = rest
+
+pub gathered-append : (group : Option ℕ) (xs ys : List Member) (leavers : List Leaver)
+    → gathered group (xs ++ ys) leavers ≡ gathered group xs (gathered group ys leavers)
+gathered-append group [] ys leavers = refl
+gathered-append group (x ∷ xs) ys leavers =
+    append_if group x xs ys leavers (is_within group x) (gathered-append group xs ys leavers)

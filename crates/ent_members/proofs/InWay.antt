@@ -1,0 +1,49 @@
+-- Those that are in the way.
+use Rattle.std.proofs.Common.{◌≡◌, ℕ, Bool, true, false, not, ◌==◌, ◌&&◌, if◌then◌else◌, List, [], ◌∷◌, ◌++◌, map}
+use Rattle.std.proofs.Common.{refl, sym, ap, ◌∙◌}
+use Rattle.std.specs.List.{filter}
+use Rattle.std.proofs.lemmas.List.{map-append, append-nil}
+use Rattle.std.proofs.lemmas.List.Elements.{filter-append}
+use Rattle.ent_protocol.specs.State.{Member, Use}
+use Rattle.ent_protocol.specs.Uses.{is_in_way}
+use Rattle.ent_members.specs.declared.in_way.Passed.{Passed}
+use Rattle.ent_members.specs.declared.in_way.Passed.TheVariants.{Group, Itself}
+use Rattle.ent_members.specs.Passed.{is_passed, stands_in_way}
+use Rattle.ent_members.specs.Run.{tx_of}
+
+twice_if : (asked : List Use) (x : Member) (xs : List Member) (passed way : Bool) (more : List Member)
+    → is_in_way asked x ≡ way
+    → filter (is_in_way asked) xs ≡ more
+    → (if not passed && way then x ∷ more else more)
+    ≡ filter (is_in_way asked) (if not passed then x ∷ xs else xs)
+twice_if asked x xs true way more is rest = sym rest
+twice_if asked x xs false way more is rest =
+    sym (ap (λ b. if b then x ∷ filter (is_in_way asked) xs else filter (is_in_way asked) xs) is
+    ∙ ap (λ ms. if way then x ∷ ms else ms) rest)
+
+pub filtered_twice : (asked : List Use) (passed : Passed) (xs : List Member)
+    → filter (stands_in_way asked passed) xs
+    ≡ filter (is_in_way asked) (filter (λ holder. not (is_passed passed holder)) xs)
+filtered_twice asked passed [] = refl
+filtered_twice asked passed (x ∷ xs) =
+    twice_if asked x (filter (λ holder. not (is_passed passed holder)) xs) (is_passed passed x) (is_in_way asked x)
+    (filter (stands_in_way asked passed) xs) refl (sym (filtered_twice asked passed xs))
+
+-- the least of the prepared ones in the way, then of the others
+pub in_way_of : (asked : List Use) (group tx : ℕ) (prepared active : List Member)
+    → map tx_of (filter (stands_in_way asked (Group group)) prepared)
+    ++ (map tx_of (filter (stands_in_way asked (Itself tx)) active) ++ [])
+    ≡ map tx_of (filter (is_in_way asked)
+    (filter (λ (holder : Member). not (holder.group == group)) prepared
+    ++ filter (λ (holder : Member). not (holder.tx == tx)) active))
+in_way_of asked group tx prepared active =
+    let passing = filter (λ (holder : Member). not (holder.group == group)) prepared in
+    let others = filter (λ (holder : Member). not (holder.tx == tx)) active in
+    ap (λ ns. map tx_of (filter (stands_in_way asked (Group group)) prepared) ++ ns)
+    (append-nil (map tx_of (filter (stands_in_way asked (Itself tx)) active)))
+    ∙ ap (λ ms. map tx_of ms ++ map tx_of (filter (stands_in_way asked (Itself tx)) active))
+    (filtered_twice asked (Group group) prepared)
+    ∙ ap (λ ms. map tx_of (filter (is_in_way asked) passing) ++ map tx_of ms)
+    (filtered_twice asked (Itself tx) active)
+    ∙ sym (map-append tx_of (filter (is_in_way asked) passing) (filter (is_in_way asked) others))
+    ∙ ap (map tx_of) (sym (filter-append (is_in_way asked) passing others))

@@ -1,0 +1,92 @@
+-- Members whose groups become one.
+use Rattle.std.proofs.Common.{◌≡◌, ℕ, ◌+◌, ◌<◌, Bool, true, false, ◌==◌, ◌||◌, if◌then◌else◌, List, [], ◌∷◌, ◌++◌}
+use Rattle.std.proofs.Common.{length, map, take, get_or, refl, sym, ap, ◌∙◌, arith}
+use Rattle.std.specs.Prelude.{filter}
+use Rattle.std.specs.List.{list_any}
+use Rattle.std.proofs.lemmas.Bool.Decides.{nat_tests}
+use Rattle.std.proofs.lemmas.List.{length-map, map-append, take_more}
+use Rattle.std.proofs.lemmas.List.Elements.{filter-append}
+use Rattle.ent_protocol.specs.Job.{Asking}
+use Rattle.ent_protocol.specs.Member.{is_tx}
+use Rattle.ent_protocol.specs.PoolEvents.{in_joined_group}
+use Rattle.ent_protocol.specs.State.{Member}
+use Rattle.ent_members.specs.Joined.{JoinGroups, is_one_of, labels_in}
+use Rattle.ent_members.specs.Moves.{run_of}
+use Rattle.ent_members.specs.Run.{IsRun, Run, tx_of}
+use Rattle.ent_members.proofs.OneMember.{run_kept}
+
+-- ---- labels
+
+pub labels-append : (numbers : List ℕ) (xs ys : List Member)
+    → labels_in numbers (xs ++ ys) ≡ labels_in numbers xs ++ labels_in numbers ys
+labels-append numbers xs ys =
+    ap (map (λ (member : Member). member.group)) (filter-append (is_one_of numbers) xs ys)
+    ∙ map-append (λ (member : Member). member.group) (filter (is_one_of numbers) xs) (filter (is_one_of numbers) ys)
+
+label_if : (member : Member) (b : Bool)
+    → map (λ (m : Member). m.group) (if b then member ∷ [] else []) ≡ (if b then member.group ∷ [] else [])
+label_if member true = refl
+label_if member false = refl
+
+pub labels_more : (numbers : List ℕ) (xs : List Member) (i : ℕ) (member : Member) (b : Bool) → i < length xs
+    → member ≡ get_or xs i member → is_one_of numbers member ≡ b
+    → labels_in numbers (take (i + 1) xs) ≡ labels_in numbers (take i xs) ++ (if b then member.group ∷ [] else [])
+labels_more numbers xs i member b lt at is =
+    ap (labels_in numbers) (take_more xs i member lt ∙ ap (λ m. take i xs ++ m ∷ []) (sym at))
+    ∙ labels-append numbers (take i xs) (member ∷ [])
+    ∙ ap (λ ls. labels_in numbers (take i xs) ++ ls)
+    (ap (λ c. map (λ (m : Member). m.group) (if c then member ∷ [] else [])) is ∙ label_if member b)
+
+-- ---- the members that are asked for
+
+eq_turned : (a b : ℕ) → (a == b) ≡ (b == a)
+eq_turned a b = grind (arith, nat_tests)
+
+one_asked : (asked : List Asking) (member : Member)
+    → is_one_of (map (λ (asking : Asking). asking.tx) asked) member
+    ≡ list_any (λ (asking : Asking). is_tx asking.tx member) asked
+one_asked [] member = refl
+one_asked (asking ∷ asked) member =
+    ap (λ b. b || is_one_of (map (λ (a : Asking). a.tx) asked) member) (eq_turned asking.tx member.tx)
+    ∙ ap (λ b. (member.tx == asking.tx) || b) (one_asked asked member)
+
+filter_asked : (asked : List Asking) (xs : List Member)
+    → filter (is_one_of (map (λ (asking : Asking). asking.tx) asked)) xs
+    ≡ filter (λ member. list_any (λ (asking : Asking). is_tx asking.tx member) asked) xs
+filter_asked asked [] = refl
+filter_asked asked (x ∷ xs) =
+    ap (λ b. if b then x ∷ filter (is_one_of (map (λ (a : Asking). a.tx) asked)) xs
+    else filter (is_one_of (map (λ (a : Asking). a.tx) asked)) xs) (one_asked asked x)
+    ∙ ap (λ ms. if list_any (λ (asking : Asking). is_tx asking.tx x) asked then x ∷ ms else ms) (filter_asked asked xs)
+
+pub asked_labels : (asked : List Asking) (xs : List Member)
+    → labels_in (map (λ (asking : Asking). asking.tx) asked) xs
+    ≡ map (λ (member : Member). member.group)
+    (filter (λ member. list_any (λ (asking : Asking). is_tx asking.tx member) asked) xs)
+asked_labels asked xs = ap (map (λ (member : Member). member.group)) (filter_asked asked xs)
+
+-- ---- the run
+
+same_numbers : (labels : List ℕ) (xs : List Member) → map tx_of (map (in_joined_group labels) xs) ≡ map tx_of xs
+same_numbers labels [] = refl
+same_numbers labels (x ∷ xs) = ap (λ ns. x.tx ∷ ns) (same_numbers labels xs)
+
+pub run_joined : (labels : List ℕ) (prepared active : List Member) → IsRun prepared active
+    → IsRun (map (in_joined_group labels) prepared) (map (in_joined_group labels) active)
+run_joined labels prepared active run =
+    let kept = run_kept prepared active (map (in_joined_group labels) active) (same_numbers labels active) run in
+    record {
+      bound = omega (arith, kept.bound, length-map prepared (in_joined_group labels));
+      distinct = kept.distinct;
+    }
+
+pub joins : (labels whole : List ℕ) (old : Run) (prepared active next_prepared next_active : List Member)
+    → run_of prepared active ≡ old → labels ≡ whole → next_prepared ≡ map (in_joined_group labels) prepared
+    → next_active ≡ map (in_joined_group labels) active → JoinGroups whole old (run_of next_prepared next_active)
+joins labels whole old prepared active next_prepared next_active view same first second =
+    record {
+      prepared = first ∙ ap (λ (ls : List ℕ). map (in_joined_group ls) prepared) same
+          ∙ ap (λ (run : Run). map (in_joined_group whole) run.prepared) view;
+      active = second ∙ ap (λ (ls : List ℕ). map (in_joined_group ls) active) same
+          ∙ ap (λ (run : Run). map (in_joined_group whole) run.active) view;
+    }

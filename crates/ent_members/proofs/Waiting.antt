@@ -1,0 +1,136 @@
+-- Who waits for whom: pairs made by holders are those made by who is waited for.
+use Rattle.std.proofs.Common.{◌≡◌, ◌⊎◌, inl, inr, ℕ, Bool, true, false, not, ◌==◌, ◌&&◌, ◌||◌}
+use Rattle.std.proofs.Common.{if◌then◌else◌, List, [], ◌∷◌, ◌++◌, map, refl, sym, ap, subst, ◌∙◌, arith, true≢false}
+use Rattle.std.specs.Prelude.{Contains, filter}
+use Rattle.std.specs.List.{flat_map, list_any}
+use Rattle.std.proofs.lemmas.Bool.Decides.{nat_tests}
+use Rattle.std.proofs.lemmas.List.Elements.{Contains-append_cases, filter-append}
+use Rattle.ent_protocol.specs.Member.{is_of}
+use Rattle.ent_protocol.specs.State.{State, Member, Use}
+use Rattle.ent_protocol.specs.Uses.{in_way, is_in_way, not_passed}
+use Rattle.ent_protocol.specs.Waits.{awaited}
+use Rattle.ent_members.specs.declared.in_way.Passed.TheVariants.{Group, Itself}
+use Rattle.ent_members.specs.Passed.{stands_in_way}
+use Rattle.ent_members.specs.Waits.{is_awaited, is_awaited_over, pairs_of, waits_over}
+use Rattle.ent_members.proofs.InWay.{filtered_twice}
+use Rattle.ent_members.proofs.Lists.{contains_none, contains_cases, contains_first, into_filter, out_of_filter}
+use Rattle.ent_members.proofs.Lists.{any_of, some_of, into_map, out_of_map, into_flat_map, out_of_flat_map}
+
+abbrev pair_with : ℕ → Member → ℕ × ℕ
+pair_with tx other = (tx, other.tx)
+
+abbrev pairs_over : State → Member → Member → List (ℕ × ℕ)
+pairs_over s asker holder = map (λ other. (asker.tx, other.tx)) (awaited s asker holder)
+
+eq_refl : (n : ℕ) → (n == n) ≡ true
+eq_refl n = grind (arith, nat_tests)
+
+eq_is : (n m : ℕ) → (n == m) ≡ true → n ≡ m
+eq_is n m is = grind (arith, nat_tests)
+
+not_false : (b : Bool) → not b ≡ true → b ≡ true → ⊥
+not_false true is same = true≢false (sym is)
+not_false false is same = true≢false (sym same)
+
+own_is_active : (s : State) (asker holder : Member) (asked : List Use) → Contains (in_way s asker asked) holder
+    → (holder.group == asker.group) ≡ true → Contains s.active holder
+own_is_active s asker holder asked there own =
+    by_list (Contains-append_cases (filter (λ (h : Member). not (h.group == asker.group)) s.prepared)
+    (filter (λ (h : Member). not (h.tx == asker.tx)) s.active) holder
+    (out_of_filter (is_in_way asked) (not_passed s asker) holder there).0)
+  where
+    by_list : Contains (filter (λ (h : Member). not (h.group == asker.group)) s.prepared) holder
+        ⊎ Contains (filter (λ (h : Member). not (h.tx == asker.tx)) s.active) holder → Contains s.active holder
+    by_list (inl first) = absurd (not_false (holder.group == asker.group)
+        (out_of_filter (λ (h : Member). not (h.group == asker.group)) s.prepared holder first).1 own)
+    by_list (inr second) = (out_of_filter (λ (h : Member). not (h.tx == asker.tx)) s.active holder second).0
+
+awaited_is : (active : List Member) (holder other : Member) (b : Bool) → (b ≡ true → Contains active holder)
+    → Contains (if b then holder ∷ [] else filter (is_of holder.group) active) other
+    → Contains active other × ((if b then holder.tx == other.tx else (other.group == holder.group)) ≡ true)
+awaited_is active holder other true there h = by_cases (contains_cases holder other [] h)
+  where
+    by_cases : (holder ≡ other) ⊎ Contains [] other → Contains active other × ((holder.tx == other.tx) ≡ true)
+    by_cases (inl same) = (
+      subst (Contains active) same (there refl),
+      ap (λ (m : Member). holder.tx == m.tx) (sym same) ∙ eq_refl holder.tx,
+    )
+    by_cases (inr none) = absurd (contains_none other none)
+awaited_is active holder other false there h = out_of_filter (is_of holder.group) active other h
+
+pub into_pairs : (s : State) (asker : Member) (asked : List Use) (pair : ℕ × ℕ)
+    → Contains (flat_map (pairs_over s asker) (in_way s asker asked)) pair → Contains (pairs_of s asker asked) pair
+into_pairs s asker asked pair h =
+    let way = in_way s asker asked in
+    let over = out_of_flat_map (pairs_over s asker) way pair h in
+    let holder = over.0 in
+    let one = out_of_map (pair_with asker.tx) (awaited s asker holder) pair over.2 in
+    let other = one.0 in
+    let found = awaited_is s.active holder other (holder.group == asker.group)
+    (own_is_active s asker holder asked over.1) one.1 in
+    subst (Contains (pairs_of s asker asked)) one.2
+    (into_map (pair_with asker.tx) (filter (is_awaited s asker asked) s.active) other
+    (into_filter (is_awaited s asker asked) s.active other found.0
+    (any_of (waits_over asker.group other) way holder over.1 found.1)))
+
+awaited_from : (active : List Member) (holder other : Member) (b : Bool) → Contains active other
+    → (if b then holder.tx == other.tx else (other.group == holder.group)) ≡ true
+    → (m : Member) × Contains (if b then holder ∷ [] else filter (is_of holder.group) active) m × (m.tx ≡ other.tx)
+awaited_from active holder other true there is = (holder, contains_first holder [], eq_is holder.tx other.tx is)
+awaited_from active holder other false there is =
+    (other, into_filter (is_of holder.group) active other there is, refl)
+
+pub out_of_pairs : (s : State) (asker : Member) (asked : List Use) (pair : ℕ × ℕ)
+    → Contains (pairs_of s asker asked) pair → Contains (flat_map (pairs_over s asker) (in_way s asker asked)) pair
+out_of_pairs s asker asked pair h =
+    let way = in_way s asker asked in
+    let one = out_of_map (pair_with asker.tx) (filter (is_awaited s asker asked) s.active) pair h in
+    let other = one.0 in
+    let waits = out_of_filter (is_awaited s asker asked) s.active other one.1 in
+    let over = some_of (waits_over asker.group other) way waits.1 in
+    let holder = over.0 in
+    let found = awaited_from s.active holder other (holder.group == asker.group) waits.0 over.2 in
+    into_flat_map (pairs_over s asker) way holder pair over.1
+    (subst (Contains (pairs_over s asker holder)) (ap (λ (n : ℕ). (asker.tx, n)) found.2 ∙ one.2)
+    (into_map (pair_with asker.tx) (awaited s asker holder) found.0 found.1))
+
+-- ---- the test
+
+any_if : (q : Member → Bool) (x : Member) (xs : List Member) (b : Bool)
+    → list_any q (if b then x ∷ xs else xs) ≡ ((b && q x) || list_any q xs)
+any_if q x xs true = refl
+any_if q x xs false = refl
+
+any_filter : (p q : Member → Bool) (xs : List Member) → list_any q (filter p xs) ≡ list_any (λ x. p x && q x) xs
+any_filter p q [] = refl
+any_filter p q (x ∷ xs) = any_if q x (filter p xs) (p x) ∙ ap (λ b. (p x && q x) || b) (any_filter p q xs)
+
+or_assoc : (a b c : Bool) → ((a || b) || c) ≡ (a || (b || c))
+or_assoc true b c = refl
+or_assoc false b c = refl
+
+any_append : (q : Member → Bool) (xs ys : List Member) → list_any q (xs ++ ys) ≡ (list_any q xs || list_any q ys)
+any_append q [] ys = refl
+any_append q (x ∷ xs) ys =
+    ap (λ b. q x || b) (any_append q xs ys) ∙ sym (or_assoc (q x) (list_any q xs) (list_any q ys))
+
+pub awaited_by_lists : (asked : List Use) (group tx : ℕ) (other : Member) (prepared active : List Member)
+    → (list_any (is_awaited_over asked (Group group) group other) prepared
+    || list_any (is_awaited_over asked (Itself tx) group other) active)
+    ≡ list_any (waits_over group other) (filter (is_in_way asked)
+    (filter (λ (holder : Member). not (holder.group == group)) prepared
+    ++ filter (λ (holder : Member). not (holder.tx == tx)) active))
+awaited_by_lists asked group tx other prepared active =
+    let q = waits_over group other in
+    let passing = filter (λ (holder : Member). not (holder.group == group)) prepared in
+    let others = filter (λ (holder : Member). not (holder.tx == tx)) active in
+    sym (ap (list_any q) (filter-append (is_in_way asked) passing others)
+    ∙ any_append q (filter (is_in_way asked) passing) (filter (is_in_way asked) others)
+    ∙ ap (λ ms. list_any q ms || list_any q (filter (is_in_way asked) others))
+    (sym (filtered_twice asked (Group group) prepared))
+    ∙ ap (λ ms. list_any q (filter (stands_in_way asked (Group group)) prepared) || list_any q ms)
+    (sym (filtered_twice asked (Itself tx) active))
+    ∙ ap (λ b. b || list_any q (filter (stands_in_way asked (Itself tx)) active))
+    (any_filter (stands_in_way asked (Group group)) q prepared)
+    ∙ ap (λ b. list_any (is_awaited_over asked (Group group) group other) prepared || b)
+    (any_filter (stands_in_way asked (Itself tx)) q active))

@@ -1,0 +1,18 @@
+use Rattle.std.proofs.Common.{◌++◌, List, [], sym, ap, ◌∙◌}
+use Rattle.ent_protocol.specs.State.{Member}
+use Rattle.ent_members.specs.Leavers.{gathered, leavers_in}
+use Rattle.ent_members.specs.Run.{Run}
+use Rattle.ent_members.proofs.ByNumber.{gathered-append}
+use Rattle.ent_members.proofs.run.Run.leavers_within.Goals as goal
+
+pub returns : goal.returns
+returns c =
+    let prepared = c.self.inside.prepared.items in
+    let active = c.self.inside.active.items in
+    c.gather-2.ensures.list
+    ∙ ap (λ (ms : List Member). gathered c.args.group ms c.gather.new.leavers) c.as_slice-2.ensures.value
+    ∙ ap (gathered c.args.group prepared) (c.gather.ensures.list
+    ∙ ap (λ (ms : List Member). gathered c.args.group ms c.new-leavers.result) c.as_slice.ensures.value
+    ∙ ap (gathered c.args.group active) c.new-leavers.ensures)
+    ∙ sym (gathered-append c.args.group prepared active [])
+    ∙ ap (λ (run : Run). leavers_in c.args.group (run.prepared ++ run.active)) c.self.view_is

@@ -1,0 +1,7 @@
+-- Lists by number.
+use Rattle.std.specs.Prelude.{ℕ, suc, List, [], ◌∷◌, nat_lt, if◌then◌else◌}
+
+-- the index of the first of a greater number, or else the length
+abbrev pub place_in : {A : Type 0} → (A → ℕ) → List A → ℕ → ℕ
+place_in number [] n = 0
+place_in number (x ∷ xs) n = if nat_lt n (number x) then 0 else suc (place_in number xs n)

@@ -1,0 +1,23 @@
+-- The members of the present run.
+use Rattle.std.specs.Prelude.{ℕ, ◌+◌, ◌≤◌, List, length, map, nat_eq}
+use Rattle.std.specs.List.{IsDistinct}
+use Rattle.ent_group.specs.declared.members.TheConstants.{MOST_MEMBERS}
+use Rattle.ent_protocol.specs.State.{State, Member}
+
+pub record Run : Type 0 where
+  -- in the order in which they prepared
+  pub prepared : List Member
+  -- the others
+  pub active : List Member
+
+-- a state with these members
+abbrev pub with_run : Run → State → State
+with_run run s = record s { prepared = run.prepared; active = run.active }
+
+abbrev pub tx_of : Member → ℕ
+tx_of member = member.tx
+
+-- as many as a run may have, and one of each number among those that aren't prepared
+pub record IsRun (prepared active : List Member) : Type 0 where
+  pub bound : length prepared + length active ≤ MOST_MEMBERS
+  pub distinct : IsDistinct nat_eq (map tx_of active)

@@ -1,0 +1,104 @@
+//! Who is in the way of a member that asks for uses.
+ghost use Rattle.std.specs.Prelude.{◌≡◌, ℕ, List, ◌++◌, ◌∷◌, map, filter};
+ghost use Rattle.std.specs.List.{list_any};
+ghost use Rattle.ent_protocol.specs.Uses.{is_in_way, least, uses_conflict};
+ghost use Rattle.ent_members.specs.Passed.{is_passed, stands_in_way};
+ghost use Rattle.ent_members.specs.Run.{tx_of};
+ghost use Rattle.ent_members.specs.Waits.{is_awaited_over, waits_over};
+
+use crate::member::Member;
+use crate::table_use::Use;
+use ent_group::Tx;
+
+/// Those that a member passes: the members of a group, or itself alone.
+#[derive(Clone, Copy)]
+pub(crate) enum Passed {
+    Group(Tx),
+    Itself(Tx),
+}
+
+fn is_passed(passed: Passed, holder: &Member) -> bool
+    ensures { result ≡ is_passed passed holder.now }
+{
+    match passed {
+        Passed::Group(group) => holder.group() == group,
+        Passed::Itself(tx) => holder.tx() == tx,
+    }
+}
+
+fn in_conflict(one: Use, other: Use) -> bool
+    ensures { result ≡ uses_conflict one other }
+{
+    one.table() == other.table() && one.mode().in_conflict(other.mode())
+}
+
+fn any_in_conflict(asked: Use, held: &[Use]) -> bool
+    ensures { result ≡ list_any (uses_conflict asked) held.now }
+{
+    held.iter().any(|other| in_conflict(asked, *other))
+}
+
+/// Whether a member holds a use in conflict with one that is asked for.
+fn is_in_way(asked: &[Use], holder: &Member) -> bool
+    ensures { result ≡ is_in_way asked.now holder.now }
+{
+    let held = holder.uses();
+    asked.iter().any(|own| any_in_conflict(*own, held))
+}
+
+/// The least of a number and of those of which the least is given.
+fn least_with(tx: Tx, others: Option<Tx>) -> Option<Tx>
+    ensures { (numbers : List ℕ) → others ≡ least numbers → result ≡ least (tx ∷ numbers) }
+{
+    match others {
+        Some(other) if other <= tx => Some(other),
+        _ => Some(tx),
+    }
+}
+
+/// The least of those of a list that are in the way and not passed, and of others of which the least is given.
+pub(crate) fn least_in_way(
+    holders: &[Member],
+    asked: &[Use],
+    passed: Passed,
+    others: Option<Tx>,
+) -> Option<Tx>
+    ensures { (numbers : List ℕ) → others ≡ least numbers
+        → result ≡ least (map tx_of (filter (stands_in_way asked.now passed) holders.now) ++ numbers) }
+{
+    let Some((first, rest)) = holders.split_first() else {
+        return others;
+    };
+    let beyond = least_in_way(rest, asked, passed, others);
+    if !is_passed(passed, first) && is_in_way(asked, first) {
+        least_with(first.tx(), beyond)
+    } else {
+        beyond
+    }
+}
+
+/// Whether a member of a group, with one member in its way, waits for another.
+fn waits_over(group: Tx, holder: &Member, other: &Member) -> bool
+    ensures { result ≡ waits_over group other.now holder.now }
+{
+    if holder.group() == group {
+        holder.tx() == other.tx()
+    } else {
+        other.group() == holder.group()
+    }
+}
+
+/// Whether one of a list that is in the way and not passed makes a member of a group wait for another.
+pub(crate) fn is_awaited_over(
+    holders: &[Member],
+    asked: &[Use],
+    passed: Passed,
+    group: Tx,
+    other: &Member,
+) -> bool
+    ensures { result ≡ list_any (is_awaited_over asked.now passed group other.now) holders.now }
+{
+    holders.iter().any(|holder| {
+        !is_passed(passed, holder) && is_in_way(asked, holder) && waits_over(group, holder, other)
+    })
+}

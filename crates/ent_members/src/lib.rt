@@ -1,0 +1,30 @@
+//! The members of the present run.
+//!
+//! A [`Run`] holds the members, up to 64: those that are prepared, in the order in which they prepared, and the others
+//! by number. Each has its place, what it bound, its answers, the uses of tables that it holds and the label of its
+//! group. A caller may rely on it that each call does to the members exactly what the protocol's functions say, and
+//! that a call that finds no memory leaves them as they were.
+#![tactic(auto)]
+
+mod change;
+mod entrant;
+mod hold;
+mod in_way;
+mod join;
+mod law;
+mod leavers;
+mod member;
+mod moves;
+mod run;
+mod search;
+mod start;
+mod table_use;
+mod uses;
+
+pub use entrant::Entrant;
+pub use law::awaited_members_are_waited_for;
+pub use leavers::{Leaver, Leavers};
+pub use member::Member;
+pub use run::Run;
+pub use table_use::Use;
+pub use uses::{MOST_USES, Uses, entangled_uses, statement_uses, uses_are_kept_by_closing};

@@ -1,0 +1,179 @@
+//! One member.
+ghost use Rattle.std.specs.Prelude.{◌≡◌, OnOk, OnErr};
+ghost use Rattle.ent_protocol.specs.Begin.{holding};
+ghost use Rattle.ent_protocol.specs.Finish.{stepped};
+ghost use Rattle.ent_protocol.specs.Run.{fresh};
+ghost use Rattle.ent_members.specs.Changes.{posting, stepping};
+
+use crate::entrant::Entrant;
+use crate::hold::with_uses;
+use crate::table_use::Use;
+use ent_closing::Environment;
+use ent_group::Tx;
+use ent_semantics::Answer;
+use ent_value::{Name, Value};
+use std::alloc::{AllocError, Global};
+use std::marker::Model;
+
+/// A member of the present run. Its place is the number of its next statement, from 1.
+#[derive(Drop)]
+pub struct Member {
+    tx: Tx,
+    attempt: u64,
+    group: Tx,
+    environment: Environment,
+    /// One for each statement before its next one.
+    answers: Vec<Answer>,
+    uses: Vec<Use>,
+    is_posted: bool,
+}
+
+impl Model for Member {
+    ghost use Rattle.std.specs.Prelude.{suc, length};
+    ghost use Rattle.ent_protocol.specs.State.{Member as Seen};
+
+    ghost Value = { Seen };
+
+    ghost view = { λ m. record {
+      tx = m.tx;
+      attempt = m.attempt;
+      group = m.group;
+      place = suc (length m.answers.items);
+      bound = m.environment;
+      answers = m.answers.items;
+      uses = m.uses.items;
+      posted = m.is_posted;
+    } };
+}
+
+impl Member {
+    /// A member of a run that starts, in a group of its own, at its first statement. It takes no memory.
+    pub(crate) fn fresh(alloc: Global, entrant: Entrant) -> Self
+        ensures { result ≡ fresh entrant }
+    {
+        Member {
+            tx: entrant.tx(),
+            attempt: entrant.runs() + 1,
+            group: entrant.tx(),
+            environment: Environment::new(alloc),
+            answers: Vec::new(alloc),
+            uses: Vec::new(alloc),
+            is_posted: false,
+        }
+    }
+
+    pub fn tx(&self) -> Tx
+        ensures { result ≡ self.now.tx }
+    {
+        self.tx
+    }
+
+    /// The runs that it took part in, this one counted.
+    pub fn attempt(&self) -> u64
+        ensures { result ≡ self.now.attempt }
+    {
+        self.attempt
+    }
+
+    /// The label of its group: members of one label are of one group.
+    pub fn group(&self) -> Tx
+        ensures { result ≡ self.now.group }
+    {
+        self.group
+    }
+
+    /// The number of its next statement, from 1.
+    pub fn place(&self) -> usize
+        ensures { result ≡ self.now.place }
+    {
+        self.answers.len() + 1
+    }
+
+    /// What its host variables are bound to.
+    pub fn environment(&self) -> &Environment
+        ensures { result.now ≡ self.now.bound }
+    {
+        &self.environment
+    }
+
+    /// The answers of its statements so far.
+    pub fn answers(&self) -> &[Answer]
+        ensures { result.now ≡ self.now.answers }
+    {
+        self.answers.as_slice()
+    }
+
+    /// The answers, moved and not copied.
+    pub fn into_answers(self) -> Vec<Answer>
+        ensures { result.items ≡ self.answers }
+    {
+        let Member { answers, .. } = self;
+        answers
+    }
+
+    /// The uses that it holds.
+    pub fn uses(&self) -> &[Use]
+        ensures { result.now ≡ self.now.uses }
+    {
+        self.uses.as_slice()
+    }
+
+    /// Whether its next statement is in the pool.
+    pub fn is_posted(&self) -> bool
+        ensures { result ≡ self.now.posted }
+    {
+        self.is_posted
+    }
+
+    /// It holds the uses that are asked for too.
+    pub(crate) fn hold(&mut self, alloc: Global, asked: &[Use]) -> Result<(), AllocError>
+        ensures ok { OnOk result (self.new ≡ holding self.old asked.now) }
+        ensures err { OnErr result (self.new ≡ self.old) }
+    {
+        self.uses = with_uses(alloc, self.uses.as_slice(), asked)?;
+        Ok(())
+    }
+
+    /// It holds the uses that are asked for too, and its next statement is in the pool.
+    pub(crate) fn post(&mut self, alloc: Global, asked: &[Use]) -> Result<(), AllocError>
+        ensures ok { OnOk result (self.new ≡ posting asked.now self.old) }
+        ensures err { OnErr result (self.new ≡ self.old) }
+    {
+        self.hold(alloc, asked)?;
+        self.is_posted = true;
+        Ok(())
+    }
+
+    /// Its group has another label.
+    pub(crate) fn set_group(&mut self, group: Tx)
+        ensures { self.new ≡ record self.old { group = group } }
+    {
+        self.group = group;
+    }
+
+    /// It takes the answer of its statement, and is at the next one.
+    pub(crate) fn step(&mut self, answer: Answer) -> Result<(), AllocError>
+        ensures ok { OnOk result (self.new ≡ stepped answer self.old) }
+        ensures err { OnErr result (self.new ≡ self.old) }
+    {
+        self.answers.push(answer)?;
+        self.is_posted = false;
+        Ok(())
+    }
+
+    /// It takes the answer of its statement, which binds host variables, and is at the next one.
+    pub(crate) fn step_bound(
+        &mut self,
+        answer: Answer,
+        bound: Vec<(Name, Value)>,
+    ) -> Result<(), AllocError>
+        ensures ok { OnOk result (self.new ≡ stepping answer bound.items self.old) }
+        ensures err { OnErr result (self.new ≡ self.old) }
+    {
+        self.answers.reserve(1)?;
+        self.environment.bind_all(bound)?;
+        self.answers.push_reserved(answer);
+        self.is_posted = false;
+        Ok(())
+    }
+}

@@ -1,0 +1,302 @@
+//! The members of a run.
+ghost use Rattle.std.specs.Prelude.{◌≡◌, ℕ, ◌+◌, ◌≤◌, ◌==◌, ◌++◌, [], length, map, filter, nat_eq};
+ghost use Rattle.std.specs.Prelude.{List, IfOk, OnOk, OnErr, IsSome};
+ghost use Rattle.std.specs.List.{IsDistinct};
+ghost use Rattle.std.specs.Option.{option_copied};
+ghost use Rattle.std.specs.Vec.{vec_capacity};
+ghost use Rattle.ent_protocol.specs.Begin.{holding};
+ghost use Rattle.ent_protocol.specs.Commit.{committing_members, is_ready};
+ghost use Rattle.ent_protocol.specs.Finish.{stepped};
+ghost use Rattle.ent_protocol.specs.Lookup.{member_of, running_members};
+ghost use Rattle.ent_protocol.specs.Member.{active_member, is_prepared};
+ghost use Rattle.ent_protocol.specs.Job.{Asking};
+ghost use Rattle.ent_protocol.specs.PoolEvents.{answered_groups};
+ghost use Rattle.ent_protocol.specs.Rollback.{group_members, group_numbers};
+ghost use Rattle.ent_protocol.specs.Run.{fresh};
+ghost use Rattle.ent_protocol.specs.State.{Member as Seen, State, by_number, members};
+ghost use Rattle.ent_protocol.specs.Uses.{blocker};
+ghost use Rattle.ent_members.specs.Changes.{posting, stepping};
+ghost use Rattle.ent_members.specs.Joined.{JoinGroups, labels_in};
+ghost use Rattle.ent_members.specs.Leavers.{leaver_of, leavers_in};
+ghost use Rattle.ent_members.specs.Moves.{Leave, Prepares, is_not_of, is_of_another};
+ghost use Rattle.ent_members.specs.Places.{Changes, found};
+ghost use Rattle.ent_members.specs.Run.{with_run, tx_of};
+ghost use Rattle.ent_members.specs.Waits.{is_awaited};
+
+use crate::change;
+use crate::entrant::Entrant;
+use crate::in_way::{Passed, is_awaited_over, least_in_way};
+use crate::join::{gather_labels, join_groups};
+use crate::leavers::{Leavers, gather};
+use crate::member::Member;
+use crate::moves::{any_of, prepare, remove, take_group};
+use crate::search::{is_among, member_in};
+use crate::start::fresh_members;
+use crate::table_use::Use;
+use ent_group::{MOST_MEMBERS, Members, Tx};
+use ent_semantics::Answer;
+use ent_value::{Name, Value};
+use std::alloc::{AllocError, Global};
+use std::marker::Model;
+
+/// The members of a run, up to [`MOST_MEMBERS`]: those that are prepared, in the order in which they prepared, and the
+/// others, which are active.
+#[derive(Drop)]
+pub struct Run {
+    alloc: Global,
+    prepared: Vec<Member>,
+    active: Vec<Member>,
+}
+
+impl Model for Run {
+    ghost use Rattle.ent_members.specs.Run.{Run as Seen, IsRun};
+
+    ghost Value = { Seen };
+
+    ghost view = { λ r. record { prepared = r.prepared.items; active = r.active.items } };
+
+    ghost invariant = { λ r. IsRun r.prepared.items r.active.items };
+}
+
+impl Run {
+    /// No member. It takes no memory.
+    pub fn new(alloc: Global) -> Self
+        ensures prepared { result.prepared ≡ [] }
+        ensures active { result.active ≡ [] }
+    {
+        Run {
+            alloc,
+            prepared: Vec::new(alloc),
+            active: Vec::new(alloc),
+        }
+    }
+
+    /// The members of a run that starts: each of those who enter, in a group of its own, at its first statement.
+    pub fn start(alloc: Global, entrants: &[Entrant]) -> Result<Self, AllocError>
+        requires bound { length entrants.now ≤ MOST_MEMBERS }
+        requires distinct { IsDistinct nat_eq (map (λ e. e.tx) entrants.now) }
+        ensures prepared { IfOk result (λ run. run.prepared ≡ []) }
+        ensures active { IfOk result (λ run. run.active ≡ by_number tx_of (map fresh entrants.now)) }
+    {
+        let active = fresh_members(alloc, entrants)?;
+        Ok(Run {
+            alloc,
+            prepared: Vec::new(alloc),
+            active,
+        })
+    }
+
+    pub fn len(&self) -> usize
+        ensures len { result ≡ length self.now.prepared + length self.now.active }
+        ensures bound { length self.now.prepared + length self.now.active ≤ MOST_MEMBERS }
+    {
+        self.prepared.len() + self.active.len()
+    }
+
+    pub fn is_empty(&self) -> bool
+        ensures { result ≡ (length self.now.prepared + length self.now.active == 0) }
+    {
+        self.len() == 0
+    }
+
+    /// The members that are prepared, in the order in which they prepared.
+    pub fn prepared(&self) -> &[Member]
+        ensures { result.now ≡ self.now.prepared }
+    {
+        self.prepared.as_slice()
+    }
+
+    /// The other members.
+    pub fn active(&self) -> &[Member]
+        ensures list { result.now ≡ self.now.active }
+        ensures distinct { IsDistinct nat_eq (map tx_of self.now.active) }
+    {
+        self.active.as_slice()
+    }
+
+    /// The member of a number that isn't prepared.
+    pub fn active_member(&self, tx: Tx) -> Option<&Member>
+        ensures { (s : State) → option_copied result ≡ active_member (with_run self.now s) tx }
+    {
+        member_in(self.active(), tx)
+    }
+
+    /// The member of a number, prepared or not.
+    pub fn member(&self, tx: Tx) -> Option<&Member>
+        ensures { (s : State) → option_copied result ≡ member_of (with_run self.now s) tx }
+    {
+        match member_in(self.prepared(), tx) {
+            Some(member) => Some(member),
+            None => member_in(self.active(), tx),
+        }
+    }
+
+    /// Whether the member of a number is prepared.
+    pub fn is_prepared(&self, tx: Tx) -> bool
+        ensures { (s : State) → result ≡ is_prepared (with_run self.now s) tx }
+    {
+        is_among(self.prepared(), tx)
+    }
+
+    /// All members, by number.
+    pub fn numbers(&self) -> Members
+        ensures { (s : State) → result ≡ running_members (with_run self.now s) }
+    {
+        self.all_leavers().numbers()
+    }
+
+    /// The members of the group with a label, by number.
+    pub fn group_numbers(&self, group: Tx) -> Members
+        ensures { (s : State) → result ≡ group_numbers (with_run self.now s) group }
+    {
+        self.leavers(group).numbers()
+    }
+
+    /// The members of the group with a label, as they leave the run.
+    pub fn leavers(&self, group: Tx) -> Leavers
+        ensures { (s : State) → result ≡ map leaver_of (group_members (with_run self.now s) group) }
+    {
+        self.leavers_within(Some(group))
+    }
+
+    /// All members, as they leave the run.
+    pub fn all_leavers(&self) -> Leavers
+        ensures { (s : State) → result ≡ map leaver_of (by_number tx_of (members (with_run self.now s))) }
+    {
+        self.leavers_within(None)
+    }
+
+    /// The least member that holds a use in conflict with one of those that a member asks for, save itself and the
+    /// prepared members of its group.
+    pub fn blocker(&self, asker: &Member, asked: &[Use]) -> Option<Tx>
+        ensures { (s : State) → result ≡ blocker (with_run self.now s) asker.now asked.now }
+    {
+        let least = least_in_way(self.active(), asked, Passed::Itself(asker.tx()), None);
+        least_in_way(self.prepared(), asked, Passed::Group(asker.group()), least)
+    }
+
+    /// Whether a member that asks for uses would wait for another member, which isn't prepared.
+    pub fn awaits(&self, asker: &Member, asked: &[Use], other: &Member) -> bool
+        ensures { (s : State) → result ≡ is_awaited (with_run self.now s) asker.now asked.now other.now }
+    {
+        let group = asker.group();
+        is_awaited_over(self.prepared(), asked, Passed::Group(group), group, other)
+            || is_awaited_over(
+                self.active(),
+                asked,
+                Passed::Itself(asker.tx()),
+                group,
+                other,
+            )
+    }
+
+    /// A member that isn't prepared holds the uses that are asked for too. Where memory runs out nothing changes.
+    pub fn hold(&mut self, tx: Tx, asked: &[Use]) -> Result<(), AllocError>
+        requires { IsSome (found self.old.active tx) }
+        ensures ok { OnOk result (Changes (λ member. holding member asked.now) tx self.old.active self.new.active) }
+        ensures prepared { self.new.prepared ≡ self.old.prepared }
+        ensures err { OnErr result (self.new ≡ self.old) }
+    {
+        change::hold(self.alloc, self.active.as_mut_slice(), tx, asked)
+    }
+
+    /// A member that isn't prepared holds the uses that are asked for too, and its next statement is in the pool.
+    /// Where memory runs out nothing changes.
+    pub fn post(&mut self, tx: Tx, asked: &[Use]) -> Result<(), AllocError>
+        requires { IsSome (found self.old.active tx) }
+        ensures ok { OnOk result (Changes (posting asked.now) tx self.old.active self.new.active) }
+        ensures prepared { self.new.prepared ≡ self.old.prepared }
+        ensures err { OnErr result (self.new ≡ self.old) }
+    {
+        change::post(self.alloc, self.active.as_mut_slice(), tx, asked)
+    }
+
+    /// A member that isn't prepared takes the answer of its statement, and is at the next one. Where memory runs out
+    /// nothing changes.
+    pub fn step(&mut self, tx: Tx, answer: Answer) -> Result<(), AllocError>
+        requires { IsSome (found self.old.active tx) }
+        ensures ok { OnOk result (Changes (stepped answer) tx self.old.active self.new.active) }
+        ensures prepared { self.new.prepared ≡ self.old.prepared }
+        ensures err { OnErr result (self.new ≡ self.old) }
+    {
+        change::step(self.active.as_mut_slice(), tx, answer)
+    }
+
+    /// A member that isn't prepared takes the answer of its statement, which binds host variables, and is at the next
+    /// one. Where memory runs out nothing changes.
+    pub fn step_bound(
+        &mut self,
+        tx: Tx,
+        answer: Answer,
+        bound: Vec<(Name, Value)>,
+    ) -> Result<(), AllocError>
+        requires { IsSome (found self.old.active tx) }
+        ensures ok { OnOk result (Changes (stepping answer bound.items) tx self.old.active self.new.active) }
+        ensures prepared { self.new.prepared ≡ self.old.prepared }
+        ensures err { OnErr result (self.new ≡ self.old) }
+    {
+        change::step_bound(self.active.as_mut_slice(), tx, answer, bound)
+    }
+
+    /// A member is prepared, the last so far. Where memory runs out nothing changes.
+    pub fn prepare(&mut self, tx: Tx) -> Result<(), AllocError>
+        requires { IsSome (found self.old.active tx) }
+        ensures ok { OnOk result (Prepares tx self.old self.new) }
+        ensures err { OnErr result (self.new ≡ self.old) }
+    {
+        prepare(&mut self.prepared, &mut self.active, tx)
+    }
+
+    /// Whether every member of the group with a label is prepared.
+    pub fn is_ready(&self, group: Tx) -> bool
+        ensures { (s : State) → result ≡ is_ready (with_run self.now s) group }
+    {
+        !any_of(self.active(), group)
+    }
+
+    /// The groups of the members of these numbers become one. It takes no memory.
+    pub fn join_groups(&mut self, numbers: &Members)
+        ensures list { JoinGroups (labels_in numbers.now (self.old.prepared ++ self.old.active)) self.old self.new }
+        ensures answered { (s : State) (asked : List Asking) → numbers.now ≡ map (λ asking. asking.tx) asked
+            → JoinGroups (answered_groups (with_run self.old s) asked) self.old self.new }
+    {
+        let mut labels = Members::new();
+        gather_labels(self.prepared.as_slice(), numbers, &mut labels);
+        gather_labels(self.active.as_slice(), numbers, &mut labels);
+        join_groups(&mut self.prepared, &labels);
+        join_groups(&mut self.active, &labels);
+    }
+
+    /// The prepared members of the group with a label commit: they leave the run, in the order in which they prepared,
+    /// and come in the room that is made for them. It takes no memory.
+    pub fn commit(&mut self, group: Tx, room: Vec<Member>) -> Vec<Member>
+        requires empty { room.items ≡ [] }
+        requires room { MOST_MEMBERS ≤ vec_capacity room }
+        ensures committed { (s : State) → result.items ≡ committing_members (with_run self.old s) group }
+        ensures prepared { self.new.prepared ≡ filter (is_of_another group) self.old.prepared }
+        ensures active { self.new.active ≡ self.old.active }
+    {
+        let mut committed = room;
+        take_group(&mut self.prepared, group, &mut committed);
+        committed
+    }
+
+    /// Members of these numbers are taken out of the run. It takes no memory.
+    pub fn remove(&mut self, numbers: &Members)
+        ensures prepared { self.new.prepared ≡ filter (is_not_of numbers.now) self.old.prepared }
+        ensures active { self.new.active ≡ filter (is_not_of numbers.now) self.old.active }
+        ensures leave { (gone : List Seen) → numbers.now ≡ map tx_of gone → Leave gone self.old self.new }
+    {
+        remove(&mut self.prepared, numbers);
+        remove(&mut self.active, numbers);
+    }
+
+    fn leavers_within(&self, group: Option<Tx>) -> Leavers
+        ensures { result ≡ leavers_in group (self.now.prepared ++ self.now.active) }
+    {
+        let mut leavers = Leavers::new();
+        gather(self.active.as_slice(), group, &mut leavers);
+        gather(self.prepared.as_slice(), group, &mut leavers);
+        leavers
+    }
+}

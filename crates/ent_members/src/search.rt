@@ -1,0 +1,42 @@
+//! Members in a list, by their numbers.
+ghost use Rattle.std.specs.Prelude.{◌≡◌, ◌==◌, filter, IfSome, IsNone, None};
+ghost use Rattle.std.specs.List.{list_any};
+ghost use Rattle.std.specs.Option.{option_copied};
+ghost use Rattle.ent_protocol.specs.Member.{is_tx};
+ghost use Rattle.ent_protocol.specs.State.{first_of};
+ghost use Rattle.ent_members.specs.Places.{IsAt};
+
+use crate::member::Member;
+use ent_group::Tx;
+
+/// The first member of a number.
+pub(crate) fn member_in<'a>(members: &'a [Member], tx: Tx) -> Option<&'a Member>
+    ensures { option_copied result ≡ first_of (filter (is_tx tx) members.now) }
+{
+    for member in members {
+        if member.tx() == tx {
+            return Some(member);
+        }
+    }
+    None
+}
+
+/// The index of the first member of a number.
+pub(crate) fn place_of(members: &[Member], tx: Tx) -> Option<usize>
+    ensures some { IfSome result (IsAt members.now tx) }
+    ensures none { IsNone result → first_of (filter (is_tx tx) members.now) ≡ None }
+{
+    for (i, member) in members.iter().enumerate() {
+        if member.tx() == tx {
+            return Some(i);
+        }
+    }
+    None
+}
+
+/// Whether a member has a number.
+pub(crate) fn is_among(members: &[Member], tx: Tx) -> bool
+    ensures { result ≡ list_any (is_tx tx) members.now }
+{
+    members.iter().any(|member| member.tx() == tx)
+}

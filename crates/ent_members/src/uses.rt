@@ -1,0 +1,114 @@
+//! The uses that a statement asks for, in a fixed array.
+ghost use Rattle.std.specs.Prelude.{◌≡◌, ◌+◌, ◌≤◌, ◌<◌, List, [], ◌∷◌, ◌++◌, length, map};
+ghost use Rattle.ent_value.specs.declared.value.Value.{Value};
+ghost use Rattle.ent_closed.specs.declared.operand.Known.{Known};
+ghost use Rattle.ent_closed.specs.declared.entangled.Entangled.{Entangled as EntangledForm};
+ghost use Rattle.ent_closed.specs.declared.statement.Statement.{Statement as Form};
+ghost use Rattle.ent_closed.specs.Closing.{closed};
+ghost use Rattle.ent_semantics.specs.Database.{Environment};
+ghost use Rattle.ent_protocol.specs.State.{Use as Seen};
+ghost use Rattle.ent_protocol.specs.Uses.{shared, exclusive, entangled_uses, statement_uses};
+ghost use Rattle.ent_members.specs.Uses.{uses_of, uses_of_entangled};
+
+use crate::table_use::Use;
+use ent_closed::{Entangled, Statement};
+use std::marker::Model;
+
+/// The most uses that a statement asks for: a sub-select has up to 4 sources, and an entangled statement 16 of them.
+pub const MOST_USES: usize = 64;
+
+/// A list of up to [`MOST_USES`] uses. It takes no memory.
+#[derive(Debug, Drop)]
+pub struct Uses {
+    uses: [Use; MOST_USES],
+    len: usize,
+}
+
+impl Model for Uses {
+    ghost use Rattle.std.specs.Prelude.{List, take, ◌≤◌};
+    ghost use Rattle.ent_protocol.specs.State.{Use as Asked};
+    ghost use Rattle.ent_members.specs.declared.uses.TheConstants.{MOST_USES};
+
+    ghost Value = { List Asked };
+
+    ghost view = { λ u. take u.len u.uses };
+
+    ghost invariant = { λ u. u.len ≤ MOST_USES };
+}
+
+impl Uses {
+    /// No use.
+    pub fn new() -> Self
+        ensures { result ≡ [] }
+    {
+        Uses {
+            uses: [Use::shared(0); MOST_USES],
+            len: 0,
+        }
+    }
+
+    pub fn as_slice(&self) -> &[Use]
+        ensures list { result.now ≡ self.now }
+        ensures bound { length self.now ≤ MOST_USES }
+    {
+        &self.uses[..self.len]
+    }
+
+    fn push(&mut self, asked: Use)
+        requires { length self.old < MOST_USES }
+        ensures { self.new ≡ self.old ++ asked ∷ [] }
+    {
+        self.uses[self.len] = asked;
+        self.len += 1;
+    }
+}
+
+/// Puts in the shared uses of tables.
+fn extend_shared(uses: &mut Uses, tables: &[usize])
+    requires { length uses.old + length tables.now ≤ MOST_USES }
+    ensures { uses.new ≡ uses.old ++ map shared tables.now }
+{
+    for table in tables {
+        uses.push(Use::shared(*table));
+    }
+}
+
+/// The uses that an entangled statement asks for: those of the sources of its sub-selects.
+pub fn entangled_uses<K>(entangled: &Entangled<K>) -> Uses
+    ensures { result ≡ uses_of_entangled entangled.now }
+{
+    let mut uses = Uses::new();
+    let _limit = entangled.atoms.len();
+    for membership in entangled.atoms.as_slice() {
+        let _most = membership.select.sources.len();
+        extend_shared(&mut uses, membership.select.sources.as_slice());
+    }
+    uses
+}
+
+/// The uses that a statement asks for.
+pub fn statement_uses<K>(statement: &Statement<K>) -> Uses
+    ensures { result ≡ uses_of statement.now }
+{
+    let mut uses = Uses::new();
+    match statement {
+        Statement::Select(select) => {
+            let _limit = select.sources.len();
+            extend_shared(&mut uses, select.sources.as_slice());
+        }
+        Statement::Entangled(entangled) => uses = entangled_uses(entangled),
+        Statement::Insert { table, .. }
+        | Statement::Delete { table, .. }
+        | Statement::Update { table, .. } => uses.push(Use::exclusive(*table)),
+        Statement::Set { .. } => {}
+    }
+    uses
+}
+
+/// The uses that a closed statement asks for are the protocol's, and closing a statement changes none.
+pub fn uses_are_kept_by_closing()
+    ensures entangled { (statement : EntangledForm Value) → uses_of_entangled statement ≡ entangled_uses statement }
+    ensures statement { (statement : Form Value) → uses_of statement ≡ statement_uses statement }
+    ensures closed { (environment : Environment) (statement : Form Known)
+        → statement_uses (closed environment statement) ≡ uses_of statement }
+{}

@@ -1,0 +1,5 @@
+pub mod Plan
+pub mod Tables
+pub mod Pairs
+pub mod Agreement
+pub mod Classes

@@ -1,0 +1,59 @@
+//! Entangled statements as an input has them, resolved and closed.
+use anyhow::{Context, Result, bail};
+use ent_closed::{Entangled, Statement};
+use ent_closing::{Environment, closed};
+use ent_form::{Catalogue, Plain, resolve};
+use ent_sql::parse_input;
+use ent_tree::Input;
+use ent_value::Value;
+use std::alloc::Global;
+
+fn read(alloc: Global, text: &str) -> Result<Input> {
+    match parse_input(alloc, text) {
+        Ok(input) => Ok(input),
+        Err(_) => bail!("this is no sentence"),
+    }
+}
+
+fn catalogue_of(alloc: Global, input: &Input) -> Result<Catalogue> {
+    match Catalogue::of(alloc, &input.opening) {
+        Ok(catalogue) => Ok(catalogue),
+        Err(_) => bail!("these tables have a fault"),
+    }
+}
+
+/// How many tables an opening declares.
+pub(crate) fn count_tables(alloc: Global, opening: &str) -> Result<usize> {
+    let input = read(alloc, opening)?;
+    Ok(catalogue_of(alloc, &input)?.tables.len())
+}
+
+/// The first script of an input, resolved.
+fn first_form(alloc: Global, input: &Input) -> Result<Plain> {
+    let catalogue = catalogue_of(alloc, input)?;
+    let script = input
+        .scripts
+        .as_slice()
+        .first()
+        .context("there is no script")?;
+    match resolve(alloc, &catalogue, script) {
+        Ok(plain) => Ok(plain),
+        Err(_) => bail!("this statement has a fault"),
+    }
+}
+
+/// An entangled statement over the tables of an opening. It stands alone in its script, and uses no host variable.
+pub(crate) fn entangled(alloc: Global, opening: &str, text: &str) -> Result<Entangled<Value>> {
+    let whole = format!(in alloc; "{opening} BEGIN TRANSACTION; {text} COMMIT;")?;
+    let input = read(alloc, whole.as_str())?;
+    let plain = first_form(alloc, &input)?;
+    let first = plain
+        .statements
+        .as_slice()
+        .first()
+        .context("there is no statement")?;
+    match closed(alloc, first, &Environment::new(alloc))? {
+        Statement::Entangled(entangled) => Ok(entangled),
+        _ => bail!("this is no entangled statement"),
+    }
+}
