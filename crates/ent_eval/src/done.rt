@@ -1,21 +1,18 @@
 //! Jobs that were done.
-ghost use Rattle.std.specs.Prelude.{◌≡◌, IfOk, IfErr, map};
-ghost use Rattle.std.specs.Arc.{arc_value};
-ghost use Rattle.ent_protocol.specs.Job.{IsEvaluated, Single as AloneWork};
+ghost use Rattle.std.specs.Prelude.{◌≡◌, IfOk, IfErr};
+ghost use Rattle.ent_protocol.specs.Job.{IsEvaluated};
 ghost use Rattle.ent_protocol.specs.Job as jobs;
-ghost use Rattle.ent_eval.specs.Seen.{relation_of};
 ghost use Rattle.ent_eval.specs.Work.{CanBeMade, IsOne, IsRight, alone_seen, outcome_seen};
 
 use crate::evaluation::statement_outcome;
 use crate::job::Job;
+use crate::joint::choice;
 use crate::outcome::{JobOutcome, Outcome};
-use crate::seen::Seen;
+use crate::seen::{Seen, tables_shared};
 use crate::single::Single;
 use crate::work::Work;
-use ent_rel::Table;
 use std::alloc::{AllocError, Global};
 use std::marker::Model;
-use std::sync::Arc;
 
 /// A job that was done, and what it came to: the meaning of its own work over its own tables. It is made by
 /// evaluation alone.
@@ -84,17 +81,6 @@ impl Done {
     }
 }
 
-/// The tables, which are shared.
-fn tables_shared(alloc: Global, tables: &[Seen]) -> Result<Vec<Arc<Table>>, AllocError>
-    ensures { IfOk result (λ shared. map arc_value shared.items ≡ map relation_of tables.now) }
-{
-    let mut shared = Vec::with_capacity(alloc, tables.len())?;
-    for seen in tables {
-        shared.push(seen.table().clone()?)?;
-    }
-    Ok(shared)
-}
-
 /// What the statement of one transaction comes to.
 fn one_outcome(alloc: Global, single: &Single, tables: &[Seen]) -> Result<Outcome, AllocError>
     requires { IsOne single.now tables.now }
@@ -108,21 +94,22 @@ fn one_outcome(alloc: Global, single: &Single, tables: &[Seen]) -> Result<Outcom
     Ok(outcome)
 }
 
-/// What the job of one statement comes to.
+/// What a job comes to.
 fn outcome_of(alloc: Global, job: &Job) -> Result<JobOutcome, AllocError>
-    requires { (single : AloneWork) × (job.now.work ≡ jobs.One single) }
     ensures { IfOk result (λ outcome. IsRight record { job = job.now; outcome = outcome_seen outcome }) }
 {
     match job.work() {
         Work::One(single) => Ok(JobOutcome::One(one_outcome(alloc, single, job.tables())?)),
-        // It is work of one statement.
-        Work::Joint(_) => unreachable!(),
+        Work::Joint(asked) => Ok(JobOutcome::Choice(choice(
+            alloc,
+            asked.as_slice(),
+            job.tables(),
+        )?)),
     }
 }
 
-/// Does the job of one statement. Where memory runs out it comes back.
-pub fn evaluate_one(alloc: Global, job: Job) -> Result<Done, NotDone>
-    requires { (single : AloneWork) × (job.work ≡ jobs.One single) }
+/// Does a job. Where memory runs out it comes back.
+pub fn evaluate(alloc: Global, job: Job) -> Result<Done, NotDone>
     ensures ok { IfOk result (λ done. done.job ≡ job) }
     ensures meaning { IfOk result (λ done. IsEvaluated done) }
     ensures err { IfErr result (λ refused. refused.job ≡ job) }

@@ -10,6 +10,7 @@ mod change;
 mod done;
 mod evaluation;
 mod job;
+mod joint;
 mod law;
 mod outcome;
 mod row;
@@ -19,7 +20,7 @@ mod term;
 mod work;
 
 pub use asking::Asking;
-pub use done::{Done, NotDone, evaluate_one};
+pub use done::{Done, NotDone, evaluate};
 pub use evaluation::statement_outcome;
 pub use job::Job;
 pub use law::{components_stand_alone, lent_tables_stand};
