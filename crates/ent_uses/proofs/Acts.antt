@@ -1,0 +1,260 @@
+-- What holds of every state that is reached: what the opening's own state has and each change of a state keeps.
+use Rattle.std.proofs.Common.{◌≡◌, inl, inr, ℕ, zero, suc, Bool, true, false, not, ◌||◌, List, [], ◌∷◌, ◌++◌}
+use Rattle.std.proofs.Common.{refl, sym, ap, subst, ◌∙◌, Option, Some, None, Result, Ok, Err}
+use Rattle.std.specs.List.{filter, list_any}
+use Rattle.ent_value.specs.declared.value.Value.{Value}
+use Rattle.ent_tree.specs.declared.declaration.Opening.{Opening}
+use Rattle.ent_tree.specs.declared.script.Script.{Script}
+use Rattle.ent_semantics.specs.Entangled.{Valuation}
+use Rattle.ent_closed.specs.declared.entangled.Entangled.{Entangled}
+use Rattle.ent_closed.specs.declared.operand.Known.{Known}
+use Rattle.ent_closed.specs.declared.statement.Statement.{Statement}
+use Rattle.ent_protocol.specs.Begin.{BeginsOrdinary, Posts, BeginsEntangled, BeginsCommit, BeginsNext, BeginsUnless}
+use Rattle.ent_protocol.specs.Begin.{BeginsMember, lending, posting}
+use Rattle.ent_protocol.specs.Commit.{preparing, committing, is_ready}
+use Rattle.ent_protocol.specs.Event.{Event, Reply}
+use Rattle.ent_protocol.specs.Event as events
+use Rattle.ent_protocol.specs.Finish.{FinishesBy, Finishes, IsTaken, finished}
+use Rattle.ent_protocol.specs.Job.{Job, One, Asking, Done, Single, Outcome, Shown, Changed, Bound}
+use Rattle.ent_protocol.specs.Job.{Choice, Fault}
+use Rattle.ent_protocol.specs.Member.{Next, Ordinary, Asks, Commits, RollsBack, active_member, next_of, is_lent, is_of}
+use Rattle.ent_protocol.specs.Member.{is_tx}
+use Rattle.ent_protocol.specs.PoolEvents.{Picks, AnswersBy, JoinsOrIsStale, IsPresentComponent, IsOut, joining}
+use Rattle.ent_protocol.specs.PoolEvents.{joint_job}
+use Rattle.ent_protocol.specs.Reached.{opened, LeadsTo, IsReached}
+use Rattle.ent_protocol.specs.Rollback.{Cause, Asked, Failing, NoOne, rolled_back}
+use Rattle.ent_protocol.specs.Run.{Forms, SubmitsForm, SubmitsUnless, StartsWith, starting, submitting, BreaksIfAny}
+use Rattle.ent_protocol.specs.Run.{EndsWhileRunning, ending}
+use Rattle.ent_protocol.specs.State.{State, Member, Dormant, first_of}
+use Rattle.ent_protocol.specs.Step.{Step}
+use Rattle.ent_protocol.specs.Uses.{statement_uses, entangled_uses, blocker}
+use Rattle.ent_legal.specs.Faithful.{AreFaithful}
+use Rattle.ent_uses.proofs.Known.{IsKnown, Laws, known_at}
+use Rattle.ent_uses.proofs.Lists.{In, of_filter, neither, same_number}
+
+-- a member that isn't prepared, has no statement in the pool, and no job of which is lent
+pub record IsIdle (s : State) (member : Member) : Type 0 where
+  pub at : In member s.active
+  pub unposted : member.posted ≡ false
+  pub not_lent : is_lent s member.tx ≡ false
+
+-- the job of a statement that came back, its member, and the other jobs
+pub record ComesBack (s : State) (member : Member) (statement : Statement Value) (left : List Job) : Type 0 where
+  pub job : Job
+  pub taken : IsTaken job s.lent left
+  pub single : Single
+  pub is_single : job.work ≡ One single
+  pub at : In member s.active
+  pub own : member.tx ≡ single.tx
+  pub does : single.statement ≡ statement
+
+-- what each change of a state keeps
+pub record AreKept {F : Type 0} (forms : Forms F) (P : State → Type 0) : Type 0 where
+  pub submits : (s : State) (script : Script) (form : List (Statement Known)) → IsKnown s
+      → forms.resolve s.opening script ≡ Ok form → P s → P (submitting s script form)
+  pub starts : (s : State) → IsKnown s → s.running ≡ false → P s → P (starting s)
+  pub lends : (s : State) (member : Member) (statement : Statement Value) → IsIdle s member
+      → next_of s member ≡ Ordinary statement → P s → P (lending s member statement)
+  pub posts : (s : State) (member : Member) (statement : Entangled Value) → IsIdle s member
+      → next_of s member ≡ Asks statement → P s → P (posting s member statement)
+  pub prepares : (s : State) (member : Member) → IsKnown s → IsIdle s member → next_of s member ≡ Commits → P s
+      → P (preparing s member)
+  pub commits : (s : State) (group : ℕ) → list_any (is_of group) s.active ≡ false → P s → P (committing s group)
+  pub rolls_back : (s : State) (group : ℕ) (cause : Cause) → P s → P (rolled_back group cause s)
+  pub takes : (s : State) (job : Job) (left : List Job) → IsTaken job s.lent left → P s
+      → P (record s { lent = left })
+  pub finishes : (s : State) (member : Member) (left : List Job) (statement : Statement Value) (outcome : Outcome)
+      → IsKnown s → ComesBack s member statement left → P s
+      → P (finished (record s { lent = left }) member statement outcome)
+  pub picks : (s : State) (asked : List Asking) → IsPresentComponent s asked → (IsOut s asked → ⊥) → P s
+      → P (record s { lent = s.lent ++ joint_job s asked ∷ [] })
+  pub joins : (s : State) (job : Job) (left : List Job) (asked : List Asking) (groundings : List Valuation)
+      → IsKnown s → IsTaken job s.lent left → IsPresentComponent s asked → P s
+      → P (joining (record s { lent = left }) asked groundings)
+  pub tries : (s : State) (asked : List Asking) → P s → P (record s { tried = asked ∷ s.tried })
+  pub ends : (s : State) → P s → P (ending s)
+  pub recalls : (s : State) → P s → P (record s { lent = [] })
+
+first_in : {X : Type 0} (xs : List X) (x : X) → first_of xs ≡ Some x → In x xs
+first_in [] x e = cc (e)
+first_in (y ∷ ys) x e = inl (let same : x ≡ y = cc in same)
+
+found : (s : State) (tx : ℕ) (member : Member) → active_member s tx ≡ Some member
+    → In member s.active × (member.tx ≡ tx)
+found s tx member e =
+    let r = of_filter (is_tx tx) s.active member (first_in (filter (is_tx tx) s.active) member e) in
+    (r.0, same_number member.tx tx r.1)
+
+module _ {F : Type 0} (forms : Forms F) (P : State → Type 0) (kept : AreKept forms P) where
+  as_is : (s new : State) → new ≡ s → P s → P new
+  as_is s new e h = subst P (sym e) h
+
+  -- ---- begin
+
+  ordinary : (s : State) (m : Member) (c : Statement Value) (blocked : Option ℕ) (reply : Reply F) (new : State)
+      → BeginsOrdinary s m c blocked reply new → IsIdle s m → next_of s m ≡ Ordinary c → P s → P new
+  ordinary s m c (Some holder) reply new step idle next h = as_is s new step.1 h
+  ordinary s m c None reply new step idle next h = as_is _ new step.1 (kept.lends s m c idle next h)
+
+  asks_to_post : (s : State) (m : Member) (asked : Entangled Value) (reply : Reply F) (new : State)
+      → Posts s m asked reply new → IsIdle s m → next_of s m ≡ Asks asked → P s → P new
+  asks_to_post s m asked reply new (inl step) idle next h = as_is _ new step.2 (kept.posts s m asked idle next h)
+  asks_to_post s m asked reply new (inr step) idle next h = as_is s new step.2.1 h
+
+  entangled : (s : State) (m : Member) (asked : Entangled Value) (blocked : Option ℕ) (reply : Reply F) (new : State)
+      → BeginsEntangled s m asked blocked reply new → IsIdle s m → next_of s m ≡ Asks asked → P s → P new
+  entangled s m asked (Some holder) reply new step idle next h = as_is s new step.1 h
+  entangled s m asked None reply new step idle next h = asks_to_post s m asked reply new step idle next h
+
+  unready : (b : Bool) → not b ≡ true → b ≡ false
+  unready true e = sym e
+  unready false e = refl
+
+  commit : (prepared : State) (group : ℕ) (ready : Bool) (reply : Reply F) (new : State)
+      → is_ready prepared group ≡ ready → BeginsCommit prepared group ready reply new → P prepared → P new
+  commit prepared group true reply new is step h =
+      as_is _ new step.1 (kept.commits prepared group (unready (list_any (is_of group) prepared.active) is) h)
+  commit prepared group false reply new is step h = as_is prepared new step.1 h
+
+  next_step : (s : State) (m : Member) (is : Next) (reply : Reply F) (new : State) → next_of s m ≡ is
+      → BeginsNext s m is reply new → IsKnown s → IsIdle s m → P s → P new
+  next_step s m (Ordinary c) reply new is step known idle h =
+      ordinary s m c (blocker s m (statement_uses c)) reply new step idle is h
+  next_step s m (Asks asked) reply new is step known idle h =
+      entangled s m asked (blocker s m (entangled_uses asked)) reply new step idle is h
+  next_step s m Commits reply new is step known idle h =
+      commit (preparing s m) m.group (is_ready (preparing s m) m.group) reply new refl step
+      (kept.prepares s m known idle is h)
+  next_step s m RollsBack reply new is step known idle h =
+      as_is _ new step.1 (kept.rolls_back s m.group (Asked m.tx) h)
+
+  unless : (busy : Bool) (s : State) (m : Member) (reply : Reply F) (new : State)
+      → (m.posted || is_lent s m.tx) ≡ busy → BeginsUnless busy s m reply new → IsKnown s → In m s.active
+      → P s → P new
+  unless true s m reply new is step known at h = as_is s new step.1 h
+  unless false s m reply new is step known at h =
+      let two = neither m.posted (is_lent s m.tx) is in
+      next_step s m (next_of s m) reply new refl step known
+      (record { at = at; unposted = two.0; not_lent = two.1 }) h
+
+  begins : (s : State) (tx : ℕ) (member : Option Member) (reply : Reply F) (new : State)
+      → active_member s tx ≡ member → BeginsMember s tx member reply new → IsKnown s → P s → P new
+  begins s tx (Some m) reply new is step known h =
+      let f = found s tx m is in
+      unless (m.posted || is_lent s tx) s m reply new (ap (λ n. m.posted || is_lent s n) f.1) step known f.0 h
+  begins s tx None reply new is step known h = as_is s new step.1 h
+
+  -- ---- results
+
+  by_outcome : (s : State) (m : Member) (left : List Job) (c : Statement Value) (outcome : Outcome) (reply : Reply F)
+      (new : State) → FinishesBy (record s { lent = left }) m c outcome reply new → IsKnown s → ComesBack s m c left
+      → P s → P new
+  by_outcome s m left c (Fault failure) reply new step known back h =
+      as_is _ new step.1
+      (kept.rolls_back (record s { lent = left }) m.group (Failing m.tx failure)
+      (kept.takes s back.job left back.taken h))
+  by_outcome s m left c (Shown rows) reply new step known back h =
+      as_is _ new step.1 (kept.finishes s m left c (Shown rows) known back h)
+  by_outcome s m left c (Changed count removed added) reply new step known back h =
+      as_is _ new step.1 (kept.finishes s m left c (Changed count removed added) known back h)
+  by_outcome s m left c (Bound value) reply new step known back h =
+      as_is _ new step.1 (kept.finishes s m left c (Bound value) known back h)
+  by_outcome s m left c (Choice groundings) reply new step known back h = absurd step
+
+  finish : (s : State) (done : Done) (reply : Reply F) (new : State) → Finishes s done reply new → IsKnown s → P s
+      → P new
+  finish s done reply new (inl step) known h =
+      let single = step.0 in
+      let f = found s single.tx step.2.member step.2.is_member in
+      by_outcome s step.2.member step.2.left single.statement done.outcome reply new step.2.steps known
+      (record {
+        job = done.job;
+        taken = step.2.taken;
+        single = single;
+        is_single = step.1;
+        at = f.0;
+        own = f.1;
+        does = refl;
+      }) h
+  finish s done reply new (inr step) known h = as_is s new step.1.1 h
+
+  answers_by : (s : State) (job : Job) (left : List Job) (asked : List Asking) (groundings : Option (List Valuation))
+      (reply : Reply F) (new : State)
+      → AnswersBy (record s { lent = left }) asked groundings reply new → IsTaken job s.lent left
+      → IsKnown s → IsPresentComponent s asked → P s → P new
+  answers_by s job left asked (Some groundings) reply new step taken known component h =
+      as_is _ new step.1 (kept.joins s job left asked groundings known taken component h)
+  answers_by s job left asked None reply new step taken known component h =
+      as_is _ new step.1 (kept.tries (record s { lent = left }) asked (kept.takes s job left taken h))
+
+  join : (s : State) (done : Done) (reply : Reply F) (new : State) → JoinsOrIsStale s done reply new → IsKnown s
+      → P s → P new
+  join s done reply new (inl step) known h =
+      let out = step.outstanding in
+      answers_by s done.job out.left out.asked step.groundings reply new step.answers out.taken known out.component h
+  join s done reply new (inr step) known h = as_is s new step.1.1 h
+
+  pick : (s : State) (reply : Reply F) (new : State) → Picks s reply new → P s → P new
+  pick s reply new (inl step) h =
+      as_is _ new step.is (kept.picks s step.asked step.can.component step.can.not_out h)
+  pick s reply new (inr step) h = as_is s new step.1.1 h
+
+  -- ---- scripts and runs
+
+  submit_form : (s : State) (script : Script) (form : Result (List (Statement Known)) F) (reply : Reply F)
+      (new : State) → forms.resolve s.opening script ≡ form → SubmitsForm s script form reply new → IsKnown s → P s
+      → P new
+  submit_form s script (Ok form) reply new is step known h = as_is _ new step.1 (kept.submits s script form known is h)
+  submit_form s script (Err fault) reply new is step known h = as_is s new step.1 h
+
+  submit : (full : Bool) (s : State) (script : Script) (reply : Reply F) (new : State)
+      → SubmitsUnless full forms s script reply new → IsKnown s → P s → P new
+  submit true s script reply new step known h = as_is s new step.1 h
+  submit false s script reply new step known h =
+      submit_form s script (forms.resolve s.opening script) reply new refl step known h
+
+  start : (s : State) (running : Bool) (dormant : List Dormant) (reply : Reply F) (new : State)
+      → s.running ≡ running → StartsWith s running dormant reply new → IsKnown s → P s → P new
+  start s true dormant reply new is step known h = as_is s new step.1 h
+  start s false [] reply new is step known h = as_is s new step.1 h
+  start s false (first ∷ more) reply new is step known h = as_is _ new step.1 (kept.starts s known is h)
+
+  break : (s : State) (reply : Reply F) (new : State) → BreaksIfAny s reply new → P s → P new
+  break s reply new (inl step) h = as_is _ new step.is (kept.rolls_back s step.victim.group NoOne h)
+  break s reply new (inr step) h = as_is s new step.1.1 h
+
+  end_run : (s : State) (running : Bool) (reply : Reply F) (new : State) → EndsWhileRunning s running reply new
+      → P s → P new
+  end_run s false reply new step h = as_is s new step.1 h
+  end_run s true reply new (inl step) h = as_is _ new step.2 (kept.ends s h)
+  end_run s true reply new (inr step) h = as_is s new step.2.1 h
+
+  stepped_on : (s : State) (event : Event) (reply : Reply F) (new : State) → Step forms s event reply new → IsKnown s
+      → P s → P new
+  stepped_on s (events.Submit script) reply new step known h = submit _ s script reply new step known h
+  stepped_on s events.StartRun reply new step known h = start s s.running s.dormant reply new refl step known h
+  stepped_on s (events.Begin tx) reply new step known h =
+      begins s tx (active_member s tx) reply new refl step known h
+  stepped_on s (events.Finish done) reply new step known h = finish s done reply new step known h
+  stepped_on s events.Pick reply new step known h = pick s reply new step h
+  stepped_on s (events.JoinAnswer done) reply new step known h = join s done reply new step known h
+  stepped_on s events.BreakCycle reply new step known h = break s reply new step h
+  stepped_on s events.EndRun reply new step known h = end_run s s.running reply new step h
+  stepped_on s events.Recall reply new step known h = as_is _ new step.1 (kept.recalls s h)
+
+  module _ (laws : Laws forms) (opening : Opening) (faithful : AreFaithful forms opening) where
+    led_on : (n : ℕ) (last : State) → LeadsTo forms n (opened opening) last → P (opened opening)
+        → (last.opening ≡ opening) × P last
+    led_on zero last leads h = (ap (λ (s : State). s.opening) leads, as_is (opened opening) last leads h)
+    led_on (suc n) last leads h =
+        let before = led_on n leads.0 leads.3 h in
+        let there : LeadsTo forms n (opened leads.0.opening) leads.0 =
+        subst (λ o. LeadsTo forms n (opened o) leads.0) (sym before.0) leads.3 in
+        let known = known_at forms laws leads.0 (subst (AreFaithful forms) (sym before.0) faithful) (n, there) in (
+          (laws.goes_on leads.0 leads.1 leads.2 last leads.4).opening ∙ before.0,
+          stepped_on leads.0 leads.1 leads.2 last leads.4 known before.1,
+        )
+
+  pub reached : (laws : Laws forms) (s : State) → AreFaithful forms s.opening → P (opened s.opening)
+      → IsReached forms s → P s
+  reached laws s faithful h r = (led_on laws s.opening faithful r.0 s r.1 h).1

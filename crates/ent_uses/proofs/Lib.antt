@@ -1,0 +1,10 @@
+pub mod Lists
+pub mod Uses
+pub mod Next
+pub mod Asked
+pub mod Known
+pub mod Acts
+pub mod Holding
+pub mod Kept
+pub mod Held
+pub mod Conflicts
