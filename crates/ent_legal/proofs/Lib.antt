@@ -30,3 +30,4 @@ pub mod Legal
 pub mod Once
 pub mod GroupRuns
 pub mod Good
+pub mod Conflicts

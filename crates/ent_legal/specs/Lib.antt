@@ -5,3 +5,4 @@ pub mod Present
 pub mod Answered
 pub mod GroupRuns
 pub mod GoodAnswers
+pub mod Conflicts

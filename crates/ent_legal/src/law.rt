@@ -7,6 +7,7 @@ ghost use Rattle.ent_semantics.specs.Book.{IsLegal, JournalIsRight, RunGivesBook
 ghost use Rattle.ent_semantics.specs.Joint.{IsGrounded};
 ghost use Rattle.ent_semantics.specs.Serial.{Sight, Turn};
 ghost use Rattle.ent_legal.specs.Answered.{HasAsked, IsAnsweredOnce, NothingElse};
+ghost use Rattle.ent_legal.specs.Conflicts.{ConflictsStandInGroups};
 ghost use Rattle.ent_legal.specs.Faithful.{AreFaithful};
 ghost use Rattle.ent_legal.specs.GoodAnswers.{AnswersAreGood};
 ghost use Rattle.ent_legal.specs.GroupRuns.{GroupRuns, UnownedIsSettled};
@@ -94,6 +95,17 @@ pub fn lent_jobs_are_present<F>()
     statements_keep_to_their_uses();
     runs_go_on();
     closing_keeps_the_meaning();
+}
+
+/// In every state that is reached members whose uses are in conflict are of one group, and of two of them at least one
+/// is prepared.
+pub fn conflicts_stand_in_groups<F>()
+    ensures { (forms : Forms F) (s : State)
+        → AreFaithful forms s.opening
+        → IsReached forms s
+        → ConflictsStandInGroups s }
+{
+    lent_jobs_are_present::<F>();
 }
 
 /// In every state that is reached each entangled statement that a transaction has passed, which has committed or is a

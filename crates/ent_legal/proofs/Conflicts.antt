@@ -6,8 +6,10 @@ use Rattle.ent_lock.specs.declared.mode.Mode.TheVariants.{Shared, Exclusive}
 use Rattle.ent_protocol.specs.State.{State, Member, Use, members}
 use Rattle.ent_legal.specs.Faithful.{is_used}
 use Rattle.ent_legal.specs.Present.{AreApart, UsesAreApart}
-use Rattle.ent_uses.specs.Conflicts.{AreInConflict, ConflictsStandInGroups}
-use Rattle.ent_uses.proofs.Lists.{any_in, clash, same_number, number_itself, contains_in, in_contains, in_either}
+use Rattle.ent_legal.specs.Conflicts.{AreInConflict, ConflictsStandInGroups}
+use Rattle.ent_legal.proofs.Lists.{any_in, clash, in_either}
+use Rattle.ent_legal.proofs.Aside.{contains_in, in_contains}
+use Rattle.ent_legal.proofs.Undo.{same_number, number_itself}
 
 both : (a b : Bool) → (a && b) ≡ true → (a ≡ true) × (b ≡ true)
 both true b e = (refl, e)

@@ -1,5 +1,5 @@
-use Rattle.ent_uses.proofs.Conflicts.{conflicts_stand}
-use Rattle.ent_uses.proofs.law.conflicts_stand_in_groups.Goals as goal
+use Rattle.ent_legal.proofs.Conflicts.{conflicts_stand}
+use Rattle.ent_legal.proofs.law.conflicts_stand_in_groups.Goals as goal
 
 pub returns : goal.returns
 returns c h forms s faithful reached =
