@@ -5,6 +5,7 @@ ghost use Rattle.ent_tree.specs.declared.script.Script.{Script};
 ghost use Rattle.ent_form.specs.declared.fault.FormFault.{FormFault};
 ghost use Rattle.ent_form.specs.OpeningFault.{opening_fault};
 ghost use Rattle.ent_legal.specs.Answered.{HasAsked, IsAnsweredOnce, NothingElse};
+ghost use Rattle.ent_legal.specs.Conflicts.{ConflictsStandInGroups};
 ghost use Rattle.ent_legal.specs.GoodAnswers.{AnswersAreGood};
 ghost use Rattle.ent_legal.specs.GroupRuns.{GroupRuns, UnownedIsSettled};
 ghost use Rattle.ent_legal.specs.Present.{LentIsPresent, UsesAreApart};
@@ -28,9 +29,9 @@ ghost use Rattle.ent_semantics.specs.Serial.{Sight, Turn};
 use crate::form::resolved_forms_are_faithful;
 use ent_form::FormFault;
 use ent_legal::{
-    committed_runs_give_the_book, groups_run_alone, joint_answers_are_good, journals_fit_the_fates,
-    lent_jobs_are_present, passed_asks_are_answered_once, reached_states_are_legal,
-    reached_states_are_serial,
+    committed_runs_give_the_book, conflicts_stand_in_groups, groups_run_alone,
+    joint_answers_are_good, journals_fit_the_fates, lent_jobs_are_present,
+    passed_asks_are_answered_once, reached_states_are_legal, reached_states_are_serial,
 };
 use ent_protocol::plays_lead_on;
 use ent_standing::lent_jobs_stand_once;
@@ -99,6 +100,18 @@ pub fn resolved_jobs_are_present()
 {
     resolved_forms_are_faithful();
     lent_jobs_are_present::<FormFault>();
+}
+
+/// In every state that is reached members whose uses are in conflict are of one group, and of two of them at least one
+/// is prepared.
+pub fn resolved_conflicts_stand_in_groups()
+    ensures { (s : State)
+        → opening_fault s.opening ≡ None
+        → IsReached resolved_forms s
+        → ConflictsStandInGroups s }
+{
+    resolved_forms_are_faithful();
+    conflicts_stand_in_groups::<FormFault>();
 }
 
 /// In every state that is reached each entangled statement that a transaction has passed, which has committed or is a
