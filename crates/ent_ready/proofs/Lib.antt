@@ -1,3 +1,6 @@
 pub mod Lists
 pub mod Submitted
 pub mod Posted
+pub mod Replayed
+pub mod Places
+pub mod Fitted

@@ -116,7 +116,7 @@ Same x y = x ≡ y
 one_form : (x y : List (Statement Known)) → Same (Ok x) (Ok y) → x ≡ y
 one_form x y e = cc
 
-plain_given : (first : Result Plain FormFault) (form : List (Statement Known))
+pub plain_given : (first : Result Plain FormFault) (form : List (Statement Known))
     → (first >>= λ (plain : Plain). Ok plain.statements) ≡ Ok form
     → (plain : Plain) × (first ≡ Ok plain) × (plain.statements ≡ form)
 plain_given (Ok plain) form e = (plain, refl, one_form plain.statements form e)
