@@ -1,9 +1,8 @@
 -- The next statement of a member fits the tables that are lent with it.
-use Rattle.std.proofs.Common.{◌≡◌, ℕ, zero, suc, Bool, true, false, List, [], ◌∷◌, ◌++◌, map, Some, None, Result, Ok, Err}
-use Rattle.std.proofs.Common.{Option, refl, sym, ap, subst, ◌∙◌, Contains}
+use Rattle.std.proofs.Common.{◌≡◌, ℕ, zero, suc, false, List, [], ◌∷◌, ◌++◌, map, Some, None, Result, Ok}
+use Rattle.std.proofs.Common.{Option, refl, sym, ap, subst, ◌∙◌}
 use Rattle.std.specs.Prelude.{slice_get, slice_index_or}
 use Rattle.std.proofs.lemmas.List.{append-nil, append_assoc}
-use Rattle.std.proofs.lemmas.Simd.{map-map}
 use Rattle.ent_value.specs.Refusal.{◌>>=◌}
 use Rattle.ent_value.specs.declared.value.Kind.{Kind}
 use Rattle.ent_value.specs.declared.value.Value.{Value}
@@ -29,19 +28,19 @@ use Rattle.ent_form.specs.Kinds.{Bound, none_bound}
 use Rattle.ent_form.specs.declared.catalogue.ColumnSchema.{ColumnSchema}
 use Rattle.ent_form.specs.declared.catalogue.TableSchema.{TableSchema}
 use Rattle.ent_form.specs.declared.fault.FormFault.{FormFault}
-use Rattle.ent_kinded.specs.Kinds.{HasKinds, column_kinds, kinds_numbered}
-use Rattle.ent_protocol.specs.Begin.{single_job}
+use Rattle.ent_kinded.specs.Kinds.{column_kinds, kinds_numbered}
 use Rattle.ent_protocol.specs.Job.{Seen}
-use Rattle.ent_protocol.specs.Member.{Ordinary, Asks, RollsBack, next_in, next_of, statement_next, end_next, environment_of}
+use Rattle.ent_protocol.specs.Member.{Ordinary, next_in, next_of, statement_next, end_next, environment_of}
 use Rattle.ent_protocol.specs.Member.{declared_kinds, seen_now}
 use Rattle.ent_protocol.specs.Reached.{IsReached}
-use Rattle.ent_protocol.specs.State.{State, Submitted, Member, Use}
+use Rattle.ent_protocol.specs.State.{State, Submitted, Member}
 use Rattle.ent_protocol.specs.Uses.{shared, statement_uses}
 use Rattle.ent_resolved.specs.Resolved.{resolved_forms}
 use Rattle.ent_ready.specs.Kinds.{bound_behind, HasKindsThere}
 use Rattle.ent_ready.proofs.Lists.{numbered_in, one_thing}
 use Rattle.ent_ready.proofs.Places.{statements_given}
-use Rattle.ent_ready.proofs.Replayed.{FitsLaw, bind_given, one_answer}
+use Rattle.ent_ready.proofs.Replayed.{FitsLaw}
+use Rattle.ent_ready.proofs.Steps.{bind_given, one_answer}
 
 -- ---- the statement of a form at a place
 

@@ -1,4 +1,5 @@
 pub mod Lists
+pub mod Steps
 pub mod Submitted
 pub mod Posted
 pub mod Replayed

@@ -1,20 +1,15 @@
 -- Where members that aren't prepared stand, their host variables have values of the kinds that resolving knows there.
-use Rattle.std.proofs.Common.{◌≡◌, ℕ, zero, suc, List, [], ◌∷◌, ◌++◌, length, map, take, Some, None, Result, Ok, Err}
-use Rattle.std.proofs.Common.{Option, refl, sym, ap, subst, ◌∙◌, Contains}
-use Rattle.std.specs.Prelude.{slice_get}
+use Rattle.std.proofs.Common.{◌≡◌, List, [], ◌∷◌, ◌++◌, length, map, take, Some, Ok}
+use Rattle.std.proofs.Common.{refl, sym, ap, subst, ◌∙◌, Contains}
 use Rattle.std.specs.List.{AllByRecursion}
-use Rattle.std.proofs.lemmas.List.{append-nil, append_assoc}
-use Rattle.ent_value.specs.Refusal.{◌>>=◌}
 use Rattle.ent_tree.specs.declared.declaration.Create.{Create}
-use Rattle.ent_tree.specs.declared.script.Statement.{Statement as TreeStatement}
 use Rattle.ent_semantics.specs.Database.{Database, nothing_bound, opening_database}
-use Rattle.ent_semantics.specs.Serial.{Deed, Run, numbered}
+use Rattle.ent_semantics.specs.Serial.{Deed, numbered}
 use Rattle.ent_closed.specs.declared.operand.Known.{Known}
 use Rattle.ent_closed.specs.declared.statement.Statement.{Statement}
 use Rattle.ent_form.specs.Catalogue.{schemas_of}
-use Rattle.ent_form.specs.Form.{statements_from, statement_in, script_in}
+use Rattle.ent_form.specs.Form.{statements_from, script_in}
 use Rattle.ent_form.specs.Kinds.{Bound, none_bound}
-use Rattle.ent_form.specs.OpeningFault.{Check, ◌before◌}
 use Rattle.ent_form.specs.declared.script.Plain.{Plain}
 use Rattle.ent_kinded.specs.Kinds.{AreKinded, HasKinds}
 use Rattle.ent_kinded.specs.Opened.{opening_tables}
@@ -28,7 +23,8 @@ use Rattle.ent_resolved.specs.Resolved.{resolved_forms}
 use Rattle.ent_ready.specs.Kinds.{bound_behind, HasKindsThere}
 use Rattle.ent_ready.proofs.Lists.{In, of_all, contains_in, in_contains, numbered_in, in_map}
 use Rattle.ent_ready.proofs.Posted.{plain_given}
-use Rattle.ent_ready.proofs.Replayed.{Laws, Stands, IsLeft, run_kept, of_both, bind_given, one_answer}
+use Rattle.ent_ready.proofs.Replayed.{Laws, Stands, run_kept, of_both}
+use Rattle.ent_ready.proofs.Steps.{bind_given, one_answer}
 use Rattle.ent_ready.proofs.Submitted.{submitted_resolved}
 
 no_kinds : HasKinds none_bound nothing_bound
@@ -106,10 +102,6 @@ module _ (laws : Laws) (creates : List Create) (apart : HaveDistinctColumns crea
         let here = replayed history first runs.0 begin.0 stands runs.1 in
         let rest = serial more runs.0 last begin.1 here.0 runs.2 in
         (rest.0, (here.1, rest.1))
-
-pub nothing_first : (check later : Check) → (check before later) ≡ None → check ≡ None
-nothing_first None later e = refl
-nothing_first (Some fault) later e = cc
 
 -- what is known of an opening without a fault
 pub record Opens (s : State) : Type 0 where

@@ -26,6 +26,7 @@ use Rattle.ent_protocol.specs.Reached.{IsReached}
 use Rattle.ent_protocol.specs.State.{State, Submitted, Member}
 use Rattle.ent_resolved.specs.Resolved.{resolved_forms}
 use Rattle.ent_ready.proofs.Lists.{In, in_contains, numbered_in, in_map, in_flat}
+use Rattle.ent_ready.proofs.Steps.{one_answer}
 use Rattle.ent_ready.proofs.Submitted.{submitted_resolved}
 
 -- a statement in the pool is an entangled one of a resolved script, closed
@@ -110,16 +111,10 @@ asked_in all m asked e = by (numbered all m.tx) refl
 
 -- ---- of reached states
 
-abbrev Same : Result (List (Statement Known)) FormFault → Result (List (Statement Known)) FormFault → Type 0
-Same x y = x ≡ y
-
-one_form : (x y : List (Statement Known)) → Same (Ok x) (Ok y) → x ≡ y
-one_form x y e = cc
-
 pub plain_given : (first : Result Plain FormFault) (form : List (Statement Known))
     → (first >>= λ (plain : Plain). Ok plain.statements) ≡ Ok form
     → (plain : Plain) × (first ≡ Ok plain) × (plain.statements ≡ form)
-plain_given (Ok plain) form e = (plain, refl, one_form plain.statements form e)
+plain_given (Ok plain) form e = (plain, refl, one_answer {E = FormFault} plain.statements form e)
 plain_given (Err fault) form e = cc
 
 pub posted_resolved : (s : State) → IsReached resolved_forms s → (member : Posted) → In member (pool s)

@@ -1,5 +1,5 @@
 -- What a run of resolved statements leaves has the kinds that resolving knows.
-use Rattle.std.proofs.Common.{◌≡◌, ℕ, zero, suc, Bool, true, false, List, [], ◌∷◌, ◌++◌, length, map, take}
+use Rattle.std.proofs.Common.{◌≡◌, ℕ, suc, true, false, List, [], ◌∷◌, ◌++◌, length, map, take}
 use Rattle.std.proofs.Common.{Option, Some, None, Result, Ok, Err, refl, sym, ap, subst, ◌∙◌}
 use Rattle.std.specs.List.{AllByRecursion}
 use Rattle.std.specs.Option.{option_map}
@@ -17,7 +17,7 @@ use Rattle.ent_semantics.specs.Database.{Database, Environment}
 use Rattle.ent_semantics.specs.Effect.{Effect}
 use Rattle.ent_semantics.specs.Entangled.{Valuation, written_variables, is_grounding}
 use Rattle.ent_semantics.specs.Joint.{IsGrounded}
-use Rattle.ent_semantics.specs.Serial.{Deed, Run, Sight, after, answered_first, is_entangled, run, seen, seen_after, sights}
+use Rattle.ent_semantics.specs.Serial.{Deed, Run, after, answered_first, is_entangled, run, seen, seen_after, sights}
 use Rattle.ent_semantics.specs.Statement.{statement_meaning}
 use Rattle.ent_closed.specs.Closing.{closed, closed_entangled}
 use Rattle.ent_closed.specs.Form.{Tables, form_meaning, is_form_grounding, known_worth}
@@ -36,6 +36,7 @@ use Rattle.ent_form.specs.declared.fault.FormFault.{FormFault}
 use Rattle.ent_kinded.specs.Kinds.{kinds_numbered, AnswersInKind, AreKinded, HasKinds}
 use Rattle.ent_meant.specs.Tables.{database_of, effect_of, Answers, AreWide, HaveDistinctColumns}
 use Rattle.ent_ready.specs.Kinds.{bound_behind}
+use Rattle.ent_ready.proofs.Steps.{bind_given, one_answer}
 
 -- an ordinary statement fits the tables that it names
 abbrev pub FitsLaw : Type 0
@@ -88,17 +89,6 @@ pub record Laws : Type 0 where
       → HasKinds after effect.environment
 
 -- ---- steps
-
-abbrev Same : {A E : Type 0} → Result A E → Result A E → Type 0
-Same x y = x ≡ y
-
-pub one_answer : {A E : Type 0} (x y : A) → Same {A = A} {E = E} (Ok x) (Ok y) → x ≡ y
-one_answer x y e = cc
-
-pub bind_given : {A B : Type 0} (first : Result A FormFault) (next : A → Result B FormFault) (y : B)
-    → (first >>= next) ≡ Ok y → (x : A) × (first ≡ Ok x) × (next x ≡ Ok y)
-bind_given (Ok x) next y e = (x, refl, e)
-bind_given (Err fault) next y e = cc
 
 effect_given : (creates : List Create) (result : Result (Effect Tables) Failure) (effect : Effect Database)
     → effect_of creates result ≡ Ok effect

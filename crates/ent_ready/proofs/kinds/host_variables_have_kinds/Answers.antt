@@ -1,8 +1,9 @@
 use Rattle.std.proofs.Common.{[]}
 use Rattle.ent_form.specs.Catalogue.{schemas_of}
 use Rattle.ent_form.specs.OpeningFault.{declarations_fault, first_of, opening_row_fault}
-use Rattle.ent_ready.proofs.Places.{Opens, kinds_there, nothing_first}
+use Rattle.ent_ready.proofs.Places.{Opens, kinds_there}
 use Rattle.ent_ready.proofs.Replayed.{Laws}
+use Rattle.ent_ready.proofs.Steps.{nothing_first}
 use Rattle.ent_ready.proofs.kinds.host_variables_have_kinds.Goals as goal
 
 pub returns : goal.returns
