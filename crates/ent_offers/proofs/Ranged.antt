@@ -301,7 +301,8 @@ others_weaker P Q each (conditions.InAnswer tuple relation ∷ more) h =
 others_weaker P Q each (conditions.Test test ∷ more) h =
     (variables_weaker P Q each (test.left ∷ test.right ∷ []) h.0, others_weaker P Q each more h.1)
 
-entangled_ranged : (environment : Environment) → OfResolved (λ entangled. IsRanged (closed_entangled environment entangled))
+entangled_ranged : (environment : Environment)
+    → OfResolved (λ entangled. IsRanged (closed_entangled environment entangled))
 unfolding entangled_in
 entangled_ranged environment schemas bound tree form e =
     let names = variables_of tree in

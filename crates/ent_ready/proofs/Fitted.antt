@@ -165,8 +165,8 @@ next_fits law s reached member there statement next =
     ap (λ (all : List (Statement Known)). slice_get all there.passed) (sym rest.behind)
     ∙ ap (numbered own.form) (sym there.place) ∙ form.1 in
     let tree = rest.at there.passed there.bound form.0 there.known at in
-    let ordinary = ordinary_tree schemas there.bound tree.1 tree.0 form.0 (environment_of member) statement tree.2 form.2
-    in
+    let ordinary = ordinary_tree schemas there.bound tree.1 tree.0 form.0 (environment_of member) statement tree.2
+    form.2 in
     subst (λ (c : Statement Value). Fits (map (kinds_numbered schemas) (tables_named c)) c)
     (sym (closed_next (environment_of member) form.0 statement form.2))
     (law schemas there.bound tree.1 tree.0 form.0 (environment_of member) tree.2 ordinary there.kinds)

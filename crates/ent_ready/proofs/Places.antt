@@ -65,7 +65,8 @@ of_follow all history follows =
 
 module _ (laws : Laws) (creates : List Create) (apart : HaveDistinctColumns creates) (all : List Submitted)
     (resolved : (own : Submitted) → In own all
-    → (out : List (Statement Known)) × (statements_from (schemas_of creates) none_bound [] own.script.statements ≡ Ok out))
+    → (out : List (Statement Known))
+    × (statements_from (schemas_of creates) none_bound [] own.script.statements ≡ Ok out))
   where
     -- what a member did has left its host variables in the kinds that are known
     record IsKnown (history : History) : Type 0 where
@@ -139,7 +140,8 @@ kinds_there laws s opens reached state member there =
     state.stands in
     let known = (of_both (IsKnown laws creates opens.apart s.submitted resolved) state.prepared state.others now.1).1 in
     let at = in_map (λ (history : History). history.member) state.others member
-    (contains_in (map (λ (history : History). history.member) state.others) member ((state.of_others member).1 there)) in
+    (contains_in (map (λ (history : History). history.member) state.others) member
+    ((state.of_others member).1 there)) in
     let k = of_all (IsKnown laws creates opens.apart s.submitted resolved) state.others at.0 known at.1 in
     let follows = of_all (Follows s.submitted) state.others at.0 state.follow at.1 in
     subst (HasKindsThere s) (sym at.2)

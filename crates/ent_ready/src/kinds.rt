@@ -25,8 +25,8 @@ use ent_meant::{
 };
 use ent_resolved::resolved_runs_are_serial;
 
-/// In every state that is reached by scripts resolved over an opening without a fault, each host variable that resolving
-/// knows at the place of a member that isn't prepared has a value of the kind that is known.
+/// In every state that is reached by scripts resolved over an opening without a fault, each host variable that is known
+/// to resolving at the place of a member that isn't prepared has a value of the kind that is known.
 pub fn host_variables_have_kinds()
     ensures { (s : State) (member : Member)
         → opening_fault s.opening ≡ None
@@ -47,8 +47,8 @@ pub fn host_variables_have_kinds()
     resolved_runs_are_serial();
 }
 
-/// The next statement of such a member, where it is an ordinary one, fits the kinds of the tables that it names, as they
-/// are declared; so it fits those of the job that is lent where the member begins.
+/// The next statement of such a member, where it is an ordinary one, fits the kinds of the tables that it names, as
+/// they are declared; so it fits those of the job that is lent where the member begins.
 pub fn next_statements_fit()
     ensures declared { (s : State) (member : Member) (statement : Statement Value)
         → opening_fault s.opening ≡ None

@@ -10,5 +10,5 @@ pub returns : goal.returns
 returns c s reached member there =
     let r = posted_resolved s reached member (contains_in (pool s) member there) in
     subst HasDistinctHeads (sym r.is)
-    (c.resolved_heads_are_distinct.ensures (schemas_of s.opening.tables) r.script r.plain r.entangled r.resolved r.stands
-    member.tx r.environment)
+    (c.resolved_heads_are_distinct.ensures (schemas_of s.opening.tables) r.script r.plain r.entangled r.resolved
+    r.stands member.tx r.environment)
