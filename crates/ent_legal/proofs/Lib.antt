@@ -30,5 +30,4 @@ pub mod Legal
 pub mod Once
 pub mod GroupRuns
 pub mod Good
-pub mod GroupAnswers
 pub mod Conflicts

@@ -5,5 +5,4 @@ pub mod Present
 pub mod Answered
 pub mod GroupRuns
 pub mod GoodAnswers
-pub mod GroupAnswers
 pub mod Conflicts

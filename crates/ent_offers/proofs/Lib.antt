@@ -1,5 +1,1 @@
-pub mod Steps
-pub mod Statements
-pub mod Offers
-pub mod Noted
-pub mod Ranged
+mod Offers
