@@ -10,14 +10,15 @@ use Rattle.ent_protocol.specs.State.{State, Member, members}
 use Rattle.ent_legal.specs.Faithful.{AreFaithful, number_of, is_used}
 use Rattle.ent_legal.specs.GroupRuns.{HasUsed, NotOwned, present_database, settled_database, RunsFrom, GroupRuns}
 use Rattle.ent_legal.specs.GroupRuns.{UnownedIsSettled}
+use Rattle.ent_legal.specs.GroupAnswers.{AreOthers}
 use Rattle.ent_legal.specs.History.{History, Replays, AreSerial}
 use Rattle.ent_legal.specs.SerialState.{Follows, IsWhole}
 use Rattle.ent_legal.proofs.Aside.{contains_in, in_contains}
 use Rattle.ent_legal.proofs.Frame.{Laws, IsCovered, Apart, apart_turned, gather, serial_joined, serial_parts}
 use Rattle.ent_legal.proofs.Frame.{serial_kept, owned, unowned}
-use Rattle.ent_legal.proofs.Kept.{Kept, history_of, active_at}
+use Rattle.ent_legal.proofs.Kept.{Kept, history_of, active_at, in_all, one_history}
 use Rattle.ent_legal.proofs.Left.{fit_at}
-use Rattle.ent_legal.proofs.Lists.{In, Pairs, of_all, all_first, all_second, all_joined, all_filtered, of_filter}
+use Rattle.ent_legal.proofs.Lists.{In, Pairs, of_all, all_first, all_second, all_joined, all_filtered, of_filter, to_filter}
 use Rattle.ent_legal.proofs.Lists.{in_first, in_second, in_either, pairs_of, pairs_filtered, pairs_joined, pairs_first}
 use Rattle.ent_legal.proofs.Lists.{pairs_second, pairs_across, pairs_at, map_filtered, clash, turned}
 use Rattle.ent_legal.proofs.Reached.{reached_kept}
@@ -56,10 +57,10 @@ module _ {F : Type 0} (forms : Forms F) (laws : Laws) (s : State) (kept : Kept f
   -- ---- a group
 
   module _ (group : ℕ) where
-    abbrev in_group : History → Bool
+    abbrev pub in_group : History → Bool
     in_group history = is_of group history.member
 
-    abbrev first_ones : List History
+    abbrev pub first_ones : List History
     first_ones = filter in_group kept.prepared
 
     abbrev other_ones : List History
@@ -230,7 +231,7 @@ module _ {F : Type 0} (forms : Forms F) (laws : Laws) (s : State) (kept : Kept f
                   (same_number y.member.group group is)
             ]
 
-    group_runs : GroupRuns s group
+    pub group_runs : GroupRuns s group
     group_runs =
         record {
           prepared = first_ones;
@@ -241,6 +242,35 @@ module _ {F : Type 0} (forms : Forms F) (laws : Laws) (s : State) (kept : Kept f
           runs = subst (λ d. AreSerial s.opening.tables first_ones d begun.start) settles_there begun.runs;
           others = runs_from;
           present = left_as;
+        }
+
+    -- the histories of its members that aren't prepared
+    abbrev pub unprepared : List History
+    unprepared = filter in_group kept.others
+
+    pub its_prepared : group_runs.prepared ≡ first_ones
+    unfolding group_runs
+    its_prepared = refl
+
+    pub are_others : AreOthers s group group_runs unprepared
+    unfolding group_runs runs_from
+    are_others =
+        record {
+          all = λ member there same.
+              let h = history_of forms s kept member (contains_in s.active member there) in
+              in_contains unprepared h.0 (to_filter in_group kept.others h.0 h.1
+              (ap (λ (m : Member). m.group == group) (sym h.2) ∙ ap (λ n. n == group) same ∙ number_itself group));
+          only = λ x at.
+              let r = of_filter in_group kept.others x (contains_in unprepared x at) in
+              let there : Contains s.active x.member =
+              in_contains s.active x.member (active_at forms s kept x r.0) in
+              let h = history_of forms s kept x.member (contains_in s.active x.member there) in (
+                x.member,
+                there,
+                same_number x.member.group group r.1,
+                one_history (kept.prepared ++ kept.others) x h.0 kept.sound.fit (in_all forms s kept x r.0)
+                    (in_all forms s kept h.0 h.1) (ap (λ (m : Member). m.tx) h.2),
+              );
         }
 
 pub reached_group_runs : {F : Type 0} (forms : Forms F) (laws : Laws) (s : State) → AreFaithful forms s.opening

@@ -30,4 +30,5 @@ pub mod Legal
 pub mod Once
 pub mod GroupRuns
 pub mod Good
+pub mod GroupAnswers
 pub mod Conflicts

@@ -5,4 +5,5 @@ pub mod Present
 pub mod Answered
 pub mod GroupRuns
 pub mod GoodAnswers
+pub mod GroupAnswers
 pub mod Conflicts

@@ -10,6 +10,7 @@ ghost use Rattle.ent_legal.specs.Answered.{HasAsked, IsAnsweredOnce, NothingElse
 ghost use Rattle.ent_legal.specs.Conflicts.{ConflictsStandInGroups};
 ghost use Rattle.ent_legal.specs.Faithful.{AreFaithful};
 ghost use Rattle.ent_legal.specs.GoodAnswers.{AnswersAreGood};
+ghost use Rattle.ent_legal.specs.GroupAnswers.{GroupAnswers, HaveGroups};
 ghost use Rattle.ent_legal.specs.GroupRuns.{GroupRuns, UnownedIsSettled};
 ghost use Rattle.ent_legal.specs.Present.{LentIsPresent, UsesAreApart};
 ghost use Rattle.ent_legal.specs.SerialState.{IsSerialState};
@@ -153,6 +154,25 @@ pub fn joint_answers_are_good<F>()
         → AreFaithful forms s.opening
         → IsReached forms s
         → AnswersAreGood s }
+{
+    statements_keep_to_their_uses();
+    runs_go_on();
+    closing_keeps_the_meaning();
+}
+
+/// In every state that is reached each joint answer of members is of one group, and good over what this group's members
+/// did, run alone as `groups_run_alone` says: each grounding is one over the database that its statement sees in that
+/// run, of the prepared members one after the other from the settled database, of each other member from where they
+/// end; and what a member of the joint answer demands one of its members offers.
+pub fn live_answers_are_good_in_groups<F>()
+    ensures one_group { (forms : Forms F) (s : State)
+        → AreFaithful forms s.opening
+        → IsReached forms s
+        → HaveGroups s }
+    ensures good { (forms : Forms F) (s : State) (group : ℕ)
+        → AreFaithful forms s.opening
+        → IsReached forms s
+        → GroupAnswers s group }
 {
     statements_keep_to_their_uses();
     runs_go_on();

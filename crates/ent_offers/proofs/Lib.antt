@@ -1,1 +1,5 @@
-mod Offers
+pub mod Steps
+pub mod Statements
+pub mod Offers
+pub mod Noted
+pub mod Ranged

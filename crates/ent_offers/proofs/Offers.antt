@@ -1,19 +1,12 @@
 -- The heads of resolved statements are of distinct relations.
-use Rattle.std.proofs.Common.{◌≡◌, ◌≢◌, ◌<◌, ◌||◌, ℕ, zero, suc, Bool, true, false, not, List, [], ◌∷◌, ◌++◌, map, length}
-use Rattle.std.proofs.Common.{get_or, Result, Ok, Err, refl, sym, ap, ◌∙◌, subst, arith}
-use Rattle.std.specs.Prelude.{◌==◌, AllPairs, Contains, slice_index_or}
+use Rattle.std.proofs.Common.{◌≡◌, ◌≢◌, ◌<◌, ◌||◌, ℕ, zero, suc, Bool, true, false, not, List, [], ◌∷◌, ◌++◌, map}
+use Rattle.std.proofs.Common.{length, Ok, refl, sym, ap, subst, arith}
+use Rattle.std.specs.Prelude.{Contains, slice_index_or}
 use Rattle.std.specs.List.{AllByRecursion}
 use Rattle.std.proofs.lemmas.List.{map-append}
-use Rattle.ent_value.specs.Refusal.{◌>>=◌}
 use Rattle.ent_value.specs.declared.value.Value.{Value}
 use Rattle.ent_tree.specs.declared.operand.Identifier.{Identifier}
-use Rattle.ent_tree.specs.declared.entangled.Entangled.{Entangled as TreeEntangled}
 use Rattle.ent_tree.specs.declared.script.Script.{Script}
-use Rattle.ent_tree.specs.declared.statement.Insert.{Insert}
-use Rattle.ent_tree.specs.declared.statement.Delete.{Delete}
-use Rattle.ent_tree.specs.declared.statement.Update.{Update}
-use Rattle.ent_tree.specs.declared.script.Statement.{Statement as TreeStatement}
-use Rattle.ent_tree.specs.declared.script.Statement.TheVariants as trees
 use Rattle.ent_semantics.specs.Database.{Environment, Name, same_name}
 use Rattle.ent_semantics.specs.Names.{name_itself}
 use Rattle.ent_closed.specs.Closing.{atom_over, closed_entangled}
@@ -22,40 +15,18 @@ use Rattle.ent_closed.specs.declared.entangled.Atom.{Atom}
 use Rattle.ent_closed.specs.declared.entangled.Entangled.{Entangled}
 use Rattle.ent_closed.specs.declared.entangled.Term.{Term}
 use Rattle.ent_closed.specs.declared.operand.Known.{Known}
-use Rattle.ent_closed.specs.declared.statement.Statement.{Statement}
 use Rattle.ent_closed.specs.declared.statement.Statement.TheVariants as statements
 use Rattle.ent_form.specs.Catalogue.{is_among}
 use Rattle.ent_form.specs.Entangled.{entangled_in, heads_from, memberships_from, offer_from, others_from, no_offer}
 use Rattle.ent_form.specs.Entangled.{variables_of}
-use Rattle.ent_form.specs.Form.{statement_in, statements_from, script_in}
+use Rattle.ent_form.specs.Form.{script_in}
 use Rattle.ent_form.specs.Kinds.{Bound, none_bound}
-use Rattle.ent_form.specs.Lookup.{expression_in, values_in}
-use Rattle.ent_form.specs.Ordinary.{select_in, insert_in, delete_in, update_in, set_in, row_from, tests_in, image_in}
-use Rattle.ent_form.specs.Scope.{table_in, table_scope}
-use Rattle.ent_form.specs.Steps.{demand}
 use Rattle.ent_form.specs.declared.catalogue.TableSchema.{TableSchema}
-use Rattle.ent_form.specs.declared.fault.FormFault.{FormFault}
-use Rattle.ent_form.specs.declared.fault.FormFault.TheVariants.{Arity, Repeated}
+use Rattle.ent_form.specs.declared.fault.FormFault.TheVariants.{Repeated}
 use Rattle.ent_form.specs.declared.script.Plain.{Plain}
 use Rattle.ent_plan.specs.Plan.{HasDistinctHeads}
-
--- ---- steps
-
-bind_given : {A B : Type 0} (first : Result A FormFault) (then : A → Result B FormFault) (y : B)
-    → (first >>= then) ≡ Ok y → (x : A) × (first ≡ Ok x) × (then x ≡ Ok y)
-bind_given (Ok x) then y e = (x, refl, e)
-bind_given (Err fault) then y e = cc
-
-demand_given : {A : Type 0} (test : Bool) (fault : FormFault) (more : Result A FormFault) (y : A)
-    → demand test fault more ≡ Ok y → (test ≡ true) × (more ≡ Ok y)
-demand_given true fault more y e = (refl, e)
-demand_given false fault more y e = cc
-
-abbrev Same : {A : Type 0} → Result A FormFault → Result A FormFault → Type 0
-Same x y = x ≡ y
-
-same_given : {A : Type 0} (x y : A) → Same (Ok x) (Ok y) → x ≡ y
-same_given x y e = cc
+use Rattle.ent_offers.proofs.Statements.{OfResolved, script_each}
+use Rattle.ent_offers.proofs.Steps.{bind_given, demand_given, same_given}
 
 -- ---- heads
 
@@ -118,44 +89,7 @@ heads_apart terms (relation ∷ more) made out apart e =
 
 -- ---- statements
 
-abbrev HasApart : Statement Known → Type 0
-HasApart (statements.Entangled entangled) = AreApart entangled.heads
-HasApart (statements.Select select) = Unit {0}
-HasApart (statements.Insert table values) = Unit {0}
-HasApart (statements.Delete table tests) = Unit {0}
-HasApart (statements.Update table image tests) = Unit {0}
-HasApart (statements.Set variable expression) = Unit {0}
-
--- a statement of another kind has no head
-insert_apart : (tables : List TableSchema) (bound : Bound) (insert : Insert) (form : Statement Known)
-    → insert_in tables bound insert ≡ Ok form → HasApart form
-unfolding insert_in
-insert_apart tables bound insert form e =
-    let table = bind_given (table_in tables insert.table) _ form e in
-    let kept = demand_given (length insert.values == length table.0.1.columns) (Arity insert.place) _ form table.2 in
-    let values = bind_given (row_from bound [] table.0.1.columns insert.values) _ form kept.1 in
-    subst HasApart (same_given _ form values.2) tt
-
-delete_apart : (tables : List TableSchema) (bound : Bound) (delete : Delete) (form : Statement Known)
-    → delete_in tables bound delete ≡ Ok form → HasApart form
-unfolding delete_in
-delete_apart tables bound delete form e =
-    let table = bind_given (table_in tables delete.table) _ form e in
-    let tests = bind_given (tests_in (table_scope delete.table.name table.0) bound delete.tests) _ form table.2 in
-    subst HasApart (same_given _ form tests.2) tt
-
-update_apart : (tables : List TableSchema) (bound : Bound) (update : Update) (form : Statement Known)
-    → update_in tables bound update ≡ Ok form → HasApart form
-unfolding update_in
-update_apart tables bound update form e =
-    let table = bind_given (table_in tables update.table) _ form e in
-    let scope = table_scope update.table.name table.0 in
-    let tests = bind_given (tests_in scope bound update.tests) _ form table.2 in
-    let image = bind_given (image_in scope bound table.0.1.columns update.assignments) _ form tests.2 in
-    subst HasApart (same_given _ form image.2) tt
-
-entangled_apart : (tables : List TableSchema) (bound : Bound) (tree : TreeEntangled) (form : Entangled Known × Bound)
-    → entangled_in tables bound tree ≡ Ok form → AreApart form.0.heads
+entangled_apart : OfResolved (λ entangled. AreApart entangled.heads)
 unfolding entangled_in names_of
 entangled_apart tables bound tree form e =
     let body = bind_given (memberships_from tables bound (variables_of tree) [] none_bound tree.conditions) _ form e in
@@ -165,65 +99,7 @@ entangled_apart tables bound tree form e =
     let made = ap (λ (both : Entangled Known × Bound). both.0.heads) (same_given _ form others.2) in
     subst AreApart made (heads_apart offer.0.terms tree.relations [] heads.0 tt heads.1)
 
-statement_apart : (tables : List TableSchema) (bound : Bound) (tree : TreeStatement) (form : Statement Known × Bound)
-    → statement_in tables bound tree ≡ Ok form → HasApart form.0
-unfolding statement_in set_in
-statement_apart tables bound (trees.Select select) form e =
-    let found = bind_given (select_in tables bound select) _ form e in
-    subst (λ (f : Statement Known × Bound). HasApart f.0) (same_given _ form found.2) tt
-statement_apart tables bound (trees.Entangled tree) form e =
-    let found = bind_given (entangled_in tables bound tree) _ form e in
-    subst (λ (f : Statement Known × Bound). HasApart f.0) (same_given _ form found.2)
-    (entangled_apart tables bound tree found.0 found.1)
-statement_apart tables bound (trees.Insert insert) form e =
-    let found = bind_given (insert_in tables bound insert) _ form e in
-    subst (λ (f : Statement Known × Bound). HasApart f.0) (same_given _ form found.2)
-    (insert_apart tables bound insert found.0 found.1)
-statement_apart tables bound (trees.Delete delete) form e =
-    let found = bind_given (delete_in tables bound delete) _ form e in
-    subst (λ (f : Statement Known × Bound). HasApart f.0) (same_given _ form found.2)
-    (delete_apart tables bound delete found.0 found.1)
-statement_apart tables bound (trees.Update update) form e =
-    let found = bind_given (update_in tables bound update) _ form e in
-    subst (λ (f : Statement Known × Bound). HasApart f.0) (same_given _ form found.2)
-    (update_apart tables bound update found.0 found.1)
-statement_apart tables bound (trees.Set setting) form e =
-    let found = bind_given (expression_in (values_in bound) setting.expression) _ form e in
-    subst (λ (f : Statement Known × Bound). HasApart f.0) (same_given _ form found.2) tt
-
--- ---- scripts
-
-abbrev Each : List (Statement Known) → Type 0
-Each = AllByRecursion HasApart
-
-each_put : (made : List (Statement Known)) (form : Statement Known) → Each made → HasApart form
-    → Each (made ++ form ∷ [])
-each_put [] form each new = (new, tt)
-each_put (first ∷ made) form each new = (each.0, each_put made form each.1 new)
-
-statements_apart : (tables : List TableSchema) (bound : Bound) (made : List (Statement Known))
-    (trees : List TreeStatement) (out : List (Statement Known)) → Each made
-    → statements_from tables bound made trees ≡ Ok out → Each out
-statements_apart tables bound made [] out each e = subst Each (same_given made out e) each
-statements_apart tables bound made (tree ∷ more) out each e =
-    let found = bind_given (statement_in tables bound tree) _ out e in
-    statements_apart tables found.0.1 (made ++ found.0.0 ∷ []) more out
-    (each_put made found.0.0 each (statement_apart tables bound tree found.0 found.1)) found.2
-
-script_apart : (tables : List TableSchema) (script : Script) (plain : Plain) → script_in tables script ≡ Ok plain
-    → Each plain.statements
-script_apart tables script plain e =
-    let found = bind_given (statements_from tables none_bound [] script.statements) _ plain e in
-    let made = ap (λ (p : Plain). p.statements) (same_given _ plain found.2) in
-    subst Each made (statements_apart tables none_bound [] script.statements found.0 tt found.1)
-
--- ---- by index, and closed
-
-at_index : (xs : List (Statement Known)) (x : Statement Known) (k : ℕ) → Each xs → k < length xs
-    → slice_index_or xs k x ≡ x → HasApart x
-at_index [] x k each low at = absurd (omega (arith, low))
-at_index (first ∷ more) x zero each low at = subst HasApart at each.0
-at_index (first ∷ more) x (suc k) each low at = at_index more x k each.1 (omega (arith, low)) at
+-- ---- closed
 
 module _ (environment : Environment) where
   abbrev over : Atom Known → Atom Value
@@ -252,5 +128,4 @@ pub distinct_closed : (tables : List TableSchema) (script : Script) (plain : Pla
     → HasDistinctHeads (record { tx = tx; statement = closed_entangled environment entangled })
 distinct_closed tables script plain entangled e there tx environment =
     differ_at environment entangled.heads
-    (at_index plain.statements (statements.Entangled entangled) there.0 (script_apart tables script plain e) there.1
-    there.2)
+    (script_each (λ entangled. AreApart entangled.heads) entangled_apart tables script plain entangled e there)

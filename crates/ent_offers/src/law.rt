@@ -1,4 +1,4 @@
-//! The law of heads. It has no body; what holds is in the contract.
+//! Laws of entangled statements. None has a body; what holds is in the contracts.
 ghost use Rattle.std.specs.Prelude.{◌≡◌, ℕ, Contains, List, Ok};
 ghost use Rattle.ent_tree.specs.declared.script.Script.{Script};
 ghost use Rattle.ent_semantics.specs.Database.{Environment};
@@ -9,6 +9,7 @@ ghost use Rattle.ent_closed.specs.declared.statement.Statement.TheVariants as st
 ghost use Rattle.ent_form.specs.Form.{script_in};
 ghost use Rattle.ent_form.specs.declared.catalogue.TableSchema.{TableSchema};
 ghost use Rattle.ent_form.specs.declared.script.Plain.{Plain};
+ghost use Rattle.ent_join.specs.Ranged.{IsRanged};
 ghost use Rattle.ent_plan.specs.Plan.{HasDistinctHeads};
 
 /// The heads of each entangled statement of a script that is resolved are of distinct relations, whatever its host
@@ -19,4 +20,14 @@ pub fn resolved_heads_are_distinct()
         → Contains plain.statements (statements.Entangled entangled)
         → (tx : ℕ) (environment : Environment)
         → HasDistinctHeads record { tx = tx; statement = closed_entangled environment entangled } }
+{}
+
+/// Each written variable of an entangled statement of a script that is resolved stands in a tuple of some sub-select,
+/// whatever its host variables are worth.
+pub fn resolved_variables_are_ranged()
+    ensures { (tables : List TableSchema) (script : Script) (plain : Plain) (entangled : Entangled Known)
+        → script_in tables script ≡ Ok plain
+        → Contains plain.statements (statements.Entangled entangled)
+        → (environment : Environment)
+        → IsRanged (closed_entangled environment entangled) }
 {}

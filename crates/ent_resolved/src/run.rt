@@ -5,7 +5,9 @@ ghost use Rattle.ent_tree.specs.declared.script.Script.{Script};
 ghost use Rattle.ent_form.specs.declared.fault.FormFault.{FormFault};
 ghost use Rattle.ent_form.specs.OpeningFault.{opening_fault};
 ghost use Rattle.ent_legal.specs.Answered.{HasAsked, IsAnsweredOnce, NothingElse};
+ghost use Rattle.ent_legal.specs.Conflicts.{ConflictsStandInGroups};
 ghost use Rattle.ent_legal.specs.GoodAnswers.{AnswersAreGood};
+ghost use Rattle.ent_legal.specs.GroupAnswers.{GroupAnswers, HaveGroups};
 ghost use Rattle.ent_legal.specs.GroupRuns.{GroupRuns, UnownedIsSettled};
 ghost use Rattle.ent_legal.specs.Present.{LentIsPresent, UsesAreApart};
 ghost use Rattle.ent_legal.specs.SerialState.{IsSerialState};
@@ -28,8 +30,9 @@ ghost use Rattle.ent_semantics.specs.Serial.{Sight, Turn};
 use crate::form::resolved_forms_are_faithful;
 use ent_form::FormFault;
 use ent_legal::{
-    committed_runs_give_the_book, groups_run_alone, joint_answers_are_good, journals_fit_the_fates,
-    lent_jobs_are_present, passed_asks_are_answered_once, reached_states_are_legal,
+    committed_runs_give_the_book, conflicts_stand_in_groups, groups_run_alone,
+    joint_answers_are_good, journals_fit_the_fates, lent_jobs_are_present,
+    live_answers_are_good_in_groups, passed_asks_are_answered_once, reached_states_are_legal,
     reached_states_are_serial,
 };
 use ent_protocol::plays_lead_on;
@@ -101,6 +104,18 @@ pub fn resolved_jobs_are_present()
     lent_jobs_are_present::<FormFault>();
 }
 
+/// In every state that is reached members whose uses are in conflict are of one group, and of two of them at least one
+/// is prepared.
+pub fn resolved_conflicts_stand_in_groups()
+    ensures { (s : State)
+        → opening_fault s.opening ≡ None
+        → IsReached resolved_forms s
+        → ConflictsStandInGroups s }
+{
+    resolved_forms_are_faithful();
+    conflicts_stand_in_groups::<FormFault>();
+}
+
 /// In every state that is reached each entangled statement that a transaction has passed, which has committed or is a
 /// member, stands in exactly one of the joint answers that were made and not rolled back; and nothing else stands in
 /// one.
@@ -147,6 +162,24 @@ pub fn resolved_answers_are_good()
 {
     resolved_forms_are_faithful();
     joint_answers_are_good::<FormFault>();
+}
+
+/// In every state that is reached each joint answer of members is of one group, and good over what this group's members
+/// did, run alone as `resolved_groups_run_alone` says: each grounding is one over the database that its statement sees
+/// in that run, of the prepared members one after the other from the settled database, of each other member from where
+/// they end; and what a member of the joint answer demands one of its members offers.
+pub fn resolved_answers_are_good_in_groups()
+    ensures one_group { (s : State)
+        → opening_fault s.opening ≡ None
+        → IsReached resolved_forms s
+        → HaveGroups s }
+    ensures good { (s : State) (group : ℕ)
+        → opening_fault s.opening ≡ None
+        → IsReached resolved_forms s
+        → GroupAnswers s group }
+{
+    resolved_forms_are_faithful();
+    live_answers_are_good_in_groups::<FormFault>();
 }
 
 /// In every state that is reached a result is accepted only where it is outstanding: its job is lent, its transaction
