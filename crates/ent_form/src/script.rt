@@ -11,7 +11,7 @@ use crate::entangled::entangled;
 use crate::fault::FormFault;
 use crate::select::select;
 use ent_closed::{Known, Statement as ResolvedStatement};
-use ent_tree::{End, MOST_STATEMENTS, Script, Statement};
+use ent_tree::{End, MOST_STATEMENTS, Runs, Script, Statement};
 use ent_value::{Limited, Refusal};
 use std::alloc::Global;
 
@@ -19,7 +19,7 @@ use std::alloc::Global;
 #[derive(Drop)]
 pub struct Plain {
     /// In how many runs the transaction may take part.
-    pub within: u64,
+    pub within: Runs,
     pub statements: Limited<ResolvedStatement<Known>, MOST_STATEMENTS>,
     pub end: End,
 }

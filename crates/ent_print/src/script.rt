@@ -53,7 +53,7 @@ fn print_lines_of(printer: &mut Printer, script: &Script) -> Result<(), AllocErr
     printer.push_word(Keyword::Begin)?;
     printer.push_word(Keyword::Transaction)?;
     printer.push_word(Keyword::Within)?;
-    printer.push_number(script.within)?;
+    printer.push_number(script.within.get())?;
     printer.push_word(Keyword::Runs)?;
     printer.push_sign(Symbol::Semicolon)?;
     print_lines(printer, script.statements.as_slice())?;

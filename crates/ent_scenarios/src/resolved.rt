@@ -173,7 +173,7 @@ impl<K: Show> Show for Statement<K> {
 
 impl Show for Plain {
     fn show(&self, alloc: Global, out: &mut Vec<u8>) -> Result<()> {
-        write!(out, " begin within {};", self.within)?;
+        write!(out, " begin within {};", self.within.get())?;
         for statement in self.statements.as_slice() {
             statement.show(alloc, out)?;
         }

@@ -230,7 +230,7 @@ pub(crate) fn put_end(out: &mut Vec<u8>, end: End) -> Result<()> {
 
 impl Show for Script {
     fn show(&self, alloc: Global, out: &mut Vec<u8>) -> Result<()> {
-        write!(out, " begin within {};", self.within)?;
+        write!(out, " begin within {};", self.within.get())?;
         for statement in self.statements.as_slice() {
             statement.show(alloc, out)?;
         }

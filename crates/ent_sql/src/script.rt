@@ -8,12 +8,12 @@ ghost use Rattle.ent_sql.specs.Scripts.{within, ending, script};
 use crate::list::{Item, many};
 use ent_grammar::{GrammarFault, begins_with_word, sign_at, too_many, unexpected, word_at};
 use ent_text::{Keyword, Symbol, Token, TokenKind};
-use ent_tree::{DEFAULT_RUNS, End, MOST_RUNS, Script};
+use ent_tree::{DEFAULT_RUNS, End, MOST_RUNS, Runs, Script};
 use ent_value::Refusal;
 use std::alloc::Global;
 
 /// A number from 1 on, which is too much where more runs are asked for than there may be.
-fn runs_at(end: usize, tokens: &[Token]) -> Result<((u64, usize), &[Token]), Refusal<GrammarFault>>
+fn runs_at(end: usize, tokens: &[Token]) -> Result<((Runs, usize), &[Token]), Refusal<GrammarFault>>
     ensures { Gives (λ x. (x.0, x.1.now)) result (reads (up_to MOST_RUNS) end tokens.now) }
 {
     match tokens {
@@ -24,7 +24,7 @@ fn runs_at(end: usize, tokens: &[Token]) -> Result<((u64, usize), &[Token]), Ref
                 if runs < 1 {
                     Err(unexpected(end, tokens))
                 } else if runs <= MOST_RUNS {
-                    Ok(((runs, token.start), rest))
+                    Ok(((Runs::new(runs), token.start), rest))
                 } else {
                     Err(too_many(end, tokens))
                 }
@@ -35,7 +35,7 @@ fn runs_at(end: usize, tokens: &[Token]) -> Result<((u64, usize), &[Token]), Ref
 }
 
 #[tactic(auto, unfolding(crate::specs::Scripts::within))]
-fn within_at(end: usize, tokens: &[Token]) -> Result<(u64, &[Token]), Refusal<GrammarFault>>
+fn within_at(end: usize, tokens: &[Token]) -> Result<(Runs, &[Token]), Refusal<GrammarFault>>
     ensures { Gives (λ x. (x.0, x.1.now)) result (reads within end tokens.now) }
 {
     if begins_with_word(Keyword::Within, tokens) {
@@ -44,7 +44,7 @@ fn within_at(end: usize, tokens: &[Token]) -> Result<(u64, &[Token]), Refusal<Gr
         let (_, rest) = word_at(Keyword::Runs, end, rest)?;
         Ok((runs.0, rest))
     } else {
-        Ok((DEFAULT_RUNS, tokens))
+        Ok((Runs::new(DEFAULT_RUNS), tokens))
     }
 }
 

@@ -5,7 +5,7 @@ ghost use Rattle.ent_value.specs.Name.{IsWord};
 use ent_print::print_script;
 use ent_tree::{
     Assignment, ColumnReference, Comparison, Condition, Delete, Duplicate, End, Entangled,
-    EntangledItem, Expression, Identifier, Insert, Items, Literal, Operand, Same, Script, Select,
+    EntangledItem, Expression, Identifier, Insert, Items, Literal, Operand, Runs, Same, Script, Select,
     Set, Source, Statement, Term, Test, Tuple, Update, ValueSpecification,
 };
 use ent_value::{Limited, Name, Text, Value};
@@ -120,7 +120,7 @@ fn entangled(alloc: Global) -> Result<Entangled, AllocError> {
 
 fn script_of(alloc: Global, statement: Statement) -> Result<Script, AllocError> {
     Ok(Script {
-        within: 8,
+        within: Runs::new(8),
         statements: one(alloc, statement)?,
         end: End::Commit,
     })
@@ -262,7 +262,7 @@ fn an_entangled_script(rt: HostRuntime) -> Result<(), Fail> {
 fn plain_statements_in_a_script(rt: HostRuntime) -> Result<(), Fail> {
     let alloc = rt.alloc();
     let script = Script {
-        within: 1000,
+        within: Runs::new(1_000),
         statements: plain_statements(alloc)?,
         end: End::Rollback,
     };

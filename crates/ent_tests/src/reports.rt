@@ -4,7 +4,7 @@ use ent_rel::Table;
 use ent_semantics::{Answer, Book, Entry, Fact, Fate, Fated, JointAnswer, Member};
 use ent_tree::{
     Column, ColumnReference, Comparison, Condition, Create, DEFAULT_RUNS, End, Entangled,
-    EntangledItem, Identifier, Items, Literal, MOST_PARTS, Opening, OpeningRow, Operand, Script,
+    EntangledItem, Identifier, Items, Literal, MOST_PARTS, Opening, OpeningRow, Operand, Runs, Script,
     Select, Source, Statement, Term, Test, Tuple, ValueSpecification,
 };
 use ent_value::{Kind, Limited, Name, Row, Sequence, Text, Value, Watched, is_word};
@@ -130,7 +130,7 @@ fn demand(alloc: Global, own: &[u8], partner: &[u8]) -> Result<Statement, AllocE
 
 fn script(alloc: Global, own: &[u8], partner: &[u8]) -> Result<Script, AllocError> {
     Ok(Script {
-        within: DEFAULT_RUNS,
+        within: Runs::new(DEFAULT_RUNS),
         statements: listed(alloc, vec![in alloc; demand(alloc, own, partner)?]?)?,
         end: End::Commit,
     })

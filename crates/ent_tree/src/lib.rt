@@ -20,7 +20,7 @@ pub use duplicate::Duplicate;
 pub use entangled::{Condition, Entangled, EntangledItem, Term, Tuple};
 pub use limits::{
     DEFAULT_RUNS, MOST_OPENING_ROWS, MOST_PARTS, MOST_RUNS, MOST_SCRIPTS, MOST_SOURCES,
-    MOST_STATEMENTS, MOST_TABLES,
+    MOST_STATEMENTS, MOST_TABLES, Runs,
 };
 pub use operand::{
     ColumnReference, Comparison, Expression, Identifier, Literal, Operand, Test, ValueSpecification,

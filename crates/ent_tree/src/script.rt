@@ -2,7 +2,7 @@
 use crate::declaration::Opening;
 use crate::duplicate::Duplicate;
 use crate::entangled::Entangled;
-use crate::limits::{MOST_SCRIPTS, MOST_STATEMENTS};
+use crate::limits::{MOST_SCRIPTS, MOST_STATEMENTS, Runs};
 use crate::same::Same;
 use crate::select::Select;
 use crate::statement::{Delete, Insert, Set, Update};
@@ -29,9 +29,8 @@ pub enum End {
 /// `BEGIN TRANSACTION WITHIN within RUNS; statements end;`
 #[derive(Drop)]
 pub struct Script {
-    /// In how many runs the transaction may take part: 1 to [`crate::MOST_RUNS`], [`crate::DEFAULT_RUNS`] where the
-    /// text says nothing.
-    pub within: u64,
+    /// In how many runs the transaction may take part, [`crate::DEFAULT_RUNS`] where the text says nothing.
+    pub within: Runs,
     pub statements: Limited<Statement, MOST_STATEMENTS>,
     pub end: End,
 }
@@ -107,7 +106,7 @@ impl Same for Statement {
 
 impl Same for Script {
     fn is_same(&self, other: &Script) -> bool {
-        self.within == other.within
+        self.within.get() == other.within.get()
             && self.statements.is_same(&other.statements)
             && self.end == other.end
     }
