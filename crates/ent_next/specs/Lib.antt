@@ -1,3 +1,1 @@
 pub mod Form
-pub mod Next
-pub mod Turn
