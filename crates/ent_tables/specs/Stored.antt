@@ -9,6 +9,7 @@ use Rattle.ent_tree.specs.declared.declaration.Create.{Create}
 use Rattle.ent_rel.specs.Relation.{Relation}
 use Rattle.ent_undo.specs.Change.{Change as Noted}
 use Rattle.ent_closed.specs.Form.{Tables}
+use Rattle.ent_select.specs.Tables.{kinds_in, rows_in}
 use Rattle.ent_protocol.specs.Finish.{noted, with_change}
 use Rattle.ent_protocol.specs.Rollback.{is_among, put_back}
 use Rattle.ent_protocol.specs.State.{Member, Change}
@@ -33,6 +34,11 @@ changes_seen log = reverse (map change_seen log)
 -- each note is of a table that is there, as it stood in the kinds of that table
 abbrev pub AreOfTables : List (List Kind) → List Noted → Type 0
 AreOfTables kinds log = AllByRecursion (λ change. slice_get kinds change.table ≡ Some change.before.kinds) log
+
+-- tables, and the notes of what was changed in them
+abbrev pub stored_of : List Relation → List Noted → Stored
+stored_of tables log =
+    record { kinds = kinds_in tables; tables = rows_in tables; changes = changes_seen log }
 
 -- ---- what is asked
 

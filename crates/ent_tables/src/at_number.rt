@@ -14,11 +14,20 @@ use std::alloc::{AllocError, Global};
 use std::sync::Arc;
 
 /// The table of a number, which is shared.
+pub(crate) fn table_at(tables: &[Arc<Table>], number: usize) -> Result<Arc<Table>, AllocError>
+    requires { number < length tables.now }
+    ensures { IfOk result (λ table. arc_value table ≡ slice_index_or (map arc_value tables.now) number no_table) }
+{
+    let table = tables[number].clone()?;
+    Ok(table)
+}
+
+/// The table of a number, as work sees it.
 fn table_seen(tables: &[Arc<Table>], number: usize) -> Result<Seen, AllocError>
     requires { number < length tables.now }
     ensures { IfOk result (λ seen. seen ≡ seen_at (map arc_value tables.now) number) }
 {
-    let table = tables[number].clone()?;
+    let table = table_at(tables, number)?;
     Ok(Seen::new(number, table))
 }
 

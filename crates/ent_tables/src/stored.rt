@@ -14,7 +14,7 @@ ghost use Rattle.ent_protocol.specs.State.{Member};
 ghost use Rattle.ent_tables.specs.Stored.{changed, kinds_declared, relation_at, rolled_back, rolled_back_with};
 ghost use Rattle.ent_tables.specs.Stored.{settled, settled_with, taken_back};
 
-use crate::at_number::{table_changed, tables_seen};
+use crate::at_number::{table_at, table_changed, tables_seen};
 use ent_eval::Seen;
 use ent_form::Catalogue;
 use ent_group::{Members, Tx};
@@ -42,18 +42,14 @@ impl Model for StoredTables {
     ghost use Rattle.std.specs.Arc.{arc_value};
     ghost use Rattle.std.specs.Coded.{codes};
     ghost use Rattle.ent_rel.specs.Relation.{coded_rows};
-    ghost use Rattle.ent_select.specs.Tables.{kinds_in, rows_in};
-    ghost use Rattle.ent_tables.specs.Stored.{AreOfTables, Stored, changes_seen};
+    ghost use Rattle.ent_select.specs.Tables.{kinds_in};
+    ghost use Rattle.ent_tables.specs.Stored.{AreOfTables, Stored, stored_of};
 
     ghost Value = { Stored };
 
     ghost coded = { Prim.hlevel (codes, coded_rows) };
 
-    ghost view = { λ s. record {
-      kinds = kinds_in (map arc_value s.tables.items);
-      tables = rows_in (map arc_value s.tables.items);
-      changes = changes_seen s.log;
-    } };
+    ghost view = { λ s. stored_of (map arc_value s.tables.items) s.log };
 
     ghost invariant = { λ s. AreOfTables (kinds_in (map arc_value s.tables.items)) s.log };
 }
@@ -111,7 +107,8 @@ impl StoredTables {
         ensures { IfOk result (λ seen. (declared : List Create) → kinds_declared declared ≡ self.now.kinds
             → seen ≡ seen_now declared self.now.tables uses.now) }
     {
-        tables_seen(alloc, self.tables.as_slice(), uses)
+        let seen = tables_seen(alloc, self.tables.as_slice(), uses)?;
+        Ok(seen)
     }
 
     /// Makes a change of the table of a number, and notes how it stood. Where memory runs out nothing changes. A change
@@ -129,8 +126,9 @@ impl StoredTables {
         ensures err { OnErr result (self.new ≡ self.old) }
         ensures undone { OnOk result (taken_back self.new ≡ self.old) }
     {
-        let changed = table_changed(alloc, self.tables.as_slice(), table, delta)?;
-        let before = self.tables[table].clone()?;
+        let tables = self.tables.as_slice();
+        let changed = table_changed(alloc, tables, table, delta)?;
+        let before = table_at(tables, table)?;
         self.log.note(tx, table, before)?;
         self.tables[table] = changed;
         Ok(())
