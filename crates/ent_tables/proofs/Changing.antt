@@ -1,5 +1,5 @@
 -- A change is made, and taken back.
-use Rattle.std.proofs.Common.{◌≡◌, ◌<◌, ◌⊎◌, inl, inr, ℕ, List, [], ◌∷◌, ◌++◌, length, map, refl, sym, ap, ◌∙◌, arith, Some}
+use Rattle.std.proofs.Common.{◌≡◌, ◌<◌, ◌⊎◌, inl, inr, ℕ, List, [], ◌∷◌, ◌++◌, length, sym, ap, ◌∙◌, arith, Some}
 use Rattle.std.specs.Prelude.{slice_get, slice_index_or, slice_set}
 use Rattle.std.proofs.lemmas.List.{length-map, map-set, set-set}
 use Rattle.ent_set.specs.Sets as set
@@ -10,9 +10,8 @@ use Rattle.ent_undo.specs.Change.{Change as Noted}
 use Rattle.ent_closed.specs.Form.{Tables}
 use Rattle.ent_select.specs.Tables.{kinds_in, rows_in}
 use Rattle.ent_protocol.specs.Job.{applied}
-use Rattle.ent_protocol.specs.State.{Change}
 use Rattle.ent_tables.specs.AtNumber.{no_table}
-use Rattle.ent_tables.specs.Stored.{AreOfTables, Stored, change_seen, changed, changes_seen, stored_of, taken_back}
+use Rattle.ent_tables.specs.Stored.{AreOfTables, Stored, changed, changes_seen, stored_of, taken_back}
 use Rattle.ent_tables.proofs.Notes.{all_pop, all_push, ends, seen_newest}
 use Rattle.ent_tables.proofs.Places.{get_there, index_map, set_there}
 

@@ -1,5 +1,5 @@
 -- Transactions leave: what they changed is put back, or stays.
-use Rattle.std.proofs.Common.{◌≡◌, ℕ, ◌==◌, ◌||◌, Bool, not, List, [], ◌∷◌, map, refl, sym, ap, ◌∙◌, Some}
+use Rattle.std.proofs.Common.{◌≡◌, ℕ, ◌==◌, ◌||◌, not, List, [], ◌∷◌, map, refl, sym, ap, ◌∙◌, Some}
 use Rattle.std.specs.Prelude.{slice_get}
 use Rattle.std.specs.List.{filter, list_any}
 use Rattle.ent_rel.specs.Relation.{Relation}
@@ -7,7 +7,7 @@ use Rattle.ent_undo.specs.Change.{Change as Noted, is_of, is_of_others, of_other
 use Rattle.ent_select.specs.Tables.{kinds_in, rows_in}
 use Rattle.ent_protocol.specs.Rollback.{is_among, put_back}
 use Rattle.ent_protocol.specs.State.{Member}
-use Rattle.ent_tables.specs.Stored.{AreOfTables, Stored, by_others, changes_seen, is_by, rolled_back, rolled_back_with, settled, settled_with, stored_of}
+use Rattle.ent_tables.specs.Stored.{AreOfTables, Stored, is_by, rolled_back, rolled_back_with, settled, settled_with, stored_of}
 use Rattle.ent_tables.proofs.Notes.{all_filter, filter_seen, kinds_put_back, rows_put_back}
 
 abbrev IsOfTable : List Relation → Noted → Type 0

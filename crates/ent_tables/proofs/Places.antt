@@ -2,13 +2,10 @@
 use Rattle.std.proofs.Common.{◌≡◌, ◌<◌, ◌≤◌, ℕ, zero, suc, List, [], ◌∷◌, length, map, set, get_or, refl, sym, ap, ◌∙◌, arith, Some, None}
 use Rattle.std.specs.Prelude.{slice_get, slice_index_or}
 use Rattle.std.specs.List.{AllByRecursion}
-use Rattle.std.specs.Option.{option_map}
-use Rattle.std.proofs.lemmas.List.{length-map}
 use Rattle.ent_set.specs.Sets as set
 use Rattle.ent_tree.specs.declared.declaration.Create.{Create}
 use Rattle.ent_rel.specs.Relation.{Relation}
 use Rattle.ent_select.specs.Tables.{kinds_in, rows_in}
-use Rattle.ent_protocol.specs.Job.{Seen}
 use Rattle.ent_protocol.specs.Member.{declared_kinds, seen_now}
 use Rattle.ent_protocol.specs.State.{Use}
 use Rattle.ent_tables.specs.AtNumber.{no_table, seen_at, seen_in}

@@ -56,11 +56,7 @@ impl Model for StoredTables {
 
 impl StoredTables {
     /// The tables of an opening without a fault, each with its rows. Nothing is changed in them.
-    pub fn open(
-        alloc: Global,
-        catalogue: &Catalogue,
-        opening: &Opening,
-    ) -> Result<Self, AllocError>
+    pub fn open(alloc: Global, catalogue: &Catalogue, opening: &Opening) -> Result<Self, AllocError>
         requires tables { catalogue.now.tables ≡ schemas_of opening.now.tables }
         requires formed { opening_fault opening.now ≡ None }
         ensures kinds { IfOk result (λ stored. stored.kinds ≡ kinds_declared opening.now.tables) }
@@ -149,7 +145,8 @@ impl StoredTables {
     {
         // A law: a rollback puts the changes back one after the other.
         rollback_goes_newest_first();
-        self.log.roll_back(gone.as_slice(), self.tables.as_mut_slice());
+        self.log
+            .roll_back(gone.as_slice(), self.tables.as_mut_slice());
     }
 
     /// What these transactions changed stays, and can't be taken back any more. It takes no memory.

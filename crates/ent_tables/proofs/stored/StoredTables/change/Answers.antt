@@ -1,4 +1,4 @@
-use Rattle.std.proofs.Common.{◌≡◌, ◌∙◌, ap, sym, map}
+use Rattle.std.proofs.Common.{◌≡◌, ◌∙◌, ap, map}
 use Rattle.std.specs.Arc.{arc_value}
 use Rattle.std.specs.Prelude.{slice_index_or}
 use Rattle.std.proofs.lemmas.List.{map-set}

@@ -1,4 +1,4 @@
-use Rattle.std.proofs.Common.{◌≡◌, ◌∙◌, ap, sym, List, map}
+use Rattle.std.proofs.Common.{◌∙◌, ap, sym, List, map}
 use Rattle.std.specs.Arc.{arc_value}
 use Rattle.ent_protocol.specs.Member.{seen_now}
 use Rattle.ent_tables.specs.AtNumber.{seen_in}

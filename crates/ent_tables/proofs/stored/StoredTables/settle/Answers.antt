@@ -1,8 +1,7 @@
 use Rattle.std.proofs.Common.{◌∙◌, ap, map}
 use Rattle.std.specs.Arc.{arc_value}
 use Rattle.ent_undo.specs.Change.{of_others}
-use Rattle.ent_select.specs.Tables.{kinds_in}
-use Rattle.ent_tables.specs.Stored.{AreOfTables, settled, stored_of}
+use Rattle.ent_tables.specs.Stored.{settled, stored_of}
 use Rattle.ent_tables.proofs.Leaving.{settled_of_tables, settles, settles_with}
 use Rattle.ent_tables.proofs.stored.StoredTables.settle.Goals as goal
 

@@ -1,4 +1,4 @@
-use Rattle.std.proofs.Common.{◌≡◌, ◌∙◌, ap, Some, List, map, slice_get}
+use Rattle.std.proofs.Common.{◌∙◌, ap, Some, List, map, slice_get}
 use Rattle.std.specs.Arc.{arc_value}
 use Rattle.ent_rel.specs.Relation.{Relation}
 use Rattle.ent_select.specs.Tables.{kinds_in, rows_in}
