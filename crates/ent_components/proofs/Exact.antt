@@ -8,7 +8,7 @@ use Rattle.ent_match.specs.Components.{AreComponents}
 use Rattle.ent_match.specs.Fault.{IsByNumber}
 use Rattle.ent_match.specs.Same.{SameStatements}
 use Rattle.ent_plan.specs.Plan.{named}
-use Rattle.ent_protocol.specs.Job.{Asking, posted_of}
+use Rattle.ent_protocol.specs.Job.{Asking}
 use Rattle.ent_protocol.specs.Member.{askings}
 use Rattle.ent_protocol.specs.PoolEvents.{IsPresentComponent}
 use Rattle.ent_protocol.specs.State.{State}
@@ -98,8 +98,7 @@ module _ (alike : AreAlike) (classes : AreClasses) (are_named : AreNamed) (poste
       ((here.class here.first).1 (here.in_remainder, (0, refl))) in
       let statements : pool_of (asked_by posted cover.0) ≡ pool_of asked =
       asked_named posted cover.0
-      ∙ (ap (named (pool_of posted)) other.2 ∙ (are_named (pool_of posted) other.0 ascends there ∙ whole)) in
-      (
+      ∙ (ap (named (pool_of posted)) other.2 ∙ (are_named (pool_of posted) other.0 ascends there ∙ whole)) in (
         cover.0,
         cover.1,
         same_asked posted ascends (asked_by posted cover.0) asked

@@ -1,5 +1,5 @@
 -- The first that is open of some lists, and what it is in a state.
-use Rattle.std.proofs.Common.{◌≡◌, ◌⊎◌, inl, inr, ℕ, ◌<◌, ◌≤◌, List, [], ◌∷◌, ◌++◌, refl, sym, subst, arith}
+use Rattle.std.proofs.Common.{◌≡◌, ◌⊎◌, inl, inr, ◌≤◌, List, [], ◌∷◌, ◌++◌, refl, sym, subst, arith}
 use Rattle.std.specs.Prelude.{Contains, MatchOption, Option, Some, None}
 use Rattle.std.proofs.lemmas.List.Elements.{Contains-append_left, Contains-push, Contains-push_cases}
 use Rattle.ent_protocol.specs.Job.{Asking, Job}
@@ -8,7 +8,7 @@ use Rattle.ent_protocol.specs.PoolEvents.{CanBePicked, first_tx}
 use Rattle.ent_protocol.specs.Quiet.{IsLeast, IsUntried, NoneIs}
 use Rattle.ent_protocol.specs.State.{State}
 use Rattle.ent_components.specs.Component.{ArePresent, IsPick, IsPickIn}
-use Rattle.ent_components.specs.Open.{IsBefore, IsFirstOpen, IsOpen, IsOutAmong, NoneIsOpen}
+use Rattle.ent_components.specs.Open.{IsBefore, IsFirstOpen, IsOpen, NoneIsOpen}
 use Rattle.ent_components.proofs.Listed.{in_none}
 
 -- ---- one list after the other

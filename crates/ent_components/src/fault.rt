@@ -24,7 +24,11 @@ fn unsafe_post(why: PostFault) -> Result<Unsafe, AllocError>
 
 /// What stands in the way of one more statement: none where the pool with it is safe, else the first unsafe post of
 /// that pool.
-pub fn post_fault(alloc: Global, posted: &[Asking], asking: &Asking) -> Result<Option<Unsafe>, AllocError>
+pub fn post_fault(
+    alloc: Global,
+    posted: &[Asking],
+    asking: &Asking,
+) -> Result<Option<Unsafe>, AllocError>
     requires by_number { IsByNumber (pool_of posted.now) }
     requires safe { IsSafe (pool_of posted.now) }
     requires none { HasNone (pool_of posted.now) (posted_of asking.now) }

@@ -1,4 +1,4 @@
-use Rattle.std.proofs.Common.{length, arith, subst}
+use Rattle.std.proofs.Common.{arith, subst}
 use Rattle.std.proofs.lemmas.List.{length-map, take_all}
 use Rattle.ent_match.specs.Same.{SameStatements}
 use Rattle.ent_protocol.specs.Job.{posted_of}
