@@ -1,0 +1,2 @@
+pub mod AtPlace
+pub mod Posted
