@@ -11,3 +11,4 @@ pub mod Classes
 pub mod Groups
 pub mod Together
 pub mod Grouped
+pub mod Safe

@@ -5,4 +5,6 @@
 
 mod law;
 
-pub use law::{groups_are_classes, lent_jobs_stand_once, steps_go_on, transactions_stand_once};
+pub use law::{
+    groups_are_classes, lent_jobs_stand_once, pools_are_safe, steps_go_on, transactions_stand_once,
+};
