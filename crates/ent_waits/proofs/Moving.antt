@@ -1,0 +1,79 @@
+-- Who would move, where something is in its way or nothing is.
+use Rattle.std.proofs.Common.{◌≡◌, ◌↔◌, ℕ, Bool, true, false, not, ◌&&◌, ◌||◌, List, [], ◌∷◌, Option, Some, None}
+use Rattle.std.proofs.Common.{refl, sym, subst, true≢false}
+use Rattle.std.specs.List.{filter}
+use Rattle.std.specs.Option.{is_some}
+use Rattle.ent_coordination.specs.Pool.{IsSafe}
+use Rattle.ent_protocol.specs.Begin.{pool_with}
+use Rattle.ent_protocol.specs.Member.{Next, Ordinary, Asks, Commits, RollsBack, next_of}
+use Rattle.ent_protocol.specs.Quiet.{CanPost, MovesBy}
+use Rattle.ent_protocol.specs.State.{State, Member}
+use Rattle.ent_protocol.specs.Uses.{blocker, is_in_way, not_passed}
+use Rattle.ent_protocol.specs.Waits.{next_uses}
+use Rattle.ent_waits.specs.Motion.{AsksFreely, IsIdle, is_asking}
+
+-- nobody is in the way of who asks for nothing
+none_in_way : (xs : List Member) → filter (is_in_way []) xs ≡ []
+none_in_way [] = refl
+none_in_way (x ∷ xs) = none_in_way xs
+
+free_at_end : (s : State) (member : Member) → blocker s member [] ≡ None
+free_at_end s member = rw (none_in_way (not_passed s member)) refl
+
+-- ---- posted, or with a job out
+
+pub busy_waits : (posted lent : Bool) → (not posted && not lent) ≡ false → (posted || lent) ≡ false → ⊥
+busy_waits true lent busy idle = true≢false idle
+busy_waits false true busy idle = true≢false idle
+busy_waits false false busy idle = true≢false busy
+
+pub waiting_is_idle : (posted lent : Bool) → (not posted && not lent) ≡ true → (posted || lent) ≡ false
+waiting_is_idle true lent waiting = absurd (true≢false (sym waiting))
+waiting_is_idle false true waiting = absurd (true≢false (sym waiting))
+waiting_is_idle false false waiting = refl
+
+-- ---- in the way
+
+pub holder_of : (blocker : Option ℕ) → is_some blocker ≡ true → (holder : ℕ) × (blocker ≡ Some holder)
+holder_of (Some holder) some = (holder, refl)
+holder_of None some = absurd (true≢false (sym some))
+
+pub no_holder : (blocker : Option ℕ) → is_some blocker ≡ false → blocker ≡ None
+no_holder (Some holder) none = absurd (true≢false none)
+no_holder None none = refl
+
+-- ---- by what comes next
+
+-- a member that isn't free doesn't move
+pub blocked_stays : (s : State) (member : Member) (next : Next) (holder : ℕ)
+    → blocker s member (next_uses next) ≡ Some holder → MovesBy s member next → ⊥
+blocked_stays s member (Ordinary statement) holder blocked moves = cc
+blocked_stays s member (Asks statement) holder blocked moves = subst (CanPost s member statement) blocked moves
+blocked_stays s member Commits holder blocked moves =
+    let free = free_at_end s member in cc
+blocked_stays s member RollsBack holder blocked moves =
+    let free = free_at_end s member in cc
+
+-- one that is free moves, unless its statement is entangled
+pub free_moves : (s : State) (member : Member) (next : Next) → blocker s member (next_uses next) ≡ None
+    → is_asking next ≡ false → MovesBy s member next
+free_moves s member (Ordinary statement) free ordinary = free
+free_moves s member (Asks statement) free ordinary = absurd (true≢false ordinary)
+free_moves s member Commits free ordinary = tt
+free_moves s member RollsBack free ordinary = tt
+
+-- one that is free and whose statement is entangled moves where the pool stays safe
+pub free_asks : (s : State) (member : Member) → IsIdle s member → (next : Next) → next_of s member ≡ next
+    → blocker s member (next_uses next) ≡ None → is_asking next ≡ true → AsksFreely s member
+free_asks s member idle (Ordinary statement) is free asks = absurd (true≢false (sym asks))
+free_asks s member idle (Asks statement) is free asks = record {
+  idle = idle;
+  statement = statement;
+  next = is;
+  free = free;
+  moves = subst (λ n. MovesBy s member n ↔ IsSafe (pool_with s member statement)) (sym is)
+      (subst (λ o. CanPost s member statement o ↔ IsSafe (pool_with s member statement)) (sym free)
+      ((λ safe. safe), (λ safe. safe)));
+}
+free_asks s member idle Commits is free asks = absurd (true≢false (sym asks))
+free_asks s member idle RollsBack is free asks = absurd (true≢false (sym asks))

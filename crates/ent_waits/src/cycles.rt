@@ -1,0 +1,81 @@
+//! Members that wait for each other in a ring.
+ghost use Rattle.std.specs.Prelude.{◌≡◌, ℕ, ◌+◌, ◌≤◌, ◌++◌, length, IfSome, IsNone};
+ghost use Rattle.std.specs.List.{flat_map};
+ghost use Rattle.ent_group.specs.Cycle.{NamesAtMost};
+ghost use Rattle.ent_protocol.specs.State.{State};
+ghost use Rattle.ent_protocol.specs.Waits.{IsDeadlock, NoDeadlock};
+ghost use Rattle.ent_waits.specs.Waits.{gathered, pair_if_awaited, pairs_while_waiting, state_with};
+
+use crate::next_uses::next_uses;
+use crate::pairs::{MOST_PAIRS, Pairs};
+use crate::waiting::is_waiting;
+use ent_eval::Job;
+use ent_group::{MOST_MEMBERS, Members, cycle};
+use ent_members::{Member, Run, Use, awaited_members_are_waited_for};
+use ent_next::SubmittedScript;
+
+/// A cycle of members that wait for each other: each waits for the next, and the last for the first. The first is the
+/// greatest transaction that stands on any cycle. There is none where nobody waits in a ring. It takes no memory.
+pub fn deadlock(run: &Run, submitted: &[SubmittedScript], lent: &[Job]) -> Option<Members>
+    ensures found { (s : State) → IfSome result (IsDeadlock (state_with run.now submitted.now lent.now s)) }
+    ensures none { (s : State) → IsNone result → NoDeadlock (state_with run.now submitted.now lent.now s) }
+{
+    awaited_members_are_waited_for();
+    let pairs = pairs_of(run, submitted, lent);
+    let found = cycle(pairs.as_slice());
+    found
+}
+
+/// Who waits for whom. Only members are named.
+fn pairs_of(run: &Run, submitted: &[SubmittedScript], lent: &[Job]) -> Pairs
+    ensures pairs { result ≡ gathered run.now submitted.now lent.now }
+    ensures names { NamesAtMost MOST_MEMBERS result }
+{
+    let mut pairs = Pairs::new();
+    let _most = run.len();
+    let active = run.active();
+    for asker in active {
+        push_pairs(&mut pairs, run, submitted, lent, asker);
+    }
+    pairs
+}
+
+/// Puts in whom a member waits for, while it waits.
+fn push_pairs(
+    pairs: &mut Pairs,
+    run: &Run,
+    submitted: &[SubmittedScript],
+    lent: &[Job],
+    asker: &Member,
+)
+    requires { length pairs.old + length run.now.active ≤ MOST_PAIRS }
+    ensures pairs { pairs.new ≡ pairs.old ++ pairs_while_waiting run.now submitted.now lent.now asker.now }
+    ensures length { length pairs.new ≤ length pairs.old + length run.now.active }
+{
+    if is_waiting(lent, asker) {
+        push_awaited(pairs, run, asker, next_uses(submitted, asker).as_slice());
+    }
+}
+
+/// Puts in whom a member that asks for uses waits for.
+fn push_awaited(pairs: &mut Pairs, run: &Run, asker: &Member, asked: &[Use])
+    requires { length pairs.old + length run.now.active ≤ MOST_PAIRS }
+    ensures pairs { pairs.new ≡ pairs.old ++ flat_map (pair_if_awaited run.now asker.now asked.now) run.now.active }
+    ensures length { length pairs.new ≤ length pairs.old + length run.now.active }
+{
+    let active = run.active();
+    for other in active {
+        push_pair(pairs, run, asker, asked, other);
+    }
+}
+
+/// Puts in the pair of a member and another, where it waits for that one.
+fn push_pair(pairs: &mut Pairs, run: &Run, asker: &Member, asked: &[Use], other: &Member)
+    requires { length pairs.old + 1 ≤ MOST_PAIRS }
+    ensures pairs { pairs.new ≡ pairs.old ++ pair_if_awaited run.now asker.now asked.now other.now }
+    ensures length { length pairs.new ≤ length pairs.old + 1 }
+{
+    if run.awaits(asker, asked, other) {
+        pairs.push((asker.tx(), other.tx()));
+    }
+}
