@@ -24,6 +24,7 @@ mod table_use;
 mod uses;
 
 pub use entrant::Entrant;
+pub use hold::with_uses;
 pub use law::awaited_members_are_waited_for;
 pub use leavers::{Leaver, Leavers};
 pub use member::Member;
