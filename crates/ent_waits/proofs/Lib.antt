@@ -1,3 +1,4 @@
 pub mod Rings
 pub mod Gathered
 pub mod Moving
+pub mod Waiters

@@ -1,2 +1,3 @@
 pub mod Waits
 pub mod Motion
+pub mod Victim

@@ -2,7 +2,8 @@
 //!
 //! A member of a run that is neither posted nor has a job out waits for those who are in the way of what its next
 //! statement asks for. A caller may rely on it that [`deadlock`] finds the cycle of waiting that begins with the
-//! greatest transaction on any, and none only where nobody waits in a ring; that [`motion_of`] tells whether a member
+//! greatest transaction on any, and none only where nobody waits in a ring; that [`victim_of`] tells the group that is
+//! rolled back for it; that [`motion_of`] tells whether a member
 //! would begin; and that no call takes memory, so that none can fail.
 #![tactic(auto)]
 
@@ -10,7 +11,9 @@ mod cycles;
 mod motion;
 mod next_uses;
 mod pairs;
+mod victim;
 mod waiting;
 
 pub use cycles::deadlock;
 pub use motion::{Motion, motion_of};
+pub use victim::{Victim, victim_of};
