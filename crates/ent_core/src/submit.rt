@@ -13,7 +13,7 @@ use ent_form::{Catalogue, FormFault, resolve};
 use ent_next::SubmittedScript;
 use ent_tree::{MOST_SCRIPTS, MOST_STATEMENTS, Opening, Script};
 use ent_value::{Limited, Refusal};
-use std::alloc::{AllocFailed, Global};
+use std::alloc::{AllocError, AllocFailed, Global};
 
 /// The statements of a script resolved over an opening, or its first fault.
 fn resolved(
@@ -44,12 +44,17 @@ pub(crate) fn submit(store: &mut Store, script: Script) -> Result<Reply, AllocFa
         Err(Refusal::Fault(fault)) => return Ok(Reply::Faulty(script, fault)),
         Err(Refusal::Memory) => return Err(AllocFailed { value: script }),
     };
-    let tx = before as u64 + 1;
-    if store.submitted.reserve(1).is_err() || store.roster.admit(tx).is_err() {
+    if store.submitted.reserve(1).is_err() {
         return Err(AllocFailed { value: script });
     }
-    let own = SubmittedScript::new(script, form);
-    let _asked = own.within();
-    store.submitted.push_reserved(own);
-    Ok(Reply::Submitted(tx))
+    let tx = before as u64 + 1;
+    match store.roster.admit(tx) {
+        Ok(()) => {
+            let own = SubmittedScript::new(script, form);
+            let _asked = own.within();
+            store.submitted.push_reserved(own);
+            Ok(Reply::Submitted(tx))
+        }
+        Err(AllocError) => Err(AllocFailed { value: script }),
+    }
 }

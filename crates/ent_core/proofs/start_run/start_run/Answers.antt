@@ -22,8 +22,8 @@ invariant_of-store c =
 pub returns-clause-ok : goal.returns-clause-ok
 returns-clause-ok c =
     let s : State = the_view c.store.inside in
-    let some : 0 < length c.store.inside.roster.dormant = omega arith in
-    let waiting : c.len-waiting.result ≡ length c.store.inside.roster.dormant = omega arith in
+    let waiting : length c.dormant-waiting.result.now ≡ length c.store.inside.roster.dormant = ap length c.dormant-waiting.ensures in
+    let some : 0 < length c.store.inside.roster.dormant = omega (arith, waiting) in
     let least : c.min-count.result ≡ min (length c.store.inside.roster.dormant) MOST_MEMBERS = c.min-count.ensures ∙ ap (λ n. min n 64) waiting in
     started FormFault s c.args.store.now c.min-count.result c.take_first.new.self.dormant c.take_first.new.self.fates c.in_ok-run.run'.prepared c.in_ok-run.run'.active c.numbers-members.result c.clear.new.self.items
     c.store.view_is c.if-store.false c.clear.ensures.items (c.store.invariant.idle_prepared c.if-store.false) some least c.in_ok-run.ensures.prepared
