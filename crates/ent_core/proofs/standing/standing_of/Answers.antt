@@ -10,16 +10,16 @@ use Rattle.ent_core.proofs.standing.standing_of.Goals as goal
 pub returns-then-is_prepared : goal.returns-then-is_prepared
 returns-then-is_prepared c =
     let s : State = the_view c.store.inside in
-    let no_fate = c.in_default.ensures ∙ ap (λ (all : List Fated). first_of (filter (λ one. one.tx == c.args.tx) all)) c.as_slice.ensures.value in
-    let not_dormant = c.in_default-dormant_of.ensures ∙ ap (λ (all : List Dormant). first_of (filter (λ one. one.tx == c.args.tx) all)) c.as_slice-2.ensures.value in
+    let no_fate = c.in_default.ensures in
+    let not_dormant = c.in_default-dormant_of.ensures in
     stands_prepared s c.args.tx no_fate not_dormant (sym (c.is_prepared.ensures s) ∙ c.if-is_prepared.true)
     ∙ ap (λ (x : State). standing x c.args.tx) c.store.view_is
 
 pub returns-in-Some-active_member : goal.returns-in-Some-active_member
 returns-in-Some-active_member c =
     let s : State = the_view c.store.inside in
-    let no_fate = c.in_default.ensures ∙ ap (λ (all : List Fated). first_of (filter (λ one. one.tx == c.args.tx) all)) c.as_slice.ensures.value in
-    let not_dormant = c.in_default-dormant_of.ensures ∙ ap (λ (all : List Dormant). first_of (filter (λ one. one.tx == c.args.tx) all)) c.as_slice-2.ensures.value in
+    let no_fate = c.in_default.ensures in
+    let not_dormant = c.in_default-dormant_of.ensures in
     let member = c.in-Some-active_member.member.now in
     let told = c.active_standing.ensures ∙ ap (λ (x : State). active_standing x member) (sym c.store.view_is) in
     ap (λ (x : Standing). Some x) told
@@ -29,7 +29,7 @@ returns-in-Some-active_member c =
 pub returns-in-None : goal.returns-in-None
 returns-in-None c =
     let s : State = the_view c.store.inside in
-    let no_fate = c.in_default.ensures ∙ ap (λ (all : List Fated). first_of (filter (λ one. one.tx == c.args.tx) all)) c.as_slice.ensures.value in
-    let not_dormant = c.in_default-dormant_of.ensures ∙ ap (λ (all : List Dormant). first_of (filter (λ one. one.tx == c.args.tx) all)) c.as_slice-2.ensures.value in
+    let no_fate = c.in_default.ensures in
+    let not_dormant = c.in_default-dormant_of.ensures in
     stands_nowhere s c.args.tx no_fate not_dormant (sym (c.is_prepared.ensures s) ∙ c.if-is_prepared.false) (c.in-None.ensures s)
     ∙ ap (λ (x : State). standing x c.args.tx) c.store.view_is
