@@ -1,12 +1,13 @@
-//! Scripts as text: `== prints`, then an input a line. Its scripts are printed, and what is printed is read again.
-use crate::reply::put;
+//! Scripts as text: `== prints`, then an input a line. Its scripts are printed, and what is printed is read again. Copies
+//! of scripts: `== copies`, then an input a line.
+use crate::reply::{put, yes_or_no};
 use crate::streams::put_taken;
 use crate::trees::put_input;
 use crate::words::unescaped;
 use anyhow::{Context, Result};
 use ent_print::print_script;
 use ent_sql::parse_input;
-use ent_tree::{Input, Script};
+use ent_tree::{Duplicate, Input, Same, Script};
 use std::alloc::Global;
 
 pub(crate) fn reply(alloc: Global, line: &str, out: &mut Vec<u8>) -> Result<()> {
@@ -74,4 +75,28 @@ fn places_aside(alloc: Global, input: &Input) -> Result<Vec<u8>> {
         }
     }
     Ok(kept)
+}
+
+/// Replies to `== copies`.
+pub(crate) fn reply_to_copies(alloc: Global, line: &str, out: &mut Vec<u8>) -> Result<()> {
+    let text = unescaped(alloc, line)?;
+    match parse_input(alloc, text.as_str()) {
+        Ok(input) => put_sameness(alloc, input.scripts.as_slice(), out),
+        Err(_) => put(out, "no sentence"),
+    }
+}
+
+/// Whether a copy of the first script is the same as each script, places included.
+fn put_sameness(alloc: Global, scripts: &[Script], out: &mut Vec<u8>) -> Result<()> {
+    let [first, ..] = scripts else {
+        return put(out, "no script");
+    };
+    let copy = first.copy(alloc)?;
+    let mut before = "";
+    for script in scripts {
+        put(out, before)?;
+        put(out, yes_or_no(copy.is_same(script)))?;
+        before = " ";
+    }
+    Ok(())
 }
