@@ -2,6 +2,8 @@ pub mod Arrivals
 pub mod Booked
 pub mod Keeping
 pub mod Opening
+pub mod Sorted
 pub mod Starting
+pub mod TakenOut
 pub mod Told
 pub mod Whereabouts

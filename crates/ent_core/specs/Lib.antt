@@ -3,3 +3,4 @@ pub mod Kept
 pub mod Reply
 pub mod Standing
 pub mod Store
+pub mod TakeOut

@@ -16,6 +16,7 @@ mod standing;
 mod start_run;
 mod store;
 mod submit;
+mod take_out;
 
 pub use closing::{NotClosed, NotDone};
 pub use reached::Core;

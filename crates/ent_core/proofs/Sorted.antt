@@ -1,0 +1,258 @@
+-- Members by number, and how often a number stands in a list.
+use Rattle.std.proofs.Common.{◌≡◌, ◌≢◌, ◌≤◌, ◌<◌, ◌+◌, ◌==◌, ◌||◌, ℕ, suc, Bool, true, false, cond, List, [], ◌∷◌, ◌++◌, length, map, refl, sym, ap, ◌∙◌, arith, nat_eq, nat_lt}
+use Rattle.std.specs.Prelude.{All, AllPairs}
+use Rattle.std.specs.List.{AllByRecursion, IsDistinct, filter, list_any}
+use Rattle.std.proofs.lemmas.Bool.Decides.{nat_tests}
+use Rattle.std.proofs.lemmas.List.Elements.{All-head, All-tail}
+use Rattle.ent_members.specs.Run.{tx_of}
+use Rattle.ent_protocol.specs.Rollback.{is_among}
+use Rattle.ent_protocol.specs.State.{Member, by_number, inserted}
+
+-- ---- how often a number stands in a list
+
+abbrev pub one_if : Bool → ℕ → ℕ
+one_if true k = suc k
+one_if false k = k
+
+abbrev pub times : ℕ → List ℕ → ℕ
+times n [] = 0
+times n (m ∷ more) = one_if (nat_eq m n) (times n more)
+
+one_added : (b : Bool) (j k : ℕ) → one_if b (j + k) ≡ one_if b j + k
+one_added true j k = omega arith
+one_added false j k = refl
+
+one_more : (b : Bool) (k : ℕ) → k ≤ one_if b k
+one_more true k = omega arith
+one_more false k = omega arith
+
+one_kept : (b : Bool) (j k : ℕ) → j ≤ k → one_if b j ≤ one_if b k
+one_kept true j k le = omega (arith, le)
+one_kept false j k le = le
+
+one_swapped : (a b : Bool) (k : ℕ) → one_if a (one_if b k) ≡ one_if b (one_if a k)
+one_swapped true true k = refl
+one_swapped true false k = refl
+one_swapped false true k = refl
+one_swapped false false k = refl
+
+pub times_joined : (n : ℕ) (xs ys : List ℕ) → times n (xs ++ ys) ≡ times n xs + times n ys
+times_joined n [] ys = nothing_before (times n ys)
+  where
+    nothing_before : (k : ℕ) → k ≡ 0 + k
+    nothing_before k = omega arith
+times_joined n (x ∷ xs) ys =
+    ap (one_if (nat_eq x n)) (times_joined n xs ys) ∙ one_added (nat_eq x n) (times n xs) (times n ys)
+
+itself : (n : ℕ) → nat_eq n n ≡ true
+itself n = grind (arith, nat_tests)
+
+same_of : (m n : ℕ) → nat_eq m n ≡ true → m ≡ n
+same_of m n is = grind (arith, nat_tests)
+
+apart_of : (m n : ℕ) → m ≢ n → nat_eq m n ≡ false
+apart_of m n apart = by (nat_eq m n) refl
+  where
+    by : (b : Bool) → nat_eq m n ≡ b → nat_eq m n ≡ false
+    by true is = absurd (apart (same_of m n is))
+    by false is = is
+
+turned : (m n : ℕ) → nat_eq m n ≡ false → nat_eq n m ≡ false
+turned m n is = grind (arith, nat_tests)
+
+never : (n : ℕ) (xs : List ℕ) → AllByRecursion (λ m. nat_eq n m ≡ false) xs → times n xs ≡ 0
+never n [] all = refl
+never n (x ∷ xs) all =
+    ap (λ b. one_if b (times n xs)) (turned n x all.0) ∙ never n xs all.1
+
+nowhere : (n : ℕ) (xs : List ℕ) → times n xs ≤ 0 → AllByRecursion (λ m. nat_eq n m ≡ false) xs
+nowhere n [] none = tt
+nowhere n (x ∷ xs) none = by (nat_eq x n) refl none (nowhere n xs)
+  where
+    by : (b : Bool) → nat_eq x n ≡ b → one_if b (times n xs) ≤ 0 → (times n xs ≤ 0 → AllByRecursion (λ m. nat_eq n m ≡ false) xs)
+        → AllByRecursion (λ m. nat_eq n m ≡ false) (x ∷ xs)
+    by true is low rest = absurd (omega (arith, low))
+    by false is low rest = (turned x n is, rest low)
+
+-- numbers that are distinct stand once
+pub once : (xs : List ℕ) → IsDistinct nat_eq xs → (n : ℕ) → times n xs ≤ 1
+unfolding IsDistinct
+once [] distinct n = omega arith
+once (x ∷ xs) distinct n = by (nat_eq x n) refl (once xs distinct.1 n)
+  where
+    by : (b : Bool) → nat_eq x n ≡ b → times n xs ≤ 1 → one_if b (times n xs) ≤ 1
+    by true is rest =
+        let none : times x xs ≡ 0 = never x xs distinct.0 in
+        let here : times n xs ≡ 0 = ap (λ m. times m xs) (sym (same_of x n is)) ∙ none in
+        omega (arith, here)
+    by false is rest = rest
+
+pub distinct_if_once : (xs : List ℕ) → ((n : ℕ) → times n xs ≤ 1) → IsDistinct nat_eq xs
+unfolding IsDistinct
+distinct_if_once [] low = tt
+distinct_if_once (x ∷ xs) low = (nowhere x xs (first (low x)), distinct_if_once xs (λ n. rest n (low n)))
+  where
+    first : one_if (nat_eq x x) (times x xs) ≤ 1 → times x xs ≤ 0
+    first le =
+        let e : one_if (nat_eq x x) (times x xs) ≡ suc (times x xs) = ap (λ b. one_if b (times x xs)) (itself x) in
+        omega (arith, e, le)
+
+    rest : (n : ℕ) → one_if (nat_eq x n) (times n xs) ≤ 1 → times n xs ≤ 1
+    rest n le = let more = one_more (nat_eq x n) (times n xs) in omega (arith, le, more)
+
+pairs_head : {X : Type 0} (R : X → X → Type 0) (x : X) (xs : List X) → AllPairs R (x ∷ xs) → All (R x) xs
+pairs_head R x xs all = λ k d lt. all 0 (suc k) d (omega arith) (omega arith)
+
+pairs_tail : {X : Type 0} (R : X → X → Type 0) (x : X) (xs : List X) → AllPairs R (x ∷ xs) → AllPairs R xs
+pairs_tail R x xs all = λ i j d below lt. all (suc i) (suc j) d (omega arith) (omega arith)
+
+all_apart : (n : ℕ) (xs : List ℕ) → All (λ m. n ≢ m) xs → AllByRecursion (λ m. nat_eq n m ≡ false) xs
+all_apart n [] all = tt
+all_apart n (x ∷ xs) all =
+    (apart_of n x (All-head (λ m. n ≢ m) x xs all), all_apart n xs (All-tail (λ m. n ≢ m) x xs all))
+
+pub distinct_if_apart : (xs : List ℕ) → AllPairs (λ (one other : ℕ). one ≢ other) xs → IsDistinct nat_eq xs
+unfolding IsDistinct
+distinct_if_apart [] all = tt
+distinct_if_apart (x ∷ xs) all = (
+  all_apart x xs (pairs_head (λ (one other : ℕ). one ≢ other) x xs all),
+  distinct_if_apart xs (pairs_tail (λ (one other : ℕ). one ≢ other) x xs all),
+)
+
+-- ---- of members
+
+pub times_filter : (n : ℕ) (p : Member → Bool) (ms : List Member) → times n (map tx_of (filter p ms)) ≤ times n (map tx_of ms)
+times_filter n p [] = omega arith
+times_filter n p (m ∷ ms) = by (p m) (times_filter n p ms)
+  where
+    by : (b : Bool) → times n (map tx_of (filter p ms)) ≤ times n (map tx_of ms)
+        → times n (map tx_of (cond b (m ∷ filter p ms) (filter p ms))) ≤ one_if (nat_eq m.tx n) (times n (map tx_of ms))
+    by true le = one_kept (nat_eq m.tx n) (times n (map tx_of (filter p ms))) (times n (map tx_of ms)) le
+    by false le = let more = one_more (nat_eq m.tx n) (times n (map tx_of ms)) in omega (arith, le, more)
+
+times_inserted : (n : ℕ) (m : Member) (ms : List Member) → times n (map tx_of (inserted tx_of m ms)) ≡ times n (map tx_of (m ∷ ms))
+times_inserted n m [] = refl
+times_inserted n m (o ∷ os) = by (nat_lt m.tx o.tx) (times_inserted n m os)
+  where
+    by : (b : Bool) → times n (map tx_of (inserted tx_of m os)) ≡ times n (map tx_of (m ∷ os))
+        → times n (map tx_of (cond b (m ∷ o ∷ os) (o ∷ inserted tx_of m os))) ≡ times n (map tx_of (m ∷ o ∷ os))
+    by true e = refl
+    by false e = ap (one_if (nat_eq o.tx n)) e ∙ one_swapped (nat_eq o.tx n) (nat_eq m.tx n) (times n (map tx_of os))
+
+pub times_by_number : (n : ℕ) (ms : List Member) → times n (map tx_of (by_number tx_of ms)) ≡ times n (map tx_of ms)
+times_by_number n [] = refl
+times_by_number n (m ∷ ms) =
+    times_inserted n m (by_number tx_of ms) ∙ ap (one_if (nat_eq m.tx n)) (times_by_number n ms)
+
+-- ---- put in by number
+
+pub all_inserted : (P : Member → Type 0) (m : Member) (ms : List Member) → P m → AllByRecursion P ms → AllByRecursion P (inserted tx_of m ms)
+all_inserted P m [] here all = (here, tt)
+all_inserted P m (o ∷ os) here all = by (nat_lt m.tx o.tx) (all_inserted P m os here all.1)
+  where
+    by : (b : Bool) → AllByRecursion P (inserted tx_of m os) → AllByRecursion P (cond b (m ∷ o ∷ os) (o ∷ inserted tx_of m os))
+    by true rest = (here, all)
+    by false rest = (all.0, rest)
+
+pub all_by_number : (P : Member → Type 0) (ms : List Member) → AllByRecursion P ms → AllByRecursion P (by_number tx_of ms)
+all_by_number P [] all = tt
+all_by_number P (m ∷ ms) all = all_inserted P m (by_number tx_of ms) all.0 (all_by_number P ms all.1)
+
+pub all_filter : (P : Member → Type 0) (p : Member → Bool) (ms : List Member) → AllByRecursion P ms → AllByRecursion P (filter p ms)
+all_filter P p [] all = tt
+all_filter P p (m ∷ ms) all = by (p m) (all_filter P p ms all.1)
+  where
+    by : (b : Bool) → AllByRecursion P (filter p ms) → AllByRecursion P (cond b (m ∷ filter p ms) (filter p ms))
+    by true rest = (all.0, rest)
+    by false rest = rest
+
+length_inserted : (m : Member) (ms : List Member) → length (inserted tx_of m ms) ≡ suc (length ms)
+length_inserted m [] = refl
+length_inserted m (o ∷ os) = by (nat_lt m.tx o.tx) (length_inserted m os)
+  where
+    by : (b : Bool) → length (inserted tx_of m os) ≡ suc (length os) → length (cond b (m ∷ o ∷ os) (o ∷ inserted tx_of m os)) ≡ suc (suc (length os))
+    by true e = refl
+    by false e = ap suc e
+
+pub length_by_number : (ms : List Member) → length (by_number tx_of ms) ≡ length ms
+length_by_number [] = refl
+length_by_number (m ∷ ms) = length_inserted m (by_number tx_of ms) ∙ ap suc (length_by_number ms)
+
+pub length_filter : (p : Member → Bool) (ms : List Member) → length (filter p ms) ≤ length ms
+length_filter p [] = omega arith
+length_filter p (m ∷ ms) = by (p m) (length_filter p ms)
+  where
+    by : (b : Bool) → length (filter p ms) ≤ length ms → length (cond b (m ∷ filter p ms) (filter p ms)) ≤ suc (length ms)
+    by true le = omega (arith, le)
+    by false le = omega (arith, le)
+
+or_swapped : (a b c : Bool) → (a || (b || c)) ≡ (b || (a || c))
+or_swapped true true c = refl
+or_swapped true false c = refl
+or_swapped false true c = refl
+or_swapped false false c = refl
+
+any_inserted : (p : Member → Bool) (m : Member) (ms : List Member) → list_any p (inserted tx_of m ms) ≡ (p m || list_any p ms)
+any_inserted p m [] = refl
+any_inserted p m (o ∷ os) = by (nat_lt m.tx o.tx) (any_inserted p m os)
+  where
+    by : (b : Bool) → list_any p (inserted tx_of m os) ≡ (p m || list_any p os)
+        → list_any p (cond b (m ∷ o ∷ os) (o ∷ inserted tx_of m os)) ≡ (p m || (p o || list_any p os))
+    by true e = refl
+    by false e = ap (λ b. p o || b) e ∙ or_swapped (p o) (p m) (list_any p os)
+
+any_by_number : (p : Member → Bool) (ms : List Member) → list_any p (by_number tx_of ms) ≡ list_any p ms
+any_by_number p [] = refl
+any_by_number p (m ∷ ms) = any_inserted p m (by_number tx_of ms) ∙ ap (λ b. p m || b) (any_by_number p ms)
+
+pub among_by_number : (ms : List Member) (tx : ℕ) → is_among (by_number tx_of ms) tx ≡ is_among ms tx
+among_by_number ms tx = any_by_number (λ member. member.tx == tx) ms
+
+-- ---- members of distinct numbers that stand by number
+
+abbrev IsAscending : List Member → Type 0
+IsAscending [] = Unit {0}
+IsAscending (m ∷ ms) = AllByRecursion (λ (o : Member). m.tx < o.tx) ms × IsAscending ms
+
+further : (m o : Member) (os : List Member) → m.tx < o.tx → AllByRecursion (λ (x : Member). o.tx < x.tx) os → AllByRecursion (λ (x : Member). m.tx < x.tx) os
+further m o [] lt all = tt
+further m o (x ∷ os) lt all = (let h = all.0 in omega (arith, lt, h), further m o os lt all.1)
+
+ascending_inserted : (m : Member) (ms : List Member) → AllByRecursion (λ (o : Member). nat_eq m.tx o.tx ≡ false) ms → IsAscending ms → IsAscending (inserted tx_of m ms)
+ascending_inserted m [] apart asc = (tt, tt)
+ascending_inserted m (o ∷ os) apart asc = by (nat_lt m.tx o.tx) refl (ascending_inserted m os apart.1 asc.1)
+  where
+    by : (b : Bool) → nat_lt m.tx o.tx ≡ b → IsAscending (inserted tx_of m os) → IsAscending (cond b (m ∷ o ∷ os) (o ∷ inserted tx_of m os))
+    by true is rest =
+        let lt : m.tx < o.tx = grind (arith, nat_tests) in
+        ((lt, further m o os lt asc.0), asc)
+    by false is rest =
+        let other = apart.0 in
+        let gt : o.tx < m.tx = grind (arith, nat_tests) in
+        (all_inserted (λ (x : Member). o.tx < x.tx) m os gt asc.0, rest)
+
+unmapped : (n : ℕ) (ms : List Member) → AllByRecursion (λ m. nat_eq n m ≡ false) (map tx_of ms) → AllByRecursion (λ (o : Member). nat_eq n o.tx ≡ false) ms
+unmapped n [] all = tt
+unmapped n (m ∷ ms) all = (all.0, unmapped n ms all.1)
+
+ascending_by_number : (ms : List Member) → IsDistinct nat_eq (map tx_of ms) → IsAscending (by_number tx_of ms)
+unfolding IsDistinct
+ascending_by_number [] distinct = tt
+ascending_by_number (m ∷ ms) distinct =
+    ascending_inserted m (by_number tx_of ms)
+    (all_by_number (λ (o : Member). nat_eq m.tx o.tx ≡ false) ms (unmapped m.tx ms distinct.0))
+    (ascending_by_number ms distinct.1)
+
+stays_first : (m : Member) (ms : List Member) → AllByRecursion (λ (o : Member). m.tx < o.tx) ms → inserted tx_of m ms ≡ m ∷ ms
+stays_first m [] all = refl
+stays_first m (o ∷ os) all =
+    let lt = all.0 in
+    let is : nat_lt m.tx o.tx ≡ true = grind (arith, nat_tests) in
+    ap (λ b. cond b (m ∷ o ∷ os) (o ∷ inserted tx_of m os)) is
+
+stays : (ms : List Member) → IsAscending ms → by_number tx_of ms ≡ ms
+stays [] asc = refl
+stays (m ∷ ms) asc = ap (inserted tx_of m) (stays ms asc.1) ∙ stays_first m ms asc.0
+
+pub by_number_again : (ms : List Member) → IsDistinct nat_eq (map tx_of ms) → by_number tx_of (by_number tx_of ms) ≡ by_number tx_of ms
+by_number_again ms distinct = stays (by_number tx_of ms) (ascending_by_number ms distinct)

@@ -1,0 +1,50 @@
+use Rattle.std.proofs.Common.{◌≡◌, ◌∙◌, ◌++◌, List, ap, sym, subst, map}
+use Rattle.std.specs.List.{filter_map}
+use Rattle.ent_core.proofs.TakenOut.{as_leavers, joints_left, kept_taken, numbers_leaving, taken}
+use Rattle.ent_core.specs.TakeOut.{MayLeave}
+use Rattle.ent_core.specs.contracts.store.Store.{the_view}
+use Rattle.ent_members.specs.Moves.{is_not_of}
+use Rattle.ent_members.specs.Run.{tx_of}
+use Rattle.ent_protocol.specs.Rollback.{dormant_by, fated_by, taken_out}
+use Rattle.ent_protocol.specs.State.{Member, State, by_number}
+use Rattle.ent_roster.specs.Cause.{cause_seen}
+use Rattle.ent_roster.specs.Leaving.{as_member}
+use Rattle.ent_tables.specs.Stored.{Stored}
+use Rattle.ent_core.proofs.take_out.take_out.Goals as goal
+
+pub invariant_of-store : goal.invariant_of-store
+invariant_of-store c =
+    let inside = c.store.inside in
+    let leavers = c.args.leavers.now in
+    let cause = cause_seen c.args.cause in
+    let leaving : MayLeave leavers (the_view inside) =
+    subst (λ (s : State). MayLeave leavers s) (sym c.store.view_is) c.requires.leaving in
+    kept_taken inside.catalogue.tables inside.opening inside.submitted.items inside.roster c.leave.new.self inside.running
+    inside.run c.remove.new.self inside.tables c.roll_back.new.self leavers cause (is_not_of c.numbers-numbers.result)
+    c.store.invariant leaving.arrived leaving.distinct
+    (c.leave.ensures.dormant (map as_member leavers) (c.as_slice.ensures.list ∙ as_leavers leavers)
+    ∙ (λ i. inside.roster.dormant ++ filter_map (dormant_by (c.as_slice-2.ensures.value i) cause) (map as_member leavers)))
+    c.leave.ensures.known c.remove.ensures.prepared c.remove.ensures.active
+    (ap (λ (stored : Stored). stored.kinds) c.roll_back.ensures.numbers)
+
+pub returns : goal.returns
+returns c = λ gone is.
+    let inside = c.store.inside in
+    let cause = cause_seen c.args.cause in
+    let sorted : List Member = by_number tx_of gone in
+    let numbers : c.numbers-numbers.result ≡ map tx_of sorted =
+    numbers_leaving c.numbers-numbers.result c.args.leavers.now sorted c.numbers-numbers.ensures is in
+    let left = c.remove.ensures.leave sorted numbers in
+    let stored = c.roll_back.ensures.members sorted numbers in
+    taken (the_view inside) gone cause c.leave.new.self.dormant c.leave.new.self.fates c.remove.new.self.prepared
+    c.remove.new.self.active c.remove_joints.new.joints.items c.remove_with.new.self c.roll_back.new.self.tables
+    c.roll_back.new.self.changes
+    (c.leave.ensures.dormant sorted (c.as_slice.ensures.list ∙ is)
+    ∙ (λ i. inside.roster.dormant ++ filter_map (dormant_by (c.as_slice-2.ensures.value i) cause) sorted))
+    (c.leave.ensures.fates sorted (c.as_slice.ensures.list ∙ is)
+    ∙ (λ i. inside.roster.fates ++ filter_map (fated_by (c.as_slice-2.ensures.value i) cause) sorted))
+    left.prepared left.active
+    (c.remove_joints.ensures ∙ joints_left c.numbers-numbers.result sorted inside.joints.items numbers)
+    (c.remove_with.ensures.gone sorted numbers)
+    (ap (λ (s : Stored). s.tables) stored) (ap (λ (s : Stored). s.changes) stored)
+    ∙ ap (λ (s : State). taken_out gone cause s) c.store.view_is

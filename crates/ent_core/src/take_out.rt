@@ -1,0 +1,85 @@
+//! Members are taken out of the run. Nothing here takes memory.
+ghost use Rattle.std.specs.Prelude.{◌≡◌, ◌+◌, ◌≤◌, List, filter, length, map};
+ghost use Rattle.ent_core.specs.TakeOut.{MayLeave, is_joint_of_any, is_joint_of_others};
+ghost use Rattle.ent_members.specs.Leavers.{leaver_of};
+ghost use Rattle.ent_members.specs.Run.{tx_of};
+ghost use Rattle.ent_protocol.specs.Rollback.{group_numbers, rolled_back, taken_out};
+ghost use Rattle.ent_protocol.specs.Run.{ending, numbers_of};
+ghost use Rattle.ent_protocol.specs.State.{Member as Seen, by_number, members};
+ghost use Rattle.ent_roster.specs.Cause.{cause_seen};
+ghost use Rattle.ent_standing.specs.Attempts.{StayWithin};
+ghost use Rattle.ent_standing.specs.Standing.{StandOnce};
+
+use crate::store::Store;
+use ent_group::{Members, Tx};
+use ent_members::Leavers;
+use ent_roster::Cause;
+use ent_semantics::JointAnswer;
+
+/// Whether one of these transactions is a member of a joint answer.
+fn is_joint_of(numbers: &Members, joint: &JointAnswer) -> bool
+    ensures { result ≡ is_joint_of_any numbers.now joint.now }
+{
+    joint
+        .members
+        .iter()
+        .any(|member| numbers.contains(member.tx))
+}
+
+/// Takes the joint answers out of which one of these transactions is a member.
+fn remove_joints(joints: &mut Vec<JointAnswer>, numbers: &Members)
+    ensures { joints.new.items ≡ filter (is_joint_of_others numbers.now) joints.old.items }
+{
+    joints.retain(|joint| !is_joint_of(numbers, joint));
+}
+
+/// Takes members out of the run, whatever they did. Each has a fate, or waits for another run.
+fn take_out(store: &mut Store, leavers: &Leavers, cause: Cause)
+    requires room { length store.old.dormant + length store.old.fates + length leavers.now
+        ≤ length store.old.submitted }
+    requires leaving { MayLeave leavers.now store.old }
+    ensures { (gone : List Seen) → leavers.now ≡ map leaver_of (by_number tx_of gone)
+        → store.new ≡ taken_out gone (cause_seen cause) store.old }
+{
+    let numbers = leavers.numbers();
+    store
+        .roster
+        .leave(leavers.as_slice(), store.submitted.as_slice(), cause);
+    store.run.remove(&numbers);
+    remove_joints(&mut store.joints, &numbers);
+    store.lent.remove_with(&numbers);
+    store.tables.roll_back(&numbers);
+}
+
+/// Rolls a group back, and tells whom, by number.
+pub(crate) fn roll_back(store: &mut Store, group: Tx, cause: Cause) -> Members
+    requires counted { length store.old.fates + length store.old.dormant + length (members store.old)
+        ≡ length store.old.submitted }
+    requires within { StayWithin store.old }
+    requires once { StandOnce store.old }
+    ensures group { result ≡ group_numbers store.old group }
+    ensures state { store.new ≡ rolled_back group (cause_seen cause) store.old }
+{
+    let leavers = store.run.leavers(group);
+    let members = leavers.numbers();
+    take_out(store, &leavers, cause);
+    members
+}
+
+/// Ends the run: every group that is left is rolled back. Tells who were the members, by number.
+pub(crate) fn end(store: &mut Store) -> Members
+    requires counted { length store.old.fates + length store.old.dormant + length (members store.old)
+        ≡ length store.old.submitted }
+    requires within { StayWithin store.old }
+    requires once { StandOnce store.old }
+    ensures members { result ≡ numbers_of (members store.old) }
+    ensures state { store.new ≡ ending store.old }
+{
+    let leavers = store.run.all_leavers();
+    let members = leavers.numbers();
+    take_out(store, &leavers, Cause::NoOne);
+    store.running = false;
+    store.tried.clear();
+    store.lent.clear();
+    members
+}
