@@ -1,8 +1,8 @@
 //! Evaluation of closed statements over tables, and jobs.
 //!
-//! A caller may rely on [`statement_outcome`]: what it tells of an ordinary statement is what the statement means in each
-//! database in which its tables stand. A [`Job`] is work with the tables that it uses, and a [`Done`] keeps that its
-//! outcome is the meaning of its own work over its own tables.
+//! A caller may rely on [`statement_outcome`]: what it tells of an ordinary statement is what the statement means in
+//! each database in which its tables stand. A [`Job`] is work with the tables that it uses, and a [`Done`] keeps that
+//! its outcome is the meaning of its own work over its own tables.
 #![tactic(auto)]
 
 mod asking;

@@ -51,8 +51,8 @@ fn rows_copy(alloc: Global, rows: &[Row]) -> Result<Sequence<Row>, AllocError>
 pub enum JobOutcome {
     /// What the statement of one transaction comes to.
     One(Outcome),
-    /// The least coordinating choice of posted statements, a value for each written variable of each of them; none where
-    /// there is none.
+    /// The least coordinating choice of posted statements, a value for each written variable of each of them; none
+    /// where there is none.
     Choice(Option<Sequence<Sequence<Value>>>),
 }
 

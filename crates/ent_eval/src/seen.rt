@@ -26,7 +26,11 @@ impl Model for Seen {
 
     ghost coded = { Prim.hlevel (codes, coded_rows) };
 
-    ghost view = { λ s. record { table = s.number; kinds = (arc_value s.table).kinds; rows = (arc_value s.table).rows } };
+    ghost view = { λ s. record {
+      table = s.number;
+      kinds = (arc_value s.table).kinds;
+      rows = (arc_value s.table).rows;
+    } };
 }
 
 impl Seen {

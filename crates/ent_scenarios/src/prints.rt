@@ -1,5 +1,5 @@
-//! Scripts as text: `== prints`, then an input a line. Its scripts are printed, and what is printed is read again. Copies
-//! of scripts: `== copies`, then an input a line.
+//! Scripts as text: `== prints`, then an input a line. Its scripts are printed, and what is printed is read again.
+//! Copies of scripts: `== copies`, then an input a line.
 use crate::reply::{put, yes_or_no};
 use crate::streams::put_taken;
 use crate::trees::put_input;
