@@ -6,7 +6,9 @@
 //! takes no memory.
 #![tactic(auto)]
 
+mod begin;
 mod closing;
+mod commit;
 mod lookup;
 mod open;
 mod reached;
