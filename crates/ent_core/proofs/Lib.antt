@@ -7,3 +7,5 @@ pub mod Starting
 pub mod TakenOut
 pub mod Told
 pub mod Whereabouts
+pub mod Bound
+pub mod Outstanding

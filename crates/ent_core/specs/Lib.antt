@@ -4,3 +4,4 @@ pub mod Reply
 pub mod Standing
 pub mod Store
 pub mod TakeOut
+pub mod Advance

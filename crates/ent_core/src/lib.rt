@@ -6,7 +6,9 @@
 //! takes no memory.
 #![tactic(auto)]
 
+mod advance;
 mod closing;
+mod finish;
 mod lookup;
 mod open;
 mod reached;
