@@ -1,11 +1,12 @@
 pub mod Arrivals
 pub mod Booked
+pub mod Bound
+pub mod Finishing
 pub mod Keeping
 pub mod Opening
+pub mod Outstanding
 pub mod Sorted
 pub mod Starting
 pub mod TakenOut
 pub mod Told
 pub mod Whereabouts
-pub mod Bound
-pub mod Outstanding

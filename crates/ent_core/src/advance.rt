@@ -77,7 +77,8 @@ pub(crate) fn bind(
 ) -> Result<Answer, AllocError>
     requires { IsSome (found run.old.active single.now.tx) }
     ensures answer { IfOk result (λ answer. answer ≡ answers.Value value.now) }
-    ensures ok { OnOk result (Changes (binding single.now.statement value.now) single.now.tx run.old.active run.new.active) }
+    ensures ok { OnOk result (Changes (binding single.now.statement value.now) single.now.tx run.old.active
+        run.new.active) }
     ensures prepared { run.new.prepared ≡ run.old.prepared }
     ensures err { OnErr result (run.new ≡ run.old) }
 {
