@@ -1,52 +1,41 @@
 -- A result of one statement: what the laws say of its job, and what is made of it.
-use Rattle.std.proofs.Common.{◌≡◌, ◌<◌, ◌∙◌, ◌==◌, ◌||◌, ℕ, zero, suc, Bool, true, false, cond, List, [], ◌∷◌, length, map, refl, sym, ap, subst, arith, rules, Option, Some, None, Result, Ok, Err}
+use Rattle.std.proofs.Common.{◌≡◌, ◌<◌, ◌∙◌, ◌==◌, ◌||◌, ℕ, zero, suc, Bool, true, false, cond, List, [], ◌∷◌, length, map, refl, sym, ap, subst, arith, rules, Option, Some, None}
 use Rattle.std.specs.Prelude.{All, Contains, IsSome, slice_get, slice_index_or}
 use Rattle.std.specs.List.{AllByRecursion, filter}
 use Rattle.std.proofs.lemmas.Bool.Decides.{nat_tests}
-use Rattle.std.proofs.lemmas.List.{length-map}
 use Rattle.std.proofs.lemmas.Option.{slice_get_within}
 use Rattle.ent_set.specs.Sets as set
-use Rattle.ent_value.specs.declared.value.Kind.{Kind}
 use Rattle.ent_value.specs.declared.value.Value.{Value}
 use Rattle.ent_closed.specs.declared.statement.Statement.{Statement}
 use Rattle.ent_closed.specs.declared.statement.Statement.TheVariants as statements
-use Rattle.ent_closed.specs.Form.{Tables}
 use Rattle.ent_eval.specs.Change.{IsApplicable}
 use Rattle.ent_eval.specs.Seen.{relation_of}
-use Rattle.ent_eval.specs.Work.{AreUsed, CanBeMade, IsOne, IsWork, StandAtNumbers, alone_seen}
-use Rattle.ent_eval.specs.declared.outcome.Outcome.{Outcome as Alone}
-use Rattle.ent_eval.specs.declared.outcome.Outcome.TheVariants as alone
-use Rattle.ent_form.specs.declared.catalogue.TableSchema.{TableSchema}
+use Rattle.ent_eval.specs.Work.{AreUsed, CanBeMade, IsOne, IsWork, StandAtNumbers}
 use Rattle.ent_form.specs.declared.fault.FormFault.{FormFault}
 use Rattle.ent_legal.specs.Faithful.{is_used}
 use Rattle.ent_legal.specs.Present.{LentIsPresent, SameWhereUsed}
-use Rattle.ent_members.specs.Places.{Changes, found}
+use Rattle.ent_members.specs.Places.{found}
 use Rattle.ent_members.specs.Run.{Run}
 use Rattle.ent_protocol.specs.Event as replies
 use Rattle.ent_protocol.specs.Begin.{replaced}
 use Rattle.ent_protocol.specs.Finish.{FinishesBy, FinishesSingle, IsTaken, noted, stepped, table_of, with_change}
-use Rattle.ent_protocol.specs.Job.{Done, Job, One, Outcome, Work, Shown, Changed, Bound, Choice, Fault, IsEffect, IsEvaluated, Seen, Single, tables_of}
+use Rattle.ent_protocol.specs.Job.{Done, Job, One, Outcome, Work, Shown, Changed, Bound, Choice, Fault, IsEvaluated, Seen, Single, tables_of}
 use Rattle.ent_protocol.specs.Member.{Ordinary, active_member, declared_kinds, is_tx, next_of}
 use Rattle.ent_protocol.specs.Rollback.{Failing, group_numbers, rolled_back}
-use Rattle.ent_protocol.specs.State.{State, Submitted, Member, Change, first_of}
+use Rattle.ent_protocol.specs.State.{State, Member, first_of}
 use Rattle.ent_protocol.specs.Uses.{exclusive, statement_uses}
 use Rattle.ent_rel.specs.Relation.{Relation}
 use Rattle.ent_rel.specs.declared.change.Delta.{Delta}
-use Rattle.ent_roster.specs.Roster.{Roster}
 use Rattle.ent_semantics.specs.declared.answer.Answer.{Answer}
 use Rattle.ent_semantics.specs.declared.answer.Answer.TheVariants as answers
 use Rattle.ent_semantics.specs.declared.answer.Failure.{Failure}
 use Rattle.ent_semantics.specs.Database.{Rows}
-use Rattle.ent_semantics.specs.Effect.{Effect}
-use Rattle.ent_semantics.specs.Entangled.{Valuation}
 use Rattle.ent_standing.specs.Declared.{LentIsDeclared, SeesDeclared}
-use Rattle.ent_tables.specs.Stored.{Stored, kinds_declared}
-use Rattle.ent_tree.specs.declared.declaration.Opening.{Opening}
-use Rattle.ent_core.specs.Advance.{Advances, binding, changing, MayAdvance, MayChange, Steps}
+use Rattle.ent_tables.specs.Stored.{Stored}
+use Rattle.ent_core.specs.Advance.{Advances, binding}
 use Rattle.ent_core.specs.Finish.{Accepts, CanChange, CarriesOut, MayCarryOut}
 use Rattle.ent_core.specs.Reply.{reply_seen}
 use Rattle.ent_core.specs.declared.reply.Reply.{Reply as Given}
-use Rattle.ent_core.specs.Store.{IsKept}
 
 -- ---- the member of a statement
 
@@ -171,8 +160,7 @@ went_on s run run' stored stored' single member left (Shown rows) answer prepare
     let steps = h.1 in
     let members = steps.active member is ∙ ap (map (replaced (stepped (answers.Rows rows) member))) (sym active) in
     let before = steps.prepared ∙ sym prepared in
-    let rest = h.2 in
-    (
+    let rest = h.2 in (
       ap (λ (a : Answer). replies.Stepped a) h.0,
       λ i. record s {
         prepared = before i;
@@ -192,8 +180,7 @@ went_on s run run' stored stored' single member left (Changed count removed adde
     let rows = ap (λ (x : Stored). x.tables) rest
     ∙ ap (with_change (table_of single.statement) removed added) (sym tables) in
     let notes = ap (λ (x : Stored). x.changes) rest
-    ∙ (λ i. noted (own i) (table_of single.statement) (sym tables i) (sym changes i)) in
-    (
+    ∙ (λ i. noted (own i) (table_of single.statement) (sym tables i) (sym changes i)) in (
       ap (λ (a : Answer). replies.Stepped a) h.0,
       λ i. record s {
         prepared = before i;
@@ -208,8 +195,7 @@ went_on s run run' stored stored' single member left (Bound value) answer prepar
     let steps = h.1 in
     let members = steps.active member is ∙ ap (map (replaced (binding single.statement value member))) (sym active) in
     let before = steps.prepared ∙ sym prepared in
-    let rest = h.2 in
-    (
+    let rest = h.2 in (
       ap (λ (a : Answer). replies.Stepped a) h.0,
       λ i. record s {
         prepared = before i;
@@ -234,8 +220,7 @@ pub failed : (s now : State) (single : Single) (job : Job) (member : Member) (le
 failed s now single job member left group tx failure numbers new is taken own of_group numbers_are rolled =
     let told = numbers_are ∙ (λ i. group_numbers (is i) (sym of_group i)) in
     let steps : FinishesBy {F = FormFault} (record s { lent = left }) member single.statement (Fault failure)
-        (replies.Failed failure numbers) new =
-    (
+    (replies.Failed failure numbers) new = (
       ap (λ (ns : List ℕ). replies.Failed failure ns) told,
       rolled ∙ (λ i. rolled_back (sym of_group i) (Failing (sym own i) failure) (is i)),
     ) in

@@ -1,7 +1,7 @@
 -- Results that aren't outstanding.
 use Rattle.std.proofs.Common.{◌≡◌, List, ap, subst, sym, ◌∙◌}
 use Rattle.ent_protocol.specs.Finish.{IsOutstandingSingle, IsTaken}
-use Rattle.ent_protocol.specs.Job.{Job, Asking, Done, Work, One, Joint}
+use Rattle.ent_protocol.specs.Job.{Job, Asking, Done, One, Joint}
 use Rattle.ent_protocol.specs.State.{State}
 
 pub joint_not_single : (job : Job) (asked : List Asking) → Joint asked ≡ job.work → (s : State) (done : Done)

@@ -19,9 +19,9 @@ use Rattle.ent_core.specs.declared.reply.Reply.{Reply as Given}
 pub record CanChange (s : State) (delta : Delta) (table : ℕ) : Type 0 where
   pub declared : table < length s.opening.tables
   pub applicable : IsApplicable (record {
-        kinds = declared_kinds s.opening.tables table;
-        rows = slice_index_or s.tables table set.empty;
-      })
+    kinds = declared_kinds s.opening.tables table;
+    rows = slice_index_or s.tables table set.empty;
+  })
       delta
 
 -- where an outcome is a change, it can be made in the statement's table

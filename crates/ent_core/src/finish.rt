@@ -118,7 +118,13 @@ fn carry_out(
     ensures failure { (failure : Failure) → alone_seen outcome.now ≡ jobs.Fault failure → IsOk result }
 {
     let _declared = store.tables.len();
-    match advance(store.alloc, &mut store.run, &mut store.tables, single, outcome) {
+    match advance(
+        store.alloc,
+        &mut store.run,
+        &mut store.tables,
+        single,
+        outcome,
+    ) {
         Ok(answer) => {
             store.lent.take(index);
             Ok(Reply::Stepped(answer))
