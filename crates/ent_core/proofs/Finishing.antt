@@ -98,7 +98,8 @@ can_change s seen delta table applicable used stand kinds same there =
     let stands : slice_index_or (tables_of (seen ∷ [])) seen.table set.empty ≡ seen.rows =
     ap (λ (all : List Rows). slice_index_or all 0 set.empty) stand in
     let itself : is_used (exclusive table ∷ []) table ≡ true = or_none (table == table) (alike table) in
-    let declared : seen.kinds ≡ declared_kinds s.opening.tables table = kinds ∙ ap (declared_kinds s.opening.tables) number in
+    let declared : seen.kinds ≡ declared_kinds s.opening.tables table =
+    kinds ∙ ap (declared_kinds s.opening.tables) number in
     let rows : seen.rows ≡ slice_index_or s.tables table set.empty =
     sym stands ∙ ap (λ n. slice_index_or (tables_of (seen ∷ [])) n set.empty) number ∙ same table itself in
     record {
@@ -156,7 +157,8 @@ pub went_on : (s : State) (run run' : Run) (stored stored' : Stored) (single : S
       changes = stored'.changes;
     })
 went_on s run run' stored stored' single member left (Shown rows) answer prepared active tables changes there h =
-    let is : found run.active single.tx ≡ Some member = ap (λ (ms : List Member). found ms single.tx) (sym active) ∙ there in
+    let is : found run.active single.tx ≡ Some member =
+    ap (λ (ms : List Member). found ms single.tx) (sym active) ∙ there in
     let steps = h.1 in
     let members = steps.active member is ∙ ap (map (replaced (stepped (answers.Rows rows) member))) (sym active) in
     let before = steps.prepared ∙ sym prepared in
@@ -171,7 +173,8 @@ went_on s run run' stored stored' single member left (Shown rows) answer prepare
       },
     )
 went_on s run run' stored stored' single member left (Changed count removed added) answer prepared active tables changes there h =
-    let is : found run.active single.tx ≡ Some member = ap (λ (ms : List Member). found ms single.tx) (sym active) ∙ there in
+    let is : found run.active single.tx ≡ Some member =
+    ap (λ (ms : List Member). found ms single.tx) (sym active) ∙ there in
     let own : single.tx ≡ member.tx = sym (own_number single.tx s.active member there) in
     let steps = h.1 in
     let members = steps.active member is ∙ ap (map (replaced (stepped (answers.Count count) member))) (sym active) in
@@ -191,7 +194,8 @@ went_on s run run' stored stored' single member left (Changed count removed adde
       },
     )
 went_on s run run' stored stored' single member left (Bound value) answer prepared active tables changes there h =
-    let is : found run.active single.tx ≡ Some member = ap (λ (ms : List Member). found ms single.tx) (sym active) ∙ there in
+    let is : found run.active single.tx ≡ Some member =
+    ap (λ (ms : List Member). found ms single.tx) (sym active) ∙ there in
     let steps = h.1 in
     let members = steps.active member is ∙ ap (map (replaced (binding single.statement value member))) (sym active) in
     let before = steps.prepared ∙ sym prepared in

@@ -1,5 +1,6 @@
 //! A result of one statement comes in.
-ghost use Rattle.std.specs.Prelude.{◌≡◌, ◌<◌, IfErr, IfOk, IfSome, IsNone, IsOk, IsSome, OnErr, Some, length, slice_get};
+ghost use Rattle.std.specs.Prelude.{◌≡◌, ◌<◌, IfErr, IfOk, IfSome, IsNone, IsOk, IsSome, OnErr, Some};
+ghost use Rattle.std.specs.Prelude.{length, slice_get};
 ghost use Rattle.ent_core.specs.Advance.{Advances, MayAdvance};
 ghost use Rattle.ent_core.specs.Finish.{Accepts, CarriesOut, MayCarryOut};
 ghost use Rattle.ent_core.specs.Kept.{IsKeptState};

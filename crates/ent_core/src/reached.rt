@@ -100,9 +100,9 @@ impl Core {
         start_run(&mut self.store)
     }
 
-    /// Takes the result of one statement. Where its job isn't lent any more it is stale, and comes back. Else its member
-    /// has the answer, or the statement failed and the member's group is rolled back; a failure takes no memory. Where
-    /// memory runs out the result comes back.
+    /// Takes the result of one statement. Where its job isn't lent any more it is stale, and comes back. Else the
+    /// member has the answer; or the statement failed, and the member's group is rolled back, which takes no memory.
+    /// Where memory runs out the result comes back.
     pub fn finish(&mut self, done: Done) -> Result<Reply, AllocFailed<Done>>
         ensures ok { IfOk result (λ reply. Step resolved_forms self.old (Finish done) (reply_seen reply) self.new) }
         ensures err { OnErr result (self.new ≡ self.old) }

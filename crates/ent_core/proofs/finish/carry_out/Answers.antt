@@ -32,11 +32,12 @@ returns-in-Ok-clause-ok c = λ job member at there.
     c.take.ensures job (ap (λ (x : State). slice_get x.lent c.args.index) c.store.view_is ∙ at) in
     let is : active_member v single.tx ≡ Some member =
     ap (λ (x : State). active_member x single.tx) c.store.view_is ∙ there in
-    let steps = went_on v inside.run run inside.tables stored single member left outcome c.in-Ok.answer refl refl refl refl is
-    c.in-Ok.ensures.ok in
+    let steps = went_on v inside.run run inside.tables stored single member left outcome c.in-Ok.answer refl refl refl
+    refl is c.in-Ok.ensures.ok in
     let P : State → Type 0 =
     λ s. (others : List Job) × IsTaken job s.lent others
-    × FinishesBy {F = FormFault} (record s { lent = others }) member single.statement outcome (replies.Stepped c.in-Ok.answer) new in
+    × FinishesBy {F = FormFault} (record s { lent = others }) member single.statement outcome
+    (replies.Stepped c.in-Ok.answer) new in
     let done : P v = (left, taken, steps) in
     subst P c.store.view_is done
 
