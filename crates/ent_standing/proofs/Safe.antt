@@ -17,7 +17,7 @@ use Rattle.ent_coordination.specs.Pool.{CanMeet, IsSafe, Posted}
 use Rattle.ent_protocol.specs.Begin.{holding, pool_with, posting, replaced}
 use Rattle.ent_protocol.specs.Finish.{finished}
 use Rattle.ent_protocol.specs.Job.{Asking, Job, Outcome, Shown, Changed, Bound, Choice, Fault, posted_of}
-use Rattle.ent_protocol.specs.Member.{Next, Ordinary, Asks, Commits, RollsBack, asking_of, askings, environment_of}
+use Rattle.ent_protocol.specs.Member.{Asks, RollsBack, asking_of, askings, environment_of}
 use Rattle.ent_protocol.specs.Member.{next_in, next_of, pool, statement_next}
 use Rattle.ent_protocol.specs.PoolEvents.{answered_among, answered_by, answered_groups, in_joined_group, joining}
 use Rattle.ent_protocol.specs.Reached.{IsReached, opened}
@@ -25,7 +25,8 @@ use Rattle.ent_protocol.specs.Run.{Forms, fresh, starting, submitting}
 use Rattle.ent_protocol.specs.State.{State, Submitted, Member}
 use Rattle.ent_protocol.specs.Uses.{entangled_uses}
 use Rattle.ent_standing.proofs.Acts.{AreKeptSafe, safely_reached}
-use Rattle.ent_standing.proofs.Lists.{In, contains_in, from_by_number, in_contains, in_either, in_first}
+use Rattle.ent_standing.proofs.Asked.{asks_of, in_flat, posted_next}
+use Rattle.ent_standing.proofs.Lists.{In, contains_in, from_by_number, in_contains, in_first}
 use Rattle.ent_standing.proofs.Lists.{in_second, of_filter, of_map, to_map}
 
 -- ---- who asks
@@ -37,38 +38,6 @@ record IsAsked (s : State) (x : Posted) : Type 0 where
   posted : member.posted ≡ true
   own : x.tx ≡ member.tx
   next : next_of s member ≡ Asks x.statement
-
-posted_next : (s : State) (m : Member) → m.posted ≡ true
-    → next_in (numbered s.submitted m.tx) (record m { posted = true }) ≡ next_of s m
-posted_next s m e = λ i. next_in (numbered s.submitted m.tx) (record m { posted = sym e i })
-
-asks_of : (s : State) (m : Member) (a : Asking) → In a (asking_of s m)
-    → (m.posted ≡ true) × (a.tx ≡ m.tx) × (next_of s m ≡ Asks a.statement)
-asks_of s m a at = by m.posted refl (next_of s m) refl
-  where
-    by : (b : Bool) → m.posted ≡ b → (n : Next) → next_of s m ≡ n
-        → (m.posted ≡ true) × (a.tx ≡ m.tx) × (next_of s m ≡ Asks a.statement)
-    by true posted (Asks statement) next =
-        let h : In a (record { tx = m.tx; attempt = m.attempt; place = m.place; statement = statement } ∷ []) =
-        rw (posted, posted_next s m posted ∙ next) at at in
-        elim h [
-          | inl same ↦
-              (posted, ap (λ (x : Asking). x.tx) same, next ∙ ap (λ (x : Asking). Asks x.statement) (sym same))
-          | inr bad ↦ absurd bad
-        ]
-    by true posted (Ordinary statement) next =
-        let h : ⊥ = rw (posted, posted_next s m posted ∙ next) at at in absurd h
-    by true posted Commits next = let h : ⊥ = rw (posted, posted_next s m posted ∙ next) at at in absurd h
-    by true posted RollsBack next = let h : ⊥ = rw (posted, posted_next s m posted ∙ next) at at in absurd h
-    by false posted n next = let h : ⊥ = rw posted at at in absurd h
-
-in_flat : {X Y : Type 0} (f : X → List Y) (xs : List X) (y : Y) → In y (flat_map f xs) → (x : X) × In x xs × In y (f x)
-in_flat f [] y at = absurd at
-in_flat f (x ∷ xs) y at =
-    elim (in_either (f x) (flat_map f xs) y at) [
-      | inl a ↦ (x, inl refl, a)
-      | inr b ↦ let r = in_flat f xs y b in (r.0, inr r.1, r.2)
-    ]
 
 to_flat : {X Y : Type 0} (f : X → List Y) (xs : List X) (x : X) (y : Y) → In x xs → In y (f x) → In y (flat_map f xs)
 to_flat f [] x y at there = absurd at
