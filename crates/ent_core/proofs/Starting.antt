@@ -2,6 +2,7 @@
 use Rattle.std.proofs.Common.{◌≡◌, ◌<◌, ◌≤◌, ℕ, zero, suc, Bool, true, false, List, [], ◌∷◌, ◌++◌, length, map, take, drop, min, refl, sym, ap, subst, ◌∙◌, arith, nat_eq}
 use Rattle.std.specs.List.{AllByRecursion, IsDistinct}
 use Rattle.ent_group.specs.declared.members.TheConstants.{MOST_MEMBERS}
+use Rattle.ent_semantics.specs.declared.book.Fated.{Fated}
 use Rattle.ent_tree.specs.declared.declaration.Opening.{Opening}
 use Rattle.ent_form.specs.declared.catalogue.TableSchema.{TableSchema}
 use Rattle.ent_members.specs.Run.{Run}
@@ -109,20 +110,20 @@ starts_with s true dormant reply new off some replies is = absurd (different off
 starts_with s false [] reply new off some replies is = absurd (omega arith)
 starts_with s false (first ∷ more) reply new off some replies is = (replies, is)
 
-pub started : (F : Type 0) (s now : State) (count : ℕ) (dormant' : List Dormant) (prepared' active' : List Member)
+pub started : (F : Type 0) (s now : State) (count : ℕ) (dormant' : List Dormant) (fates' : List Fated) (prepared' active' : List Member)
     (members : List ℕ) (tried' : List (List Asking)) → s ≡ now → s.running ≡ false → tried' ≡ [] → s.prepared ≡ [] → 0 < length s.dormant
     → count ≡ min (length s.dormant) MOST_MEMBERS → prepared' ≡ []
-    → active' ≡ by_number (λ member. member.tx) (map fresh (take count s.dormant)) → dormant' ≡ drop count s.dormant
+    → active' ≡ by_number (λ member. member.tx) (map fresh (take count s.dormant)) → dormant' ≡ drop count s.dormant → fates' ≡ s.fates
     → members ≡ numbers_of (prepared' ++ active')
     → Starts {F = F} now (Started members)
-    (record s { running = true; prepared = prepared'; active = active'; dormant = dormant'; tried = tried' })
-started F s now count dormant' prepared' active' members tried' same off untried none some least no_prepared actives left numbered =
-    let new : State = record s { running = true; prepared = prepared'; active = active'; dormant = dormant'; tried = tried' } in
+    (record s { running = true; prepared = prepared'; active = active'; dormant = dormant'; tried = tried'; fates = fates' })
+started F s now count dormant' fates' prepared' active' members tried' same off untried none some least no_prepared actives left finished numbered =
+    let new : State = record s { running = true; prepared = prepared'; active = active'; dormant = dormant'; tried = tried'; fates = fates' } in
     let first : active' ≡ (starting s).active =
     actives ∙ ap (λ (all : List Dormant). by_number (λ (member : Member). member.tx) (map fresh all)) (taken_most MOST_MEMBERS count s.dormant least) in
     let rest : dormant' ≡ drop MOST_MEMBERS s.dormant = left ∙ left_most MOST_MEMBERS count s.dormant least in
     let is : new ≡ starting s =
-    λ i. record s { running = true; prepared = (no_prepared ∙ sym none) i; active = first i; dormant = rest i; tried = untried i } in
+    λ i. record s { running = true; prepared = (no_prepared ∙ sym none) i; active = first i; dormant = rest i; tried = untried i; fates = finished i } in
     let replied : members ≡ numbers_of (starting s).active =
     numbered ∙ (λ i. numbers_of (no_prepared i ++ active')) ∙ ap numbers_of first in
     let P : State → Type 0 = λ x. Starts {F = F} x (Started members) new in

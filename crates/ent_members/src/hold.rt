@@ -57,7 +57,7 @@ fn add_use(uses: &mut Vec<Use>, own: Use) -> Result<(), AllocError>
 }
 
 /// The uses that are held, and those that are asked for, each once.
-pub(crate) fn with_uses(alloc: Global, held: &[Use], asked: &[Use]) -> Result<Vec<Use>, AllocError>
+pub fn with_uses(alloc: Global, held: &[Use], asked: &[Use]) -> Result<Vec<Use>, AllocError>
     ensures { IfOk result (λ uses. uses.items ≡ with_uses asked.now held.now) }
 {
     let mut uses = Vec::from_slice(alloc, held)?;

@@ -5,3 +5,5 @@ pub mod Posted
 pub mod Replayed
 pub mod Places
 pub mod Fitted
+pub mod Declared
+pub mod Lent

@@ -1,6 +1,6 @@
 -- Elements of lists.
 use Rattle.std.proofs.Common.{◌≡◌, ◌⊎◌, ◌<◌, ℕ, zero, suc, List, [], ◌∷◌, ◌++◌, map, length, refl, sym, subst}
-use Rattle.std.proofs.Common.{Some, inl, inr, arith, Contains, slice_index_or}
+use Rattle.std.proofs.Common.{◌∙◌, ap, Some, inl, inr, arith, Contains, slice_index_or}
 use Rattle.std.specs.Prelude.{slice_get}
 use Rattle.std.specs.List.{AllByRecursion, flat_map}
 use Rattle.ent_semantics.specs.Serial.{numbered}
@@ -66,3 +66,8 @@ module _ {X Y : Type 0} where
         | inl a ↦ (x, inl refl, a)
         | inr b ↦ let r = in_flat f xs y b in (r.0, inr r.1, r.2)
       ]
+
+  pub to_map : (f : X → Y) (xs : List X) (y : Y) (x : X) → In x xs → y ≡ f x → In y (map f xs)
+  to_map f [] y x at is = absurd at
+  to_map f (z ∷ xs) y x (inl same) is = inl (is ∙ ap f same)
+  to_map f (z ∷ xs) y x (inr at) is = inr (to_map f xs y x at is)

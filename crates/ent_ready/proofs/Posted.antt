@@ -41,7 +41,7 @@ pub record IsResolvedPost (tables : List TableSchema) (member : Posted) : Type 0
 
 -- ---- who asks
 
-asks_of : (s : State) (m : Member) (a : Asking) → In a (asking_of s m)
+pub asks_of : (s : State) (m : Member) (a : Asking) → In a (asking_of s m)
     → (next_of s m ≡ Asks a.statement) × (a.tx ≡ m.tx)
 asks_of s m a at = by m.posted refl (next_of s m) refl
   where

@@ -8,8 +8,10 @@
 
 mod kinds;
 mod reached;
+mod work;
 
 pub use kinds::{host_variables_have_kinds, next_statements_fit};
 pub use reached::{
     posted_heads_are_distinct, posted_variables_are_ranged, submitted_forms_are_resolved,
 };
+pub use work::{begun_statements_are_work, picked_statements_fit, used_tables_are_declared};

@@ -74,7 +74,10 @@ fn script_at(
 {
     let (_, rest) = word_at(Keyword::Begin, end, tokens)?;
     let (_, rest) = word_at(Keyword::Transaction, end, rest)?;
-    let (within, rest) = within_at(end, rest)?;
+    let (within, rest) = match within_at(end, rest) {
+        Ok(read) => read,
+        Err(refusal) => return Err(refusal),
+    };
     let (_, rest) = sign_at(Symbol::Semicolon, end, rest)?;
     let (statements, rest) = many(alloc, end, rest)?;
     let (ended, rest) = ending_at(end, rest)?;

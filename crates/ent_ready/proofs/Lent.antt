@@ -1,0 +1,25 @@
+-- Statements that are lent, and posted ones that are picked, with the tables that they use.
+use Rattle.std.proofs.Common.{List, [], ◌∷◌, map, refl, ap, Contains}
+use Rattle.ent_tree.specs.declared.declaration.Create.{Create}
+use Rattle.ent_closed.specs.Form.{Tables}
+use Rattle.ent_coordination.specs.Pool.{Posted}
+use Rattle.ent_protocol.specs.Job.{Asking, posted_of}
+use Rattle.ent_protocol.specs.Member.{askings, pool, seen_now}
+use Rattle.ent_protocol.specs.PoolEvents.{IsPresentComponent}
+use Rattle.ent_protocol.specs.State.{State, Use}
+use Rattle.ent_eval.specs.Work.{AreUsed}
+use Rattle.ent_ready.proofs.Declared.{of_index}
+use Rattle.ent_ready.proofs.Lists.{In, contains_in, in_map, to_map}
+
+pub lent_used : (creates : List Create) (tables : Tables) (uses : List Use)
+    → AreUsed uses (seen_now creates tables uses)
+lent_used creates tables [] = refl
+lent_used creates tables (own ∷ uses) = ap (λ numbers. own.table ∷ numbers) (lent_used creates tables uses)
+
+-- posted statements of a component stand in the pool
+pub stand_in_pool : (s : State) (asked : List Asking) → IsPresentComponent s asked → (member : Posted)
+    → In member (map posted_of asked) → In member (pool s)
+stand_in_pool s asked present member at =
+    let a = in_map posted_of asked member at in
+    to_map posted_of (askings s) member a.0
+    (contains_in (askings s) a.0 (of_index (Contains (askings s)) asked a.0 present.present a.1)) a.2
