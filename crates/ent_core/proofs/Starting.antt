@@ -2,6 +2,7 @@
 use Rattle.std.proofs.Common.{◌≡◌, ◌<◌, ◌≤◌, ℕ, zero, suc, Bool, true, false, List, [], ◌∷◌, ◌++◌, length, map, take, drop, min, refl, sym, ap, subst, ◌∙◌, arith, nat_eq}
 use Rattle.std.specs.List.{AllByRecursion, IsDistinct}
 use Rattle.ent_group.specs.declared.members.TheConstants.{MOST_MEMBERS}
+use Rattle.ent_semantics.specs.declared.book.Fated.{Fated}
 use Rattle.ent_tree.specs.declared.declaration.Opening.{Opening}
 use Rattle.ent_form.specs.declared.catalogue.TableSchema.{TableSchema}
 use Rattle.ent_members.specs.Run.{Run}
@@ -9,6 +10,8 @@ use Rattle.ent_protocol.specs.Event.{Reply, Started}
 use Rattle.ent_protocol.specs.Job.{Asking}
 use Rattle.ent_protocol.specs.Run.{Starts, StartsWith, fresh, numbers_of, starting}
 use Rattle.ent_protocol.specs.State.{State, Submitted, Dormant, Member, by_number}
+use Rattle.ent_roster.specs.Roster.{Roster}
+use Rattle.ent_tables.specs.Stored.{Stored}
 use Rattle.ent_core.specs.Store.{IsKept}
 
 abbrev numbers : List Dormant → List ℕ
@@ -44,17 +47,23 @@ all_dropped P (suc n) [] all = tt
 all_dropped P (suc n) (own ∷ more) all = all_dropped P n more all.1
 
 pub kept_started : (schemas : List TableSchema) (opening : Opening) (submitted : List Submitted)
-    (dormant dormant' : List Dormant) (running : Bool) (run run' : Run) (n : ℕ)
-    → IsKept schemas opening submitted dormant running run → dormant' ≡ drop n dormant
-    → IsKept schemas opening submitted dormant' true run'
-kept_started schemas opening submitted dormant dormant' running run run' n kept now =
+    (roster roster' : Roster) (running : Bool) (run run' : Run) (stored : Stored) (n : ℕ)
+    → IsKept schemas opening submitted roster running run stored
+    → roster' ≡ record roster { dormant = drop n roster.dormant }
+    → IsKept schemas opening submitted roster' true run' stored
+kept_started schemas opening submitted roster roster' running run run' stored n kept now =
+    let dormant = roster.dormant in
+    let left : roster'.dormant ≡ drop n dormant = ap (λ (r : Roster). r.dormant) now in
     let A : List Dormant → Type 0 = λ all. AllByRecursion (λ (one : Dormant). one.tx ≤ length submitted) all in
     let D : List Dormant → Type 0 = λ all. IsDistinct nat_eq (numbers all) in
     record {
       declared = kept.declared;
       formed = kept.formed;
-      arrived = subst A (sym now) (all_dropped (λ (one : Dormant). one.tx ≤ length submitted) n dormant kept.arrived);
-      distinct = subst D (sym now) (distinct_dropped n dormant kept.distinct);
+      kinds = kept.kinds;
+      asks = kept.asks;
+      known = ap (λ (r : Roster). r.known) now ∙ kept.known;
+      arrived = subst A (sym left) (all_dropped (λ (one : Dormant). one.tx ≤ length submitted) n dormant kept.arrived);
+      distinct = subst D (sym left) (distinct_dropped n dormant kept.distinct);
       idle_prepared = λ off. absurd (different off);
       idle_active = λ off. absurd (different off);
     }
@@ -101,20 +110,20 @@ starts_with s true dormant reply new off some replies is = absurd (different off
 starts_with s false [] reply new off some replies is = absurd (omega arith)
 starts_with s false (first ∷ more) reply new off some replies is = (replies, is)
 
-pub started : (F : Type 0) (s now : State) (count : ℕ) (dormant' : List Dormant) (prepared' active' : List Member)
+pub started : (F : Type 0) (s now : State) (count : ℕ) (dormant' : List Dormant) (fates' : List Fated) (prepared' active' : List Member)
     (members : List ℕ) (tried' : List (List Asking)) → s ≡ now → s.running ≡ false → tried' ≡ [] → s.prepared ≡ [] → 0 < length s.dormant
     → count ≡ min (length s.dormant) MOST_MEMBERS → prepared' ≡ []
-    → active' ≡ by_number (λ member. member.tx) (map fresh (take count s.dormant)) → dormant' ≡ drop count s.dormant
+    → active' ≡ by_number (λ member. member.tx) (map fresh (take count s.dormant)) → dormant' ≡ drop count s.dormant → fates' ≡ s.fates
     → members ≡ numbers_of (prepared' ++ active')
     → Starts {F = F} now (Started members)
-    (record s { running = true; prepared = prepared'; active = active'; dormant = dormant'; tried = tried' })
-started F s now count dormant' prepared' active' members tried' same off untried none some least no_prepared actives left numbered =
-    let new : State = record s { running = true; prepared = prepared'; active = active'; dormant = dormant'; tried = tried' } in
+    (record s { running = true; prepared = prepared'; active = active'; dormant = dormant'; tried = tried'; fates = fates' })
+started F s now count dormant' fates' prepared' active' members tried' same off untried none some least no_prepared actives left finished numbered =
+    let new : State = record s { running = true; prepared = prepared'; active = active'; dormant = dormant'; tried = tried'; fates = fates' } in
     let first : active' ≡ (starting s).active =
     actives ∙ ap (λ (all : List Dormant). by_number (λ (member : Member). member.tx) (map fresh all)) (taken_most MOST_MEMBERS count s.dormant least) in
     let rest : dormant' ≡ drop MOST_MEMBERS s.dormant = left ∙ left_most MOST_MEMBERS count s.dormant least in
     let is : new ≡ starting s =
-    λ i. record s { running = true; prepared = (no_prepared ∙ sym none) i; active = first i; dormant = rest i; tried = untried i } in
+    λ i. record s { running = true; prepared = (no_prepared ∙ sym none) i; active = first i; dormant = rest i; tried = untried i; fates = finished i } in
     let replied : members ≡ numbers_of (starting s).active =
     numbered ∙ (λ i. numbers_of (no_prepared i ++ active')) ∙ ap numbers_of first in
     let P : State → Type 0 = λ x. Starts {F = F} x (Started members) new in

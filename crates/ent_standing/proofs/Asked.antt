@@ -1,5 +1,6 @@
 -- Who asks: posted statements of a component are of posted members.
-use Rattle.std.proofs.Common.{◌≡◌, Bool, true, false, List, [], ◌∷◌, refl, ap, sym, ◌∙◌, inl, inr, Contains}
+use Rattle.std.proofs.Common.{◌≡◌, ◌≤◌, Bool, true, false, List, [], ◌∷◌, length, refl, ap, sym, ◌∙◌, inl, inr}
+use Rattle.std.proofs.Common.{arith, Contains}
 use Rattle.std.specs.List.{flat_map}
 use Rattle.ent_semantics.specs.Serial.{numbered}
 use Rattle.ent_protocol.specs.Job.{Asking}
@@ -8,26 +9,39 @@ use Rattle.ent_protocol.specs.PoolEvents.{IsPresentComponent}
 use Rattle.ent_protocol.specs.State.{State, Member}
 use Rattle.ent_standing.proofs.Lists.{In, of_all, in_either, contains_in, all_index}
 
-asks_of : (s : State) (m : Member) (a : Asking) → In a (asking_of s m) → (m.posted ≡ true) × (a.tx ≡ m.tx)
+posted_next : (s : State) (m : Member) → m.posted ≡ true
+    → next_in (numbered s.submitted m.tx) (record m { posted = true }) ≡ next_of s m
+posted_next s m e = λ i. next_in (numbered s.submitted m.tx) (record m { posted = sym e i })
+
+pub asks_of : (s : State) (m : Member) (a : Asking) → In a (asking_of s m) → (m.posted ≡ true) × (a.tx ≡ m.tx)
 asks_of s m a at = by m.posted refl (next_of s m) refl
   where
-    posted_next : m.posted ≡ true → next_in (numbered s.submitted m.tx) (record m { posted = true }) ≡ next_of s m
-    posted_next e = λ i. next_in (numbered s.submitted m.tx) (record m { posted = sym e i })
-
     by : (b : Bool) → m.posted ≡ b → (n : Next) → next_of s m ≡ n → (m.posted ≡ true) × (a.tx ≡ m.tx)
     by true posted (Asks statement) next =
         let h : In a (record { tx = m.tx; attempt = m.attempt; place = m.place; statement = statement } ∷ []) =
-        rw (posted, posted_next posted ∙ next) at at in
+        rw (posted, posted_next s m posted ∙ next) at at in
         elim h [
           | inl same ↦ (posted, ap (λ (x : Asking). x.tx) same)
           | inr bad ↦ absurd bad
         ]
-    by true posted (Ordinary statement) next = let h : ⊥ = rw (posted, posted_next posted ∙ next) at at in absurd h
-    by true posted Commits next = let h : ⊥ = rw (posted, posted_next posted ∙ next) at at in absurd h
-    by true posted RollsBack next = let h : ⊥ = rw (posted, posted_next posted ∙ next) at at in absurd h
+    by true posted (Ordinary statement) next = let h : ⊥ = rw (posted, posted_next s m posted ∙ next) at at in absurd h
+    by true posted Commits next = let h : ⊥ = rw (posted, posted_next s m posted ∙ next) at at in absurd h
+    by true posted RollsBack next = let h : ⊥ = rw (posted, posted_next s m posted ∙ next) at at in absurd h
     by false posted n next = let h : ⊥ = rw posted at at in absurd h
 
-in_flat : {X Y : Type 0} (f : X → List Y) (xs : List X) (y : Y) → In y (flat_map f xs) → (x : X) × In x xs × In y (f x)
+-- of a member one statement at most
+pub asks_once : (s : State) (m : Member) → length (asking_of s m) ≤ 1
+asks_once s m = by m.posted refl (next_of s m) refl
+  where
+    by : (b : Bool) → m.posted ≡ b → (n : Next) → next_of s m ≡ n → length (asking_of s m) ≤ 1
+    by true posted (Asks statement) next = rw (posted, posted_next s m posted ∙ next) (omega arith)
+    by true posted (Ordinary statement) next = rw (posted, posted_next s m posted ∙ next) (omega arith)
+    by true posted Commits next = rw (posted, posted_next s m posted ∙ next) (omega arith)
+    by true posted RollsBack next = rw (posted, posted_next s m posted ∙ next) (omega arith)
+    by false posted n next = rw posted (omega arith)
+
+pub in_flat : {X Y : Type 0} (f : X → List Y) (xs : List X) (y : Y) → In y (flat_map f xs)
+    → (x : X) × In x xs × In y (f x)
 in_flat f [] y at = absurd at
 in_flat f (x ∷ xs) y at =
     elim (in_either (f x) (flat_map f xs) y at) [

@@ -5,6 +5,9 @@ pub mod Onward
 pub mod Left
 pub mod Places
 pub mod Placed
+pub mod Counted
+pub mod ByNumber
+pub mod Attempts
 pub mod Asked
 pub mod Lent
 pub mod Classes

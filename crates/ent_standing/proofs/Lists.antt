@@ -166,6 +166,22 @@ module _ {X : Type 0} where
       pairs_without before behind x pairs.1,
     )
 
+    pub pairs_joined : (xs ys : List X) → Pairs R xs → Pairs R ys → ((x y : X) → In x xs → In y ys → R x y)
+        → Pairs R (xs ++ ys)
+    pairs_joined [] ys first second f = second
+    pairs_joined (x ∷ xs) ys first second f = (
+      to_all (R x) (xs ++ ys) (λ z at. elim (in_either xs ys z at) [
+        | inl a ↦ of_all (R x) xs z first.0 a
+        | inr b ↦ f x z (inl refl) b
+      ]),
+      pairs_joined xs ys first.1 second (λ y z at bt. f y z (inr at) bt),
+    )
+
+    pub pairs_short : (xs : List X) → length xs ≤ 1 → Pairs R xs
+    pairs_short [] low = tt
+    pairs_short (x ∷ []) low = (tt, tt)
+    pairs_short (x ∷ y ∷ ys) low = absurd (omega (arith, low))
+
   -- ---- some element
 
   pub any_none : (p : X → Bool) (xs : List X) → list_any p xs ≡ false → (x : X) → In x xs → p x ≡ false
@@ -233,10 +249,19 @@ module _ {X Y : Type 0} (f : X → Y) where
   to_map (z ∷ xs) x (inl same) = inl (ap f same)
   to_map (z ∷ xs) x (inr at) = inr (to_map xs x at)
 
+  pub pairs_mapped : (R : X → X → Type 0) (S : Y → Y → Type 0) (xs : List X) → Pairs R xs
+      → ((x z : X) → R x z → S (f x) (f z)) → Pairs S (map f xs)
+  pairs_mapped R S [] pairs to = tt
+  pairs_mapped R S (x ∷ xs) pairs to = (
+    to_all (S (f x)) (map f xs) (λ y at.
+        let r = of_map xs y at in subst (S (f x)) (sym r.2) (to x r.0 (of_all (R x) xs r.0 pairs.0 r.1))),
+    pairs_mapped R S xs pairs.1 to,
+  )
+
 -- ---- by number
 
 module _ {X : Type 0} (number : X → ℕ) where
-  from_inserted : (x : X) (xs : List X) (y : X) → In y (inserted number x xs) → (y ≡ x) ⊎ In y xs
+  pub from_inserted : (x : X) (xs : List X) (y : X) → In y (inserted number x xs) → (y ≡ x) ⊎ In y xs
   from_inserted x [] y (inl same) = inl same
   from_inserted x [] y (inr bad) = absurd bad
   from_inserted x (z ∷ xs) y at =

@@ -56,7 +56,7 @@ submits s script form h =
     one_longer [] x = refl
     one_longer (y ∷ ys) x = ap suc (one_longer ys x)
 
-fresh_counted : (n : ℕ) (ds : List Dormant) → count tx_of n (map fresh ds) ≡ count dormant_tx n ds
+pub fresh_counted : (n : ℕ) (ds : List Dormant) → count tx_of n (map fresh ds) ≡ count dormant_tx n ds
 fresh_counted n ds = count_mapped tx_of n dormant_tx fresh ds (λ d at. refl)
 
 inserted_long : (m : Member) (ms : List Member) → length (inserted tx_of m ms) ≡ suc (length ms)
@@ -308,7 +308,7 @@ ends s h =
 
 -- ---- members that go on
 
-answered_tx : (asked : List Asking) (groundings : List Valuation) (m : Member)
+pub answered_tx : (asked : List Asking) (groundings : List Valuation) (m : Member)
     → (answered_among asked groundings m).tx ≡ m.tx
 answered_tx [] groundings m = refl
 answered_tx (asking ∷ asked) [] m = refl
@@ -367,6 +367,12 @@ places_opened opening = record { once = λ n. refl; idle = λ off. (refl, refl);
 
 -- ---- what a state that is reached says of its transactions
 
+pub standing_counted : (s : State) → Stands s → (n : ℕ) → times n (standing s) ≡ within n (length s.submitted)
+standing_counted s h n =
+    times_joined n (map tx_of (members s)) (map dormant_tx s.dormant ++ map fated_tx s.fates)
+    ∙ ap (λ k. count tx_of n (members s) + k) (times_joined n (map dormant_tx s.dormant) (map fated_tx s.fates))
+    ∙ h.once n
+
 pub stand_once : (s : State) → Stands s → StandOnce s
 stand_once s h =
     record {
@@ -381,10 +387,7 @@ stand_once s h =
     }
   where
     counted : (n : ℕ) → times n (standing s) ≡ within n (length s.submitted)
-    counted n =
-        times_joined n (map tx_of (members s)) (map dormant_tx s.dormant ++ map fated_tx s.fates)
-        ∙ ap (λ k. count tx_of n (members s) + k) (times_joined n (map dormant_tx s.dormant) (map fated_tx s.fates))
-        ∙ h.once n
+    counted n = standing_counted s h n
 
 pub reached_stand : {F : Type 0} (forms : Forms F) (s : State) → IsReached forms s → Stands s
 reached_stand forms s r = reached forms Stands places_kept s (places_opened s.opening) r

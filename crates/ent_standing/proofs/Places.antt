@@ -20,7 +20,7 @@ within n (suc k) = one_if (suc k == n) (within n k)
 not_equal : (a b : ℕ) → b < a → (a == b) ≡ true → ⊥
 not_equal a b low e = let same = same_number a b e in absurd (omega (arith, low, same))
 
-within_beyond : (n k : ℕ) → k < n → within n k ≡ 0
+pub within_beyond : (n k : ℕ) → k < n → within n k ≡ 0
 within_beyond n zero low = refl
 within_beyond n (suc k) low = by (suc k == n) refl (within_beyond n k (omega (arith, low)))
   where

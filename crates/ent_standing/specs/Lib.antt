@@ -1,3 +1,5 @@
 pub mod Standing
 pub mod Lent
 pub mod Groups
+pub mod Attempts
+pub mod ByNumber

@@ -1,11 +1,14 @@
 //! Laws of reached states. What holds is in the contracts.
-ghost use Rattle.std.specs.Prelude.{◌≤◌, length};
+ghost use Rattle.std.specs.Prelude.{◌≡◌, ◌≤◌, ℕ, ◌+◌, length};
+ghost use Rattle.std.specs.List.{AllByRecursion};
 ghost use Rattle.ent_group.specs.declared.members.TheConstants.{MOST_MEMBERS};
 ghost use Rattle.ent_protocol.specs.Event.{Event, Reply};
 ghost use Rattle.ent_protocol.specs.Reached.{IsReached};
 ghost use Rattle.ent_protocol.specs.Run.{Forms};
 ghost use Rattle.ent_protocol.specs.State.{State, members};
 ghost use Rattle.ent_protocol.specs.Step.{Step};
+ghost use Rattle.ent_standing.specs.Attempts.{AskForMost, AsksForRun, StayBelow, StayWithin};
+ghost use Rattle.ent_standing.specs.ByNumber.{StandByNumber};
 ghost use Rattle.ent_standing.specs.Groups.{GroupsAreClasses};
 ghost use Rattle.ent_standing.specs.Lent.{LentStandOnce};
 ghost use Rattle.ent_standing.specs.Standing.{GoesOn, StandOnce};
@@ -22,6 +25,30 @@ pub fn steps_go_on<F>()
 pub fn transactions_stand_once<F>()
     ensures once { (forms : Forms F) (s : State) → IsReached forms s → StandOnce s }
     ensures few { (forms : Forms F) (s : State) → IsReached forms s → length (members s) ≤ MOST_MEMBERS }
+{}
+
+/// In every state that is reached those with a fate, the dormant ones and the members are as many as were submitted.
+pub fn transactions_are_counted<F>()
+    ensures { (forms : Forms F) (s : State) → IsReached forms s
+        → length s.fates + length s.dormant + length (members s) ≡ length s.submitted }
+{}
+
+/// In every state that is reached members are of distinct numbers; those that aren't prepared stand by number, and so
+/// do the statements in the pool.
+pub fn members_stand_by_number<F>()
+    ensures { (forms : Forms F) (s : State) → IsReached forms s → StandByNumber s }
+{}
+
+/// In every state that is reached in which each script asks for one run at least, nobody took part in more runs than
+/// its script asks for, and whoever is dormant in fewer. So where no script asks for more than a number of runs, no
+/// count of runs goes beyond it.
+pub fn attempts_stay_within<F>()
+    ensures own { (forms : Forms F) (s : State) → IsReached forms s → AllByRecursion AsksForRun s.submitted
+        → StayWithin s }
+    ensures most { (forms : Forms F) (s : State) (most : ℕ) → IsReached forms s
+        → AllByRecursion AsksForRun s.submitted
+        → AskForMost most s
+        → StayBelow most s }
 {}
 
 /// In every state that is reached a lent job stands once: two jobs of a statement are of two transactions, and two

@@ -5,4 +5,7 @@
 
 mod law;
 
-pub use law::{groups_are_classes, lent_jobs_stand_once, steps_go_on, transactions_stand_once};
+pub use law::{
+    attempts_stay_within, groups_are_classes, lent_jobs_stand_once, members_stand_by_number,
+    steps_go_on, transactions_are_counted, transactions_stand_once,
+};

@@ -2,7 +2,7 @@ use Rattle.std.proofs.Common.{◌∙◌, ap, map}
 use Rattle.std.specs.Arc.{arc_value}
 use Rattle.ent_protocol.specs.Reached.{named_tables, table_names}
 use Rattle.ent_protocol.specs.State.{State}
-use Rattle.ent_core.specs.Store.{rows_in}
+use Rattle.ent_select.specs.Tables.{rows_in}
 use Rattle.ent_core.proofs.Booked.{names_declared}
 use Rattle.ent_core.proofs.closing.book_parts.Goals as goal
 
@@ -10,5 +10,5 @@ pub returns-clause-database : goal.returns-clause-database
 returns-clause-database c =
     let inside = c.store.inside in
     let names = names_declared inside.catalogue.tables inside.opening.tables c.store.invariant.declared in
-    c.in_ok-database.ensures ∙ (λ i. named_tables (names i) (rows_in (map arc_value (c.as_slice-2.ensures.value i))))
+    c.in_ok-database.ensures ∙ (λ i. named_tables (names i) (c.as_slice.ensures.tables i))
     ∙ ap (λ (s : State). named_tables (table_names s.opening) s.tables) c.store.view_is

@@ -6,25 +6,26 @@ use Rattle.ent_protocol.specs.Run.{fresh}
 use Rattle.ent_members.specs.Run.{tx_of}
 use Rattle.std.proofs.Common.{map}
 use Rattle.ent_core.specs.contracts.store.Store.{the_view}
+use Rattle.ent_roster.specs.Roster.{Roster}
 use Rattle.ent_core.proofs.Starting.{distinct_taken, kept_started, started}
 use Rattle.ent_core.proofs.start_run.start_run.Goals as goal
 
 pub start-requires-clause-distinct : goal.start-requires-clause-distinct
-start-requires-clause-distinct c = rw c.deref.ensures.value (distinct_taken c.min-count.result c.store.inside.dormant.items c.store.invariant.distinct)
+start-requires-clause-distinct c = rw c.dormant.ensures (distinct_taken c.min-count.result c.store.inside.roster.dormant c.store.invariant.distinct)
 
 pub invariant_of-store : goal.invariant_of-store
 invariant_of-store c =
     let inside = c.store.inside in
-    kept_started inside.catalogue.tables inside.opening inside.submitted.items inside.dormant.items _ inside.running _ c.in_ok-run.run' c.min-count.result
-    c.store.invariant c.drop_first.ensures
+    kept_started inside.catalogue.tables inside.opening inside.submitted.items inside.roster _ inside.running _ c.in_ok-run.run'
+    inside.tables c.min-count.result c.store.invariant c.take_first.ensures
 
 pub returns-clause-ok : goal.returns-clause-ok
 returns-clause-ok c =
     let s : State = the_view c.store.inside in
-    let some : 0 < length c.store.inside.dormant.items = omega arith in
-    let waiting : c.len-waiting.result ≡ length c.store.inside.dormant.items = omega arith in
-    let least : c.min-count.result ≡ min (length c.store.inside.dormant.items) MOST_MEMBERS = c.min-count.ensures ∙ ap (λ n. min n 64) waiting in
-    started FormFault s c.args.store.now c.min-count.result c.drop_first.new.list.items c.in_ok-run.run'.prepared c.in_ok-run.run'.active c.numbers-members.result c.clear.new.self.items
+    let some : 0 < length c.store.inside.roster.dormant = omega arith in
+    let waiting : c.len-waiting.result ≡ length c.store.inside.roster.dormant = omega arith in
+    let least : c.min-count.result ≡ min (length c.store.inside.roster.dormant) MOST_MEMBERS = c.min-count.ensures ∙ ap (λ n. min n 64) waiting in
+    started FormFault s c.args.store.now c.min-count.result c.take_first.new.self.dormant c.take_first.new.self.fates c.in_ok-run.run'.prepared c.in_ok-run.run'.active c.numbers-members.result c.clear.new.self.items
     c.store.view_is c.if-store.false c.clear.ensures.items (c.store.invariant.idle_prepared c.if-store.false) some least c.in_ok-run.ensures.prepared
-    (c.in_ok-run.ensures.active ∙ ap (λ (all : List Dormant). by_number tx_of (map fresh (take c.min-count.result all))) c.deref.ensures.value)
-    c.drop_first.ensures (c.numbers-members.ensures s)
+    (c.in_ok-run.ensures.active ∙ ap (λ (all : List Dormant). by_number tx_of (map fresh (take c.min-count.result all))) c.dormant.ensures)
+    (ap (λ (r : Roster). r.dormant) c.take_first.ensures) (ap (λ (r : Roster). r.fates) c.take_first.ensures) (c.numbers-members.ensures s)

@@ -1,0 +1,6 @@
+pub mod Listed
+pub mod Numbered
+pub mod Named
+pub mod Exact
+pub mod Pooled
+pub mod Opened

@@ -1,0 +1,48 @@
+//! Whether one more statement may be posted.
+ghost use Rattle.std.specs.Prelude.{◌≡◌, IfOk, MatchOption};
+ghost use Rattle.ent_coordination.specs.Pool.{IsFirstUnsafe, IsSafe};
+ghost use Rattle.ent_match.specs.Fault.{IsByNumber};
+ghost use Rattle.ent_match.specs.Posting.{HasNone};
+ghost use Rattle.ent_match.specs.declared.fault.PostFault.TheVariants as faults;
+ghost use Rattle.ent_protocol.specs.Job.{posted_of};
+ghost use Rattle.ent_components.specs.Component.{pool_and, pool_of};
+
+use crate::pool::{member_of, pool_of};
+use ent_eval::Asking;
+use ent_match::{PostFault, Unsafe, same_statements_are_alike};
+use std::alloc::{AllocError, Global};
+
+/// The unsafe post that stands in the way, where it isn't memory.
+fn unsafe_post(why: PostFault) -> Result<Unsafe, AllocError>
+    ensures { IfOk result (λ fault. why ≡ faults.Unsafe fault) }
+{
+    match why {
+        PostFault::Memory => Err(AllocError),
+        PostFault::Unsafe(fault) => Ok(fault),
+    }
+}
+
+/// What stands in the way of one more statement: none where the pool with it is safe, else the first unsafe post of
+/// that pool.
+pub fn post_fault(
+    alloc: Global,
+    posted: &[Asking],
+    asking: &Asking,
+) -> Result<Option<Unsafe>, AllocError>
+    requires by_number { IsByNumber (pool_of posted.now) }
+    requires safe { IsSafe (pool_of posted.now) }
+    requires none { HasNone (pool_of posted.now) (posted_of asking.now) }
+    ensures { IfOk result (λ fault. MatchOption fault (IsSafe (pool_and posted.now asking.now))
+        (IsFirstUnsafe (pool_and posted.now asking.now))) }
+{
+    same_statements_are_alike();
+    let mut pool = pool_of(alloc, posted)?;
+    let member = member_of(alloc, asking)?;
+    match pool.post(member) {
+        Ok(()) => Ok(None),
+        Err((_member, why)) => {
+            let fault = unsafe_post(why)?;
+            Ok(Some(fault))
+        }
+    }
+}
