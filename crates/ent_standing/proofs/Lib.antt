@@ -10,6 +10,7 @@ pub mod ByNumber
 pub mod Attempts
 pub mod Asked
 pub mod Lent
+pub mod Declared
 pub mod Classes
 pub mod Groups
 pub mod Together

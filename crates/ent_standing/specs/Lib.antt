@@ -3,3 +3,4 @@ pub mod Lent
 pub mod Groups
 pub mod Attempts
 pub mod ByNumber
+pub mod Declared

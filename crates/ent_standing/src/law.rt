@@ -11,6 +11,7 @@ ghost use Rattle.ent_protocol.specs.State.{State, members};
 ghost use Rattle.ent_protocol.specs.Step.{Step};
 ghost use Rattle.ent_standing.specs.Attempts.{AskForMost, AsksForRun, StayBelow, StayWithin};
 ghost use Rattle.ent_standing.specs.ByNumber.{StandByNumber};
+ghost use Rattle.ent_standing.specs.Declared.{LentIsDeclared};
 ghost use Rattle.ent_standing.specs.Groups.{GroupsAreClasses};
 ghost use Rattle.ent_standing.specs.Lent.{LentStandOnce};
 ghost use Rattle.ent_standing.specs.Standing.{GoesOn, StandOnce};
@@ -58,6 +59,12 @@ pub fn attempts_stay_within<F>()
 /// at this place, neither posted nor prepared.
 pub fn lent_jobs_stand_once<F>()
     ensures { (forms : Forms F) (s : State) → IsReached forms s → LentStandOnce s }
+{}
+
+/// In every state that is reached each table that a lent job sees has the kinds of columns that are declared under its
+/// number.
+pub fn lent_tables_are_declared<F>()
+    ensures { (forms : Forms F) (s : State) → IsReached forms s → LentIsDeclared s }
 {}
 
 /// In every state that is reached the groups are the classes of the least equivalence on the members that joins those

@@ -6,6 +6,7 @@
 mod law;
 
 pub use law::{
-    attempts_stay_within, groups_are_classes, lent_jobs_stand_once, members_stand_by_number,
-    pools_are_safe, steps_go_on, transactions_are_counted, transactions_stand_once,
+    attempts_stay_within, groups_are_classes, lent_jobs_stand_once, lent_tables_are_declared,
+    members_stand_by_number, pools_are_safe, steps_go_on, transactions_are_counted,
+    transactions_stand_once,
 };
