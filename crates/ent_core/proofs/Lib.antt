@@ -1,7 +1,10 @@
+pub mod Answering
 pub mod Arrivals
 pub mod Booked
+pub mod JointResults
 pub mod Keeping
 pub mod Opening
+pub mod Picked
 pub mod Sorted
 pub mod Starting
 pub mod TakenOut

@@ -1,5 +1,7 @@
 pub mod Closing
+pub mod Joining
 pub mod Kept
+pub mod Pick
 pub mod Reply
 pub mod Standing
 pub mod Store

@@ -7,8 +7,11 @@
 #![tactic(auto)]
 
 mod closing;
+mod join_answer;
+mod joining;
 mod lookup;
 mod open;
+mod pick;
 mod reached;
 mod recall;
 mod reply;

@@ -5,7 +5,7 @@ ghost use Rattle.ent_book.specs.Tables.{book_seen};
 ghost use Rattle.ent_core.specs.Reply.{reply_seen};
 ghost use Rattle.ent_core.specs.Standing.{standing_seen};
 ghost use Rattle.ent_form.specs.OpeningFault.{opening_fault, unless};
-ghost use Rattle.ent_protocol.specs.Event.{Recall, StartRun, Submit};
+ghost use Rattle.ent_protocol.specs.Event.{JoinAnswer, Pick, Recall, StartRun, Submit};
 ghost use Rattle.ent_protocol.specs.Lookup.{answers_of, dormant_at, entry_at, group_of, present_rows};
 ghost use Rattle.ent_protocol.specs.Lookup.{running_members, standing};
 ghost use Rattle.ent_protocol.specs.Reached.{CanClose, IsFinishedBook, book_of, opened, scripts_of};
@@ -17,8 +17,10 @@ ghost use Rattle.ent_value.specs.declared.refusal.Refusal.TheVariants.{Fault};
 ghost use Rattle.ent_core.specs.declared.closing.NotDone.{NotDone};
 
 use crate::closing::{NotClosed, NotDone, book, book_parts, can_close};
+use crate::join_answer::join_answer;
 use crate::lookup;
 use crate::open::open;
+use crate::pick::pick;
 use crate::recall::recall;
 use crate::reply::Reply;
 use crate::standing::{Standing, standing_of};
@@ -26,6 +28,7 @@ use crate::start_run::start_run;
 use crate::store::Store;
 use crate::submit::submit;
 use ent_book::NamedTable;
+use ent_eval::Done;
 use ent_form::FormFault;
 use ent_group::{Members, Tx};
 use ent_members::Entrant;
@@ -94,6 +97,33 @@ impl Core {
         resolved_runs_are_legal();
         steps_go_on::<FormFault>();
         start_run(&mut self.store)
+    }
+
+    /// Lends the job of a component of the posted statements: of those that weren't tried, and no job of which is out,
+    /// that with the least first member. Where there is none, nothing is lent.
+    pub fn pick(&mut self) -> Result<Reply, AllocError>
+        ensures ok { IfOk result (λ reply. Step resolved_forms self.old Pick (reply_seen reply) self.new) }
+        ensures err { OnErr result (self.new ≡ self.old) }
+        ensures legal { IsLegal (book_of self.new) }
+    {
+        resolved_runs_are_legal();
+        steps_go_on::<FormFault>();
+        pick(&mut self.store)
+    }
+
+    /// Takes the result of a joint job: its members have their answers and are of one group, or there is no choice, and
+    /// their statements were tried. A result is stale, and comes back, where its job isn't lent or its statements are
+    /// no component now. Where memory runs out it comes back too.
+    pub fn join_answer(&mut self, done: Done) -> Result<Reply, AllocFailed<Done>>
+        ensures ok { IfOk result (λ reply.
+            Step resolved_forms self.old (JoinAnswer done) (reply_seen reply) self.new) }
+        ensures err { OnErr result (self.new ≡ self.old) }
+        ensures returned { IfErr result (λ refused. refused.value ≡ done) }
+        ensures legal { IsLegal (book_of self.new) }
+    {
+        resolved_runs_are_legal();
+        steps_go_on::<FormFault>();
+        join_answer(&mut self.store, done)
     }
 
     /// Lends no job any more, whoever has one. It takes no memory.
