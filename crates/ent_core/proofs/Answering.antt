@@ -1,13 +1,9 @@
 -- Posted statements are answered together.
-use Rattle.std.proofs.Common.{◌≡◌, ℕ, List, [], ◌∷◌, ◌++◌, length, map, refl, sym, ap, subst, ◌∙◌, arith, nat_eq}
+use Rattle.std.proofs.Common.{◌≡◌, List, [], ◌∷◌, length, map, refl, sym, ap, subst, ◌∙◌, arith, nat_eq}
 use Rattle.std.specs.List.{IsDistinct}
-use Rattle.ent_semantics.specs.declared.book.JointAnswer.{JointAnswer}
 use Rattle.ent_semantics.specs.Entangled.{Valuation}
-use Rattle.ent_members.specs.Answered.{IsJoining, MemberAnswer, answer_tx, member_answers}
-use Rattle.ent_members.specs.Run.{Run}
+use Rattle.ent_members.specs.Answered.{MemberAnswer, answer_tx, member_answers}
 use Rattle.ent_protocol.specs.Job.{Asking}
-use Rattle.ent_protocol.specs.PoolEvents.{joining, joint_answer}
-use Rattle.ent_protocol.specs.State.{State}
 
 asked_numbers : (asked : List Asking) (groundings : List Valuation) → length groundings ≡ length asked
     → map answer_tx (member_answers asked groundings) ≡ map (λ (asking : Asking). asking.tx) asked
@@ -22,10 +18,3 @@ pub given_distinct : (given : List MemberAnswer) (asked : List Asking) (groundin
     → IsDistinct nat_eq (map (λ (asking : Asking). asking.tx) asked) → IsDistinct nat_eq (map answer_tx given)
 given_distinct given asked groundings is long distinct =
     subst (IsDistinct nat_eq) (sym (ap (map answer_tx) is ∙ asked_numbers asked groundings long)) distinct
-
-pub joined : (s now : State) (run : Run) (joints : List JointAnswer) (asked : List Asking) (groundings : List Valuation)
-    → s ≡ now → IsJoining s asked groundings run → joints ≡ s.joints ++ joint_answer asked groundings ∷ []
-    → record s { prepared = run.prepared; active = run.active; joints = joints } ≡ joining now asked groundings
-joined s now run joints asked groundings same is put =
-    (λ i. record s { prepared = is.prepared i; active = is.active i; joints = put i })
-    ∙ ap (λ (w : State). joining w asked groundings) same

@@ -1,7 +1,7 @@
--- Results of joint jobs: which are accepted, and what their outcomes give.
-use Rattle.std.proofs.Common.{◌≡◌, ◌↔◌, ◌<◌, ℕ, zero, suc, true, false, Bool, List, [], ◌∷◌, length, map, refl, sym}
+-- Results of joint jobs that are outstanding.
+use Rattle.std.proofs.Common.{◌≡◌, ◌<◌, ℕ, suc, false, List, [], ◌∷◌, length, map, refl, sym}
 use Rattle.std.proofs.Common.{ap, subst, ◌∙◌, arith, nat_eq, Option, Some, None, slice_get, slice_index_or}
-use Rattle.std.specs.Prelude.{AllPairs, IfSome, IsTrue}
+use Rattle.std.specs.Prelude.{AllPairs, IfSome}
 use Rattle.std.specs.List.{AllByRecursion, IsDistinct}
 use Rattle.std.proofs.lemmas.Bool.Decides.{nat_tests}
 use Rattle.std.proofs.lemmas.List.{length-map}
@@ -11,58 +11,11 @@ use Rattle.ent_coordination.specs.Choice.{AreGroundings, IsLeastChoiceIfAny}
 use Rattle.ent_coordination.specs.Pool.{Posted}
 use Rattle.ent_form.specs.declared.fault.FormFault.{FormFault}
 use Rattle.ent_protocol.specs.Event.{Reply}
-use Rattle.ent_protocol.specs.Finish.{IsTaken}
-use Rattle.ent_protocol.specs.Job.{Asking, Choice, Done, IsEvaluated, IsOutcome, Job, Joint, One, Outcome, Single, Work}
+use Rattle.ent_protocol.specs.Job.{Asking, Choice, Done, IsEvaluated, IsOutcome, Joint, Outcome, Work}
 use Rattle.ent_protocol.specs.Job.{posted_of, tables_of}
-use Rattle.ent_protocol.specs.PoolEvents.{IsOutstandingJoint, IsPresentComponent, Joins}
+use Rattle.ent_protocol.specs.PoolEvents.{IsPresentComponent, Joins}
 use Rattle.ent_protocol.specs.State.{State}
-use Rattle.ent_eval.specs.Work.{alone_seen}
-use Rattle.ent_eval.specs.declared.outcome.Outcome.{Outcome as Alone}
-use Rattle.ent_eval.specs.declared.outcome.Outcome.TheVariants as alone
 use Rattle.ent_core.specs.Joining.{AnswersAt}
-
--- ---- results that aren't outstanding
-
--- the job isn't lent
-pub not_lent : (s : State) (done : Done) (job : Job) → job ≡ done.job
-    → ((left : List Job) → IsTaken job s.lent left → ⊥) → IsOutstandingJoint s done → ⊥
-not_lent s done job same none outstanding =
-    none outstanding.left (subst (λ (own : Job). IsTaken own s.lent outstanding.left) (sym same) outstanding.taken)
-
-apart_works : (single : Single) (asked : List Asking) → One single ≡ Joint asked → ⊥
-apart_works single asked e = cc
-
--- the job is of one statement
-pub not_joint : (s : State) (done : Done) (single : Single) → One single ≡ done.job.work → IsOutstandingJoint s done → ⊥
-not_joint s done single work outstanding =
-    apart_works single outstanding.asked (work ∙ outstanding.is_joint)
-
-asked_in : Work → List Asking
-asked_in (One single) = []
-asked_in (Joint asked) = asked
-
--- its statements are no component now
-pub not_present : (s : State) (done : Done) (asked : List Asking) → Joint asked ≡ done.job.work
-    → (IsPresentComponent s asked → ⊥) → IsOutstandingJoint s done → ⊥
-not_present s done asked work none outstanding =
-    none (subst (IsPresentComponent s) (sym (ap asked_in (work ∙ outstanding.is_joint))) outstanding.component)
-
--- what joint work comes to is no outcome of one statement
-pub not_alone : (done : Done) (asked : List Asking) (outcome : Alone) → Joint asked ≡ done.job.work
-    → alone_seen outcome ≡ done.outcome → IsEvaluated done → ⊥
-not_alone done asked outcome work is meant =
-    no_outcome (tables_of done.job.tables) asked outcome
-    (subst (λ (own : Outcome). IsOutcome (Joint asked) (tables_of done.job.tables) own) (sym is)
-    (subst (λ (own : Work). IsOutcome own (tables_of done.job.tables) done.outcome) (sym work) meant))
-  where
-    no_outcome : (tables : Tables) (asked : List Asking) (outcome : Alone)
-        → IsOutcome (Joint asked) tables (alone_seen outcome) → ⊥
-    no_outcome tables asked (alone.Rows rows) is = is
-    no_outcome tables asked (alone.Changed count delta) is = is
-    no_outcome tables asked (alone.Value value) is = is
-    no_outcome tables asked (alone.Fault failure) is = is
-
--- ---- results that are outstanding
 
 groundings_counted : (tables : Tables) (members : List Posted) (groundings : List Valuation)
     → AreGroundings tables members groundings → length groundings ≡ length members

@@ -1,43 +1,31 @@
--- What a component's job needs, and what is lent.
-use Rattle.std.proofs.Common.{◌≡◌, ◌⊎◌, inl, inr, ◌<◌, ℕ, List, [], ◌∷◌, ◌++◌, length, map, sym, subst, ap, ◌∙◌, refl}
-use Rattle.std.proofs.Common.{arith}
-use Rattle.std.specs.Prelude.{All}
-use Rattle.std.specs.List.{AllByRecursion}
-use Rattle.std.proofs.lemmas.List.{length-map}
-use Rattle.std.proofs.lemmas.List.Elements.{All-weaker, recursion_from_All}
-use Rattle.ent_components.specs.Component.{IsFirstToPick}
-use Rattle.ent_form.specs.declared.fault.FormFault.{FormFault}
-use Rattle.ent_protocol.specs.Event.{Reply}
-use Rattle.ent_protocol.specs.Event as replies
-use Rattle.ent_protocol.specs.Job.{Asking, Job}
-use Rattle.ent_protocol.specs.PoolEvents.{Picks, joint_job}
+-- What is picked, and the job that is made of it.
+use Rattle.std.proofs.Common.{◌≡◌, List, Option, Some, sym, subst, ap, ◌∙◌}
+use Rattle.ent_components.specs.Component.{IsFirstToPick, IsPick, IsPickIn}
+use Rattle.ent_eval.specs.Work.{IsJoint}
+use Rattle.ent_protocol.specs.Job.{Asking, Job, Seen}
+use Rattle.ent_protocol.specs.Member.{askings, seen_now}
+use Rattle.ent_protocol.specs.PoolEvents.{joint_job, joint_uses}
 use Rattle.ent_protocol.specs.State.{State, Use}
-use Rattle.ent_tables.specs.Stored.{Stored, kinds_declared}
-use Rattle.ent_tree.specs.declared.declaration.Create.{Create}
-use Rattle.ent_core.specs.Pick.{IsPickedJob, NoneCanBePicked}
 
--- the tables that uses name are there
-pub tables_there : (declared : List Create) (stored : Stored) (count : ℕ) (uses : List Use)
-    → stored.kinds ≡ kinds_declared declared → count ≡ length stored.tables → count ≡ length stored.kinds
-    → All (λ (own : Use). own.table < length declared) uses
-    → AllByRecursion (λ (own : Use). own.table < length stored.tables) uses
-tables_there declared stored count uses kinds tables columns all =
-    let same : length stored.kinds ≡ length declared =
-    ap length kinds ∙ length-map declared (λ (create : Create). map (λ column. column.kind) create.columns) in
-    recursion_from_All (λ (own : Use). own.table < length stored.tables) uses
-    (All-weaker (λ (own : Use). own.table < length declared) (λ (own : Use). own.table < length stored.tables)
-    (λ own less. omega arith) uses all)
+-- the tables that were seen are those of the component's job
+tables_are : (s now : State) (asked : List Asking) (tables : List Seen) (uses : List Use) → s ≡ now
+    → uses ≡ joint_uses asked → tables ≡ seen_now s.opening.tables s.tables uses
+    → tables ≡ (joint_job now asked).tables
+tables_are s now asked tables uses same used seen =
+    seen ∙ ap (λ (all : List Use). seen_now s.opening.tables s.tables all) used
+    ∙ ap (λ (w : State). (joint_job w asked).tables) same
 
-pub lends : (s new : State) (job : Job) → IsPickedJob s job → new ≡ record s { lent = s.lent ++ job ∷ [] }
-    → Picks {F = FormFault} s (replies.Lent job) new
-lends s new job picked is =
-    inl (record {
-      asked = picked.asked;
-      can = picked.first.can;
-      least = picked.first.least;
-      replies = ap (λ (given : Job). replies.Lent given) picked.is;
-      is = is ∙ ap (λ (given : Job). record s { lent = s.lent ++ given ∷ [] }) picked.is;
-    })
+-- its statements make a job with them
+pub makes_job : (s now : State) (asked : List Asking) (tables : List Seen) (uses : List Use) → s ≡ now
+    → uses ≡ joint_uses asked → tables ≡ seen_now s.opening.tables s.tables uses
+    → IsJoint asked (joint_job now asked).tables → IsJoint asked tables
+makes_job s now asked tables uses same used seen fits =
+    subst (IsJoint asked) (sym (tables_are s now asked tables uses same used seen)) fits
 
-pub lends_none : (s : State) → NoneCanBePicked s → Picks {F = FormFault} s replies.Nothing s
-lends_none s none = inr (none, (refl, refl))
+-- what is picked of what is posted, tried and lent is picked in the state
+pub picked_first : (s now : State) (posted : List Asking) (tried : List (List Asking)) (lent : List Job)
+    (picked : Option (List Asking)) (asked : List Asking) → s ≡ now → askings s ≡ posted → s.tried ≡ tried
+    → s.lent ≡ lent → picked ≡ Some asked → IsPick posted tried lent picked → IsFirstToPick now asked
+picked_first s now posted tried lent picked asked same are_posted are_tried are_lent some pick =
+    subst (λ (w : State). IsFirstToPick w asked) same
+    (subst (λ (own : Option (List Asking)). IsPickIn s own) some (pick s are_posted are_tried are_lent))
