@@ -7,6 +7,7 @@
 #![tactic(auto)]
 
 mod closing;
+mod end_run;
 mod lookup;
 mod open;
 mod reached;
@@ -19,6 +20,7 @@ mod submit;
 mod take_out;
 
 pub use closing::{NotClosed, NotDone};
+pub use ent_quiet::Reason;
 pub use reached::Core;
 pub use reply::Reply;
 pub use standing::Standing;

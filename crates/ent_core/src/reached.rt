@@ -5,7 +5,7 @@ ghost use Rattle.ent_book.specs.Tables.{book_seen};
 ghost use Rattle.ent_core.specs.Reply.{reply_seen};
 ghost use Rattle.ent_core.specs.Standing.{standing_seen};
 ghost use Rattle.ent_form.specs.OpeningFault.{opening_fault, unless};
-ghost use Rattle.ent_protocol.specs.Event.{Recall, StartRun, Submit};
+ghost use Rattle.ent_protocol.specs.Event.{EndRun, Recall, StartRun, Submit};
 ghost use Rattle.ent_protocol.specs.Lookup.{answers_of, dormant_at, entry_at, group_of, present_rows};
 ghost use Rattle.ent_protocol.specs.Lookup.{running_members, standing};
 ghost use Rattle.ent_protocol.specs.Reached.{CanClose, IsFinishedBook, book_of, opened, scripts_of};
@@ -17,6 +17,7 @@ ghost use Rattle.ent_value.specs.declared.refusal.Refusal.TheVariants.{Fault};
 ghost use Rattle.ent_core.specs.declared.closing.NotDone.{NotDone};
 
 use crate::closing::{NotClosed, NotDone, book, book_parts, can_close};
+use crate::end_run::end_run;
 use crate::lookup;
 use crate::open::open;
 use crate::recall::recall;
@@ -94,6 +95,18 @@ impl Core {
         resolved_runs_are_legal();
         steps_go_on::<FormFault>();
         start_run(&mut self.store)
+    }
+
+    /// Ends the run where it is quiet: every group that is left is rolled back. Else it answers why the run can't end
+    /// yet. Refused where no run is on.
+    pub fn end_run(&mut self) -> Result<Reply, AllocError>
+        ensures ok { IfOk result (λ reply. Step resolved_forms self.old EndRun (reply_seen reply) self.new) }
+        ensures err { OnErr result (self.new ≡ self.old) }
+        ensures legal { IsLegal (book_of self.new) }
+    {
+        resolved_runs_are_legal();
+        steps_go_on::<FormFault>();
+        end_run(&mut self.store)
     }
 
     /// Lends no job any more, whoever has one. It takes no memory.
