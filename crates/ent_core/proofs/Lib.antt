@@ -1,5 +1,6 @@
 pub mod Arrivals
 pub mod Booked
+pub mod Breaking
 pub mod Keeping
 pub mod Opening
 pub mod Sorted

@@ -6,6 +6,7 @@
 //! takes no memory.
 #![tactic(auto)]
 
+mod break_cycle;
 mod closing;
 mod lookup;
 mod open;

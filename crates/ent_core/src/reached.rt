@@ -5,7 +5,7 @@ ghost use Rattle.ent_book.specs.Tables.{book_seen};
 ghost use Rattle.ent_core.specs.Reply.{reply_seen};
 ghost use Rattle.ent_core.specs.Standing.{standing_seen};
 ghost use Rattle.ent_form.specs.OpeningFault.{opening_fault, unless};
-ghost use Rattle.ent_protocol.specs.Event.{Recall, StartRun, Submit};
+ghost use Rattle.ent_protocol.specs.Event.{BreakCycle, Recall, StartRun, Submit};
 ghost use Rattle.ent_protocol.specs.Lookup.{answers_of, dormant_at, entry_at, group_of, present_rows};
 ghost use Rattle.ent_protocol.specs.Lookup.{running_members, standing};
 ghost use Rattle.ent_protocol.specs.Reached.{CanClose, IsFinishedBook, book_of, opened, scripts_of};
@@ -16,6 +16,7 @@ ghost use Rattle.ent_value.specs.Refusal.{Gives};
 ghost use Rattle.ent_value.specs.declared.refusal.Refusal.TheVariants.{Fault};
 ghost use Rattle.ent_core.specs.declared.closing.NotDone.{NotDone};
 
+use crate::break_cycle::break_cycle;
 use crate::closing::{NotClosed, NotDone, book, book_parts, can_close};
 use crate::lookup;
 use crate::open::open;
@@ -94,6 +95,17 @@ impl Core {
         resolved_runs_are_legal();
         steps_go_on::<FormFault>();
         start_run(&mut self.store)
+    }
+
+    /// Rolls back the group of the first member of a deadlock, the greatest transaction that stands in any, where there
+    /// is one. It takes no memory.
+    pub fn break_cycle(&mut self) -> Reply
+        ensures step { Step resolved_forms self.old BreakCycle (reply_seen result) self.new }
+        ensures legal { IsLegal (book_of self.new) }
+    {
+        resolved_runs_are_legal();
+        steps_go_on::<FormFault>();
+        break_cycle(&mut self.store)
     }
 
     /// Lends no job any more, whoever has one. It takes no memory.
