@@ -1,10 +1,13 @@
 pub mod Arrivals
+pub mod Begun
 pub mod Booked
 pub mod Breaking
+pub mod Committing
 pub mod Keeping
 pub mod Opening
 pub mod Sorted
 pub mod Starting
 pub mod TakenOut
 pub mod Told
+pub mod Unposted
 pub mod Whereabouts

@@ -1,3 +1,4 @@
+pub mod Begin
 pub mod Closing
 pub mod Kept
 pub mod Reply

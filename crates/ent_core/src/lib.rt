@@ -7,7 +7,9 @@
 #![tactic(auto)]
 
 mod break_cycle;
+mod begin;
 mod closing;
+mod commit;
 mod lookup;
 mod open;
 mod reached;

@@ -1,14 +1,17 @@
 //! The core whose type keeps that its state is reached.
-ghost use Rattle.std.specs.Prelude.{◌≡◌, IfOk, IfErr, OnErr};
+ghost use Rattle.std.specs.Prelude.{◌≡◌, IfOk, IfErr, IsOk, OnErr, Some};
 ghost use Rattle.std.specs.Option.{option_copied, option_map};
 ghost use Rattle.ent_book.specs.Tables.{book_seen};
 ghost use Rattle.ent_core.specs.Reply.{reply_seen};
 ghost use Rattle.ent_core.specs.Standing.{standing_seen};
 ghost use Rattle.ent_form.specs.OpeningFault.{opening_fault, unless};
 ghost use Rattle.ent_protocol.specs.Event.{BreakCycle, Recall, StartRun, Submit};
+ghost use Rattle.ent_protocol.specs.Event.{Begin, Recall, StartRun, Submit};
 ghost use Rattle.ent_protocol.specs.Lookup.{answers_of, dormant_at, entry_at, group_of, present_rows};
 ghost use Rattle.ent_protocol.specs.Lookup.{running_members, standing};
+ghost use Rattle.ent_protocol.specs.Member.{RollsBack, active_member, next_of};
 ghost use Rattle.ent_protocol.specs.Reached.{CanClose, IsFinishedBook, book_of, opened, scripts_of};
+ghost use Rattle.ent_protocol.specs.State.{Member};
 ghost use Rattle.ent_protocol.specs.Step.{Step};
 ghost use Rattle.ent_resolved.specs.Resolved.{resolved_forms};
 ghost use Rattle.ent_semantics.specs.Book.{IsLegal};
@@ -17,6 +20,7 @@ ghost use Rattle.ent_value.specs.declared.refusal.Refusal.TheVariants.{Fault};
 ghost use Rattle.ent_core.specs.declared.closing.NotDone.{NotDone};
 
 use crate::break_cycle::break_cycle;
+use crate::begin::begin;
 use crate::closing::{NotClosed, NotDone, book, book_parts, can_close};
 use crate::lookup;
 use crate::open::open;
@@ -101,11 +105,21 @@ impl Core {
     /// is one. It takes no memory.
     pub fn break_cycle(&mut self) -> Reply
         ensures step { Step resolved_forms self.old BreakCycle (reply_seen result) self.new }
+    /// The member of a number begins its next statement, or ends as its script does. Lent: its job is to come back.
+    /// Refused where it isn't there, is prepared, is posted or has its job out, where another member is in its way, and
+    /// where the pool with its statement would be unsafe. Where memory runs out nothing changes; a member that rolls
+    /// back takes none.
+    pub fn begin(&mut self, tx: Tx) -> Result<Reply, AllocError>
+        ensures ok { IfOk result (λ reply. Step resolved_forms self.old (Begin tx) (reply_seen reply) self.new) }
+        ensures err { OnErr result (self.new ≡ self.old) }
+        ensures rolls_back { (member : Member) → active_member self.old tx ≡ Some member
+            → next_of self.old member ≡ RollsBack → IsOk result }
         ensures legal { IsLegal (book_of self.new) }
     {
         resolved_runs_are_legal();
         steps_go_on::<FormFault>();
         break_cycle(&mut self.store)
+        begin(&mut self.store, tx)
     }
 
     /// Lends no job any more, whoever has one. It takes no memory.
