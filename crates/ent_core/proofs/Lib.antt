@@ -3,8 +3,11 @@ pub mod Begun
 pub mod Booked
 pub mod Breaking
 pub mod Committing
+pub mod Bound
+pub mod Finishing
 pub mod Keeping
 pub mod Opening
+pub mod Outstanding
 pub mod Sorted
 pub mod Starting
 pub mod TakenOut

@@ -1,5 +1,7 @@
 pub mod Begin
+pub mod Advance
 pub mod Closing
+pub mod Finish
 pub mod Kept
 pub mod Reply
 pub mod Standing

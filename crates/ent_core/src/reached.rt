@@ -1,5 +1,6 @@
 //! The core whose type keeps that its state is reached.
 ghost use Rattle.std.specs.Prelude.{◌≡◌, IfOk, IfErr, IsOk, OnErr, Some};
+ghost use Rattle.std.specs.Prelude.{◌≡◌, IfOk, IfErr, IsOk, OnErr};
 ghost use Rattle.std.specs.Option.{option_copied, option_map};
 ghost use Rattle.ent_book.specs.Tables.{book_seen};
 ghost use Rattle.ent_core.specs.Reply.{reply_seen};
@@ -7,6 +8,8 @@ ghost use Rattle.ent_core.specs.Standing.{standing_seen};
 ghost use Rattle.ent_form.specs.OpeningFault.{opening_fault, unless};
 ghost use Rattle.ent_protocol.specs.Event.{BreakCycle, Recall, StartRun, Submit};
 ghost use Rattle.ent_protocol.specs.Event.{Begin, Recall, StartRun, Submit};
+ghost use Rattle.ent_protocol.specs.Event.{Finish, Recall, StartRun, Submit};
+ghost use Rattle.ent_protocol.specs.Job as jobs;
 ghost use Rattle.ent_protocol.specs.Lookup.{answers_of, dormant_at, entry_at, group_of, present_rows};
 ghost use Rattle.ent_protocol.specs.Lookup.{running_members, standing};
 ghost use Rattle.ent_protocol.specs.Member.{RollsBack, active_member, next_of};
@@ -15,6 +18,7 @@ ghost use Rattle.ent_protocol.specs.State.{Member};
 ghost use Rattle.ent_protocol.specs.Step.{Step};
 ghost use Rattle.ent_resolved.specs.Resolved.{resolved_forms};
 ghost use Rattle.ent_semantics.specs.Book.{IsLegal};
+ghost use Rattle.ent_semantics.specs.declared.answer.Failure.{Failure};
 ghost use Rattle.ent_value.specs.Refusal.{Gives};
 ghost use Rattle.ent_value.specs.declared.refusal.Refusal.TheVariants.{Fault};
 ghost use Rattle.ent_core.specs.declared.closing.NotDone.{NotDone};
@@ -22,6 +26,7 @@ ghost use Rattle.ent_core.specs.declared.closing.NotDone.{NotDone};
 use crate::break_cycle::break_cycle;
 use crate::begin::begin;
 use crate::closing::{NotClosed, NotDone, book, book_parts, can_close};
+use crate::finish::finish;
 use crate::lookup;
 use crate::open::open;
 use crate::recall::recall;
@@ -31,6 +36,7 @@ use crate::start_run::start_run;
 use crate::store::Store;
 use crate::submit::submit;
 use ent_book::NamedTable;
+use ent_eval::Done;
 use ent_form::FormFault;
 use ent_group::{Members, Tx};
 use ent_members::Entrant;
@@ -114,12 +120,21 @@ impl Core {
         ensures err { OnErr result (self.new ≡ self.old) }
         ensures rolls_back { (member : Member) → active_member self.old tx ≡ Some member
             → next_of self.old member ≡ RollsBack → IsOk result }
+    /// Takes the result of one statement. Where its job isn't lent any more it is stale, and comes back. Else the
+    /// member has the answer; or the statement failed, and the member's group is rolled back, which takes no memory.
+    /// Where memory runs out the result comes back.
+    pub fn finish(&mut self, done: Done) -> Result<Reply, AllocFailed<Done>>
+        ensures ok { IfOk result (λ reply. Step resolved_forms self.old (Finish done) (reply_seen reply) self.new) }
+        ensures err { OnErr result (self.new ≡ self.old) }
+        ensures returned { IfErr result (λ refused. refused.value ≡ done) }
+        ensures failure { (failure : Failure) → done.outcome ≡ jobs.Fault failure → IsOk result }
         ensures legal { IsLegal (book_of self.new) }
     {
         resolved_runs_are_legal();
         steps_go_on::<FormFault>();
         break_cycle(&mut self.store)
         begin(&mut self.store, tx)
+        finish(&mut self.store, done)
     }
 
     /// Lends no job any more, whoever has one. It takes no memory.
