@@ -1,3 +1,4 @@
+pub mod Answering
 pub mod Arrivals
 pub mod Begun
 pub mod Booked
@@ -8,6 +9,10 @@ pub mod Finishing
 pub mod Keeping
 pub mod Opening
 pub mod Outstanding
+pub mod JointResults
+pub mod Keeping
+pub mod Opening
+pub mod Picked
 pub mod Sorted
 pub mod Starting
 pub mod TakenOut

@@ -2,7 +2,9 @@ pub mod Begin
 pub mod Advance
 pub mod Closing
 pub mod Finish
+pub mod Joining
 pub mod Kept
+pub mod Pick
 pub mod Reply
 pub mod Standing
 pub mod Store

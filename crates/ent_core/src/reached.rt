@@ -10,6 +10,7 @@ ghost use Rattle.ent_protocol.specs.Event.{BreakCycle, Recall, StartRun, Submit}
 ghost use Rattle.ent_protocol.specs.Event.{Begin, Recall, StartRun, Submit};
 ghost use Rattle.ent_protocol.specs.Event.{Finish, Recall, StartRun, Submit};
 ghost use Rattle.ent_protocol.specs.Job as jobs;
+ghost use Rattle.ent_protocol.specs.Event.{JoinAnswer, Pick, Recall, StartRun, Submit};
 ghost use Rattle.ent_protocol.specs.Lookup.{answers_of, dormant_at, entry_at, group_of, present_rows};
 ghost use Rattle.ent_protocol.specs.Lookup.{running_members, standing};
 ghost use Rattle.ent_protocol.specs.Member.{RollsBack, active_member, next_of};
@@ -27,8 +28,10 @@ use crate::break_cycle::break_cycle;
 use crate::begin::begin;
 use crate::closing::{NotClosed, NotDone, book, book_parts, can_close};
 use crate::finish::finish;
+use crate::join_answer::join_answer;
 use crate::lookup;
 use crate::open::open;
+use crate::pick::pick;
 use crate::recall::recall;
 use crate::reply::Reply;
 use crate::standing::{Standing, standing_of};
@@ -128,6 +131,11 @@ impl Core {
         ensures err { OnErr result (self.new ≡ self.old) }
         ensures returned { IfErr result (λ refused. refused.value ≡ done) }
         ensures failure { (failure : Failure) → done.outcome ≡ jobs.Fault failure → IsOk result }
+    /// Lends the job of a component of the posted statements: of those that weren't tried, and no job of which is out,
+    /// that with the least first member. Where there is none, nothing is lent.
+    pub fn pick(&mut self) -> Result<Reply, AllocError>
+        ensures ok { IfOk result (λ reply. Step resolved_forms self.old Pick (reply_seen reply) self.new) }
+        ensures err { OnErr result (self.new ≡ self.old) }
         ensures legal { IsLegal (book_of self.new) }
     {
         resolved_runs_are_legal();
@@ -135,6 +143,22 @@ impl Core {
         break_cycle(&mut self.store)
         begin(&mut self.store, tx)
         finish(&mut self.store, done)
+        pick(&mut self.store)
+    }
+
+    /// Takes the result of a joint job: its members have their answers and are of one group, or there is no choice, and
+    /// their statements were tried. A result is stale, and comes back, where its job isn't lent or its statements are
+    /// no component now. Where memory runs out it comes back too.
+    pub fn join_answer(&mut self, done: Done) -> Result<Reply, AllocFailed<Done>>
+        ensures ok { IfOk result (λ reply.
+            Step resolved_forms self.old (JoinAnswer done) (reply_seen reply) self.new) }
+        ensures err { OnErr result (self.new ≡ self.old) }
+        ensures returned { IfErr result (λ refused. refused.value ≡ done) }
+        ensures legal { IsLegal (book_of self.new) }
+    {
+        resolved_runs_are_legal();
+        steps_go_on::<FormFault>();
+        join_answer(&mut self.store, done)
     }
 
     /// Lends no job any more, whoever has one. It takes no memory.

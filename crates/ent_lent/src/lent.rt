@@ -1,6 +1,6 @@
 //! The list of lent jobs.
-ghost use Rattle.std.specs.Prelude.{◌≡◌, ◌↔◌, ◌<◌, ◌++◌, ◌∷◌, [], ◌==◌, List, Some, length, map, filter, not, slice_get};
-ghost use Rattle.std.specs.Prelude.{Contains, IfSome, IsNone, IsTrue, OnErr, OnOk};
+ghost use Rattle.std.specs.Prelude.{◌≡◌, ◌↔◌, ◌<◌, ◌++◌, ◌∷◌, [], ◌==◌, List, Some, length, map, filter, not};
+ghost use Rattle.std.specs.Prelude.{Contains, IfSome, IsNone, IsTrue, OnErr, OnOk, slice_get};
 ghost use Rattle.std.specs.List.{list_any};
 ghost use Rattle.ent_lent.specs.Lent.{HasJointOf, goes_with_any};
 ghost use Rattle.ent_protocol.specs.Finish.{IsTaken};

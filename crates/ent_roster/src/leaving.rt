@@ -27,7 +27,8 @@ pub(crate) fn leave(
         ++ filter_map (λ leaver. dormant_by submitted.now (cause_seen cause) (as_member leaver)) leavers.now }
     ensures fates { fates.new.items ≡ fates.old.items
         ++ filter_map (λ leaver. fated_by submitted.now (cause_seen cause) (as_member leaver)) leavers.now }
-    ensures sum { vec_len dormant.new + vec_len fates.new ≡ vec_len dormant.old + vec_len fates.old + length leavers.now }
+    ensures sum { vec_len dormant.new + vec_len fates.new
+        ≡ vec_len dormant.old + vec_len fates.old + length leavers.now }
     ensures dormant_capacity { vec_capacity dormant.new ≡ vec_capacity dormant.old }
     ensures fates_capacity { vec_capacity fates.new ≡ vec_capacity fates.old }
 {

@@ -39,7 +39,8 @@ impl Model for Roster {
     ghost view = { λ r. record { dormant = r.dormant.items; fates = r.fates.items; known = r.known } };
 
     ghost invariant = { λ r.
-        HasRoom (length r.dormant.items) (length r.fates.items) r.known (vec_capacity r.dormant) (vec_capacity r.fates) };
+        HasRoom (length r.dormant.items) (length r.fates.items) r.known
+        (vec_capacity r.dormant) (vec_capacity r.fates) };
 }
 
 impl Roster {
@@ -126,8 +127,8 @@ impl Roster {
         self.dormant.truncate(kept);
     }
 
-    /// Members leave the run, which are rolled back: each gets a fate where the cause gives it one or its runs are over,
-    /// else it waits for another run, behind the others. It takes no memory.
+    /// Members leave the run, which are rolled back: each gets a fate where the cause gives it one or its runs are
+    /// over, else it waits for another run, behind the others. It takes no memory.
     pub fn leave(&mut self, leavers: &[Leaver], submitted: &[SubmittedScript], cause: Cause)
         requires room { length self.old.dormant + length self.old.fates + length leavers.now ≤ self.old.known }
         requires within { AllByRecursion (IsWithin submitted.now) leavers.now }
