@@ -1,5 +1,5 @@
-pub mod Begin
 pub mod Advance
+pub mod Begin
 pub mod Closing
 pub mod Finish
 pub mod Joining

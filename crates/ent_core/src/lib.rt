@@ -6,12 +6,11 @@
 //! takes no memory.
 #![tactic(auto)]
 
-mod break_cycle;
+mod advance;
 mod begin;
+mod break_cycle;
 mod closing;
 mod commit;
-mod advance;
-mod closing;
 mod finish;
 mod join_answer;
 mod joining;
