@@ -6,6 +6,9 @@ use Rattle.ent_tree.specs.declared.declaration.Opening.{Opening}
 use Rattle.ent_form.specs.declared.catalogue.TableSchema.{TableSchema}
 use Rattle.ent_protocol.specs.State.{Submitted, Dormant}
 use Rattle.ent_members.specs.Run.{Run}
+use Rattle.ent_roster.specs.Roster.{Roster}
+use Rattle.ent_standing.specs.Attempts.{AsksForRun}
+use Rattle.ent_tables.specs.Stored.{Stored}
 use Rattle.ent_core.specs.Store.{IsKept}
 
 abbrev IsWithin : ℕ → Dormant → Type 0
@@ -42,13 +45,23 @@ distinct_last most (own ∷ more) last all less distinct =
     let before : own.tx < last.tx = omega arith in
     (once_more own.tx more last distinct.0 before, distinct_last most more last all.1 less distinct.1)
 
+asks_last : (submitted : List Submitted) (own : Submitted) → AllByRecursion AsksForRun submitted → AsksForRun own
+    → AllByRecursion AsksForRun (submitted ++ own ∷ [])
+asks_last [] own all asks = (asks, tt)
+asks_last (first ∷ more) own all asks = (all.0, asks_last more own all.1 asks)
+
 -- one script more, and who waits for a run with it
 pub kept_submitted : (schemas : List TableSchema) (opening : Opening) (submitted submitted' : List Submitted)
-    (dormant dormant' : List Dormant) (running : Bool) (run : Run) (own : Submitted) (last : Dormant)
-    → IsKept schemas opening submitted dormant running run
-    → submitted' ≡ submitted ++ own ∷ [] → dormant' ≡ dormant ++ last ∷ [] → last.tx ≡ length submitted + 1
-    → IsKept schemas opening submitted' dormant' running run
-kept_submitted schemas opening submitted submitted' dormant dormant' running run own last kept more now next =
+    (roster roster' : Roster) (running : Bool) (run : Run) (stored : Stored) (own : Submitted) (last : Dormant)
+    → IsKept schemas opening submitted roster running run stored → AsksForRun own
+    → submitted' ≡ submitted ++ own ∷ []
+    → roster' ≡ record roster { dormant = roster.dormant ++ last ∷ []; known = roster.known + 1 }
+    → last.tx ≡ length submitted + 1
+    → IsKept schemas opening submitted' roster' running run stored
+kept_submitted schemas opening submitted submitted' roster roster' running run stored own last kept asks more is next =
+    let dormant = roster.dormant in
+    let now : roster'.dormant ≡ dormant ++ last ∷ [] = ap (λ (r : Roster). r.dormant) is in
+    let counted : roster'.known ≡ roster.known + 1 = ap (λ (r : Roster). r.known) is in
     let n : length submitted' ≡ length submitted + 1 = ap length more ∙ length-append submitted (own ∷ []) in
     let A : List Dormant → Type 0 = λ all. AllByRecursion (λ (one : Dormant). one.tx ≤ length submitted') all in
     let D : List Dormant → Type 0 = λ all. IsDistinct nat_eq (numbers all) in
@@ -57,6 +70,9 @@ kept_submitted schemas opening submitted submitted' dormant dormant' running run
     record {
       declared = kept.declared;
       formed = kept.formed;
+      kinds = kept.kinds;
+      asks = subst (λ all. AllByRecursion AsksForRun all) (sym more) (asks_last submitted own kept.asks asks);
+      known = counted ∙ ap (λ k. k + 1) kept.known ∙ sym n;
       arrived = subst A (sym now) (arrived_last (length submitted') dormant last within (omega arith));
       distinct = subst D (sym now) (distinct_last (length submitted) dormant last kept.arrived (omega arith) kept.distinct);
       idle_prepared = kept.idle_prepared;

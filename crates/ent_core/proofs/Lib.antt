@@ -1,6 +1,5 @@
 pub mod Arrivals
 pub mod Booked
-pub mod ByNumber
 pub mod Keeping
 pub mod Opening
 pub mod Starting

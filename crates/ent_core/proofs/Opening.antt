@@ -11,8 +11,10 @@ use Rattle.ent_form.specs.Catalogue.{schemas_of}
 use Rattle.ent_form.specs.OpeningFault.{opening_fault, unless}
 use Rattle.ent_kinded.specs.Opened.{opening_tables}
 use Rattle.ent_protocol.specs.Reached.{opened, table_names}
-use Rattle.ent_protocol.specs.State.{State, Submitted, Dormant}
+use Rattle.ent_protocol.specs.State.{State, Submitted}
 use Rattle.ent_members.specs.Run.{Run}
+use Rattle.ent_roster.specs.Roster.{Roster}
+use Rattle.ent_tables.specs.Stored.{Stored, kinds_declared}
 use Rattle.ent_core.specs.Store.{IsKept}
 
 -- what an opening's catalogue tells
@@ -21,22 +23,31 @@ pub catalogued : (check : Option FormFault) (schemas tables : List TableSchema) 
 catalogued None schemas tables e = (refl, let same : schemas ≡ tables = cc in sym same)
 catalogued (Some fault) schemas tables e = absurd cc
 
-pub kept_opened_store : (opening : Opening) (schemas : List TableSchema) (submitted : List Submitted) (dormant : List Dormant) (run : Run)
-    → unless (opening_fault opening) (schemas_of opening.tables) ≡ Ok schemas → submitted ≡ [] → dormant ≡ []
-    → run.prepared ≡ [] → run.active ≡ [] → IsKept schemas opening submitted dormant false run
+-- nobody waits for a run, and nobody is finished
+abbrev pub nobody : Roster
+nobody = record { dormant = []; fates = []; known = 0 }
+
+pub kept_opened_store : (opening : Opening) (schemas : List TableSchema) (submitted : List Submitted) (roster : Roster)
+    (run : Run) (stored : Stored)
+    → unless (opening_fault opening) (schemas_of opening.tables) ≡ Ok schemas → submitted ≡ [] → roster ≡ nobody
+    → run.prepared ≡ [] → run.active ≡ [] → stored.kinds ≡ kinds_declared opening.tables
+    → IsKept schemas opening submitted roster false run stored
 unfolding IsDistinct
-kept_opened_store opening schemas submitted dormant run e none nobody no_prepared no_active =
+kept_opened_store opening schemas submitted roster run stored e none empty no_prepared no_active kinds =
     let h = catalogued (opening_fault opening) (schemas_of opening.tables) schemas e in
-    let first : IsKept schemas opening [] [] false run =
+    let first : IsKept schemas opening [] nobody false run stored =
     record {
       declared = h.1;
       formed = h.0;
+      kinds = kinds;
+      asks = tt;
+      known = refl;
       arrived = tt;
       distinct = tt;
       idle_prepared = λ off. no_prepared;
       idle_active = λ off. no_active;
     } in
-    rw (none, nobody) first
+    rw (none, empty) first
 
 -- the tables of an opening stand under their names
 pub tables_opened : (opening : Opening) → opening_tables opening ≡ map (opening_database opening) (table_names opening)

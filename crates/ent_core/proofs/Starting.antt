@@ -9,6 +9,8 @@ use Rattle.ent_protocol.specs.Event.{Reply, Started}
 use Rattle.ent_protocol.specs.Job.{Asking}
 use Rattle.ent_protocol.specs.Run.{Starts, StartsWith, fresh, numbers_of, starting}
 use Rattle.ent_protocol.specs.State.{State, Submitted, Dormant, Member, by_number}
+use Rattle.ent_roster.specs.Roster.{Roster}
+use Rattle.ent_tables.specs.Stored.{Stored}
 use Rattle.ent_core.specs.Store.{IsKept}
 
 abbrev numbers : List Dormant → List ℕ
@@ -44,17 +46,23 @@ all_dropped P (suc n) [] all = tt
 all_dropped P (suc n) (own ∷ more) all = all_dropped P n more all.1
 
 pub kept_started : (schemas : List TableSchema) (opening : Opening) (submitted : List Submitted)
-    (dormant dormant' : List Dormant) (running : Bool) (run run' : Run) (n : ℕ)
-    → IsKept schemas opening submitted dormant running run → dormant' ≡ drop n dormant
-    → IsKept schemas opening submitted dormant' true run'
-kept_started schemas opening submitted dormant dormant' running run run' n kept now =
+    (roster roster' : Roster) (running : Bool) (run run' : Run) (stored : Stored) (n : ℕ)
+    → IsKept schemas opening submitted roster running run stored
+    → roster' ≡ record roster { dormant = drop n roster.dormant }
+    → IsKept schemas opening submitted roster' true run' stored
+kept_started schemas opening submitted roster roster' running run run' stored n kept now =
+    let dormant = roster.dormant in
+    let left : roster'.dormant ≡ drop n dormant = ap (λ (r : Roster). r.dormant) now in
     let A : List Dormant → Type 0 = λ all. AllByRecursion (λ (one : Dormant). one.tx ≤ length submitted) all in
     let D : List Dormant → Type 0 = λ all. IsDistinct nat_eq (numbers all) in
     record {
       declared = kept.declared;
       formed = kept.formed;
-      arrived = subst A (sym now) (all_dropped (λ (one : Dormant). one.tx ≤ length submitted) n dormant kept.arrived);
-      distinct = subst D (sym now) (distinct_dropped n dormant kept.distinct);
+      kinds = kept.kinds;
+      asks = kept.asks;
+      known = ap (λ (r : Roster). r.known) now ∙ kept.known;
+      arrived = subst A (sym left) (all_dropped (λ (one : Dormant). one.tx ≤ length submitted) n dormant kept.arrived);
+      distinct = subst D (sym left) (distinct_dropped n dormant kept.distinct);
       idle_prepared = λ off. absurd (different off);
       idle_active = λ off. absurd (different off);
     }

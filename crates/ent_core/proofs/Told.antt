@@ -1,5 +1,5 @@
 -- What is told of tables and of members.
-use Rattle.std.proofs.Common.{◌≡◌, ◌<◌, ◌≤◌, length, get_or, arith, ℕ, zero, suc, true, false, cond, List, [], ◌∷◌, map, refl, sym, ap, ◌∙◌, Option, Some, None, slice_get}
+use Rattle.std.proofs.Common.{◌≡◌, ℕ, suc, true, false, cond, List, [], ◌∷◌, map, refl, sym, ap, ◌∙◌, Option, Some, None, slice_get}
 use Rattle.std.specs.Option.{option_map}
 use Rattle.ent_semantics.specs.Database.{Name, Rows, same_name}
 use Rattle.ent_closed.specs.Form.{Tables}
@@ -48,19 +48,6 @@ found_under (schema ∷ more) (rows ∷ tables) name =
       | false ↦ ap (rows_found (rows ∷ tables)) (shifted 0 more name) ∙ behind rows tables (table_from 0 more name)
           ∙ found_under more tables name
     ]
-
--- what stands at a place, seen by f and then by g
-pub at_place : {A B C : Type 0} (f : A → B) (g : B → C) (xs : List A) (k : ℕ) (x : A) → k < length xs → x ≡ get_or xs k x
-    → slice_get (map g (map f xs)) k ≡ Some (g (f x))
-at_place f g [] k x less is = absurd (omega arith)
-at_place f g (y ∷ ys) zero x less is = sym (ap (λ z. Some (g (f z))) is)
-at_place f g (y ∷ ys) (suc k) x less is = at_place f g ys k x (omega arith) is
-
-pub past_all : {A B C : Type 0} (f : A → B) (g : B → C) (xs : List A) (k : ℕ) → length xs ≤ k
-    → slice_get (map g (map f xs)) k ≡ None
-past_all f g [] k past = refl
-past_all f g (y ∷ ys) zero past = absurd (omega arith)
-past_all f g (y ∷ ys) (suc k) past = past_all f g ys k (omega arith)
 
 -- ---- members
 

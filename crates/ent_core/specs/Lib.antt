@@ -1,5 +1,4 @@
 pub mod Closing
-pub mod Fates
 pub mod Kept
 pub mod Reply
 pub mod Standing

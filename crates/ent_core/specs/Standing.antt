@@ -1,15 +1,9 @@
 -- Where transactions stand, in the words of the protocol.
-use Rattle.ent_protocol.specs.Lookup.{Standing, Turn}
+use Rattle.ent_next.specs.Next.{turn_seen}
+use Rattle.ent_protocol.specs.Lookup.{Standing}
 use Rattle.ent_protocol.specs.Lookup as lookups
 use Rattle.ent_core.specs.declared.standing.Standing.{Standing as Told}
 use Rattle.ent_core.specs.declared.standing.Standing.TheVariants as told
-use Rattle.ent_core.specs.declared.standing.Turn.{Turn as NextTurn}
-use Rattle.ent_core.specs.declared.standing.Turn.TheVariants as turns
-
-abbrev pub turn_seen : NextTurn → Turn
-turn_seen turns.Statement = lookups.Statement
-turn_seen turns.Commit = lookups.Commit
-turn_seen turns.Rollback = lookups.Rollback
 
 abbrev pub standing_seen : Told → Standing
 standing_seen (told.Dormant runs) = lookups.Dormant runs

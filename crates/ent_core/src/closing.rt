@@ -3,17 +3,16 @@ ghost use Rattle.std.specs.Prelude.{◌≡◌, ◌↔◌, ◌≤◌, [], IfOk, I
 ghost use Rattle.std.specs.Arc.{arc_value};
 ghost use Rattle.ent_book.specs.Tables.{book_seen, tables_database};
 ghost use Rattle.ent_core.specs.Closing.{book_at_rest};
-ghost use Rattle.ent_core.specs.Store.{rows_in};
+ghost use Rattle.ent_select.specs.Tables.{rows_in};
 ghost use Rattle.ent_form.specs.Catalogue.{names_of};
 ghost use Rattle.ent_protocol.specs.Reached.{CanClose, named_tables, table_names};
 ghost use Rattle.ent_protocol.specs.State.{by_number};
 
-use crate::fates::fates_by_number;
 use crate::reached::Core;
 use crate::store::Store;
-use crate::submitted::SubmittedScript;
 use ent_book::NamedTable;
 use ent_form::Catalogue;
+use ent_next::SubmittedScript;
 use ent_rel::Table;
 use ent_semantics::{Book, Fated};
 use ent_tree::Script;
@@ -44,7 +43,7 @@ pub(crate) struct BookParts {
 pub(crate) fn can_close(store: &Store) -> bool
     ensures { IsTrue result ↔ CanClose store.now }
 {
-    !store.running && store.dormant.is_empty()
+    !store.running && store.roster.dormant().is_empty()
 }
 
 /// Tables under the names of the catalogue; none is copied row by row.
@@ -77,7 +76,7 @@ pub(crate) fn book_parts(store: &Store) -> Result<BookParts, AllocError>
     ensures scripts { IfOk result (λ parts. parts.scripts.items ≡ []) }
     ensures room { IfOk result (λ parts. length store.now.submitted ≤ vec_capacity parts.scripts) }
 {
-    let fates = fates_by_number(store.alloc, store.fates.as_slice())?;
+    let fates = store.roster.fates_by_number(store.alloc)?;
     let database = named(store.alloc, &store.catalogue, store.tables.as_slice())?;
     let scripts = Vec::with_capacity(store.alloc, store.submitted.len())?;
     Ok(BookParts {

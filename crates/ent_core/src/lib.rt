@@ -7,7 +7,6 @@
 #![tactic(auto)]
 
 mod closing;
-mod fates;
 mod lookup;
 mod open;
 mod reached;
@@ -17,9 +16,8 @@ mod standing;
 mod start_run;
 mod store;
 mod submit;
-mod submitted;
 
 pub use closing::{NotClosed, NotDone};
 pub use reached::Core;
 pub use reply::Reply;
-pub use standing::{Standing, Turn};
+pub use standing::Standing;

@@ -26,7 +26,7 @@ pub(crate) fn numbered<T>(list: &[T], number: usize) -> Option<&T>
 pub(crate) fn dormant(store: &Store, place: usize) -> Option<&Entrant>
     ensures { option_copied result ≡ dormant_at store.now place }
 {
-    numbered(store.dormant.as_slice(), place)
+    numbered(store.roster.dormant(), place)
 }
 
 /// The journal's entry of a number, from 1.
@@ -41,10 +41,7 @@ pub(crate) fn table<'a>(store: &'a Store, name: &Name) -> Option<&'a Table>
     ensures { option_map (λ table. table.now.rows) result ≡ present_rows store.now name.now }
 {
     match store.catalogue.table_named(name) {
-        Some((number, _)) => match store.tables.get(number) {
-            Some(table) => Some(&**table),
-            None => None,
-        },
+        Some((number, _)) => store.tables.table(number),
         None => None,
     }
 }

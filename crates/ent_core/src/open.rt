@@ -6,10 +6,11 @@ ghost use Rattle.ent_protocol.specs.Reached.{opened};
 
 use crate::store::Store;
 use ent_form::{Catalogue, FormFault};
-use ent_loading::load_tables;
+use ent_lent::LentJobs;
 use ent_members::Run;
+use ent_roster::Roster;
+use ent_tables::StoredTables;
 use ent_tree::Opening;
-use ent_undo::UndoLog;
 use ent_value::Refusal;
 use std::alloc::Global;
 
@@ -18,21 +19,19 @@ pub(crate) fn open(alloc: Global, opening: Opening) -> Result<Store, Refusal<For
     ensures { Gives (λ store. store) result (unless (opening_fault opening) (opened opening)) }
 {
     let catalogue = Catalogue::of(alloc, &opening)?;
-    let tables = load_tables(alloc, &catalogue, &opening)?;
+    let tables = StoredTables::open(alloc, &catalogue, &opening)?;
     Ok(Store {
         alloc,
         opening,
         catalogue,
         submitted: Vec::new(alloc),
-        dormant: Vec::new(alloc),
+        roster: Roster::new(alloc),
         running: false,
         run: Run::new(alloc),
         joints: Vec::new(alloc),
-        tables,
-        log: UndoLog::new(alloc),
-        journal: Vec::new(alloc),
-        fates: Vec::new(alloc),
         tried: Vec::new(alloc),
-        lent: Vec::new(alloc),
+        lent: LentJobs::new(alloc),
+        tables,
+        journal: Vec::new(alloc),
     })
 }

@@ -1,7 +1,23 @@
 //! What a core replies to an event.
+use ent_eval::{Done, Job};
 use ent_form::FormFault;
-use ent_group::Members;
+use ent_group::{Members, Tx};
+use ent_match::Unsafe;
+use ent_semantics::{Answer, Failure};
 use ent_tree::Script;
+
+/// Why a run can't end yet: the first of these that holds, and the least transaction of which it does.
+#[derive(Debug, Drop)]
+pub enum Reason {
+    /// A job of the transaction is out.
+    JobOut(Tx),
+    /// The transaction would get another reply to a begin than that it is blocked or held back.
+    CanBegin(Tx),
+    /// A component that begins with the transaction wasn't tried.
+    Untried(Tx),
+    /// These wait for each other, each for the next, and the last for the first.
+    Cycle(Members),
+}
 
 /// What a core replies to an event. After a refusal the core is as it was, and what was handed in comes back.
 #[derive(Drop)]
@@ -10,12 +26,47 @@ pub enum Reply {
     Submitted(u64),
     /// The members of the run that starts, by number.
     Started(Members),
+    /// The least member that holds a use in conflict with one of those that are asked for.
+    Blocked(Tx),
+    /// A job, whose result is to come back.
+    Lent(Job),
+    /// The statement isn't posted, since a post of the pool would have heads of two statements.
+    HeldBack(Unsafe),
+    /// The statement is in the pool.
+    Posted,
+    /// The member waits for the others of its group.
+    Prepared,
+    /// The group committed: these members, in order of preparing, the first of them with this number in the journal
+    /// and the others with the next ones.
+    Committed { first: u64, members: Members },
+    /// The group is rolled back: these members, by number.
+    RolledBack(Members),
+    /// The answer of the statement; its member is at the next one.
+    Stepped(Answer),
+    /// The statement can't be carried out; the group, these members by number, is rolled back.
+    Failed(Failure, Members),
+    /// No component is there to be picked.
+    Nothing,
+    /// The members of the joint job have their answers.
+    Answered,
+    /// The statements of the joint job have no coordinating choice.
+    NoChoice,
+    /// A deadlock, and the group of its first member, by number, which is rolled back.
+    Broken(Members, Members),
+    /// There is no deadlock.
+    NoCycle,
+    /// The run ended; these were its members, by number.
+    Ended(Members),
     /// No job is lent any more.
     Recalled,
     /// It is not there: no such member of the run, or no transaction for a run.
     Absent,
     /// Not at this time.
     NotNow,
+    /// The result isn't of a job that is lent, or its statements are no component now.
+    Stale(Done),
+    /// The run can't end yet.
+    Busy(Reason),
     /// As many scripts as there may be were submitted before.
     Full(Script),
     /// The script has a fault of form, its first.

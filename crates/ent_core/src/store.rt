@@ -1,16 +1,16 @@
 //! What a core holds.
-use crate::submitted::SubmittedScript;
-use ent_eval::{Asking, Job};
+use ent_eval::Asking;
 use ent_form::Catalogue;
-use ent_members::{Entrant, Run};
-use ent_rel::Table;
-use ent_semantics::{Entry, Fated, JointAnswer};
+use ent_lent::LentJobs;
+use ent_members::Run;
+use ent_next::SubmittedScript;
+use ent_roster::Roster;
+use ent_semantics::{Entry, JointAnswer};
+use ent_tables::StoredTables;
 use ent_tree::Opening;
-use ent_undo::UndoLog;
 use ent_value::Sequence;
 use std::alloc::Global;
 use std::marker::Model;
-use std::sync::Arc;
 
 /// The parts of a core. Contracts see the protocol's state.
 #[derive(Drop)]
@@ -19,26 +19,22 @@ pub(crate) struct Store {
     pub(crate) opening: Opening,
     pub(crate) catalogue: Catalogue,
     pub(crate) submitted: Vec<SubmittedScript>,
-    /// In order of arrival.
-    pub(crate) dormant: Vec<Entrant>,
+    /// Who waits for a run, in order of arrival, and who is finished.
+    pub(crate) roster: Roster,
     pub(crate) running: bool,
     pub(crate) run: Run,
     pub(crate) joints: Vec<JointAnswer>,
     pub(crate) tried: Vec<Sequence<Asking>>,
-    pub(crate) lent: Vec<Job>,
-    pub(crate) tables: Vec<Arc<Table>>,
-    pub(crate) log: UndoLog,
+    pub(crate) lent: LentJobs,
+    pub(crate) tables: StoredTables,
     pub(crate) journal: Vec<Entry>,
-    pub(crate) fates: Vec<Fated>,
 }
 
 impl Model for Store {
-    ghost use Rattle.std.specs.Prelude.{map};
-    ghost use Rattle.std.specs.Arc.{arc_value};
     ghost use Rattle.std.specs.Coded.{codes};
     ghost use Rattle.ent_rel.specs.Relation.{coded_rows};
     ghost use Rattle.ent_protocol.specs.State.{State};
-    ghost use Rattle.ent_core.specs.Store.{IsKept, changes_seen, rows_in};
+    ghost use Rattle.ent_core.specs.Store.{IsKept};
 
     ghost Value = { State };
 
@@ -47,19 +43,19 @@ impl Model for Store {
     ghost view = { λ s. record {
       opening = s.opening;
       submitted = s.submitted.items;
-      dormant = s.dormant.items;
+      dormant = s.roster.dormant;
       running = s.running;
       prepared = s.run.prepared;
       active = s.run.active;
       joints = s.joints.items;
       tried = s.tried.items;
-      lent = s.lent.items;
-      tables = rows_in (map arc_value s.tables.items);
-      changes = changes_seen s.log;
+      lent = s.lent;
+      tables = s.tables.tables;
+      changes = s.tables.changes;
       journal = s.journal.items;
-      fates = s.fates.items;
+      fates = s.roster.fates;
     } };
 
     ghost invariant = { λ s.
-        IsKept s.catalogue.tables s.opening s.submitted.items s.dormant.items s.running s.run };
+        IsKept s.catalogue.tables s.opening s.submitted.items s.roster s.running s.run s.tables };
 }

@@ -8,10 +8,9 @@ ghost use Rattle.ent_protocol.specs.Run.{Submits};
 
 use crate::reply::Reply;
 use crate::store::Store;
-use crate::submitted::SubmittedScript;
 use ent_closed::{Known, Statement};
 use ent_form::{Catalogue, FormFault, resolve};
-use ent_members::Entrant;
+use ent_next::SubmittedScript;
 use ent_tree::{MOST_SCRIPTS, MOST_STATEMENTS, Opening, Script};
 use ent_value::{Limited, Refusal};
 use std::alloc::{AllocFailed, Global};
@@ -45,13 +44,12 @@ pub(crate) fn submit(store: &mut Store, script: Script) -> Result<Reply, AllocFa
         Err(Refusal::Fault(fault)) => return Ok(Reply::Faulty(script, fault)),
         Err(Refusal::Memory) => return Err(AllocFailed { value: script }),
     };
-    if store.submitted.reserve(1).is_err() || store.dormant.reserve(1).is_err() {
+    let tx = before as u64 + 1;
+    if store.submitted.reserve(1).is_err() || store.roster.admit(tx).is_err() {
         return Err(AllocFailed { value: script });
     }
-    let tx = before as u64 + 1;
-    store
-        .submitted
-        .push_reserved(SubmittedScript::new(script, form));
-    store.dormant.push_reserved(Entrant::new(tx, 0));
+    let own = SubmittedScript::new(script, form);
+    let _asked = own.within();
+    store.submitted.push_reserved(own);
     Ok(Reply::Submitted(tx))
 }
