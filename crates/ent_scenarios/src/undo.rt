@@ -53,9 +53,9 @@ pub(crate) fn reply(
             let Tables { tables, log } = tables;
             log.roll_back(members.as_slice(), tables.as_mut_slice());
         }
-        ["roll_back_one", tx] => {
+        ["take_back"] => {
             let Tables { tables, log } = tables;
-            log.roll_back_one(tx.parse::<u64>()?, tables.as_mut_slice());
+            log.take_back(tables.as_mut_slice());
         }
         ["forget", members @ ..] => {
             let members = numbers(alloc, members)?;

@@ -141,7 +141,7 @@ impl Tables {
         ensures tables { self.new ≡ rolled_back (tx ∷ []) log.old self.old }
         ensures log { log.new ≡ of_others (tx ∷ []) log.old }
     {
-        log.roll_back_one(tx, self.tables.as_mut_slice());
+        log.roll_back(&[tx], self.tables.as_mut_slice());
     }
 }
 

@@ -40,9 +40,12 @@ fn within_at(end: usize, tokens: &[Token]) -> Result<(Runs, &[Token]), Refusal<G
 {
     if begins_with_word(Keyword::Within, tokens) {
         let (_, rest) = word_at(Keyword::Within, end, tokens)?;
-        let (runs, rest) = runs_at(end, rest)?;
+        let ((runs, _), rest) = match runs_at(end, rest) {
+            Ok(read) => read,
+            Err(refusal) => return Err(refusal),
+        };
         let (_, rest) = word_at(Keyword::Runs, end, rest)?;
-        Ok((runs.0, rest))
+        Ok((runs, rest))
     } else {
         Ok((Runs::new(DEFAULT_RUNS), tokens))
     }

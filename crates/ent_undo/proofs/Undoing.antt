@@ -1,11 +1,12 @@
 -- One record put back, from the newest on.
-use Rattle.std.proofs.Common.{◌≡◌, ℕ, ◌+◌, ◌<◌, ◌≤◌, ◌==◌, ◌&&◌, Bool, true, false, cond, not, List, [], ◌∷◌, length, set, get_or, take, drop, map, refl, sym, ap, ◌∙◌, arith, Option, Some, None}
+use Rattle.std.proofs.Common.{◌≡◌, ℕ, ◌+◌, ◌<◌, ◌≤◌, ◌==◌, ◌&&◌, Bool, true, false, cond, not, List, [], ◌∷◌, length, set, get_or, take, drop, map, filter, refl, sym, ap, ◌∙◌, arith, Option, Some, None}
 use Rattle.std.specs.List.{slice_get, enumerate_from, find}
 use Rattle.std.specs.Option.{option_map, option_map_or}
 use Rattle.std.specs.Arc.{arc_value}
 use Rattle.std.proofs.lemmas.List.{drop_more, get_or-take, get_or-map, take-take, take-set, map-set}
 use Rattle.ent_rel.specs.Relation.{Relation}
-use Rattle.ent_undo.specs.Change.{Change, is_among, is_of, is_of_others, of_others, is_change_of, before_first_change, rolled_back}
+use Rattle.ent_undo.specs.Change.{Change, is_among, is_of, is_of_others, of_others, is_change_of, before_first_change, put_back, rolled_back}
+use Rattle.ent_undo.specs.Writes.{RollsBackNewestFirst}
 use Rattle.ent_undo.specs.Records.{change_of, changes_in}
 use Rattle.ent_undo.specs.declared.undo_log.UndoRecord.{UndoRecord}
 use Rattle.ent_undo.proofs.Lists.{same_places, slice_get-set, slice_get-enumerate, filter-set}
@@ -56,6 +57,15 @@ rolled_back-none_from members n (t ∷ tables) = ap (λ ts. t ∷ ts) (rolled_ba
 
 pub rolled_back-none : (members : List ℕ) (tables : List Relation) → rolled_back members [] tables ≡ tables
 rolled_back-none members tables = rolled_back-none_from members 0 tables
+
+pub newest_first : RollsBackNewestFirst
+newest_first members [] tables = rolled_back-none members tables
+newest_first members (c ∷ log) tables = by (is_of members c) refl (newest_first members log tables)
+  where
+    by : (b : Bool) → is_of members c ≡ b → rolled_back members log tables ≡ put_back (filter (is_of members) log) tables
+        → rolled_back members (c ∷ log) tables ≡ put_back (cond b (c ∷ filter (is_of members) log) (filter (is_of members) log)) tables
+    by true mine rest = rolled_back-older members c log tables mine ∙ ap (λ ts. set ts c.table c.before) rest
+    by false other rest = rolled_back-other members c log tables other ∙ rest
 
 module _ (members : List ℕ) (records now : List UndoRecord) (left j : ℕ) (r : UndoRecord) (above : left ≡ j + 1) (len : length now ≡ length records) (within : left ≤ length records)
     (rest : take left now ≡ take left records) (at : r ≡ get_or now j r) where

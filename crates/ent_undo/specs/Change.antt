@@ -1,5 +1,5 @@
 -- Tables as they stood before transactions changed them, and what a rollback makes of them.
-use Rattle.std.specs.Prelude.{ℕ, ◌==◌, ◌&&◌, Bool, not, List, map, filter, find, refl}
+use Rattle.std.specs.Prelude.{ℕ, ◌==◌, ◌&&◌, Bool, not, List, [], ◌∷◌, map, filter, find, slice_set, refl}
 use Rattle.std.specs.List.{list_any, enumerate_from}
 use Rattle.std.specs.Option.{option_map_or}
 use Rattle.std.specs.Coded.{Coded, code_by, coded×, coded_ℕ, coded_list}
@@ -37,6 +37,11 @@ before_first_change members changes table present =
 -- each of the tables as it stood before the first of these transactions' changes of it
 abbrev pub rolled_back : List ℕ → List Change → List Relation → List Relation
 rolled_back members changes tables = map (λ p. before_first_change members changes p.0 p.1) (enumerate_from 0 tables)
+
+-- changes put back one after the other, the newest first
+abbrev pub put_back : List Change → List Relation → List Relation
+put_back [] tables = tables
+put_back (change ∷ later) tables = slice_set (put_back later tables) change.table change.before
 
 -- how changes are stored as numbers
 abbrev pub coded_changes : Coded (List Change)

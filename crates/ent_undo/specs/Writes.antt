@@ -4,7 +4,7 @@ use Rattle.std.specs.Prelude.{IsFalse}
 use Rattle.std.specs.List.{slice_get}
 use Rattle.std.specs.Option.{option_map}
 use Rattle.ent_rel.specs.Relation.{Relation}
-use Rattle.ent_undo.specs.Change.{Change, is_among, is_of, of_others, before_first_change, rolled_back}
+use Rattle.ent_undo.specs.Change.{Change, is_among, is_of, of_others, before_first_change, put_back, rolled_back}
 
 -- the table that stands at each index
 abbrev pub Tables : Type 0
@@ -55,6 +55,11 @@ abbrev pub RollsBackEach : Type 0
 RollsBackEach = (members : List ℕ) (log : List Change) (tables : List Relation) (table : ℕ)
     → slice_get (rolled_back members log tables) table
     ≡ option_map (before_first_change members log table) (slice_get tables table)
+
+-- A rollback puts the changes of these transactions back, the newest first.
+abbrev pub RollsBackNewestFirst : Type 0
+RollsBackNewestFirst = (members : List ℕ) (log : List Change) (tables : List Relation)
+    → rolled_back members log tables ≡ put_back (filter (is_of members) log) tables
 
 -- A table that one of these transactions wrote is rolled back to what stood before the first of their writes of it.
 abbrev pub RollsBackToFirstWrite : Type 0

@@ -1,5 +1,6 @@
 //! What the log tells of the writes that were noted in it.
-ghost use Rattle.ent_undo.specs.Writes.{RollsBackEach, RollsBackToFirstWrite, KeepsOtherTables, UndoesWrites};
+ghost use Rattle.ent_undo.specs.Writes.{RollsBackEach, RollsBackNewestFirst, RollsBackToFirstWrite};
+ghost use Rattle.ent_undo.specs.Writes.{KeepsOtherTables, UndoesWrites};
 ghost use Rattle.ent_undo.specs.Writes.{TellsOnceNoted, TellsOnceForgotten, TellsOnceRolledBack};
 
 /// What a rollback gives, in terms of the writes of a history, where each write of the transactions was noted with
@@ -15,4 +16,10 @@ pub fn log_tells_of_writes()
     ensures noted { TellsOnceNoted }
     ensures forgotten { TellsOnceForgotten }
     ensures rolled_back { TellsOnceRolledBack }
+{}
+
+/// What a rollback gives is what comes of putting the noted tables of the transactions back one after the other, the
+/// newest first.
+pub fn rollback_goes_newest_first()
+    ensures { RollsBackNewestFirst }
 {}

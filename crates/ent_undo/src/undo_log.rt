@@ -1,7 +1,7 @@
 //! The log of the tables that transactions changed, each as it stood before.
-ghost use Rattle.std.specs.Prelude.{◌≡◌, [], ◌∷◌, ◌++◌, map, filter, OnOk, OnErr, IfErr, slice_set};
+ghost use Rattle.std.specs.Prelude.{◌≡◌, List, [], ◌∷◌, ◌++◌, map, filter, OnOk, OnErr, IfErr, slice_set};
 ghost use Rattle.std.specs.Arc.{arc_value};
-ghost use Rattle.ent_undo.specs.Change.{of_others, rolled_back};
+ghost use Rattle.ent_undo.specs.Change.{Change, of_others, rolled_back};
 ghost use Rattle.ent_undo.specs.Records.{changes_in, is_record_of_others};
 
 use ent_rel::Table;
@@ -118,12 +118,19 @@ impl UndoLog {
         self.forget(members);
     }
 
-    /// Takes back all changes of one transaction, as [`roll_back`](UndoLog::roll_back) does.
-    pub fn roll_back_one(&mut self, tx: u64, tables: &mut [Arc<Table>])
-        ensures tables { map arc_value tables.new ≡ rolled_back (tx ∷ []) self.old (map arc_value tables.old) }
-        ensures log { self.new ≡ of_others (tx ∷ []) self.old }
+    /// Takes back the newest change alone: its table stands again as it was noted, and the change is not noted any
+    /// more. Where none is noted all stays. It takes no memory. A record whose index is not below the number of tables
+    /// puts nothing back.
+    pub fn take_back(&mut self, tables: &mut [Arc<Table>])
+        ensures none { self.old ≡ [] → (self.new ≡ []) × (map arc_value tables.new ≡ map arc_value tables.old) }
+        ensures log { (earlier : List Change) (newest : Change) → self.old ≡ earlier ++ newest ∷ []
+            → self.new ≡ earlier }
+        ensures tables { (earlier : List Change) (newest : Change) → self.old ≡ earlier ++ newest ∷ []
+            → map arc_value tables.new ≡ slice_set (map arc_value tables.old) newest.table newest.before }
     {
-        self.roll_back(&[tx], tables);
+        if let Some(mut undo) = self.records.pop() {
+            exchange(&mut undo, tables);
+        }
     }
 
     /// Takes the records of some transactions out, whose changes are to stay. It takes no memory.

@@ -1,0 +1,50 @@
+//! Posted statements.
+ghost use Rattle.std.specs.Prelude.{◌≡◌, ◌++◌, false, All, IfOk, OnOk, IsOk};
+ghost use Rattle.ent_protocol.specs.Member.{asking_of, askings};
+ghost use Rattle.ent_protocol.specs.State.{State};
+
+use crate::next::{Next, next_of};
+use crate::submitted::SubmittedScript;
+use ent_eval::Asking;
+use ent_members::Member;
+use ent_value::Sequence;
+use std::alloc::{AllocError, Global};
+
+/// Puts a member's statement at the end, where it is posted.
+fn push_posted(
+    alloc: Global,
+    submitted: &[SubmittedScript],
+    member: &Member,
+    askings: &mut Sequence<Asking>,
+) -> Result<(), AllocError>
+    ensures pushed { (s : State) → s.submitted ≡ submitted.now
+        → OnOk result (askings.new ≡ askings.old ++ asking_of s member.now) }
+    ensures idle { member.now.posted ≡ false → IsOk result }
+{
+    if !member.is_posted() {
+        return Ok(());
+    }
+    if let Next::Asks(statement) = next_of(alloc, submitted, member)? {
+        let place = member.place() as u64;
+        askings.push(Asking::new(member.tx(), member.attempt(), place, statement))?;
+    }
+    Ok(())
+}
+
+/// The statements that members posted, in the order of the members: those in the pool of each state with these scripts
+/// and these members that aren't prepared. It takes no memory where nobody posted.
+pub fn askings(
+    alloc: Global,
+    submitted: &[SubmittedScript],
+    active: &[Member],
+) -> Result<Sequence<Asking>, AllocError>
+    ensures askings { (s : State) → s.submitted ≡ submitted.now → s.active ≡ active.now
+        → IfOk result (λ made. made ≡ askings s) }
+    ensures idle { All (λ member. member.posted ≡ false) active.now → IsOk result }
+{
+    let mut askings = Sequence::new(alloc);
+    for member in active {
+        push_posted(alloc, submitted, member, &mut askings)?;
+    }
+    Ok(askings)
+}

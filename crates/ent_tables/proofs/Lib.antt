@@ -1,0 +1,5 @@
+pub mod Places
+pub mod Notes
+pub mod Changing
+pub mod Leaving
+pub mod Opening

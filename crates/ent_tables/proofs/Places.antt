@@ -1,0 +1,71 @@
+-- Elements at their places.
+use Rattle.std.proofs.Common.{◌≡◌, ◌<◌, ◌≤◌, ℕ, zero, suc, List, [], ◌∷◌, length, map, set, get_or, refl, sym, ap, ◌∙◌, arith, Some, None}
+use Rattle.std.specs.Prelude.{slice_get, slice_index_or}
+use Rattle.std.specs.List.{AllByRecursion}
+use Rattle.ent_set.specs.Sets as set
+use Rattle.ent_tree.specs.declared.declaration.Create.{Create}
+use Rattle.ent_rel.specs.Relation.{Relation}
+use Rattle.ent_select.specs.Tables.{kinds_in, rows_in}
+use Rattle.ent_protocol.specs.Member.{declared_kinds, seen_now}
+use Rattle.ent_protocol.specs.State.{Use}
+use Rattle.ent_tables.specs.AtNumber.{no_table, seen_at, seen_in}
+use Rattle.ent_tables.specs.Stored.{kinds_declared}
+
+-- a place of a list, seen by f
+pub map_at : {A B : Type 0} (f : A → B) (xs : List A) (i : ℕ) (x : A) (d : B) → i < length xs → x ≡ get_or xs i x
+    → slice_index_or (map f xs) i d ≡ f x
+map_at f [] i x d lt is = absurd (omega arith)
+map_at f (y ∷ xs) zero x d lt is = ap f (sym is)
+map_at f (y ∷ xs) (suc i) x d lt is = map_at f xs i x d (omega arith) is
+
+-- what stands at a place, or in its stead, seen by f
+pub index_map : {A B : Type 0} (f : A → B) (xs : List A) (i : ℕ) (d : A) → slice_index_or (map f xs) i (f d) ≡ f (slice_index_or xs i d)
+index_map f [] i d = refl
+index_map f (x ∷ xs) zero d = refl
+index_map f (x ∷ xs) (suc i) d = index_map f xs i d
+
+-- a place that is there, seen by f and then by g
+pub there_at : {A B C : Type 0} (f : A → B) (g : B → C) (xs : List A) (i : ℕ) (x : A) → i < length xs → x ≡ get_or xs i x
+    → Some (g (f x)) ≡ slice_get (map g (map f xs)) i
+there_at f g [] i x lt is = absurd (omega arith)
+there_at f g (y ∷ xs) zero x lt is = ap (λ z. Some (g (f z))) is
+there_at f g (y ∷ xs) (suc i) x lt is = there_at f g xs i x (omega arith) is
+
+pub past_all : {A B C : Type 0} (f : A → B) (g : B → C) (xs : List A) (i : ℕ) → length xs ≤ i → None ≡ slice_get (map g (map f xs)) i
+past_all f g [] i past = refl
+past_all f g (y ∷ xs) zero past = absurd (omega arith)
+past_all f g (y ∷ xs) (suc i) past = past_all f g xs i (omega arith)
+
+-- a place below the length has what stands there
+pub get_there : {A B : Type 0} (f : A → B) (xs : List A) (i : ℕ) (d : A) → i < length xs → slice_get (map f xs) i ≡ Some (f (slice_index_or xs i d))
+get_there f [] i d lt = absurd (omega arith)
+get_there f (x ∷ xs) zero d lt = refl
+get_there f (x ∷ xs) (suc i) d lt = get_there f xs i d (omega arith)
+
+-- a place that is written with what stands there
+pub set_there : {A : Type 0} (xs : List A) (i : ℕ) (x : A) → slice_get xs i ≡ Some x → set xs i x ≡ xs
+set_there [] i x is = refl
+set_there (y ∷ xs) zero x is = let e : y ≡ x = cc in ap (λ z. z ∷ xs) (sym e)
+set_there (y ∷ xs) (suc i) x is = ap (λ zs. y ∷ zs) (set_there xs i x is)
+
+pub all_at : {A : Type 0} (P : A → Type 0) (xs : List A) (i : ℕ) (x : A) → AllByRecursion P xs → i < length xs → x ≡ get_or xs i x → P x
+all_at P [] i x all lt is = absurd (omega arith)
+all_at P (y ∷ xs) zero x all lt is = rw is all.0
+all_at P (y ∷ xs) (suc i) x all lt is = all_at P xs i x all.1 (omega arith) is
+
+-- ---- tables as uses name them
+
+pub seen_is : (declared : List Create) (tables : List Relation) (uses : List Use) → kinds_declared declared ≡ kinds_in tables
+    → seen_in tables uses ≡ seen_now declared (rows_in tables) uses
+seen_is declared tables [] is = refl
+seen_is declared tables (own ∷ uses) is =
+    let kinds : (slice_index_or tables own.table no_table).kinds ≡ declared_kinds declared own.table =
+    sym (index_map (λ (t : Relation). t.kinds) tables own.table no_table) ∙ ap (λ all. slice_index_or all own.table []) (sym is) in
+    let rows = sym (index_map (λ (t : Relation). t.rows) tables own.table no_table) in
+    let first : seen_at tables own.table ≡ record {
+      table = own.table;
+      kinds = declared_kinds declared own.table;
+      rows = slice_index_or (rows_in tables) own.table set.empty;
+    } = λ i. record { table = own.table; kinds = kinds i; rows = rows i } in
+    let rest = seen_is declared tables uses is in
+    λ i. first i ∷ rest i

@@ -1,0 +1,21 @@
+-- Tables under their numbers.
+use Rattle.std.specs.Prelude.{ℕ, List, [], map, slice_index_or}
+use Rattle.ent_set.specs.Sets as set
+use Rattle.ent_rel.specs.Relation.{Relation}
+use Rattle.ent_protocol.specs.Job.{Seen}
+use Rattle.ent_protocol.specs.State.{Use}
+
+-- what stands for a table that isn't there
+abbrev pub no_table : Relation
+no_table = record { kinds = []; rows = set.empty }
+
+abbrev pub seen_of : ℕ → Relation → Seen
+seen_of number table = record { table = number; kinds = table.kinds; rows = table.rows }
+
+-- the table of a number
+abbrev pub seen_at : List Relation → ℕ → Seen
+seen_at tables number = seen_of number (slice_index_or tables number no_table)
+
+-- the tables of some uses
+abbrev pub seen_in : List Relation → List Use → List Seen
+seen_in tables uses = map (λ own. seen_at tables own.table) uses

@@ -1,0 +1,70 @@
+//! Tables under their numbers.
+ghost use Rattle.std.specs.Prelude.{◌≡◌, ◌<◌, [], IfOk, length, map, slice_index_or};
+ghost use Rattle.std.specs.Arc.{arc_value};
+ghost use Rattle.std.specs.List.{AllByRecursion};
+ghost use Rattle.ent_rel.specs.Change.{changed_rows};
+ghost use Rattle.ent_eval.specs.Change.{IsApplicable};
+ghost use Rattle.ent_tables.specs.AtNumber.{no_table, seen_at, seen_in};
+
+use ent_eval::Seen;
+use ent_members::Use;
+use ent_rel::{Delta, Table, TableFull};
+use ent_value::{Refusal, Sequence};
+use std::alloc::{AllocError, Global};
+use std::sync::Arc;
+
+/// The table of a number, which is shared.
+pub(crate) fn table_at(tables: &[Arc<Table>], number: usize) -> Result<Arc<Table>, AllocError>
+    requires { number < length tables.now }
+    ensures { IfOk result (λ table. arc_value table ≡ slice_index_or (map arc_value tables.now) number no_table) }
+{
+    let table = tables[number].clone()?;
+    Ok(table)
+}
+
+/// The table of a number, as work sees it.
+fn table_seen(tables: &[Arc<Table>], number: usize) -> Result<Seen, AllocError>
+    requires { number < length tables.now }
+    ensures { IfOk result (λ seen. seen ≡ seen_at (map arc_value tables.now) number) }
+{
+    let table = table_at(tables, number)?;
+    Ok(Seen::new(number, table))
+}
+
+/// The tables of some uses, in their order. No row is copied.
+pub(crate) fn tables_seen(
+    alloc: Global,
+    tables: &[Arc<Table>],
+    uses: &[Use],
+) -> Result<Sequence<Seen>, AllocError>
+    requires { AllByRecursion (λ own. own.table < length tables.now) uses.now }
+    ensures { IfOk result (λ seen. seen ≡ seen_in (map arc_value tables.now) uses.now) }
+{
+    let mut seen = Vec::with_capacity(alloc, uses.len())?;
+    for own in uses {
+        seen.push(table_seen(tables, own.table())?)?;
+    }
+    Ok(Sequence::from_vec(seen))
+}
+
+/// What a change makes of the table of a number.
+pub(crate) fn table_changed(
+    alloc: Global,
+    tables: &[Arc<Table>],
+    number: usize,
+    delta: &Delta,
+) -> Result<Arc<Table>, AllocError>
+    requires there { number < length tables.now }
+    requires applicable { IsApplicable (slice_index_or (map arc_value tables.now) number no_table) delta.now }
+    ensures rows { let before = slice_index_or (map arc_value tables.now) number no_table in
+        IfOk result (λ table. (arc_value table).rows ≡ changed_rows before.rows delta.now.removed delta.now.added) }
+    ensures kinds { let before = slice_index_or (map arc_value tables.now) number no_table in
+        IfOk result (λ table. (arc_value table).kinds ≡ before.kinds) }
+{
+    match tables[number].apply(alloc, delta) {
+        Ok(table) => Ok(Arc::new(alloc, table)?),
+        Err(Refusal::Memory) => Err(AllocError),
+        // The change fits.
+        Err(Refusal::Fault(TableFull)) => unreachable!(),
+    }
+}
