@@ -7,17 +7,22 @@
 #![tactic(auto)]
 
 mod closing;
+mod event;
 mod lookup;
 mod open;
+mod play;
 mod reached;
 mod recall;
 mod reply;
 mod standing;
 mod start_run;
+mod step;
 mod store;
 mod submit;
 
 pub use closing::{NotClosed, NotDone};
+pub use event::Event;
+pub use play::Played;
 pub use reached::Core;
 pub use reply::Reply;
 pub use standing::Standing;
