@@ -1,5 +1,5 @@
 //! The host variables that a script has bound.
-ghost use Rattle.std.specs.Prelude.{◌≡◌, [], ◌∷◌, ◌++◌, OnOk, OnErr};
+ghost use Rattle.std.specs.Prelude.{◌≡◌, [], ◌∷◌, ◌++◌, OnOk, OnErr, length, take};
 ghost use Rattle.std.specs.Option.{option_copied};
 ghost use Rattle.ent_semantics.specs.Database.{nothing_bound, with_value};
 ghost use Rattle.ent_closing.specs.Environment.{environment_of};
@@ -53,6 +53,20 @@ impl Environment {
     {
         let mut bound = bound;
         self.bindings.append(&mut bound)
+    }
+
+    /// How many bindings were made, also those behind which another of the same variable came.
+    pub fn count(&self) -> usize
+        ensures { result ≡ length self.now }
+    {
+        self.bindings.len()
+    }
+
+    /// Takes back all bindings but the first so many.
+    pub fn truncate(&mut self, count: usize)
+        ensures { self.new ≡ take count self.old }
+    {
+        self.bindings.truncate(count);
     }
 
     /// What a host variable is bound to.

@@ -6,3 +6,4 @@ pub mod Moved
 pub mod JoinedGroups
 pub mod Lists
 pub mod Waiting
+pub mod Answered

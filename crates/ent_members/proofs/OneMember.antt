@@ -14,16 +14,16 @@ use Rattle.ent_members.specs.Run.{IsRun, tx_of}
 
 -- ---- the member at an index, and the others
 
-eq_same : (a b : ℕ) → a ≡ b → (a == b) ≡ true
+pub eq_same : (a b : ℕ) → a ≡ b → (a == b) ≡ true
 eq_same a b is = grind (arith, nat_tests)
 
 eq_apart : (a b : ℕ) → nat_eq a b ≡ false → (a == b) ≡ false
 eq_apart a b is = is
 
-eq_turned : (a b : ℕ) → nat_eq a b ≡ false → (b == a) ≡ false
+pub eq_turned : (a b : ℕ) → nat_eq a b ≡ false → (b == a) ≡ false
 eq_turned a b is = grind (arith, nat_tests)
 
-all_at : (P : ℕ → Type 0) (xs : List Member) (i : ℕ) (d : Member) → i < length xs
+pub all_at : (P : ℕ → Type 0) (xs : List Member) (i : ℕ) (d : Member) → i < length xs
     → AllByRecursion P (map tx_of xs) → P (get_or xs i d).tx
 all_at P [] i d lt all = absurd (omega (arith, lt))
 all_at P (x ∷ xs) zero d lt all = all.0
@@ -95,9 +95,13 @@ found_at xs tx i d member at is = some_same (get_or xs i d) member (sym (at.firs
 
 -- ---- a change
 
-on_ok_then : {T E : Type 0} (r : Result T E) (P Q : Type 0) → (P → Q) → OnOk r P → OnOk r Q
+pub on_ok_then : {T E : Type 0} (r : Result T E) (P Q : Type 0) → (P → Q) → OnOk r P → OnOk r Q
 on_ok_then (Ok x) P Q f h = f h
 on_ok_then (Err e) P Q f h = tt
+
+pub on_err_then : {T E : Type 0} (r : Result T E) (P Q : Type 0) → (P → Q) → OnErr r P → OnErr r Q
+on_err_then (Ok x) P Q f h = tt
+on_err_then (Err e) P Q f h = f h
 
 pub changes : {T E : Type 0} (r : Result T E) (change : Member → Member) (xs : List Member) (tx i : ℕ)
     (d new : Member) → ((member : Member) → (change member).tx ≡ member.tx) → IsDistinct nat_eq (map tx_of xs)

@@ -8,3 +8,4 @@ pub mod Changes
 pub mod Moves
 pub mod Joined
 pub mod Waits
+pub mod Answered

@@ -1,19 +1,26 @@
 //! Groups that become one.
 ghost use Rattle.std.specs.Prelude.{◌≡◌, ◌+◌, ◌≤◌, ◌++◌, length, map};
 ghost use Rattle.ent_protocol.specs.PoolEvents.{in_joined_group, joined_label};
-ghost use Rattle.ent_members.specs.Joined.{labels_in};
+ghost use Rattle.ent_members.specs.Joined.{is_one_of, labels_in};
 
 use crate::member::Member;
 use ent_group::{MOST_MEMBERS, Members, Tx};
 
+fn is_one_of(numbers: &[Tx], member: &Member) -> bool
+    ensures { result ≡ is_one_of numbers.now member.now }
+{
+    let tx = member.tx();
+    numbers.iter().any(|n| *n == tx)
+}
+
 /// Puts the labels of the groups of members of these numbers to others.
-pub(crate) fn gather_labels(members: &[Member], numbers: &Members, labels: &mut Members)
+pub(crate) fn gather_labels(members: &[Member], numbers: &[Tx], labels: &mut Members)
     requires { length labels.old + length members.now ≤ MOST_MEMBERS }
     ensures list { labels.new ≡ labels.old ++ labels_in numbers.now members.now }
     ensures room { length labels.new ≤ length labels.old + length members.now }
 {
     for member in members {
-        if numbers.contains(member.tx()) {
+        if is_one_of(numbers, member) {
             labels.push(member.group());
         }
     }

@@ -6,6 +6,7 @@
 //! that a call that finds no memory leaves them as they were.
 #![tactic(auto)]
 
+mod answer;
 mod change;
 mod entrant;
 mod hold;
@@ -14,6 +15,7 @@ mod join;
 mod law;
 mod leavers;
 mod member;
+mod member_answer;
 mod moves;
 mod run;
 mod search;
@@ -25,6 +27,8 @@ pub use entrant::Entrant;
 pub use law::awaited_members_are_waited_for;
 pub use leavers::{Leaver, Leavers};
 pub use member::Member;
+pub use member_answer::MemberAnswer;
 pub use run::Run;
+pub use search::member_numbers;
 pub use table_use::Use;
 pub use uses::{MOST_USES, Uses, entangled_uses, statement_uses, uses_are_kept_by_closing};

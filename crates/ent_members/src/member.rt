@@ -1,8 +1,12 @@
 //! One member.
-ghost use Rattle.std.specs.Prelude.{◌≡◌, OnOk, OnErr};
+ghost use Rattle.std.specs.Prelude.{◌≡◌, List, OnOk, OnErr, length};
+ghost use Rattle.ent_value.specs.declared.value.Value.{Value as Bound};
+ghost use Rattle.ent_semantics.specs.Database.{Name as Variable};
+ghost use Rattle.ent_semantics.specs.declared.answer.Answer.{Answer as Answered};
 ghost use Rattle.ent_protocol.specs.Begin.{holding};
 ghost use Rattle.ent_protocol.specs.Finish.{stepped};
 ghost use Rattle.ent_protocol.specs.Run.{fresh};
+ghost use Rattle.ent_protocol.specs.State.{Member as Before};
 ghost use Rattle.ent_members.specs.Changes.{posting, stepping};
 
 use crate::entrant::Entrant;
@@ -175,5 +179,17 @@ impl Member {
         self.answers.push_reserved(answer);
         self.is_posted = false;
         Ok(())
+    }
+
+    /// It is as before it took its last answer: it had so many bindings, and its statement was posted or not.
+    pub(crate) fn step_back(&mut self, bindings: usize, was_posted: bool)
+        ensures back { (answer : Answered) (bound : List (Variable × Bound)) (before : Before)
+            → self.old ≡ stepping answer bound before → length before.bound ≡ bindings
+            → before.posted ≡ was_posted → self.new ≡ before }
+        ensures tx { self.new.tx ≡ self.old.tx }
+    {
+        self.answers.pop();
+        self.environment.truncate(bindings);
+        self.is_posted = was_posted;
     }
 }

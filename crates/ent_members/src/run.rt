@@ -15,6 +15,8 @@ ghost use Rattle.ent_protocol.specs.Rollback.{group_members, group_numbers};
 ghost use Rattle.ent_protocol.specs.Run.{fresh};
 ghost use Rattle.ent_protocol.specs.State.{Member as Seen, State, by_number, members};
 ghost use Rattle.ent_protocol.specs.Uses.{blocker};
+ghost use Rattle.ent_semantics.specs.Entangled.{Valuation};
+ghost use Rattle.ent_members.specs.Answered.{AnswerTogether, IsJoining, answer_tx, answered_from, member_answers};
 ghost use Rattle.ent_members.specs.Changes.{posting, stepping};
 ghost use Rattle.ent_members.specs.Joined.{JoinGroups, labels_in};
 ghost use Rattle.ent_members.specs.Leavers.{leaver_of, leavers_in};
@@ -23,12 +25,14 @@ ghost use Rattle.ent_members.specs.Places.{Changes, found};
 ghost use Rattle.ent_members.specs.Run.{with_run, tx_of};
 ghost use Rattle.ent_members.specs.Waits.{is_awaited};
 
+use crate::answer::{answer_each, numbers_of};
 use crate::change;
 use crate::entrant::Entrant;
 use crate::in_way::{Passed, is_awaited_over, least_in_way};
 use crate::join::{gather_labels, join_groups};
 use crate::leavers::{Leavers, gather};
 use crate::member::Member;
+use crate::member_answer::MemberAnswer;
 use crate::moves::{any_of, prepare, remove, take_group};
 use crate::search::{is_among, member_in};
 use crate::start::fresh_members;
@@ -260,11 +264,43 @@ impl Run {
         ensures answered { (s : State) (asked : List Asking) → numbers.now ≡ map (λ asking. asking.tx) asked
             → JoinGroups (answered_groups (with_run self.old s) asked) self.old self.new }
     {
+        self.join(numbers.as_slice());
+    }
+
+    fn join(&mut self, numbers: &[Tx])
+        ensures { JoinGroups (labels_in numbers.now (self.old.prepared ++ self.old.active)) self.old self.new }
+    {
         let mut labels = Members::new();
         gather_labels(self.prepared.as_slice(), numbers, &mut labels);
         gather_labels(self.active.as_slice(), numbers, &mut labels);
         join_groups(&mut self.prepared, &labels);
         join_groups(&mut self.active, &labels);
+    }
+
+    fn answer_active(&mut self, given: Vec<MemberAnswer>) -> Result<(), AllocError>
+        requires { IsDistinct nat_eq (map answer_tx given.items) }
+        ensures ok { OnOk result (self.new.active ≡ map (answered_from given.items) self.old.active) }
+        ensures prepared { self.new.prepared ≡ self.old.prepared }
+        ensures err { OnErr result (self.new ≡ self.old) }
+    {
+        let mut given = given;
+        answer_each(self.active.as_mut_slice(), &mut given)
+    }
+
+    /// Members that aren't prepared take a joint answer together: each its own answer and what that binds, and their
+    /// groups become one. Where memory runs out nothing changes.
+    pub fn answer(&mut self, given: Vec<MemberAnswer>) -> Result<(), AllocError>
+        requires { IsDistinct nat_eq (map answer_tx given.items) }
+        ensures ok { OnOk result (AnswerTogether given.items self.old self.new) }
+        ensures joining { OnOk result ((s : State) (asked : List Asking) (groundings : List Valuation)
+            → given.items ≡ member_answers asked groundings → length groundings ≡ length asked
+            → IsJoining (with_run self.old s) asked groundings self.new) }
+        ensures err { OnErr result (self.new ≡ self.old) }
+    {
+        let numbers = numbers_of(self.alloc, given.as_slice())?;
+        self.answer_active(given)?;
+        self.join(numbers.as_slice());
+        Ok(())
     }
 
     /// The prepared members of the group with a label commit: they leave the run, in the order in which they prepared,
@@ -273,6 +309,7 @@ impl Run {
         requires empty { room.items ≡ [] }
         requires room { MOST_MEMBERS ≤ vec_capacity room }
         ensures committed { (s : State) → result.items ≡ committing_members (with_run self.old s) group }
+        ensures bound { length result.items ≤ MOST_MEMBERS }
         ensures prepared { self.new.prepared ≡ filter (is_of_another group) self.old.prepared }
         ensures active { self.new.active ≡ self.old.active }
     {

@@ -1,13 +1,14 @@
 //! Members in a list, by their numbers.
-ghost use Rattle.std.specs.Prelude.{◌≡◌, ◌==◌, filter, IfSome, IsNone, None};
+ghost use Rattle.std.specs.Prelude.{◌≡◌, ◌≤◌, ◌==◌, length, map, filter, IfSome, IsNone, None};
 ghost use Rattle.std.specs.List.{list_any};
 ghost use Rattle.std.specs.Option.{option_copied};
 ghost use Rattle.ent_protocol.specs.Member.{is_tx};
 ghost use Rattle.ent_protocol.specs.State.{first_of};
 ghost use Rattle.ent_members.specs.Places.{IsAt};
+ghost use Rattle.ent_members.specs.Run.{tx_of};
 
 use crate::member::Member;
-use ent_group::Tx;
+use ent_group::{MOST_MEMBERS, Members, Tx};
 
 /// The first member of a number.
 pub(crate) fn member_in<'a>(members: &'a [Member], tx: Tx) -> Option<&'a Member>
@@ -39,4 +40,16 @@ pub(crate) fn is_among(members: &[Member], tx: Tx) -> bool
     ensures { result ≡ list_any (is_tx tx) members.now }
 {
     members.iter().any(|member| member.tx() == tx)
+}
+
+/// The numbers of members, in their order.
+pub fn member_numbers(members: &[Member]) -> Members
+    requires { length members.now ≤ MOST_MEMBERS }
+    ensures { result ≡ map tx_of members.now }
+{
+    let mut numbers = Members::new();
+    for member in members {
+        numbers.push(member.tx());
+    }
+    numbers
 }

@@ -10,8 +10,9 @@ use Rattle.ent_closed.specs.declared.operand.Known.{Known}
 use Rattle.ent_closed.specs.declared.statement.Statement.{Statement}
 use Rattle.ent_closed.specs.Form.{Tables}
 use Rattle.ent_coordination.specs.Choice.{AreGroundings, IsLeastChoiceIfAny}
+use Rattle.ent_coordination.specs.Pool.{IsSafe}
 use Rattle.ent_protocol.specs.Begin.{BeginsOrdinary, Posts, BeginsEntangled, BeginsCommit, BeginsNext, BeginsUnless}
-use Rattle.ent_protocol.specs.Begin.{BeginsMember, lending, posting}
+use Rattle.ent_protocol.specs.Begin.{BeginsMember, lending, posting, pool_with}
 use Rattle.ent_protocol.specs.Commit.{preparing, committing, is_ready}
 use Rattle.ent_protocol.specs.Event.{Event, Reply}
 use Rattle.ent_protocol.specs.Event as events
@@ -71,6 +72,51 @@ pub record AreKept (P : State → Type 0) : Type 0 where
   pub ends : (s : State) → P s → P (ending s)
   pub recalls : (s : State) → P s → P (record s { lent = [] })
 
+-- what each change of a state keeps, where a statement is posted only if the pool is safe with it
+pub record AreKeptSafe (P : State → Type 0) : Type 0 where
+  pub submits : (s : State) (script : Script) (form : List (Statement Known)) → P s → P (submitting s script form)
+  pub starts : (s : State) → s.running ≡ false → P s → P (starting s)
+  pub lends : (s : State) (member : Member) (statement : Statement Value) → IsIdle s member
+      → next_of s member ≡ Ordinary statement → P s → P (lending s member statement)
+  pub posts : (s : State) (member : Member) (statement : Entangled Value) → IsIdle s member
+      → next_of s member ≡ Asks statement → IsSafe (pool_with s member statement) → P s
+      → P (posting s member statement)
+  pub prepares : (s : State) (member : Member) → IsIdle s member → P s → P (preparing s member)
+  pub commits : (s : State) (group : ℕ) → list_any (is_of group) s.active ≡ false → P s → P (committing s group)
+  pub rolls_back : (s : State) (group : ℕ) (cause : Cause) → P s → P (rolled_back group cause s)
+  pub takes : (s : State) (job : Job) (left : List Job) → IsTaken job s.lent left → P s
+      → P (record s { lent = left })
+  pub finishes : (s : State) (member : Member) (left : List Job) (statement : Statement Value) (outcome : Outcome)
+      → ComesBack s member left → P s → P (finished (record s { lent = left }) member statement outcome)
+  pub picks : (s : State) (asked : List Asking) → IsPresentComponent s asked → (IsOut s asked → ⊥) → P s
+      → P (record s { lent = s.lent ++ joint_job s asked ∷ [] })
+  pub joins : (s : State) (job : Job) (left : List Job) (asked : List Asking) (groundings : List Valuation)
+      → IsTaken job s.lent left → IsPresentComponent s asked
+      → ((tables : Tables) × AreGroundings tables (map posted_of asked) groundings) → P s
+      → P (joining (record s { lent = left }) asked groundings)
+  pub tries : (s : State) (asked : List Asking) → P s → P (record s { tried = asked ∷ s.tried })
+  pub ends : (s : State) → P s → P (ending s)
+  pub recalls : (s : State) → P s → P (record s { lent = [] })
+
+safely : {P : State → Type 0} → AreKept P → AreKeptSafe P
+safely kept =
+    record {
+      submits = kept.submits;
+      starts = kept.starts;
+      lends = kept.lends;
+      posts = λ s member statement idle next safe h. kept.posts s member statement idle next h;
+      prepares = kept.prepares;
+      commits = kept.commits;
+      rolls_back = kept.rolls_back;
+      takes = kept.takes;
+      finishes = kept.finishes;
+      picks = kept.picks;
+      joins = kept.joins;
+      tries = kept.tries;
+      ends = kept.ends;
+      recalls = kept.recalls;
+    }
+
 first_in : {X : Type 0} (xs : List X) (x : X) → first_of xs ≡ Some x → In x xs
 first_in [] x e = cc (e)
 first_in (y ∷ ys) x e = inl (let same : x ≡ y = cc in same)
@@ -81,7 +127,7 @@ found s tx member e =
     let r = of_filter (is_tx tx) s.active member (first_in (filter (is_tx tx) s.active) member e) in
     (r.0, same_number member.tx tx r.1)
 
-module _ {F : Type 0} (forms : Forms F) (P : State → Type 0) (kept : AreKept P) where
+module _ {F : Type 0} (forms : Forms F) (P : State → Type 0) (kept : AreKeptSafe P) where
   as_is : (s new : State) → new ≡ s → P s → P new
   as_is s new e h = subst P (sym e) h
 
@@ -94,7 +140,7 @@ module _ {F : Type 0} (forms : Forms F) (P : State → Type 0) (kept : AreKept P
 
   asks_to_post : (s : State) (m : Member) (asked : Entangled Value) (reply : Reply F) (new : State)
       → Posts s m asked reply new → IsIdle s m → next_of s m ≡ Asks asked → P s → P new
-  asks_to_post s m asked reply new (inl step) idle next h = as_is _ new step.2 (kept.posts s m asked idle next h)
+  asks_to_post s m asked reply new (inl step) idle next h = as_is _ new step.2 (kept.posts s m asked idle next step.0 h)
   asks_to_post s m asked reply new (inr step) idle next h = as_is s new step.2.1 h
 
   entangled : (s : State) (m : Member) (asked : Entangled Value) (blocked : Option ℕ) (reply : Reply F) (new : State)
@@ -215,22 +261,30 @@ module _ {F : Type 0} (forms : Forms F) (P : State → Type 0) (kept : AreKept P
   end_run s true reply new (inl step) h = as_is _ new step.2 (kept.ends s h)
   end_run s true reply new (inr step) h = as_is s new step.2.1 h
 
-  pub stepped_on : (s : State) (event : Event) (reply : Reply F) (new : State) → Step forms s event reply new
+  pub safely_on : (s : State) (event : Event) (reply : Reply F) (new : State) → Step forms s event reply new
       → P s → P new
-  stepped_on s (events.Submit script) reply new step h = submit _ s script reply new step h
-  stepped_on s events.StartRun reply new step h = start s s.running s.dormant reply new refl step h
-  stepped_on s (events.Begin tx) reply new step h = begins s tx (active_member s tx) reply new refl step h
-  stepped_on s (events.Finish done) reply new step h = finish s done reply new step h
-  stepped_on s events.Pick reply new step h = pick s reply new step h
-  stepped_on s (events.JoinAnswer done) reply new step h = join s done reply new step h
-  stepped_on s events.BreakCycle reply new step h = break s reply new step h
-  stepped_on s events.EndRun reply new step h = end_run s s.running reply new step h
-  stepped_on s events.Recall reply new step h = as_is _ new step.1 (kept.recalls s h)
+  safely_on s (events.Submit script) reply new step h = submit _ s script reply new step h
+  safely_on s events.StartRun reply new step h = start s s.running s.dormant reply new refl step h
+  safely_on s (events.Begin tx) reply new step h = begins s tx (active_member s tx) reply new refl step h
+  safely_on s (events.Finish done) reply new step h = finish s done reply new step h
+  safely_on s events.Pick reply new step h = pick s reply new step h
+  safely_on s (events.JoinAnswer done) reply new step h = join s done reply new step h
+  safely_on s events.BreakCycle reply new step h = break s reply new step h
+  safely_on s events.EndRun reply new step h = end_run s s.running reply new step h
+  safely_on s events.Recall reply new step h = as_is _ new step.1 (kept.recalls s h)
 
   led_on : (n : ℕ) (first last : State) → LeadsTo forms n first last → P first → P last
   led_on zero first last leads h = as_is first last leads h
   led_on (suc n) first last leads h =
-      stepped_on leads.0 leads.1 leads.2 last leads.4 (led_on n first leads.0 leads.3 h)
+      safely_on leads.0 leads.1 leads.2 last leads.4 (led_on n first leads.0 leads.3 h)
+
+  pub safely_reached : (s : State) → P (opened s.opening) → IsReached forms s → P s
+  safely_reached s h r = led_on r.0 (opened s.opening) s r.1 h
+
+module _ {F : Type 0} (forms : Forms F) (P : State → Type 0) (kept : AreKept P) where
+  pub stepped_on : (s : State) (event : Event) (reply : Reply F) (new : State) → Step forms s event reply new
+      → P s → P new
+  stepped_on = safely_on forms P (safely kept)
 
   pub reached : (s : State) → P (opened s.opening) → IsReached forms s → P s
-  reached s h r = led_on r.0 (opened s.opening) s r.1 h
+  reached = safely_reached forms P (safely kept)

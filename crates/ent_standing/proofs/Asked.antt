@@ -9,22 +9,26 @@ use Rattle.ent_protocol.specs.PoolEvents.{IsPresentComponent}
 use Rattle.ent_protocol.specs.State.{State, Member}
 use Rattle.ent_standing.proofs.Lists.{In, of_all, in_either, contains_in, all_index}
 
-posted_next : (s : State) (m : Member) → m.posted ≡ true
+pub posted_next : (s : State) (m : Member) → m.posted ≡ true
     → next_in (numbered s.submitted m.tx) (record m { posted = true }) ≡ next_of s m
 posted_next s m e = λ i. next_in (numbered s.submitted m.tx) (record m { posted = sym e i })
 
-pub asks_of : (s : State) (m : Member) (a : Asking) → In a (asking_of s m) → (m.posted ≡ true) × (a.tx ≡ m.tx)
+pub asks_of : (s : State) (m : Member) (a : Asking) → In a (asking_of s m)
+    → (m.posted ≡ true) × (a.tx ≡ m.tx) × (next_of s m ≡ Asks a.statement)
 asks_of s m a at = by m.posted refl (next_of s m) refl
   where
-    by : (b : Bool) → m.posted ≡ b → (n : Next) → next_of s m ≡ n → (m.posted ≡ true) × (a.tx ≡ m.tx)
+    by : (b : Bool) → m.posted ≡ b → (n : Next) → next_of s m ≡ n
+        → (m.posted ≡ true) × (a.tx ≡ m.tx) × (next_of s m ≡ Asks a.statement)
     by true posted (Asks statement) next =
         let h : In a (record { tx = m.tx; attempt = m.attempt; place = m.place; statement = statement } ∷ []) =
         rw (posted, posted_next s m posted ∙ next) at at in
         elim h [
-          | inl same ↦ (posted, ap (λ (x : Asking). x.tx) same)
+          | inl same ↦
+              (posted, ap (λ (x : Asking). x.tx) same, next ∙ ap (λ (x : Asking). Asks x.statement) (sym same))
           | inr bad ↦ absurd bad
         ]
-    by true posted (Ordinary statement) next = let h : ⊥ = rw (posted, posted_next s m posted ∙ next) at at in absurd h
+    by true posted (Ordinary statement) next =
+        let h : ⊥ = rw (posted, posted_next s m posted ∙ next) at at in absurd h
     by true posted Commits next = let h : ⊥ = rw (posted, posted_next s m posted ∙ next) at at in absurd h
     by true posted RollsBack next = let h : ⊥ = rw (posted, posted_next s m posted ∙ next) at at in absurd h
     by false posted n next = let h : ⊥ = rw posted at at in absurd h

@@ -14,3 +14,4 @@ pub mod Classes
 pub mod Groups
 pub mod Together
 pub mod Grouped
+pub mod Safe

@@ -2,7 +2,9 @@
 ghost use Rattle.std.specs.Prelude.{◌≡◌, ◌≤◌, ℕ, ◌+◌, length};
 ghost use Rattle.std.specs.List.{AllByRecursion};
 ghost use Rattle.ent_group.specs.declared.members.TheConstants.{MOST_MEMBERS};
+ghost use Rattle.ent_coordination.specs.Pool.{IsSafe};
 ghost use Rattle.ent_protocol.specs.Event.{Event, Reply};
+ghost use Rattle.ent_protocol.specs.Member.{pool};
 ghost use Rattle.ent_protocol.specs.Reached.{IsReached};
 ghost use Rattle.ent_protocol.specs.Run.{Forms};
 ghost use Rattle.ent_protocol.specs.State.{State, members};
@@ -62,4 +64,10 @@ pub fn lent_jobs_stand_once<F>()
 /// of a live joint answer.
 pub fn groups_are_classes<F>()
     ensures { (forms : Forms F) (s : State) → IsReached forms s → GroupsAreClasses s }
+{}
+
+/// In every state that is reached the pool is safe: each post of a statement in it unifies with a head of one statement
+/// in it at most.
+pub fn pools_are_safe<F>()
+    ensures { (forms : Forms F) (s : State) → IsReached forms s → IsSafe (pool s) }
 {}

@@ -7,5 +7,5 @@ mod law;
 
 pub use law::{
     attempts_stay_within, groups_are_classes, lent_jobs_stand_once, members_stand_by_number,
-    steps_go_on, transactions_are_counted, transactions_stand_once,
+    pools_are_safe, steps_go_on, transactions_are_counted, transactions_stand_once,
 };
