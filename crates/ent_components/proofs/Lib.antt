@@ -4,3 +4,4 @@ pub mod Named
 pub mod Exact
 pub mod Pooled
 pub mod Opened
+pub mod Used

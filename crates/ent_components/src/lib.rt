@@ -11,8 +11,10 @@ mod open;
 mod picking;
 mod pool;
 mod present;
+mod uses;
 
 pub use component::components;
 pub use fault::post_fault;
 pub use picking::{first_untried, pick};
 pub use present::is_present;
+pub use uses::joint_uses;

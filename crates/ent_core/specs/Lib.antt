@@ -1,5 +1,12 @@
+pub mod Advance
+pub mod Begin
 pub mod Closing
+pub mod Event
+pub mod Finish
+pub mod Joining
 pub mod Kept
+pub mod Pick
+pub mod Play
 pub mod Reply
 pub mod Standing
 pub mod Store

@@ -1,18 +1,11 @@
 -- The replies of the code, as those of the protocol.
 use Rattle.std.specs.Prelude.{ℕ, suc, List, [], ◌∷◌}
 use Rattle.ent_form.specs.declared.fault.FormFault.{FormFault}
-use Rattle.ent_protocol.specs.Event.{Reply, Reason}
+use Rattle.ent_protocol.specs.Event.{Reply}
 use Rattle.ent_protocol.specs.Event as replies
-use Rattle.ent_core.specs.declared.reply.Reason.{Reason as Why}
-use Rattle.ent_core.specs.declared.reply.Reason.TheVariants as why
+use Rattle.ent_quiet.specs.Quiet.{reason_seen}
 use Rattle.ent_core.specs.declared.reply.Reply.{Reply as Given}
 use Rattle.ent_core.specs.declared.reply.Reply.TheVariants as given
-
-abbrev pub reason_seen : Why → Reason
-reason_seen (why.JobOut tx) = replies.JobOut tx
-reason_seen (why.CanBegin tx) = replies.CanBegin tx
-reason_seen (why.Untried tx) = replies.Untried tx
-reason_seen (why.Cycle members) = replies.Cycle members
 
 -- members with consecutive numbers
 abbrev pub numbered_from : ℕ → List ℕ → List (ℕ × ℕ)

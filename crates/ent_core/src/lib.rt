@@ -6,19 +6,34 @@
 //! takes no memory.
 #![tactic(auto)]
 
+mod advance;
+mod begin;
+mod break_cycle;
 mod closing;
+mod commit;
+mod end_run;
+mod event;
+mod finish;
+mod join_answer;
+mod joining;
 mod lookup;
 mod open;
+mod pick;
+mod play;
 mod reached;
 mod recall;
 mod reply;
 mod standing;
 mod start_run;
+mod step;
 mod store;
 mod submit;
 mod take_out;
 
 pub use closing::{NotClosed, NotDone};
+pub use ent_quiet::Reason;
+pub use event::Event;
+pub use play::Played;
 pub use reached::Core;
 pub use reply::Reply;
 pub use standing::Standing;

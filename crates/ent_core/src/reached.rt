@@ -1,11 +1,16 @@
 //! The core whose type keeps that its state is reached.
-ghost use Rattle.std.specs.Prelude.{◌≡◌, IfOk, IfErr, OnErr};
+ghost use Rattle.std.specs.Prelude.{IfErr, IfOk, IsOk, OnErr, Some, ◌≡◌};
 ghost use Rattle.std.specs.Option.{option_copied, option_map};
 ghost use Rattle.ent_book.specs.Tables.{book_seen};
 ghost use Rattle.ent_core.specs.Reply.{reply_seen};
 ghost use Rattle.ent_core.specs.Standing.{standing_seen};
 ghost use Rattle.ent_form.specs.OpeningFault.{opening_fault, unless};
+ghost use Rattle.ent_protocol.specs.Event.{Begin, BreakCycle, EndRun, Finish, JoinAnswer, Pick};
 ghost use Rattle.ent_protocol.specs.Event.{Recall, StartRun, Submit};
+ghost use Rattle.ent_protocol.specs.Member.{RollsBack, active_member, next_of};
+ghost use Rattle.ent_protocol.specs.State.{Member};
+ghost use Rattle.ent_protocol.specs.Job as jobs;
+ghost use Rattle.ent_semantics.specs.declared.answer.Failure.{Failure};
 ghost use Rattle.ent_protocol.specs.Lookup.{answers_of, dormant_at, entry_at, group_of, present_rows};
 ghost use Rattle.ent_protocol.specs.Lookup.{running_members, standing};
 ghost use Rattle.ent_protocol.specs.Reached.{CanClose, IsFinishedBook, book_of, opened, scripts_of};
@@ -16,9 +21,15 @@ ghost use Rattle.ent_value.specs.Refusal.{Gives};
 ghost use Rattle.ent_value.specs.declared.refusal.Refusal.TheVariants.{Fault};
 ghost use Rattle.ent_core.specs.declared.closing.NotDone.{NotDone};
 
+use crate::begin::begin;
+use crate::break_cycle::break_cycle;
 use crate::closing::{NotClosed, NotDone, book, book_parts, can_close};
+use crate::end_run::end_run;
+use crate::finish::finish;
+use crate::join_answer::join_answer;
 use crate::lookup;
 use crate::open::open;
+use crate::pick::pick;
 use crate::recall::recall;
 use crate::reply::Reply;
 use crate::standing::{Standing, standing_of};
@@ -26,6 +37,7 @@ use crate::start_run::start_run;
 use crate::store::Store;
 use crate::submit::submit;
 use ent_book::NamedTable;
+use ent_eval::Done;
 use ent_form::FormFault;
 use ent_group::{Members, Tx};
 use ent_members::Entrant;
@@ -94,6 +106,87 @@ impl Core {
         resolved_runs_are_legal();
         steps_go_on::<FormFault>();
         start_run(&mut self.store)
+    }
+
+    /// The member of a number begins its next statement, or ends as its script does. Lent: its job is to come back.
+    /// Refused where it isn't there, is prepared, is posted or has its job out, where another member is in its way, and
+    /// where the pool with its statement would be unsafe. Where memory runs out nothing changes; a member that rolls
+    /// back takes none.
+    pub fn begin(&mut self, tx: Tx) -> Result<Reply, AllocError>
+        ensures ok { IfOk result (λ reply. Step resolved_forms self.old (Begin tx) (reply_seen reply) self.new) }
+        ensures err { OnErr result (self.new ≡ self.old) }
+        ensures rolls_back { (member : Member) → active_member self.old tx ≡ Some member
+            → next_of self.old member ≡ RollsBack → IsOk result }
+        ensures legal { IsLegal (book_of self.new) }
+    {
+        resolved_runs_are_legal();
+        steps_go_on::<FormFault>();
+        begin(&mut self.store, tx)
+    }
+
+    /// Takes the result of one statement. Where its job isn't lent any more it is stale, and comes back. Else the
+    /// member has the answer; or the statement failed, and the member's group is rolled back, which takes no memory.
+    /// Where memory runs out the result comes back.
+    pub fn finish(&mut self, done: Done) -> Result<Reply, AllocFailed<Done>>
+        ensures ok { IfOk result (λ reply. Step resolved_forms self.old (Finish done) (reply_seen reply) self.new) }
+        ensures err { OnErr result (self.new ≡ self.old) }
+        ensures returned { IfErr result (λ refused. refused.value ≡ done) }
+        ensures failure { (failure : Failure) → done.outcome ≡ jobs.Fault failure → IsOk result }
+        ensures legal { IsLegal (book_of self.new) }
+    {
+        resolved_runs_are_legal();
+        steps_go_on::<FormFault>();
+        finish(&mut self.store, done)
+    }
+
+    /// Lends the job of a component of the posted statements: of those that weren't tried, and no job of which is out,
+    /// that with the least first member. Where there is none, nothing is lent.
+    pub fn pick(&mut self) -> Result<Reply, AllocError>
+        ensures ok { IfOk result (λ reply. Step resolved_forms self.old Pick (reply_seen reply) self.new) }
+        ensures err { OnErr result (self.new ≡ self.old) }
+        ensures legal { IsLegal (book_of self.new) }
+    {
+        resolved_runs_are_legal();
+        steps_go_on::<FormFault>();
+        pick(&mut self.store)
+    }
+
+    /// Takes the result of a joint job: its members have their answers and are of one group, or there is no choice, and
+    /// their statements were tried. A result is stale, and comes back, where its job isn't lent or its statements are
+    /// no component now. Where memory runs out it comes back too.
+    pub fn join_answer(&mut self, done: Done) -> Result<Reply, AllocFailed<Done>>
+        ensures ok { IfOk result (λ reply.
+            Step resolved_forms self.old (JoinAnswer done) (reply_seen reply) self.new) }
+        ensures err { OnErr result (self.new ≡ self.old) }
+        ensures returned { IfErr result (λ refused. refused.value ≡ done) }
+        ensures legal { IsLegal (book_of self.new) }
+    {
+        resolved_runs_are_legal();
+        steps_go_on::<FormFault>();
+        join_answer(&mut self.store, done)
+    }
+
+    /// Rolls back the group of the first member of a deadlock, the greatest transaction that stands in any, where there
+    /// is one. It takes no memory.
+    pub fn break_cycle(&mut self) -> Reply
+        ensures step { Step resolved_forms self.old BreakCycle (reply_seen result) self.new }
+        ensures legal { IsLegal (book_of self.new) }
+    {
+        resolved_runs_are_legal();
+        steps_go_on::<FormFault>();
+        break_cycle(&mut self.store)
+    }
+
+    /// Ends the run where it is quiet: every group that is left is rolled back. Else it answers why the run can't end
+    /// yet. Refused where no run is on.
+    pub fn end_run(&mut self) -> Result<Reply, AllocError>
+        ensures ok { IfOk result (λ reply. Step resolved_forms self.old EndRun (reply_seen reply) self.new) }
+        ensures err { OnErr result (self.new ≡ self.old) }
+        ensures legal { IsLegal (book_of self.new) }
+    {
+        resolved_runs_are_legal();
+        steps_go_on::<FormFault>();
+        end_run(&mut self.store)
     }
 
     /// Lends no job any more, whoever has one. It takes no memory.

@@ -3,21 +3,9 @@ use ent_eval::{Done, Job};
 use ent_form::FormFault;
 use ent_group::{Members, Tx};
 use ent_match::Unsafe;
+use ent_quiet::Reason;
 use ent_semantics::{Answer, Failure};
 use ent_tree::Script;
-
-/// Why a run can't end yet: the first of these that holds, and the least transaction of which it does.
-#[derive(Debug, Drop)]
-pub enum Reason {
-    /// A job of the transaction is out.
-    JobOut(Tx),
-    /// The transaction would get another reply to a begin than that it is blocked or held back.
-    CanBegin(Tx),
-    /// A component that begins with the transaction wasn't tried.
-    Untried(Tx),
-    /// These wait for each other, each for the next, and the last for the first.
-    Cycle(Members),
-}
 
 /// What a core replies to an event. After a refusal the core is as it was, and what was handed in comes back.
 #[derive(Drop)]

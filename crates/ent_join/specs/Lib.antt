@@ -1,4 +1,3 @@
-pub mod Ticks
 pub mod Cursor
 pub mod Search
 pub mod Going

@@ -9,10 +9,9 @@ ghost use Rattle.ent_join.specs.Ranged.{AreRanged};
 
 use crate::asked::frame_of;
 use crate::search::least;
-use crate::ticks::Ticks;
 use ent_plan::{JoinPlan, Slot, plan_has_the_choices, plan_keeps_the_order};
 use ent_rel::Table;
-use ent_value::{Sequence, Value};
+use ent_value::{Sequence, Ticks, Value};
 use std::alloc::{AllocError, Global};
 use std::sync::Arc;
 

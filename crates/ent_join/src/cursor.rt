@@ -5,10 +5,9 @@ ghost use Rattle.std.specs.List.{AllByRecursion};
 ghost use Rattle.ent_value.specs.declared.value.Value.{Value as Held};
 ghost use Rattle.ent_semantics.specs.Term.{no_value};
 ghost use Rattle.ent_join.specs.Cursor.{IsNext, PassesOver, column_values};
-ghost use Rattle.ent_join.specs.Ticks.{ticked};
+ghost use Rattle.ent_value.specs.Ticks.{ticked};
 
-use crate::ticks::Ticks;
-use ent_value::{Row, Value};
+use ent_value::{Row, Ticks, Value};
 use std::marker::Model;
 
 /// A walk over the values of a column, each once where equal ones stand side by side. Contracts see the values that

@@ -2,7 +2,7 @@
 //!
 //! A caller may rely on [`first`]: over any tables in which the statements' tables stand, it is the least choice of the
 //! plan's statements, or there is none. [`first_with`] answers the same and counts the values that the search was given
-//! in [`Ticks`]. The search gives values to the plan's classes one after the other, the least first, and leaves a
+//! in `Ticks`. The search gives values to the plan's classes one after the other, the least first, and leaves a
 //! beginning as soon as a sub-select's result, a test or a kind refuses it.
 #![tactic(auto)]
 
@@ -13,7 +13,5 @@ mod frame;
 mod index;
 mod keyed;
 mod search;
-mod ticks;
 
 pub use choice::{first, first_with};
-pub use ticks::Ticks;

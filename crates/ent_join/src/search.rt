@@ -4,8 +4,7 @@ ghost use Rattle.ent_value.specs.declared.value.Value.{Value as Held};
 ghost use Rattle.ent_join.specs.Search.{IsGuide, IsLeast, IsSearched, NoDeadEnds, NonePasses, AreTicks};
 
 use crate::cursor::Cursor;
-use crate::ticks::Ticks;
-use ent_value::{Row, Value};
+use ent_value::{Row, Ticks, Value};
 use std::alloc::{AllocError, Global};
 
 /// A test of lists of values and of their beginnings, and what may come next behind a beginning.

@@ -108,7 +108,8 @@ all_parted P (x ∷ xs) ys h = let rest = all_parted P xs ys h.1 in ((h.0, rest.
 
 atoms_below : (n : ℕ) (atoms : List (Membership Value))
     → AllByRecursion (λ number. number < n) (flat_map (λ atom. atom.select.sources) atoms)
-    → AllByRecursion (Below n) (flat_map (λ (membership : Membership Value). map shared membership.select.sources) atoms)
+    → AllByRecursion (Below n)
+    (flat_map (λ (membership : Membership Value). map shared membership.select.sources) atoms)
 atoms_below n [] all = tt
 atoms_below n (atom ∷ atoms) all =
     let parts = all_parted (λ (number : ℕ). number < n) atom.select.sources
@@ -194,7 +195,8 @@ form_below : DeclaredLaws → (s : State) → IsReached resolved_forms s → (ow
 form_below laws s reached own there form at environment =
     let creates = s.opening.tables in
     let schemas = schemas_of creates in
-    elim (each_made schemas own.script.statements none_bound [] own.form (statements_given s reached own there) form at) [
+    elim (each_made schemas own.script.statements none_bound [] own.form (statements_given s reached own there) form
+    at) [
       | inl bad ↦ absurd bad
       | inr made ↦
           let declared = laws.declared schemas made.bound made.after made.tree form made.resolved in
@@ -242,7 +244,8 @@ pub changed_declared : DeclaredLaws → (s : State) → IsReached resolved_forms
 changed_declared laws s reached m statement next =
     let n = length s.opening.tables in
     index_all (λ (table : ℕ). table < n) (table_of statement)
-    (changed_below n statement (subst (λ next. AllByRecursion (Below n) (next_uses next)) next (next_used laws s reached m)))
+    (changed_below n statement
+    (subst (λ next. AllByRecursion (Below n) (next_uses next)) next (next_used laws s reached m)))
 
 pub joint_declared : DeclaredLaws → (s : State) → IsReached resolved_forms s → (asked : List Asking)
     → IsPresentComponent s asked → All (BelowIn s.opening.tables) (joint_uses asked)

@@ -344,7 +344,8 @@ joins s left asked groundings h =
         by : (b : Bool)
             → ((in_joined_group groups (answered_among asks more m)).posted ≡ false)
             ⊎ WasPosted s new (in_joined_group groups (answered_among asks more m))
-            → ((in_joined_group groups (cond b (answered_by asking values m) (answered_among asks more m))).posted ≡ false)
+            → ((in_joined_group groups
+            (cond b (answered_by asking values m) (answered_among asks more m))).posted ≡ false)
             ⊎ WasPosted s new
             (in_joined_group groups (cond b (answered_by asking values m) (answered_among asks more m)))
         by true rest = inl refl

@@ -4,3 +4,4 @@ pub mod Order
 pub mod Print
 pub mod Refusal
 pub mod Watched
+pub mod Ticks

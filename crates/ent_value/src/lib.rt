@@ -14,6 +14,7 @@ mod refusal;
 mod row;
 mod sequence;
 mod text;
+mod ticks;
 mod value;
 mod watched;
 
@@ -25,5 +26,6 @@ pub use refusal::Refusal;
 pub use row::{Row, rows_are_ordered};
 pub use sequence::Sequence;
 pub use text::{LONGEST_TEXT, Text};
+pub use ticks::Ticks;
 pub use value::{Kind, Value, values_are_ordered};
 pub use watched::Watched;

@@ -2,7 +2,7 @@ use Rattle.std.proofs.Common.{◌≡◌, ◌+◌, ◌-◌, ◌∷◌, ◌++◌, 
 use Rattle.std.specs.Prelude.{vec_len}
 use Rattle.ent_join.proofs.Steps.{searched_with, searched_none, complete_after, ascending_after, none_at_all, pushed_is}
 use Rattle.ent_join.proofs.Steps.{popped, no_dead_end, ends_on, ticked_with, ticked_one}
-use Rattle.ent_join.specs.Ticks.{ticked}
+use Rattle.ent_value.specs.Ticks.{ticked}
 use Rattle.ent_join.proofs.search.+search.Goals as goal
 
 pub returns-then-branch-clause-found : goal.returns-then-branch-clause-found

@@ -100,7 +100,8 @@ returns-else-is_err-clause-ok t c =
     ∙ one_more front own members at new d apart.0 c.requires.members c.in-Some-place_of.ensures.some.in_range
     (found_tx members c.tx.result (get_or members at d) (c.in-Some-place_of.ensures.some.first d) ∙ c.tx.ensures)
     (c.in_ok-step_bound.ensures.ok
-    ∙ (λ i. stepping (c.into_parts-answer.ensures.answer i) (c.into_parts-answer.ensures.bound i) (get_or members at d)))
+    ∙ (λ i. stepping (c.into_parts-answer.ensures.answer i) (c.into_parts-answer.ensures.bound i)
+    (get_or members at d)))
     ∙ ap (λ (given : List MemberAnswer). map (answered_from given) members) (sym c.in-Some.ensures.items))
     c.answer_each-others.ensures.ok
 

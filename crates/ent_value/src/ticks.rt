@@ -1,10 +1,10 @@
 //! A count of steps.
 ghost use Rattle.std.specs.Prelude.{◌≡◌};
-ghost use Rattle.ent_join.specs.Ticks.{ticked};
+ghost use Rattle.ent_value.specs.Ticks.{ticked};
 
 use std::marker::Model;
 
-/// A count of the steps that a search took. It stays at the greatest number that it can hold.
+/// A count of steps that a call took. It stays at the greatest number that it can hold.
 #[derive(Debug, Drop)]
 pub struct Ticks {
     count: u64,

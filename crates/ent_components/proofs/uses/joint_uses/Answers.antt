@@ -1,0 +1,19 @@
+use Rattle.std.proofs.Common.{List, ap, ◌∙◌}
+use Rattle.ent_members.specs.Uses.{uses_of_entangled}
+use Rattle.ent_protocol.specs.Begin.{with_uses}
+use Rattle.ent_protocol.specs.State.{Use}
+use Rattle.ent_protocol.specs.Uses.{entangled_uses}
+use Rattle.ent_components.proofs.Used.{uses_more}
+use Rattle.ent_components.proofs.uses.joint_uses.Goals as goal
+
+pub loop-asking-preserved : goal.loop-asking-preserved
+loop-asking-preserved c =
+    let asking = c.asking-item.result in
+    let own =
+    c.as_slice-in-loop-asking.ensures.list
+    ∙ (c.entangled_uses-own.ensures
+    ∙ (ap uses_of_entangled c.statement.ensures ∙ c.uses_are_kept_by_closing.ensures.entangled asking.statement)) in
+    c.in_ok-uses.ensures
+    ∙ (ap (λ (uses : List Use). with_uses uses c.as_slice.result.now) own
+    ∙ (ap (with_uses (entangled_uses asking.statement)) (c.as_slice.ensures.value ∙ c.loop-asking.invariant)
+    ∙ uses_more c.args.asked.now c.loop-asking.asking-index asking c.loop-asking-test.true c.asking-item.is))

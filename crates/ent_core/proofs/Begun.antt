@@ -1,0 +1,260 @@
+-- A member begins: what is planned and done is the begin.
+use Rattle.std.proofs.Common.{◌≡◌, ◌||◌, ℕ, Bool, true, false, ◌==◌, List, [], ◌∷◌, ◌++◌, refl, sym, ap, subst, ◌∙◌}
+use Rattle.std.proofs.Common.{inl, inr}
+use Rattle.std.proofs.Common.{Option, Some, None, cond, nat_eq, if◌then◌else◌, arith, suc, Result, Ok, Err}
+use Rattle.std.specs.List.{filter}
+use Rattle.std.specs.Prelude.{IfOk, IsSome, Contains, is_some}
+use Rattle.ent_members.specs.Changes.{posting}
+use Rattle.std.proofs.lemmas.Bool.Decides.{nat_tests}
+use Rattle.ent_value.specs.declared.value.Value.{Value}
+use Rattle.ent_closed.specs.declared.entangled.Entangled.{Entangled}
+use Rattle.ent_closed.specs.declared.statement.Statement.{Statement}
+use Rattle.ent_coordination.specs.Pool.{IsFirstUnsafe, IsSafe, Unsafe}
+use Rattle.ent_form.specs.declared.catalogue.TableSchema.{TableSchema}
+use Rattle.ent_form.specs.declared.fault.FormFault.{FormFault}
+use Rattle.ent_protocol.specs.Begin.{Begins, BeginsCommit, BeginsEntangled, BeginsMember, BeginsNext, BeginsOrdinary}
+use Rattle.ent_protocol.specs.Begin.{BeginsUnless}
+use Rattle.ent_protocol.specs.Begin.{holding, pool_with, single_job, with_member}
+use Rattle.ent_protocol.specs.Commit.{is_ready, preparing}
+use Rattle.ent_protocol.specs.Event.{Reply}
+use Rattle.ent_protocol.specs.Event as replies
+use Rattle.ent_protocol.specs.Job.{Job}
+use Rattle.ent_protocol.specs.Member.{Asks, Commits, Next, Ordinary, RollsBack, active_member, is_lent, is_prepared}
+use Rattle.ent_protocol.specs.Member.{is_tx}
+use Rattle.ent_protocol.specs.Member.{next_of}
+use Rattle.ent_protocol.specs.Rollback.{Asked, group_numbers, rolled_back}
+use Rattle.ent_protocol.specs.State.{State, Member, Use, first_of}
+use Rattle.ent_protocol.specs.Uses.{blocker, entangled_uses, statement_uses}
+use Rattle.ent_tree.specs.declared.declaration.Opening.{Opening}
+use Rattle.ent_members.specs.Run.{Run}
+use Rattle.ent_protocol.specs.State.{Submitted}
+use Rattle.ent_roster.specs.Roster.{Roster}
+use Rattle.ent_core.specs.Store.{IsKept}
+use Rattle.ent_tables.specs.Stored.{Stored}
+use Rattle.ent_core.specs.Reply.{reply_seen}
+use Rattle.ent_core.specs.declared.reply.Reply.{Reply as Given}
+use Rattle.ent_core.specs.Begin.{IsGroupOf, IsToBegin, LendsTo, MayBegin, PostsTo}
+
+-- ---- the member of a number
+
+pub number_found : (tx : ℕ) (members : List Member) (member : Member)
+    → first_of (filter (is_tx tx) members) ≡ Some member → member.tx ≡ tx
+number_found tx [] member there = absurd cc
+number_found tx (x ∷ xs) member there = by (is_tx tx x) refl (λ rest. number_found tx xs member rest) there
+  where
+    by : (b : Bool) → is_tx tx x ≡ b → (first_of (filter (is_tx tx) xs) ≡ Some member → member.tx ≡ tx)
+        → first_of (cond b (x ∷ filter (is_tx tx) xs) (filter (is_tx tx) xs)) ≡ Some member → member.tx ≡ tx
+    by true is rest e =
+        let same : x ≡ member = cc in
+        let own : x.tx ≡ tx = grind (arith, nat_tests, is) in
+        ap (λ (m : Member). m.tx) (sym same) ∙ own
+    by false is rest e = rest e
+
+pub some_found : (tx : ℕ) (members : List Member) (member : Member)
+    → first_of (filter (is_tx tx) members) ≡ Some member → IsSome (first_of (filter (is_tx tx) members))
+some_found tx members member there = ap is_some there
+
+pub member_found : (tx : ℕ) (members : List Member) (member : Member)
+    → first_of (filter (is_tx tx) members) ≡ Some member → Contains members member
+member_found tx [] member there = absurd cc
+member_found tx (x ∷ xs) member there = by (is_tx tx x) (λ rest. member_found tx xs member rest) there
+  where
+    by : (b : Bool) → (first_of (filter (is_tx tx) xs) ≡ Some member → Contains xs member)
+        → first_of (cond b (x ∷ filter (is_tx tx) xs) (filter (is_tx tx) xs)) ≡ Some member → Contains (x ∷ xs) member
+    by true rest e = let same : x ≡ member = cc in (0, omega arith, same)
+    by false rest e = let r = rest e in (suc r.0, omega (arith, r.1), r.2)
+
+pub or_first : (a b : Bool) → (a || b) ≡ false → a ≡ false
+or_first true b e = e
+or_first false b e = refl
+
+pub neither : (a b : Bool) → a ≡ false → b ≡ false → (a || b) ≡ false
+neither true b first second = first
+neither false b first second = second
+
+pub either : (a b : Bool) → b ≡ true → (a || b) ≡ true
+either true b second = refl
+either false b second = second
+
+pub one_member : {A : Type 0} (x y : A) → Some x ≡ Some y → x ≡ y
+one_member x y e = cc
+
+abbrev absent_unless : Bool → Reply FormFault
+absent_unless b = if b then replies.NotNow else replies.Absent
+
+-- ---- where nothing is begun
+
+module _ (s : State) (tx : ℕ) where
+  pub refused_out : (member : Member) → active_member s tx ≡ Some member → (member.posted || is_lent s tx) ≡ true
+      → Begins {F = FormFault} s tx replies.NotNow s
+  refused_out member there out =
+      let P : Option Member → Type 0 = λ o. BeginsMember {F = FormFault} s tx o replies.NotNow s in
+      let Q : Bool → Type 0 = λ b. BeginsUnless {F = FormFault} b s member replies.NotNow s in
+      subst P (sym there) (subst Q (sym out) (refl, refl))
+
+  pub refused_prepared : active_member s tx ≡ None → is_prepared s tx ≡ true
+      → Begins {F = FormFault} s tx replies.NotNow s
+  refused_prepared nobody prepared =
+      let P : Option Member → Type 0 = λ o. BeginsMember {F = FormFault} s tx o replies.NotNow s in
+      subst P (sym nobody)
+      (ap absent_unless (sym prepared), refl)
+
+  pub refused_absent : active_member s tx ≡ None → is_prepared s tx ≡ false
+      → Begins {F = FormFault} s tx replies.Absent s
+  refused_absent nobody prepared =
+      let P : Option Member → Type 0 = λ o. BeginsMember {F = FormFault} s tx o replies.Absent s in
+      subst P (sym nobody)
+      (ap absent_unless (sym prepared), refl)
+
+  -- ---- what comes next
+
+  pub begins_next : (member : Member) (next : Next) → MayBegin s tx member next
+      → (reply : Reply FormFault) (new : State) → BeginsNext s member next reply new → Begins s tx reply new
+  begins_next member next begun reply new h =
+      let P : Option Member → Type 0 = λ o. BeginsMember s tx o reply new in
+      let Q : Bool → Type 0 = λ b. BeginsUnless b s member reply new in
+      let R : Next → Type 0 = λ n. BeginsNext s member n reply new in
+      subst P (sym begun.there) (subst Q (sym begun.free) (subst R (sym begun.is_next) h))
+
+  module _ (member : Member) (statement : Statement Value) (begun : MayBegin s tx member (Ordinary statement)) where
+    ordinary : (holder : Option ℕ) → blocker s member (statement_uses statement) ≡ holder
+        → (reply : Reply FormFault) (new : State) → BeginsOrdinary s member statement holder reply new
+        → Begins s tx reply new
+    ordinary holder is reply new h =
+        let P : Option ℕ → Type 0 = λ o. BeginsOrdinary s member statement o reply new in
+        begins_next member (Ordinary statement) begun reply new (subst P (sym is) h)
+
+    pub ordinary_blocked : (holder : ℕ) → blocker s member (statement_uses statement) ≡ Some holder
+        → Begins {F = FormFault} s tx (replies.Blocked holder) s
+    ordinary_blocked holder is = ordinary (Some holder) is (replies.Blocked holder) s (refl, refl)
+
+    pub ordinary_lent : blocker s member (statement_uses statement) ≡ None
+        → (uses : List Use) → uses ≡ statement_uses statement
+        → (job : Job) → job ≡ single_job s member statement → (new : State) → LendsTo tx uses job s new
+        → Begins {F = FormFault} s tx (replies.Lent job) new
+    ordinary_lent none uses uses_are job job_is new lends =
+        let as_lent : new
+        ≡ record (with_member (holding member (statement_uses statement)) s) {
+          lent = s.lent ++ single_job s member statement ∷ [];
+        } =
+        lends member begun.there ∙ (λ i. record (with_member (holding member (uses_are i)) s) {
+          lent = s.lent ++ job_is i ∷ [];
+        }) in
+        ordinary None none (replies.Lent job) new (ap (λ (j : Job). replies.Lent j) job_is, as_lent)
+
+  module _ (member : Member) (statement : Entangled Value) (begun : MayBegin s tx member (Asks statement)) where
+    entangled : (holder : Option ℕ) → blocker s member (entangled_uses statement) ≡ holder
+        → (reply : Reply FormFault) (new : State) → BeginsEntangled s member statement holder reply new
+        → Begins s tx reply new
+    entangled holder is reply new h =
+        let P : Option ℕ → Type 0 = λ o. BeginsEntangled s member statement o reply new in
+        begins_next member (Asks statement) begun reply new (subst P (sym is) h)
+
+    pub entangled_blocked : (holder : ℕ) → blocker s member (entangled_uses statement) ≡ Some holder
+        → Begins {F = FormFault} s tx (replies.Blocked holder) s
+    entangled_blocked holder is = entangled (Some holder) is (replies.Blocked holder) s (refl, refl)
+
+    pub entangled_held : blocker s member (entangled_uses statement) ≡ None
+        → (fault : Unsafe) → IsFirstUnsafe (pool_with s member statement) fault
+        → Begins {F = FormFault} s tx (replies.HeldBack fault) s
+    entangled_held none fault first =
+        entangled None none (replies.HeldBack fault) s (inr (fault, first, (refl, refl)))
+
+    pub entangled_posted : blocker s member (entangled_uses statement) ≡ None
+        → IsSafe (pool_with s member statement)
+        → (uses : List Use) → uses ≡ entangled_uses statement → (new : State) → PostsTo tx uses s new
+        → Begins {F = FormFault} s tx replies.Posted new
+    entangled_posted none safe uses uses_are new posts =
+        let as_posted : new
+        ≡ with_member (record (holding member (entangled_uses statement)) { posted = true }) s =
+        posts member begun.there
+        ∙ (λ i. with_member (record (holding member (uses_are i)) { posted = true }) s) in
+        entangled None none replies.Posted new (inl (safe, refl, as_posted))
+
+  pub begun_rolls_back : (begun : IsToBegin s tx RollsBack) (group : ℕ) → IsGroupOf s tx group
+      → (numbers : List ℕ) → numbers ≡ group_numbers s group → (new : State) → new ≡ rolled_back group (Asked tx) s
+      → Begins {F = FormFault} s tx (replies.RolledBack numbers) new
+  begun_rolls_back begun group own numbers numbers_are new is =
+      let member = begun.member in
+      let label : group ≡ member.group = own member begun.may.there in
+      let number : tx ≡ member.tx = sym (number_found tx s.active member begun.may.there) in
+      begins_next member RollsBack begun.may (replies.RolledBack numbers) new (
+        ap (λ (ns : List ℕ). replies.RolledBack ns) (numbers_are ∙ ap (group_numbers s) label),
+        is ∙ (λ i. rolled_back (label i) (Asked (number i)) s),
+      )
+
+  pub begun_commits : {E : Type 0} (begun : IsToBegin s tx Commits) (result : Result Given E) (new : State)
+      → IfOk result (λ reply. (member : Member) → active_member s tx ≡ Some member
+      → BeginsCommit (preparing s member) member.group (is_ready (preparing s member) member.group) (reply_seen reply)
+      new) → IfOk result (λ reply. Begins s tx (reply_seen reply) new)
+  begun_commits begun (Ok reply) new h =
+      begins_next begun.member Commits begun.may (reply_seen reply) new (h begun.member begun.may.there)
+  begun_commits begun (Err e) new h = tt
+
+  -- ---- what a member that rolls back doesn't do
+
+  module _ (member : Member) (there : active_member s tx ≡ Some member) (rolls : next_of s member ≡ RollsBack) where
+    seen_in : (reply : Reply FormFault) (new : State) → Begins s tx reply new
+        → BeginsUnless (member.posted || is_lent s tx) s member reply new
+    seen_in reply new h =
+        let P : Option Member → Type 0 = λ o. BeginsMember s tx o reply new in subst P there h
+
+    pub lends_not : (job : Job) (new : State) → Begins {F = FormFault} s tx (replies.Lent job) new → ⊥
+    lends_not job new h = by (member.posted || is_lent s tx) (seen_in (replies.Lent job) new h)
+      where
+        by : (b : Bool) → BeginsUnless {F = FormFault} b s member (replies.Lent job) new → ⊥
+        by true refused = let e = refused.0 in cc
+        by false begun =
+            let R : Next → Type 0 = λ n. BeginsNext {F = FormFault} s member n (replies.Lent job) new in
+            let e = (subst R rolls begun).0 in cc
+
+    pub posts_not : (new : State) → Begins {F = FormFault} s tx replies.Posted new → ⊥
+    posts_not new h = by (member.posted || is_lent s tx) (seen_in replies.Posted new h)
+      where
+        by : (b : Bool) → BeginsUnless {F = FormFault} b s member replies.Posted new → ⊥
+        by true refused = let e = refused.0 in cc
+        by false begun =
+            let R : Next → Type 0 = λ n. BeginsNext {F = FormFault} s member n replies.Posted new in
+            let e = (subst R rolls begun).0 in cc
+
+    pub commits_not : IsToBegin s tx Commits → ⊥
+    commits_not begun =
+        let same : begun.member ≡ member = one_member begun.member member (sym begun.may.there ∙ there) in
+        let e : RollsBack ≡ Commits = sym rolls ∙ ap (next_of s) (sym same) ∙ begun.may.is_next in
+        cc
+
+    -- so a plan that lends or posts isn't its plan
+    pub plans_no_job : (uses : List Use) (job : Job)
+        → ((new : State) → LendsTo tx uses job s new → Begins {F = FormFault} s tx (replies.Lent job) new) → ⊥
+    plans_no_job uses job plan =
+        let done : Member → State = λ m. record (with_member (holding m uses) s) { lent = s.lent ++ job ∷ [] } in
+        lends_not job (done member) (plan (done member) (λ m at. ap done (one_member member m (sym there ∙ at))))
+
+    pub plans_no_post : (uses : List Use)
+        → ((new : State) → PostsTo tx uses s new → Begins {F = FormFault} s tx replies.Posted new) → ⊥
+    plans_no_post uses plan =
+        let done : Member → State = λ m. with_member (posting uses m) s in
+        posts_not (done member) (plan (done member) (λ m at. ap done (one_member member m (sym there ∙ at))))
+
+-- ---- what the store keeps
+
+pub kept_changed : (schemas : List TableSchema) (opening : Opening) (submitted : List Submitted) (roster : Roster) (running : Bool)
+    (run run' : Run) (stored : Stored) (tx : ℕ) → IsKept schemas opening submitted roster running run stored
+    → IsSome (first_of (filter (is_tx tx) run.active)) → run'.prepared ≡ run.prepared
+    → IsKept schemas opening submitted roster running run' stored
+kept_changed schemas opening submitted roster running run run' stored tx kept some same =
+    record {
+      declared = kept.declared;
+      formed = kept.formed;
+      kinds = kept.kinds;
+      asks = kept.asks;
+      known = kept.known;
+      arrived = kept.arrived;
+      distinct = kept.distinct;
+      idle_prepared = λ off. same ∙ kept.idle_prepared off;
+      idle_active = λ off. absurd (nobody (let P : List Member → Type 0 =
+          λ members. IsSome (first_of (filter (is_tx tx) members)) in subst P (kept.idle_active off) some));
+    }
+  where
+    nobody : false ≡ true → ⊥
+    nobody e = cc

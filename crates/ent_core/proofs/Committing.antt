@@ -1,0 +1,131 @@
+-- A member prepares, and its group commits.
+use Rattle.std.proofs.Common.{◌≡◌, ◌≤◌, ◌+◌, ℕ, suc, Bool, true, false, not, List, [], ◌∷◌, ◌++◌, length, map, refl}
+use Rattle.std.proofs.Common.{sym, ap, subst, ◌∙◌, arith, filter, Option, Some, None}
+use Rattle.std.proofs.lemmas.List.{length-append}
+use Rattle.std.proofs.lemmas.List.Sums.{count_by-le-length, length-filter}
+use Rattle.ent_semantics.specs.declared.book.Entry.{Entry}
+use Rattle.ent_semantics.specs.declared.book.Fated.{Fated}
+use Rattle.ent_members.specs.Moves.{PreparesMember, is_of_another, run_of}
+use Rattle.ent_members.specs.Places.{found}
+use Rattle.ent_members.specs.Run.{Run, with_run}
+use Rattle.ent_protocol.specs.Begin.{BeginsCommit}
+use Rattle.ent_protocol.specs.Commit.{commit_fates, commit_numbers, committing, committing_members, entry_of, is_ready}
+use Rattle.ent_protocol.specs.Commit.{preparing}
+use Rattle.ent_protocol.specs.Event.{Reply, Committed, Prepared}
+use Rattle.ent_protocol.specs.Member.{is_of}
+use Rattle.ent_protocol.specs.Rollback.{is_among}
+use Rattle.ent_protocol.specs.State.{Change, State, Member}
+use Rattle.ent_core.specs.Reply.{numbered_from}
+
+-- ---- what is told
+
+pub numbers_told : (number : ℕ) (members : List Member)
+    → numbered_from number (map (λ (member : Member). member.tx) members) ≡ commit_numbers number members
+numbers_told number [] = refl
+numbers_told number (member ∷ more) = ap (λ rest. (number, member.tx) ∷ rest) (numbers_told (suc number) more)
+
+-- ---- how many
+
+pub nobody_there : (here : Option Member) (member : Member) → None ≡ here → here ≡ Some member → ⊥
+nobody_there None member none some = cc
+nobody_there (Some other) member none some = cc
+
+shorter : (p : Member → Bool) (xs : List Member) → length (filter p xs) ≤ length xs
+shorter p xs = omega (arith, length-filter p xs, count_by-le-length p xs)
+
+some_there : (active : List Member) (tx : ℕ) (member : Member) → found active tx ≡ Some member → 1 ≤ length active
+some_there [] tx member e = absurd cc
+some_there (x ∷ xs) tx member e = omega arith
+
+-- those who commit are members, of whom there is at most one more that is prepared than before
+pub committed_few : (old mid : Run) (tx group : ℕ) (member : Member) (committed : List Member)
+    → found old.active tx ≡ Some member → PreparesMember member old mid
+    → committed ≡ filter (is_of group) mid.prepared → length committed ≤ length (old.prepared ++ old.active)
+committed_few old mid tx group member committed there prepares is =
+    omega (
+      arith,
+      ap length is,
+      shorter (is_of group) mid.prepared,
+      ap length prepares.prepared,
+      length-append old.prepared (member ∷ []),
+      length-append old.prepared old.active,
+      some_there old.active tx member there,
+    )
+
+-- ---- the event
+
+pub begins_commit : {F : Type 0} (prepared : State) (group : ℕ) (ready : Bool) (reply : Reply F) (new : State)
+    → (ready ≡ true → (reply ≡ Committed (commit_numbers (suc (length prepared.journal))
+    (committing_members prepared group)))
+    × (new ≡ committing prepared group))
+    → (ready ≡ false → (reply ≡ Prepared) × (new ≡ prepared)) → BeginsCommit prepared group ready reply new
+begins_commit prepared group true reply new commits waits = commits refl
+begins_commit prepared group false reply new commits waits = waits refl
+
+-- ---- a member prepared
+
+different : {A : Type 0} → true ≡ false → A
+different e = absurd cc
+
+module _ (s : State) (run : Run) (tx group : ℕ) (member : Member) (ready : Bool) (own : group ≡ member.group)
+    (prepares : PreparesMember member (run_of s.prepared s.active) run)
+    (told : ready ≡ is_ready (with_run run s) group) where
+  now_prepared : with_run run s ≡ preparing s member
+  now_prepared = λ i. record s { prepared = prepares.prepared i; active = prepares.active i }
+
+  is_told : is_ready (preparing s member) member.group ≡ ready
+  is_told = sym (told ∙ (λ i. is_ready (now_prepared i) (own i)))
+
+  pub waits : (F : Type 0) (now : State) → s ≡ now → ready ≡ false
+      → BeginsCommit {F = F} (preparing now member) member.group (is_ready (preparing now member) member.group)
+      Prepared (with_run run s)
+  waits F now same off =
+      subst (λ (w : State). BeginsCommit {F = F} (preparing w member) member.group
+      (is_ready (preparing w member) member.group) Prepared (with_run run s)) same
+      (begins_commit {F = F} (preparing s member) member.group (is_ready (preparing s member) member.group) Prepared
+      (with_run run s) (λ on. different (sym on ∙ is_told ∙ off)) (λ e. (refl, now_prepared)))
+
+  pub commits : (F : Type 0) (now : State) (left : Run) (first : ℕ) (committed : List Member) (members : List ℕ)
+      (journal : List Entry) (fates : List Fated) (changes : List Change) → s ≡ now → ready ≡ true
+      → committed ≡ committing_members (with_run run s) group
+      → left.prepared ≡ filter (is_of_another group) run.prepared → left.active ≡ run.active
+      → members ≡ map (λ (one : Member). one.tx) committed → first ≡ suc (length s.journal)
+      → journal ≡ s.journal ++ map entry_of committed → fates ≡ s.fates ++ commit_fates first committed
+      → changes ≡ filter (λ change. not (is_among committed change.tx)) s.changes
+      → BeginsCommit {F = F} (preparing now member) member.group (is_ready (preparing now member) member.group)
+      (Committed (numbered_from first members))
+      (record s {
+        prepared = left.prepared;
+        active = left.active;
+        changes = changes;
+        journal = journal;
+        fates = fates;
+      })
+  commits F now left first committed members journal fates changes same on gone_is left_prepared left_active members_are
+      first_is entered fated settled =
+      let gone : committed ≡ committing_members (preparing s member) member.group =
+      gone_is ∙ (λ i. committing_members (now_prepared i) (own i)) in
+      let new : State = record s {
+        prepared = left.prepared;
+        active = left.active;
+        changes = changes;
+        journal = journal;
+        fates = fates;
+      } in
+      subst (λ (w : State). BeginsCommit {F = F} (preparing w member) member.group
+      (is_ready (preparing w member) member.group) (Committed (numbered_from first members)) new) same
+      (begins_commit {F = F} (preparing s member) member.group (is_ready (preparing s member) member.group)
+      (Committed (numbered_from first members)) new
+      (λ e. (
+        ap Committed ((λ i. numbered_from (first_is i) (members_are i))
+            ∙ numbers_told (suc (length s.journal)) committed
+            ∙ ap (commit_numbers (suc (length s.journal))) gone),
+        λ i. record s {
+          prepared = (left_prepared ∙ (λ j. filter (is_of_another (own j)) (prepares.prepared j))) i;
+          active = (left_active ∙ prepares.active) i;
+          changes = (settled ∙ ap (λ (all : List Member). filter (λ change. not (is_among all change.tx)) s.changes)
+              gone) i;
+          journal = (entered ∙ ap (λ (all : List Member). s.journal ++ map entry_of all) gone) i;
+          fates = (fated ∙ (λ j. s.fates ++ commit_fates (first_is j) (gone j))) i;
+        },
+      )) (λ off. different (sym on ∙ sym is_told ∙ off)))

@@ -1,0 +1,83 @@
+-- Results of joint jobs that are outstanding.
+use Rattle.std.proofs.Common.{◌≡◌, ◌<◌, ℕ, suc, false, List, [], ◌∷◌, length, map, refl, sym}
+use Rattle.std.proofs.Common.{ap, subst, ◌∙◌, arith, nat_eq, Option, Some, None, slice_get, slice_index_or}
+use Rattle.std.specs.Prelude.{AllPairs, IfSome}
+use Rattle.std.specs.List.{AllByRecursion, IsDistinct}
+use Rattle.std.proofs.lemmas.Bool.Decides.{nat_tests}
+use Rattle.std.proofs.lemmas.List.{length-map}
+use Rattle.ent_semantics.specs.Entangled.{Valuation}
+use Rattle.ent_closed.specs.Form.{Tables}
+use Rattle.ent_coordination.specs.Choice.{AreGroundings, IsLeastChoiceIfAny}
+use Rattle.ent_coordination.specs.Pool.{Posted}
+use Rattle.ent_form.specs.declared.fault.FormFault.{FormFault}
+use Rattle.ent_protocol.specs.Event.{Reply}
+use Rattle.ent_protocol.specs.Job.{Asking, Choice, Done, IsEvaluated, IsOutcome, Joint, Outcome, Work}
+use Rattle.ent_protocol.specs.Job.{posted_of, tables_of}
+use Rattle.ent_protocol.specs.PoolEvents.{IsPresentComponent, Joins}
+use Rattle.ent_protocol.specs.State.{State}
+use Rattle.ent_core.specs.Joining.{AnswersAt}
+
+groundings_counted : (tables : Tables) (members : List Posted) (groundings : List Valuation)
+    → AreGroundings tables members groundings → length groundings ≡ length members
+groundings_counted tables [] [] are = refl
+groundings_counted tables [] (values ∷ more) are = absurd are
+groundings_counted tables (member ∷ members) [] are = absurd are
+groundings_counted tables (member ∷ members) (values ∷ more) are =
+    ap suc (groundings_counted tables members more are.1)
+
+choice_counted : (tables : Tables) (asked : List Asking) (choice : Option (List Valuation))
+    → IsLeastChoiceIfAny tables (map posted_of asked) choice
+    → IfSome choice (λ groundings. length groundings ≡ length asked)
+choice_counted tables asked None is = tt
+choice_counted tables asked (Some groundings) is =
+    groundings_counted tables (map posted_of asked) groundings is.choice.grounded ∙ length-map asked posted_of
+
+-- a choice has a grounding for each statement
+pub one_grounding_each : (done : Done) (asked : List Asking) (choice : Option (List Valuation))
+    → Joint asked ≡ done.job.work → Choice choice ≡ done.outcome → IsEvaluated done
+    → IfSome choice (λ groundings. length groundings ≡ length asked)
+one_grounding_each done asked choice work is meant =
+    choice_counted (tables_of done.job.tables) asked choice
+    (subst (λ (own : Outcome). IsOutcome (Joint asked) (tables_of done.job.tables) own) (sym is)
+    (subst (λ (own : Work). IsOutcome own (tables_of done.job.tables) done.outcome) (sym work) meant))
+
+apart : (n m : ℕ) → n < m → nat_eq n m ≡ false
+apart n m less = grind (arith, nat_tests)
+
+none_again : (tx : ℕ) (asked : List Asking)
+    → ((k : ℕ) (d : Posted) → k < length (map posted_of asked) → tx < (slice_index_or (map posted_of asked) k d).tx)
+    → AllByRecursion (λ n. nat_eq tx n ≡ false) (map (λ (asking : Asking). asking.tx) asked)
+none_again tx [] all = tt
+none_again tx (asking ∷ asked) all =
+    let less : tx < asking.tx = all 0 (posted_of asking) (omega arith) in
+    (apart tx asking.tx less, none_again tx asked (λ k d within. all (suc k) d (omega arith)))
+
+-- statements that come by number are of distinct transactions
+pub distinct_by_number : (asked : List Asking)
+    → AllPairs (λ (one other : Posted). one.tx < other.tx) (map posted_of asked)
+    → IsDistinct nat_eq (map (λ (asking : Asking). asking.tx) asked)
+unfolding IsDistinct
+distinct_by_number [] all = tt
+distinct_by_number (asking ∷ asked) all = (
+  none_again asking.tx asked (λ k d within. all 0 (suc k) d (omega arith) (omega arith)),
+  distinct_by_number asked (λ i j d below within. all (suc i) (suc j) d (omega arith) (omega arith)),
+)
+
+pub accepted : (s new : State) (done : Done) (index : ℕ) (asked : List Asking) (choice : Option (List Valuation))
+    (reply : Reply FormFault) → Joint asked ≡ done.job.work → slice_get s.lent index ≡ Some done.job
+    → IsPresentComponent s asked → IsEvaluated done → Choice choice ≡ done.outcome
+    → AnswersAt s index asked choice reply new → Joins s done reply new
+accepted s new done index asked choice reply work there component meant is by =
+    record {
+      meant = meant;
+      outstanding = record {
+        asked = asked;
+        is_joint = sym work;
+        left = new.lent;
+        taken = by.taken done.job there;
+        component = component;
+      };
+      groundings = choice;
+      choice = sym is;
+      answers = by.answers;
+    }

@@ -1,0 +1,81 @@
+use Rattle.std.proofs.Common.{◌≡◌, ◌∙◌, ap, sym, subst}
+use Rattle.std.specs.Prelude.{IsSome}
+use Rattle.std.specs.List.{AllByRecursion}
+use Rattle.ent_standing.specs.Attempts.{AsksForRun}
+use Rattle.ent_members.specs.Places.{found}
+use Rattle.ent_protocol.specs.State.{State}
+use Rattle.ent_resolved.specs.Resolved.{resolved_forms}
+use Rattle.ent_core.specs.Begin.{Follows}
+use Rattle.ent_core.specs.declared.begin.Plan.{Plan}
+use Rattle.ent_core.proofs.Begun.{begun_commits, begun_rolls_back, kept_changed, plans_no_job, plans_no_post}
+use Rattle.ent_core.proofs.Begun.{some_found}
+use Rattle.ent_core.proofs.begin.carry_out.Goals as goal
+
+pub lend-requires : goal.lend-requires
+lend-requires c =
+    let P : Plan → Type 0 = Follows c.args.store.now c.args.tx in
+    (subst P c.in-Lends.is c.requires.follows).0
+
+pub post-requires : goal.post-requires
+post-requires c =
+    let P : Plan → Type 0 = Follows c.args.store.now c.args.tx in
+    let S : State → Type 0 = λ x. IsSome (found x.active c.args.tx) in
+    subst S (sym c.store.view_is) (subst P c.in-Posts.is c.requires.follows).0
+
+pub returns-in_err-post-in-Posts-clause-rolls_back : goal.returns-in_err-post-in-Posts-clause-rolls_back
+returns-in_err-post-in-Posts-clause-rolls_back c = λ member there rolls.
+    let P : Plan → Type 0 = Follows c.args.store.now c.args.tx in
+    absurd (plans_no_post c.args.store.now c.args.tx member there rolls c.in-Posts.uses
+    (subst P c.in-Posts.is c.requires.follows).1)
+
+pub invariant_of-store-in-Posts : goal.invariant_of-store-in-Posts
+invariant_of-store-in-Posts c =
+    let inside = c.store.inside in
+    let P : Plan → Type 0 = Follows c.args.store.now c.args.tx in
+    let S : State → Type 0 = λ x. IsSome (found x.active c.args.tx) in
+    let there = subst S (sym c.store.view_is) (subst P c.in-Posts.is c.requires.follows).0 in
+    kept_changed inside.catalogue.tables inside.opening inside.submitted.items inside.roster inside.running inside.run
+    _ inside.tables c.args.tx c.store.invariant there c.post.ensures.prepared
+
+pub returns-in-Lends-clause-rolls_back : goal.returns-in-Lends-clause-rolls_back
+returns-in-Lends-clause-rolls_back c = λ member there rolls.
+    let P : Plan → Type 0 = Follows c.args.store.now c.args.tx in
+    absurd (plans_no_job c.args.store.now c.args.tx member there rolls c.in-Lends.uses c.in-Lends.job
+    (subst P c.in-Lends.is c.requires.follows).1)
+
+pub returns-in-RollsBack-clause-ok : goal.returns-in-RollsBack-clause-ok
+returns-in-RollsBack-clause-ok c =
+    let P : Plan → Type 0 = Follows c.args.store.now c.args.tx in
+    let follows = subst P c.in-RollsBack.is c.requires.follows in
+    begun_rolls_back c.args.store.now c.args.tx follows.0 c.in-RollsBack.group follows.1
+    c.roll_back.result c.roll_back.ensures.group c.roll_back.new.store c.roll_back.ensures.state
+
+pub commit-requires-clause-there : goal.commit-requires-clause-there
+commit-requires-clause-there c =
+    let P : Plan → Type 0 = Follows c.args.store.now c.args.tx in
+    let begun = subst P c.in-Commits.is c.requires.follows in
+    some_found c.args.tx c.args.store.now.active begun.member begun.may.there
+
+pub returns-in-Commits-clause-ok : goal.returns-in-Commits-clause-ok
+returns-in-Commits-clause-ok c =
+    let P : Plan → Type 0 = Follows c.args.store.now c.args.tx in
+    begun_commits c.args.store.now c.args.tx (subst P c.in-Commits.is c.requires.follows) c.commit.result
+    c.commit.new.store c.commit.ensures.ok
+
+pub roll_back-requires-clause-within : goal.roll_back-requires-clause-within
+roll_back-requires-clause-within c =
+    let A : State → Type 0 = λ x. AllByRecursion AsksForRun x.submitted in
+    c.attempts_stay_within.ensures.own resolved_forms c.args.store.now c.requires.kept.reached
+    (subst A c.store-in-RollsBack.view_is c.store-in-RollsBack.invariant.asks)
+
+pub roll_back-requires-clause-once : goal.roll_back-requires-clause-once
+roll_back-requires-clause-once c =
+    c.transactions_stand_once.ensures.once resolved_forms c.args.store.now c.requires.kept.reached
+
+pub roll_back-requires-clause-counted : goal.roll_back-requires-clause-counted
+roll_back-requires-clause-counted c =
+    c.transactions_are_counted.ensures resolved_forms c.args.store.now c.requires.kept.reached
+
+pub commit-requires-clause-counted : goal.commit-requires-clause-counted
+commit-requires-clause-counted c =
+    c.transactions_are_counted.ensures resolved_forms c.args.store.now c.requires.kept.reached

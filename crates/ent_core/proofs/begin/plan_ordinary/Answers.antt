@@ -1,0 +1,94 @@
+use Rattle.std.proofs.Common.{◌≡◌, ◌<◌, ◌∙◌, ℕ, ap, sym, subst, List, length, map}
+use Rattle.std.specs.Prelude.{All}
+use Rattle.std.proofs.lemmas.List.{length-map}
+use Rattle.std.proofs.lemmas.List.Elements.{recursion_from_All}
+use Rattle.ent_eval.specs.Work.{IsOne}
+use Rattle.ent_tree.specs.declared.declaration.Create.{Create}
+use Rattle.ent_protocol.specs.Job.{Seen, Single, One}
+use Rattle.ent_protocol.specs.Member.{seen_now}
+use Rattle.ent_protocol.specs.State.{State, Use}
+use Rattle.ent_protocol.specs.Uses.{blocker, statement_uses}
+use Rattle.ent_protocol.specs.Waits.{next_uses}
+use Rattle.ent_core.specs.contracts.store.Store.{the_view}
+use Rattle.ent_core.proofs.Begun.{member_found, ordinary_blocked, ordinary_lent, some_found}
+use Rattle.ent_core.proofs.begin.plan_ordinary.Goals as goal
+
+pub returns-in-Some : goal.returns-in-Some
+returns-in-Some c =
+    let s : State = the_view c.store.inside in
+    let member = c.args.member.now in
+    let uses = c.as_slice.ensures.list ∙ c.statement_uses-uses.ensures
+    ∙ c.uses_are_kept_by_closing.ensures.statement c.args.statement in
+    ordinary_blocked c.args.store.now member.tx member c.args.statement c.requires.next c.in-Some.holder
+    (ap (λ (x : State). blocker x member (statement_uses c.args.statement)) (sym c.store.view_is)
+    ∙ ap (blocker s member) (sym uses) ∙ sym (c.in-Some.ensures s))
+
+pub seen-requires : goal.seen-requires
+seen-requires c =
+    let inside = c.store.inside in
+    let now = c.args.store.now in
+    let uses = c.as_slice-2.ensures.list ∙ c.statement_uses-uses.ensures
+    ∙ c.uses_are_kept_by_closing.ensures.statement c.args.statement in
+    let all = c.used_tables_are_declared.ensures.next now c.args.member.now c.requires.kept.reached in
+    let count : length now.opening.tables ≡ length inside.tables.tables =
+    ap (λ (x : State). length x.opening.tables) (sym c.store.view_is)
+    ∙ sym (length-map inside.opening.tables (λ (create : Create). map (λ column. column.kind) create.columns))
+    ∙ ap length (sym c.store.invariant.kinds) ∙ sym c.len-declared.ensures.kinds ∙ c.len-declared.ensures.tables in
+    let P : ℕ → List Use → Type 0 = λ n asked. All (λ own. own.table < n) asked in
+    let Q : ℕ → Type 0 = λ n. P n c.as_slice-2.result.now in
+    recursion_from_All (λ (own : Use). own.table < length inside.tables.tables) c.as_slice-2.result.now
+    (subst Q count (subst (P (length now.opening.tables)) (ap next_uses c.requires.next.is_next ∙ sym uses) all))
+
+pub one-job-requires : goal.one-job-requires
+one-job-requires c =
+    let inside = c.store.inside in
+    let now = c.args.store.now in
+    let member = c.args.member.now in
+    let statement = c.args.statement in
+    let uses = c.as_slice-2.ensures.list ∙ c.statement_uses-uses.ensures
+    ∙ c.uses_are_kept_by_closing.ensures.statement statement in
+    let single = c.new-single.ensures ∙ (λ i. record {
+      tx = c.tx.ensures i;
+      attempt = c.attempt.ensures i;
+      place = c.place-place.ensures i;
+      statement = statement;
+    }) in
+    let seen : c.in_ok-tables.tables ≡ seen_now now.opening.tables now.tables (statement_uses statement) =
+    c.in_ok-tables.ensures inside.opening.tables (sym c.store.invariant.kinds)
+    ∙ ap (seen_now inside.opening.tables inside.tables.tables) uses
+    ∙ ap (λ (x : State). seen_now x.opening.tables x.tables (statement_uses statement)) c.store.view_is in
+    let S : Single → Type 0 = λ own. IsOne own c.in_ok-tables.tables in
+    let T : List Seen → Type 0 = λ tables. IsOne (record {
+      tx = member.tx;
+      attempt = member.attempt;
+      place = member.place;
+      statement = statement;
+    }) tables in
+    subst S (sym single) (subst T (sym seen) (c.begun_statements_are_work.ensures now member statement
+    c.requires.kept.formed c.requires.kept.reached (member_found member.tx now.active member c.requires.next.there)
+    c.requires.next.is_next))
+
+pub returns : goal.returns
+returns c =
+    let s : State = the_view c.store.inside in
+    let inside = c.store.inside in
+    let now = c.args.store.now in
+    let member = c.args.member.now in
+    let statement = c.args.statement in
+    let uses = c.statement_uses-uses.ensures ∙ c.uses_are_kept_by_closing.ensures.statement statement in
+    let none = ap (λ (x : State). blocker x member (statement_uses statement)) (sym c.store.view_is)
+    ∙ ap (blocker s member) (sym (c.as_slice.ensures.list ∙ uses)) ∙ sym (c.in_default.ensures s) in
+    let single = c.new-single.ensures ∙ (λ i. record {
+      tx = c.tx.ensures i;
+      attempt = c.attempt.ensures i;
+      place = c.place-place.ensures i;
+      statement = statement;
+    }) in
+    let seen : c.in_ok-tables.tables ≡ seen_now now.opening.tables now.tables (statement_uses statement) =
+    c.in_ok-tables.ensures inside.opening.tables (sym c.store.invariant.kinds)
+    ∙ ap (seen_now inside.opening.tables inside.tables.tables) (c.as_slice-2.ensures.list ∙ uses)
+    ∙ ap (λ (x : State). seen_now x.opening.tables x.tables (statement_uses statement)) c.store.view_is in (
+      some_found member.tx now.active member c.requires.next.there,
+      ordinary_lent now member.tx member statement c.requires.next none c.statement_uses-uses.result uses
+          c.one-job.result (c.one-job.ensures ∙ (λ i. record { work = One (single i); tables = seen i })),
+    )

@@ -1,0 +1,96 @@
+use Rattle.std.proofs.Common.{◌≡◌, ◌+◌, ◌++◌, ◌∙◌, ℕ, suc, List, Option, Some, ap, arith, length, map, subst, sym}
+use Rattle.ent_form.specs.declared.fault.FormFault.{FormFault}
+use Rattle.ent_members.specs.Moves.{PreparesMember, run_of}
+use Rattle.ent_members.specs.Places.{found}
+use Rattle.ent_members.specs.Run.{Run, tx_of, with_run}
+use Rattle.ent_protocol.specs.Begin.{BeginsCommit}
+use Rattle.ent_protocol.specs.Commit.{commit_fates, entry_of, is_ready, preparing}
+use Rattle.ent_protocol.specs.Event as replies
+use Rattle.ent_protocol.specs.Member.{active_member}
+use Rattle.ent_protocol.specs.State.{State, Member, members}
+use Rattle.ent_roster.specs.Roster.{Roster}
+use Rattle.ent_semantics.specs.declared.book.Entry.{Entry}
+use Rattle.ent_tables.specs.Stored.{Stored}
+use Rattle.ent_core.specs.Reply.{numbered_from}
+use Rattle.ent_core.specs.contracts.store.Store.{the_view}
+use Rattle.ent_core.proofs.Begun.{one_member}
+use Rattle.ent_core.proofs.Committing.{commits, committed_few, nobody_there, waits}
+use Rattle.ent_core.proofs.commit.commit.Goals as goal
+
+pub returns-in_default-clause-ok : goal.returns-in_default-clause-ok
+returns-in_default-clause-ok c = λ member there.
+    let s : State = the_view c.store.inside in
+    absurd (nobody_there (active_member s c.args.tx) member (c.in_default.ensures s)
+    (ap (λ (x : State). active_member x c.args.tx) c.store.view_is ∙ there))
+
+pub returns-then-not-is_ready-clause-ok : goal.returns-then-not-is_ready-clause-ok
+returns-then-not-is_ready-clause-ok c = λ member there.
+    let s : State = the_view c.store.inside in
+    let now = c.args.store.now in
+    let mid : Run = c.prepare.new.self in
+    let here : active_member s c.args.tx ≡ Some member =
+    ap (λ (x : State). active_member x c.args.tx) c.store.view_is ∙ there in
+    let one : c.in-Some.member.now ≡ member =
+    one_member c.in-Some.member.now member (c.in-Some.ensures s ∙ here) in
+    let own : c.group-group.result ≡ member.group = c.group-group.ensures ∙ ap (λ (m : Member). m.group) one in
+    let P : State → Type 0 = λ new. BeginsCommit {F = FormFault} (preparing now member) member.group
+    (is_ready (preparing now member) member.group) replies.Prepared new in
+    let same : with_run mid s ≡ record (with_run mid s) { journal = c.reserve.new.self.items } =
+    λ i. record (with_run mid s) { journal = (sym c.reserve.ensures.items) i } in
+    subst P same (waits s mid c.args.tx c.group-group.result member c.is_ready.result own
+    (c.in_ok-prepare.ensures.ok member here) (c.is_ready.ensures s) FormFault now c.store.view_is
+    c.if-not-is_ready.true)
+
+pub commit-requires-clause-room : goal.commit-requires-clause-room
+commit-requires-clause-room c =
+    let s : State = the_view c.store.inside in
+    let C : State → Type 0 = λ x. length x.fates + length x.dormant + length (members x) ≡ length x.submitted in
+    let counted : C s = subst C (sym c.store.view_is) c.requires.counted in
+    let there : found c.store.inside.run.active c.args.tx ≡ Some c.in-Some.member.now = sym (c.in-Some.ensures s) in
+    let few = committed_few c.store.inside.run c.prepare.new.self c.args.tx c.group-group.result c.in-Some.member.now
+    c.commit-committed.result.items there (c.in_ok-prepare.ensures.ok c.in-Some.member.now there)
+    (c.commit-committed.ensures.committed s) in
+    omega (arith, counted, c.store.invariant.known, few, ap length c.as_slice-2.ensures.value)
+
+pub returns-clause-ok : goal.returns-clause-ok
+returns-clause-ok c = λ member there.
+    let s : State = the_view c.store.inside in
+    let now = c.args.store.now in
+    let mid : Run = c.prepare.new.self in
+    let left : Run = c.commit-committed.new.self in
+    let committed : List Member = c.commit-committed.result.items in
+    let numbers : List ℕ = c.member_numbers-members.result in
+    let first : ℕ = c.len.result + 1 in
+    let here : active_member s c.args.tx ≡ Some member =
+    ap (λ (x : State). active_member x c.args.tx) c.store.view_is ∙ there in
+    let one : c.in-Some.member.now ≡ member =
+    one_member c.in-Some.member.now member (c.in-Some.ensures s ∙ here) in
+    let own : c.group-group.result ≡ member.group = c.group-group.ensures ∙ ap (λ (m : Member). m.group) one in
+    let numbers_are : numbers ≡ map tx_of committed =
+    c.member_numbers-members.ensures ∙ ap (map tx_of) c.as_slice.ensures.value in
+    let first_is : first ≡ suc (length s.journal) =
+    omega (arith, c.len.ensures, c.reserve.new.self.ok.0, ap length c.reserve.ensures.items) in
+    let entered = c.enter.ensures.entries
+    ∙ ap (λ (entries : List Entry). entries ++ map entry_of committed) c.reserve.ensures.items in
+    let fated = ap (λ (roster : Roster). roster.fates) c.commit.ensures
+    ∙ ap (λ (all : List Member). s.fates ++ commit_fates first all) c.as_slice-2.ensures.value in
+    let settled = c.settle.ensures.members committed numbers_are in
+    let P : State → Type 0 = λ new. BeginsCommit {F = FormFault} (preparing now member) member.group
+    (is_ready (preparing now member) member.group) (replies.Committed (numbered_from first numbers)) new in
+    let mark : State = record s {
+      prepared = left.prepared;
+      active = left.active;
+      changes = c.settle.new.self.changes;
+      journal = c.enter.new.journal.items;
+      fates = c.commit.new.self.fates;
+    } in
+    let same : mark ≡ record mark { dormant = c.commit.new.self.dormant; tables = c.settle.new.self.tables } =
+    λ i. record mark {
+      dormant = (sym (ap (λ (roster : Roster). roster.dormant) c.commit.ensures)) i;
+      tables = (sym (ap (λ (stored : Stored). stored.tables) settled)) i;
+    } in
+    subst P same (commits s mid c.args.tx c.group-group.result member c.is_ready.result own
+    (c.in_ok-prepare.ensures.ok member here) (c.is_ready.ensures s) FormFault now left first committed numbers
+    c.enter.new.journal.items c.commit.new.self.fates c.settle.new.self.changes c.store.view_is c.if-not-is_ready.false
+    (c.commit-committed.ensures.committed s) c.commit-committed.ensures.prepared c.commit-committed.ensures.active
+    numbers_are first_is entered fated (ap (λ (stored : Stored). stored.changes) settled))

@@ -1,0 +1,38 @@
+use Rattle.std.proofs.Common.{◌≡◌, true, Option, sym, ap, subst, ◌∙◌}
+use Rattle.std.specs.List.{AllByRecursion}
+use Rattle.ent_protocol.specs.State.{State}
+use Rattle.ent_quiet.specs.Quiet.{IsReasonIfAny}
+use Rattle.ent_quiet.specs.declared.reason.Reason.{Reason}
+use Rattle.ent_resolved.specs.Resolved.{resolved_forms}
+use Rattle.ent_standing.specs.Attempts.{AsksForRun}
+use Rattle.ent_core.proofs.Ending.{has_ended, kept_busy}
+use Rattle.ent_core.proofs.end_run.end_run.Goals as goal
+
+pub end-members-requires-clause-counted : goal.end-members-requires-clause-counted
+end-members-requires-clause-counted c =
+    c.transactions_are_counted.ensures resolved_forms c.args.store.now c.requires.kept.reached
+
+pub end-members-requires-clause-within : goal.end-members-requires-clause-within
+end-members-requires-clause-within c =
+    let P : State → Type 0 = λ s. AllByRecursion AsksForRun s.submitted in
+    c.attempts_stay_within.ensures.own resolved_forms c.args.store.now c.requires.kept.reached
+    (subst P c.store.view_is c.store.invariant.asks)
+
+pub end-members-requires-clause-once : goal.end-members-requires-clause-once
+end-members-requires-clause-once c =
+    c.transactions_stand_once.ensures.once resolved_forms c.args.store.now c.requires.kept.reached
+
+pub returns-in-Some-clause-ok : goal.returns-in-Some-clause-ok
+returns-in-Some-clause-ok c =
+    let s : State = c.args.store.now in
+    let on : s.running ≡ true = sym (ap (λ (x : State). x.running) c.store.view_is) ∙ c.if-not-store.false in
+    kept_busy s c.in-Some.why on
+    (subst (λ (why : Option Reason). IsReasonIfAny s why) c.in-Some.is c.in_ok-why.ensures)
+
+pub returns-in-None-clause-ok : goal.returns-in-None-clause-ok
+returns-in-None-clause-ok c =
+    let s : State = c.args.store.now in
+    let on : s.running ≡ true = sym (ap (λ (x : State). x.running) c.store.view_is) ∙ c.if-not-store.false in
+    has_ended s c.end-members.new.store c.end-members.result on
+    (subst (λ (why : Option Reason). IsReasonIfAny s why) c.in-None.is c.in_ok-why.ensures)
+    c.end-members.ensures.members c.end-members.ensures.state

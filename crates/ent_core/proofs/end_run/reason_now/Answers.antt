@@ -1,0 +1,31 @@
+use Rattle.std.proofs.Common.{◌≡◌, Option, sym, ap, subst, ◌∙◌}
+use Rattle.ent_protocol.specs.State.{State}
+use Rattle.ent_quiet.specs.Quiet.{IsReasonIfAny, state_of}
+use Rattle.ent_resolved.specs.Resolved.{resolved_forms}
+use Rattle.ent_core.specs.contracts.store.Store.{the_view}
+use Rattle.ent_core.proofs.end_run.reason_now.Goals as goal
+
+pub reason_of-requires : goal.reason_of-requires
+reason_of-requires c =
+    let s = c.args.store.now in
+    let reached = c.requires.kept.reached in
+    let stand = c.members_stand_by_number.ensures resolved_forms s reached in
+    record {
+      order = record {
+        state = s;
+        of_submitted = sym (c.as_slice.ensures.value ∙ ap (λ (x : State). x.submitted) c.store.view_is);
+        of_active = sym (ap (λ (x : State). x.active) c.store.view_is);
+        ascending = stand.active;
+        posted = stand.pool;
+        safe = c.pools_are_safe.ensures resolved_forms s reached;
+      };
+    }
+
+pub returns : goal.returns
+returns c =
+    let s : State = the_view c.store.inside in
+    let same : state_of c.store.inside.run c.as_slice.result.now c.as_slice-2.result.now c.as_slice-3.result.now s
+    ≡ c.args.store.now =
+    (λ i. state_of c.store.inside.run (c.as_slice.ensures.value i) (c.as_slice-2.ensures.value i) (c.as_slice-3.ensures i) s)
+    ∙ c.store.view_is in
+    subst (λ (x : State). IsReasonIfAny x c.in_ok-why.why) same (c.in_ok-why.ensures s)

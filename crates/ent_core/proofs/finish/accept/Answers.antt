@@ -1,0 +1,76 @@
+use Rattle.std.proofs.Common.{◌≡◌, ◌∙◌, Some, ap, refl, subst, sym, slice_get}
+use Rattle.std.proofs.lemmas.Option.{slice_get_within}
+use Rattle.ent_eval.specs.Work.{CanBeMade, IsWork, alone_seen, outcome_seen, work_seen}
+use Rattle.ent_eval.specs.declared.outcome.JobOutcome.{JobOutcome}
+use Rattle.ent_eval.specs.declared.work.Work.{Work}
+use Rattle.ent_protocol.specs.Job.{Job, One, Outcome}
+use Rattle.ent_protocol.specs.State.{State}
+use Rattle.ent_resolved.specs.Resolved.{resolved_forms}
+use Rattle.ent_core.proofs.Finishing.{accepted, out_change, out_member}
+use Rattle.ent_core.proofs.finish.accept.Goals as goal
+
+pub returns-in_default-clause-ok : goal.returns-in_default-clause-ok
+returns-in_default-clause-ok c = (
+  c.in_default.ensures.none refl c.args.store.now c.args.done.now (ap (λ (s : State). s.lent) (sym c.store.view_is))
+      (sym c.job.ensures),
+  refl,
+)
+
+pub carry_out-requires-clause-lent : goal.carry_out-requires-clause-lent
+carry_out-requires-clause-lent c =
+    let s = c.args.store.now in
+    let there : slice_get s.lent c.in-Some.index ≡ Some c.job.result.now =
+    ap (λ (x : State). slice_get x.lent c.in-Some.index) (sym c.store.view_is) ∙ c.in-Some.ensures.some in
+    slice_get_within s.lent c.in-Some.index c.job.result.now there
+
+pub carry_out-requires-clause-there : goal.carry_out-requires-clause-there
+carry_out-requires-clause-there c =
+    let s = c.args.store.now in
+    let job = c.args.done.now.job in
+    let there : slice_get s.lent c.in-Some.index ≡ Some job =
+    ap (λ (x : State). slice_get x.lent c.in-Some.index) (sym c.store.view_is) ∙ c.in-Some.ensures.some
+    ∙ ap (λ (j : Job). Some j) c.job.ensures in
+    let work : job.work ≡ One c.in-One.single =
+    ap (λ (j : Job). j.work) (sym c.job-2.ensures) ∙ sym c.work.ensures.work
+    ∙ ap (λ (w : Work). work_seen w) c.in-One.is in
+    let present = c.resolved_jobs_are_present.ensures.present s c.requires.kept.formed c.requires.kept.reached in
+    out_member s job c.in-One.single c.in-Some.index present there work
+
+pub carry_out-requires-clause-may : goal.carry_out-requires-clause-may
+carry_out-requires-clause-may c =
+    let s = c.args.store.now in
+    let job = c.args.done.now.job in
+    let there : slice_get s.lent c.in-Some.index ≡ Some job =
+    ap (λ (x : State). slice_get x.lent c.in-Some.index) (sym c.store.view_is) ∙ c.in-Some.ensures.some
+    ∙ ap (λ (j : Job). Some j) c.job.ensures in
+    let work : job.work ≡ One c.in-One.single =
+    ap (λ (j : Job). j.work) (sym c.job-2.ensures) ∙ sym c.work.ensures.work
+    ∙ ap (λ (w : Work). work_seen w) c.in-One.is in
+    let present = c.resolved_jobs_are_present.ensures.present s c.requires.kept.formed c.requires.kept.reached in
+    let declared = c.lent_tables_are_declared.ensures resolved_forms s c.requires.kept.reached in
+    let fits : IsWork job.work job.tables =
+    subst (λ (j : Job). IsWork j.work j.tables) c.job-2.ensures c.work.ensures.fits in
+    let is : c.args.done.now.outcome ≡ alone_seen c.in-One-outcome.outcome =
+    sym c.outcome.ensures.outcome ∙ ap (λ (o : JobOutcome). outcome_seen o) c.in-One-outcome.is in
+    let made : CanBeMade job.tables (alone_seen c.in-One-outcome.outcome) =
+    subst (λ (o : Outcome). CanBeMade job.tables o) is c.outcome.ensures.change in
+    out_change s job c.in-One.single c.in-Some.index (alone_seen c.in-One-outcome.outcome) present declared
+    (λ member statement next. c.used_tables_are_declared.ensures.changed s member statement c.requires.kept.reached next)
+    there work fits made
+
+pub returns-clause-ok : goal.returns-clause-ok
+returns-clause-ok c =
+    let s = c.args.store.now in
+    let job = c.args.done.now.job in
+    let there : slice_get s.lent c.in-Some.index ≡ Some job =
+    ap (λ (x : State). slice_get x.lent c.in-Some.index) (sym c.store.view_is) ∙ c.in-Some.ensures.some
+    ∙ ap (λ (j : Job). Some j) c.job.ensures in
+    let work : job.work ≡ One c.in-One.single =
+    ap (λ (j : Job). j.work) (sym c.job-2.ensures) ∙ sym c.work.ensures.work
+    ∙ ap (λ (w : Work). work_seen w) c.in-One.is in
+    let present = c.resolved_jobs_are_present.ensures.present s c.requires.kept.formed c.requires.kept.reached in
+    let is : alone_seen c.in-One-outcome.outcome ≡ c.args.done.now.outcome =
+    sym (ap (λ (o : JobOutcome). outcome_seen o) c.in-One-outcome.is) ∙ c.outcome.ensures.outcome in
+    accepted s c.args.done.now c.in-One.single c.in-Some.index (alone_seen c.in-One-outcome.outcome) c.in_ok-reply.reply
+    c.carry_out.new.store c.outcome.ensures.meaning there work
+    (out_member s job c.in-One.single c.in-Some.index present there work) is c.in_ok-reply.ensures.ok

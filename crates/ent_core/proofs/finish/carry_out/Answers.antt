@@ -1,0 +1,70 @@
+use Rattle.std.proofs.Common.{◌≡◌, ◌∙◌, List, Some, ap, refl, subst, sym, slice_get}
+use Rattle.ent_eval.specs.Work.{alone_seen}
+use Rattle.ent_form.specs.declared.fault.FormFault.{FormFault}
+use Rattle.ent_protocol.specs.Event as replies
+use Rattle.ent_protocol.specs.Finish.{FinishesBy, IsTaken}
+use Rattle.ent_protocol.specs.Job.{Fault, Job, Outcome}
+use Rattle.ent_protocol.specs.Member.{active_member}
+use Rattle.ent_protocol.specs.State.{State}
+use Rattle.ent_core.specs.Finish.{CarriesOut}
+use Rattle.ent_core.specs.Reply.{reply_seen}
+use Rattle.ent_core.specs.contracts.store.Store.{the_view}
+use Rattle.ent_core.proofs.Finishing.{went_on}
+use Rattle.ent_core.proofs.finish.carry_out.Goals as goal
+
+pub returns-in-Ok-clause-ok : goal.returns-in-Ok-clause-ok
+returns-in-Ok-clause-ok c = λ job member at there.
+    let inside = c.store.inside in
+    let v : State = the_view inside in
+    let single = c.args.single.now in
+    let outcome : Outcome = alone_seen c.args.outcome.now in
+    let left = c.take.new.self in
+    let run = c.advance.new.run in
+    let stored = c.advance.new.tables in
+    let new : State = record v {
+      prepared = run.prepared;
+      active = run.active;
+      lent = left;
+      tables = stored.tables;
+      changes = stored.changes;
+    } in
+    let taken : IsTaken job v.lent left =
+    c.take.ensures job (ap (λ (x : State). slice_get x.lent c.args.index) c.store.view_is ∙ at) in
+    let is : active_member v single.tx ≡ Some member =
+    ap (λ (x : State). active_member x single.tx) c.store.view_is ∙ there in
+    let steps = went_on v inside.run run inside.tables stored single member left outcome c.in-Ok.answer refl refl refl
+    refl is c.in-Ok.ensures.ok in
+    let P : State → Type 0 =
+    λ s. (others : List Job) × IsTaken job s.lent others
+    × FinishesBy {F = FormFault} (record s { lent = others }) member single.statement outcome
+    (replies.Stepped c.in-Ok.answer) new in
+    let done : P v = (left, taken, steps) in
+    subst P c.store.view_is done
+
+pub returns-in-Err-Fault-clause-ok : goal.returns-in-Err-Fault-clause-ok
+returns-in-Err-Fault-clause-ok c =
+    let v : State = the_view c.store.inside in
+    let single = c.args.single.now in
+    let run = c.in-Err-Fault.ensures.run in
+    let stored = c.in-Err-Fault.ensures.tables in
+    let failure = c.in-Err-Fault.failure in
+    let refused = c.in-Err-Fault.field-0-is in
+    let outcome : alone_seen c.args.outcome.now ≡ Fault failure = c.in-Err-Fault.ensures.failure failure cc in
+    let before : State = record v {
+      prepared = c.advance.new.run.prepared;
+      active = c.advance.new.run.active;
+      tables = c.advance.new.tables.tables;
+      changes = c.advance.new.tables.changes;
+    } in
+    let same : before ≡ v = λ i. record v {
+      prepared = (run i).prepared;
+      active = (run i).active;
+      tables = (stored i).tables;
+      changes = (stored i).changes;
+    } in
+    let P : State → Type 0 =
+    λ s. CarriesOut s c.args.index single (Fault failure) (reply_seen c.fail.result) c.fail.new.store in
+    let Q : Outcome → Type 0 =
+    λ o. CarriesOut c.args.store.now c.args.index single o (reply_seen c.fail.result) c.fail.new.store in
+    let told : P before = c.fail.ensures in
+    subst Q (sym outcome) (subst P (same ∙ c.store.view_is) told)

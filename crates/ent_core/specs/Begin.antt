@@ -1,0 +1,49 @@
+-- What a begin comes to, before anything is changed.
+use Rattle.std.specs.Prelude.{◌≡◌, ◌||◌, ℕ, false, List, [], ◌∷◌, ◌++◌, Some, IsSome}
+use Rattle.ent_form.specs.declared.fault.FormFault.{FormFault}
+use Rattle.ent_members.specs.Changes.{posting}
+use Rattle.ent_protocol.specs.Begin.{Begins, holding, with_member}
+use Rattle.ent_protocol.specs.Event as replies
+use Rattle.ent_protocol.specs.Job.{Job}
+use Rattle.ent_protocol.specs.Member.{Commits, Next, RollsBack, active_member, is_lent, next_of}
+use Rattle.ent_protocol.specs.State.{State, Member, Use}
+use Rattle.ent_core.specs.Reply.{reply_seen}
+use Rattle.ent_core.specs.declared.begin.Plan.{Plan}
+use Rattle.ent_core.specs.declared.begin.Plan.TheVariants as plans
+
+-- the member of a number may begin, and this comes next
+pub record MayBegin (s : State) (tx : ℕ) (member : Member) (next : Next) : Type 0 where
+  pub there : active_member s tx ≡ Some member
+  pub free : (member.posted || is_lent s tx) ≡ false
+  pub is_next : next_of s member ≡ next
+
+pub record IsToBegin (s : State) (tx : ℕ) (next : Next) : Type 0 where
+  pub member : Member
+  pub may : MayBegin s tx member next
+
+-- a member's job is lent, and it holds the job's uses
+abbrev pub LendsTo : ℕ → List Use → Job → State → State → Type 0
+LendsTo tx uses job old new =
+    (member : Member) → active_member old tx ≡ Some member
+    → new ≡ record (with_member (holding member uses) old) { lent = old.lent ++ job ∷ [] }
+
+-- a member's statement is posted, and it holds the uses of the statement
+abbrev pub PostsTo : ℕ → List Use → State → State → Type 0
+PostsTo tx uses old new =
+    (member : Member) → active_member old tx ≡ Some member → new ≡ with_member (posting uses member) old
+
+-- the label of the group of the member of a number
+abbrev pub IsGroupOf : State → ℕ → ℕ → Type 0
+IsGroupOf s tx group = (member : Member) → active_member s tx ≡ Some member → group ≡ member.group
+
+-- doing what is planned is the begin
+abbrev pub Follows : State → ℕ → Plan → Type 0
+Follows s tx (plans.Refuses reply) = Begins s tx (reply_seen reply) s
+Follows s tx (plans.Lends job uses) =
+    IsSome (active_member s tx)
+    × ((new : State) → LendsTo tx uses job s new → Begins {F = FormFault} s tx (replies.Lent job) new)
+Follows s tx (plans.Posts uses) =
+    IsSome (active_member s tx)
+    × ((new : State) → PostsTo tx uses s new → Begins {F = FormFault} s tx replies.Posted new)
+Follows s tx plans.Commits = IsToBegin s tx Commits
+Follows s tx (plans.RollsBack group) = IsToBegin s tx RollsBack × IsGroupOf s tx group

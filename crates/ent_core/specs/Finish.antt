@@ -1,0 +1,47 @@
+-- What a result comes to.
+use Rattle.std.specs.Prelude.{◌≡◌, ◌<◌, ℕ, List, Option, Some, None, length, slice_get, slice_index_or}
+use Rattle.std.specs.List.{AllByRecursion}
+use Rattle.ent_set.specs.Sets as set
+use Rattle.ent_value.specs.declared.value.Value.{Value}
+use Rattle.ent_closed.specs.declared.statement.Statement.{Statement}
+use Rattle.ent_eval.specs.Change.{IsApplicable}
+use Rattle.ent_form.specs.declared.fault.FormFault.{FormFault}
+use Rattle.ent_protocol.specs.Event.{Reply}
+use Rattle.ent_protocol.specs.Finish.{FinishesBy, FinishesSingle, IsOutstandingSingle, IsTaken, table_of}
+use Rattle.ent_protocol.specs.Job.{Done, Job, One, Outcome, Shown, Changed, Bound, Choice, Fault, Single}
+use Rattle.ent_protocol.specs.Member.{active_member, declared_kinds}
+use Rattle.ent_protocol.specs.State.{State, Member}
+use Rattle.ent_rel.specs.declared.change.Delta.{Delta}
+use Rattle.ent_core.specs.Reply.{reply_seen}
+use Rattle.ent_core.specs.declared.reply.Reply.{Reply as Given}
+
+-- a table is declared, and a change can be made in it as it stands
+pub record CanChange (s : State) (delta : Delta) (table : ℕ) : Type 0 where
+  pub declared : table < length s.opening.tables
+  pub applicable : IsApplicable (record {
+    kinds = declared_kinds s.opening.tables table;
+    rows = slice_index_or s.tables table set.empty;
+  })
+      delta
+
+-- where an outcome is a change, it can be made in the statement's table
+abbrev pub MayCarryOut : State → Statement Value → Outcome → Type 0
+MayCarryOut s statement (Shown rows) = Unit {0}
+MayCarryOut s statement (Changed count removed added) =
+    AllByRecursion (CanChange s (record { removed = removed; added = added })) (table_of statement)
+MayCarryOut s statement (Bound value) = Unit {0}
+MayCarryOut s statement (Choice groundings) = Unit {0}
+MayCarryOut s statement (Fault failure) = Unit {0}
+
+-- the job at an index is lent no more, and the member of its statement goes on with the outcome, or is rolled back
+abbrev pub CarriesOut : State → ℕ → Single → Outcome → Reply FormFault → State → Type 0
+CarriesOut s index single outcome reply new =
+    (job : Job) (member : Member) → slice_get s.lent index ≡ Some job → active_member s single.tx ≡ Some member
+    → (left : List Job) × IsTaken job s.lent left
+    × FinishesBy (record s { lent = left }) member single.statement outcome reply new
+
+-- a result that is outstanding is carried out; where there is no reply, it isn't outstanding
+abbrev pub Accepts : State → Done → Option Given → State → Type 0
+Accepts s done None new = (IsOutstandingSingle s done → ⊥) × (new ≡ s)
+Accepts s done (Some reply) new =
+    (single : Single) × (done.job.work ≡ One single) × FinishesSingle s done single (reply_seen reply) new

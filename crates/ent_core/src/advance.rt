@@ -1,0 +1,120 @@
+//! A member goes on with the outcome of its statement.
+ghost use Rattle.std.specs.Prelude.{◌≡◌, [], IfOk, IsSome, OnErr, OnOk, option_to_list};
+ghost use Rattle.std.specs.List.{AllByRecursion};
+ghost use Rattle.ent_core.specs.Advance.{MayChange, binding, changing};
+ghost use Rattle.ent_members.specs.Places.{Changes, found};
+ghost use Rattle.ent_protocol.specs.Finish.{stepped, table_of, variable_of, with_bound};
+ghost use Rattle.ent_semantics.specs.declared.answer.Answer.TheVariants as answers;
+
+use ent_closed::Statement;
+use ent_eval::Single;
+use ent_group::Tx;
+use ent_members::Run;
+use ent_rel::Delta;
+use ent_semantics::Answer;
+use ent_tables::StoredTables;
+use ent_value::{Name, Row, Sequence, Value};
+use std::alloc::{AllocError, Global};
+
+/// The table that a statement changes, by its number.
+fn table_of(statement: &Statement<Value>) -> Option<usize>
+    ensures { option_to_list result ≡ table_of statement.now }
+{
+    match statement {
+        Statement::Insert { table, .. } => Some(*table),
+        Statement::Delete { table, .. } => Some(*table),
+        Statement::Update { table, .. } => Some(*table),
+        _ => None,
+    }
+}
+
+/// What a statement binds to a value: the host variable of a SET, and else nothing.
+fn bound_by(
+    alloc: Global,
+    statement: &Statement<Value>,
+    value: &Value,
+) -> Result<Vec<(Name, Value)>, AllocError>
+    ensures { IfOk result (λ bound. bound.items ≡ with_bound (variable_of statement.now) value.now []) }
+{
+    let mut bound = Vec::new(alloc);
+    if let Statement::Set { variable, .. } = statement {
+        bound.push((variable.copy(alloc)?, value.copy(alloc)?))?;
+    }
+    Ok(bound)
+}
+
+fn rows_copy(alloc: Global, rows: &[Row]) -> Result<Sequence<Row>, AllocError>
+    ensures { IfOk result (λ copies. copies ≡ rows.now) }
+{
+    let mut copies = Vec::with_capacity(alloc, rows.len())?;
+    for row in rows {
+        copies.push(row.copy(alloc)?)?;
+    }
+    Ok(Sequence::from_vec(copies))
+}
+
+/// The member of a number takes the rows of its SELECT, and is at the next statement. The answer is theirs too. Where
+/// memory runs out nothing changes.
+pub(crate) fn show(alloc: Global, run: &mut Run, tx: Tx, rows: &[Row]) -> Result<Answer, AllocError>
+    requires { IsSome (found run.old.active tx) }
+    ensures answer { IfOk result (λ answer. answer ≡ answers.Rows rows.now) }
+    ensures ok { OnOk result (Changes (stepped (answers.Rows rows.now)) tx run.old.active run.new.active) }
+    ensures prepared { run.new.prepared ≡ run.old.prepared }
+    ensures err { OnErr result (run.new ≡ run.old) }
+{
+    let shown = Answer::Rows(rows_copy(alloc, rows)?);
+    let answer = Answer::Rows(rows_copy(alloc, rows)?);
+    run.step(tx, answer)?;
+    Ok(shown)
+}
+
+/// The member of a statement binds a value, and is at the next statement. Where memory runs out nothing changes.
+pub(crate) fn bind(
+    alloc: Global,
+    run: &mut Run,
+    single: &Single,
+    value: &Value,
+) -> Result<Answer, AllocError>
+    requires { IsSome (found run.old.active single.now.tx) }
+    ensures answer { IfOk result (λ answer. answer ≡ answers.Value value.now) }
+    ensures ok { OnOk result (Changes (binding single.now.statement value.now) single.now.tx run.old.active
+        run.new.active) }
+    ensures prepared { run.new.prepared ≡ run.old.prepared }
+    ensures err { OnErr result (run.new ≡ run.old) }
+{
+    let shown = Answer::Value(value.copy(alloc)?);
+    let answer = Answer::Value(value.copy(alloc)?);
+    let bound = bound_by(alloc, single.statement(), value)?;
+    run.step_bound(single.tx(), answer, bound)?;
+    Ok(shown)
+}
+
+/// The member of a statement changes the statement's table, and is at the next statement. Where memory runs out nothing
+/// changes.
+pub(crate) fn change(
+    alloc: Global,
+    run: &mut Run,
+    tables: &mut StoredTables,
+    single: &Single,
+    count: u64,
+    delta: &Delta,
+) -> Result<(), AllocError>
+    requires member { IsSome (found run.old.active single.now.tx) }
+    requires may { AllByRecursion (MayChange tables.old delta.now) (table_of single.now.statement) }
+    ensures ok { OnOk result (Changes (stepped (answers.Count count)) single.now.tx run.old.active run.new.active) }
+    ensures prepared { run.new.prepared ≡ run.old.prepared }
+    ensures tables { OnOk result (tables.new ≡ changing single.now delta.now tables.old) }
+    ensures err { OnErr result (run.new ≡ run.old) }
+    ensures kept { OnErr result (tables.new ≡ tables.old) }
+{
+    let answer = Answer::Count(count);
+    let Some(table) = table_of(single.statement()) else {
+        return run.step(single.tx(), answer);
+    };
+    tables.change(alloc, single.tx(), table, delta)?;
+    if run.step(single.tx(), answer).is_err() {
+        tables.take_back();
+        return Err(AllocError);
+    }
+    Ok(())
+}

@@ -1,0 +1,197 @@
+//! A member begins its next statement.
+ghost use Rattle.std.specs.Prelude.{◌≡◌, Some, IfOk, IsOk, OnErr, IsSome};
+ghost use Rattle.ent_core.specs.Begin.{Follows, LendsTo, MayBegin};
+ghost use Rattle.ent_core.specs.Kept.{IsKeptState};
+ghost use Rattle.ent_core.specs.Reply.{reply_seen};
+ghost use Rattle.ent_members.specs.Places.{found};
+ghost use Rattle.ent_protocol.specs.Begin.{Begins};
+ghost use Rattle.ent_protocol.specs.Event as replies;
+ghost use Rattle.ent_protocol.specs.Member.{Asks, Ordinary, RollsBack, active_member, next_of};
+ghost use Rattle.ent_protocol.specs.State.{Member};
+
+use crate::commit::commit;
+use crate::reply::Reply;
+use crate::store::Store;
+use crate::take_out::roll_back;
+use ent_closed::{Entangled, Statement};
+use ent_components::post_fault;
+use ent_eval::{Asking, Job, Single};
+use ent_form::FormFault;
+use ent_group::Tx;
+use ent_members::{Member, Uses, entangled_uses, statement_uses, uses_are_kept_by_closing};
+use ent_next::{Next, askings, next_of};
+use ent_ready::{begun_statements_are_work, used_tables_are_declared};
+use ent_roster::Cause;
+use ent_standing::{
+    attempts_stay_within, members_stand_by_number, pools_are_safe, transactions_are_counted,
+    transactions_stand_once,
+};
+use ent_value::Value;
+use std::alloc::AllocError;
+
+/// What a begin comes to, before anything is changed.
+#[derive(Drop)]
+enum Plan {
+    /// Nothing changes.
+    Refuses(Reply),
+    /// The job is lent, and the member holds these uses too.
+    Lends(Job, Uses),
+    /// The statement is in the pool, and the member holds these uses too.
+    Posts(Uses),
+    Commits,
+    /// The group with this label is rolled back.
+    RollsBack(Tx),
+}
+
+/// What an ordinary statement comes to.
+fn plan_ordinary(
+    store: &Store,
+    member: &Member,
+    statement: Statement<Value>,
+) -> Result<Plan, AllocError>
+    requires kept { IsKeptState store.now }
+    requires next { MayBegin store.now member.now.tx member.now (Ordinary statement) }
+    ensures { IfOk result (λ plan. Follows store.now member.now.tx plan) }
+{
+    // Laws: the tables that it uses are there, and it fits them.
+    uses_are_kept_by_closing();
+    used_tables_are_declared();
+    begun_statements_are_work();
+    let uses = statement_uses(&statement);
+    if let Some(holder) = store.run.blocker(member, uses.as_slice()) {
+        return Ok(Plan::Refuses(Reply::Blocked(holder)));
+    }
+    let _declared = store.tables.len();
+    let tables = store.tables.seen(store.alloc, uses.as_slice())?;
+    let place = member.place() as u64;
+    let single = Single::new(member.tx(), member.attempt(), place, statement);
+    let job = Job::one(single, tables);
+    Ok(Plan::Lends(job, uses))
+}
+
+/// What an entangled statement comes to.
+fn plan_entangled(
+    store: &Store,
+    member: &Member,
+    statement: Entangled<Value>,
+) -> Result<Plan, AllocError>
+    requires kept { IsKeptState store.now }
+    requires next { MayBegin store.now member.now.tx member.now (Asks statement) }
+    ensures { IfOk result (λ plan. Follows store.now member.now.tx plan) }
+{
+    // Laws: the pool is safe and stands by number.
+    uses_are_kept_by_closing();
+    members_stand_by_number::<FormFault>();
+    pools_are_safe::<FormFault>();
+    let uses = entangled_uses(&statement);
+    if let Some(holder) = store.run.blocker(member, uses.as_slice()) {
+        return Ok(Plan::Refuses(Reply::Blocked(holder)));
+    }
+    let posted = askings(store.alloc, store.submitted.as_slice(), store.run.active())?;
+    let place = member.place() as u64;
+    let asking = Asking::new(member.tx(), member.attempt(), place, statement);
+    match post_fault(store.alloc, posted.as_slice(), &asking)? {
+        Some(fault) => Ok(Plan::Refuses(Reply::HeldBack(fault))),
+        None => Ok(Plan::Posts(uses)),
+    }
+}
+
+/// What the begin of a member that may begin comes to.
+fn plan_next(store: &Store, member: &Member) -> Result<Plan, AllocError>
+    requires kept { IsKeptState store.now }
+    requires free { MayBegin store.now member.now.tx member.now (next_of store.now member.now) }
+    ensures follows { IfOk result (λ plan. Follows store.now member.now.tx plan) }
+    ensures rolls_back { next_of store.now member.now ≡ RollsBack → IsOk result }
+{
+    match next_of(store.alloc, store.submitted.as_slice(), member)? {
+        Next::Ordinary(statement) => plan_ordinary(store, member, statement),
+        Next::Asks(statement) => plan_entangled(store, member, statement),
+        Next::Commits => Ok(Plan::Commits),
+        Next::RollsBack => Ok(Plan::RollsBack(member.group())),
+    }
+}
+
+/// What a begin comes to.
+fn plan_of(store: &Store, tx: Tx) -> Result<Plan, AllocError>
+    requires kept { IsKeptState store.now }
+    ensures follows { IfOk result (λ plan. Follows store.now tx plan) }
+    ensures rolls_back { (member : Member) → active_member store.now tx ≡ Some member
+        → next_of store.now member ≡ RollsBack → IsOk result }
+{
+    match store.run.active_member(tx) {
+        Some(member) => {
+            if member.is_posted() {
+                return Ok(Plan::Refuses(Reply::NotNow));
+            }
+            if store.lent.is_out(tx) {
+                return Ok(Plan::Refuses(Reply::NotNow));
+            }
+            plan_next(store, member)
+        }
+        None => {
+            if store.run.is_prepared(tx) {
+                return Ok(Plan::Refuses(Reply::NotNow));
+            }
+            Ok(Plan::Refuses(Reply::Absent))
+        }
+    }
+}
+
+/// A job is lent, and the member holds the uses of its statement. Where memory runs out nothing changes.
+fn lend(store: &mut Store, tx: Tx, job: Job, uses: &Uses) -> Result<Reply, AllocError>
+    requires { IsSome (found store.old.active tx) }
+    ensures reply { IfOk result (λ reply. reply_seen reply ≡ replies.Lent job) }
+    ensures ok { IfOk result (λ reply. LendsTo tx uses.now job store.old store.new) }
+    ensures err { OnErr result (store.new ≡ store.old) }
+{
+    let copy = job.copy(store.alloc)?;
+    store.lent.lend(job)?;
+    match store.run.hold(tx, uses.as_slice()) {
+        Ok(()) => Ok(Reply::Lent(copy)),
+        Err(fault) => {
+            store.lent.take_back();
+            Err(fault)
+        }
+    }
+}
+
+/// Does what a begin comes to.
+fn carry_out(store: &mut Store, tx: Tx, plan: Plan) -> Result<Reply, AllocError>
+    requires kept { IsKeptState store.old }
+    requires follows { Follows store.old tx plan }
+    ensures ok { IfOk result (λ reply. Begins store.old tx (reply_seen reply) store.new) }
+    ensures err { OnErr result (store.new ≡ store.old) }
+    ensures rolls_back { (member : Member) → active_member store.old tx ≡ Some member
+        → next_of store.old member ≡ RollsBack → IsOk result }
+{
+    // Laws: there is room for those who leave, each stands once, and each asked for the run that it leaves.
+    transactions_are_counted::<FormFault>();
+    attempts_stay_within::<FormFault>();
+    transactions_stand_once::<FormFault>();
+    match plan {
+        Plan::Refuses(reply) => Ok(reply),
+        Plan::Lends(job, uses) => lend(store, tx, job, &uses),
+        Plan::Posts(uses) => {
+            store.run.post(tx, uses.as_slice())?;
+            Ok(Reply::Posted)
+        }
+        Plan::Commits => commit(store, tx),
+        Plan::RollsBack(group) => {
+            let _submitted = store.submitted.len();
+            Ok(Reply::RolledBack(roll_back(store, group, Cause::Asked(tx))))
+        }
+    }
+}
+
+/// The member of a number begins its next statement, or the end of its script. Where memory runs out nothing changes;
+/// a member that rolls back takes none.
+pub(crate) fn begin(store: &mut Store, tx: Tx) -> Result<Reply, AllocError>
+    requires kept { IsKeptState store.old }
+    ensures ok { IfOk result (λ reply. Begins store.old tx (reply_seen reply) store.new) }
+    ensures err { OnErr result (store.new ≡ store.old) }
+    ensures rolls_back { (member : Member) → active_member store.old tx ≡ Some member
+        → next_of store.old member ≡ RollsBack → IsOk result }
+{
+    let plan = plan_of(store, tx)?;
+    carry_out(store, tx, plan)
+}

@@ -1,0 +1,61 @@
+//! A member asks to commit.
+ghost use Rattle.std.specs.Prelude.{◌≡◌, ◌+◌, ◌≤◌, ◌++◌, IfOk, IsSome, OnErr, Some, length, map};
+ghost use Rattle.std.specs.Vec.{vec_capacity, vec_len};
+ghost use Rattle.ent_core.specs.Reply.{reply_seen};
+ghost use Rattle.ent_protocol.specs.Begin.{BeginsCommit};
+ghost use Rattle.ent_protocol.specs.Commit.{entry_of, is_ready, preparing};
+ghost use Rattle.ent_protocol.specs.Member.{active_member};
+ghost use Rattle.ent_protocol.specs.State.{Member as Seen, members};
+
+use crate::reply::Reply;
+use crate::store::Store;
+use ent_group::{MOST_MEMBERS, Tx};
+use ent_members::{Member, member_numbers};
+use ent_semantics::Entry;
+use ent_value::Sequence;
+use std::alloc::AllocError;
+
+/// The entries of members that commit stand last in the journal, in their order; there is room for them.
+fn enter(journal: &mut Vec<Entry>, committed: &mut Vec<Member>)
+    requires { vec_len journal.old + vec_len committed.old ≤ vec_capacity journal.old }
+    ensures entries { journal.new.items ≡ journal.old.items ++ map entry_of committed.old.items }
+    ensures more { vec_len journal.new ≡ vec_len journal.old + vec_len committed.old }
+    ensures room { vec_capacity journal.new ≡ vec_capacity journal.old }
+{
+    if let Some(member) = committed.pop() {
+        enter(journal, committed);
+        journal.push_reserved(Entry {
+            tx: member.tx(),
+            answers: Sequence::from_vec(member.into_answers()),
+        });
+    }
+}
+
+/// A member that isn't prepared prepares; where every member of its group has, the group commits.
+pub(crate) fn commit(store: &mut Store, tx: Tx) -> Result<Reply, AllocError>
+    requires there { IsSome (active_member store.old tx) }
+    requires counted { length store.old.fates + length store.old.dormant + length (members store.old)
+        ≡ length store.old.submitted }
+    ensures ok { IfOk result (λ reply. (member : Seen) → active_member store.old tx ≡ Some member
+        → BeginsCommit (preparing store.old member) member.group (is_ready (preparing store.old member) member.group)
+        (reply_seen reply) store.new) }
+    ensures err { OnErr result (store.new ≡ store.old) }
+{
+    let Some(member) = store.run.active_member(tx) else {
+        return Ok(Reply::Absent);
+    };
+    let group = member.group();
+    let room = Vec::with_capacity(store.alloc, MOST_MEMBERS)?;
+    store.journal.reserve(MOST_MEMBERS)?;
+    store.run.prepare(tx)?;
+    if !store.run.is_ready(group) {
+        return Ok(Reply::Prepared);
+    }
+    let mut committed = store.run.commit(group, room);
+    let members = member_numbers(committed.as_slice());
+    let first = store.journal.len() as u64 + 1;
+    store.roster.commit(first, committed.as_slice());
+    store.tables.settle(&members);
+    enter(&mut store.journal, &mut committed);
+    Ok(Reply::Committed { first, members })
+}

@@ -1,0 +1,177 @@
+//! A result of one statement comes in.
+ghost use Rattle.std.specs.Prelude.{◌≡◌, ◌<◌, IfErr, IfOk, IfSome, IsNone, IsOk, IsSome, OnErr, Some};
+ghost use Rattle.std.specs.Prelude.{length, slice_get};
+ghost use Rattle.ent_core.specs.Advance.{Advances, MayAdvance};
+ghost use Rattle.ent_core.specs.Finish.{Accepts, CarriesOut, MayCarryOut};
+ghost use Rattle.ent_core.specs.Kept.{IsKeptState};
+ghost use Rattle.ent_core.specs.Reply.{reply_seen};
+ghost use Rattle.ent_eval.specs.Work.{alone_seen};
+ghost use Rattle.ent_members.specs.Places.{found};
+ghost use Rattle.ent_protocol.specs.Finish.{Finishes, IsOutstandingSingle};
+ghost use Rattle.ent_protocol.specs.Job as jobs;
+ghost use Rattle.ent_protocol.specs.Member.{active_member};
+ghost use Rattle.ent_protocol.specs.State.{State};
+ghost use Rattle.ent_semantics.specs.declared.answer.Failure.{Failure};
+ghost use Rattle.ent_value.specs.declared.refusal.Refusal.TheVariants.{Fault};
+
+use crate::advance::{bind, change, show};
+use crate::reply::Reply;
+use crate::store::Store;
+use crate::take_out::roll_back;
+use ent_eval::{Done, Job, JobOutcome, Outcome, Single, Work};
+use ent_form::FormFault;
+use ent_lent::LentJobs;
+use ent_members::Run;
+use ent_ready::used_tables_are_declared;
+use ent_resolved::resolved_jobs_are_present;
+use ent_roster::Cause;
+use ent_semantics::{Answer, Failure};
+use ent_standing::{
+    attempts_stay_within, lent_tables_are_declared, transactions_are_counted,
+    transactions_stand_once,
+};
+use ent_tables::StoredTables;
+use ent_value::Refusal;
+use std::alloc::{AllocError, AllocFailed, Global};
+
+/// Where the job of one statement stands among those that are lent; None where it isn't lent, or is a joint one.
+pub(crate) fn outstanding(lent: &LentJobs, job: &Job) -> Option<usize>
+    ensures some { IfSome result (λ index. slice_get lent.now index ≡ Some job.now) }
+    ensures single { IfSome result (λ index. (single : jobs.Single) × (job.now.work ≡ jobs.One single)) }
+    ensures none { IsNone result → (s : State) (done : jobs.Done) → s.lent ≡ lent.now → done.job ≡ job.now
+        → IsOutstandingSingle s done → ⊥ }
+{
+    match job.work() {
+        Work::One(_) => lent.find(job),
+        Work::Joint(_) => None,
+    }
+}
+
+/// The member of a statement goes on with what the statement comes to. Where this is a failure, and where memory runs
+/// out, nothing changes.
+fn advance(
+    alloc: Global,
+    run: &mut Run,
+    tables: &mut StoredTables,
+    single: &Single,
+    outcome: &Outcome,
+) -> Result<Answer, Refusal<Failure>>
+    requires member { IsSome (found run.old.active single.now.tx) }
+    requires may { MayAdvance tables.old single.now.statement (alone_seen outcome.now) }
+    ensures ok { IfOk result (λ answer.
+        Advances single.now (alone_seen outcome.now) answer run.old tables.old run.new tables.new) }
+    ensures failure { IfErr result (λ refusal. (failure : Failure)
+        → refusal ≡ Fault failure
+        → alone_seen outcome.now ≡ jobs.Fault failure) }
+    ensures memory { IfErr result (λ refusal. (failure : Failure)
+        → alone_seen outcome.now ≡ jobs.Fault failure
+        → refusal ≡ Fault failure) }
+    ensures run { OnErr result (run.new ≡ run.old) }
+    ensures tables { OnErr result (tables.new ≡ tables.old) }
+{
+    match outcome {
+        Outcome::Rows(rows) => Ok(show(alloc, run, single.tx(), rows.as_slice())?),
+        Outcome::Value(value) => Ok(bind(alloc, run, single, value)?),
+        Outcome::Changed { count, delta } => {
+            change(alloc, run, tables, single, *count, delta)?;
+            Ok(Answer::Count(*count))
+        }
+        Outcome::Fault(failure) => Err(Refusal::Fault(*failure)),
+    }
+}
+
+/// The statement of a lent job fails: the job is lent no more, and the group of its member is rolled back. It takes no
+/// memory.
+fn fail(store: &mut Store, index: usize, single: &Single, failure: Failure) -> Reply
+    requires kept { IsKeptState store.old }
+    requires lent { index < length store.old.lent }
+    requires there { IsSome (active_member store.old single.now.tx) }
+    ensures { CarriesOut store.old index single.now (jobs.Fault failure) (reply_seen result) store.new }
+{
+    // Laws: what rolling back asks for.
+    transactions_are_counted::<FormFault>();
+    transactions_stand_once::<FormFault>();
+    attempts_stay_within::<FormFault>();
+    let tx = single.tx();
+    let Some(member) = store.run.active_member(tx) else {
+        return Reply::Absent;
+    };
+    let group = member.group();
+    store.lent.take(index);
+    let members = roll_back(store, group, Cause::Failing(tx, failure));
+    Reply::Failed(failure, members)
+}
+
+/// Carries out what the statement of a lent job comes to. Where memory runs out nothing changes; a failure takes none.
+fn carry_out(
+    store: &mut Store,
+    index: usize,
+    single: &Single,
+    outcome: &Outcome,
+) -> Result<Reply, AllocError>
+    requires kept { IsKeptState store.old }
+    requires lent { index < length store.old.lent }
+    requires there { IsSome (active_member store.old single.now.tx) }
+    requires may { MayCarryOut store.old single.now.statement (alone_seen outcome.now) }
+    ensures ok { IfOk result (λ reply.
+        CarriesOut store.old index single.now (alone_seen outcome.now) (reply_seen reply) store.new) }
+    ensures err { OnErr result (store.new ≡ store.old) }
+    ensures failure { (failure : Failure) → alone_seen outcome.now ≡ jobs.Fault failure → IsOk result }
+{
+    let _declared = store.tables.len();
+    match advance(
+        store.alloc,
+        &mut store.run,
+        &mut store.tables,
+        single,
+        outcome,
+    ) {
+        Ok(answer) => {
+            store.lent.take(index);
+            Ok(Reply::Stepped(answer))
+        }
+        Err(Refusal::Fault(failure)) => Ok(fail(store, index, single, failure)),
+        Err(Refusal::Memory) => Err(AllocError),
+    }
+}
+
+/// Carries out a result that is outstanding. Another one changes nothing, and gets no reply here.
+fn accept(store: &mut Store, done: &Done) -> Result<Option<Reply>, AllocError>
+    requires kept { IsKeptState store.old }
+    ensures ok { IfOk result (λ reply. Accepts store.old done.now reply store.new) }
+    ensures err { OnErr result (store.new ≡ store.old) }
+    ensures failure { (failure : Failure) → done.now.outcome ≡ jobs.Fault failure → IsOk result }
+{
+    // Laws: a lent job's member stands before its statement, and its tables are the present ones, as declared.
+    resolved_jobs_are_present();
+    lent_tables_are_declared::<FormFault>();
+    used_tables_are_declared();
+    let Some(index) = outstanding(&store.lent, done.job()) else {
+        return Ok(None);
+    };
+    let Work::One(single) = done.job().work() else {
+        return Ok(None);
+    };
+    let JobOutcome::One(outcome) = done.outcome() else {
+        return Ok(None);
+    };
+    let reply = carry_out(store, index, single, outcome)?;
+    Ok(Some(reply))
+}
+
+/// A result of one statement comes in. Where its job isn't lent any more it is stale, and comes back. Else the job is
+/// lent no more, and its member has the answer; or the statement failed, and the member's group is rolled back, which
+/// takes no memory. Where memory runs out nothing changes, and the result comes back too.
+pub(crate) fn finish(store: &mut Store, done: Done) -> Result<Reply, AllocFailed<Done>>
+    requires kept { IsKeptState store.old }
+    ensures ok { IfOk result (λ reply. Finishes store.old done (reply_seen reply) store.new) }
+    ensures err { OnErr result (store.new ≡ store.old) }
+    ensures returned { IfErr result (λ refused. refused.value ≡ done) }
+    ensures failure { (failure : Failure) → done.outcome ≡ jobs.Fault failure → IsOk result }
+{
+    match accept(store, &done) {
+        Ok(Some(reply)) => Ok(reply),
+        Ok(None) => Ok(Reply::Stale(done)),
+        Err(AllocError) => Err(AllocFailed { value: done }),
+    }
+}

@@ -1,0 +1,101 @@
+//! A result of a joint job comes in.
+ghost use Rattle.std.specs.Prelude.{◌≡◌, ◌<◌, ◌↔◌, IfErr, IfOk, IfSome, IsTrue, OnErr, length, map, nat_eq};
+ghost use Rattle.std.specs.List.{IsDistinct};
+ghost use Rattle.std.specs.Option.{option_map};
+ghost use Rattle.ent_core.specs.Joining.{Accepts, AnswersAt};
+ghost use Rattle.ent_core.specs.Kept.{IsKeptState};
+ghost use Rattle.ent_core.specs.Reply.{reply_seen};
+ghost use Rattle.ent_protocol.specs.PoolEvents.{IsPresentComponent, JoinsOrIsStale};
+
+use crate::joining::join;
+use crate::reply::Reply;
+use crate::store::Store;
+use ent_components::is_present;
+use ent_eval::{Asking, Done, JobOutcome, Work};
+use ent_form::FormFault;
+use ent_next::askings;
+use ent_standing::{members_stand_by_number, pools_are_safe};
+use ent_tree::Duplicate;
+use ent_value::{Sequence, Value};
+use std::alloc::{AllocError, AllocFailed};
+
+/// Whether statements are posted just so, and exactly a component of the pool.
+fn is_component(store: &Store, asked: &[Asking]) -> Result<bool, AllocError>
+    requires kept { IsKeptState store.now }
+    ensures { IfOk result (λ is. IsTrue is ↔ IsPresentComponent store.now asked.now) }
+{
+    members_stand_by_number::<FormFault>();
+    pools_are_safe::<FormFault>();
+    let posted = askings(store.alloc, store.submitted.as_slice(), store.run.active())?;
+    let is = is_present(store.alloc, posted.as_slice(), asked)?;
+    Ok(is)
+}
+
+/// Carries out what the joint job at an index came to: with a choice its members are answered, without one its
+/// statements were tried. It is lent no more. Where memory runs out nothing changes.
+fn carry_out(
+    store: &mut Store,
+    index: usize,
+    asked: &Sequence<Asking>,
+    choice: &Option<Sequence<Sequence<Value>>>,
+) -> Result<Reply, AllocError>
+    requires lent { index < length store.old.lent }
+    requires one_each { IfSome choice.now (λ groundings. length groundings ≡ length asked.now) }
+    requires distinct { IsDistinct nat_eq (map (λ asking. asking.tx) asked.now) }
+    ensures ok { IfOk result (λ reply.
+        AnswersAt store.old index asked.now choice.now (reply_seen reply) store.new) }
+    ensures err { OnErr result (store.new ≡ store.old) }
+{
+    match choice {
+        Some(groundings) => {
+            join(store, asked.as_slice(), groundings.as_slice())?;
+            store.lent.take(index);
+            Ok(Reply::Answered)
+        }
+        None => {
+            let tried = asked.copy(store.alloc)?;
+            store.tried.insert(0, tried)?;
+            store.lent.take(index);
+            Ok(Reply::NoChoice)
+        }
+    }
+}
+
+/// Carries out a result that is outstanding. Another one changes nothing, and gets no reply here.
+fn accept(store: &mut Store, done: &Done) -> Result<Option<Reply>, AllocError>
+    requires kept { IsKeptState store.old }
+    ensures ok { IfOk result (λ reply. Accepts store.old done.now (option_map reply_seen reply) store.new) }
+    ensures err { OnErr result (store.new ≡ store.old) }
+{
+    let Some(index) = store.lent.find(done.job()) else {
+        return Ok(None);
+    };
+    let Work::Joint(asked) = done.job().work() else {
+        return Ok(None);
+    };
+    let JobOutcome::Choice(choice) = done.outcome() else {
+        return Ok(None);
+    };
+    if is_component(store, asked.as_slice())? {
+        let reply = carry_out(store, index, asked, choice)?;
+        Ok(Some(reply))
+    } else {
+        Ok(None)
+    }
+}
+
+/// A result of a joint job comes in. Where its job isn't lent any more, or its statements are no component now, it is
+/// stale, and comes back. Else the job is lent no more, and its members have their answers; or there is no choice, and
+/// the statements were tried. Where memory runs out nothing changes, and the result comes back too.
+pub(crate) fn join_answer(store: &mut Store, done: Done) -> Result<Reply, AllocFailed<Done>>
+    requires kept { IsKeptState store.old }
+    ensures ok { IfOk result (λ reply. JoinsOrIsStale store.old done (reply_seen reply) store.new) }
+    ensures err { OnErr result (store.new ≡ store.old) }
+    ensures returned { IfErr result (λ refused. refused.value ≡ done) }
+{
+    match accept(store, &done) {
+        Ok(Some(reply)) => Ok(reply),
+        Ok(None) => Ok(Reply::Stale(done)),
+        Err(AllocError) => Err(AllocFailed { value: done }),
+    }
+}

@@ -1,0 +1,81 @@
+//! Posted statements are answered together.
+ghost use Rattle.std.specs.Prelude.{◌≡◌, ◌++◌, OnErr, OnOk, length, map, nat_eq};
+ghost use Rattle.std.specs.List.{IsDistinct};
+ghost use Rattle.ent_members.specs.Answered.{member_answers};
+ghost use Rattle.ent_protocol.specs.PoolEvents.{joining, joint_members};
+
+use crate::store::Store;
+use ent_eval::Asking;
+use ent_members::MemberAnswer;
+use ent_semantics::{JointAnswer, Member};
+use ent_tree::Duplicate;
+use ent_value::{Sequence, Value};
+use std::alloc::{AllocError, Global};
+
+/// What each member gets under its grounding, put to others.
+fn push_answers(
+    alloc: Global,
+    asked: &[Asking],
+    groundings: &[Sequence<Value>],
+    given: &mut Vec<MemberAnswer>,
+) -> Result<(), AllocError>
+    ensures { OnOk result (given.new.items ≡ given.old.items ++ member_answers asked.now groundings.now) }
+{
+    let Some((asking, others)) = asked.split_first() else {
+        return Ok(());
+    };
+    let Some((values, more)) = groundings.split_first() else {
+        return Ok(());
+    };
+    let own = MemberAnswer::of(alloc, asking.tx(), asking.statement(), values.as_slice())?;
+    given.push(own)?;
+    push_answers(alloc, others, more, given)
+}
+
+/// The members of a joint answer with their groundings, put to others.
+fn push_members(
+    alloc: Global,
+    asked: &[Asking],
+    groundings: &[Sequence<Value>],
+    members: &mut Vec<Member>,
+) -> Result<(), AllocError>
+    ensures { OnOk result (members.new.items ≡ members.old.items ++ joint_members asked.now groundings.now) }
+{
+    let Some((asking, others)) = asked.split_first() else {
+        return Ok(());
+    };
+    let Some((values, more)) = groundings.split_first() else {
+        return Ok(());
+    };
+    let grounding = values.copy(alloc)?;
+    members.push(Member {
+        tx: asking.tx(),
+        place: asking.place(),
+        grounding,
+    })?;
+    push_members(alloc, others, more, members)
+}
+
+/// The members with these statements take their answers under these groundings, and their groups become one. Where
+/// memory runs out nothing changes.
+pub(crate) fn join(
+    store: &mut Store,
+    asked: &[Asking],
+    groundings: &[Sequence<Value>],
+) -> Result<(), AllocError>
+    requires one_each { length groundings.now ≡ length asked.now }
+    requires distinct { IsDistinct nat_eq (map (λ asking. asking.tx) asked.now) }
+    ensures ok { OnOk result (store.new ≡ joining store.old asked.now groundings.now) }
+    ensures err { OnErr result (store.new ≡ store.old) }
+{
+    let mut given = Vec::with_capacity(store.alloc, asked.len())?;
+    push_answers(store.alloc, asked, groundings, &mut given)?;
+    let mut members = Vec::with_capacity(store.alloc, asked.len())?;
+    push_members(store.alloc, asked, groundings, &mut members)?;
+    store.joints.reserve(1)?;
+    store.run.answer(given)?;
+    store.joints.push_reserved(JointAnswer {
+        members: Sequence::from_vec(members),
+    });
+    Ok(())
+}

@@ -1,0 +1,100 @@
+//! An input is played: its scripts are submitted, and then events are made.
+ghost use Rattle.std.specs.Prelude.{◌≡◌, IfErr, IfOk, OnErr, OnOk, Some, map};
+ghost use Rattle.ent_core.specs.Event.{event_seen};
+ghost use Rattle.ent_core.specs.Play.{AreMade, AreSubmitted, fault_in, input_fault, scripts_fault};
+ghost use Rattle.ent_core.specs.Reply.{reply_seen};
+ghost use Rattle.ent_form.specs.declared.fault.FormFault.{FormFault};
+ghost use Rattle.ent_protocol.specs.Play.{IsPlayed};
+ghost use Rattle.ent_protocol.specs.Reached.{book_of, opened};
+ghost use Rattle.ent_resolved.specs.Resolved.{resolved_forms};
+ghost use Rattle.ent_semantics.specs.Book.{IsLegal};
+ghost use Rattle.ent_value.specs.declared.refusal.Refusal.TheVariants.{Fault};
+
+use crate::event::Event;
+use crate::reached::Core;
+use crate::reply::Reply;
+use ent_form::FormFault;
+use ent_resolved::resolved_runs_are_legal;
+use ent_tree::{Input, MOST_SCRIPTS, Script};
+use ent_value::{Limited, Refusal, Sequence};
+use std::alloc::{AllocError, Global};
+
+/// A core, and what it replied to the events that it was given.
+#[derive(Drop)]
+pub struct Played {
+    pub core: Core,
+    pub replies: Sequence<Reply>,
+}
+
+/// The fault of form for which a script was refused.
+fn fault_of(reply: Reply) -> Option<FormFault>
+    ensures { result ≡ fault_in (reply_seen reply) }
+{
+    match reply {
+        Reply::Faulty(_, fault) => Some(fault),
+        _ => None,
+    }
+}
+
+/// Submits scripts to a core that has none; or answers the first fault of form of one of them.
+fn submit_all(
+    core: &mut Core,
+    scripts: Limited<Script, MOST_SCRIPTS>,
+) -> Result<(), Refusal<FormFault>>
+    requires fresh { core.old ≡ opened core.old.opening }
+    requires legal { IsLegal (book_of core.old) }
+    ensures ok { OnOk result (AreSubmitted core.old.opening scripts core.new) }
+    ensures fault { IfErr result (λ refusal. (fault : FormFault)
+        → refusal ≡ Fault fault
+        → scripts_fault core.old.opening scripts ≡ Some fault) }
+    ensures legal { OnOk result (IsLegal (book_of core.new)) }
+{
+    for script in scripts.into_vec() {
+        if let Some(fault) = fault_of(core.submit(script)?) {
+            return Err(Refusal::Fault(fault));
+        }
+    }
+    Ok(())
+}
+
+/// Makes events, in order, up to the first for which there is no memory.
+fn step_all(
+    alloc: Global,
+    core: &mut Core,
+    events: Sequence<Event>,
+) -> Result<Sequence<Reply>, AllocError>
+    requires legal { IsLegal (book_of core.old) }
+    ensures made { IfOk result (λ replies. AreMade core.old (map event_seen events) (map reply_seen replies) core.new) }
+    ensures legal { OnOk result (IsLegal (book_of core.new)) }
+{
+    let mut replies = Sequence::new(alloc);
+    for event in events.into_vec() {
+        replies.push(core.step(event)?)?;
+    }
+    Ok(replies)
+}
+
+impl Core {
+    /// Opens a core over an input's opening, submits its scripts, in order, and makes these events, in order: the core
+    /// that they lead to, and the replies to the events. Else the input's first fault of form. An event that is refused
+    /// has its reply too; memory that runs out ends the play, and everything is dropped.
+    pub fn play(
+        alloc: Global,
+        input: Input,
+        events: Sequence<Event>,
+    ) -> Result<Played, Refusal<FormFault>>
+        ensures played { IfOk result (λ played. IsPlayed resolved_forms input.opening input.scripts
+            (map event_seen events) (map reply_seen played.replies) played.core) }
+        ensures fault { IfErr result (λ refusal. (fault : FormFault)
+            → refusal ≡ Fault fault
+            → input_fault input.opening input.scripts ≡ Some fault) }
+        ensures legal { IfOk result (λ played. IsLegal (book_of played.core)) }
+    {
+        resolved_runs_are_legal();
+        let Input { opening, scripts } = input;
+        let mut core = Core::open(alloc, opening)?;
+        submit_all(&mut core, scripts)?;
+        let replies = step_all(alloc, &mut core, events)?;
+        Ok(Played { core, replies })
+    }
+}

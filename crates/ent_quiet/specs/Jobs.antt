@@ -1,0 +1,18 @@
+-- Whose jobs are out.
+use Rattle.std.specs.Prelude.{◌≡◌, ℕ, List, Contains}
+use Rattle.ent_protocol.specs.Job.{Job, Work, One, Joint, Asking}
+use Rattle.ent_protocol.specs.PoolEvents.{IsPresentComponent}
+use Rattle.ent_protocol.specs.State.{State}
+
+-- one of some statements is of a transaction
+abbrev pub HasAsking : List Asking → ℕ → Type 0
+HasAsking asked tx = (asking : Asking) × Contains asked asking × (asking.tx ≡ tx)
+
+-- work is of a transaction: its statement's, or that of a component which it is in
+abbrev pub IsWorkOf : State → Work → ℕ → Type 0
+IsWorkOf s (One single) tx = single.tx ≡ tx
+IsWorkOf s (Joint asked) tx = IsPresentComponent s asked × HasAsking asked tx
+
+-- one of some jobs is of a transaction
+abbrev pub HasJobIn : State → List Job → ℕ → Type 0
+HasJobIn s jobs tx = (job : Job) × Contains jobs job × IsWorkOf s job.work tx

@@ -1,0 +1,4 @@
+pub mod Least
+pub mod Jobs
+pub mod Movers
+pub mod Quiet
