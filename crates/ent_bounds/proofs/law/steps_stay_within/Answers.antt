@@ -1,0 +1,4 @@
+use Rattle.ent_bounds.proofs.law.steps_stay_within.Goals as goal
+
+pub returns : goal.returns
+returns g c = ?
