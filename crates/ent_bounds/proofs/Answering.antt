@@ -1,5 +1,5 @@
 -- A component that is answered leaves the pool: what is asked then.
-use Rattle.std.proofs.Common.{◌≡◌, ◌⊎◌, inl, inr, ℕ, zero, suc, Bool, true, false, cond, not, ◌||◌, ◌==◌, List, [], ◌∷◌}
+use Rattle.std.proofs.Common.{◌≡◌, ◌⊎◌, inl, inr, ℕ, Bool, true, false, cond, not, ◌||◌, ◌==◌, List, [], ◌∷◌}
 use Rattle.std.proofs.Common.{map, length, refl, sym, ap, subst, ◌∙◌, arith, Contains}
 use Rattle.std.specs.List.{list_any}
 use Rattle.ent_semantics.specs.Entangled.{Valuation}
@@ -7,7 +7,7 @@ use Rattle.ent_semantics.specs.Serial.{numbered}
 use Rattle.ent_coordination.specs.Component.{IsInRemainder, AreJoined}
 use Rattle.ent_coordination.specs.Pool.{Posted}
 use Rattle.ent_protocol.specs.Job.{Asking, Job, posted_of}
-use Rattle.ent_protocol.specs.Member.{Asks, askings, is_tx, next_of, pool}
+use Rattle.ent_protocol.specs.Member.{askings, next_of, pool}
 use Rattle.ent_protocol.specs.PoolEvents.{IsPresentComponent, answered_among, answered_by, answered_groups}
 use Rattle.ent_protocol.specs.PoolEvents.{in_joined_group, joining}
 use Rattle.ent_protocol.specs.State.{State, Member}

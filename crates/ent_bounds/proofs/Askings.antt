@@ -1,12 +1,10 @@
 -- Posted statements of a state, and how its components compare with those of another state.
 use Rattle.std.proofs.Common.{◌≡◌, ◌<◌, inl, inr, ℕ, zero, suc, Bool, true, false, List, [], ◌∷◌, map, refl, sym, ap}
-use Rattle.std.proofs.Common.{subst, ◌∙◌, Option, Some, None, All, Contains}
+use Rattle.std.proofs.Common.{subst, ◌∙◌, Option, Some, None, Contains}
 use Rattle.std.specs.Prelude.{◌↔◌}
 use Rattle.ent_tree.specs.declared.script.Script.{Script}
 use Rattle.ent_semantics.specs.Serial.{numbered}
-use Rattle.ent_value.specs.declared.value.Value.{Value}
 use Rattle.ent_closed.specs.Closing.{closed}
-use Rattle.ent_closed.specs.declared.entangled.Entangled.{Entangled}
 use Rattle.ent_closed.specs.declared.operand.Known.{Known}
 use Rattle.ent_closed.specs.declared.statement.Statement.{Statement}
 use Rattle.ent_coordination.specs.Component.{SetOfTransactions, IsComponent, IsInRemainder, AreJoined}
@@ -16,7 +14,7 @@ use Rattle.ent_protocol.specs.Member.{Next, Ordinary, Asks, Commits, RollsBack, 
 use Rattle.ent_protocol.specs.Member.{next_in, next_of, pool, statement_next}
 use Rattle.ent_protocol.specs.PoolEvents.{IsPresentComponent}
 use Rattle.ent_protocol.specs.State.{State, Submitted, Member}
-use Rattle.ent_bounds.proofs.Lists.{In, Pairs, of_all, to_all, of_map, to_map, of_flat, to_flat, contains_in}
+use Rattle.ent_bounds.proofs.Lists.{In, Pairs, of_map, to_map, of_flat, to_flat, contains_in}
 use Rattle.ent_bounds.proofs.Lists.{in_contains, nth_in, pairs_of, pairs_unmapped, one_of, same_lists, Below}
 use Rattle.ent_bounds.proofs.Pools.{IsPart, component_of_all, component_of_part}
 
@@ -157,8 +155,8 @@ module _ (classes : (pool members others : List Posted) (shared member : Posted)
       in_contains (map posted_of other) shared
       (to_map posted_of other a (subst (λ (x : Asking). In x other) (sym same) bt)) in
       let over = λ (member : Posted).
-          classes (pool s) (map posted_of one) (map posted_of other) shared member first.component second.component
-          here there in
+      classes (pool s) (map posted_of one) (map posted_of other) shared member first.component second.component
+      here there in
       same_lists asking_tx one other (in_order one first) (in_order other second)
       (in_other one other first second (λ member. (over member).0))
       (in_other other one second first (λ member. (over member).1))

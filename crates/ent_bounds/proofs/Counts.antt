@@ -1,10 +1,10 @@
 -- How many members a state has, and what they have not begun.
-use Rattle.std.proofs.Common.{◌≡◌, ◌⊎◌, ◌<◌, ◌≤◌, ◌+◌, ◌-◌, inl, inr, ℕ, zero, suc, pred, Bool, true, false, cond, not, ◌==◌}
+use Rattle.std.proofs.Common.{◌≡◌, ◌⊎◌, ◌≤◌, ◌+◌, ◌-◌, inl, inr, ℕ, zero, suc, pred, Bool, true, false, cond, not, ◌==◌}
 use Rattle.std.proofs.Common.{List, [], ◌∷◌, ◌++◌, map, length, refl, sym, ap, subst, ◌∙◌, arith, Option, Some, None}
-use Rattle.std.proofs.Common.{sum_by, Contains}
-use Rattle.std.proofs.lemmas.List.{length-append, length-map}
+use Rattle.std.proofs.Common.{sum_by}
+use Rattle.std.proofs.lemmas.List.{length-append}
 use Rattle.std.proofs.lemmas.List.Sums.{sum_by-append}
-use Rattle.std.specs.List.{filter, list_any}
+use Rattle.std.specs.List.{filter}
 use Rattle.ent_semantics.specs.Entangled.{Valuation}
 use Rattle.ent_semantics.specs.Serial.{numbered}
 use Rattle.ent_protocol.specs.Begin.{replaced}
@@ -12,14 +12,14 @@ use Rattle.ent_protocol.specs.Commit.{preparing, committing}
 use Rattle.ent_protocol.specs.Job.{Asking}
 use Rattle.ent_protocol.specs.Member.{Commits, RollsBack, is_of, is_tx, next_in, next_of}
 use Rattle.ent_protocol.specs.PoolEvents.{answered_among, answered_by, in_joined_group}
-use Rattle.ent_protocol.specs.Rollback.{Cause, group_members, is_among, rolled_back, taken_out}
+use Rattle.ent_protocol.specs.Rollback.{Cause, group_members, is_among, rolled_back}
 use Rattle.ent_protocol.specs.State.{State, Submitted, Member, members, inserted, by_number}
 use Rattle.std.proofs.Common.{nat_lt}
 use Rattle.ent_bounds.specs.Within.{begun, statements_behind, statements_in_run, unbegun, unbegun_of}
 use Rattle.ent_bounds.proofs.LentJobs.{IsPlaced}
-use Rattle.ent_bounds.proofs.Lists.{In, Pairs, Below, of_filter, to_filter, any_in, in_first, in_second, one_of}
-use Rattle.ent_bounds.proofs.Lists.{shorter, shorter_without, sum_filtered, sum_without, sum_mapped, sum_mapped_less}
-use Rattle.ent_bounds.proofs.Lists.{sum_below, same_number, number_itself, clash, filter_none}
+use Rattle.ent_bounds.proofs.Lists.{In, Pairs, Below, to_filter, any_in, in_second, one_of}
+use Rattle.ent_bounds.proofs.Lists.{shorter, shorter_without, sum_filtered, sum_without, sum_mapped_less}
+use Rattle.ent_bounds.proofs.Lists.{sum_below, same_number, number_itself, clash}
 use Rattle.ent_bounds.proofs.ReachedStates.{member_tx}
 
 -- ---- statements behind others
@@ -51,7 +51,7 @@ end_left None m n e = absurd (different e)
     different e = cc
 end_left (Some own) m n e = omega arith
 
-begun_unposted : (m : Member) → m.posted ≡ false → begun m ≡ pred m.place
+pub begun_unposted : (m : Member) → m.posted ≡ false → begun m ≡ pred m.place
 begun_unposted m e = rw e refl
 
 begun_posted : (m : Member) → m.posted ≡ true → begun m ≡ m.place

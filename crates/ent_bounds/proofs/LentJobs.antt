@@ -11,7 +11,7 @@ use Rattle.ent_closed.specs.declared.operand.Known.{Known}
 use Rattle.ent_closed.specs.declared.statement.Statement.{Statement}
 use Rattle.ent_protocol.specs.Begin.{single_job}
 use Rattle.ent_protocol.specs.Finish.{IsTaken}
-use Rattle.ent_protocol.specs.Job.{Job, Work, One, Joint, Single, Asking}
+use Rattle.ent_protocol.specs.Job.{Job, One, Joint, Single, Asking}
 use Rattle.ent_protocol.specs.Member.{Next, Ordinary, Asks, Commits, RollsBack, end_next, next_in, next_of}
 use Rattle.ent_protocol.specs.PoolEvents.{joint_job}
 use Rattle.ent_protocol.specs.State.{State, Submitted, Member}

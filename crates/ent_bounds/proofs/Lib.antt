@@ -8,3 +8,5 @@ pub mod Counts
 pub mod Posting
 pub mod Answering
 pub mod UsedUp
+pub mod Worth
+pub mod Laws

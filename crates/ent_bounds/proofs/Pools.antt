@@ -1,12 +1,12 @@
 -- Components of a pool, and of a part of it.
-use Rattle.std.proofs.Common.{◌≡◌, ◌⊎◌, inl, inr, ℕ, zero, suc, Bool, true, ◌&&◌, ◌==◌, List, Some, refl, sym, subst}
+use Rattle.std.proofs.Common.{◌≡◌, ◌⊎◌, inl, inr, ℕ, zero, suc, true, ◌&&◌, ◌==◌, List, Some, refl, sym, subst}
 use Rattle.std.proofs.Common.{Contains}
 use Rattle.std.specs.Prelude.{slice_get}
 use Rattle.std.specs.List.{list_any}
 use Rattle.ent_value.specs.declared.value.Value.{Value}
 use Rattle.ent_closed.specs.declared.entangled.Atom.{Atom}
 use Rattle.ent_coordination.specs.Component.{SetOfTransactions, IsIn, IsSupported, IsInRemainder, AreJoined}
-use Rattle.ent_coordination.specs.Component.{AreLinkedIn, AreLinked, IsComponent}
+use Rattle.ent_coordination.specs.Component.{AreLinkedIn, IsComponent}
 use Rattle.ent_coordination.specs.Pool.{Posted, CanMeet}
 use Rattle.ent_bounds.proofs.Lists.{both, and_true, same_number, number_itself, any_some, any_in}
 use Rattle.ent_bounds.proofs.Lists.{contains_in, in_contains}

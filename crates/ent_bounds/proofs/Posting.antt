@@ -1,14 +1,13 @@
 -- Another stands in the place of a member that isn't posted: what is asked then.
 use Rattle.std.proofs.Common.{◌≡◌, ◌⊎◌, inl, inr, ℕ, Bool, true, false, cond, not, ◌==◌, List, map, refl, sym, ap, subst}
 use Rattle.std.proofs.Common.{◌∙◌}
-use Rattle.ent_coordination.specs.Component.{SetOfTransactions}
 use Rattle.ent_protocol.specs.Begin.{replaced}
 use Rattle.ent_protocol.specs.Commit.{preparing}
 use Rattle.ent_protocol.specs.Job.{Asking}
-use Rattle.ent_protocol.specs.Member.{Asks, askings, is_tx, next_in, next_of}
+use Rattle.ent_protocol.specs.Member.{askings, is_tx, next_in}
 use Rattle.ent_protocol.specs.State.{State, Submitted, Member}
 use Rattle.ent_semantics.specs.Serial.{numbered}
-use Rattle.ent_bounds.proofs.Askings.{AreAsked, AsksAs, AskTheSame, asking_tx, of_askings, to_askings}
+use Rattle.ent_bounds.proofs.Askings.{AreAsked, AsksAs, AskTheSame, of_askings, to_askings}
 use Rattle.ent_bounds.proofs.Lists.{In, Pairs, Below, clash, number_itself, of_filter, of_map, one_of, same_number}
 use Rattle.ent_bounds.proofs.Lists.{to_filter, to_map}
 use Rattle.ent_bounds.proofs.ReachedStates.{member_tx}
@@ -87,7 +86,7 @@ module _ (s new : State) (m own : Member) (active : new.active ≡ map (replaced
   pub same_asked : own.posted ≡ false → AskTheSame new s
   same_asked off =
       record {
-        there = λ a there. elim (asked_before a there) [ | inl here ↦ clash own.posted here.1 off | inr old ↦ old ];
+        there = λ a there. elim (asked_before a there) [ inl here ↦ clash own.posted here.1 off | inr old ↦ old ];
         back = λ a there. (others_ask a there).0;
       }
 

@@ -1,8 +1,7 @@
 -- What is known of each state that is reached.
-use Rattle.std.proofs.Common.{◌≡◌, ◌<◌, zero, suc, ℕ, List, refl, sym, subst, ◌∙◌, AllPairs}
+use Rattle.std.proofs.Common.{◌≡◌, zero, suc, ℕ, sym, subst, ◌∙◌}
 use Rattle.ent_tree.specs.declared.declaration.Opening.{Opening}
 use Rattle.ent_protocol.specs.Event.{Event, Reply}
-use Rattle.ent_protocol.specs.Job.{Asking}
 use Rattle.ent_protocol.specs.Member.{askings}
 use Rattle.ent_protocol.specs.Reached.{LeadsTo, IsReached, opened}
 use Rattle.ent_protocol.specs.Run.{Forms}
@@ -12,7 +11,7 @@ use Rattle.ent_standing.specs.ByNumber.{StandByNumber}
 use Rattle.ent_standing.specs.Lent.{LentStandOnce}
 use Rattle.ent_standing.specs.Standing.{GoesOn}
 use Rattle.ent_bounds.proofs.Askings.{asking_tx}
-use Rattle.ent_bounds.proofs.Changes.{Act, IsAct, after, act_of}
+use Rattle.ent_bounds.proofs.Changes.{act_of}
 use Rattle.ent_bounds.proofs.LentJobs.{LentRight, kept_right}
 use Rattle.ent_bounds.proofs.Lists.{Pairs, Below, pairs_of}
 

@@ -1,26 +1,21 @@
 -- What each act of a run uses up.
-use Rattle.std.proofs.Common.{◌≡◌, ◌≤◌, ◌+◌, ◌*◌, inl, inr, ℕ, suc, Bool, true, false, not, ◌==◌, List, [], ◌∷◌, ◌++◌}
-use Rattle.std.proofs.Common.{map, length, refl, sym, ap, subst, ◌∙◌, arith, Contains, mul-le-mul_left, mul-suc}
+use Rattle.std.proofs.Common.{◌≡◌, ◌≤◌, ◌+◌, ◌*◌, inl, inr, ℕ, suc, Bool, true, false, not, ◌==◌, List, ◌∷◌}
+use Rattle.std.proofs.Common.{map, length, refl, sym, ap, subst, arith, Contains, mul-le-mul_left, mul-suc}
 use Rattle.std.proofs.lemmas.List.{length-map}
 use Rattle.std.specs.List.{filter, list_any}
 use Rattle.ent_value.specs.declared.value.Value.{Value}
-use Rattle.ent_semantics.specs.Entangled.{Valuation}
-use Rattle.ent_semantics.specs.Serial.{numbered}
 use Rattle.ent_closed.specs.declared.entangled.Entangled.{Entangled}
-use Rattle.ent_closed.specs.declared.statement.Statement.{Statement}
-use Rattle.ent_protocol.specs.Begin.{holding, lending, posting}
-use Rattle.ent_protocol.specs.Job.{Asking, Job}
-use Rattle.ent_protocol.specs.Member.{Asks, askings, next_of}
-use Rattle.ent_protocol.specs.PoolEvents.{IsPresentComponent, answered_groups, answered_among, in_joined_group, joining}
-use Rattle.ent_protocol.specs.State.{State, Member, Change, members}
-use Rattle.ent_protocol.specs.Uses.{entangled_uses, statement_uses}
-use Rattle.ent_bounds.specs.Within.{HasOneOf, HitUntried, IsWithin, begun, statements_behind, unbegun, unbegun_of}
-use Rattle.ent_bounds.proofs.Answering.{is_asked, left_asked, left_components}
+use Rattle.ent_protocol.specs.Begin.{posting}
+use Rattle.ent_protocol.specs.Job.{Asking}
+use Rattle.ent_protocol.specs.Member.{askings}
+use Rattle.ent_protocol.specs.PoolEvents.{IsPresentComponent}
+use Rattle.ent_protocol.specs.State.{State, Member, members}
+use Rattle.ent_bounds.specs.Within.{HasOneOf, HitUntried, IsWithin, unbegun}
 use Rattle.ent_bounds.proofs.Askings.{AreAsked, AskTheSame, asked_there, asking_tx, of_askings, present_in_other}
 use Rattle.ent_bounds.proofs.Askings.{present_in_part, some_asked}
 use Rattle.ent_bounds.proofs.Counts.{members_counted}
 use Rattle.ent_bounds.proofs.Lists.{In, Pairs, Below, any_in, any_some, clash, contains_in, in_contains, number_itself}
-use Rattle.ent_bounds.proofs.Lists.{same_number, shorter_without, to_filter, to_map, turned}
+use Rattle.ent_bounds.proofs.Lists.{same_number, shorter_without, to_filter, to_map}
 use Rattle.ent_bounds.proofs.Posting.{part_asked}
 use Rattle.ent_bounds.proofs.ReachedStates.{member_tx}
 
@@ -96,7 +91,7 @@ kept k most left s new same tried low less w =
       };
     }
 
-active_few : (s : State) → length (map member_tx s.active) ≤ length (members s)
+pub active_few : (s : State) → length (map member_tx s.active) ≤ length (members s)
 active_few s =
     from (length (map member_tx s.active)) (length s.active) (length s.prepared) (length (members s))
     (length-map s.active member_tx) (members_counted s)
