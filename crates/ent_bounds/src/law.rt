@@ -1,0 +1,52 @@
+//! Laws of progress. What holds is in the contracts; the bodies only call laws of lower crates.
+ghost use Rattle.std.specs.Prelude.{◌≡◌, ℕ, ◌+◌, ◌*◌, true, false, length};
+ghost use Rattle.ent_protocol.specs.Event.{Event, Reply};
+ghost use Rattle.ent_protocol.specs.Reached.{IsReached};
+ghost use Rattle.ent_protocol.specs.Run.{Forms};
+ghost use Rattle.ent_protocol.specs.State.{State, members};
+ghost use Rattle.ent_protocol.specs.Step.{Step};
+ghost use Rattle.ent_bounds.specs.Progress.{brings_work, is_progress};
+ghost use Rattle.ent_bounds.specs.Within.{IsBelow, IsWithin, statements_in_run};
+
+use ent_coordination::components_are_classes;
+use ent_standing::{lent_jobs_stand_once, members_stand_by_number, steps_go_on};
+
+/// A run of n members, whose scripts have so many statements in all, their ends counted, is within twice these
+/// statements, n and the square of n: at its start, and at every moment after it.
+pub fn runs_are_within()
+    ensures { (s : State)
+        → let n = length (members s) in
+        IsWithin n (2 * statements_in_run s + n + n * n) s }
+{}
+
+/// From a state that is reached, every step keeps within what was left, but one that brings work: a script that comes
+/// in, or a run that starts.
+pub fn steps_stay_within<F>()
+    ensures { (forms : Forms F) (s : State) (event : Event) (reply : Reply F) (new : State) (most left : ℕ)
+        → IsReached forms s
+        → Step forms s event reply new
+        → brings_work reply ≡ false
+        → IsWithin most left s
+        → IsWithin most left new }
+{
+    components_are_classes();
+    members_stand_by_number::<F>();
+    lent_jobs_stand_once::<F>();
+    steps_go_on::<F>();
+}
+
+/// From a state that is reached, every step whose reply tells of progress uses up one of the steps that were left at
+/// least. So where none is left, no such step is made.
+pub fn progress_uses_up<F>()
+    ensures { (forms : Forms F) (s : State) (event : Event) (reply : Reply F) (new : State) (most left : ℕ)
+        → IsReached forms s
+        → Step forms s event reply new
+        → is_progress reply ≡ true
+        → IsWithin most left s
+        → IsBelow most left new }
+{
+    components_are_classes();
+    members_stand_by_number::<F>();
+    lent_jobs_stand_once::<F>();
+    steps_go_on::<F>();
+}
