@@ -1,5 +1,6 @@
 //! Laws of schedules. Nothing here does anything; what holds is in the contracts.
-ghost use Rattle.std.specs.Prelude.{◌≡◌, ◌<◌, ◌≤◌, ◌+◌, ◌↔◌, AllPairs, Contains, ℕ, [], false, length, Some, true};
+ghost use Rattle.std.specs.Prelude.{◌≡◌, ◌<◌, ◌≤◌, ◌+◌, ◌↔◌, AllPairs, Contains, List, ℕ, [], false, length, true};
+ghost use Rattle.std.specs.Prelude.{Some};
 ghost use Rattle.std.specs.List.{AllByRecursion};
 ghost use Rattle.ent_tree.specs.declared.declaration.Opening.{Opening};
 ghost use Rattle.ent_tree.specs.declared.script.Script.{Script};
@@ -25,9 +26,9 @@ ghost use Rattle.ent_endings.specs.Input.{adds_script};
 ghost use Rattle.ent_endings.specs.Lending.{IsJointTaken, IsLentAlone, IsSingleTaken, lent_by};
 ghost use Rattle.ent_endings.specs.Tries.{tries_left};
 
+use ent_protocol::reached_states_are_tidy;
 use ent_standing::{
-    attempts_stay_within, members_stand_by_number, steps_go_on, transactions_are_counted,
-    transactions_stand_once,
+    attempts_stay_within, members_stand_by_number, steps_go_on, transactions_stand_once,
 };
 
 /// Events one after the other lead on: behind some come others, and what a reached state leads to is reached.
@@ -167,5 +168,5 @@ pub fn finished_scripts_have_fates<F>()
         → HaveFates book }
 {
     transactions_stand_once::<F>();
-    transactions_are_counted::<F>();
+    reached_states_are_tidy::<F>();
 }
