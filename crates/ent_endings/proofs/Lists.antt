@@ -132,13 +132,6 @@ module _ {X : Type 0} where
       index_pairs xs (λ i j d before low. pairs (suc i) (suc j) d (omega (arith, before)) (omega (arith, low))),
     )
 
-    pub pairs_first : (xs ys : List X) → Pairs R (xs ++ ys) → Pairs R xs
-    pairs_first [] ys pairs = tt
-    pairs_first (x ∷ xs) ys pairs = (
-      to_all (R x) xs (λ y at. of_all (R x) (xs ++ ys) y pairs.0 (in_first xs ys y at)),
-      pairs_first xs ys pairs.1,
-    )
-
     pub pairs_second : (xs ys : List X) → Pairs R (xs ++ ys) → Pairs R ys
     pairs_second [] ys pairs = pairs
     pairs_second (x ∷ xs) ys pairs = pairs_second xs ys pairs.1
