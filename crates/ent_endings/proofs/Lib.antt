@@ -1,0 +1,11 @@
+pub mod Lists
+pub mod Sums
+pub mod Left
+pub mod Onward
+pub mod Kept
+pub mod Taken
+pub mod Numbers
+pub mod Ready
+pub mod Idle
+pub mod Used
+pub mod Finished

@@ -1,0 +1,5 @@
+pub mod Input
+pub mod Lending
+pub mod Idle
+pub mod Tries
+pub mod Fates
