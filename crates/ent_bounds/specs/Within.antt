@@ -43,9 +43,10 @@ HitUntried s transactions =
 
 -- ---- what is left
 
--- At most so many steps of progress are left in a run, which had at most so many members. A statement that begins
--- counts twice, since a component may come with it that has to be tried. When members leave, each component of the
--- others may have to be tried again.
+-- In a run of at most so many members at most so many steps of progress are left. Each statement that isn't begun counts
+-- twice, since with a posted one a component may come that has to be tried; each of some transactions that are of all
+-- untried components counts once; and each member counts as many as there are members at most, since when it leaves
+-- the components of the others may have to be tried again.
 pub record IsWithin (most left : ℕ) (s : State) : Type 0 where
   pub few : length (members s) ≤ most
   pub transactions : List ℕ
