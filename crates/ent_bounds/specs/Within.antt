@@ -43,10 +43,10 @@ HitUntried s transactions =
 
 -- ---- what is left
 
--- In a run of at most so many members at most so many steps of progress are left. Each statement that isn't begun counts
--- twice, since with a posted one a component may come that has to be tried; each of some transactions that are of all
--- untried components counts once; and each member counts as many as there are members at most, since when it leaves
--- the components of the others may have to be tried again.
+-- At most `left` steps of progress are left to a run, of at most `most` members. A statement that isn't begun counts
+-- twice, since a component may come with it that has to be tried. Each of some transactions counts once, of which one
+-- has a statement in each untried component. A member counts `most` times, since when it leaves the components of the
+-- others may have to be tried again.
 pub record IsWithin (most left : ℕ) (s : State) : Type 0 where
   pub few : length (members s) ≤ most
   pub transactions : List ℕ
