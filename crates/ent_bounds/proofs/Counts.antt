@@ -193,7 +193,8 @@ pub committed_begun : (s : State) (m : Member) → unbegun (committing (preparin
 committed_begun s m = sum_filtered (unbegun_of s.submitted) (λ other. not (is_tx m.tx other)) s.active
 
 -- an answer leaves what is unbegun: a posted statement was begun
-pub answered_begun : (all : List Submitted) (groups : List ℕ) (asked : List Asking) (given : List Valuation) (m : Member)
+pub answered_begun : (all : List Submitted) (groups : List ℕ) (asked : List Asking) (given : List Valuation)
+    (m : Member)
     → unbegun_of all (in_joined_group groups (answered_among asked given m)) ≤ unbegun_of all m
 answered_begun all groups [] given m = omega arith
 answered_begun all groups (asking ∷ asked) [] m = omega arith

@@ -68,7 +68,7 @@ module _ {F : Type 0} (forms : Forms F) (laws : Laws forms) (classes : (pool mem
   stay_within s event reply new most left reached step work w =
       let act = act_of forms s event reply new step in
       weaken (cond (worth s act.act) 1 0) most left new
-      (used_by s new act.act most left reached (reached_next forms laws s event reply new reached step) act.is
+      (used_by s new act.act most left reached (reached_next forms laws.goes_on s event reply new reached step) act.is
       (sym act.work ∙ work) w)
 
   pub go_below : (s : State) (event : Event) (reply : Reply F) (new : State) (most left : ℕ) → IsReached forms s
@@ -78,7 +78,7 @@ module _ {F : Type 0} (forms : Forms F) (laws : Laws forms) (classes : (pool mem
       let worth_it = sym act.progress ∙ progress in
       lower most left new
       (subst (λ b. IsUsed (cond b 1 0) most left new) worth_it
-      (used_by s new act.act most left reached (reached_next forms laws s event reply new reached step) act.is
+      (used_by s new act.act most left reached (reached_next forms laws.goes_on s event reply new reached step) act.is
       (no_work s act.act worth_it) w))
     where
       no_work : (s : State) (act : Act s) → worth s act ≡ true → opens s act ≡ false

@@ -10,3 +10,4 @@ pub mod Answering
 pub mod UsedUp
 pub mod Worth
 pub mod Laws
+pub mod Bounded

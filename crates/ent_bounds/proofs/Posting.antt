@@ -1,6 +1,6 @@
 -- Another stands in the place of a member that isn't posted: what is asked then.
-use Rattle.std.proofs.Common.{◌≡◌, ◌⊎◌, inl, inr, ℕ, Bool, true, false, cond, not, ◌==◌, List, map, refl, sym, ap, subst}
-use Rattle.std.proofs.Common.{◌∙◌}
+use Rattle.std.proofs.Common.{◌≡◌, ◌⊎◌, inl, inr, ℕ, Bool, true, false, cond, not, ◌==◌, List, map, refl, sym, ap}
+use Rattle.std.proofs.Common.{subst, ◌∙◌}
 use Rattle.ent_protocol.specs.Begin.{replaced}
 use Rattle.ent_protocol.specs.Commit.{preparing}
 use Rattle.ent_protocol.specs.Job.{Asking}
@@ -96,7 +96,8 @@ module _ (s new : State) (m own : Member) (active : new.active ≡ map (replaced
       record {
         down = λ a there. let r = others_ask a there in (r.0, ap not r.1);
         up = λ a there kept. elim (asked_before a there) [
-          | inl here ↦ clash (a.tx == m.tx) (ap (λ n. n == m.tx) here.0 ∙ number_itself m.tx) (falls (a.tx == m.tx) kept)
+          | inl here ↦
+              clash (a.tx == m.tx) (ap (λ n. n == m.tx) here.0 ∙ number_itself m.tx) (falls (a.tx == m.tx) kept)
           | inr old ↦ old
         ];
       }

@@ -32,11 +32,12 @@ pub record Laws {F : Type 0} (forms : Forms F) : Type 0 where
   pub goes_on : (s : State) (event : Event) (reply : Reply F) (new : State) → Step forms s event reply new
       → GoesOn s new
 
-module _ {F : Type 0} (forms : Forms F) (laws : Laws forms) where
+module _ {F : Type 0} (forms : Forms F) (goes_on : (s : State) (event : Event) (reply : Reply F) (new : State)
+    → Step forms s event reply new → GoesOn s new) where
   same_opening : (n : ℕ) (first last : State) → LeadsTo forms n first last → last.opening ≡ first.opening
   same_opening zero first last leads = λ i. (leads i).opening
   same_opening (suc n) first last leads =
-      (laws.goes_on leads.0 leads.1 leads.2 last leads.4).opening ∙ same_opening n first leads.0 leads.3
+      (goes_on leads.0 leads.1 leads.2 last leads.4).opening ∙ same_opening n first leads.0 leads.3
 
   reached_from : (n : ℕ) (opening : Opening) (s : State) → LeadsTo forms n (opened opening) s → IsReached forms s
   reached_from n opening s leads = (
@@ -49,6 +50,7 @@ module _ {F : Type 0} (forms : Forms F) (laws : Laws forms) where
   reached_next s event reply new reached step =
       reached_from (suc reached.0) s.opening new (s, event, reply, reached.1, step)
 
+module _ {F : Type 0} (forms : Forms F) (laws : Laws forms) where
   lent_right : (n : ℕ) (opening : Opening) (s : State) → LeadsTo forms n (opened opening) s → LentRight s
   lent_right zero opening s leads =
       subst LentRight (sym leads)
@@ -57,7 +59,7 @@ module _ {F : Type 0} (forms : Forms F) (laws : Laws forms) where
       let before = leads.0 in
       let act = act_of forms before leads.1 leads.2 s leads.4 in
       subst LentRight (sym act.is)
-      (kept_right before act.act (laws.once before (reached_from n opening before leads.3))
+      (kept_right before act.act (laws.once before (reached_from forms laws.goes_on n opening before leads.3))
       (lent_right n opening before leads.3))
 
   pub known : (s : State) → IsReached forms s → IsKnown s

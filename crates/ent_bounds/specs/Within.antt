@@ -43,8 +43,9 @@ HitUntried s transactions =
 
 -- ---- what is left
 
--- At most so many steps of progress are left in a run, which had at most so many members. A statement that begins
--- counts twice, since a component may come with it that has to be tried. When members leave, each component of the
+-- At most `left` steps of progress are left to a run, of at most `most` members. A statement that isn't begun counts
+-- twice, since a component may come with it that has to be tried. Each of some transactions counts once, of which one
+-- has a statement in each untried component. A member counts `most` times, since when it leaves the components of the
 -- others may have to be tried again.
 pub record IsWithin (most left : ℕ) (s : State) : Type 0 where
   pub few : length (members s) ≤ most

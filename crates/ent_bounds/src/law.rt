@@ -1,6 +1,8 @@
 //! Laws of progress. What holds is in the contracts; the bodies only call laws of lower crates.
-ghost use Rattle.std.specs.Prelude.{◌≡◌, ℕ, ◌+◌, ◌*◌, true, false, length};
+ghost use Rattle.std.specs.Prelude.{◌≡◌, ◌≤◌, ℕ, ◌+◌, ◌*◌, List, true, false, count_by, length};
+ghost use Rattle.std.specs.List.{AllByRecursion};
 ghost use Rattle.ent_protocol.specs.Event.{Event, Reply};
+ghost use Rattle.ent_protocol.specs.Play.{Plays};
 ghost use Rattle.ent_protocol.specs.Reached.{IsReached};
 ghost use Rattle.ent_protocol.specs.Run.{Forms};
 ghost use Rattle.ent_protocol.specs.State.{State, members};
@@ -48,5 +50,22 @@ pub fn progress_uses_up<F>()
     components_are_classes();
     members_stand_by_number::<F>();
     lent_jobs_stand_once::<F>();
+    steps_go_on::<F>();
+}
+
+/// However a run goes on from a state that is reached, with no script that comes in and no other run that starts, at
+/// most so many replies tell of progress: twice the statements of its members' scripts, their ends counted, the number
+/// of its members, and the square of that number.
+pub fn progress_is_bounded<F>()
+    ensures { (forms : Forms F) (s : State) (steps : List (Event × Reply F)) (last : State)
+        → IsReached forms s
+        → Plays forms s steps last
+        → AllByRecursion (λ (step : Event × Reply F). brings_work step.1 ≡ false) steps
+        → let n = length (members s) in
+        count_by (λ (step : Event × Reply F). is_progress step.1) steps ≤ 2 * statements_in_run s + n + n * n }
+{
+    runs_are_within();
+    steps_stay_within::<F>();
+    progress_uses_up::<F>();
     steps_go_on::<F>();
 }

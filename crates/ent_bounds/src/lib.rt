@@ -9,4 +9,4 @@
 
 mod law;
 
-pub use law::{progress_uses_up, runs_are_within, steps_stay_within};
+pub use law::{progress_is_bounded, progress_uses_up, runs_are_within, steps_stay_within};
