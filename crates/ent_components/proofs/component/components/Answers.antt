@@ -12,4 +12,4 @@ returns c =
     ∙ ap (λ (lists : List (Vec ℕ Global)). map (asked_by posted) (lists_in lists)) c.as_slice.ensures.value))
     (are_present c.same_statements_are_alike.ensures.component c.components_are_classes.ensures
     c.component_is_named.ensures posted c.in_ok-pool.pool c.in_ok-pool.ensures c.requires.by_number
-    (lists_in c.in_ok-lists.lists.items) c.in_ok-lists.ensures)
+    (lists_in c.in_ok-lists.lists.items) c.in_ok-lists.ensures.components)
