@@ -1,5 +1,5 @@
 -- What is told of tables and of members.
-use Rattle.std.proofs.Common.{◌≡◌, ℕ, suc, true, false, cond, List, [], ◌∷◌, map, refl, sym, ap, ◌∙◌, Option, Some, None, slice_get}
+use Rattle.std.proofs.Common.{◌≡◌, ℕ, suc, true, false, cond, List, [], ◌∷◌, refl, ap, ◌∙◌, Option, Some, None, slice_get}
 use Rattle.std.specs.Option.{option_map}
 use Rattle.ent_semantics.specs.Database.{Name, Rows, same_name}
 use Rattle.ent_closed.specs.Form.{Tables}

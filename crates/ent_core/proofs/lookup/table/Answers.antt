@@ -1,4 +1,4 @@
-use Rattle.std.proofs.Common.{◌∙◌, ap, sym}
+use Rattle.std.proofs.Common.{◌∙◌, ap}
 use Rattle.ent_protocol.specs.Lookup.{present_rows, rows_under}
 use Rattle.ent_protocol.specs.State.{State}
 use Rattle.ent_core.proofs.Booked.{names_declared}
