@@ -3,6 +3,7 @@ ghost use Rattle.std.specs.Prelude.{IfErr, IfOk, IsOk, None, OnErr, OnOk, Some, 
 ghost use Rattle.std.specs.List.{AllByRecursion};
 ghost use Rattle.std.specs.Option.{option_copied, option_map};
 ghost use Rattle.ent_book.specs.Tables.{book_seen};
+ghost use Rattle.ent_core.specs.Kinds.{kinds_of_table};
 ghost use Rattle.ent_core.specs.Reply.{reply_seen};
 ghost use Rattle.ent_core.specs.Standing.{standing_seen};
 ghost use Rattle.ent_form.specs.OpeningFault.{opening_fault, unless};
@@ -291,10 +292,12 @@ impl Core {
 
     /// The table of a name as it stands, where one is declared.
     pub fn table(&self, name: &Name) -> Option<&Table>
-        ensures { option_map (λ table. table.now.rows) result ≡ present_rows self.now name.now }
+        ensures rows { option_map (λ table. table.now.rows) result ≡ present_rows self.now name.now }
+        ensures kinds { option_map (λ table. table.now.kinds) result ≡ kinds_of_table self.now.opening name.now }
     {
         lookup::table(&self.store, name)
     }
+
     /// Where a transaction stands; nowhere where no script has its number.
     pub fn standing(&self, tx: Tx) -> Option<Standing>
         ensures { option_map standing_seen result ≡ standing self.now tx }
