@@ -1,5 +1,5 @@
 //! The core whose type keeps that its state is reached.
-ghost use Rattle.std.specs.Prelude.{IfErr, IfOk, IsOk, OnErr, Some, ◌≡◌};
+ghost use Rattle.std.specs.Prelude.{IfErr, IfOk, IsOk, OnErr, OnOk, Some, ◌≡◌};
 ghost use Rattle.std.specs.Option.{option_copied, option_map};
 ghost use Rattle.ent_book.specs.Tables.{book_seen};
 ghost use Rattle.ent_core.specs.Reply.{reply_seen};
@@ -206,6 +206,7 @@ impl Core {
         ensures finished { IfOk result (λ book.
             IsFinishedBook resolved_forms self.opening (scripts_of self) (book_seen book)) }
         ensures legal { IfOk result (λ book. IsLegal (book_seen book)) }
+        ensures done { OnOk result (CanClose self) }
         ensures returned { IfErr result (λ refused. refused.core ≡ self) }
         ensures not_done { IfErr result (λ refused. (fault : NotDone)
             → refused.refusal ≡ Fault fault
