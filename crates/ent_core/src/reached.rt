@@ -1,5 +1,6 @@
 //! The core whose type keeps that its state is reached.
-ghost use Rattle.std.specs.Prelude.{IfErr, IfOk, IsOk, OnErr, OnOk, Some, ◌≡◌};
+ghost use Rattle.std.specs.Prelude.{IfErr, IfOk, IsOk, None, OnErr, OnOk, Some, ◌≡◌};
+ghost use Rattle.std.specs.List.{AllByRecursion};
 ghost use Rattle.std.specs.Option.{option_copied, option_map};
 ghost use Rattle.ent_book.specs.Tables.{book_seen};
 ghost use Rattle.ent_core.specs.Reply.{reply_seen};
@@ -13,10 +14,11 @@ ghost use Rattle.ent_protocol.specs.Job as jobs;
 ghost use Rattle.ent_semantics.specs.declared.answer.Failure.{Failure};
 ghost use Rattle.ent_protocol.specs.Lookup.{answers_of, dormant_at, entry_at, group_of, present_rows};
 ghost use Rattle.ent_protocol.specs.Lookup.{running_members, standing};
-ghost use Rattle.ent_protocol.specs.Reached.{CanClose, IsFinishedBook, book_of, opened, scripts_of};
+ghost use Rattle.ent_protocol.specs.Reached.{CanClose, IsFinishedBook, IsReached, book_of, opened, scripts_of};
 ghost use Rattle.ent_protocol.specs.Step.{Step};
 ghost use Rattle.ent_resolved.specs.Resolved.{resolved_forms};
 ghost use Rattle.ent_semantics.specs.Book.{IsLegal};
+ghost use Rattle.ent_standing.specs.Attempts.{AsksForRun};
 ghost use Rattle.ent_value.specs.Refusal.{Gives};
 ghost use Rattle.ent_value.specs.declared.refusal.Refusal.TheVariants.{Fault};
 ghost use Rattle.ent_core.specs.declared.closing.NotDone.{NotDone};
@@ -233,6 +235,16 @@ impl Core {
                 refusal: Refusal::Fault(NotDone),
             })
         }
+    }
+
+    /// A law, which does nothing: events led to the state from its opening's own, the opening has no fault of form, and
+    /// each script asks for one run at least.
+    pub fn is_reached(&self)
+        ensures reached { IsReached resolved_forms self.now }
+        ensures formed { opening_fault self.now.opening ≡ None }
+        ensures asks { AllByRecursion AsksForRun self.now.submitted }
+    {
+        let _store = &self.store;
     }
 
     /// Whether a run is on.
