@@ -244,7 +244,7 @@ impl Core {
         ensures formed { opening_fault self.now.opening ≡ None }
         ensures asks { AllByRecursion AsksForRun self.now.submitted }
     {
-        let _store = &self.store;
+        self.store.asks_for_runs();
     }
 
     /// Whether a run is on.
