@@ -1,7 +1,7 @@
 -- What is told of tables and of members.
 use Rattle.std.proofs.Common.{◌≡◌, ℕ, suc, true, false, cond, List, [], ◌∷◌, refl, ap, ◌∙◌, Option, Some, None, slice_get}
 use Rattle.std.specs.Option.{option_map}
-use Rattle.ent_semantics.specs.Database.{Name, Rows, same_name}
+use Rattle.ent_semantics.specs.Database.{Name, same_name}
 use Rattle.ent_closed.specs.Form.{Tables}
 use Rattle.ent_form.specs.declared.catalogue.TableSchema.{TableSchema}
 use Rattle.ent_form.specs.Catalogue.{names_of, table_from, table_named}
