@@ -41,6 +41,15 @@ impl Pool {
         }
     }
 
+    /// The pool of statements that are known to be by number and safe: nothing is checked again. It takes no memory.
+    pub fn of_safe(members: Vec<Member>) -> Self
+        requires by_number { IsByNumber members.items }
+        requires safe { IsSafe members.items }
+        ensures { result ≡ members.items }
+    {
+        Pool { members }
+    }
+
     /// The statements, by number of their transactions.
     pub fn members(&self) -> &[Member]
         ensures members { result.now ≡ self.now }
