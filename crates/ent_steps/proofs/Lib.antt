@@ -4,3 +4,7 @@ pub mod Places
 pub mod Picked
 pub mod Reasons
 pub mod Determined
+pub mod Left
+pub mod Tables
+pub mod Members
+pub mod Together

@@ -1,8 +1,9 @@
 -- Elements of lists, and what holds of each two of them.
 use Rattle.std.proofs.Common.{◌≡◌, ◌⊎◌, ◌<◌, ℕ, zero, suc, Bool, true, false, ◌||◌, ◌==◌, List, [], ◌∷◌, ◌++◌, map}
-use Rattle.std.proofs.Common.{cond, length, refl, sym, ap, subst, ◌∙◌, inl, inr, arith, rules}
+use Rattle.std.proofs.Common.{cond, length, not, nat_lt, refl, sym, ap, subst, ◌∙◌, inl, inr, arith, rules}
 use Rattle.std.proofs.Common.{All, AllPairs, Contains, slice_index_or}
-use Rattle.std.specs.List.{AllByRecursion, filter, flat_map}
+use Rattle.std.specs.List.{AllByRecursion, filter, flat_map, list_any}
+use Rattle.ent_protocol.specs.State.{inserted, by_number}
 
 -- ---- truth values and numbers
 
@@ -15,6 +16,14 @@ clash b yes_is no_is = absurd (different (sym yes_is ∙ no_is))
 pub neither : (a b : Bool) → (a || b) ≡ false → (a ≡ false) × (b ≡ false)
 neither true b e = cc
 neither false b e = (refl, e)
+
+pub turned : (b : Bool) → not b ≡ true → b ≡ false
+turned true e = sym e
+turned false e = refl
+
+pub not_so : (b : Bool) → (b ≡ true → ⊥) → b ≡ false
+not_so true no_way = absurd (no_way refl)
+not_so false no_way = refl
 
 pub same_number : (a b : ℕ) → (a == b) ≡ true → a ≡ b
 same_number a b h = grind (arith, rules)
@@ -66,6 +75,24 @@ module _ {X : Type 0} where
         | inl here ↦ (inl here.0, ap p here.0 ∙ here.1)
         | inr there ↦ let r = of_filter p ys x there in (inr r.0, r.1)
       ]
+
+  skip_cond : (b : Bool) (y x : X) (ys : List X) → In x ys → In x (cond b (y ∷ ys) ys)
+  skip_cond true y x ys at = inr at
+  skip_cond false y x ys at = at
+
+  take_cond : (b : Bool) (y x : X) (ys : List X) → b ≡ true → x ≡ y → In x (cond b (y ∷ ys) ys)
+  take_cond true y x ys is same = inl same
+  take_cond false y x ys is same = cc
+
+  pub to_filter : (p : X → Bool) (xs : List X) (x : X) → In x xs → p x ≡ true → In x (filter p xs)
+  to_filter p [] x at passes = absurd at
+  to_filter p (y ∷ ys) x (inl same) passes = take_cond (p y) y x (filter p ys) (ap p (sym same) ∙ passes) same
+  to_filter p (y ∷ ys) x (inr at) passes = skip_cond (p y) y x (filter p ys) (to_filter p ys x at passes)
+
+  pub any_none : (p : X → Bool) (xs : List X) → list_any p xs ≡ false → (x : X) → In x xs → p x ≡ false
+  any_none p [] is x at = absurd at
+  any_none p (y ∷ ys) is x (inl same) = ap p same ∙ (neither (p y) (list_any p ys) is).0
+  any_none p (y ∷ ys) is x (inr at) = any_none p ys (neither (p y) (list_any p ys) is).1 x at
 
   -- ---- each two
 
@@ -143,6 +170,42 @@ module _ {X : Type 0} (number : X → ℕ) where
 
   abbrev pub Apart : X → X → Type 0
   Apart one other = number one ≡ number other → ⊥
+
+  pub from_inserted : (x : X) (xs : List X) (y : X) → In y (inserted number x xs) → (y ≡ x) ⊎ In y xs
+  from_inserted x [] y (inl same) = inl same
+  from_inserted x [] y (inr bad) = absurd bad
+  from_inserted x (z ∷ xs) y at =
+      by (nat_lt (number x) (number z)) at (λ (h : In y (inserted number x xs)). from_inserted x xs y h)
+    where
+      by : (b : Bool) → In y (cond b (x ∷ z ∷ xs) (z ∷ inserted number x xs))
+          → (In y (inserted number x xs) → (y ≡ x) ⊎ In y xs) → (y ≡ x) ⊎ In y (z ∷ xs)
+      by true (inl same) rest = inl same
+      by true (inr more) rest = inr more
+      by false (inl same) rest = inr (inl same)
+      by false (inr more) rest = elim (rest more) [ inl a ↦ inl a | inr b ↦ inr (inr b) ]
+
+  pub from_by_number : (xs : List X) (y : X) → In y (by_number number xs) → In y xs
+  from_by_number [] y at = absurd at
+  from_by_number (x ∷ xs) y at =
+      elim (from_inserted x (by_number number xs) y at) [ inl a ↦ inl a | inr b ↦ inr (from_by_number xs y b) ]
+
+  to_inserted : (x : X) (xs : List X) (y : X) → (y ≡ x) ⊎ In y xs → In y (inserted number x xs)
+  to_inserted x [] y (inl same) = inl same
+  to_inserted x [] y (inr bad) = absurd bad
+  to_inserted x (z ∷ xs) y at = by (nat_lt (number x) (number z)) at (to_inserted x xs y)
+    where
+      by : (b : Bool) → (y ≡ x) ⊎ In y (z ∷ xs) → ((y ≡ x) ⊎ In y xs → In y (inserted number x xs))
+          → In y (cond b (x ∷ z ∷ xs) (z ∷ inserted number x xs))
+      by true (inl same) rest = inl same
+      by true (inr more) rest = inr more
+      by false (inl same) rest = inr (rest (inl same))
+      by false (inr (inl here)) rest = inl here
+      by false (inr (inr there)) rest = inr (rest (inr there))
+
+  pub to_by_number : (xs : List X) (y : X) → In y xs → In y (by_number number xs)
+  to_by_number [] y at = absurd at
+  to_by_number (x ∷ xs) y (inl same) = to_inserted x (by_number number xs) y (inl same)
+  to_by_number (x ∷ xs) y (inr at) = to_inserted x (by_number number xs) y (inr (to_by_number xs y at))
 
   pub below_apart : (xs : List X) → Pairs Below xs → Pairs Apart xs
   below_apart xs ascend = pairs_turned Below Apart xs (λ x y low same. absurd (omega (arith, low, same))) ascend

@@ -5,4 +5,4 @@
 
 mod law;
 
-pub use law::events_are_determined;
+pub use law::{events_are_determined, groups_leave_together, rollbacks_restore_tables};
