@@ -1,0 +1,10 @@
+pub mod Lists
+pub mod Pooled
+pub mod Places
+pub mod Picked
+pub mod Reasons
+pub mod Determined
+pub mod Left
+pub mod Tables
+pub mod Members
+pub mod Together

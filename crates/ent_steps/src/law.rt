@@ -1,0 +1,66 @@
+//! Laws of events. Nothing here does anything; what holds is in the contracts.
+ghost use Rattle.std.specs.Prelude.{◌≡◌, ◌<◌, ℕ, Contains, false, length};
+ghost use Rattle.ent_protocol.specs.Event.{Event, Reply};
+ghost use Rattle.ent_protocol.specs.Reached.{IsReached};
+ghost use Rattle.ent_protocol.specs.Rollback.{Cause, rolled_back};
+ghost use Rattle.ent_protocol.specs.Run.{Forms};
+ghost use Rattle.ent_protocol.specs.State.{Change, Member, State, members};
+ghost use Rattle.ent_protocol.specs.Step.{Step};
+ghost use Rattle.ent_protocol.specs.Tidy.{is_member};
+ghost use Rattle.ent_steps.specs.Alike.{AreAlike};
+ghost use Rattle.ent_steps.specs.Restored.{HasNotChanged, IsFirstChange, IsNoted, rolls_back, rows_at};
+
+use ent_coordination::components_are_classes;
+use ent_protocol::reached_states_are_tidy;
+use ent_standing::{lent_jobs_stand_once, members_stand_by_number};
+
+/// An event of a reached state leads to one state. It has one reply, save that of several deadlocks that begin with the
+/// same transaction any may be shown.
+pub fn events_are_determined<F>()
+    ensures state { (forms : Forms F) (s : State) (event : Event) (reply other : Reply F) (new another : State)
+        → IsReached forms s
+        → Step forms s event reply new
+        → Step forms s event other another
+        → new ≡ another }
+    ensures reply { (forms : Forms F) (s : State) (event : Event) (reply other : Reply F) (new another : State)
+        → IsReached forms s
+        → Step forms s event reply new
+        → Step forms s event other another
+        → AreAlike reply other }
+{
+    components_are_classes();
+    lent_jobs_stand_once::<F>();
+    members_stand_by_number::<F>();
+}
+
+/// A rollback leaves each table that the group changed as it was noted at the first change, and the others as they
+/// stand. What is noted is how the table stood: an event that rolls nobody back leaves a table as it is, or notes it.
+pub fn rollbacks_restore_tables<F>()
+    ensures restored { (s : State) (group table : ℕ) (cause : Cause) (change : Change)
+        → table < length s.tables
+        → IsFirstChange s group table change
+        → rows_at (rolled_back group cause s) table ≡ change.before }
+    ensures kept { (s : State) (group table : ℕ) (cause : Cause)
+        → HasNotChanged s group table
+        → rows_at (rolled_back group cause s) table ≡ rows_at s table }
+    ensures noted { (forms : Forms F) (s : State) (event : Event) (reply : Reply F) (new : State) (table : ℕ)
+        → Step forms s event reply new
+        → rolls_back reply ≡ false
+        → IsNoted s new table }
+{}
+
+/// The members of a group leave the run in one event: whoever leaves, by a commit or a rollback, leaves with all of its
+/// group.
+pub fn groups_leave_together<F>()
+    ensures { (forms : Forms F) (s : State) (event : Event) (reply : Reply F) (new : State) (one other : Member)
+        → IsReached forms s
+        → Step forms s event reply new
+        → Contains (members s) one
+        → Contains (members s) other
+        → one.group ≡ other.group
+        → is_member new one.tx ≡ false
+        → is_member new other.tx ≡ false }
+{
+    members_stand_by_number::<F>();
+    reached_states_are_tidy::<F>();
+}

@@ -1,0 +1,8 @@
+//! What events do to a core, in other words than their definitions.
+//!
+//! The functions here have no body: their contracts are laws of the definitions of ent_protocol.
+#![tactic(auto)]
+
+mod law;
+
+pub use law::{events_are_determined, groups_leave_together, rollbacks_restore_tables};
