@@ -8,3 +8,4 @@ pub mod Left
 pub mod Tables
 pub mod Members
 pub mod Together
+pub mod Journals

@@ -1,5 +1,5 @@
 //! Laws of events. Nothing here does anything; what holds is in the contracts.
-ghost use Rattle.std.specs.Prelude.{◌≡◌, ◌<◌, ℕ, Contains, false, length};
+ghost use Rattle.std.specs.Prelude.{◌≡◌, ◌⊎◌, ◌<◌, ℕ, Contains, false, length};
 ghost use Rattle.ent_protocol.specs.Event.{Event, Reply};
 ghost use Rattle.ent_protocol.specs.Reached.{IsReached};
 ghost use Rattle.ent_protocol.specs.Rollback.{Cause, rolled_back};
@@ -9,6 +9,7 @@ ghost use Rattle.ent_protocol.specs.Step.{Step};
 ghost use Rattle.ent_protocol.specs.Tidy.{is_member};
 ghost use Rattle.ent_steps.specs.Alike.{AreAlike};
 ghost use Rattle.ent_steps.specs.Restored.{HasNotChanged, IsFirstChange, IsNoted, rolls_back, rows_at};
+ghost use Rattle.ent_steps.specs.Whole.{CommitsWhole};
 
 use ent_coordination::components_are_classes;
 use ent_protocol::reached_states_are_tidy;
@@ -47,6 +48,14 @@ pub fn rollbacks_restore_tables<F>()
         → Step forms s event reply new
         → rolls_back reply ≡ false
         → IsNoted s new table }
+{}
+
+/// An event keeps the journal, or a group commits: a member prepares, all others of its group being prepared, and the
+/// journal goes on with the entries of them all, in the order in which they prepared.
+pub fn journals_grow_by_groups<F>()
+    ensures { (forms : Forms F) (s : State) (event : Event) (reply : Reply F) (new : State)
+        → Step forms s event reply new
+        → (new.journal ≡ s.journal) ⊎ CommitsWhole s new }
 {}
 
 /// The members of a group leave the run in one event: whoever leaves, by a commit or a rollback, leaves with all of its

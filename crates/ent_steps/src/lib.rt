@@ -5,4 +5,6 @@
 
 mod law;
 
-pub use law::{events_are_determined, groups_leave_together, rollbacks_restore_tables};
+pub use law::{
+    events_are_determined, groups_leave_together, journals_grow_by_groups, rollbacks_restore_tables,
+};
