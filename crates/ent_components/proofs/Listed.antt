@@ -1,5 +1,5 @@
 -- What lists contain.
-use Rattle.std.proofs.Common.{◌≡◌, ◌⊎◌, inl, inr, ℕ, zero, suc, List, [], ◌∷◌, map, refl, ap, arith}
+use Rattle.std.proofs.Common.{◌≡◌, ◌⊎◌, inl, inr, zero, suc, List, [], ◌∷◌, map, refl, ap, arith}
 use Rattle.std.specs.Prelude.{Contains}
 
 pub in_none : {X : Type 0} (x : X) → Contains [] x → ⊥
