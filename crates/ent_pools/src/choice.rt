@@ -137,18 +137,34 @@ fn shared(alloc: Global, tables: &[Arc<Table>], numbers: &[usize]) -> Result<Vec
 
 fn put_grounding(
     alloc: Global,
-    member: &Member,
+    tx: Tx,
     grounding: &Sequence<Value>,
     out: &mut Vec<u8>,
 ) -> Result<()> {
-    write!(out, "{}(", member.tx())?;
-    let mut before = "";
-    for value in grounding.as_slice() {
-        put(out, before)?;
+    write!(out, "{tx}(")?;
+    for (number, value) in grounding.as_slice().iter().enumerate() {
+        if number > 0 {
+            put(out, ",")?;
+        }
         print_value(alloc, out, value)?;
-        before = ",";
     }
     put(out, ")")
+}
+
+fn put_groundings(
+    alloc: Global,
+    members: &[Member],
+    groundings: &[Sequence<Value>],
+    out: &mut Vec<u8>,
+) -> Result<()> {
+    for (number, grounding) in groundings.iter().enumerate() {
+        if number > 0 {
+            put(out, " ")?;
+        }
+        let member = members.get(number).context("there is no such member")?;
+        put_grounding(alloc, member.tx(), grounding, out)?;
+    }
+    Ok(())
 }
 
 /// What the search over the tables finds for some statements, and the ticks.
@@ -165,14 +181,7 @@ fn put_found(
     let mut ticks = Ticks::new();
     match first_with(alloc, plan, tables.as_slice(), &mut ticks)? {
         None => put(out, "none")?,
-        Some(groundings) => {
-            let mut before = "";
-            for (member, grounding) in plan.members().iter().zip(groundings.as_slice()) {
-                put(out, before)?;
-                put_grounding(alloc, member, grounding, out)?;
-                before = " ";
-            }
-        }
+        Some(groundings) => put_groundings(alloc, plan.members(), groundings.as_slice(), out)?,
     }
     Ok(ticks)
 }
