@@ -1,19 +1,23 @@
 //! Laws of events. Nothing here does anything; what holds is in the contracts.
-ghost use Rattle.std.specs.Prelude.{◌≡◌, ◌⊎◌, ◌<◌, ℕ, Contains, false, length};
-ghost use Rattle.ent_protocol.specs.Event.{Event, Reply};
+ghost use Rattle.std.specs.Prelude.{◌≡◌, ◌≢◌, ◌⊎◌, ◌<◌, ◌↔◌, ℕ, Contains, List, Some, false, length};
+ghost use Rattle.ent_semantics.specs.Serial.{numbered};
+ghost use Rattle.ent_protocol.specs.Event.{EndRun, Ended, Event, Reply};
 ghost use Rattle.ent_protocol.specs.Reached.{IsReached};
 ghost use Rattle.ent_protocol.specs.Rollback.{Cause, rolled_back};
 ghost use Rattle.ent_protocol.specs.Run.{Forms};
-ghost use Rattle.ent_protocol.specs.State.{Change, Member, State, members};
+ghost use Rattle.ent_protocol.specs.State.{Change, Member, State, Submitted, members};
 ghost use Rattle.ent_protocol.specs.Step.{Step};
 ghost use Rattle.ent_protocol.specs.Tidy.{is_member};
 ghost use Rattle.ent_steps.specs.Alike.{AreAlike};
+ghost use Rattle.ent_steps.specs.Last.{HasGivenUp, WaitsAgain};
 ghost use Rattle.ent_steps.specs.Restored.{HasNotChanged, IsFirstChange, IsNoted, rolls_back, rows_at};
 ghost use Rattle.ent_steps.specs.Whole.{CommitsWhole};
 
 use ent_coordination::components_are_classes;
 use ent_protocol::reached_states_are_tidy;
-use ent_standing::{lent_jobs_stand_once, members_stand_by_number};
+use ent_standing::{
+    lent_jobs_stand_once, members_stand_by_number, steps_go_on, transactions_stand_once,
+};
 
 /// An event of a reached state leads to one state. It has one reply, save that of several deadlocks that begin with the
 /// same transaction any may be shown.
@@ -57,6 +61,26 @@ pub fn journals_grow_by_groups<F>()
         → Step forms s event reply new
         → (new.journal ≡ s.journal) ⊎ CommitsWhole s new }
 {}
+
+/// Where a reached run ends, a member that is left has given up exactly where it took part in all the runs that its
+/// script asks for; else it waits for another run.
+pub fn ended_members_give_up_at_last<F>()
+    ensures gives_up { (forms : Forms F) (s : State) (run : List ℕ) (new : State) (member : Member) (own : Submitted)
+        → IsReached forms s
+        → Step forms s EndRun (Ended run) new
+        → Contains (members s) member
+        → numbered s.submitted member.tx ≡ Some own
+        → HasGivenUp new member ↔ (member.attempt ≡ own.script.within) }
+    ensures waits { (forms : Forms F) (s : State) (run : List ℕ) (new : State) (member : Member) (own : Submitted)
+        → IsReached forms s
+        → Step forms s EndRun (Ended run) new
+        → Contains (members s) member
+        → numbered s.submitted member.tx ≡ Some own
+        → WaitsAgain new member ↔ (member.attempt ≢ own.script.within) }
+{
+    transactions_stand_once::<F>();
+    steps_go_on::<F>();
+}
 
 /// The members of a group leave the run in one event: whoever leaves, by a commit or a rollback, leaves with all of its
 /// group.
