@@ -6,7 +6,6 @@ use Rattle.ent_coordination.specs.Component.{IsComponent}
 use Rattle.ent_coordination.specs.Pool.{Posted}
 use Rattle.ent_match.specs.Components.{AreComponents}
 use Rattle.ent_match.specs.Fault.{IsByNumber}
-use Rattle.ent_match.specs.Same.{SameStatements}
 use Rattle.ent_plan.specs.Plan.{named}
 use Rattle.ent_protocol.specs.Job.{Asking}
 use Rattle.ent_protocol.specs.Member.{askings}
@@ -21,10 +20,6 @@ abbrev tx_of : Posted → ℕ
 tx_of member = member.tx
 
 -- ---- what the crates below say
-
-abbrev pub AreAlike : Type 0
-AreAlike = (pool other members : List Posted) → SameStatements pool other → IsComponent pool members
-    → IsComponent other members
 
 abbrev pub AreClasses : Type 0
 AreClasses = (pool members others : List Posted) (shared member : Posted) → IsComponent pool members
@@ -55,19 +50,14 @@ moved one other to tx there =
     let found = mapped_from tx_of one tx there in
     subst (Contains (map tx_of other)) found.2 (contains_map tx_of other found.0 (to found.0 found.1))
 
-module _ (alike : AreAlike) (classes : AreClasses) (are_named : AreNamed) (posted : List Asking) (pool : List Posted)
-    (same : SameStatements pool (pool_of posted)) (ascends : IsByNumber (pool_of posted)) (lists : List (List ℕ))
-    (found : AreComponents pool lists) where
-  back : SameStatements (pool_of posted) pool
-  back member = ((same member).1, (same member).0)
-
+module _ (classes : AreClasses) (are_named : AreNamed) (posted : List Asking) (ascends : IsByNumber (pool_of posted))
+    (lists : List (List ℕ)) (found : AreComponents (pool_of posted) lists) where
   is_component : (txs : List ℕ) → Contains lists txs → IsComponent (pool_of posted) (pool_of (asked_by posted txs))
   is_component txs there =
       let is = found.exact txs there in
-      let here = alike pool (pool_of posted) is.0 same is.1 in
       let whole : pool_of (asked_by posted txs) ≡ is.0 =
-      asked_named posted txs ∙ (ap (named (pool_of posted)) is.2 ∙ are_named (pool_of posted) is.0 ascends here) in
-      subst (IsComponent (pool_of posted)) (sym whole) here
+      asked_named posted txs ∙ (ap (named (pool_of posted)) is.2 ∙ are_named (pool_of posted) is.0 ascends is.1) in
+      subst (IsComponent (pool_of posted)) (sym whole) is.1
 
   -- two components that share a statement
   same_components : (members others : List Posted) (shared : Posted) → IsComponent (pool_of posted) members
@@ -83,22 +73,19 @@ module _ (alike : AreAlike) (classes : AreClasses) (are_named : AreNamed) (poste
   is_found : (asked : List Asking) → All (Contains posted) asked → IsComponent (pool_of posted) (pool_of asked)
       → (txs : List ℕ) × Contains lists txs × (asked_by posted txs ≡ asked)
   is_found asked present component =
-      let here = alike (pool_of posted) pool (pool_of asked) back component in
-      let cover = found.covers here.first here.in_remainder in
+      let cover = found.covers component.first component.in_remainder in
       let other = found.exact cover.0 cover.1 in
-      let met = mapped_from tx_of other.0 here.first.tx
-      (subst (λ (ns : List ℕ). Contains ns here.first.tx) other.2 cover.2) in
-      let there = alike pool (pool_of posted) other.0 same other.1 in
-      let in_pool = (same met.0).0 ((other.1.class met.0).0 met.1).0.is_in.0 in
-      let first : met.0 ≡ here.first =
-      same_member tx_of (pool_of posted) ascends met.0 here.first in_pool
-      ((same here.first).0 here.in_remainder.is_in.0) met.2 in
+      let met = mapped_from tx_of other.0 component.first.tx
+      (subst (λ (ns : List ℕ). Contains ns component.first.tx) other.2 cover.2) in
+      let in_pool = ((other.1.class met.0).0 met.1).0.is_in.0 in
+      let first : met.0 ≡ component.first =
+      same_member tx_of (pool_of posted) ascends met.0 component.first in_pool component.in_remainder.is_in.0 met.2 in
       let whole : other.0 ≡ pool_of asked =
-      same_components other.0 (pool_of asked) here.first there component (subst (Contains other.0) first met.1)
-      ((here.class here.first).1 (here.in_remainder, (0, refl))) in
+      same_components other.0 (pool_of asked) component.first other.1 component (subst (Contains other.0) first met.1)
+      ((component.class component.first).1 (component.in_remainder, (0, refl))) in
       let statements : pool_of (asked_by posted cover.0) ≡ pool_of asked =
       asked_named posted cover.0
-      ∙ (ap (named (pool_of posted)) other.2 ∙ (are_named (pool_of posted) other.0 ascends there ∙ whole)) in (
+      ∙ (ap (named (pool_of posted)) other.2 ∙ (are_named (pool_of posted) other.0 ascends other.1 ∙ whole)) in (
         cover.0,
         cover.1,
         same_asked posted ascends (asked_by posted cover.0) asked

@@ -1,7 +1,6 @@
 -- What lists contain.
-use Rattle.std.proofs.Common.{◌≡◌, ◌⊎◌, inl, inr, ℕ, zero, suc, List, [], ◌∷◌, map, take, refl, ap, arith}
+use Rattle.std.proofs.Common.{◌≡◌, ◌⊎◌, inl, inr, zero, suc, List, [], ◌∷◌, map, refl, ap, arith}
 use Rattle.std.specs.Prelude.{Contains}
-use Rattle.std.proofs.lemmas.List.Elements.{All-contains, All-contains_itself, All-take}
 
 pub in_none : {X : Type 0} (x : X) → Contains [] x → ⊥
 in_none x (k, below, is) = omega arith
@@ -29,7 +28,3 @@ mapped_from f (x ∷ xs) y (zero, below, is) = (x, (0, omega arith, refl), is)
 mapped_from f (x ∷ xs) y (suc k, below, is) =
     let r = mapped_from f xs y (k, omega arith, is) in
     (r.0, (suc r.1.0, (let l = r.1.1 in omega arith), r.1.2), r.2)
-
-pub in_front : {X : Type 0} (xs : List X) (n : ℕ) (x : X) → Contains (take n xs) x → Contains xs x
-in_front xs n x there =
-    All-contains (Contains xs) (take n xs) x (All-take (Contains xs) n xs (All-contains_itself xs)) there

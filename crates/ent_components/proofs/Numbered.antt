@@ -1,10 +1,10 @@
 -- Lists by ascending numbers.
-use Rattle.std.proofs.Common.{◌≡◌, ℕ, ◌<◌, List, [], ◌∷◌, take, length, get_or, refl, sym, ap, ◌∙◌, subst, arith}
+use Rattle.std.proofs.Common.{◌≡◌, ℕ, ◌<◌, List, [], ◌∷◌, length, get_or, refl, sym, ap, ◌∙◌, subst, arith}
 use Rattle.std.proofs.Common.{inl, inr}
 use Rattle.std.specs.Prelude.{AllPairs, Contains}
 use Rattle.std.proofs.Math.ListN.{get_or-map}
 use Rattle.std.proofs.lemmas.Bool.{cases_lt}
-use Rattle.std.proofs.lemmas.List.{get_or_default, get_or-take, length-take, length-map}
+use Rattle.std.proofs.lemmas.List.{get_or_default, length-map}
 use Rattle.ent_coordination.specs.Pool.{Posted}
 use Rattle.ent_match.specs.Fault.{IsByNumber}
 use Rattle.ent_protocol.specs.Job.{Asking, posted_of}
@@ -38,14 +38,6 @@ module _ {X : Type 0} (number : X → ℕ) where
               sym is_x ∙ (ap (λ n. get_or xs n x) here ∙ at_place xs y j x below_j is_y)
         ]
       ]
-
-  -- those before a place are of lesser numbers
-  pub less_before : (xs : List X) → Ascends xs → (n : ℕ) (x y : X) → n < length xs → x ≡ get_or xs n x
-      → Contains (take n xs) y → number y < number x
-  less_before xs ascends n x y below is (k, below_k, is_y) =
-      let l = length-take n xs in
-      let under : k < n = omega arith in
-      less xs ascends y x k n under below (sym (get_or-take n xs k y under) ∙ is_y) (sym is)
 
 abbrev tx_of : Posted → ℕ
 tx_of member = member.tx

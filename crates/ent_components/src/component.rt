@@ -9,7 +9,6 @@ use crate::pool::pool_of;
 use ent_coordination::components_are_classes;
 use ent_eval::Asking;
 use ent_group::Tx;
-use ent_match::same_statements_are_alike;
 use ent_plan::component_is_named;
 use ent_tree::Duplicate;
 use ent_value::Sequence;
@@ -56,7 +55,6 @@ pub fn components(alloc: Global, posted: &[Asking]) -> Result<Vec<Sequence<Askin
     requires safe { IsSafe (pool_of posted.now) }
     ensures { IfOk result (λ found. ArePresent posted.now found.items) }
 {
-    same_statements_are_alike();
     components_are_classes();
     component_is_named();
     let pool = pool_of(alloc, posted)?;

@@ -1,7 +1,7 @@
 -- A member begins: what is planned and done is the begin.
-use Rattle.std.proofs.Common.{◌≡◌, ◌||◌, ℕ, Bool, true, false, ◌==◌, List, [], ◌∷◌, ◌++◌, refl, sym, ap, subst, ◌∙◌}
+use Rattle.std.proofs.Common.{◌≡◌, ◌||◌, ℕ, Bool, true, false, List, [], ◌∷◌, ◌++◌, refl, sym, ap, subst, ◌∙◌}
 use Rattle.std.proofs.Common.{inl, inr}
-use Rattle.std.proofs.Common.{Option, Some, None, cond, nat_eq, if◌then◌else◌, arith, suc, Result, Ok, Err}
+use Rattle.std.proofs.Common.{Option, Some, None, cond, if◌then◌else◌, arith, suc, Result, Ok, Err}
 use Rattle.std.specs.List.{filter}
 use Rattle.std.specs.Prelude.{IfOk, IsSome, Contains, is_some}
 use Rattle.ent_members.specs.Changes.{posting}

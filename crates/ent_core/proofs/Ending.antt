@@ -1,5 +1,5 @@
 -- A run ends, or can't yet.
-use Rattle.std.proofs.Common.{◌≡◌, ℕ, Bool, true, false, List, Option, Some, None, inl, inr, refl, sym, ap, subst}
+use Rattle.std.proofs.Common.{◌≡◌, ℕ, Bool, true, false, List, inl, inr, refl, sym, ap, subst}
 use Rattle.ent_form.specs.declared.fault.FormFault.{FormFault}
 use Rattle.ent_protocol.specs.Event as replies
 use Rattle.ent_protocol.specs.Quiet.{IsQuiet, IsReason}

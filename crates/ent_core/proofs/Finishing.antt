@@ -36,20 +36,9 @@ use Rattle.ent_core.specs.Advance.{Advances, binding}
 use Rattle.ent_core.specs.Finish.{Accepts, CanChange, CarriesOut, MayCarryOut}
 use Rattle.ent_core.specs.Reply.{reply_seen}
 use Rattle.ent_core.specs.declared.reply.Reply.{Reply as Given}
+use Rattle.ent_core.proofs.Begun.{number_found, one_member}
 
 -- ---- the member of a statement
-
-pub own_number : (tx : ℕ) (members : List Member) (member : Member) → found members tx ≡ Some member → member.tx ≡ tx
-own_number tx [] member there = absurd cc
-own_number tx (x ∷ xs) member there = by (is_tx tx x) refl (own_number tx xs member) there
-  where
-    by : (b : Bool) → is_tx tx x ≡ b → (found xs tx ≡ Some member → member.tx ≡ tx)
-        → first_of (cond b (x ∷ filter (is_tx tx) xs) (filter (is_tx tx) xs)) ≡ Some member → member.tx ≡ tx
-    by true is rest e =
-        let same : x ≡ member = cc in
-        let own : x.tx ≡ tx = grind (arith, nat_tests, is) in
-        ap (λ (m : Member). m.tx) (sym same) ∙ own
-    by false is rest e = rest e
 
 pub is_found : (tx : ℕ) (members : List Member) (member : Member) → Contains members member → member.tx ≡ tx
     → IsSome (found members tx)
@@ -175,7 +164,7 @@ went_on s run run' stored stored' single member left (Shown rows) answer prepare
 went_on s run run' stored stored' single member left (Changed count removed added) answer prepared active tables changes there h =
     let is : found run.active single.tx ≡ Some member =
     ap (λ (ms : List Member). found ms single.tx) (sym active) ∙ there in
-    let own : single.tx ≡ member.tx = sym (own_number single.tx s.active member there) in
+    let own : single.tx ≡ member.tx = sym (number_found single.tx s.active member there) in
     let steps = h.1 in
     let members = steps.active member is ∙ ap (map (replaced (stepped (answers.Count count) member))) (sym active) in
     let before = steps.prepared ∙ sym prepared in
@@ -231,9 +220,6 @@ failed s now single job member left group tx failure numbers new is taken own of
     (left, taken, steps)
 
 -- ---- a result that is outstanding
-
-pub one_member : {A : Type 0} (x y : A) → Some x ≡ Some y → x ≡ y
-one_member x y e = cc
 
 pub contains_at : (jobs : List Job) (index : ℕ) (job : Job) → slice_get jobs index ≡ Some job → Contains jobs job
 contains_at jobs index job there = (index, slice_get_within jobs index job there, at jobs index there)

@@ -1,6 +1,6 @@
 -- What is submitted, and what is made, goes on one by one.
-use Rattle.std.proofs.Common.{◌≡◌, ◌<◌, ◌≤◌, ℕ, suc, Bool, true, false, List, [], ◌∷◌, ◌++◌, map, length, refl}
-use Rattle.std.proofs.Common.{sym, ap, subst, ◌∙◌, arith, Option, Some, None, Result, Ok, Err, nat_le}
+use Rattle.std.proofs.Common.{◌≡◌, ◌<◌, suc, Bool, true, false, List, [], ◌∷◌, ◌++◌, map, length, refl}
+use Rattle.std.proofs.Common.{sym, ap, subst, ◌∙◌, arith, Some, None, Result, Ok, Err, nat_le}
 use Rattle.std.specs.Result.{result_err}
 use Rattle.std.proofs.lemmas.Bool.{leb-true}
 use Rattle.std.proofs.lemmas.List.{length-append, length-map, map-append}
@@ -9,7 +9,7 @@ use Rattle.ent_tree.specs.declared.limits.TheConstants.{MOST_SCRIPTS}
 use Rattle.ent_tree.specs.declared.script.Script.{Script}
 use Rattle.ent_closed.specs.declared.operand.Known.{Known}
 use Rattle.ent_closed.specs.declared.statement.Statement.{Statement}
-use Rattle.ent_form.specs.OpeningFault.{Check, ◌before◌, first_of, opening_fault, unless}
+use Rattle.ent_form.specs.OpeningFault.{Check, ◌before◌, first_of}
 use Rattle.ent_form.specs.declared.fault.FormFault.{FormFault}
 use Rattle.ent_protocol.specs.Event.{Event, Reply, Submit, Submitted}
 use Rattle.ent_protocol.specs.Play.{Plays, IsPlayed}
@@ -19,7 +19,7 @@ use Rattle.ent_protocol.specs.State.{State}
 use Rattle.ent_protocol.specs.State.{Submitted as OneSubmitted}
 use Rattle.ent_protocol.specs.Step.{Step}
 use Rattle.ent_resolved.specs.Resolved.{resolved_forms}
-use Rattle.ent_core.specs.Play.{AreMade, AreSubmitted, fault_in, input_fault, scripts_fault}
+use Rattle.ent_core.specs.Play.{AreMade, AreSubmitted, fault_in, scripts_fault}
 
 -- ---- faults of a list of scripts
 

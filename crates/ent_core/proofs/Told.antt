@@ -1,10 +1,11 @@
 -- What is told of tables and of members.
-use Rattle.std.proofs.Common.{◌≡◌, ℕ, suc, true, false, cond, List, [], ◌∷◌, map, refl, sym, ap, ◌∙◌, Option, Some, None, slice_get}
+use Rattle.std.proofs.Common.{◌≡◌, ℕ, suc, true, false, cond, List, [], ◌∷◌, refl, ap, ◌∙◌, Option, Some, None, slice_get}
 use Rattle.std.specs.Option.{option_map}
-use Rattle.ent_semantics.specs.Database.{Name, Rows, same_name}
+use Rattle.ent_semantics.specs.Database.{Name, same_name}
 use Rattle.ent_closed.specs.Form.{Tables}
 use Rattle.ent_form.specs.declared.catalogue.TableSchema.{TableSchema}
 use Rattle.ent_form.specs.Catalogue.{names_of, table_from, table_named}
+use Rattle.ent_core.specs.Kinds.{under}
 use Rattle.ent_protocol.specs.Lookup.{rows_under, answers_of, group_of, member_of}
 use Rattle.ent_protocol.specs.Rollback.{group_numbers}
 use Rattle.ent_protocol.specs.State.{State, Member}
@@ -23,31 +24,38 @@ shifted n (schema ∷ more) name =
       | false ↦ shifted (suc n) more name
     ]
 
--- the rows of the table that was found
-abbrev pub rows_found : Tables → Option (ℕ × TableSchema) → Option Rows
-rows_found tables None = None
-rows_found tables (Some found) = slice_get tables found.0
+-- what goes with the table that was found
+abbrev pub found_in : {A : Type 0} → List A → Option (ℕ × TableSchema) → Option A
+found_in xs None = None
+found_in xs (Some found) = slice_get xs found.0
 
-behind : (rows : Rows) (tables : Tables) (found : Option (ℕ × TableSchema))
-    → rows_found (rows ∷ tables) (option_map next found) ≡ rows_found tables found
-behind rows tables None = refl
-behind rows tables (Some found) = refl
+behind : {A : Type 0} (x : A) (xs : List A) (found : Option (ℕ × TableSchema))
+    → found_in (x ∷ xs) (option_map next found) ≡ found_in xs found
+behind x xs None = refl
+behind x xs (Some found) = refl
 
-no_rows : (found : Option (ℕ × TableSchema)) → rows_found [] found ≡ None
-no_rows None = refl
-no_rows (Some found) = refl
+nothing_in : {A : Type 0} (found : Option (ℕ × TableSchema)) → found_in {A = A} [] found ≡ None
+nothing_in None = refl
+nothing_in (Some found) = refl
 
-pub found_under : (schemas : List TableSchema) (tables : Tables) (name : Name)
-    → rows_found tables (table_named schemas name) ≡ rows_under (names_of schemas) tables name
-found_under [] tables name = refl
-found_under (schema ∷ more) [] name = no_rows (table_named (schema ∷ more) name)
-found_under (schema ∷ more) (rows ∷ tables) name =
-    elim (same_name schema.name name) as (λ b. rows_found (rows ∷ tables) (cond b (Some (0, schema)) (table_from 1 more name))
-    ≡ cond b (Some rows) (rows_under (names_of more) tables name)) [
+pub found_under : {A : Type 0} (schemas : List TableSchema) (xs : List A) (name : Name)
+    → found_in xs (table_named schemas name) ≡ under (names_of schemas) xs name
+found_under [] xs name = refl
+found_under (schema ∷ more) [] name = nothing_in (table_named (schema ∷ more) name)
+found_under {A} (schema ∷ more) (x ∷ xs) name =
+    elim (same_name schema.name name) as (λ b. found_in (x ∷ xs) (cond b (Some (0, schema)) (table_from 1 more name))
+    ≡ cond b (Some x) (under (names_of more) xs name)) [
       | true ↦ refl
-      | false ↦ ap (rows_found (rows ∷ tables)) (shifted 0 more name) ∙ behind rows tables (table_from 0 more name)
-          ∙ found_under more tables name
+      | false ↦ ap (found_in (x ∷ xs)) (shifted 0 more name) ∙ behind x xs (table_from 0 more name)
+          ∙ found_under more xs name
     ]
+
+pub rows_under_name : (names : List Name) (tables : Tables) (name : Name)
+    → under names tables name ≡ rows_under names tables name
+rows_under_name [] tables name = refl
+rows_under_name (first ∷ names) [] name = refl
+rows_under_name (first ∷ names) (rows ∷ tables) name =
+    ap (λ rest. cond (same_name first name) (Some rows) rest) (rows_under_name names tables name)
 
 -- ---- members
 

@@ -1,19 +1,27 @@
--- Where a transaction stands: by its fate, else as it is dormant, else as a member.
-use Rattle.std.proofs.Common.{◌≡◌, ℕ, ◌==◌, Bool, true, false, cond, ◌||◌, List, [], ◌∷◌, ◌++◌, map, refl, sym, ap, ◌∙◌, Some, None}
+-- Where a transaction stands: as a member, else as it is dormant, else by its fate.
+use Rattle.std.proofs.Common.{◌≡◌, ℕ, ◌==◌, Bool, true, false, cond, ◌||◌, List, [], ◌∷◌, ◌++◌, map, refl, sym, ap, ◌∙◌}
+use Rattle.std.proofs.Common.{Some, None}
 use Rattle.std.specs.List.{filter, list_any}
 use Rattle.ent_semantics.specs.declared.book.Fated.{Fated}
 use Rattle.ent_protocol.specs.Lookup.{Standing, active_standing, standing}
 use Rattle.ent_protocol.specs.Lookup as lookups
 use Rattle.ent_protocol.specs.Member.{is_tx}
 use Rattle.ent_protocol.specs.State.{State, Dormant, Member, first_of}
+use Rattle.ent_standing.specs.Standing.{StandOnce}
+use Rattle.ent_core.proofs.OnePlace.{active_has_no_fate, active_is_not_dormant, fated_not_dormant}
+use Rattle.ent_core.proofs.OnePlace.{prepared_has_no_fate, prepared_is_not_dormant}
 
 nobody : {A : Type 0} (xs : List A) → None ≡ first_of xs → xs ≡ []
 nobody [] e = refl
 nobody (x ∷ xs) e = absurd cc
 
-first_seen : {A B : Type 0} (f : A → B) (xs : List A) (x : A) → Some x ≡ first_of xs → Some (f x) ≡ first_of (map f xs)
-first_seen f [] x e = absurd cc
-first_seen f (y ∷ ys) x e = let same : x ≡ y = cc in ap (λ z. Some (f z)) same
+seen : {A B : Type 0} (f : A → B) (xs : List A) (x : A) → Some x ≡ first_of xs → Some (f x) ≡ first_of (map f xs)
+seen f [] x e = absurd cc
+seen f (y ∷ ys) x e = let same : x ≡ y = cc in ap (λ z. Some (f z)) same
+
+in_front : {A : Type 0} (x : A) (xs rest : List A) → Some x ≡ first_of xs → Some x ≡ first_of (xs ++ rest)
+in_front x [] rest e = absurd cc
+in_front x (y ∷ ys) rest e = e
 
 none_of : {A : Type 0} (p : A → Bool) (xs : List A) → list_any p xs ≡ false → filter p xs ≡ []
 none_of p [] e = refl
@@ -42,38 +50,56 @@ module _ (s : State) (tx : ℕ) where
   abbrev waiting : List Dormant
   waiting = filter (λ one. one.tx == tx) s.dormant
 
-  abbrev as_member : List Standing
-  as_member = map (λ member. lookups.Prepared) (filter (is_tx tx) s.prepared)
-      ++ map (active_standing s) (filter (is_tx tx) s.active)
+  abbrev as_active : List Standing
+  as_active = map (active_standing s) (filter (is_tx tx) s.active)
 
-  neither : None ≡ first_of fated → None ≡ first_of waiting → first_of as_member ≡ standing s tx
+  abbrev as_prepared : List Standing
+  as_prepared = map (λ member. lookups.Prepared) (filter (is_tx tx) s.prepared)
+
+  abbrev by_fate : Fated → Standing
+  by_fate one = lookups.Finished one.fate
+
+  abbrev by_runs : Dormant → Standing
+  by_runs own = lookups.Dormant own.runs
+
+  unfated : fated ≡ [] → first_of (map by_runs waiting ++ as_prepared ++ as_active) ≡ standing s tx
+  unfated no_fate = λ i. first_of (map by_fate (sym no_fate i) ++ map by_runs waiting ++ as_prepared ++ as_active)
+
+  neither : fated ≡ [] → waiting ≡ [] → first_of (as_prepared ++ as_active) ≡ standing s tx
   neither no_fate not_dormant =
-      λ i. first_of (map (λ (one : Fated). lookups.Finished one.fate) (sym (nobody fated no_fate) i)
-      ++ map (λ (one : Dormant). lookups.Dormant one.runs) (sym (nobody waiting not_dormant) i)
-      ++ map (λ (member : Member). lookups.Prepared) (filter (is_tx tx) s.prepared)
-      ++ map (active_standing s) (filter (is_tx tx) s.active))
+      (λ i. first_of (map by_runs (sym not_dormant i) ++ as_prepared ++ as_active)) ∙ unfated no_fate
 
-  pub stands_prepared : None ≡ first_of fated → None ≡ first_of waiting → list_any (is_tx tx) s.prepared ≡ true
-      → Some lookups.Prepared ≡ standing s tx
-  stands_prepared no_fate not_dormant prepared =
-      some_of (is_tx tx) lookups.Prepared s.prepared (map (active_standing s) (filter (is_tx tx) s.active)) prepared
-      ∙ neither no_fate not_dormant
-
-  unprepared : list_any (is_tx tx) s.prepared ≡ false
-      → first_of (map (active_standing s) (filter (is_tx tx) s.active)) ≡ first_of as_member
+  unprepared : list_any (is_tx tx) s.prepared ≡ false → first_of as_active ≡ first_of (as_prepared ++ as_active)
   unprepared e =
-      λ i. first_of (map (λ (member : Member). lookups.Prepared) (sym (none_of (is_tx tx) s.prepared e) i)
-      ++ map (active_standing s) (filter (is_tx tx) s.active))
+      λ i. first_of (map (λ (member : Member). lookups.Prepared) (sym (none_of (is_tx tx) s.prepared e) i) ++ as_active)
 
-  pub stands_active : None ≡ first_of fated → None ≡ first_of waiting → list_any (is_tx tx) s.prepared ≡ false
+  pub stands_prepared : StandOnce s → list_any (is_tx tx) s.prepared ≡ true → Some lookups.Prepared ≡ standing s tx
+  stands_prepared stand prepared =
+      some_of (is_tx tx) lookups.Prepared s.prepared as_active prepared
+      ∙ neither (prepared_has_no_fate s tx stand prepared) (prepared_is_not_dormant s tx stand prepared)
+
+  pub stands_active : StandOnce s → list_any (is_tx tx) s.prepared ≡ false
       → (member : Member) → Some member ≡ first_of (filter (is_tx tx) s.active)
       → Some (active_standing s member) ≡ standing s tx
-  stands_active no_fate not_dormant not_prepared member there =
-      first_seen (active_standing s) (filter (is_tx tx) s.active) member there ∙ unprepared not_prepared
-      ∙ neither no_fate not_dormant
+  stands_active stand not_prepared member there =
+      seen (active_standing s) (filter (is_tx tx) s.active) member there ∙ unprepared not_prepared
+      ∙ neither (active_has_no_fate s tx stand member there) (active_is_not_dormant s tx stand member there)
+
+  pub stands_dormant : StandOnce s → (own : Dormant) → Some own ≡ first_of waiting
+      → Some (lookups.Dormant own.runs) ≡ standing s tx
+  stands_dormant stand own there =
+      in_front (by_runs own) (map by_runs waiting ++ as_prepared) as_active
+      (in_front (by_runs own) (map by_runs waiting) as_prepared (seen by_runs waiting own there))
+      ∙ unfated (fated_not_dormant s tx stand own there)
+
+  pub stands_finished : (one : Fated) → Some one ≡ first_of fated → Some (lookups.Finished one.fate) ≡ standing s tx
+  stands_finished one there =
+      in_front (by_fate one) (map by_fate fated ++ map by_runs waiting ++ as_prepared) as_active
+      (in_front (by_fate one) (map by_fate fated ++ map by_runs waiting) as_prepared
+      (in_front (by_fate one) (map by_fate fated) (map by_runs waiting) (seen by_fate fated one there)))
 
   pub stands_nowhere : None ≡ first_of fated → None ≡ first_of waiting → list_any (is_tx tx) s.prepared ≡ false
       → None ≡ first_of (filter (is_tx tx) s.active) → None ≡ standing s tx
   stands_nowhere no_fate not_dormant not_prepared not_active =
       (λ i. first_of (map (active_standing s) (sym (nobody (filter (is_tx tx) s.active) not_active) i)))
-      ∙ unprepared not_prepared ∙ neither no_fate not_dormant
+      ∙ unprepared not_prepared ∙ neither (nobody fated no_fate) (nobody waiting not_dormant)

@@ -5,6 +5,7 @@ pub mod Event
 pub mod Finish
 pub mod Joining
 pub mod Kept
+pub mod Kinds
 pub mod Pick
 pub mod Play
 pub mod Reply

@@ -6,6 +6,7 @@ ghost use Rattle.ent_members.specs.Places.{Changes, found};
 ghost use Rattle.ent_protocol.specs.Finish.{stepped, table_of, variable_of, with_bound};
 ghost use Rattle.ent_semantics.specs.declared.answer.Answer.TheVariants as answers;
 
+use crate::copies::rows_copy;
 use ent_closed::Statement;
 use ent_eval::Single;
 use ent_group::Tx;
@@ -13,7 +14,7 @@ use ent_members::Run;
 use ent_rel::Delta;
 use ent_semantics::Answer;
 use ent_tables::StoredTables;
-use ent_value::{Name, Row, Sequence, Value};
+use ent_value::{Name, Row, Value};
 use std::alloc::{AllocError, Global};
 
 /// The table that a statement changes, by its number.
@@ -41,16 +42,6 @@ fn bound_by(
         bound.push((variable.copy(alloc)?, value.copy(alloc)?))?;
     }
     Ok(bound)
-}
-
-fn rows_copy(alloc: Global, rows: &[Row]) -> Result<Sequence<Row>, AllocError>
-    ensures { IfOk result (λ copies. copies ≡ rows.now) }
-{
-    let mut copies = Vec::with_capacity(alloc, rows.len())?;
-    for row in rows {
-        copies.push(row.copy(alloc)?)?;
-    }
-    Ok(Sequence::from_vec(copies))
 }
 
 /// The member of a number takes the rows of its SELECT, and is at the next statement. The answer is theirs too. Where

@@ -20,7 +20,7 @@ use ent_value::{Refusal, Sequence};
 use std::alloc::{AllocError, Global};
 use std::sync::Arc;
 
-/// A run is on, or a transaction waits for one.
+/// E405: a run is on, or a transaction waits for one.
 #[derive(Clone, Copy, Debug, PartialEq, Eq)]
 pub struct NotDone;
 

@@ -11,6 +11,7 @@ mod begin;
 mod break_cycle;
 mod closing;
 mod commit;
+mod copies;
 mod end_run;
 mod event;
 mod finish;
@@ -31,6 +32,7 @@ mod submit;
 mod take_out;
 
 pub use closing::{NotClosed, NotDone};
+pub use copies::{answer_copy, answers_copy};
 pub use ent_quiet::Reason;
 pub use event::Event;
 pub use play::Played;

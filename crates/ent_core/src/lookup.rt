@@ -1,6 +1,7 @@
 //! What is told of a core without an event. No look-up takes memory.
 ghost use Rattle.std.specs.Prelude.{◌≡◌};
 ghost use Rattle.std.specs.Option.{option_copied, option_map};
+ghost use Rattle.ent_core.specs.Kinds.{kinds_of_table};
 ghost use Rattle.ent_protocol.specs.Lookup.{answers_of, dormant_at, entry_at, group_of, present_rows};
 ghost use Rattle.ent_protocol.specs.Lookup.{running_members};
 ghost use Rattle.ent_semantics.specs.Serial.{numbered};
@@ -38,7 +39,8 @@ pub(crate) fn entry(store: &Store, number: usize) -> Option<&Entry>
 
 /// The table of a name as it stands, where one is declared.
 pub(crate) fn table<'a>(store: &'a Store, name: &Name) -> Option<&'a Table>
-    ensures { option_map (λ table. table.now.rows) result ≡ present_rows store.now name.now }
+    ensures rows { option_map (λ table. table.now.rows) result ≡ present_rows store.now name.now }
+    ensures kinds { option_map (λ table. table.now.kinds) result ≡ kinds_of_table store.now.opening name.now }
 {
     match store.catalogue.table_named(name) {
         Some((number, _)) => store.tables.table(number),

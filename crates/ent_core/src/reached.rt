@@ -1,7 +1,9 @@
 //! The core whose type keeps that its state is reached.
-ghost use Rattle.std.specs.Prelude.{IfErr, IfOk, IsOk, OnErr, Some, ◌≡◌};
+ghost use Rattle.std.specs.Prelude.{IfErr, IfOk, IsOk, None, OnErr, OnOk, Some, ◌≡◌};
+ghost use Rattle.std.specs.List.{AllByRecursion};
 ghost use Rattle.std.specs.Option.{option_copied, option_map};
 ghost use Rattle.ent_book.specs.Tables.{book_seen};
+ghost use Rattle.ent_core.specs.Kinds.{kinds_of_table};
 ghost use Rattle.ent_core.specs.Reply.{reply_seen};
 ghost use Rattle.ent_core.specs.Standing.{standing_seen};
 ghost use Rattle.ent_form.specs.OpeningFault.{opening_fault, unless};
@@ -13,10 +15,11 @@ ghost use Rattle.ent_protocol.specs.Job as jobs;
 ghost use Rattle.ent_semantics.specs.declared.answer.Failure.{Failure};
 ghost use Rattle.ent_protocol.specs.Lookup.{answers_of, dormant_at, entry_at, group_of, present_rows};
 ghost use Rattle.ent_protocol.specs.Lookup.{running_members, standing};
-ghost use Rattle.ent_protocol.specs.Reached.{CanClose, IsFinishedBook, book_of, opened, scripts_of};
+ghost use Rattle.ent_protocol.specs.Reached.{CanClose, IsFinishedBook, IsReached, book_of, opened, scripts_of};
 ghost use Rattle.ent_protocol.specs.Step.{Step};
 ghost use Rattle.ent_resolved.specs.Resolved.{resolved_forms};
 ghost use Rattle.ent_semantics.specs.Book.{IsLegal};
+ghost use Rattle.ent_standing.specs.Attempts.{AsksForRun};
 ghost use Rattle.ent_value.specs.Refusal.{Gives};
 ghost use Rattle.ent_value.specs.declared.refusal.Refusal.TheVariants.{Fault};
 ghost use Rattle.ent_core.specs.declared.closing.NotDone.{NotDone};
@@ -206,6 +209,7 @@ impl Core {
         ensures finished { IfOk result (λ book.
             IsFinishedBook resolved_forms self.opening (scripts_of self) (book_seen book)) }
         ensures legal { IfOk result (λ book. IsLegal (book_seen book)) }
+        ensures done { OnOk result (CanClose self) }
         ensures returned { IfErr result (λ refused. refused.core ≡ self) }
         ensures not_done { IfErr result (λ refused. (fault : NotDone)
             → refused.refusal ≡ Fault fault
@@ -232,6 +236,16 @@ impl Core {
                 refusal: Refusal::Fault(NotDone),
             })
         }
+    }
+
+    /// A law, which does nothing: events led to the state from its opening's own, the opening has no fault of form, and
+    /// each script asks for one run at least.
+    pub fn is_reached(&self)
+        ensures reached { IsReached resolved_forms self.now }
+        ensures formed { opening_fault self.now.opening ≡ None }
+        ensures asks { AllByRecursion AsksForRun self.now.submitted }
+    {
+        self.store.asks_for_runs();
     }
 
     /// Whether a run is on.
@@ -278,10 +292,12 @@ impl Core {
 
     /// The table of a name as it stands, where one is declared.
     pub fn table(&self, name: &Name) -> Option<&Table>
-        ensures { option_map (λ table. table.now.rows) result ≡ present_rows self.now name.now }
+        ensures rows { option_map (λ table. table.now.rows) result ≡ present_rows self.now name.now }
+        ensures kinds { option_map (λ table. table.now.kinds) result ≡ kinds_of_table self.now.opening name.now }
     {
         lookup::table(&self.store, name)
     }
+
     /// Where a transaction stands; nowhere where no script has its number.
     pub fn standing(&self, tx: Tx) -> Option<Standing>
         ensures { option_map standing_seen result ≡ standing self.now tx }

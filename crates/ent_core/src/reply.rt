@@ -47,16 +47,16 @@ pub enum Reply {
     Ended(Members),
     /// No job is lent any more.
     Recalled,
-    /// It is not there: no such member of the run, or no transaction for a run.
+    /// E401: it is not there, no such member of the run, or no transaction for a run.
     Absent,
-    /// Not at this time.
+    /// E402: not at this time.
     NotNow,
-    /// The result isn't of a job that is lent, or its statements are no component now.
+    /// E403: the result isn't of a job that is lent, or its statements are no component now.
     Stale(Done),
-    /// The run can't end yet.
+    /// E404: the run can't end yet.
     Busy(Reason),
-    /// As many scripts as there may be were submitted before.
+    /// E406: as many scripts as there may be were submitted before.
     Full(Script),
-    /// The script has a fault of form, its first.
+    /// The script has a fault of form, its first; the fault has its own number.
     Faulty(Script, FormFault),
 }

@@ -1,14 +1,17 @@
 //! Where a transaction stands.
 ghost use Rattle.std.specs.Prelude.{◌≡◌};
 ghost use Rattle.std.specs.Option.{option_map};
+ghost use Rattle.ent_core.specs.Kept.{IsKeptState};
 ghost use Rattle.ent_core.specs.Standing.{standing_seen};
 ghost use Rattle.ent_protocol.specs.Lookup as lookups;
 
 use crate::store::Store;
+use ent_form::FormFault;
 use ent_group::Tx;
 use ent_members::Member;
 use ent_next::{Turn, turn_of};
 use ent_semantics::Fate;
+use ent_standing::transactions_stand_once;
 
 /// Where a transaction stands.
 #[derive(Clone, Copy, Debug, PartialEq, Eq)]
@@ -38,21 +41,25 @@ fn active_standing(store: &Store, member: &Member) -> Standing
     Standing::Ready(turn_of(store.submitted.as_slice(), member))
 }
 
-/// Where a transaction stands: by its fate, else as it is dormant, else as a member.
+/// Where a transaction stands: as a member, else as it is dormant, else by its fate. It stands in one of these places,
+/// so the short list of members comes first.
 pub(crate) fn standing_of(store: &Store, tx: Tx) -> Option<Standing>
+    requires kept { IsKeptState store.now }
     ensures { option_map standing_seen result ≡ lookups.standing store.now tx }
 {
-    if let Some(fated) = store.roster.fate_of(tx) {
-        return Some(Standing::Finished(fated.fate));
+    // Law: a transaction stands in one place.
+    transactions_stand_once::<FormFault>();
+    if store.run.is_prepared(tx) {
+        return Some(Standing::Prepared);
+    }
+    if let Some(member) = store.run.active_member(tx) {
+        return Some(active_standing(store, member));
     }
     if let Some(own) = store.roster.dormant_of(tx) {
         return Some(Standing::Dormant(own.runs()));
     }
-    if store.run.is_prepared(tx) {
-        return Some(Standing::Prepared);
-    }
-    match store.run.active_member(tx) {
-        Some(member) => Some(active_standing(store, member)),
+    match store.roster.fate_of(tx) {
+        Some(fated) => Some(Standing::Finished(fated.fate)),
         None => None,
     }
 }

@@ -25,14 +25,14 @@ fn or_back(made: Result<Reply, AllocError>, event: Event) -> Result<Reply, Alloc
 }
 
 impl Core {
-    /// Makes an event, as the call of its name does. Where memory runs out nothing changes, and the event comes back;
-    /// recalling jobs and breaking a cycle take none.
+    /// Makes an event, as the call of its name does. Where memory runs out nothing changes, and the event comes back; a
+    /// member that rolls back, a statement that failed, a cycle that is broken and a recall take none.
     pub fn step(&mut self, event: Event) -> Result<Reply, AllocFailed<Event>>
         ensures ok { IfOk result (λ reply.
             Step resolved_forms self.old (event_seen event) (reply_seen reply) self.new) }
         ensures err { OnErr result (self.new ≡ self.old) }
         ensures returned { IfErr result (λ refused. refused.value ≡ event) }
-        ensures memory { IfErr result (λ refused. MayWantMemory (event_seen event)) }
+        ensures memory { IfErr result (λ refused. MayWantMemory self.old (event_seen event)) }
         ensures legal { IsLegal (book_of self.new) }
     {
         match event {

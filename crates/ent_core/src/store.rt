@@ -1,4 +1,7 @@
 //! What a core holds.
+ghost use Rattle.std.specs.List.{AllByRecursion};
+ghost use Rattle.ent_standing.specs.Attempts.{AsksForRun};
+
 use ent_eval::Asking;
 use ent_form::Catalogue;
 use ent_lent::LentJobs;
@@ -58,4 +61,13 @@ impl Model for Store {
 
     ghost invariant = { λ s.
         IsKept s.catalogue.tables s.opening s.submitted.items s.roster s.running s.run s.tables };
+}
+
+impl Store {
+    /// A law, which does nothing: each script asks for one run at least.
+    pub(crate) fn asks_for_runs(&self)
+        ensures { AllByRecursion AsksForRun self.now.submitted }
+    {
+        let _submitted = &self.submitted;
+    }
 }

@@ -66,7 +66,7 @@ kept_cmp beginning rest (class ∷ classes) (value ∷ row) h =
 
 -- ---- the column of the next class
 
-some_suc : (o : Option ℕ) (j : ℕ) → option_map suc o ≡ Some j → (k : ℕ) × (o ≡ Some k) × (j ≡ suc k)
+pub some_suc : (o : Option ℕ) (j : ℕ) → option_map suc o ≡ Some j → (k : ℕ) × (o ≡ Some k) × (j ≡ suc k)
 some_suc None j h = cc
 some_suc (Some k) j h = (k, refl, let f : suc k ≡ j = cc in sym f)
 

@@ -51,7 +51,7 @@ kinds_from (kind ∷ class_kinds) (value ∷ values) w h =
     let rest : kinds_of values ≡ class_kinds = kinds_from class_kinds values (omega arith) k.1 in
     λ i. first i ∷ rest i
 
-kinds_to : (values : List Value) → are_of_kinds (kinds_of values) values ≡ true
+pub kinds_to : (values : List Value) → are_of_kinds (kinds_of values) values ≡ true
 kinds_to [] = refl
 kinds_to (value ∷ values) =
     ap (λ b. b && are_of_kinds (kinds_of values) values) (kind_self (kind_of value)) ∙ kinds_to values

@@ -96,7 +96,7 @@ sources_are_named members =
 
 -- ---- classes of indexes
 
-column_any : (class : ℕ) (classes : List ℕ) → is_some (column_of class classes) ≡ list_any (λ n. n == class) classes
+pub column_any : (class : ℕ) (classes : List ℕ) → is_some (column_of class classes) ≡ list_any (λ n. n == class) classes
 column_any class [] = refl
 column_any class (other ∷ classes) = by (other == class) (column_any class classes)
   where

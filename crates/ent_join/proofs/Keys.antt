@@ -155,7 +155,7 @@ module _ (values : List Value) (columns : List Slot) (classes : List ℕ)
   same : (row : List Value) → tuple ≡ row → eq_by_cmp row_cmp tuple row ≡ true
   same row e = ap (eq_by_cmp row_cmp tuple) (sym e) ∙ (eq_by_cmp_equiv rows_total).refl tuple
 
-  classes_below : AllByRecursion (IsBelow values) classes
+  pub classes_below : AllByRecursion (IsBelow values) classes
   classes_below =
       all_map (λ n. nat_lt n (length values) ≡ true) (IsBelow values) (λ n h. ltb-true n (length values) h) classes
       (all_alike classes (class_numbers columns) alike (λ n. nat_lt n (length values))
@@ -285,13 +285,13 @@ nat_exact x y h = by (nat_lt x y) h
     by true h = cc
     by false h = by_equal (x == y) refl h
 
-classes_alike : (columns : List Slot) (test : ℕ → Bool)
+pub classes_alike : (columns : List Slot) (test : ℕ → Bool)
     → list_any test (ascending_classes columns) ≡ list_any test (class_numbers columns)
 classes_alike columns test =
     any_same_set nat_cmp_total nat_exact test (ascending_classes columns) (class_numbers columns)
     (from_list-ascending nat_cmp_total nat_exact (set.from_list (class_numbers columns)))
 
-keys_alike : (keys : List (List Value)) (test : List Value → Bool)
+pub keys_alike : (keys : List (List Value)) (test : List Value → Bool)
     → list_any test (set.ascending (set.from_list {R = row_cmp} keys)) ≡ list_any test keys
 keys_alike keys test =
     any_same_set rows_total exact_rows test (set.ascending (set.from_list {R = row_cmp} keys)) keys

@@ -8,3 +8,6 @@ pub mod Keys
 pub mod Tied
 pub mod Held
 pub mod Chosen
+pub mod EachClass
+pub mod NoDeadEnd
+pub mod Ticking

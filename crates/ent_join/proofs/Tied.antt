@@ -113,7 +113,7 @@ column_below : (values : List Value) (slot : Slot) (columns : List Slot) → Slo
 column_below values (Fixed value) columns h all = all
 column_below values (Class number) columns h all = (h, all)
 
-columns_below : (values : List Value) (slots : List Slot) (ts : List (Term Value))
+pub columns_below : (values : List Value) (slots : List Slot) (ts : List (Term Value))
     → AllByRecursion (SlotBelow (length values)) slots
     → AllByRecursion (IsBelow values) (class_numbers (map (term_slot slots) ts))
 columns_below values slots [] h = tt
@@ -151,7 +151,7 @@ module _ (laid : Tables) (numbers : List ℕ) (tables : List Relation)
   abbrev valuation : List Slot → List Value
   valuation slots = map (slot_value values) slots
 
-  rows_are : (select : Select Value) → AllByRecursion (Named numbers) select.sources
+  pub rows_are : (select : Select Value) → AllByRecursion (Named numbers) select.sources
       → select_rows numbers tables select ≡ form_rows (λ value. value) laid select
   rows_are select named =
       ap (selection (meets value_in select.tests) (λ row. map (value_in row) select.items))

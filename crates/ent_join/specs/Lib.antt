@@ -7,3 +7,4 @@ pub mod Keyed
 pub mod Asked
 pub mod Ranged
 pub mod Laid
+pub mod Row

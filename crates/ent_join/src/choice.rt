@@ -1,11 +1,14 @@
 //! The least coordinating choice.
-ghost use Rattle.std.specs.Prelude.{◌≡◌, IfOk, List, map};
+ghost use Rattle.std.specs.Prelude.{◌≡◌, [], ◌∷◌, IfOk, List, is_some, length, map};
 ghost use Rattle.std.specs.Arc.{arc_value};
 ghost use Rattle.ent_closed.specs.Form.{Tables};
 ghost use Rattle.ent_coordination.specs.Choice.{IsLeastChoiceIfAny};
+ghost use Rattle.ent_coordination.specs.Pool.{Posted};
 ghost use Rattle.ent_plan.specs.Plan.{slot_value};
 ghost use Rattle.ent_join.specs.Laid.{AreLaid};
 ghost use Rattle.ent_join.specs.Ranged.{AreRanged};
+ghost use Rattle.ent_join.specs.Row.{AsksForARow};
+ghost use Rattle.ent_join.specs.Search.{AreTicks};
 
 use crate::asked::frame_of;
 use crate::search::least;
@@ -69,7 +72,8 @@ pub fn first(
     first_with(alloc, plan, tables, &mut ticks)
 }
 
-/// What [`first`] answers. Each value that the search was given is one tick.
+/// What [`first`] answers. Each value that the search was given is one tick: where the plan is of one statement that
+/// asks for a row and nothing else, an answer takes one for each of its written variables, and none takes none.
 pub fn first_with(
     alloc: Global,
     plan: &JoinPlan,
@@ -77,9 +81,14 @@ pub fn first_with(
     ticks: &mut Ticks,
 ) -> Result<Option<Sequence<Sequence<Value>>>, AllocError>
     requires { AreRanged plan.now.members }
-    ensures { IfOk result (λ choice. (laid : Tables)
+    ensures choice { IfOk result (λ choice. (laid : Tables)
         → AreLaid plan.now.members (map arc_value tables.now) laid
         → IsLeastChoiceIfAny laid plan.now.members choice) }
+    ensures ticks { IfOk result (λ choice. (laid : Tables) (member : Posted)
+        → AreLaid plan.now.members (map arc_value tables.now) laid
+        → plan.now.members ≡ member ∷ []
+        → AsksForARow laid member.statement
+        → AreTicks (length member.statement.variables) ticks.old ticks.new (is_some choice)) }
 {
     plan_has_the_choices();
     plan_keeps_the_order();

@@ -4,5 +4,6 @@ pub mod Placed
 pub mod Marks
 pub mod Offered
 pub mod Joins
+pub mod Firsts
 pub mod Listing
 pub mod Alike

@@ -1,5 +1,5 @@
 -- Components by their places.
-use Rattle.std.specs.Prelude.{◌≡◌, ◌<◌, ◌⊎◌, ℕ, Bool, true, false, List, [], ◌∷◌, length, map, Contains}
+use Rattle.std.specs.Prelude.{◌≡◌, ◌<◌, ◌⊎◌, ℕ, Bool, true, false, List, [], ◌∷◌, length, map, AllPairs, Contains}
 use Rattle.std.specs.Prelude.{slice_index_or}
 use Rattle.std.proofs.Common.{Vec, Global}
 use Rattle.ent_coordination.specs.Component.{IsComponent, IsInRemainder, AreJoined}
@@ -73,3 +73,11 @@ pub record AreComponents (pool : List Posted) (lists : List (List ℕ)) : Type 0
       → (members : List Posted) × IsComponent pool members × (list ≡ map (λ (member : Posted). member.tx) members)
   pub covers : (member : Posted) → IsInRemainder pool member
       → (list : List ℕ) × Contains lists list × Contains list member.tx
+
+-- the first transaction of a list
+abbrev pub first_of : List ℕ → ℕ
+first_of list = slice_index_or list 0 0
+
+-- the lists stand in the order of their first transactions
+abbrev pub AscendByFirst : List (List ℕ) → Type 0
+AscendByFirst lists = AllPairs (λ (one other : List ℕ). first_of one < first_of other) lists

@@ -4,7 +4,8 @@ ghost use Rattle.ent_coordination.specs.Pool.{IsSafe};
 ghost use Rattle.ent_match.specs.Fault.{IsByNumber};
 ghost use Rattle.ent_match.specs.Links.{AreWithin};
 ghost use Rattle.ent_match.specs.Remainder.{IsStart};
-ghost use Rattle.ent_match.specs.Components.{AreComponents, AreJoinsOf, AreLinkedBy, IsClassAt, IsUnmarked, lists_in};
+ghost use Rattle.ent_match.specs.Components.{AreComponents, AreJoinsOf, AreLinkedBy, AscendByFirst, IsClassAt};
+ghost use Rattle.ent_match.specs.Components.{IsUnmarked, lists_in};
 
 use crate::link::{Link, mark_all};
 use crate::member::Member;
@@ -66,7 +67,8 @@ fn classes_of(
     seen: &mut [bool],
 ) -> Result<Vec<Vec<Tx>>, AllocError>
     requires { AreLinkedBy members.now joins.now seen.old }
-    ensures { IfOk result (λ lists. AreComponents members.now (lists_in lists.items)) }
+    ensures components { IfOk result (λ lists. AreComponents members.now (lists_in lists.items)) }
+    ensures by_first { IfOk result (λ lists. AscendByFirst (lists_in lists.items)) }
 {
     let mut classes = Vec::new(alloc);
     for place in 0..members.len() {
@@ -89,7 +91,8 @@ fn components_from(
     requires by_number { IsByNumber members.now }
     requires safe { IsSafe members.now }
     requires start { IsStart members.now links.now removed.old }
-    ensures { IfOk result (λ lists. AreComponents members.now (lists_in lists.items)) }
+    ensures components { IfOk result (λ lists. AreComponents members.now (lists_in lists.items)) }
+    ensures by_first { IfOk result (λ lists. AscendByFirst (lists_in lists.items)) }
 {
     mark_all(links, removed);
     let joins = joins_of(alloc, links, removed)?;
@@ -101,7 +104,8 @@ fn components_from(
 pub(crate) fn components_of(alloc: Global, members: &[Member]) -> Result<Vec<Vec<Tx>>, AllocError>
     requires by_number { IsByNumber members.now }
     requires safe { IsSafe members.now }
-    ensures { IfOk result (λ lists. AreComponents members.now (lists_in lists.items)) }
+    ensures components { IfOk result (λ lists. AreComponents members.now (lists_in lists.items)) }
+    ensures by_first { IfOk result (λ lists. AscendByFirst (lists_in lists.items)) }
 {
     let Offers { links, mut removed } = links_of(alloc, members)?;
     let components = components_from(alloc, members, links.as_slice(), removed.as_mut_slice())?;

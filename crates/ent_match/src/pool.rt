@@ -1,7 +1,7 @@
 //! The pool.
-ghost use Rattle.std.specs.Prelude.{◌≡◌, [], IfOk, OnOk, OnErr, IfErr, filter};
+ghost use Rattle.std.specs.Prelude.{◌≡◌, ◌≢◌, [], AllPairs, IfOk, OnOk, OnErr, IfErr, filter};
 ghost use Rattle.ent_coordination.specs.Pool.{IsSafe};
-ghost use Rattle.ent_match.specs.Components.{AreComponents, lists_in};
+ghost use Rattle.ent_match.specs.Components.{AreComponents, AscendByFirst, lists_in};
 ghost use Rattle.ent_match.specs.Fault.{IsByNumber};
 ghost use Rattle.ent_match.specs.Posting.{HasNone, IsPostedTo, IsWhyWith, IsPlaceFor, is_of_other};
 
@@ -41,6 +41,15 @@ impl Pool {
         }
     }
 
+    /// The pool of statements that are known to be by number and safe: nothing is checked again. It takes no memory.
+    pub fn of_safe(members: Vec<Member>) -> Self
+        requires by_number { IsByNumber members.items }
+        requires safe { IsSafe members.items }
+        ensures { result ≡ members.items }
+    {
+        Pool { members }
+    }
+
     /// The statements, by number of their transactions.
     pub fn members(&self) -> &[Member]
         ensures members { result.now ≡ self.now }
@@ -62,9 +71,11 @@ impl Pool {
         post_to(&mut self.members, member)
     }
 
-    /// The components: of each the transactions by number.
+    /// The components, each once: of each the transactions by number, and the components by their first ones.
     pub fn components(&self, alloc: Global) -> Result<Vec<Vec<Tx>>, AllocError>
-        ensures { IfOk result (λ lists. AreComponents self.now (lists_in lists.items)) }
+        ensures components { IfOk result (λ lists. AreComponents self.now (lists_in lists.items)) }
+        ensures by_first { IfOk result (λ lists. AscendByFirst (lists_in lists.items)) }
+        ensures once { IfOk result (λ lists. AllPairs ◌≢◌ (lists_in lists.items)) }
     {
         let members = self.members();
         components_of(alloc, members)

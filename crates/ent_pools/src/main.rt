@@ -4,11 +4,13 @@
 #![tactic(auto)]
 
 mod atoms;
+mod choice;
 mod classes;
 mod pool;
 mod reply;
 mod stage;
 mod statement;
+mod tables;
 mod words;
 
 use crate::stage::replies;

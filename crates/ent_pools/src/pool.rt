@@ -1,20 +1,25 @@
-//! Pools: `== pool`. Statements are posted to a pool and withdrawn, and it tells its components.
+//! Pools: `== pool`. Statements are posted to a pool and withdrawn, and it tells its components, and the plans and least
+//! choices of its statements.
 ghost use Rattle.std.specs.Prelude.{IsTrue};
 ghost use Rattle.ent_match.specs.Posting.{HasNone};
 
+use crate::choice::{put_choice, put_plan};
 use crate::reply::{put, put_numbers};
-use crate::statement::{count_tables, entangled};
-use crate::words::{first_word, number};
+use crate::statement::{entangled, opening_tables};
+use crate::words::{first_word, number, numbers};
 use anyhow::{Result, bail};
 use ent_group::Tx;
 use ent_match::{Member, Pool, PostFault};
+use ent_rel::Table;
 use std::alloc::Global;
 use std::io::Write;
+use std::sync::Arc;
 
-/// A pool, and the declarations of the tables that its statements are over.
+/// A pool, and the tables that its statements are over, with their declarations.
 #[derive(Drop)]
 pub(crate) struct Posted {
     opening: String,
+    tables: Vec<Arc<Table>>,
     pool: Pool,
 }
 
@@ -22,6 +27,7 @@ impl Posted {
     pub(crate) fn new(alloc: Global) -> Self {
         Posted {
             opening: String::new(alloc),
+            tables: Vec::new(alloc),
             pool: Pool::new(alloc),
         }
     }
@@ -37,14 +43,30 @@ impl Posted {
             }
             "members" => put_members(alloc, &self.pool, out),
             "components" => put_components(alloc, &self.pool, out),
+            "plan" => put_plan(alloc, &self.pool, numbers(alloc, rest)?.as_slice(), out),
+            "first" => self.put_first(alloc, rest, false, out),
+            "first_with" => self.put_first(alloc, rest, true, out),
             _ => bail!("pools know no such call"),
         }
     }
 
     fn declare(&mut self, alloc: Global, text: &str, out: &mut Vec<u8>) -> Result<()> {
-        write!(out, "{}", count_tables(alloc, text)?)?;
+        self.tables = opening_tables(alloc, text)?;
         self.opening = text.to_string(alloc)?;
+        write!(out, "{}", self.tables.len())?;
         Ok(())
+    }
+
+    fn put_first(
+        &self,
+        alloc: Global,
+        rest: &str,
+        with_ticks: bool,
+        out: &mut Vec<u8>,
+    ) -> Result<()> {
+        let txs = numbers(alloc, rest)?;
+        let tables = self.tables.as_slice();
+        put_choice(alloc, &self.pool, tables, txs.as_slice(), with_ticks, out)
     }
 
     fn post(&mut self, alloc: Global, rest: &str, out: &mut Vec<u8>) -> Result<()> {

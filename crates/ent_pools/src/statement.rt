@@ -1,12 +1,15 @@
 //! Entangled statements as an input has them, resolved and closed.
+use crate::tables::tables;
 use anyhow::{Context, Result, bail};
 use ent_closed::{Entangled, Statement};
 use ent_closing::{Environment, closed};
 use ent_form::{Catalogue, Plain, resolve};
+use ent_rel::Table;
 use ent_sql::parse_input;
 use ent_tree::Input;
 use ent_value::Value;
 use std::alloc::Global;
+use std::sync::Arc;
 
 fn read(alloc: Global, text: &str) -> Result<Input> {
     match parse_input(alloc, text) {
@@ -22,10 +25,11 @@ fn catalogue_of(alloc: Global, input: &Input) -> Result<Catalogue> {
     }
 }
 
-/// How many tables an opening declares.
-pub(crate) fn count_tables(alloc: Global, opening: &str) -> Result<usize> {
+/// The tables that an opening declares, with its rows.
+pub(crate) fn opening_tables(alloc: Global, opening: &str) -> Result<Vec<Arc<Table>>> {
     let input = read(alloc, opening)?;
-    Ok(catalogue_of(alloc, &input)?.tables.len())
+    let catalogue = catalogue_of(alloc, &input)?;
+    tables(alloc, &catalogue, &input.opening)
 }
 
 /// The first script of an input, resolved.

@@ -15,6 +15,14 @@ pub(crate) fn number(word: &str) -> Result<u64> {
     word.parse::<u64>().context("this is no number")
 }
 
+pub(crate) fn numbers(alloc: Global, words: &str) -> Result<Vec<u64>> {
+    let mut found = Vec::new(alloc);
+    for word in words.split(' ') {
+        found.push(number(word)?)?;
+    }
+    Ok(found)
+}
+
 pub(crate) fn index(word: &str) -> Result<usize> {
     word.parse::<usize>().context("this is no index")
 }

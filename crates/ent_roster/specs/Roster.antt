@@ -1,5 +1,5 @@
 -- Who waits for a run, and who is finished.
-use Rattle.std.specs.Prelude.{ℕ, ◌+◌, ◌≤◌, suc, List, [], ◌∷◌, nat_lt, if◌then◌else◌}
+use Rattle.std.specs.Prelude.{ℕ, ◌+◌, ◌≤◌, List}
 use Rattle.ent_semantics.specs.declared.book.Fated.{Fated}
 use Rattle.ent_protocol.specs.State.{Dormant}
 
@@ -16,8 +16,3 @@ pub record HasRoom (dormant fates known dormant_room fates_room : ℕ) : Type 0 
   pub bound : dormant + fates ≤ known
   pub for_dormant : known ≤ dormant_room
   pub for_fates : known ≤ fates_room
-
--- the index of the first fate of a greater number, or else the length
-abbrev pub place_of : ℕ → List Fated → ℕ
-place_of tx [] = 0
-place_of tx (fated ∷ more) = if nat_lt tx fated.tx then 0 else suc (place_of tx more)

@@ -2,37 +2,23 @@
 ghost use Rattle.std.specs.Prelude.{◌≡◌, ◌==◌, IfOk, filter};
 ghost use Rattle.std.specs.Option.{option_copied};
 ghost use Rattle.ent_protocol.specs.State.{by_number, first_of};
-ghost use Rattle.ent_roster.specs.Roster.{place_of};
 
 use ent_group::Tx;
 use ent_members::Entrant;
 use ent_semantics::Fated;
 use std::alloc::{AllocError, Global};
 
-/// The index of the first fate of a greater number, or else the length.
-fn place_of(fates: &[Fated], tx: Tx) -> usize
-    ensures { result ≡ place_of tx fates.now }
-{
-    for (index, fated) in fates.iter().enumerate() {
-        if tx < fated.tx {
-            return index;
-        }
-    }
-    fates.len()
-}
-
 /// The fates in order of their transactions' numbers.
 pub(crate) fn fates_by_number(alloc: Global, fates: &[Fated]) -> Result<Vec<Fated>, AllocError>
     ensures { IfOk result (λ sorted. sorted.items ≡ by_number (λ fated. fated.tx) fates.now) }
 {
     let mut sorted = Vec::with_capacity(alloc, fates.len())?;
-    let mut left = fates.len();
-    while left > 0 {
-        left -= 1;
-        let fated = fates[left];
-        let place = place_of(sorted.as_slice(), fated.tx);
-        sorted.insert(place, fated)?;
+    for fated in fates {
+        sorted.push(*fated)?;
     }
+    // of fates of one number, of which there are none, the last would be first
+    sorted.reverse();
+    sorted.sort_by_key(|fated| fated.tx)?;
     Ok(sorted)
 }
 

@@ -1,31 +1,33 @@
-use Rattle.std.proofs.Common.{[], ◌∷◌, ◌++◌, ap, subst, ◌∙◌}
+use Rattle.std.proofs.Common.{List, [], ◌∷◌, ◌++◌, ap, subst, ◌∙◌}
+use Rattle.std.specs.Prelude.{Contains}
 use Rattle.ent_coordination.specs.Pool.{IsFirstUnsafe, IsSafe, Posted}
 use Rattle.ent_match.specs.Posting.{IsWhyWith}
-use Rattle.ent_components.specs.Component.{pool_of}
+use Rattle.ent_protocol.specs.Job.{posted_of}
 use Rattle.ent_components.proofs.Pooled.{added, put_before}
 use Rattle.ent_components.proofs.fault.post_fault.Goals as goal
 
 pub post-requires : goal.post-requires
 post-requires c other there same =
-    c.requires.none other ((c.in_ok-pool.ensures other).0 there)
+    c.requires.none other (subst (λ (pool : List Posted). Contains pool other) c.in_ok-pool.ensures there)
     (same ∙ ap (λ (member : Posted). member.tx) c.in_ok-member.ensures)
 
 pub returns-in-Ok : goal.returns-in-Ok
 returns-in-Ok c =
-    let pool = pool_of c.args.posted.now in
+    let pool = c.in_ok-pool.pool in
     let member = c.in_ok-member.member in
     let new = c.post.new.self in
-    subst (λ (last : Posted). IsSafe (pool ++ last ∷ [])) c.in_ok-member.ensures
+    subst (λ (pool : List Posted). IsSafe (pool ++ posted_of c.args.asking.now ∷ [])) c.in_ok-pool.ensures
+    (subst (λ (last : Posted). IsSafe (pool ++ last ∷ [])) c.in_ok-member.ensures
     (c.same_statements_are_alike.ensures.safe new (pool ++ member ∷ [])
-    (added c.in_ok-pool.pool new pool member c.in_ok-pool.ensures c.in-Ok.ensures.posted.adds)
-    c.in-Ok.ensures.posted.safe)
+    (added pool new member c.in-Ok.ensures.posted.adds) c.in-Ok.ensures.posted.safe))
 
 pub returns : goal.returns
 returns c =
-    let pool = pool_of c.args.posted.now in
+    let pool = c.in_ok-pool.pool in
     let member = c.in_ok-member.member in
     let fault = c.in_ok-fault-in-Err.fault in
-    let why = subst (IsWhyWith c.in_ok-pool.pool member) c.in_ok-fault-in-Err.ensures c.in-Err.ensures.why in
-    subst (λ (last : Posted). IsFirstUnsafe (pool ++ last ∷ []) fault) c.in_ok-member.ensures
-    (c.same_statements_are_alike.ensures.first_unsafe (member ∷ c.in_ok-pool.pool) (pool ++ member ∷ []) fault
-    (put_before c.in_ok-pool.pool pool member c.in_ok-pool.ensures) why.1)
+    let why = subst (IsWhyWith pool member) c.in_ok-fault-in-Err.ensures c.in-Err.ensures.why in
+    subst (λ (pool : List Posted). IsFirstUnsafe (pool ++ posted_of c.args.asking.now ∷ []) fault) c.in_ok-pool.ensures
+    (subst (λ (last : Posted). IsFirstUnsafe (pool ++ last ∷ []) fault) c.in_ok-member.ensures
+    (c.same_statements_are_alike.ensures.first_unsafe (member ∷ pool) (pool ++ member ∷ []) fault
+    (put_before pool member) why.1))

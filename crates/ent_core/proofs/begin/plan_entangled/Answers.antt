@@ -1,4 +1,4 @@
-use Rattle.std.proofs.Common.{◌≡◌, ◌∙◌, ◌++◌, ◌∷◌, [], ap, sym, subst, List, Option, Some, None, map, nat_eq}
+use Rattle.std.proofs.Common.{◌≡◌, ◌∙◌, ◌++◌, ◌∷◌, [], ap, sym, subst, List, Option, map, nat_eq}
 use Rattle.std.specs.Prelude.{Contains, MatchOption}
 use Rattle.std.specs.List.{IsDistinct}
 use Rattle.ent_coordination.specs.Pool.{IsFirstUnsafe, IsSafe, Posted, Unsafe}
@@ -7,7 +7,7 @@ use Rattle.ent_members.specs.Run.{tx_of}
 use Rattle.ent_protocol.specs.Begin.{pool_with}
 use Rattle.ent_protocol.specs.Job.{Asking}
 use Rattle.ent_protocol.specs.Member.{askings, is_lent, pool}
-use Rattle.ent_protocol.specs.State.{State, Member, Use}
+use Rattle.ent_protocol.specs.State.{State}
 use Rattle.ent_protocol.specs.Uses.{blocker, entangled_uses}
 use Rattle.ent_components.specs.Component.{pool_and, pool_of}
 use Rattle.ent_resolved.specs.Resolved.{resolved_forms}

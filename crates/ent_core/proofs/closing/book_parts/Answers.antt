@@ -1,8 +1,6 @@
-use Rattle.std.proofs.Common.{◌∙◌, ap, map}
-use Rattle.std.specs.Arc.{arc_value}
+use Rattle.std.proofs.Common.{◌∙◌, ap}
 use Rattle.ent_protocol.specs.Reached.{named_tables, table_names}
 use Rattle.ent_protocol.specs.State.{State}
-use Rattle.ent_select.specs.Tables.{rows_in}
 use Rattle.ent_core.proofs.Booked.{names_declared}
 use Rattle.ent_core.proofs.closing.book_parts.Goals as goal
 

@@ -1,6 +1,5 @@
-use Rattle.std.proofs.Common.{◌≡◌, ◌+◌, ◌++◌, ◌∙◌, ℕ, suc, List, Option, Some, ap, arith, length, map, subst, sym}
+use Rattle.std.proofs.Common.{◌≡◌, ◌+◌, ◌++◌, ◌∙◌, ℕ, suc, List, Some, ap, arith, length, map, subst, sym}
 use Rattle.ent_form.specs.declared.fault.FormFault.{FormFault}
-use Rattle.ent_members.specs.Moves.{PreparesMember, run_of}
 use Rattle.ent_members.specs.Places.{found}
 use Rattle.ent_members.specs.Run.{Run, tx_of, with_run}
 use Rattle.ent_protocol.specs.Begin.{BeginsCommit}

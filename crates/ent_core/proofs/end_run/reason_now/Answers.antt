@@ -1,4 +1,4 @@
-use Rattle.std.proofs.Common.{◌≡◌, Option, sym, ap, subst, ◌∙◌}
+use Rattle.std.proofs.Common.{◌≡◌, sym, ap, subst, ◌∙◌}
 use Rattle.ent_protocol.specs.State.{State}
 use Rattle.ent_quiet.specs.Quiet.{IsReasonIfAny, state_of}
 use Rattle.ent_resolved.specs.Resolved.{resolved_forms}

@@ -10,7 +10,8 @@ use Rattle.ent_resolved.specs.Resolved.{resolved_forms}
 use Rattle.ent_standing.specs.Attempts.{AsksForRun, StayWithin}
 use Rattle.ent_standing.specs.Standing.{StandOnce}
 use Rattle.ent_core.specs.contracts.store.Store.{the_view}
-use Rattle.ent_core.proofs.Finishing.{failed, one_member, own_number}
+use Rattle.ent_core.proofs.Begun.{number_found, one_member}
+use Rattle.ent_core.proofs.Finishing.{failed}
 use Rattle.ent_core.proofs.finish.fail.Goals as goal
 
 pub returns-in_default : goal.returns-in_default
@@ -56,7 +57,7 @@ returns c = λ job member at there.
     let group : member.group ≡ c.group-group.result =
     sym (c.group-group.ensures ∙ ap (λ (m : Member). m.group) (one_member c.in-Some.member.now member same)) in
     let own : member.tx ≡ c.tx-tx.result =
-    own_number single.tx c.args.store.now.active member there ∙ sym c.tx-tx.ensures in
+    number_found single.tx c.args.store.now.active member there ∙ sym c.tx-tx.ensures in
     let taken : IsTaken job v.lent left =
     c.take.ensures job (ap (λ (x : State). slice_get x.lent c.args.index) c.store.view_is ∙ at) in
     let P : State → Type 0 =

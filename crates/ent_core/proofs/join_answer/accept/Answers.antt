@@ -1,8 +1,8 @@
-use Rattle.std.proofs.Common.{◌≡◌, ◌∙◌, List, Option, Some, ap, sym, subst, slice_get}
+use Rattle.std.proofs.Common.{◌≡◌, ◌∙◌, List, Some, ap, sym, subst, slice_get}
 use Rattle.ent_eval.specs.Work.{outcome_seen, work_seen}
 use Rattle.ent_eval.specs.declared.outcome.JobOutcome.{JobOutcome}
 use Rattle.ent_eval.specs.declared.work.Work.{Work}
-use Rattle.ent_protocol.specs.Job.{Asking, Choice, Job, Joint}
+use Rattle.ent_protocol.specs.Job.{Asking, Job, Joint}
 use Rattle.ent_protocol.specs.PoolEvents.{IsPresentComponent}
 use Rattle.ent_protocol.specs.State.{State}
 use Rattle.ent_core.specs.Reply.{reply_seen}

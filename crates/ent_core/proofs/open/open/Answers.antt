@@ -1,6 +1,4 @@
-use Rattle.std.proofs.Common.{◌∙◌, ap}
 use Rattle.ent_protocol.specs.Reached.{opened}
-use Rattle.ent_roster.specs.Roster.{Roster}
 use Rattle.ent_core.proofs.Opening.{catalogued, kept_opened_store, opened_store}
 use Rattle.ent_form.specs.Catalogue.{schemas_of}
 use Rattle.ent_form.specs.OpeningFault.{opening_fault}

@@ -1,6 +1,5 @@
 use Rattle.std.proofs.Common.{◌≡◌, ◌∙◌, ap, sym}
 use Rattle.ent_protocol.specs.PoolEvents.{joint_uses}
-use Rattle.ent_protocol.specs.State.{State}
 use Rattle.ent_core.specs.contracts.store.Store.{the_view}
 use Rattle.ent_core.proofs.Picked.{makes_job}
 use Rattle.ent_core.proofs.pick.joint_job.Goals as goal

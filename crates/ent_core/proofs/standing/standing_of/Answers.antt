@@ -1,35 +1,45 @@
-use Rattle.std.proofs.Common.{◌==◌, ◌∙◌, ap, sym, List, Some}
-use Rattle.std.specs.List.{filter}
-use Rattle.ent_semantics.specs.declared.book.Fated.{Fated}
+use Rattle.std.proofs.Common.{◌∙◌, ap, subst, sym, Some}
 use Rattle.ent_protocol.specs.Lookup.{Standing, active_standing, standing}
-use Rattle.ent_protocol.specs.State.{State, Dormant, first_of}
+use Rattle.ent_protocol.specs.Lookup as lookups
+use Rattle.ent_protocol.specs.State.{State}
+use Rattle.ent_resolved.specs.Resolved.{resolved_forms}
+use Rattle.ent_standing.specs.Standing.{StandOnce}
 use Rattle.ent_core.specs.contracts.store.Store.{the_view}
-use Rattle.ent_core.proofs.Whereabouts.{stands_active, stands_nowhere, stands_prepared}
+use Rattle.ent_core.proofs.Whereabouts.{stands_active, stands_dormant, stands_nowhere, stands_prepared}
 use Rattle.ent_core.proofs.standing.standing_of.Goals as goal
 
 pub returns-then-is_prepared : goal.returns-then-is_prepared
 returns-then-is_prepared c =
     let s : State = the_view c.store.inside in
-    let no_fate = c.in_default.ensures in
-    let not_dormant = c.in_default-dormant_of.ensures in
-    stands_prepared s c.args.tx no_fate not_dormant (sym (c.is_prepared.ensures s) ∙ c.if-is_prepared.true)
+    let stand = subst StandOnce (sym c.store.view_is)
+    (c.transactions_stand_once.ensures.once resolved_forms c.args.store.now c.requires.kept.reached) in
+    stands_prepared s c.args.tx stand (sym (c.is_prepared.ensures s) ∙ c.if-is_prepared.true)
     ∙ ap (λ (x : State). standing x c.args.tx) c.store.view_is
 
-pub returns-in-Some-active_member : goal.returns-in-Some-active_member
-returns-in-Some-active_member c =
+pub returns-in-Some : goal.returns-in-Some
+returns-in-Some c =
     let s : State = the_view c.store.inside in
-    let no_fate = c.in_default.ensures in
-    let not_dormant = c.in_default-dormant_of.ensures in
-    let member = c.in-Some-active_member.member.now in
+    let stand = subst StandOnce (sym c.store.view_is)
+    (c.transactions_stand_once.ensures.once resolved_forms c.args.store.now c.requires.kept.reached) in
+    let member = c.in-Some.member.now in
     let told = c.active_standing.ensures ∙ ap (λ (x : State). active_standing x member) (sym c.store.view_is) in
     ap (λ (x : Standing). Some x) told
-    ∙ stands_active s c.args.tx no_fate not_dormant (sym (c.is_prepared.ensures s) ∙ c.if-is_prepared.false) member (c.in-Some-active_member.ensures s)
+    ∙ stands_active s c.args.tx stand (sym (c.is_prepared.ensures s) ∙ c.if-is_prepared.false) member
+    (c.in-Some.ensures s)
+    ∙ ap (λ (x : State). standing x c.args.tx) c.store.view_is
+
+pub returns-in-Some-dormant_of : goal.returns-in-Some-dormant_of
+returns-in-Some-dormant_of c =
+    let s : State = the_view c.store.inside in
+    let stand = subst StandOnce (sym c.store.view_is)
+    (c.transactions_stand_once.ensures.once resolved_forms c.args.store.now c.requires.kept.reached) in
+    ap (λ runs. Some (lookups.Dormant runs)) c.runs.ensures.runs
+    ∙ stands_dormant s c.args.tx stand c.in-Some-dormant_of.own.now c.in-Some-dormant_of.ensures
     ∙ ap (λ (x : State). standing x c.args.tx) c.store.view_is
 
 pub returns-in-None : goal.returns-in-None
 returns-in-None c =
     let s : State = the_view c.store.inside in
-    let no_fate = c.in_default.ensures in
-    let not_dormant = c.in_default-dormant_of.ensures in
-    stands_nowhere s c.args.tx no_fate not_dormant (sym (c.is_prepared.ensures s) ∙ c.if-is_prepared.false) (c.in-None.ensures s)
+    stands_nowhere s c.args.tx c.in-None.ensures c.in_default-dormant_of.ensures
+    (sym (c.is_prepared.ensures s) ∙ c.if-is_prepared.false) (c.in_default.ensures s)
     ∙ ap (λ (x : State). standing x c.args.tx) c.store.view_is

@@ -1,4 +1,4 @@
-use Rattle.std.proofs.Common.{◌≡◌, ◌∙◌, ◌+◌, ap, arith, length, List, ◌++◌, ◌∷◌, []}
+use Rattle.std.proofs.Common.{◌∙◌, ap, arith, List, ◌++◌, ◌∷◌, []}
 use Rattle.ent_protocol.specs.State.{Submitted}
 use Rattle.ent_core.proofs.Arrivals.{kept_submitted}
 use Rattle.ent_core.proofs.submit.submit.Goals as goal

@@ -1,13 +1,20 @@
-use Rattle.std.proofs.Common.{◌≡◌, ◌+◌, ℕ, ◌++◌, [], ◌∷◌, arith, sym, ap, subst, ◌∙◌, Vec, Global}
+use Rattle.std.proofs.Common.{◌≡◌, ◌+◌, ℕ, List, ◌++◌, [], ◌∷◌, arith, sym, ap, subst, ◌∙◌, Vec, Global}
 use Rattle.std.proofs.lemmas.List.{map-append}
 use Rattle.ent_match.specs.Components.{lists_in}
-use Rattle.ent_match.proofs.Listing.{AreListed, all_listed, listed_more, listed_same, some_at}
+use Rattle.ent_match.proofs.Firsts.{some_at}
+use Rattle.ent_match.proofs.Listing.{AreListed, all_listed, listed_more, listed_same, none_listed}
 use Rattle.ent_match.proofs.components.classes_of.Goals as goal
 use Rattle.ent_match.proofs.components.classes_of.Goals.{then-not-seen-place+in_ok-reached+in_ok-class+in_ok-push}
 use Rattle.ent_match.proofs.components.classes_of.Goals.{else-not-seen-place}
 
-pub returns : goal.returns
-returns c =
+pub loop-place-init : goal.loop-place-init
+loop-place-init c =
+    subst (λ (classes : List (Vec ℕ Global)).
+    AreListed c.args.members.now c.args.joins.now c.args.seen.now c.args.seen.now 0 (lists_in classes))
+    (sym c.new-classes.ensures.items) (none_listed c.args.members.now c.args.joins.now c.args.seen.now c.requires)
+
+pub returns-clause-components : goal.returns-clause-components
+returns-clause-components c =
     all_listed c.args.members.now c.args.joins.now c.args.seen.now c.loop-place.seen c.loop-place.place _ c.requires
     (omega arith) c.loop-place.invariant
 
@@ -15,6 +22,7 @@ pub loop-place-preserved : goal.loop-place-preserved
 loop-place-preserved c =
     let pool = c.args.members.now in
     let n = c.loop-place.place in
+    let joins = c.args.joins.now in
     let removed = c.args.seen.now in
     let lists = lists_in c.loop-place.classes.items in
     let back = λ (v : Vec (Vec ℕ Global) Global). lists_in v.items in
@@ -25,12 +33,12 @@ loop-place-preserved c =
           ap back w.classes-is ∙ (ap lists_in w.in_ok-push.ensures.items
           ∙ map-append (λ (class : Vec ℕ Global). class.items) c.loop-place.classes.items
           (w.in_ok-class.class ∷ [])) in
-          subst (λ xs. AreListed pool removed xs (n + 1) (lists_in c.if-not-seen-place.classes.items)) (sym w.seen-is)
-          (listed_more pool c.args.joins.now removed c.loop-place.seen w.class_at.new.seen n some.0 lists _
+          subst (λ xs. AreListed pool joins removed xs (n + 1) (lists_in c.if-not-seen-place.classes.items)) (sym w.seen-is)
+          (listed_more pool joins removed c.loop-place.seen w.class_at.new.seen n some.0 lists _
           w.in_ok-class.class.items c.requires some.1 w.if-not-seen-place.true w.in_ok-class.ensures pushed
           c.loop-place.invariant)
       | else-not-seen-place w ↦
-          subst (λ xs. AreListed pool removed xs (n + 1) (lists_in c.if-not-seen-place.classes.items)) (sym w.seen-is)
-          (subst (AreListed pool removed c.loop-place.seen (n + 1)) (sym (ap back w.classes-is))
-          (listed_same pool removed c.loop-place.seen n lists w.if-not-seen-place.false c.loop-place.invariant))
+          subst (λ xs. AreListed pool joins removed xs (n + 1) (lists_in c.if-not-seen-place.classes.items)) (sym w.seen-is)
+          (subst (AreListed pool joins removed c.loop-place.seen (n + 1)) (sym (ap back w.classes-is))
+          (listed_same pool joins removed c.loop-place.seen n lists w.if-not-seen-place.false c.loop-place.invariant))
     ]

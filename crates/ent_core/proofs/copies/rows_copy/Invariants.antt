@@ -1,5 +1,5 @@
 use Rattle.std.proofs.Common.{◌≡◌, take}
-use Rattle.ent_core.proofs.advance.rows_copy.Given as goal
+use Rattle.ent_core.proofs.copies.rows_copy.Given as goal
 
 -- the rows so far
 abbrev pub invariant-loop-row : goal.invariant-loop-row

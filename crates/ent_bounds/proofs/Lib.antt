@@ -1,0 +1,13 @@
+pub mod Lists
+pub mod Pools
+pub mod Askings
+pub mod Changes
+pub mod LentJobs
+pub mod ReachedStates
+pub mod Counts
+pub mod Posting
+pub mod Answering
+pub mod UsedUp
+pub mod Worth
+pub mod Laws
+pub mod Bounded

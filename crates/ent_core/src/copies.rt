@@ -1,0 +1,57 @@
+//! Copies of answers.
+ghost use Rattle.std.specs.Prelude.{◌≡◌, IfOk};
+
+use ent_semantics::{Answer, Fact};
+use ent_value::{Row, Sequence};
+use std::alloc::{AllocError, Global};
+
+pub(crate) fn rows_copy(alloc: Global, rows: &[Row]) -> Result<Sequence<Row>, AllocError>
+    ensures { IfOk result (λ copies. copies ≡ rows.now) }
+{
+    let mut copies = Vec::with_capacity(alloc, rows.len())?;
+    for row in rows {
+        copies.push(row.copy(alloc)?)?;
+    }
+    Ok(Sequence::from_vec(copies))
+}
+
+fn fact_copy(alloc: Global, fact: &Fact) -> Result<Fact, AllocError>
+    ensures { IfOk result (λ copy. copy ≡ fact.now) }
+{
+    let relation = fact.relation.copy(alloc)?;
+    let values = fact.values.copy(alloc)?;
+    Ok(Fact { relation, values })
+}
+
+fn facts_copy(alloc: Global, facts: &[Fact]) -> Result<Sequence<Fact>, AllocError>
+    ensures { IfOk result (λ copies. copies ≡ facts.now) }
+{
+    let mut copies = Vec::with_capacity(alloc, facts.len())?;
+    for fact in facts {
+        copies.push(fact_copy(alloc, fact)?)?;
+    }
+    Ok(Sequence::from_vec(copies))
+}
+
+/// The same answer.
+pub fn answer_copy(alloc: Global, answer: &Answer) -> Result<Answer, AllocError>
+    ensures { IfOk result (λ copy. copy ≡ answer.now) }
+{
+    match answer {
+        Answer::Count(count) => Ok(Answer::Count(*count)),
+        Answer::Value(value) => Ok(Answer::Value(value.copy(alloc)?)),
+        Answer::Rows(rows) => Ok(Answer::Rows(rows_copy(alloc, rows.as_slice())?)),
+        Answer::Heads(heads) => Ok(Answer::Heads(facts_copy(alloc, heads.as_slice())?)),
+    }
+}
+
+/// The same answers, in their order.
+pub fn answers_copy(alloc: Global, answers: &[Answer]) -> Result<Sequence<Answer>, AllocError>
+    ensures { IfOk result (λ copies. copies ≡ answers.now) }
+{
+    let mut copies = Vec::with_capacity(alloc, answers.len())?;
+    for answer in answers {
+        copies.push(answer_copy(alloc, answer)?)?;
+    }
+    Ok(Sequence::from_vec(copies))
+}
