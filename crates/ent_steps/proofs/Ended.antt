@@ -1,22 +1,26 @@
 -- Members that are left at the end of a run.
 use Rattle.std.proofs.Common.{◌≡◌, ◌↔◌, inl, inr, ℕ, suc, Bool, true, false, ◌==◌, List, [], ◌∷◌}
 use Rattle.std.proofs.Common.{map, refl, sym, ap, subst, ◌∙◌, Option, Some, None, Contains}
-use Rattle.std.specs.List.{cons_option, filter_map}
+use Rattle.std.specs.List.{cons_option, filter, filter_map}
 use Rattle.ent_tree.specs.declared.declaration.Opening.{Opening}
 use Rattle.ent_semantics.specs.Serial.{numbered}
+use Rattle.ent_semantics.specs.declared.book.Fate.{Fate}
 use Rattle.ent_semantics.specs.declared.book.Fate.TheVariants.{GaveUp}
 use Rattle.ent_semantics.specs.declared.book.Fated.{Fated}
 use Rattle.ent_protocol.specs.Event.{Event, Reason, Reply}
 use Rattle.ent_protocol.specs.Event as events
 use Rattle.ent_protocol.specs.Reached.{IsReached, LeadsTo, opened}
-use Rattle.ent_protocol.specs.Rollback.{NoOne, dormant_by, fated_by, is_last_run}
+use Rattle.ent_protocol.specs.Rollback.{Cause, NoOne, dormant_by, fated_by, group_members, is_last_run}
+use Rattle.ent_protocol.specs.Rollback.{own_fate, taken_out}
+use Rattle.ent_protocol.specs.Member.{is_of}
 use Rattle.ent_protocol.specs.Run.{EndsWhileRunning, Forms, ending}
 use Rattle.ent_protocol.specs.State.{State, Dormant, Member, Submitted, by_number, members}
 use Rattle.ent_protocol.specs.Step.{Step}
 use Rattle.ent_standing.specs.Standing.{GoesOn, StandOnce}
 use Rattle.ent_steps.specs.Last.{HasGivenUp, WaitsAgain}
 use Rattle.ent_steps.proofs.Lists.{In, clash, contains_in, in_contains, in_second, index_pairs, not_so}
-use Rattle.ent_steps.proofs.Lists.{pairs_between, pairs_second, same_number, to_by_number, to_map}
+use Rattle.ent_steps.proofs.Lists.{pairs_between, pairs_second, same_number, to_by_number, to_filter}
+use Rattle.ent_steps.proofs.Lists.{to_map}
 use Rattle.ent_steps.proofs.Members.{number_itself, tx_of}
 
 -- ---- one of those that are left
@@ -35,41 +39,60 @@ to_given f (z ∷ xs) x y (inr at) is = behind (f z) (to_given f xs x y at is)
     behind (Some w) rest = inr rest
     behind None rest = rest
 
-module _ (s : State) (member : Member) (own : Submitted) (is_own : numbered s.submitted member.tx ≡ Some own)
-    (at : In member (members s)) where
-  last_is : is_last_run s.submitted member ≡ (member.attempt == own.script.within)
-  last_is = rw is_own refl
+-- a member among those that leave, whose cause gives it no fate
+module _ (s : State) (gone : List Member) (cause : Cause) (member : Member) (own : Submitted)
+    (is_own : numbered s.submitted member.tx ≡ Some own) (at : In member gone) (unfated : own_fate cause member ≡ None)
+  where
+    last_is : is_last_run s.submitted member ≡ (member.attempt == own.script.within)
+    last_is = rw is_own refl
 
-  abbrev left : List Member
-  left = by_number tx_of (members s)
+    abbrev left : List Member
+    left = by_number tx_of gone
 
-  gives_up : member.attempt ≡ own.script.within
-      → In (record { tx = member.tx; fate = GaveUp member.attempt }) (ending s).fates
-  gives_up same =
-      in_second s.fates (filter_map (fated_by s.submitted NoOne) left)
-      (record { tx = member.tx; fate = GaveUp member.attempt })
-      (to_given (fated_by s.submitted NoOne) left member _ (to_by_number tx_of (members s) member at) fated)
-    where
-      last : is_last_run s.submitted member ≡ true
-      last = last_is ∙ ap (λ n. n == own.script.within) same ∙ number_itself own.script.within
+    pub gives_up : member.attempt ≡ own.script.within
+        → In (record { tx = member.tx; fate = GaveUp member.attempt }) (taken_out gone cause s).fates
+    gives_up same =
+        in_second s.fates (filter_map (fated_by s.submitted cause) left)
+        (record { tx = member.tx; fate = GaveUp member.attempt })
+        (to_given (fated_by s.submitted cause) left member _ (to_by_number tx_of gone member at) fated)
+      where
+        last : is_last_run s.submitted member ≡ true
+        last = last_is ∙ ap (λ n. n == own.script.within) same ∙ number_itself own.script.within
 
-      fated : fated_by s.submitted NoOne member ≡ Some (record { tx = member.tx; fate = GaveUp member.attempt })
-      fated = rw last refl
+        fated : fated_by s.submitted cause member ≡ Some (record { tx = member.tx; fate = GaveUp member.attempt })
+        fated = rw (unfated, last) refl
 
-  waits : (member.attempt ≡ own.script.within → ⊥)
-      → In (record { tx = member.tx; runs = member.attempt }) (ending s).dormant
-  waits differ =
-      in_second s.dormant (filter_map (dormant_by s.submitted NoOne) left)
-      (record { tx = member.tx; runs = member.attempt })
-      (to_given (dormant_by s.submitted NoOne) left member _ (to_by_number tx_of (members s) member at) asleep)
-    where
-      not_last : is_last_run s.submitted member ≡ false
-      not_last =
-          last_is ∙ not_so (member.attempt == own.script.within)
-          (λ e. differ (same_number member.attempt own.script.within e))
+    pub waits : (member.attempt ≡ own.script.within → ⊥)
+        → In (record { tx = member.tx; runs = member.attempt }) (taken_out gone cause s).dormant
+    waits differ =
+        in_second s.dormant (filter_map (dormant_by s.submitted cause) left)
+        (record { tx = member.tx; runs = member.attempt })
+        (to_given (dormant_by s.submitted cause) left member _ (to_by_number tx_of gone member at) asleep)
+      where
+        not_last : is_last_run s.submitted member ≡ false
+        not_last =
+            last_is ∙ not_so (member.attempt == own.script.within)
+            (λ e. differ (same_number member.attempt own.script.within e))
 
-      asleep : dormant_by s.submitted NoOne member ≡ Some (record { tx = member.tx; runs = member.attempt })
-      asleep = rw not_last refl
+        asleep : dormant_by s.submitted cause member ≡ Some (record { tx = member.tx; runs = member.attempt })
+        asleep = rw (unfated, not_last) refl
+
+-- one whose cause gives it a fate
+pub has_own : (s : State) (gone : List Member) (cause : Cause) (member : Member) (fate : Fate) → In member gone
+    → own_fate cause member ≡ Some fate → In (record { tx = member.tx; fate = fate }) (taken_out gone cause s).fates
+has_own s gone cause member fate at is =
+    in_second s.fates (filter_map (fated_by s.submitted cause) (by_number tx_of gone))
+    (record { tx = member.tx; fate = fate })
+    (to_given (fated_by s.submitted cause) (by_number tx_of gone) member _ (to_by_number tx_of gone member at)
+    (rw is refl))
+
+-- the members of a group
+pub of_group : (s : State) (group : ℕ) (member : Member) → Contains (members s) member → member.group ≡ group
+    → In member (group_members s group)
+of_group s group member there same =
+    to_by_number tx_of (filter (is_of group) (members s)) member
+    (to_filter (is_of group) (members s) member (contains_in (members s) member there)
+    (ap (λ n. n == group) same ∙ number_itself group))
 
 -- ---- not both
 
@@ -121,13 +144,13 @@ module _ {F : Type 0} where
     given_up same =
         in_contains new.fates _
         (subst (λ (x : State). In (record { tx = member.tx; fate = GaveUp member.attempt }) x.fates) (sym is_end)
-        (gives_up s member own is_own at same))
+        (gives_up s (members s) NoOne member own is_own at refl same))
 
     waiting : (member.attempt ≡ own.script.within → ⊥) → WaitsAgain new member
     waiting differ =
         in_contains new.dormant _
         (subst (λ (x : State). In (record { tx = member.tx; runs = member.attempt }) x.dormant) (sym is_end)
-        (waits s member own is_own at differ))
+        (waits s (members s) NoOne member own is_own at refl differ))
 
     not_both : HasGivenUp new member → WaitsAgain new member → ⊥
     not_both up again =

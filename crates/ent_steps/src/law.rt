@@ -1,9 +1,10 @@
 //! Laws of events. Nothing here does anything; what holds is in the contracts.
-ghost use Rattle.std.specs.Prelude.{◌≡◌, ◌≢◌, ◌⊎◌, ◌<◌, ◌↔◌, ℕ, Contains, List, Some, false, length};
+ghost use Rattle.std.specs.Prelude.{◌≡◌, ◌≢◌, ◌⊎◌, ◌<◌, ◌↔◌, ℕ, Contains, List, None, Some, false, length};
 ghost use Rattle.ent_semantics.specs.Serial.{numbered};
+ghost use Rattle.ent_semantics.specs.declared.book.Fate.{Fate};
 ghost use Rattle.ent_protocol.specs.Event.{EndRun, Ended, Event, Reply};
 ghost use Rattle.ent_protocol.specs.Reached.{IsReached};
-ghost use Rattle.ent_protocol.specs.Rollback.{Cause, rolled_back};
+ghost use Rattle.ent_protocol.specs.Rollback.{Cause, own_fate, rolled_back};
 ghost use Rattle.ent_protocol.specs.Run.{Forms};
 ghost use Rattle.ent_protocol.specs.State.{Change, Member, State, Submitted, members};
 ghost use Rattle.ent_protocol.specs.Step.{Step};
@@ -81,6 +82,30 @@ pub fn ended_members_give_up_at_last<F>()
     transactions_stand_once::<F>();
     steps_go_on::<F>();
 }
+
+/// Where a group is rolled back, the member that asked for it, or failed, has that fate. Another one has given up where
+/// it took part in all the runs that its script asks for, and else waits for another run.
+pub fn rolled_back_members_give_up_at_last()
+    ensures own { (s : State) (group : ℕ) (cause : Cause) (member : Member) (fate : Fate)
+        → Contains (members s) member
+        → member.group ≡ group
+        → own_fate cause member ≡ Some fate
+        → Contains (rolled_back group cause s).fates (record { tx = member.tx; fate = fate }) }
+    ensures gives_up { (s : State) (group : ℕ) (cause : Cause) (member : Member) (own : Submitted)
+        → Contains (members s) member
+        → member.group ≡ group
+        → own_fate cause member ≡ None
+        → numbered s.submitted member.tx ≡ Some own
+        → member.attempt ≡ own.script.within
+        → HasGivenUp (rolled_back group cause s) member }
+    ensures waits { (s : State) (group : ℕ) (cause : Cause) (member : Member) (own : Submitted)
+        → Contains (members s) member
+        → member.group ≡ group
+        → own_fate cause member ≡ None
+        → numbered s.submitted member.tx ≡ Some own
+        → member.attempt ≢ own.script.within
+        → WaitsAgain (rolled_back group cause s) member }
+{}
 
 /// The members of a group leave the run in one event: whoever leaves, by a commit or a rollback, leaves with all of its
 /// group.
