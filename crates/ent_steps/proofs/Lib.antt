@@ -9,3 +9,4 @@ pub mod Tables
 pub mod Members
 pub mod Together
 pub mod Journals
+pub mod Ended

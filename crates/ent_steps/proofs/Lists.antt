@@ -108,6 +108,16 @@ module _ {X : Type 0} where
       index_pairs xs (λ i j d before low. pairs (suc i) (suc j) d (omega (arith, before)) (omega (arith, low))),
     )
 
+    pub pairs_second : (xs ys : List X) → Pairs R (xs ++ ys) → Pairs R ys
+    pairs_second [] ys pairs = pairs
+    pairs_second (x ∷ xs) ys pairs = pairs_second xs ys pairs.1
+
+    pub pairs_between : (xs ys : List X) (x y : X) → Pairs R (xs ++ ys) → In x xs → In y ys → R x y
+    pairs_between [] ys x y pairs at bt = absurd at
+    pairs_between (z ∷ xs) ys x y pairs (inl same) bt =
+        subst (λ w. R w y) (sym same) (of_all (R z) (xs ++ ys) y pairs.0 (in_second xs ys y bt))
+    pairs_between (z ∷ xs) ys x y pairs (inr at) bt = pairs_between xs ys x y pairs.1 at bt
+
     pub pairs_behind : (xs : List X) (x : X) → Pairs R xs → ((y : X) → In y xs → R y x) → Pairs R (xs ++ x ∷ [])
     pairs_behind [] x pairs f = (tt, tt)
     pairs_behind (y ∷ ys) x pairs f = (

@@ -1,3 +1,4 @@
 pub mod Alike
 pub mod Restored
 pub mod Whole
+pub mod Last

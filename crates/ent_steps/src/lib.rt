@@ -6,5 +6,6 @@
 mod law;
 
 pub use law::{
-    events_are_determined, groups_leave_together, journals_grow_by_groups, rollbacks_restore_tables,
+    ended_members_give_up_at_last, events_are_determined, groups_leave_together,
+    journals_grow_by_groups, rollbacks_restore_tables, rolled_back_members_give_up_at_last,
 };
