@@ -161,6 +161,16 @@ told_apart ks atom js other apart =
     }
 
 -- what the equations of two tuples tell of their atoms
+pub told_refuted : (ks : List Kind) (atom : Atom Value) (js : List Kind) (other : Atom Value) (ts us : List (Term Value))
+    → ts ≡ atom.terms → us ≡ other.terms → AreRefuted (column_sides (term_side 0 ks) (term_side 1 js) ts us)
+    → AreTold ks atom js other false
+told_refuted ks atom js other ts us left right refuted =
+    let P : List (Term Value) → List (Term Value)
+    → Type 0 = λ xs ys. AreRefuted (column_sides (term_side 0 ks) (term_side 1 js) xs ys) in
+    let first : P atom.terms us = subst (λ xs. P xs us) left refuted in
+    let second : P atom.terms other.terms = subst (P atom.terms) right first in
+    told_apart ks atom js other (are_apart ks atom js other second)
+
 pub told_by : (ks : List Kind) (atom : Atom Value) (js : List Kind) (other : Atom Value)
     (ts us : List (Term Value)) (b : Bool)
     → atom.relation ≡ other.relation → length atom.terms ≡ length other.terms → ts ≡ atom.terms → us ≡ other.terms
@@ -175,8 +185,4 @@ told_by ks atom js other ts us true relation same left right decided =
       apart = λ f. absurd (true≢false f);
     }
 told_by ks atom js other ts us false relation same left right decided =
-    let P : List (Term Value) → List (Term Value)
-    → Type 0 = λ xs ys. AreRefuted (column_sides (term_side 0 ks) (term_side 1 js) xs ys) in
-    let first : P atom.terms us = subst (λ xs. P xs us) left decided in
-    let second : P atom.terms other.terms = subst (P atom.terms) right first in
-    told_apart ks atom js other (are_apart ks atom js other second)
+    told_refuted ks atom js other ts us left right decided

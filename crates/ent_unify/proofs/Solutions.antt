@@ -1,15 +1,18 @@
 -- What solves equations gives values under which they hold.
 use Rattle.std.proofs.Common.{◌≡◌, ℕ, ◌<◌, List, [], ◌∷◌, length, get_or, refl, sym, ◌∙◌, ap, subst, arith, pos}
-use Rattle.std.proofs.lemmas.List.Elements.{All-nil, All-cons, All-get_or}
+use Rattle.std.proofs.lemmas.List.Elements.{All-nil, All-cons, All-get_or, All-head}
 use Rattle.ent_value.specs.declared.value.Kind.{Kind}
 use Rattle.ent_value.specs.declared.value.Kind.TheVariants as kinds
 use Rattle.ent_value.specs.declared.value.Value.{Value}
 use Rattle.ent_value.specs.declared.value.Value.TheVariants.{Int, Text}
 use Rattle.ent_semantics.specs.Kinds.{IsOfKind}
+use Rattle.ent_closed.specs.declared.entangled.Term.{Term}
+use Rattle.ent_closed.specs.declared.entangled.Term.TheVariants as terms
 use Rattle.ent_unify.specs.declared.variable.Representative.{Representative}
 use Rattle.ent_unify.specs.declared.variable.Representative.TheVariants.{Constant, Variable}
 use Rattle.ent_unify.specs.Side.{worth, side_kind, IsWithinBounds, Substitution, resolved}
 use Rattle.ent_unify.specs.Equation.{Sides, Holds, HasKinds, Solves, AreRefuted, HaveSolution}
+use Rattle.ent_unify.specs.Tuple.{AreOtherValues, term_side}
 
 -- some value of a kind
 abbrev some_of : Kind → Value
@@ -42,6 +45,14 @@ has_solution es stands solves =
       hold = λ k d below. worth_for stands (get_or es k d).0
           ∙ (ap value_for (solves.equal k d below) ∙ sym (worth_for stands (get_or es k d).1));
     }
+
+-- two values that differ are never one
+pub other_values_refuted : (m n : ℕ) (ks js : List Kind) (term other : Term Value) → AreOtherValues term other
+    → AreRefuted ((term_side m ks term, term_side n js other) ∷ [])
+other_values_refuted m n ks js (terms.Known value) (terms.Known own) differ values kinds hold =
+    differ (All-head (Holds values) (Constant value, Constant own) [] hold)
+other_values_refuted m n ks js (terms.Known value) (terms.Variable index) differ values kinds hold = absurd differ
+other_values_refuted m n ks js (terms.Variable index) other differ values kinds hold = absurd differ
 
 -- one equation that nothing makes hold is enough
 pub refuted_at : (es : List Sides) (n : ℕ) (e : Sides) → n < length es → e ≡ get_or es n e → AreRefuted (e ∷ [])

@@ -1,5 +1,5 @@
 -- The terms of an atom of a member as values and variables.
-use Rattle.std.specs.Prelude.{ℕ, List, [], ◌∷◌, Option, Some, None, slice_get}
+use Rattle.std.specs.Prelude.{◌≢◌, ℕ, List, [], ◌∷◌, Option, Some, None, slice_get}
 use Rattle.ent_value.specs.declared.value.Kind.{Kind}
 use Rattle.ent_value.specs.declared.value.Value.{Value}
 use Rattle.ent_semantics.specs.Term.{no_value}
@@ -32,3 +32,9 @@ abbrev pub tuple_equations : Tuple → Tuple → List Sides
 tuple_equations left right =
     column_sides (term_side left.member left.kinds.now) (term_side right.member right.kinds.now)
     left.terms.now right.terms.now
+
+-- two terms are values that differ
+abbrev pub AreOtherValues : Term Value → Term Value → Type 0
+AreOtherValues (terms.Known value) (terms.Known other) = value ≢ other
+AreOtherValues (terms.Known value) (terms.Variable index) = ⊥
+AreOtherValues (terms.Variable index) other = ⊥

@@ -20,9 +20,6 @@ pub fn unifies(atom: &Atom<Value>, kinds: &[Kind], other: &Atom<Value>, others: 
     ensures unify { IsTrue result ↔ Unify kinds.now atom.now others.now other.now }
     ensures apart { result ≡ false → AreApart kinds.now atom.now others.now other.now }
 {
-    if !has_relation_of(atom, other) {
-        return false;
-    }
     if atom.terms.len() != other.terms.len() {
         return false;
     }
@@ -36,6 +33,12 @@ pub fn unifies(atom: &Atom<Value>, kinds: &[Kind], other: &Atom<Value>, others: 
         kinds: others,
         terms: other.terms.as_slice(),
     };
+    if left.has_column_apart(right) {
+        return false;
+    }
+    if !has_relation_of(atom, other) {
+        return false;
+    }
     let none = Value::Int(0);
     left.unifies(right, &none)
 }

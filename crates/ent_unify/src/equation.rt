@@ -1,7 +1,7 @@
 //! Equations between values and variables, and how they are solved.
-ghost use Rattle.std.specs.Prelude.{◌≡◌, [], ◌∷◌, All, map, IsTrue};
+ghost use Rattle.std.specs.Prelude.{◌≡◌, [], ◌∷◌, All, map};
 ghost use Rattle.ent_unify.specs.Side.{seen, single, IsWithinBounds};
-ghost use Rattle.ent_unify.specs.Equation.{seen_equation, resolved_both, AreRefuted, AreWithinBounds, Settles};
+ghost use Rattle.ent_unify.specs.Equation.{seen_equation, resolved_both, AreWithinBounds, Settles};
 
 use crate::side::Side;
 use crate::variable::Variable;
@@ -14,16 +14,6 @@ pub(crate) struct Equation<'a> {
 }
 
 impl<'a> Equation<'a> {
-    /// Whether the two are of different kinds, or different values.
-    pub(crate) fn is_apart(self) -> bool
-        ensures { IsTrue result → AreRefuted (seen_equation self.entry ∷ []) }
-    {
-        if !self.left.has_kind_of(self.right) {
-            return true;
-        }
-        self.left.is_other_constant(self.right)
-    }
-
     fn substituted(self, variable: Variable, by: Side<'a>) -> Equation<'a>
         ensures { seen_equation result ≡ resolved_both (single variable (seen by.entry)) (seen_equation self.entry) }
     {

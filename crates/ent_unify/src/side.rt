@@ -1,10 +1,9 @@
 //! The two sides of an equation: values, and variables of members.
-ghost use Rattle.std.specs.Prelude.{◌≡◌, ◌≢◌, ◌↔◌, ◌<◌, IsTrue, IfOk, true};
+ghost use Rattle.std.specs.Prelude.{◌≡◌, ◌↔◌, ◌<◌, IsTrue, IfOk, true};
 ghost use Rattle.std.specs.List.{AllByRecursion};
 ghost use Rattle.ent_value.specs.Value.{kind_of};
 ghost use Rattle.ent_semantics.specs.Kinds.{IsOfKind};
 ghost use Rattle.ent_unify.specs.Side.{seen, side_kind, resolved, single};
-ghost use Rattle.ent_unify.specs.declared.variable.Variable.{Variable as Variables};
 
 use crate::variable::{Representative, Variable};
 use ent_value::{Kind, Value};
@@ -32,18 +31,6 @@ impl<'a> Side<'a> {
         ensures { IsTrue result ↔ (side_kind (seen self.entry) ≡ side_kind (seen other.entry)) }
     {
         self.kind() == other.kind()
-    }
-
-    /// Whether the two are two values that differ.
-    pub(crate) fn is_other_constant(self, other: Side<'_>) -> bool
-        ensures differ { IsTrue result → seen self.entry ≢ seen other.entry }
-        ensures left { IsTrue result → (x : Variables) → seen self.entry ≢ Representative.Variable x }
-        ensures right { IsTrue result → (x : Variables) → seen other.entry ≢ Representative.Variable x }
-    {
-        match (self, other) {
-            (Side::Constant(value), Side::Constant(other)) => *value != *other,
-            _ => false,
-        }
     }
 
     /// Whether the two are the same value or the same variable.

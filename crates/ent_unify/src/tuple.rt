@@ -3,7 +3,7 @@ ghost use Rattle.std.specs.Prelude.{◌≡◌, ◌<◌, ◌≤◌, length, slice
 ghost use Rattle.ent_semantics.specs.Term.{no_value};
 ghost use Rattle.ent_unify.specs.Side.{seen, IsWithinBounds};
 ghost use Rattle.ent_unify.specs.Equation.{seen_equation, AreWithinBounds, AreRefuted, IsDecided};
-ghost use Rattle.ent_unify.specs.Tuple.{term_side, tuple_equations};
+ghost use Rattle.ent_unify.specs.Tuple.{AreOtherValues, term_side, tuple_equations};
 
 use crate::equation::{Equation, solve};
 use crate::side::{Side, value_is_within_bounds};
@@ -18,6 +18,16 @@ pub(crate) struct Tuple<'a> {
     pub member: usize,
     pub kinds: &'a [Kind],
     pub terms: &'a [Term<Value>],
+}
+
+/// Whether two terms are values that differ.
+fn are_other_values(term: &Term<Value>, other: &Term<Value>) -> bool
+    ensures { IsTrue result → AreOtherValues term.now other.now }
+{
+    match (term, other) {
+        (Term::Known(value), Term::Known(other)) => *value != *other,
+        _ => false,
+    }
 }
 
 impl<'a> Tuple<'a> {
@@ -58,14 +68,14 @@ impl<'a> Tuple<'a> {
         }
     }
 
-    /// Whether the terms in some column can't be one, whatever stands in the other columns.
-    fn has_column_apart(self, other: Tuple<'a>, none: &'a Value) -> bool
+    /// Whether the terms in some column are values that differ, whatever stands in the other columns. Most tuples that
+    /// can't be one are told by this, which makes no equation.
+    pub(crate) fn has_column_apart(self, other: Tuple<'a>) -> bool
         requires columns { length self.terms.now ≡ length other.terms.now }
-        requires none { none.now ≡ no_value }
         ensures { IsTrue result → AreRefuted (tuple_equations self.entry other.entry) }
     {
         for column in 0..self.terms.len() {
-            if self.equation(other, column, none).is_apart() {
+            if are_other_values(&self.terms[column], &other.terms[column]) {
                 return true;
             }
         }
@@ -79,9 +89,6 @@ impl<'a> Tuple<'a> {
         requires none { none.now ≡ no_value }
         ensures { IsDecided (tuple_equations self.entry other.entry) result }
     {
-        if self.has_column_apart(other, none) {
-            return false;
-        }
         let unset = Equation {
             left: Side::Constant(none),
             right: Side::Constant(none),
