@@ -1,5 +1,5 @@
 -- What the statements of a plan ask of the values of its classes.
-use Rattle.std.specs.Prelude.{◌==◌, ℕ, List, [], ◌∷◌, ◌++◌, map, Option, Some, None, if◌then◌else◌}
+use Rattle.std.specs.Prelude.{◌≡◌, ◌==◌, ℕ, List, [], ◌∷◌, ◌++◌, map, Option, Some, None, if◌then◌else◌}
 use Rattle.std.specs.List.{cons_option}
 use Rattle.ent_set.specs.Sets as set
 use Rattle.ent_value.specs.declared.value.Value.{Value}
@@ -15,6 +15,7 @@ use Rattle.ent_plan.specs.declared.slot.Slot.{Slot}
 use Rattle.ent_select.specs.Tables.{rows_in}
 use Rattle.ent_select.specs.Worth.{value_in}
 use Rattle.ent_join.specs.Index.{Indexed}
+use Rattle.ent_join.specs.declared.made.Made.{Made}
 use Rattle.ent_join.specs.Keyed.{index_under, term_slot}
 
 -- the table that stands beside a number
@@ -36,10 +37,17 @@ select_rows numbers tables select =
     selection (meets value_in select.tests) (λ row. map (value_in row) select.items)
     (rows_in (tables_at numbers tables select.sources))
 
+-- the index of columns over a sub-select's result
+abbrev pub select_index : List ℕ → List Relation → Select Value → List Slot → Indexed
+select_index numbers tables select columns = index_under columns (set.ascending (select_rows numbers tables select))
+
+-- an index is the one of its sub-select and columns
+abbrev pub IsMade : List ℕ → List Relation → Made → Type 0
+IsMade numbers tables made = made.index ≡ select_index numbers tables made.select.now made.columns
+
 abbrev pub membership_index : List ℕ → List Relation → List Slot → Membership Value → Indexed
 membership_index numbers tables slots membership =
-    index_under (map (term_slot slots) membership.terms)
-    (set.ascending (select_rows numbers tables membership.select))
+    select_index numbers tables membership.select (map (term_slot slots) membership.terms)
 
 -- an index for each tuple of the statements
 abbrev pub all_indexes : List ℕ → List Relation → List Posted → List (List Slot) → List Indexed

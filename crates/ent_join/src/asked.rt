@@ -1,105 +1,73 @@
 //! What the statements of a plan ask of the values of its classes, made ready for a search.
 ghost use Rattle.std.specs.Prelude.{◌≡◌, ◌++◌, [], IfOk, OnOk, map};
 ghost use Rattle.std.specs.Arc.{arc_value};
-ghost use Rattle.std.specs.Option.{option_copied, option_map};
-ghost use Rattle.ent_join.specs.Asked.{all_indexes, all_tests, membership_index, slot_test, table_at, tables_at};
+ghost use Rattle.std.specs.List.{AllByRecursion};
+ghost use Rattle.ent_join.specs.Asked.{IsMade, all_indexes, all_tests, membership_index, slot_test};
 
 use crate::frame::Frame;
 use crate::index::Index;
-use crate::keyed::{columns_of, index_of, term_slot};
+use crate::keyed::{columns_of, term_slot};
+use crate::made::{Made, index_for};
 use ent_closed::{Membership, Term};
 use ent_match::Member;
 use ent_plan::Slot;
 use ent_rel::Table;
-use ent_select::all;
 use ent_tree::Test;
 use ent_value::{Kind, Sequence, Value};
 use std::alloc::{AllocError, Global};
 use std::sync::Arc;
 
-/// The table that stands beside a number.
-fn table_at<'a>(
-    number: usize,
-    numbers: &[usize],
-    tables: &'a [Arc<Table>],
-) -> Option<&'a Arc<Table>>
-    ensures { option_map arc_value (option_copied result) ≡ table_at number numbers.now (map arc_value tables.now) }
-{
-    if let [other, numbers @ ..] = numbers {
-        if let [table, tables @ ..] = tables {
-            if *other == number {
-                return Some(table);
-            }
-            return table_at(number, numbers, tables);
-        }
-    }
-    None
-}
-
-/// The tables that stand beside some numbers, shared.
-fn tables_at(
-    alloc: Global,
-    numbers: &[usize],
-    tables: &[Arc<Table>],
-    sources: &[usize],
-) -> Result<Vec<Arc<Table>>, AllocError>
-    ensures { IfOk result (λ found. map arc_value found.items
-        ≡ tables_at numbers.now (map arc_value tables.now) sources.now) }
-{
-    let mut found = Vec::new(alloc);
-    for source in sources {
-        if let Some(table) = table_at(*source, numbers, tables) {
-            found.push(table.clone()?)?;
-        }
-    }
-    Ok(found)
-}
-
 /// The index of the values under which a tuple is a row of its sub-select's result.
-fn membership_index(
+fn membership_index<'a>(
     alloc: Global,
     numbers: &[usize],
     tables: &[Arc<Table>],
+    made: &mut Vec<Made<'a>>,
     slots: &[Slot],
-    membership: &Membership<Value>,
+    membership: &'a Membership<Value>,
 ) -> Result<Index, AllocError>
-    ensures { IfOk result (λ index. index
+    requires { AllByRecursion (IsMade numbers.now (map arc_value tables.now)) made.old.items }
+    ensures index { IfOk result (λ index. index
         ≡ membership_index numbers.now (map arc_value tables.now) slots.now membership.now) }
+    ensures made { OnOk result (AllByRecursion (IsMade numbers.now (map arc_value tables.now)) made.new.items) }
 {
-    let sources = tables_at(alloc, numbers, tables, membership.select.sources.as_slice())?;
-    let rows = all(alloc, &membership.select, sources.as_slice())?;
     let columns = columns_of(alloc, slots, membership.terms.as_slice())?;
-    index_of(alloc, columns.as_slice(), rows.as_slice())
+    index_for(alloc, numbers, tables, made, &membership.select, columns)
 }
 
 /// Puts the indexes of a statement's tuples behind others.
-fn push_indexes(
+fn push_indexes<'a>(
     alloc: Global,
     numbers: &[usize],
     tables: &[Arc<Table>],
+    made: &mut Vec<Made<'a>>,
     slots: &[Slot],
-    memberships: &[Membership<Value>],
+    memberships: &'a [Membership<Value>],
     indexes: &mut Vec<Index>,
 ) -> Result<(), AllocError>
-    ensures { OnOk result (indexes.new.items
+    requires { AllByRecursion (IsMade numbers.now (map arc_value tables.now)) made.old.items }
+    ensures indexes { OnOk result (indexes.new.items
         ≡ indexes.old.items
         ++ map (membership_index numbers.now (map arc_value tables.now) slots.now) memberships.now) }
+    ensures made { OnOk result (AllByRecursion (IsMade numbers.now (map arc_value tables.now)) made.new.items) }
 {
     for membership in memberships {
-        indexes.push(membership_index(alloc, numbers, tables, slots, membership)?)?;
+        indexes.push(membership_index(alloc, numbers, tables, made, slots, membership)?)?;
     }
     Ok(())
 }
 
 /// Puts the indexes of all tuples of statements behind others.
-fn push_all_indexes(
+fn push_all_indexes<'a>(
     alloc: Global,
     numbers: &[usize],
     tables: &[Arc<Table>],
-    members: &[Member],
+    made: &mut Vec<Made<'a>>,
+    members: &'a [Member],
     slots: &[Sequence<Slot>],
     indexes: &mut Vec<Index>,
 ) -> Result<(), AllocError>
+    requires { AllByRecursion (IsMade numbers.now (map arc_value tables.now)) made.old.items }
     ensures { OnOk result (indexes.new.items
         ≡ indexes.old.items ++ all_indexes numbers.now (map arc_value tables.now) members.now slots.now) }
 {
@@ -110,11 +78,12 @@ fn push_all_indexes(
                 alloc,
                 numbers,
                 tables,
+                made,
                 first.as_slice(),
                 memberships,
                 indexes,
             )?;
-            return push_all_indexes(alloc, numbers, tables, members, slots, indexes);
+            return push_all_indexes(alloc, numbers, tables, made, members, slots, indexes);
         }
     }
     Ok(())
@@ -192,8 +161,9 @@ pub(crate) fn frame_of(
     ensures tests { IfOk result (λ frame. frame.tests ≡ all_tests members.now slots.now) }
     ensures kinds { IfOk result (λ frame. frame.kinds ≡ kinds.now) }
 {
+    let mut made = Vec::new(alloc);
     let mut indexes = Vec::new(alloc);
-    push_all_indexes(alloc, numbers, tables, members, slots, &mut indexes)?;
+    push_all_indexes(alloc, numbers, tables, &mut made, members, slots, &mut indexes)?;
     let mut tests = Vec::new(alloc);
     push_all_tests(alloc, members, slots, &mut tests)?;
     Ok(Frame {

@@ -30,8 +30,8 @@ impl Guide for Frame {
 
     fn may_pass(&self, values: &[Value]) -> bool {
         are_of_kinds(self.kinds.as_slice(), values)
-            && all_go_on(self.indexes.as_slice(), values)
             && all_may_hold(self.tests.as_slice(), values)
+            && all_go_on(self.indexes.as_slice(), values)
     }
 
     fn candidates_after(&self, beginning: &[Value]) -> Cursor<'_> {

@@ -1,5 +1,6 @@
 //! Indexes of the results of sub-selects, by classes of variables.
-ghost use Rattle.std.specs.Prelude.{◌≡◌, ◌<◌, ◌≤◌, true, false, length, IfSome};
+ghost use Rattle.std.specs.Prelude.{◌≡◌, ◌<◌, ◌≤◌, true, false, length, IfOk, IfSome};
+ghost use Rattle.std.specs.Arc.{arc_value};
 ghost use Rattle.std.specs.List.{AllByRecursion, filter};
 ghost use Rattle.std.specs.List.Sorted.{IsPartitionPoint, IsStrictlySortedBy};
 ghost use Rattle.std.specs.Ordering.{is_le, is_lt};
@@ -9,33 +10,45 @@ ghost use Rattle.ent_join.specs.Index.{IsIndexed, begun_cmp, begins_so, column_o
 
 use crate::cursor::Cursor;
 use ent_value::{Row, Sequence, Value};
+use std::alloc::{AllocError, Global};
 use std::cmp::Ordering;
 use std::marker::Model;
+use std::sync::Arc;
 
-/// Rows with a value for each of some classes, in order. The classes ascend.
+/// Rows with a value for each of some classes, in order. The classes ascend. Copies share the rows.
 #[derive(Drop)]
 pub(crate) struct Index {
     classes: Sequence<usize>,
-    rows: Sequence<Row>,
+    rows: Arc<Sequence<Row>>,
 }
 
 impl Model for Index {
+    ghost use Rattle.std.specs.Arc.{arc_value};
     ghost use Rattle.ent_join.specs.Index.{Indexed, IsIndexed};
 
     ghost Value = { Indexed };
 
-    ghost view = { λ i. record { classes = i.classes; rows = i.rows } };
+    ghost view = { λ i. record { classes = i.classes; rows = arc_value i.rows } };
 
-    ghost invariant = { λ i. IsIndexed (record { classes = i.classes; rows = i.rows }) };
+    ghost invariant = { λ i. IsIndexed (record { classes = i.classes; rows = arc_value i.rows }) };
 }
 
 impl Index {
     /// The index of classes and rows that are in order.
-    pub(crate) fn new(classes: Sequence<usize>, rows: Sequence<Row>) -> Self
-        requires { IsIndexed (record { classes = classes; rows = rows }) }
-        ensures { result ≡ record { classes = classes; rows = rows } }
+    pub(crate) fn new(classes: Sequence<usize>, rows: Arc<Sequence<Row>>) -> Self
+        requires { IsIndexed (record { classes = classes; rows = arc_value rows }) }
+        ensures { result ≡ record { classes = classes; rows = arc_value rows } }
     {
         Index { classes, rows }
+    }
+
+    /// The same index. The rows are shared, not copied.
+    pub(crate) fn shared(&self, alloc: Global) -> Result<Index, AllocError>
+        ensures { IfOk result (λ shared. shared ≡ self.now) }
+    {
+        let classes = numbers_copy(alloc, self.classes.as_slice())?;
+        let rows = self.rows.clone()?;
+        Ok(Index { classes, rows })
     }
 
     /// The column of a class, where the index has it.
@@ -68,6 +81,13 @@ impl Index {
     {
         rows_between(beginning, self.classes.as_slice(), self.rows.as_slice())
     }
+}
+
+fn numbers_copy(alloc: Global, numbers: &[usize]) -> Result<Sequence<usize>, AllocError>
+    ensures { IfOk result (λ copy. copy ≡ numbers.now) }
+{
+    let copy = Vec::from_slice(alloc, numbers)?;
+    Ok(Sequence::from_vec(copy))
 }
 
 fn column_of(class: usize, classes: &[usize]) -> Option<usize>

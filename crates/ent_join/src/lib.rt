@@ -12,6 +12,7 @@ mod cursor;
 mod frame;
 mod index;
 mod keyed;
+mod made;
 mod search;
 
 pub use choice::{first, first_with};

@@ -1,9 +1,13 @@
 use Rattle.std.proofs.Common.{◌≡◌, ◌++◌, map, take}
 use Rattle.std.specs.Arc.{arc_value}
-use Rattle.ent_join.specs.Asked.{membership_index}
+use Rattle.std.specs.List.{AllByRecursion}
+use Rattle.ent_join.specs.Asked.{IsMade, membership_index}
 use Rattle.ent_join.proofs.asked.push_indexes.Given as goal
 
 abbrev pub invariant-loop-membership : goal.invariant-loop-membership
 invariant-loop-membership l =
-    l.indexes.items ≡ l.fn.indexes.items
-    ++ map (membership_index l.numbers (map arc_value l.tables) l.slots) (take l.membership-index l.memberships)
+    record {
+      indexes : l.indexes.items ≡ l.fn.indexes.items
+          ++ map (membership_index l.numbers (map arc_value l.tables) l.slots) (take l.membership-index l.memberships);
+      made : AllByRecursion (IsMade l.numbers (map arc_value l.tables)) l.made.items;
+    }

@@ -1,7 +1,7 @@
 use Rattle.std.proofs.Common.{◌≡◌, ◌++◌, drop, map}
 use Rattle.std.specs.Arc.{arc_value}
 use Rattle.ent_join.specs.Asked.{tables_at}
-use Rattle.ent_join.proofs.asked.tables_at.Given as goal
+use Rattle.ent_join.proofs.made.tables_at.Given as goal
 
 abbrev pub invariant-loop-source : goal.invariant-loop-source
 invariant-loop-source l =

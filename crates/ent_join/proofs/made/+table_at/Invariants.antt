@@ -1,5 +1,5 @@
 use Rattle.std.proofs.Common.{length}
-use Rattle.ent_join.proofs.asked.+table_at.Given as goal
+use Rattle.ent_join.proofs.made.+table_at.Given as goal
 
 abbrev pub decreases-table_at : goal.decreases-table_at
 decreases-table_at l = length l.numbers.now

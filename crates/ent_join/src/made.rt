@@ -1,0 +1,161 @@
+//! Indexes that were made for tuples, so that tuples of one sub-select and the same columns share one.
+ghost use Rattle.std.specs.Prelude.{◌≡◌, ◌++◌, [], ℕ, IfOk, IfSome, IsTrue, List, OnOk, map};
+ghost use Rattle.std.specs.Arc.{arc_value};
+ghost use Rattle.std.specs.List.{AllByRecursion};
+ghost use Rattle.std.specs.Option.{option_copied, option_map};
+ghost use Rattle.ent_rel.specs.Relation.{Relation};
+ghost use Rattle.ent_join.specs.Asked.{IsMade, select_index, table_at, tables_at};
+
+use crate::index::Index;
+use crate::keyed::index_of;
+use ent_closed::Select;
+use ent_plan::Slot;
+use ent_rel::Table;
+use ent_select::all;
+use ent_tree::Same;
+use ent_value::{Sequence, Value};
+use std::alloc::{AllocError, Global};
+use std::sync::Arc;
+
+/// An index, and of which sub-select's result and which columns it was made.
+#[derive(Drop)]
+pub(crate) struct Made<'a> {
+    pub(crate) select: &'a Select<Value>,
+    pub(crate) columns: Sequence<Slot>,
+    pub(crate) index: Index,
+}
+
+/// The table that stands beside a number.
+fn table_at<'a>(
+    number: usize,
+    numbers: &[usize],
+    tables: &'a [Arc<Table>],
+) -> Option<&'a Arc<Table>>
+    ensures { option_map arc_value (option_copied result) ≡ table_at number numbers.now (map arc_value tables.now) }
+{
+    if let [other, numbers @ ..] = numbers {
+        if let [table, tables @ ..] = tables {
+            if *other == number {
+                return Some(table);
+            }
+            return table_at(number, numbers, tables);
+        }
+    }
+    None
+}
+
+/// The tables that stand beside some numbers, shared.
+fn tables_at(
+    alloc: Global,
+    numbers: &[usize],
+    tables: &[Arc<Table>],
+    sources: &[usize],
+) -> Result<Vec<Arc<Table>>, AllocError>
+    ensures { IfOk result (λ found. map arc_value found.items
+        ≡ tables_at numbers.now (map arc_value tables.now) sources.now) }
+{
+    let mut found = Vec::new(alloc);
+    for source in sources {
+        if let Some(table) = table_at(*source, numbers, tables) {
+            found.push(table.clone()?)?;
+        }
+    }
+    Ok(found)
+}
+
+fn is_same_slot(slot: &Slot, other: &Slot) -> bool
+    ensures { IsTrue result → slot.now ≡ other.now }
+{
+    match (slot, other) {
+        (Slot::Fixed(value), Slot::Fixed(other)) => *value == *other,
+        (Slot::Class(number), Slot::Class(other)) => *number == *other,
+        _ => false,
+    }
+}
+
+fn are_same_slots(slots: &[Slot], others: &[Slot]) -> bool
+    ensures { IsTrue result → slots.now ≡ others.now }
+{
+    match slots {
+        [] => others.is_empty(),
+        [slot, slots @ ..] => {
+            if let [other, others @ ..] = others {
+                return is_same_slot(slot, other) && are_same_slots(slots, others);
+            }
+            false
+        }
+    }
+}
+
+impl<'a> Made<'a> {
+    /// Whether it was made of this sub-select and these columns.
+    fn is_of(&self, select: &Select<Value>, columns: &[Slot]) -> bool
+        ensures select { IsTrue result → self.now.select.now ≡ select.now }
+        ensures columns { IsTrue result → self.now.columns ≡ columns.now }
+    {
+        self.select.is_same(select) && are_same_slots(self.columns.as_slice(), columns)
+    }
+}
+
+/// The index that was made of a sub-select and columns, where there is one.
+fn made_of<'m>(
+    made: &'m [Made<'_>],
+    select: &Select<Value>,
+    columns: &[Slot],
+) -> Option<&'m Index>
+    ensures { (numbers : List ℕ) (tables : List Relation)
+        → AllByRecursion (IsMade numbers tables) made.now
+        → IfSome result (λ index. index.now ≡ select_index numbers tables select.now columns.now) }
+{
+    if let [first, made @ ..] = made {
+        if first.is_of(select, columns) {
+            return Some(&first.index);
+        }
+        return made_of(made, select, columns);
+    }
+    None
+}
+
+/// The index of columns over the result of a sub-select.
+fn select_index(
+    alloc: Global,
+    numbers: &[usize],
+    tables: &[Arc<Table>],
+    select: &Select<Value>,
+    columns: &[Slot],
+) -> Result<Index, AllocError>
+    ensures { IfOk result (λ index. index
+        ≡ select_index numbers.now (map arc_value tables.now) select.now columns.now) }
+{
+    let sources = tables_at(alloc, numbers, tables, select.sources.as_slice())?;
+    let rows = all(alloc, select, sources.as_slice())?;
+    index_of(alloc, columns, rows.as_slice())
+}
+
+/// The index of columns over the result of a sub-select. It is looked for among those that were made, else it is made
+/// and kept there.
+pub(crate) fn index_for<'a>(
+    alloc: Global,
+    numbers: &[usize],
+    tables: &[Arc<Table>],
+    made: &mut Vec<Made<'a>>,
+    select: &'a Select<Value>,
+    columns: Sequence<Slot>,
+) -> Result<Index, AllocError>
+    requires { AllByRecursion (IsMade numbers.now (map arc_value tables.now)) made.old.items }
+    ensures index { IfOk result (λ index. index
+        ≡ select_index numbers.now (map arc_value tables.now) select.now columns) }
+    ensures made { OnOk result (AllByRecursion (IsMade numbers.now (map arc_value tables.now)) made.new.items) }
+{
+    if let Some(index) = made_of(made.as_slice(), select, columns.as_slice()) {
+        return index.shared(alloc);
+    }
+    let index = select_index(alloc, numbers, tables, select, columns.as_slice())?;
+    let shared = index.shared(alloc)?;
+    made.push(Made {
+        select,
+        columns,
+        index: shared,
+    })?;
+    Ok(index)
+}
