@@ -163,7 +163,15 @@ pub(crate) fn frame_of(
 {
     let mut made = Vec::new(alloc);
     let mut indexes = Vec::new(alloc);
-    push_all_indexes(alloc, numbers, tables, &mut made, members, slots, &mut indexes)?;
+    push_all_indexes(
+        alloc,
+        numbers,
+        tables,
+        &mut made,
+        members,
+        slots,
+        &mut indexes,
+    )?;
     let mut tests = Vec::new(alloc);
     push_all_tests(alloc, members, slots, &mut tests)?;
     Ok(Frame {

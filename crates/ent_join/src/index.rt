@@ -1,6 +1,5 @@
 //! Indexes of the results of sub-selects, by classes of variables.
 ghost use Rattle.std.specs.Prelude.{◌≡◌, ◌<◌, ◌≤◌, true, false, length, IfOk, IfSome};
-ghost use Rattle.std.specs.Arc.{arc_value};
 ghost use Rattle.std.specs.List.{AllByRecursion, filter};
 ghost use Rattle.std.specs.List.Sorted.{IsPartitionPoint, IsStrictlySortedBy};
 ghost use Rattle.std.specs.Ordering.{is_le, is_lt};
@@ -35,11 +34,16 @@ impl Model for Index {
 
 impl Index {
     /// The index of classes and rows that are in order.
-    pub(crate) fn new(classes: Sequence<usize>, rows: Arc<Sequence<Row>>) -> Self
-        requires { IsIndexed (record { classes = classes; rows = arc_value rows }) }
-        ensures { result ≡ record { classes = classes; rows = arc_value rows } }
+    pub(crate) fn new(
+        alloc: Global,
+        classes: Sequence<usize>,
+        rows: Sequence<Row>,
+    ) -> Result<Index, AllocError>
+        requires { IsIndexed (record { classes = classes; rows = rows }) }
+        ensures { IfOk result (λ index. index ≡ record { classes = classes; rows = rows }) }
     {
-        Index { classes, rows }
+        let rows = Arc::new(alloc, rows)?;
+        Ok(Index { classes, rows })
     }
 
     /// The same index. The rows are shared, not copied.

@@ -1,6 +1,5 @@
 //! Indexes of sub-selects' results: each row that agrees with the columns, by the values of their classes.
 ghost use Rattle.std.specs.Prelude.{◌≡◌, IfOk, map};
-ghost use Rattle.std.specs.Arc.{arc_value};
 ghost use Rattle.std.specs.Option.{option_copied};
 ghost use Rattle.ent_set.specs.Sets as set;
 ghost use Rattle.ent_value.specs.Value.{row_cmp};
@@ -12,7 +11,6 @@ use ent_closed::Term;
 use ent_plan::Slot;
 use ent_value::{Row, Sequence, Value};
 use std::alloc::{AllocError, Global};
-use std::sync::Arc;
 
 /// What a term is whose statement's written variables have these slots.
 pub(crate) fn term_slot(
@@ -175,18 +173,12 @@ fn ordered(mut rows: Vec<Row>) -> Result<Vec<Row>, AllocError>
     Ok(rows)
 }
 
-fn shared_rows(alloc: Global, rows: Vec<Row>) -> Result<Arc<Sequence<Row>>, AllocError>
-    ensures { IfOk result (λ shared. arc_value shared ≡ rows.items) }
-{
-    Ok(Arc::new(alloc, Sequence::from_vec(rows))?)
-}
-
 /// The index of the rows of a sub-select's result that agree with the columns of a tuple.
 pub(crate) fn index_of(alloc: Global, columns: &[Slot], rows: &[Row]) -> Result<Index, AllocError>
     ensures { IfOk result (λ index. index ≡ index_under columns.now rows.now) }
 {
     let classes = classes_of(alloc, columns)?;
     let keys = ordered(keys_under(alloc, columns, classes.as_slice(), rows)?)?;
-    let rows = shared_rows(alloc, keys)?;
-    Ok(Index::new(Sequence::from_vec(classes), rows))
+    let index = Index::new(alloc, Sequence::from_vec(classes), Sequence::from_vec(keys))?;
+    Ok(index)
 }

@@ -98,11 +98,7 @@ impl<'a> Made<'a> {
 }
 
 /// The index that was made of a sub-select and columns, where there is one.
-fn made_of<'m>(
-    made: &'m [Made<'_>],
-    select: &Select<Value>,
-    columns: &[Slot],
-) -> Option<&'m Index>
+fn made_of<'m>(made: &'m [Made<'_>], select: &Select<Value>, columns: &[Slot]) -> Option<&'m Index>
     ensures { (numbers : List ℕ) (tables : List Relation)
         → AllByRecursion (IsMade numbers tables) made.now
         → IfSome result (λ index. index.now ≡ select_index numbers tables select.now columns.now) }

@@ -1,4 +1,5 @@
 use Rattle.std.proofs.Common.{◌≡◌, List, length, ap, subst, ◌∙◌}
+use Rattle.std.specs.Arc.{arc_value}
 use Rattle.std.specs.List.{AllByRecursion, filter}
 use Rattle.ent_value.specs.declared.value.Value.{Value}
 use Rattle.ent_join.specs.Index.{Indexed, begins_so}
@@ -11,5 +12,6 @@ returns-clause-widths c =
     λ index. AllByRecursion (λ (row : List Value). length row ≡ length index.classes) c.rows_between.result.now in
     let p = begins_so c.args.beginning.now c.as_slice.result.now in
     subst P c.self.view_is
-    (all_filtered (λ row. length row ≡ length c.self.inside.classes) p c.self.inside.rows c.rows_between.result.now
-    c.self.invariant.widths (c.rows_between.ensures ∙ ap (filter p) c.as_slice-2.ensures))
+    (all_filtered (λ row. length row ≡ length c.self.inside.classes) p (arc_value c.self.inside.rows)
+    c.rows_between.result.now
+    c.self.invariant.widths (c.rows_between.ensures ∙ ap (filter p) (c.as_slice-2.ensures ∙ c.deref.ensures)))
