@@ -10,7 +10,7 @@ use crate::reply::put;
 use anyhow::{Context, Result, bail};
 use ent_closed::{Atom, Entangled, Membership, Term};
 use ent_group::Tx;
-use ent_join::{first, first_with};
+use ent_join::first_with;
 use ent_match::{Member, Pool};
 use ent_plan::{JoinPlan, combine};
 use ent_rel::Table;
@@ -104,8 +104,7 @@ fn have_distinct_heads(members: &[Member]) -> bool
     true
 }
 
-/// The plan of some statements of a pool.
-pub(crate) fn plan(alloc: Global, pool: &Pool, txs: &[Tx]) -> Result<Option<JoinPlan>> {
+fn plan(alloc: Global, pool: &Pool, txs: &[Tx]) -> Result<Option<JoinPlan>> {
     if !have_distinct_heads(pool.members()) {
         bail!("a statement has two heads of one relation");
     }
@@ -166,16 +165,6 @@ fn put_groundings(
         put_grounding(alloc, member.tx(), grounding, out)?;
     }
     Ok(())
-}
-
-/// Whether there is a choice of a plan's statements over the tables.
-pub(crate) fn has_choice(alloc: Global, plan: &JoinPlan, tables: &[Arc<Table>]) -> Result<bool> {
-    if !are_ranged(plan.members()) {
-        bail!("a variable stands in no tuple of a sub-select");
-    }
-    let tables = shared(alloc, tables, plan.tables())?;
-    let choice = first(alloc, plan, tables.as_slice())?;
-    Ok(choice.is_some())
 }
 
 /// What the search over the tables finds for some statements, and the ticks.

@@ -1,6 +1,6 @@
 //! Plays scenarios of pools and of unifiers: a line a call, the answer that is expected. Without a word it goes over
 //! the stored ones and stops at the first reply that differs; with the word `play` it reads one from standard input
-//! and writes the replies, and with the word `times` it tells how long calls on large pools and tables take.
+//! and writes the replies.
 #![tactic(auto)]
 
 mod atoms;
@@ -11,19 +11,14 @@ mod reply;
 mod stage;
 mod statement;
 mod tables;
-mod times;
 mod words;
 
 use crate::stage::replies;
-use crate::times::show_all;
 use anyhow::{Context, Result, ensure};
 use std::{env, fs, io};
 
 fn main(rt: HostRuntime) -> Result<()> {
-    if let Some(word) = env::args(&rt)?.nth(1) {
-        if word.as_str() == "times" {
-            return show_all(&rt, rt.alloc());
-        }
+    if env::args(&rt)?.nth(1).is_some() {
         return play(&rt);
     }
     let index = fs::read_to_string(&rt, "scenarios/INDEX")?;

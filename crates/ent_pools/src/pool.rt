@@ -88,17 +88,6 @@ fn has_none(members: &[Member], member: &Member) -> bool
     true
 }
 
-/// Posts a statement that the pool takes.
-pub(crate) fn add(pool: &mut Pool, member: Member) -> Result<()> {
-    if !has_none(pool.members(), &member) {
-        bail!("a statement of that transaction is there");
-    }
-    match pool.post(member) {
-        Ok(()) => Ok(()),
-        Err(_) => bail!("the pool refuses the statement"),
-    }
-}
-
 fn post_to(pool: &mut Pool, member: Member, out: &mut Vec<u8>) -> Result<()> {
     if !has_none(pool.members(), &member) {
         return put(out, "there already");

@@ -1,7 +1,7 @@
 //! Entangled statements as an input has them, resolved and closed.
 use crate::tables::tables;
 use anyhow::{Context, Result, bail};
-use ent_closed::{Entangled, Select, Statement};
+use ent_closed::{Entangled, Statement};
 use ent_closing::{Environment, closed};
 use ent_form::{Catalogue, Plain, resolve};
 use ent_rel::Table;
@@ -46,8 +46,8 @@ fn first_form(alloc: Global, input: &Input) -> Result<Plain> {
     }
 }
 
-/// A statement over the tables of an opening. It stands alone in its script, and uses no host variable.
-fn only_statement(alloc: Global, opening: &str, text: &str) -> Result<Statement<Value>> {
+/// An entangled statement over the tables of an opening. It stands alone in its script, and uses no host variable.
+pub(crate) fn entangled(alloc: Global, opening: &str, text: &str) -> Result<Entangled<Value>> {
     let whole = format!(in alloc; "{opening} BEGIN TRANSACTION; {text} COMMIT;")?;
     let input = read(alloc, whole.as_str())?;
     let plain = first_form(alloc, &input)?;
@@ -56,21 +56,8 @@ fn only_statement(alloc: Global, opening: &str, text: &str) -> Result<Statement<
         .as_slice()
         .first()
         .context("there is no statement")?;
-    Ok(closed(alloc, first, &Environment::new(alloc))?)
-}
-
-/// An entangled statement, as [`only_statement`] reads it.
-pub(crate) fn entangled(alloc: Global, opening: &str, text: &str) -> Result<Entangled<Value>> {
-    match only_statement(alloc, opening, text)? {
+    match closed(alloc, first, &Environment::new(alloc))? {
         Statement::Entangled(entangled) => Ok(entangled),
         _ => bail!("this is no entangled statement"),
-    }
-}
-
-/// A SELECT, as [`only_statement`] reads it.
-pub(crate) fn select(alloc: Global, opening: &str, text: &str) -> Result<Select<Value>> {
-    match only_statement(alloc, opening, text)? {
-        Statement::Select(select) => Ok(select),
-        _ => bail!("this is no SELECT"),
     }
 }

@@ -6,7 +6,7 @@ use anyhow::{Context, Result, bail};
 use ent_form::{Catalogue, TableSchema, opening_rows};
 use ent_rel::Table;
 use ent_tree::Opening;
-use ent_value::{Kind, Row, Value};
+use ent_value::{Kind, Row};
 use std::alloc::{AllocError, Global};
 use std::sync::Arc;
 
@@ -74,24 +74,4 @@ pub(crate) fn tables(
         found.push(table(alloc, catalogue, number, schema, opening)?)?;
     }
     Ok(found)
-}
-
-/// The row of a number and its distance from the last one.
-fn counted_row(alloc: Global, number: u32, count: u32) -> Result<Row, AllocError> {
-    let mut values = Vec::with_capacity(alloc, 2)?;
-    values.push(Value::Int(i64::from(number)))?;
-    values.push(Value::Int(i64::from(count.wrapping_sub(number).wrapping_sub(1))))?;
-    Ok(Row::from_vec(values))
-}
-
-/// The table of the rows of so many numbers.
-pub(crate) fn counted(alloc: Global, count: u32) -> Result<Arc<Table>> {
-    let mut rows = Vec::new(alloc);
-    for number in 0..count {
-        rows.push(counted_row(alloc, number, count)?)?;
-    }
-    let kinds = Vec::from_array(alloc, [Kind::Int, Kind::Int])?;
-    let rows = rows_of_kinds(alloc, rows, kinds.as_slice())?;
-    let table = Table::load(alloc, kinds, rows).ok().context("no table")?;
-    Ok(Arc::new(alloc, table)?)
 }
