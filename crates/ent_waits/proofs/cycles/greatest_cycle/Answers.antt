@@ -3,7 +3,7 @@ use Rattle.std.specs.Prelude.{IfSome}
 use Rattle.ent_group.specs.Cycle.{IsCycle, IsInRing}
 use Rattle.ent_waits.specs.Waits.{gathered}
 use Rattle.ent_waits.proofs.Gathered.{IsGreatest, found_deadlock, no_deadlock}
-use Rattle.ent_waits.proofs.cycles.deadlock.Goals as goal
+use Rattle.ent_waits.proofs.cycles.greatest_cycle.Goals as goal
 
 pub returns-clause-found : goal.returns-clause-found
 returns-clause-found c = λ s.
