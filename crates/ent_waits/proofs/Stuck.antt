@@ -14,7 +14,7 @@ use Rattle.ent_group.specs.Marks.{IsMarked, has_mark}
 use Rattle.ent_group.specs.Reach.{IsAt}
 use Rattle.ent_waits.specs.Rows.{IsMarkedPair}
 
-below_or : (i j : ℕ) → (i < j) ⊎ (j ≤ i)
+pub below_or : (i j : ℕ) → (i < j) ⊎ (j ≤ i)
 below_or i j = elim (nat_lt i j) as (λ b. nat_lt i j ≡ b → (i < j) ⊎ (j ≤ i)) [
   | true ↦ λ e. inl (ltb-true i j e)
   | false ↦ λ e. inr (ltb-false i j e)
@@ -62,10 +62,10 @@ eq_is n m is = grind (arith, nat_tests)
 abbrev pub MarksOneMore : ℕ → ℕ → ℕ → Type 0
 MarksOneMore row new at = (i : ℕ) → has_mark new i ≡ ((i == at) || has_mark row i)
 
-mark_kept : (row new at i : ℕ) → MarksOneMore row new at → has_mark row i ≡ true → has_mark new i ≡ true
+pub mark_kept : (row new at i : ℕ) → MarksOneMore row new at → has_mark row i ≡ true → has_mark new i ≡ true
 mark_kept row new at i step old = step i ∙ or_from (i == at) (has_mark row i) (inr old)
 
-mark_made : (row new at i : ℕ) → MarksOneMore row new at → i ≡ at → has_mark new i ≡ true
+pub mark_made : (row new at i : ℕ) → MarksOneMore row new at → i ≡ at → has_mark new i ≡ true
 mark_made row new at i step is = step i ∙ or_from (i == at) (has_mark row i) (inl (eq_is i at is))
 
 abbrev pub HasFirst : ℕ → ℕ → Type 0
