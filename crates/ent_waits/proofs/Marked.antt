@@ -1,10 +1,11 @@
 -- The rows that are made mark each pair of a waiter and one that it waits for.
-use Rattle.std.proofs.Common.{◌≡◌, ◌⊎◌, inl, inr, ℕ, zero, suc, ◌+◌, ◌<◌, ◌≤◌, ◌==◌, Bool, true, false, not, ◌&&◌, ◌||◌}
-use Rattle.std.proofs.Common.{if◌then◌else◌, List, [], ◌∷◌, ◌++◌, length, map, get_or, refl, sym, ap, subst, ◌∙◌}
+use Rattle.std.proofs.Common.{◌≡◌, ◌≢◌, ◌⊎◌, inl, inr, ℕ, zero, suc, ◌+◌, ◌<◌, ◌≤◌, ◌==◌, Bool, true, false, not, ◌&&◌, ◌||◌}
+use Rattle.std.proofs.Common.{if◌then◌else◌, List, [], ◌∷◌, ◌++◌, length, map, get_or, set, refl, sym, ap, subst, ◌∙◌}
 use Rattle.std.proofs.Common.{arith, true≢false}
 use Rattle.std.specs.Prelude.{All, Contains, filter, slice_index, slice_index_or}
 use Rattle.std.specs.List.{flat_map, list_any}
-use Rattle.std.proofs.lemmas.List.{get_or_default, get_or-map, length-map}
+use Rattle.std.proofs.lemmas.List.{get_or_default, get_or-map, get_or-set_other, length-map}
+use Rattle.std.proofs.lemmas.Grind.{get_or-set_at}
 use Rattle.std.proofs.lemmas.List.Elements.{All-cons, All-nil, Contains-append_cases}
 use Rattle.ent_group.specs.Marks.{IsMarked, has_mark}
 use Rattle.ent_group.specs.Reach.{IsAt}
@@ -192,6 +193,22 @@ abbrev pub AreRowsUpto : Run → List Submitted → List Job → ℕ → List �
 AreRowsUpto run submitted lent count rows =
     (place : ℕ) (asker : Member) → place < count → StandsAt run.active place asker
     → MarksAll run.active (awaits_now run submitted lent asker) (slice_index rows place)
+
+pub rows_more : (run : Run) (submitted : List Submitted) (lent : List Job) (rows : List ℕ) (at row : ℕ) (here : Member)
+    → IsElement run.active at here → at < length rows → MarksAll run.active (awaits_now run submitted lent here) row
+    → AreRowsUpto run submitted lent at rows → AreRowsUpto run submitted lent (at + 1) (set rows at row)
+rows_more run submitted lent rows at row here is room marks upto = λ place asker below stands.
+    let P : ℕ → Type 0 = λ own. MarksAll run.active (awaits_now run submitted lent asker) own in
+    elim (below_or place at) [
+      | inl before ↦
+          let other : place ≢ at = λ same. absurd (omega (arith, before, same)) in
+          subst P (sym (get_or-set_other rows at place row 0 other)) (upto place asker before stands)
+      | inr past ↦
+          let same : place ≡ at = omega arith in
+          subst P (sym (get_or-set_at rows at place row 0 same room))
+          (subst (λ (member : Member). MarksAll run.active (awaits_now run submitted lent member) row)
+          (element_is run.active at place here asker is same stands) marks)
+    ]
 
 place_of : (members : List Member) (k : ℕ) (d : Member) → k < length members
     → IsAt (map tx_of members) (tx_of (get_or members k d)) k
