@@ -182,6 +182,22 @@ idle_row run submitted lent asker row idle = λ place other stands waits.
     absurd (true≢false
     (sym (first_of_both now (is_awaited (with_run run nothing) asker next other) waits) ∙ idle))
 
+-- nobody is in the way of who asks for nothing
+none_awaited : (q : Member → Bool) (xs : List Member) → list_any q (filter (is_in_way []) xs) ≡ false
+none_awaited q [] = refl
+none_awaited q (x ∷ xs) = none_awaited q xs
+
+pub end_row : (run : Run) (submitted : List Submitted) (lent : List Job) (asker : Member) (row : ℕ)
+    → next_uses (next_in (numbered submitted asker.tx) asker) ≡ []
+    → MarksAll run.active (awaits_now run submitted lent asker) row
+end_row run submitted lent asker row nothing_asked = λ place other stands waits.
+    let s = with_run run nothing in
+    let now = is_waiting (state_with run submitted lent nothing) asker in
+    let next = next_uses (next_in (numbered submitted asker.tx) asker) in
+    absurd (true≢false (sym (second_of_both now (is_awaited s asker next other) waits)
+    ∙ ap (λ (uses : List Use). is_awaited s asker uses other) nothing_asked
+    ∙ none_awaited (waits_over asker.group other) (not_passed s asker)))
+
 -- ---- all rows
 
 abbrev pub AreRows : Run → List Submitted → List Job → List ℕ → Type 0
