@@ -19,6 +19,7 @@ use ent_endings::{
 use ent_eval::{Job, evaluate};
 use ent_form::FormFault;
 use ent_group::Tx;
+use ent_protocol::refusals_change_nothing;
 use ent_value::Ticks;
 use std::alloc::{AllocError, Global};
 
@@ -70,6 +71,7 @@ fn turn(
     ready_members_are_answered::<FormFault>();
     progress_uses_up::<FormFault>();
     steps_stay_within::<FormFault>();
+    refusals_change_nothing::<FormFault>();
     core.is_reached();
     let _count = ticks.count();
     let Some(Standing::Ready(_)) = core.standing(tx) else {
