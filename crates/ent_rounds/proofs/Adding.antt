@@ -1,5 +1,5 @@
 -- Events and their ticks add up.
-use Rattle.std.proofs.Common.{◌≡◌, ◌≤◌, ◌<◌, ◌+◌, ◌^◌, ℕ, false, refl, sym, ap, ◌∙◌, subst, arith}
+use Rattle.std.proofs.Common.{◌≡◌, ◌≤◌, ◌<◌, ◌+◌, ◌^◌, ℕ, refl, ap, ◌∙◌, arith}
 use Rattle.std.proofs.lemmas.Bool.Decides.{nat_tests}
 use Rattle.ent_value.specs.Ticks.{ticked}
 use Rattle.ent_protocol.specs.Event.{Event, Reply}
@@ -7,7 +7,7 @@ use Rattle.ent_protocol.specs.Reached.{LeadsTo}
 use Rattle.ent_protocol.specs.Run.{Forms}
 use Rattle.ent_protocol.specs.State.{State}
 use Rattle.ent_protocol.specs.Step.{Step}
-use Rattle.ent_rounds.specs.Onward.{LeadsOn, TicksOn}
+use Rattle.ent_rounds.specs.Onward.{TicksOn}
 
 ticked_none : (ticks : ℕ) → ticks < 2 ^ 64 → ticks ≡ ticked 0 ticks
 ticked_none ticks bound = grind (arith, nat_tests)

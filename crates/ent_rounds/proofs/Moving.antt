@@ -1,15 +1,13 @@
 -- What uses up a step of progress, and which replies lend nothing.
-use Rattle.std.proofs.Common.{◌≡◌, ◌≤◌, ℕ, suc, Bool, true, false, List, [], ◌∷◌, inl, inr, refl, sym, ap, subst}
+use Rattle.std.proofs.Common.{◌≡◌, Bool, true, false, [], inl, inr, refl, sym, ap, subst}
 use Rattle.std.proofs.Common.{◌∙◌, arith}
 use Rattle.ent_protocol.specs.Event.{Event, Reply}
 use Rattle.ent_protocol.specs.Event as events
-use Rattle.ent_protocol.specs.Job.{Job}
 use Rattle.ent_protocol.specs.Play.{is_idle}
 use Rattle.ent_protocol.specs.PoolEvents.{Picks}
 use Rattle.ent_protocol.specs.Run.{BreaksIfAny}
 use Rattle.ent_protocol.specs.State.{State}
 use Rattle.ent_bounds.specs.Progress.{is_progress}
-use Rattle.ent_bounds.specs.Within.{IsBelow, IsWithin}
 use Rattle.ent_endings.specs.Idle.{IsTurnTaken}
 use Rattle.ent_endings.specs.Lending.{IsJointTaken, IsSingleTaken, lent_by}
 use Rattle.ent_rounds.specs.Progress.{UsesUp}
