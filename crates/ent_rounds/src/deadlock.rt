@@ -1,5 +1,5 @@
 //! A deadlock is broken.
-ghost use Rattle.std.specs.Prelude.{◌≡◌, ◌×◌, [], false, true};
+ghost use Rattle.std.specs.Prelude.{◌≡◌, [], false, true};
 ghost use Rattle.ent_endings.specs.Idle.{IsAnswered};
 ghost use Rattle.ent_protocol.specs.Event.{BreakCycle, NoCycle};
 ghost use Rattle.ent_resolved.specs.Resolved.{resolved_forms};
@@ -7,7 +7,7 @@ ghost use Rattle.ent_rounds.specs.Onward.{TicksOn};
 ghost use Rattle.ent_rounds.specs.Progress.{UsesUp};
 
 use crate::law::events_add_up;
-use crate::progress::tells_of_progress;
+use crate::progress::told_of_progress;
 use ent_bounds::progress_uses_up;
 use ent_core::Core;
 use ent_endings::jobs_are_lent_by_replies;
@@ -29,5 +29,5 @@ pub(crate) fn break_deadlock(core: &mut Core, ticks: &mut Ticks) -> bool
     core.is_reached();
     let reply = core.break_cycle();
     ticks.add();
-    tells_of_progress(&reply)
+    told_of_progress(reply)
 }

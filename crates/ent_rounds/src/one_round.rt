@@ -1,5 +1,5 @@
 //! One round of a run.
-ghost use Rattle.std.specs.Prelude.{◌≡◌, ◌×◌, ℕ, [], false, true, IfOk, OnOk};
+ghost use Rattle.std.specs.Prelude.{◌≡◌, ℕ, [], false, true, IfOk, OnOk};
 ghost use Rattle.ent_bounds.specs.Within.{IsBelow, IsWithin};
 ghost use Rattle.ent_endings.specs.Idle.{IsIdleRound};
 ghost use Rattle.ent_resolved.specs.Resolved.{resolved_forms};

@@ -6,7 +6,7 @@ ghost use Rattle.ent_core.specs.Reply.{reply_seen};
 use ent_core::Reply;
 
 /// Whether a reply tells of a step of progress.
-pub(crate) fn tells_of_progress(reply: &Reply) -> bool
+fn tells_of_progress(reply: &Reply) -> bool
     ensures { result ≡ is_progress (reply_seen reply.now) }
 {
     match reply {
@@ -21,4 +21,13 @@ pub(crate) fn tells_of_progress(reply: &Reply) -> bool
         | Reply::Broken(..) => true,
         _ => false,
     }
+}
+
+/// The same of a reply that isn't wanted any more.
+pub(crate) fn told_of_progress(reply: Reply) -> bool
+    ensures { result ≡ is_progress (reply_seen reply) }
+{
+    let told = tells_of_progress(&reply);
+    drop(reply);
+    told
 }

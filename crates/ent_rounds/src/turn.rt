@@ -1,5 +1,5 @@
 //! Turns of members.
-ghost use Rattle.std.specs.Prelude.{◌≡◌, ◌×◌, ◌*◌, ℕ, [], false, true, IfOk, OnOk, length};
+ghost use Rattle.std.specs.Prelude.{◌≡◌, ◌*◌, ℕ, [], false, true, IfOk, OnOk, length};
 ghost use Rattle.std.specs.List.{AllByRecursion};
 ghost use Rattle.ent_endings.specs.Idle.{IsHeldUp};
 ghost use Rattle.ent_protocol.specs.Event.{Begin};
@@ -9,22 +9,47 @@ ghost use Rattle.ent_rounds.specs.Onward.{TicksOn};
 ghost use Rattle.ent_rounds.specs.Progress.{IsJustLent, UsesUp};
 
 use crate::law::events_add_up;
-use crate::progress::tells_of_progress;
+use crate::progress::told_of_progress;
 use ent_bounds::{progress_uses_up, steps_stay_within};
 use ent_core::{Core, Reply, Standing};
 use ent_endings::{
     jobs_are_lent_by_replies, members_come_by_number, ready_members_are_answered,
     results_are_taken_at_once,
 };
-use ent_eval::{Job, evaluate};
+use ent_eval::{Done, Job, evaluate};
 use ent_form::FormFault;
 use ent_group::Tx;
 use ent_protocol::refusals_change_nothing;
 use ent_value::Ticks;
 use std::alloc::{AllocError, Global};
 
-/// Does the job that was just lent to a member, and hands its result in: the statement is done, or its group is rolled
-/// back. Where memory runs out the job stays lent.
+/// Hands in the result of the job that was just lent to a member: its statement is done, or its group is rolled back.
+/// Where memory runs out the job stays lent.
+fn hand_in(core: &mut Core, done: Done, ticks: &mut Ticks) -> Result<(), AllocError>
+    requires lent { (tx : ℕ) × IsJustLent resolved_forms (Begin tx) done.job core.old }
+    ensures events { TicksOn resolved_forms 1 core.old core.new ticks.old ticks.new }
+    ensures none_lent { OnOk result (core.new.lent ≡ []) }
+    ensures progress { OnOk result (UsesUp core.old core.new) }
+{
+    events_add_up::<FormFault>();
+    results_are_taken_at_once::<FormFault>();
+    progress_uses_up::<FormFault>();
+    core.is_reached();
+    let _count = ticks.count();
+    match core.finish(done) {
+        Ok(reply) => {
+            drop(reply);
+            ticks.add();
+            Ok(())
+        }
+        Err(refused) => {
+            drop(refused);
+            Err(AllocError)
+        }
+    }
+}
+
+/// Does the job that was just lent to a member, and hands its result in. Where memory runs out the job stays lent.
 fn carry_out(
     alloc: Global,
     core: &mut Core,
@@ -37,18 +62,14 @@ fn carry_out(
     ensures progress { OnOk result (UsesUp core.old core.new) }
 {
     events_add_up::<FormFault>();
-    results_are_taken_at_once::<FormFault>();
-    progress_uses_up::<FormFault>();
-    core.is_reached();
     let _count = ticks.count();
-    let Ok(done) = evaluate(alloc, job) else {
-        return Err(AllocError);
-    };
-    let Ok(_) = core.finish(done) else {
-        return Err(AllocError);
-    };
-    ticks.add();
-    Ok(())
+    match evaluate(alloc, job) {
+        Ok(done) => hand_in(core, done, ticks),
+        Err(refused) => {
+            drop(refused);
+            Err(AllocError)
+        }
+    }
 }
 
 /// One member's turn: where it is ready it begins its next statement, and a job that is lent is carried out at once.
@@ -84,7 +105,7 @@ fn turn(
             carry_out(alloc, core, job, ticks)?;
             Ok(true)
         }
-        other => Ok(tells_of_progress(&other)),
+        other => Ok(told_of_progress(other)),
     }
 }
 
