@@ -9,7 +9,7 @@ ghost use Rattle.ent_rounds.specs.Progress.{IsJustLent, UsesUp};
 use crate::law::events_add_up;
 use ent_bounds::{progress_uses_up, steps_stay_within};
 use ent_core::{Core, Reply};
-use ent_endings::{jobs_are_lent_by_replies, results_are_taken_at_once};
+use ent_endings::results_are_taken_at_once;
 use ent_eval::{Done, Job, evaluate};
 use ent_form::FormFault;
 use ent_value::Ticks;
@@ -80,7 +80,6 @@ pub(crate) fn answer_component(
         → (core.new ≡ core.old) × IsAnswered resolved_forms core.old Pick Nothing) }
 {
     events_add_up::<FormFault>();
-    jobs_are_lent_by_replies::<FormFault>();
     steps_stay_within::<FormFault>();
     core.is_reached();
     let _count = ticks.count();

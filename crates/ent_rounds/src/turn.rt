@@ -13,8 +13,7 @@ use crate::progress::told_of_progress;
 use ent_bounds::{progress_uses_up, steps_stay_within};
 use ent_core::{Core, Reply, Standing};
 use ent_endings::{
-    jobs_are_lent_by_replies, members_come_by_number, ready_members_are_answered,
-    results_are_taken_at_once,
+    jobs_are_lent_by_replies, ready_members_are_answered, results_are_taken_at_once,
 };
 use ent_eval::{Done, Job, evaluate};
 use ent_form::FormFault;
