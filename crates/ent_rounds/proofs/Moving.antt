@@ -1,6 +1,5 @@
 -- What uses up a step of progress, and which replies lend nothing.
-use Rattle.std.proofs.Common.{◌≡◌, Bool, true, false, [], inl, inr, refl, sym, ap, subst}
-use Rattle.std.proofs.Common.{◌∙◌, arith}
+use Rattle.std.proofs.Common.{◌≡◌, ◌⊎◌, Bool, true, false, [], inl, inr, refl, sym, ap, subst, ◌∙◌, arith}
 use Rattle.ent_protocol.specs.Event.{Event, Reply}
 use Rattle.ent_protocol.specs.Event as events
 use Rattle.ent_protocol.specs.Play.{is_idle}
@@ -25,6 +24,20 @@ used_twice first middle last one other =
 -- what a part of a round comes to: it moved and used up a step, or all is as it was
 abbrev pub Moves : Bool → State → State → Type 0
 Moves moved first last = (moved ≡ true → UsesUp first last) × (moved ≡ false → last ≡ first)
+
+pub moved_then : (other : Bool) (first middle last : State) → UsesUp first middle → Moves other middle last
+    → UsesUp first last
+moved_then true first middle last one rest = used_twice first middle last one (rest.0 refl)
+moved_then false first middle last one rest = subst (UsesUp first) (sym (rest.1 refl)) one
+
+-- of two parts one behind the other one moved
+pub one_moved : (one other : Bool) (first middle last : State) → Moves one first middle → Moves other middle last
+    → (one ≡ true) ⊎ (other ≡ true) → UsesUp first last
+one_moved true other first middle last before rest either =
+    moved_then other first middle last (before.0 refl) rest
+one_moved false other first middle last before rest (inl moved) = absurd cc
+one_moved false other first middle last before rest (inr moved) =
+    subst (λ s. UsesUp s last) (before.1 refl) (rest.0 moved)
 
 module _ {F : Type 0} where
   -- no job is lent by it
