@@ -1,4 +1,4 @@
-use Rattle.std.proofs.Common.{◌≡◌, ◌≤◌, ◌<◌, ◌+◌, ◌*◌, false, true, inl, inr, length, sym, subst, ap, ◌∙◌, arith}
+use Rattle.std.proofs.Common.{◌≡◌, ◌≤◌, ◌<◌, ◌+◌, ◌*◌, false, true, inl, inr, length, get_or, sym, subst, ap, ◌∙◌, arith}
 use Rattle.ent_endings.specs.Idle.{IsHeldUp}
 use Rattle.ent_protocol.specs.Lookup.{running_members}
 use Rattle.ent_protocol.specs.State.{State}
@@ -54,6 +54,6 @@ loop-tx-preserved c =
                 let own = turned.idle w.if-branch.false in
                 (own.0 ∙ before.0,
                 all_taken (IsHeldUp resolved_forms s) items i 0 c.loop-tx-test.true before.1
-                (subst (λ (x : State). IsHeldUp resolved_forms x _) before.0 own.1))
+                (subst (λ (x : State). IsHeldUp resolved_forms x (get_or items i 0)) before.0 own.1))
           ];
     }
