@@ -43,12 +43,7 @@ fn hand_in(core: &mut Core, done: Done, ticks: &mut Ticks) -> Result<(), AllocEr
 
 /// Does the job of the component that was just picked, and hands its result in. Where memory runs out the job stays
 /// lent.
-fn answer(
-    alloc: Global,
-    core: &mut Core,
-    job: Job,
-    ticks: &mut Ticks,
-) -> Result<(), AllocError>
+fn answer(alloc: Global, core: &mut Core, job: Job, ticks: &mut Ticks) -> Result<(), AllocError>
     requires lent { IsJustLent resolved_forms Pick job core.old }
     ensures events { TicksOn resolved_forms 1 core.old core.new ticks.old ticks.new }
     ensures none_lent { OnOk result (core.new.lent ≡ []) }

@@ -49,12 +49,7 @@ fn hand_in(core: &mut Core, done: Done, ticks: &mut Ticks) -> Result<(), AllocEr
 }
 
 /// Does the job that was just lent to a member, and hands its result in. Where memory runs out the job stays lent.
-fn carry_out(
-    alloc: Global,
-    core: &mut Core,
-    job: Job,
-    ticks: &mut Ticks,
-) -> Result<(), AllocError>
+fn carry_out(alloc: Global, core: &mut Core, job: Job, ticks: &mut Ticks) -> Result<(), AllocError>
     requires lent { (tx : ℕ) × IsJustLent resolved_forms (Begin tx) job core.old }
     ensures events { TicksOn resolved_forms 1 core.old core.new ticks.old ticks.new }
     ensures none_lent { OnOk result (core.new.lent ≡ []) }
@@ -73,12 +68,7 @@ fn carry_out(
 
 /// One member's turn: where it is ready it begins its next statement, and a job that is lent is carried out at once.
 /// Whether it moved. Where memory runs out the events that were made stand.
-fn turn(
-    alloc: Global,
-    core: &mut Core,
-    tx: Tx,
-    ticks: &mut Ticks,
-) -> Result<bool, AllocError>
+fn turn(alloc: Global, core: &mut Core, tx: Tx, ticks: &mut Ticks) -> Result<bool, AllocError>
     requires none_lent { core.old.lent ≡ [] }
     ensures events { TicksOn resolved_forms 2 core.old core.new ticks.old ticks.new }
     ensures none_lent { OnOk result (core.new.lent ≡ []) }

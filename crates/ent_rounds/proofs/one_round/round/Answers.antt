@@ -1,4 +1,4 @@
-use Rattle.std.proofs.Common.{◌≡◌, ◌≤◌, ◌+◌, ◌*◌, inl, inr, length, sym, subst, ◌∙◌, arith}
+use Rattle.std.proofs.Common.{◌≤◌, ◌+◌, ◌*◌, inl, inr, length, subst, ◌∙◌, arith}
 use Rattle.ent_endings.specs.Idle.{IsAnswered}
 use Rattle.ent_protocol.specs.Event.{BreakCycle, NoCycle, Nothing, Pick}
 use Rattle.ent_protocol.specs.Lookup.{running_members}
@@ -32,7 +32,7 @@ returns-then-answered-clause-progress c = λ moved.
     let one = one_moved c.in_ok-turned.turned c.in_ok-answered.answered c.args.core.now c.take_turns.new.core
     c.answer_component.new.core (turned.progress, (λ still. (turned.idle still).0))
     (answered.progress, (λ still. (answered.idle still).0))
-    (elim c.if-answered.either [ | inl e ↦ inl e | inr e ↦ inr e.1 ]) in
+    (elim c.if-answered.either [ inl e ↦ inl e | inr e ↦ inr e.1 ]) in
     moved_then c.break_deadlock-broken.result c.args.core.now c.answer_component.new.core
     c.break_deadlock-broken.new.core one (broken.progress, (λ still. (broken.idle still).0))
 
@@ -57,12 +57,13 @@ returns-else-answered-clause-idle c = λ still.
     let none = c.if-answered.false in
     let turned = c.in_ok-turned.ensures.idle none.0 in
     let answered = c.in_ok-answered.ensures.idle none.1 in
-    let broken = c.break_deadlock-broken.ensures.idle still in
-    (broken.0 ∙ answered.0 ∙ turned.0,
-    record {
-      none_lent = c.requires.none_lent;
-      held_up = turned.1;
-      nothing_picked = subst (λ (x : State). IsAnswered resolved_forms x Pick Nothing) turned.0 answered.1;
-      no_cycle = subst (λ (x : State). IsAnswered resolved_forms x BreakCycle NoCycle) (answered.0 ∙ turned.0)
-          broken.1;
-    })
+    let broken = c.break_deadlock-broken.ensures.idle still in (
+      broken.0 ∙ answered.0 ∙ turned.0,
+      record {
+        none_lent = c.requires.none_lent;
+        held_up = turned.1;
+        nothing_picked = subst (λ (x : State). IsAnswered resolved_forms x Pick Nothing) turned.0 answered.1;
+        no_cycle = subst (λ (x : State). IsAnswered resolved_forms x BreakCycle NoCycle) (answered.0 ∙ turned.0)
+            broken.1;
+      },
+    )

@@ -1,4 +1,4 @@
-use Rattle.std.proofs.Common.{◌≡◌, ◌≤◌, ◌<◌, ◌+◌, ◌*◌, false, true, inl, inr, length, get_or, sym, subst, ap, ◌∙◌, arith}
+use Rattle.std.proofs.Common.{◌≡◌, ◌≤◌, ◌+◌, ◌*◌, false, true, inl, inr, length, get_or, sym, subst, ap, ◌∙◌, arith}
 use Rattle.ent_endings.specs.Idle.{IsHeldUp}
 use Rattle.ent_protocol.specs.Lookup.{running_members}
 use Rattle.ent_protocol.specs.State.{State}
@@ -51,9 +51,10 @@ loop-tx-preserved c =
             | then-branch w ↦ let moved : true ≡ false = sym w.moved-is ∙ still in absurd cc
             | else-branch w ↦
                 let before = now.idle (sym w.moved-is ∙ still) in
-                let own = turned.idle w.if-branch.false in
-                (own.0 ∙ before.0,
-                all_taken (IsHeldUp resolved_forms s) items i 0 c.loop-tx-test.true before.1
-                (subst (λ (x : State). IsHeldUp resolved_forms x (get_or items i 0)) before.0 own.1))
+                let own = turned.idle w.if-branch.false in (
+                  own.0 ∙ before.0,
+                  all_taken (IsHeldUp resolved_forms s) items i 0 c.loop-tx-test.true before.1
+                      (subst (λ (x : State). IsHeldUp resolved_forms x (get_or items i 0)) before.0 own.1),
+                )
           ];
     }

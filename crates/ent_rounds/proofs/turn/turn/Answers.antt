@@ -1,4 +1,4 @@
-use Rattle.std.proofs.Common.{◌≡◌, false, true, Some, sym, subst, ap, refl, ◌∙◌, arith}
+use Rattle.std.proofs.Common.{◌≡◌, Some, sym, subst, ap, refl, ◌∙◌, arith}
 use Rattle.std.specs.Option.{option_map}
 use Rattle.ent_bounds.specs.Progress.{brings_work, is_progress}
 use Rattle.ent_core.specs.Reply.{reply_seen}
@@ -64,7 +64,8 @@ returns-in_default-reply c =
           c.progress_uses_up.ensures resolved_forms s (Begin tx) reply new most left c.is_reached.ensures.reached step
           (sym told ∙ moved) within;
       idle = λ still.
-          let idle = held_up reply taken lends (sym told ∙ still) in
-          (c.refusals_change_nothing.ensures resolved_forms s (Begin tx) reply new step idle,
-          (λ turn is. (reply, idle, (new, step))));
+          let idle = held_up reply taken lends (sym told ∙ still) in (
+            c.refusals_change_nothing.ensures resolved_forms s (Begin tx) reply new step idle,
+            (λ turn is. (reply, idle, (new, step))),
+          );
     }
