@@ -1,3 +1,4 @@
-pub mod Staying
-pub mod Spent
 pub mod Counting
+pub mod Spent
+pub mod Started
+pub mod Staying

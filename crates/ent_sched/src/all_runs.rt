@@ -1,5 +1,5 @@
 //! All runs of a core.
-ghost use Rattle.std.specs.Prelude.{◌×◌, ℕ, IfErr, IfOk};
+ghost use Rattle.std.specs.Prelude.{ℕ, IfErr, IfOk};
 ghost use Rattle.ent_book.specs.Tables.{book_seen};
 ghost use Rattle.ent_endings.specs.Fates.{HaveFates};
 ghost use Rattle.ent_protocol.specs.Reached.{IsFinishedBook, scripts_of};

@@ -1,5 +1,5 @@
 //! One run.
-ghost use Rattle.std.specs.Prelude.{◌≡◌, ◌<◌, ◌×◌, [], false, true, IfOk, OnErr, OnOk};
+ghost use Rattle.std.specs.Prelude.{◌≡◌, ◌<◌, [], false, true, IfOk, OnErr, OnOk};
 ghost use Rattle.ent_endings.specs.Idle.{IsIdleRound};
 ghost use Rattle.ent_endings.specs.Tries.{tries_left};
 ghost use Rattle.ent_protocol.specs.Reached.{CanClose};
@@ -21,7 +21,8 @@ fn start(core: &mut Core, ticks: &mut Ticks) -> Result<bool, AllocError>
     requires none_lent { core.old.lent ≡ [] }
     ensures events { TicksOn resolved_forms 1 core.old core.new ticks.old ticks.new }
     ensures none_lent { core.new.lent ≡ [] }
-    ensures on { IfOk result (λ on. on ≡ true → (core.new ≡ run_start core.old) × (core.new.running ≡ true)) }
+    ensures on { IfOk result (λ on. on ≡ true
+        → (¬ CanClose core.old) × (core.new ≡ run_start core.old) × (core.new.running ≡ true)) }
     ensures off { IfOk result (λ on. on ≡ false → CanClose core.old × (core.new ≡ core.old)) }
     ensures err { OnErr result (core.new ≡ core.old) }
 {
