@@ -1,5 +1,5 @@
 -- How many events rounds make.
-use Rattle.std.proofs.Common.{◌≡◌, ◌≤◌, ◌+◌, ◌-◌, ◌*◌, ℕ, suc, length, ap, subst, sym, arith, mul-le-mul_right}
+use Rattle.std.proofs.Common.{◌≡◌, ◌≤◌, ◌+◌, ◌-◌, ◌*◌, ℕ, length, ap, arith, mul-le-mul_right}
 use Rattle.ent_protocol.specs.Run.{Forms}
 use Rattle.ent_protocol.specs.State.{State, members}
 use Rattle.ent_bounds.specs.Within.{IsBelow, IsWithin}
@@ -29,8 +29,7 @@ within_more most less left s low h =
 pub one_made : (most left made more : ℕ) (s : State) → more ≡ made + 1 → IsBelow most (left - made) s
     → (more ≤ left) × IsWithin most (left - more) s
 one_made most left made more s is h =
-    let below = h.below in
-    (
+    let below = h.below in (
       omega (arith, below, is),
       within_more most h.less (left - more) s (omega (arith, below, is)) h.within,
     )

@@ -1,6 +1,6 @@
 -- Events use up tries.
-use Rattle.std.proofs.Common.{◌≡◌, ◌<◌, ◌≤◌, ◌+◌, ◌∙◌, inl, inr, ℕ, zero, suc, Bool, true, false, List, [], ◌∷◌, ◌++◌, length}
-use Rattle.std.proofs.Common.{refl, sym, ap, subst, arith, length-append, Result, Ok, Err}
+use Rattle.std.proofs.Common.{◌≡◌, ◌<◌, ◌≤◌, ◌+◌, ◌∙◌, inl, inr, ℕ, zero, suc, Bool, true, false, List, [], ◌∷◌}
+use Rattle.std.proofs.Common.{◌++◌, length, refl, sym, ap, subst, arith, length-append, Result, Ok, Err}
 use Rattle.std.specs.List.{AllByRecursion}
 use Rattle.ent_tree.specs.declared.script.Script.{Script}
 use Rattle.ent_closed.specs.declared.operand.Known.{Known}
@@ -9,7 +9,7 @@ use Rattle.ent_protocol.specs.Event.{Event, Reply}
 use Rattle.ent_protocol.specs.Event as events
 use Rattle.ent_protocol.specs.Reached.{IsReached, LeadsTo}
 use Rattle.ent_protocol.specs.Run.{EndsWhileRunning, Forms, SubmitsForm, SubmitsUnless}
-use Rattle.ent_protocol.specs.State.{State, Submitted}
+use Rattle.ent_protocol.specs.State.{State}
 use Rattle.ent_protocol.specs.Step.{Step}
 use Rattle.ent_standing.specs.Attempts.{AsksForRun}
 use Rattle.ent_standing.specs.Standing.{GoesOn}
@@ -20,7 +20,8 @@ use Rattle.ent_sched.proofs.Staying.{clash, goes_within, stays_on}
 
 -- what is known of events and their tries
 pub record Laws {F : Type 0} (forms : Forms F) : Type 0 where
-  pub goes_on : (s : State) (event : Event) (reply : Reply F) (new : State) → Step forms s event reply new → GoesOn s new
+  pub goes_on : (s : State) (event : Event) (reply : Reply F) (new : State) → Step forms s event reply new
+      → GoesOn s new
   pub keeps : (s : State) (event : Event) (reply : Reply F) (new : State) → Step forms s event reply new
       → adds_script event reply ≡ false → new.submitted ≡ s.submitted
   pub reached : (n : ℕ) (first last : State) → IsReached forms first → LeadsTo forms n first last
@@ -42,7 +43,8 @@ longer xs more all is =
 module _ {F : Type 0} (forms : Forms F) (laws : Laws forms) where
   grows : (n : ℕ) (first last : State) → LeadsTo forms n first last
       → length first.submitted ≤ length last.submitted
-  grows zero first last leads = subst (λ (x : State). length first.submitted ≤ length x.submitted) (sym leads) (omega arith)
+  grows zero first last leads =
+      subst (λ (x : State). length first.submitted ≤ length x.submitted) (sym leads) (omega arith)
   grows (suc n) first last leads =
       let before = grows n first leads.0 leads.3 in
       let goes_on = laws.goes_on leads.0 leads.1 leads.2 last leads.4 in

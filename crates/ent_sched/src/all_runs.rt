@@ -21,7 +21,7 @@ use std::alloc::{AllocFailed, Global};
 /// back first. Where memory runs out the core comes back, as far as it has come, and may be run again.
 pub fn run_all(
     alloc: Global,
-    core: Core,
+    mut core: Core,
 ) -> Result<Book<Sequence<NamedTable>>, AllocFailed<Core>>
     ensures book { IfOk result (λ book. IsRunOut resolved_forms core (book_seen book)) }
     ensures finished { IfOk result (λ book.
@@ -33,21 +33,22 @@ pub fn run_all(
     events_keep_the_input::<FormFault>();
     events_lead_on::<FormFault>();
     finished_scripts_have_fates::<FormFault>();
-    let mut core = core;
     let mut ticks = Ticks::new();
     core.recall();
     'runs: loop {
         core.is_reached();
         match core.close() {
             Ok(book) => return Ok(book),
-            Err(NotClosed {
-                core: open,
-                refusal: Refusal::Memory,
-            }) => return Err(AllocFailed { value: open }),
-            Err(NotClosed {
-                core: open,
-                refusal: Refusal::Fault(_),
-            }) => core = open,
+            Err(refused) => {
+                let NotClosed {
+                    core: open,
+                    refusal,
+                } = refused;
+                core = open;
+                if let Refusal::Memory = refusal {
+                    return Err(AllocFailed { value: core });
+                }
+            }
         }
         if run(alloc, &mut core, &mut ticks).is_err() {
             return Err(AllocFailed { value: core });

@@ -35,12 +35,12 @@ returns-clause-tries c =
     let on = c.in_ok-start.ensures.on c.if-not-branch.false in
     let start = c.start.ensures.events in
     let before = c.events_use_up_tries.ensures resolved_forms start.count c.args.core.now c.start.new.core
-        c.is_reached.ensures.reached c.is_reached.ensures.asks start.leads_on in
+    c.is_reached.ensures.reached c.is_reached.ensures.asks start.leads_on in
     let rest = c.events_add_up.ensures.joined resolved_forms (events_of_rounds c.start.new.core) 1 c.start.new.core
-        c.rounds.new.core c.end.new.core c.start.new.ticks c.rounds.new.ticks c.end.new.ticks c.rounds.ensures.events
-        c.end.ensures.events in
+    c.rounds.new.core c.end.new.core c.start.new.ticks c.rounds.new.ticks c.end.new.ticks c.rounds.ensures.events
+    c.end.ensures.events in
     let behind = c.events_use_up_tries.ensures resolved_forms rest.count c.start.new.core c.end.new.core
-        c.is_reached-2.ensures.reached c.is_reached-2.ensures.asks rest.leads_on in
+    c.is_reached-2.ensures.reached c.is_reached-2.ensures.asks rest.leads_on in
     let fewer : c.end.new.core.running ≡ false → tries_left c.end.new.core < tries_left c.args.core.now =
     λ off. (let a = before.kept in let b = behind.used on.2 off in omega (arith, a, b)) in
     on_ok c.end.result (λ off undone. fewer off) c.end.ensures.ended

@@ -1,5 +1,4 @@
-use Rattle.std.proofs.Common.{◌≡◌, ◌-◌, ◌∙◌, length, refl, subst, sym}
-use Rattle.ent_bounds.specs.Within.{IsWithin}
+use Rattle.std.proofs.Common.{◌-◌, ◌∙◌, length, subst, sym}
 use Rattle.ent_endings.specs.Idle.{IsIdleRound}
 use Rattle.ent_protocol.specs.State.{members}
 use Rattle.ent_resolved.specs.Resolved.{resolved_forms}
@@ -27,9 +26,9 @@ rounds-preserved g c =
       widened = c.events_add_up.ensures.widened resolved_forms;
     } in
     let below = c.in_ok-round.ensures.progress c.if-branch.true (length (members first))
-        (most_progress first - now.progress.total) now.invariant.within in
+    (most_progress first - now.progress.total) now.invariant.within in
     let made = one_made (length (members first)) (most_progress first) now.progress.total c.add.new.self.total
-        c.round.new.core c.add.ensures.total below in
+    c.round.new.core c.add.ensures.total below in
     record {
       whole = c.add.ensures.parts ∙ now.invariant.whole;
       none_lent = c.in_ok-round.ensures.none_lent;
