@@ -1,5 +1,5 @@
 -- Events use up tries.
-use Rattle.std.proofs.Common.{◌≡◌, ◌<◌, ◌≤◌, ◌+◌, ◌∙◌, inl, inr, ℕ, zero, suc, Bool, true, false, List, [], ◌∷◌}
+use Rattle.std.proofs.Common.{◌≡◌, ◌<◌, ◌≤◌, ◌∙◌, inl, inr, ℕ, zero, suc, Bool, true, false, List, [], ◌∷◌}
 use Rattle.std.proofs.Common.{◌++◌, length, refl, sym, ap, subst, arith, length-append, Result, Ok, Err}
 use Rattle.std.specs.List.{AllByRecursion}
 use Rattle.ent_tree.specs.declared.script.Script.{Script}
