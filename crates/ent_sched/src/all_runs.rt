@@ -1,5 +1,5 @@
 //! All runs of a core.
-ghost use Rattle.std.specs.Prelude.{ℕ, IfErr, IfOk};
+ghost use Rattle.std.specs.Prelude.{◌≡◌, ℕ, [], IfErr, IfOk};
 ghost use Rattle.ent_book.specs.Tables.{book_seen};
 ghost use Rattle.ent_endings.specs.Fates.{HaveFates};
 ghost use Rattle.ent_protocol.specs.Reached.{IsFinishedBook, scripts_of};
@@ -16,6 +16,14 @@ use ent_form::FormFault;
 use ent_semantics::Book;
 use ent_value::{Refusal, Sequence, Ticks};
 use std::alloc::{AllocFailed, Global};
+
+/// Lends no job any more. It takes no memory.
+fn take_jobs_back(core: &mut Core)
+    ensures none_lent { core.new.lent ≡ [] }
+    ensures onward { (count : ℕ) × LeadsOn resolved_forms count core.old core.new }
+{
+    core.recall();
+}
 
 /// Runs the scripts of a core until each has its fate, and closes it: its finished book. Jobs that are lent are taken
 /// back first. Where memory runs out the core comes back, as far as it has come, and may be run again.
@@ -34,7 +42,7 @@ pub fn run_all(
     events_lead_on::<FormFault>();
     finished_scripts_have_fates::<FormFault>();
     let mut ticks = Ticks::new();
-    core.recall();
+    take_jobs_back(&mut core);
     'runs: loop {
         core.is_reached();
         match core.close() {
