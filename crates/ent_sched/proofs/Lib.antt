@@ -1,0 +1,4 @@
+pub mod Counting
+pub mod Spent
+pub mod Started
+pub mod Staying

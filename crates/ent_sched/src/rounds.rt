@@ -1,0 +1,49 @@
+//! The rounds of a run.
+ghost use Rattle.std.specs.Prelude.{◌≡◌, [], OnOk};
+ghost use Rattle.ent_endings.specs.Idle.{IsIdleRound};
+ghost use Rattle.ent_resolved.specs.Resolved.{resolved_forms};
+ghost use Rattle.ent_rounds.specs.Onward.{TicksOn};
+ghost use Rattle.ent_sched.specs.Bounds.{events_of_rounds};
+
+use ent_bounds::runs_are_within;
+use ent_core::Core;
+use ent_form::FormFault;
+use ent_rounds::{events_add_up, round};
+use ent_value::Ticks;
+use std::alloc::{AllocError, Global};
+use std::marker::Brand;
+use std::sync::ledger::{Blank, Ledger};
+
+/// Rounds, until nothing moves in one. A ledger, which takes no bytes, counts those that made progress: of these there
+/// are no more than steps of progress at the start.
+fn counted_rounds<L: Ledger>(
+    alloc: Global,
+    core: &mut Core,
+    ticks: &mut Ticks,
+    ledger: Blank,
+) -> Result<(), AllocError>
+    requires name { ledger.name ≡ L.name }
+    requires parts { ledger.parts ≡ L.parts }
+    requires whole { ledger.parts ≡ 1 }
+    requires none_lent { core.old.lent ≡ [] }
+    ensures events { TicksOn resolved_forms (events_of_rounds core.old) core.old core.new ticks.old ticks.new }
+    ensures idle { OnOk result (IsIdleRound resolved_forms core.new) }
+{
+    runs_are_within();
+    events_add_up::<FormFault>();
+    let _count = ticks.count();
+    let (mut progress, mut share) = ledger.open::<L>();
+    'rounds: while round(alloc, core, ticks)? {
+        progress.add(&mut share, 1);
+    }
+    Ok(())
+}
+
+/// Rounds, until nothing moves in one. Where memory runs out the events that were made stand.
+pub(crate) fn rounds(alloc: Global, core: &mut Core, ticks: &mut Ticks) -> Result<(), AllocError>
+    requires none_lent { core.old.lent ≡ [] }
+    ensures events { TicksOn resolved_forms (events_of_rounds core.old) core.old core.new ticks.old ticks.new }
+    ensures idle { OnOk result (IsIdleRound resolved_forms core.new) }
+{
+    counted_rounds::<Brand>(alloc, core, ticks, Blank::new(1))
+}
