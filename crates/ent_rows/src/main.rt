@@ -5,7 +5,7 @@
 #![tactic(auto)]
 
 use anyhow::{Context, Result, ensure};
-use ent_engine::{FaultLine, RunFault, run, status_of};
+use ent_engine::{FaultLine, RunFault, RunOptions, run, status_of};
 use ent_value::Watched;
 use std::alloc::Global;
 use std::fs;
@@ -32,7 +32,7 @@ fn main(rt: HostRuntime) -> Result<()> {
 fn run_over(alloc: Global, input: &[u8]) -> Outcome {
     let mut reader = Watched::new(input);
     let mut writer = Watched::new(Vec::new(alloc));
-    let fault = run(alloc, &mut reader, &mut writer).err();
+    let fault = run(alloc, &mut reader, &mut writer, RunOptions::default()).err();
     Outcome {
         output: writer.into_inner(),
         fault,

@@ -1,0 +1,2 @@
+//! Stand-in: the definitions alone.
+#![tactic(auto)]
