@@ -10,6 +10,20 @@ use ent_value::Watched;
 use std::alloc::Global;
 use std::fs;
 
+/// The examples, each an input and its report.
+const EXAMPLES: [&str; 10] = [
+    "concert",
+    "first",
+    "flights",
+    "friends",
+    "library",
+    "orders",
+    "seats",
+    "theatre",
+    "trains",
+    "transfers",
+];
+
 /// What a run gave: its report, or its fault.
 #[derive(Drop)]
 struct Outcome {
@@ -20,10 +34,10 @@ struct Outcome {
 fn main(rt: HostRuntime) -> Result<()> {
     let rows = check_rows(&rt)?;
     println!(rt; "{rows} rows")?;
-    for name in ["first", "flights", "library", "orders", "theatre", "trains"] {
+    for name in EXAMPLES {
         check_example(&rt, name)?;
     }
-    println!(rt; "6 examples")?;
+    println!(rt; "{} examples", EXAMPLES.len())?;
     check_longest(rt.alloc())?;
     println!(rt; "the longest input, and one byte more")?;
     Ok(())
