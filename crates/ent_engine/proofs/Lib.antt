@@ -1,2 +1,4 @@
 pub mod Pieces
+pub mod Submitted
+pub mod Ran
 pub mod Written

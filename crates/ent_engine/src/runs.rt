@@ -11,6 +11,8 @@ ghost use Rattle.ent_semantics.specs.Book.{IsLegal};
 use crate::fault::RunFault;
 use ent_book::NamedTable;
 use ent_core::{Core, Played};
+use ent_endings::events_lead_on;
+use ent_form::FormFault;
 use ent_sched::run_all;
 use ent_semantics::Book;
 use ent_tree::Input;
@@ -45,6 +47,7 @@ pub(crate) fn run_out(
     ensures fates { IfOk result (λ book. HaveFates (book_seen book)) }
     ensures legal { IfOk result (λ book. IsLegal (book_seen book)) }
 {
+    events_lead_on::<FormFault>();
     let mut core = core;
     for _ in 1..tries {
         match run_all(alloc, core) {
