@@ -57,7 +57,7 @@ book_of_input input core book h run fates legal =
             is = run.is;
           };
       gathered = subst (λ (k : ℕ). IsGatheredAt resolved_forms k run.last) (sym as_many)
-          (core, (run.count, (h.gathered, run.leads_on.leads)));
+          (core, run.count, h.gathered, run.leads_on.leads);
       fates = fates;
       legal = legal;
     }

@@ -22,10 +22,11 @@ use Rattle.ent_core.specs.Play.{AreSubmitted, input_fault, scripts_fault}
 
 -- ---- a play without events
 
-pub just_submitted : (opening : Opening) (scripts : List Script) (events : List Event) (replied : List (Reply FormFault))
-    (core : State) → events ≡ [] → IsPlayed resolved_forms opening scripts events replied core
-    → AreSubmitted opening scripts core
-just_submitted opening scripts events replied core none h = by h.steps (h.events_are ∙ none) h.plays
+pub just_submitted : {A : Type 0} (view : A → Event) (opening : Opening) (scripts : List Script) (events : List A)
+    (replied : List (Reply FormFault)) (core : State) → events ≡ []
+    → IsPlayed resolved_forms opening scripts (map view events) replied core → AreSubmitted opening scripts core
+just_submitted view opening scripts events replied core none h =
+    by h.steps (h.events_are ∙ ap (map view) none) h.plays
   where
     first : AreSubmitted opening scripts h.first
     first = record { gathered = h.gathered; of_opening = h.of_opening; of_scripts = h.of_scripts }
@@ -91,7 +92,7 @@ one_clean script before s h clean =
 gathered_clean : (k : ℕ) (s : State) → IsGatheredState resolved_forms k s
     → scripts_fault s.opening (scripts_of s) ≡ None
 gathered_clean zero s h = ap (λ (x : State). scripts_fault s.opening (scripts_of x)) h
-gathered_clean (suc n) s (before, (script, (h, step))) =
+gathered_clean (suc n) s (before, script, h, step) =
     one_clean script before s (accepted script before s (suc n) step) (gathered_clean n before h)
 
 -- the scripts of an input that were submitted, and its opening, have no fault of form

@@ -1,6 +1,6 @@
 -- What is out is the report of the input, and after a failing write a beginning of it.
 use Rattle.std.proofs.Common.{◌≡◌, ℕ, List, ◌++◌, Option, Some, None, ◌∙◌, subst}
-use Rattle.std.specs.Prelude.{IfErr, IfSome, Result, Err}
+use Rattle.std.specs.Prelude.{IfSome}
 use Rattle.std.specs.Io.KnownBytes.{Appends}
 use Rattle.ent_tree.specs.declared.script.Input.{Input}
 use Rattle.ent_book.specs.Report.{report_text}
@@ -8,12 +8,9 @@ use Rattle.ent_semantics.specs.declared.book.Book.{Book}
 use Rattle.ent_semantics.specs.Database.{Database}
 use Rattle.ent_core.specs.Play.{input_fault}
 use Rattle.ent_engine.specs.Report.{IsBookOf}
-use Rattle.ent_engine.specs.Reading.{IsInput, IsRead, IsRefused}
-use Rattle.ent_engine.specs.Parse.{IsRefusedForForm}
+use Rattle.ent_engine.specs.Reading.{IsInput, IsRead}
 use Rattle.ent_engine.specs.Io.{WritesBeginning, WritesReport}
-use Rattle.ent_engine.specs.declared.fault.RunFault.{RunFault}
-use Rattle.ent_engine.specs.declared.fault.RunFault.TheVariants.{NotUtf8, TooLong, Sql, Form}
-use Rattle.ent_engine.specs.declared.fault.RunFault.TheVariants.{ReadFault, WriteFault, Memory}
+use Rattle.ent_engine.specs.declared.fault.RunFault.TheVariants.{WriteFault}
 
 -- the bytes that were read are all that the reader had
 read_all : (all bytes slice : List ℕ) (input : Input) → bytes ≡ all → slice ≡ bytes → IsRead slice input
@@ -27,7 +24,7 @@ pub wrote_report : (remaining old new : Option (List ℕ)) (bytes slice : List �
     → IfSome remaining (λ bytes. WritesReport bytes old new)
 wrote_report None old new bytes slice book input whole is reads formed of out = tt
 wrote_report (Some all) old new bytes slice book input whole is reads formed of out =
-    (input, (book, (read_all all bytes slice input whole is reads formed, (of, out))))
+    (input, book, read_all all bytes slice input whole is reads formed, of, out)
 
 pub wrote_beginning : (remaining old new : Option (List ℕ)) (bytes slice : List ℕ) (book : Book Database)
     (input : Input) → IfSome remaining (λ all. bytes ≡ all) → slice ≡ bytes → IsRead slice input
@@ -36,18 +33,4 @@ pub wrote_beginning : (remaining old new : Option (List ℕ)) (bytes slice : Lis
     → IfSome remaining (λ bytes. WritesBeginning bytes old new WriteFault)
 wrote_beginning None old new bytes slice book input whole is reads formed of out = tt
 wrote_beginning (Some all) old new bytes slice book input whole is reads formed of out =
-    (input, (book, (read_all all bytes slice input whole is reads formed, (of, out))))
-
--- an input is refused for its form where its bytes are
-pub refused_for_form : (remaining : Option (List ℕ)) (bytes slice : List ℕ) (input : Input) (fault : RunFault)
-    → IfSome remaining (λ all. bytes ≡ all) → slice ≡ bytes → IsRead slice input → IsRefusedForForm input fault
-    → IfSome remaining (λ bytes. IsRefused bytes fault)
-refused_for_form None bytes slice input fault whole is reads refused = tt
-refused_for_form (Some all) bytes slice input (Form fault) whole is reads refused =
-    (input, (subst (λ (bs : List ℕ). IsRead bs input) (is ∙ whole) reads, refused))
-refused_for_form (Some all) bytes slice input Memory whole is reads refused = tt
-refused_for_form (Some all) bytes slice input TooLong whole is reads refused = absurd refused
-refused_for_form (Some all) bytes slice input ReadFault whole is reads refused = absurd refused
-refused_for_form (Some all) bytes slice input WriteFault whole is reads refused = absurd refused
-refused_for_form (Some all) bytes slice input (NotUtf8 place) whole is reads refused = absurd refused
-refused_for_form (Some all) bytes slice input (Sql fault) whole is reads refused = absurd refused
+    (input, book, read_all all bytes slice input whole is reads formed, of, out)

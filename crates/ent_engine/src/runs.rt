@@ -17,7 +17,7 @@ use ent_sched::run_all;
 use ent_semantics::Book;
 use ent_tree::Input;
 use ent_value::{Refusal, Sequence};
-use std::alloc::{AllocError, Global};
+use std::alloc::{AllocError, AllocFailed, Global};
 
 /// A core over an input's opening, to which its scripts were submitted, in order, and nothing else was done; else the
 /// input's first fault of form.
@@ -52,7 +52,7 @@ pub(crate) fn run_out(
     for _ in 1..tries {
         match run_all(alloc, core) {
             Ok(book) => return Ok(book),
-            Err(refused) => core = refused.value,
+            Err(AllocFailed { value }) => core = value,
         }
     }
     match run_all(alloc, core) {

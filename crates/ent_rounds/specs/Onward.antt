@@ -12,11 +12,11 @@ pub record LeadsOn {F : Type 0} (forms : Forms F) (count : ℕ) (s new : State) 
   pub submitted : new.submitted ≡ s.submitted
 
 -- The same in at most `most` events, each of which ticks once.
-pub record TicksOn {F : Type 0} (forms : Forms F) (most : ℕ) (s new : State) (before ticks : ℕ) : Type 0 where
+pub record TicksOn {F : Type 0} (forms : Forms F) (most : ℕ) (s new : State) (before after : ℕ) : Type 0 where
   pub count : ℕ
   pub few : count ≤ most
   pub leads_on : LeadsOn forms count s new
-  pub ticks : ticks ≡ ticked count before
+  pub ticks : after ≡ ticked count before
 
 -- the most events of a round: a begin and a finish for each member, a pick and its answer, and a broken cycle
 abbrev pub events_of_round : State → ℕ
