@@ -8,8 +8,11 @@ loop-preserved c =
     let led = c.loop.invariant.led in
     let more = c.in-Err.ensures.handed_back in
     record {
-      led = (led.0 + more.0, led_on c.events_lead_on.ensures.joined led.0 more.0 c.args.core c.loop.core
-          c.in-Err.field-0.value led.1 more.1);
+      led = (
+        led.0 + more.0,
+        led_on c.events_lead_on.ensures.joined led.0 more.0 c.args.core c.loop.core
+            c.in-Err.field-0.value led.1 more.1,
+      );
     }
 
 pub returns-in-Ok-clause-book : goal.returns-in-Ok-clause-book
