@@ -1,2 +1,0 @@
-//! Stand-in: the definitions alone.
-#![tactic(auto)]
