@@ -1,13 +1,14 @@
-//! The words of the command line, and what they ask for.
+//! What the program does: it reads its command line, and runs what that asks for.
 ghost use Rattle.std.specs.Prelude.{◌≡◌};
 ghost use Rattle.std.specs.Process.{exit_status};
 
 use crate::ending::Ending;
+use crate::words::{command, options_of};
+use clap::Error;
 use clap::error::ErrorKind;
-use clap::{Command, Error};
-use ent_engine::{FaultLine, RunFault};
+use ent_engine::{FaultLine, RunFault, RunOptions};
 use ent_value::Watched;
-use std::alloc::{AllocError, Global};
+use std::alloc::Global;
 use std::env::Env;
 use std::process::ExitCode;
 use std::{env, io};
@@ -17,7 +18,7 @@ use std::{env, io};
 pub fn entangle<R: Env + AllocGlobal + Input + Print + Eprint>(rt: &R) -> ExitCode {
     let ending = match words_of(rt) {
         Ok(words) => match read_command_line(rt.alloc(), words.as_slice()) {
-            Ok(()) => Ending::from(run(rt)),
+            Ok(options) => Ending::from(run(rt, options)),
             Err(fault) => show_command_line(rt, &fault),
         },
         Err(ending) => ending,
@@ -40,20 +41,10 @@ fn words_of<R: Env + AllocGlobal + Eprint>(rt: &R) -> Result<Vec<String>, Ending
     })
 }
 
-fn command<'a>(alloc: Global) -> Result<Command<'a>, AllocError> {
-    let run = Command::new(alloc, "run").about(
-        "Reads tables, opening rows and scripts from standard input, runs the scripts and writes their report",
-    );
-    Command::new(alloc, "entangle")
-        .about("An in-memory transaction manager for entangled SQL")
-        .subcommand_required(true)
-        .subcommand(run)
-}
-
-/// Whether the command line asks for a run; else its fault, or the help that it asks for.
-fn read_command_line<'a>(alloc: Global, words: &'a [String]) -> Result<(), Error> {
-    command(alloc)?.try_get_matches_from(words)?;
-    Ok(())
+/// What the command line asks of a run; else its fault, or the help that it asks for.
+fn read_command_line<'a>(alloc: Global, words: &'a [String]) -> Result<RunOptions, Error> {
+    let matches = command(alloc)?.try_get_matches_from(words)?;
+    Ok(options_of(&matches))
 }
 
 /// Shows what is wrong with the command line, or the help that it asks for; where the help can't be written, that is a
@@ -73,8 +64,8 @@ fn show_command_line<R: Print + Eprint>(rt: &R, fault: &Error) -> Ending {
 }
 
 /// Runs the scripts of standard input.
-fn run<R: AllocGlobal + Input + Print>(rt: &R) -> Result<(), RunFault> {
+fn run<R: AllocGlobal + Input + Print>(rt: &R, options: RunOptions) -> Result<(), RunFault> {
     let mut reader = Watched::new(rt.reader());
     let mut writer = Watched::new(io::writer(rt));
-    ent_engine::run(rt.alloc(), &mut reader, &mut writer)
+    ent_engine::run(rt.alloc(), &mut reader, &mut writer, options)
 }

@@ -5,6 +5,7 @@
 
 mod command;
 mod ending;
+mod words;
 
 pub use command::entangle;
 pub use ending::Ending;

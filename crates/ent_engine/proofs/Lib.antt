@@ -1,3 +1,4 @@
 pub mod Pieces
-pub mod Resolved
+pub mod Submitted
+pub mod Ran
 pub mod Written

@@ -3,11 +3,13 @@ use Rattle.std.specs.Prelude.{◌≡◌, ℕ, Bool, true, false, ◌<◌, ◌++�
 use Rattle.std.specs.Io.KnownBytes.{Appends, Keeps}
 use Rattle.ent_value.specs.Watched.{Stream}
 use Rattle.ent_engine.specs.declared.fault.RunFault.{RunFault}
-use Rattle.ent_engine.specs.declared.fault.RunFault.TheVariants.{NotUtf8, TooLong, Sql, Form, NotYet}
+use Rattle.ent_engine.specs.declared.fault.RunFault.TheVariants.{NotUtf8, TooLong, Sql, Form}
 use Rattle.ent_engine.specs.declared.fault.RunFault.TheVariants.{ReadFault, WriteFault, Memory}
 use Rattle.ent_tree.specs.declared.script.Input.{Input}
-use Rattle.ent_form.specs.declared.script.Plain.{Plain}
-use Rattle.ent_engine.specs.Report.{report_of}
+use Rattle.ent_semantics.specs.declared.book.Book.{Book}
+use Rattle.ent_semantics.specs.Database.{Database}
+use Rattle.ent_book.specs.Report.{report_text}
+use Rattle.ent_engine.specs.Report.{IsBookOf}
 use Rattle.ent_engine.specs.declared.reader.TheConstants.{MOST_BYTES}
 use Rattle.ent_engine.specs.Reading.{IsInput}
 
@@ -19,7 +21,6 @@ ReadingFails remaining Memory = Unit {0}
 ReadingFails remaining (NotUtf8 place) = ⊥
 ReadingFails remaining (Sql fault) = ⊥
 ReadingFails remaining (Form fault) = ⊥
-ReadingFails remaining (NotYet place) = ⊥
 ReadingFails remaining WriteFault = ⊥
 
 -- a fault of the reader
@@ -30,7 +31,6 @@ is_read_fault (Err (NotUtf8 place)) = false
 is_read_fault (Err TooLong) = false
 is_read_fault (Err (Sql fault)) = false
 is_read_fault (Err (Form fault)) = false
-is_read_fault (Err (NotYet place)) = false
 is_read_fault (Err WriteFault) = false
 is_read_fault (Err Memory) = false
 
@@ -42,7 +42,6 @@ is_write_fault (Err (NotUtf8 place)) = false
 is_write_fault (Err TooLong) = false
 is_write_fault (Err (Sql fault)) = false
 is_write_fault (Err (Form fault)) = false
-is_write_fault (Err (NotYet place)) = false
 is_write_fault (Err ReadFault) = false
 is_write_fault (Err Memory) = false
 
@@ -62,22 +61,23 @@ IsSilent old new (NotUtf8 place) = Keeps old new
 IsSilent old new TooLong = Keeps old new
 IsSilent old new (Sql fault) = Keeps old new
 IsSilent old new (Form fault) = Keeps old new
-IsSilent old new (NotYet place) = Keeps old new
 IsSilent old new Memory = Keeps old new
 
--- what was written is the report of the input that these bytes are
+-- what was written is the report of a book of the input that these bytes are
 abbrev pub WritesReport : List ℕ → Option (List ℕ) → Option (List ℕ) → Type 0
-WritesReport bytes old new = (input : Input) × (forms : List Plain) × IsInput bytes input forms × Appends old new (report_of input)
+WritesReport bytes old new =
+    (input : Input) × (book : Book Database)
+    × IsInput bytes input × IsBookOf input book × Appends old new (report_text book)
 
--- where the writer failed, what it took is a beginning of the report of the input
+-- where the writer failed, what it took is a beginning of such a report
 abbrev pub WritesBeginning : List ℕ → Option (List ℕ) → Option (List ℕ) → RunFault → Type 0
 WritesBeginning bytes old new WriteFault =
-    (input : Input) × (forms : List Plain) × IsInput bytes input forms
-    × ((front rest : List ℕ) × (report_of input ≡ front ++ rest) × Appends old new front)
+    (input : Input) × (book : Book Database)
+    × IsInput bytes input × IsBookOf input book
+    × ((front rest : List ℕ) × (report_text book ≡ front ++ rest) × Appends old new front)
 WritesBeginning bytes old new ReadFault = Unit {0}
 WritesBeginning bytes old new (NotUtf8 place) = Unit {0}
 WritesBeginning bytes old new TooLong = Unit {0}
 WritesBeginning bytes old new (Sql fault) = Unit {0}
 WritesBeginning bytes old new (Form fault) = Unit {0}
-WritesBeginning bytes old new (NotYet place) = Unit {0}
 WritesBeginning bytes old new Memory = Unit {0}

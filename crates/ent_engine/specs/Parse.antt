@@ -1,24 +1,28 @@
--- An input that is resolved, and how an input is refused.
-use Rattle.std.specs.Prelude.{ℕ, List}
-use Rattle.ent_value.specs.declared.refusal.Refusal.{Refusal}
-use Rattle.ent_value.specs.declared.refusal.Refusal.TheVariants as refusals
-use Rattle.ent_form.specs.declared.fault.FormFault.{FormFault}
+-- How the text of an input is refused, and how its form is.
+use Rattle.std.specs.Prelude.{◌≡◌, ℕ, List, Some}
+use Rattle.ent_tree.specs.declared.script.Input.{Input}
+use Rattle.ent_core.specs.Play.{input_fault}
 use Rattle.ent_engine.specs.declared.fault.RunFault.{RunFault}
-use Rattle.ent_engine.specs.declared.fault.RunFault.TheVariants.{NotUtf8, TooLong, Sql, Form, NotYet}
+use Rattle.ent_engine.specs.declared.fault.RunFault.TheVariants.{NotUtf8, TooLong, Sql, Form}
 use Rattle.ent_engine.specs.declared.fault.RunFault.TheVariants.{ReadFault, WriteFault, Memory}
 use Rattle.ent_engine.specs.Reading.{IsRefused}
 
--- bytes of no more than an input has are refused for what they say, or for want of memory
-abbrev pub IsRefusedAs : List ℕ → RunFault → Type 0
-IsRefusedAs bytes TooLong = ⊥
-IsRefusedAs bytes ReadFault = ⊥
-IsRefusedAs bytes WriteFault = ⊥
-IsRefusedAs bytes (NotUtf8 place) = IsRefused bytes (NotUtf8 place)
-IsRefusedAs bytes (Sql fault) = IsRefused bytes (Sql fault)
-IsRefusedAs bytes (Form fault) = IsRefused bytes (Form fault)
-IsRefusedAs bytes (NotYet place) = IsRefused bytes (NotYet place)
-IsRefusedAs bytes Memory = IsRefused bytes Memory
+-- bytes of no more than an input has are refused for their text, or for want of memory
+abbrev pub IsRefusedForText : List ℕ → RunFault → Type 0
+IsRefusedForText bytes TooLong = ⊥
+IsRefusedForText bytes ReadFault = ⊥
+IsRefusedForText bytes WriteFault = ⊥
+IsRefusedForText bytes (Form fault) = ⊥
+IsRefusedForText bytes (NotUtf8 place) = IsRefused bytes (NotUtf8 place)
+IsRefusedForText bytes (Sql fault) = IsRefused bytes (Sql fault)
+IsRefusedForText bytes Memory = IsRefused bytes Memory
 
-abbrev pub form_refusal : Refusal FormFault → RunFault
-form_refusal refusals.Memory = Memory
-form_refusal (refusals.Fault fault) = Form fault
+-- an input is refused for its first fault of form, or for want of memory
+abbrev pub IsRefusedForForm : Input → RunFault → Type 0
+IsRefusedForForm input TooLong = ⊥
+IsRefusedForForm input ReadFault = ⊥
+IsRefusedForForm input WriteFault = ⊥
+IsRefusedForForm input (NotUtf8 place) = ⊥
+IsRefusedForForm input (Sql fault) = ⊥
+IsRefusedForForm input (Form fault) = input_fault input.opening input.scripts ≡ Some fault
+IsRefusedForForm input Memory = Unit {0}

@@ -5,15 +5,16 @@ ghost use Rattle.ent_engine.specs.Reading.{IsRefused};
 ghost use Rattle.ent_engine.specs.Io.{IsReaderMarkedBy, IsWriterMarkedBy, IsSilent, WritesReport, WritesBeginning};
 
 use crate::fault::RunFault;
-use crate::parse::{Resolved, parse};
+use crate::options::RunOptions;
+use crate::parse::parse;
 use crate::reader::read_whole;
+use crate::runs::{run_out, submit_all};
 use ent_book::{WriteFault, write_report};
-use ent_serial::serial_book;
 use ent_value::{Refusal, Watched};
 use std::alloc::Global;
 use std::io::{Read, Write};
 
-/// Reads an input whole, runs its scripts one after the other, and writes their report.
+/// Reads an input whole, submits its scripts in order, runs them until each has its fate, and writes their report.
 ///
 /// Reader and writer are handed in unmarked, as [`Watched::new`] makes them, so that their marks tell of this call.
 /// What is written is the report of the input that the reader had, for a reader that tells what it has and a writer
@@ -22,6 +23,7 @@ pub fn run<R: Read, W: Write>(
     alloc: Global,
     reader: &mut Watched<R>,
     writer: &mut Watched<W>,
+    options: RunOptions,
 ) -> Result<(), RunFault>
     requires reader_unmarked { IsUnmarked reader.old }
     requires writer_unmarked { IsUnmarked writer.old }
@@ -39,12 +41,9 @@ pub fn run<R: Read, W: Write>(
         WritesBeginning bytes (W.contents writer.old.inner) (W.contents writer.new.inner) fault)) }
 {
     let bytes = read_whole(alloc, reader)?;
-    let Resolved {
-        input,
-        catalogue,
-        scripts,
-    } = parse(alloc, bytes.as_slice())?;
-    let book = serial_book(alloc, input, &catalogue, scripts.as_slice())?;
+    let input = parse(alloc, bytes.as_slice())?;
+    let core = submit_all(alloc, input)?;
+    let book = run_out(alloc, core, options.tries)?;
     match write_report(alloc, &book, writer) {
         Ok(()) => Ok(()),
         Err(Refusal::Memory) => Err(RunFault::Memory),

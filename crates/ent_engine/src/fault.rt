@@ -24,10 +24,6 @@ pub enum RunFault {
     /// The input's names, numbers of values or kinds have a fault.
     #[error("{0}")]
     Form(FormFault),
-    /// The input has no other fault, and has an entangled statement, which the program doesn't run yet; the place is
-    /// the INTO of the first.
-    #[error("E203 at {0}: entangled statements aren't run yet")]
-    NotYet(usize),
     /// The reader failed.
     #[error("E601: the input can't be read")]
     ReadFault,
@@ -65,7 +61,6 @@ impl RunFault {
             RunFault::TooLong => 105,
             RunFault::Sql(fault) => fault.code(),
             RunFault::Form(fault) => fault.code(),
-            RunFault::NotYet(_) => 203,
             RunFault::ReadFault => 601,
             RunFault::WriteFault => 602,
             RunFault::Memory => 900,
@@ -77,7 +72,7 @@ impl RunFault {
         ensures { result ≡ place_of self }
     {
         match self {
-            RunFault::NotUtf8(place) | RunFault::NotYet(place) => Some(place),
+            RunFault::NotUtf8(place) => Some(place),
             RunFault::Sql(fault) => Some(fault.place()),
             RunFault::Form(fault) => Some(fault.place()),
             RunFault::TooLong | RunFault::ReadFault | RunFault::WriteFault | RunFault::Memory => {
@@ -93,11 +88,7 @@ pub fn status_of(fault: &RunFault) -> u8
     ensures { result ≡ status fault.now }
 {
     match fault {
-        RunFault::NotUtf8(_)
-        | RunFault::TooLong
-        | RunFault::Sql(_)
-        | RunFault::Form(_)
-        | RunFault::NotYet(_) => 1,
+        RunFault::NotUtf8(_) | RunFault::TooLong | RunFault::Sql(_) | RunFault::Form(_) => 1,
         RunFault::Memory => 3,
         RunFault::ReadFault | RunFault::WriteFault => 4,
     }

@@ -1,15 +1,18 @@
 //! The engine of the program: from the bytes of an input to the bytes of its report.
 //!
 //! A caller may rely on [`run`]: what it writes is the report of the input, after a fault of the writer a beginning
-//! of it, and after any other fault nothing. The report is the text of the input's serial book, of which `ent_serial`
-//! has the laws.
+//! of it, and after any other fault nothing. The report is the text of a book of the input: its scripts were all
+//! submitted before anything else, and were run, several at once, until each had its fate; and the book is legal.
 #![tactic(auto)]
 
 mod engine;
 mod fault;
+mod options;
 mod parse;
 mod reader;
+mod runs;
 
 pub use engine::run;
 pub use fault::{FaultLine, RunFault, status_of};
+pub use options::RunOptions;
 pub use reader::MOST_BYTES;

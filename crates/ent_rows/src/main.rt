@@ -5,10 +5,24 @@
 #![tactic(auto)]
 
 use anyhow::{Context, Result, ensure};
-use ent_engine::{FaultLine, RunFault, run, status_of};
+use ent_engine::{FaultLine, RunFault, RunOptions, run, status_of};
 use ent_value::Watched;
 use std::alloc::Global;
 use std::fs;
+
+/// The examples, each an input and its report.
+const EXAMPLES: [&str; 10] = [
+    "concert",
+    "first",
+    "flights",
+    "friends",
+    "library",
+    "orders",
+    "seats",
+    "theatre",
+    "trains",
+    "transfers",
+];
 
 /// What a run gave: its report, or its fault.
 #[derive(Drop)]
@@ -20,10 +34,10 @@ struct Outcome {
 fn main(rt: HostRuntime) -> Result<()> {
     let rows = check_rows(&rt)?;
     println!(rt; "{rows} rows")?;
-    for name in ["first", "flights", "library", "orders", "theatre", "trains"] {
+    for name in EXAMPLES {
         check_example(&rt, name)?;
     }
-    println!(rt; "6 examples")?;
+    println!(rt; "{} examples", EXAMPLES.len())?;
     check_longest(rt.alloc())?;
     println!(rt; "the longest input, and one byte more")?;
     Ok(())
@@ -32,7 +46,7 @@ fn main(rt: HostRuntime) -> Result<()> {
 fn run_over(alloc: Global, input: &[u8]) -> Outcome {
     let mut reader = Watched::new(input);
     let mut writer = Watched::new(Vec::new(alloc));
-    let fault = run(alloc, &mut reader, &mut writer).err();
+    let fault = run(alloc, &mut reader, &mut writer, RunOptions::default()).err();
     Outcome {
         output: writer.into_inner(),
         fault,

@@ -2,7 +2,7 @@
 use crate::reply::put;
 use crate::streams::{SlowReader, SlowWriter, put_taken};
 use anyhow::{Result, bail};
-use ent_engine::{FaultLine, RunFault, run};
+use ent_engine::{FaultLine, RunFault, RunOptions, run};
 use ent_value::Watched;
 use std::alloc::Global;
 use std::io::Write;
@@ -17,7 +17,7 @@ pub(crate) fn put_run(
     if reader.has_failed() || reader.has_stalled() || writer.has_failed() || writer.has_stalled() {
         bail!("this stream has failed");
     }
-    let fault = run(alloc, reader, writer).err();
+    let fault = run(alloc, reader, writer, RunOptions::default()).err();
     put_fault(fault, out)?;
     put_taken(out, writer.get().taken())
 }

@@ -3,6 +3,7 @@ CREATE TABLE Seats (play TEXT, free INT);
 CREATE TABLE Sales (customer TEXT, play TEXT, seats INT);
 INSERT INTO Seats VALUES ('Hamlet', 120);
 INSERT INTO Seats VALUES ('Faust', 80);
+INSERT INTO Sales VALUES ('Cora', 'Hamlet', 3);
 
 -- Anna buys four seats.
 BEGIN TRANSACTION;
@@ -18,9 +19,9 @@ UPDATE Seats SET free = free - 2 WHERE play = 'Faust';
 INSERT INTO Sales VALUES ('Ben', 'Faust', 2);
 ROLLBACK;
 
--- Anna gives one seat back.
+-- Cora gives one of her seats back.
 BEGIN TRANSACTION;
-UPDATE Sales SET seats = seats - 1 WHERE customer = 'Anna' AND play = 'Hamlet';
 UPDATE Seats SET free = free + 1 WHERE play = 'Hamlet';
+UPDATE Sales SET seats = seats - 1 WHERE customer = 'Cora' AND play = 'Hamlet';
 SELECT * FROM Sales WHERE customer = 'Ben';
 COMMIT;

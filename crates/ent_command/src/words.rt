@@ -1,0 +1,73 @@
+//! The words that the command line takes, and what they ask of a run.
+
+use clap::builder::ValueParser;
+use clap::{Arg, ArgMatches, Command};
+use ent_engine::RunOptions;
+use std::alloc::{AllocError, Global};
+
+/// The most workers; with none the scripts are run on one thread.
+const MOST_WORKERS: u64 = 0;
+
+/// The highest version of the report.
+const HIGHEST_REPORT: u64 = 1;
+
+/// The most tries.
+const MOST_TRIES: u64 = 9;
+
+/// What stands below the list of options.
+const EXAMPLE: &str = "Example:
+  entangle run --tries 3 < friends.sql > friends.report";
+
+/// The program's words: the subcommand `run` with its options, each a whole number in its range.
+pub(crate) fn command<'a>(alloc: Global) -> Result<Command<'a>, AllocError> {
+    let run = Command::new(alloc, "run")
+        .about(
+            "Reads tables, opening rows and scripts from standard input, runs the scripts and writes their report",
+        )
+        .arg(workers(alloc))?
+        .arg(report(alloc))?
+        .arg(tries(alloc))?
+        .after_help(EXAMPLE);
+    Command::new(alloc, "entangle")
+        .about("An in-memory transaction manager for entangled SQL")
+        .subcommand_required(true)
+        .subcommand(run)
+}
+
+fn workers<'a>(alloc: Global) -> Arg<'a> {
+    Arg::new(alloc, "workers")
+        .long("workers")
+        .value_name("N")
+        .value_parser(ValueParser::unsigned(0, MOST_WORKERS))
+        .default_value("0")
+        .help("How many threads run the scripts; 0, the only number today, runs them without any")
+}
+
+fn report<'a>(alloc: Global) -> Arg<'a> {
+    Arg::new(alloc, "report")
+        .long("report")
+        .value_name("V")
+        .value_parser(ValueParser::unsigned(1, HIGHEST_REPORT))
+        .default_value("1")
+        .help("The version of the report; 1 is the only one today")
+}
+
+fn tries<'a>(alloc: Global) -> Arg<'a> {
+    Arg::new(alloc, "tries")
+        .long("tries")
+        .value_name("N")
+        .value_parser(ValueParser::unsigned(1, MOST_TRIES))
+        .default_value("1")
+        .help("How many times in all the scripts are run on where memory runs out, 1 to 9")
+}
+
+/// What the words of a run ask for.
+pub(crate) fn options_of<'a>(matches: &ArgMatches<'a>) -> RunOptions {
+    let asked = matches
+        .subcommand_matches("run")
+        .and_then(|run| run.get_one::<u64>("tries"));
+    match asked {
+        Some(tries) => RunOptions { tries },
+        None => RunOptions::default(),
+    }
+}

@@ -1,0 +1,8 @@
+use Rattle.std.proofs.Common.{ℕ}
+use Rattle.ent_resolved.specs.Resolved.{resolved_forms}
+use Rattle.ent_rounds.specs.Onward.{LeadsOn}
+use Rattle.ent_engine.proofs.runs.run_out.Given as goal
+
+-- events lead from the core that was handed in to the present one
+abbrev pub invariant-loop : goal.invariant-loop
+invariant-loop l = record { led : (count : ℕ) × LeadsOn resolved_forms count l.fn.core l.core }

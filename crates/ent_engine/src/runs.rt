@@ -1,0 +1,62 @@
+//! The scripts of an input, submitted to a core and run until each has its fate.
+ghost use Rattle.std.specs.Prelude.{◌≡◌, IfErr, IfOk, None};
+ghost use Rattle.ent_book.specs.Tables.{book_seen};
+ghost use Rattle.ent_core.specs.Play.{AreSubmitted, input_fault};
+ghost use Rattle.ent_endings.specs.Fates.{HaveFates};
+ghost use Rattle.ent_engine.specs.Parse.{IsRefusedForForm};
+ghost use Rattle.ent_resolved.specs.Resolved.{resolved_forms};
+ghost use Rattle.ent_sched.specs.RunOut.{IsRunOut};
+ghost use Rattle.ent_semantics.specs.Book.{IsLegal};
+
+use crate::fault::RunFault;
+use ent_book::NamedTable;
+use ent_core::{Core, Played};
+use ent_endings::events_lead_on;
+use ent_form::FormFault;
+use ent_sched::run_all;
+use ent_semantics::Book;
+use ent_tree::Input;
+use ent_value::{Refusal, Sequence};
+use std::alloc::{AllocError, AllocFailed, Global};
+
+/// A core over an input's opening, to which its scripts were submitted, in order, and nothing else was done; else the
+/// input's first fault of form.
+pub(crate) fn submit_all(alloc: Global, input: Input) -> Result<Core, RunFault>
+    ensures submitted { IfOk result (λ core. AreSubmitted input.opening input.scripts core) }
+    ensures formed { IfOk result (λ core. input_fault input.opening input.scripts ≡ None) }
+    ensures refused { IfErr result (λ fault. IsRefusedForForm input fault) }
+{
+    match Core::play(alloc, input, Sequence::new(alloc)) {
+        Ok(Played { core, .. }) => {
+            core.is_reached();
+            Ok(core)
+        }
+        Err(Refusal::Memory) => Err(RunFault::Memory),
+        Err(Refusal::Fault(fault)) => Err(RunFault::Form(fault)),
+    }
+}
+
+/// Runs the scripts of a core until each has its fate. Where memory runs out, the core that comes back is run on, as
+/// long as there are tries left.
+pub(crate) fn run_out(
+    alloc: Global,
+    core: Core,
+    tries: u64,
+) -> Result<Book<Sequence<NamedTable>>, AllocError>
+    ensures book { IfOk result (λ book. IsRunOut resolved_forms core (book_seen book)) }
+    ensures fates { IfOk result (λ book. HaveFates (book_seen book)) }
+    ensures legal { IfOk result (λ book. IsLegal (book_seen book)) }
+{
+    events_lead_on::<FormFault>();
+    let mut core = core;
+    for _ in 1..tries {
+        match run_all(alloc, core) {
+            Ok(book) => return Ok(book),
+            Err(AllocFailed { value }) => core = value,
+        }
+    }
+    match run_all(alloc, core) {
+        Ok(book) => Ok(book),
+        Err(_) => Err(AllocError),
+    }
+}
