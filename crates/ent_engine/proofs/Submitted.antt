@@ -50,50 +50,50 @@ fault_behind check (x ∷ xs) ys clean = by (check x) clean (fault_behind check 
     by (Some fault) clean rest = cc
 
 -- what a script that was accepted leaves
-record IsAccepted (script : Script) (before s : State) : Type 0 where
+record IsAccepted (script : Script) (prior s : State) : Type 0 where
   pub form : List (Statement Known)
-  pub resolves : resolved_forms.resolve before.opening script ≡ Ok form
-  pub opening_is : s.opening ≡ before.opening
-  pub scripts_are : scripts_of s ≡ scripts_of before ++ script ∷ []
+  pub resolves : resolved_forms.resolve prior.opening script ≡ Ok form
+  pub opening_is : s.opening ≡ prior.opening
+  pub scripts_are : scripts_of s ≡ scripts_of prior ++ script ∷ []
 
-accepted_form : (script : Script) (before s : State) (tx : ℕ) (form : Result (List (Statement Known)) FormFault)
-    → resolved_forms.resolve before.opening script ≡ form → SubmitsForm before script form (Submitted tx) s
-    → IsAccepted script before s
-accepted_form script before s tx (Ok form) is step =
+accepted_form : (script : Script) (prior s : State) (tx : ℕ) (form : Result (List (Statement Known)) FormFault)
+    → resolved_forms.resolve prior.opening script ≡ form → SubmitsForm prior script form (Submitted tx) s
+    → IsAccepted script prior s
+accepted_form script prior s tx (Ok form) is step =
     record {
       form = form;
       resolves = is;
       opening_is = ap (λ (x : State). x.opening) step.1;
       scripts_are =
           ap scripts_of step.1
-          ∙ map-append (λ (own : OneSubmitted). own.script) before.submitted
+          ∙ map-append (λ (own : OneSubmitted). own.script) prior.submitted
           (record { script = script; form = form } ∷ []);
     }
-accepted_form script before s tx (Err fault) is step = let told = step.0 in cc
+accepted_form script prior s tx (Err fault) is step = let told = step.0 in cc
 
-accepted : (script : Script) (before s : State) (tx : ℕ)
-    → Step resolved_forms before (Submit script) (Submitted tx) s → IsAccepted script before s
-accepted script before s tx step = by (nat_le MOST_SCRIPTS (length before.submitted)) step
+accepted : (script : Script) (prior s : State) (tx : ℕ)
+    → Step resolved_forms prior (Submit script) (Submitted tx) s → IsAccepted script prior s
+accepted script prior s tx step = by (nat_le MOST_SCRIPTS (length prior.submitted)) step
   where
-    by : (full : Bool) → SubmitsUnless full resolved_forms before script (Submitted tx) s → IsAccepted script before s
+    by : (full : Bool) → SubmitsUnless full resolved_forms prior script (Submitted tx) s → IsAccepted script prior s
     by true step = let told = step.0 in cc
-    by false step = accepted_form script before s tx (resolved_forms.resolve before.opening script) refl step
+    by false step = accepted_form script prior s tx (resolved_forms.resolve prior.opening script) refl step
 
 -- one more script that resolves
-one_clean : (script : Script) (before s : State) → IsAccepted script before s
-    → scripts_fault before.opening (scripts_of before) ≡ None → scripts_fault s.opening (scripts_of s) ≡ None
-one_clean script before s h clean =
+one_clean : (script : Script) (prior s : State) → IsAccepted script prior s
+    → scripts_fault prior.opening (scripts_of prior) ≡ None → scripts_fault s.opening (scripts_of s) ≡ None
+one_clean script prior s h clean =
     ap (λ (opening : Opening). scripts_fault opening (scripts_of s)) h.opening_is
-    ∙ ap (scripts_fault before.opening) h.scripts_are
-    ∙ fault_behind (λ script. result_err (resolved_forms.resolve before.opening script)) (scripts_of before)
+    ∙ ap (scripts_fault prior.opening) h.scripts_are
+    ∙ fault_behind (λ script. result_err (resolved_forms.resolve prior.opening script)) (scripts_of prior)
     (script ∷ []) clean
     ∙ ap (λ (form : Result (List (Statement Known)) FormFault). result_err form before None) h.resolves
 
 gathered_clean : (k : ℕ) (s : State) → IsGatheredState resolved_forms k s
     → scripts_fault s.opening (scripts_of s) ≡ None
 gathered_clean zero s h = ap (λ (x : State). scripts_fault s.opening (scripts_of x)) h
-gathered_clean (suc n) s (before, script, h, step) =
-    one_clean script before s (accepted script before s (suc n) step) (gathered_clean n before h)
+gathered_clean (suc n) s (prior, script, h, step) =
+    one_clean script prior s (accepted script prior s (suc n) step) (gathered_clean n prior h)
 
 -- the scripts of an input that were submitted, and its opening, have no fault of form
 pub input_clean : (opening : Opening) (scripts : List Script) (core : State) → AreSubmitted opening scripts core
