@@ -1,6 +1,7 @@
-/* Loaded before a program (LD_PRELOAD), it refuses one call of its run: the Nth allocation (REFUSE_ALLOCATION=N), or the
- * Nth read or write of anything but standard error (REFUSE_TRANSFER=N); or it has that read or write move one byte
- * (SHORTEN_TRANSFER=N). With COUNT_TO=FILE it writes to FILE how many allocations and transfers there were. */
+/* Loaded before a program (LD_PRELOAD), it disturbs one call of its run. REFUSE_ALLOCATION=N refuses the Nth
+ * allocation. Of the reads of standard input, REFUSE_READ=N has the Nth fail and SHORTEN_READ=N has it move one byte; of
+ * the writes to standard output, so do REFUSE_WRITE=N and SHORTEN_WRITE=N, and with EMPTY_WRITE=N the Nth takes no byte.
+ * With COUNT_TO=FILE it writes to FILE how many allocations, reads and writes there were. */
 #define _GNU_SOURCE
 #include <dlfcn.h>
 #include <errno.h>
@@ -12,54 +13,52 @@
 extern void *__libc_malloc(size_t size);
 extern void *__libc_realloc(void *old, size_t size);
 
-static long allocations, transfers;
+static long allocations, reads, writes;
 
 static int is_chosen(const char *variable, long number) {
     const char *chosen = getenv(variable);
     return chosen && atol(chosen) == number;
 }
 
-static int is_refused(void) {
-    if (!is_chosen("REFUSE_ALLOCATION", ++allocations)) return 0;
-    errno = ENOMEM;
+static int is_refused(const char *variable, long number, int fault) {
+    if (!is_chosen(variable, number)) return 0;
+    errno = fault;
     return 1;
 }
 
-void *malloc(size_t size) { return is_refused() ? NULL : __libc_malloc(size); }
-
-void *realloc(void *old, size_t size) { return is_refused() ? NULL : __libc_realloc(old, size); }
-
-static ssize_t (*real_read(void))(int, void *, size_t) {
-    return (ssize_t(*)(int, void *, size_t))dlsym(RTLD_NEXT, "read");
+static size_t room(const char *variable, long number, size_t size) {
+    return is_chosen(variable, number) && size > 1 ? 1 : size;
 }
 
-static ssize_t (*real_write(void))(int, const void *, size_t) {
-    return (ssize_t(*)(int, const void *, size_t))dlsym(RTLD_NEXT, "write");
+void *malloc(size_t size) {
+    return is_refused("REFUSE_ALLOCATION", ++allocations, ENOMEM) ? NULL : __libc_malloc(size);
 }
 
-static int fails(int file) {
-    if (!is_chosen("REFUSE_TRANSFER", transfers) || file == 2) return 0;
-    errno = EIO;
-    return 1;
+void *realloc(void *old, size_t size) {
+    return is_refused("REFUSE_ALLOCATION", ++allocations, ENOMEM) ? NULL : __libc_realloc(old, size);
 }
-
-static size_t room(size_t size) { return is_chosen("SHORTEN_TRANSFER", transfers) && size > 1 ? 1 : size; }
 
 ssize_t read(int file, void *bytes, size_t size) {
-    ++transfers;
-    return fails(file) ? -1 : real_read()(file, bytes, room(size));
+    ssize_t (*real)(int, void *, size_t) = (ssize_t(*)(int, void *, size_t))dlsym(RTLD_NEXT, "read");
+    if (file != STDIN_FILENO) return real(file, bytes, size);
+    if (is_refused("REFUSE_READ", ++reads, EIO)) return -1;
+    return real(file, bytes, room("SHORTEN_READ", reads, size));
 }
 
 ssize_t write(int file, const void *bytes, size_t size) {
-    ++transfers;
-    return fails(file) ? -1 : real_write()(file, bytes, room(size));
+    ssize_t (*real)(int, const void *, size_t) = (ssize_t(*)(int, const void *, size_t))dlsym(RTLD_NEXT, "write");
+    if (file != STDOUT_FILENO) return real(file, bytes, size);
+    if (is_refused("REFUSE_WRITE", ++writes, EIO)) return -1;
+    if (is_chosen("EMPTY_WRITE", writes)) return 0;
+    return real(file, bytes, room("SHORTEN_WRITE", writes, size));
 }
 
 __attribute__((destructor)) static void tell(void) {
     const char *name = getenv("COUNT_TO");
     int file = name ? open(name, O_WRONLY | O_CREAT | O_TRUNC, 0644) : -1;
-    char line[64];
+    char line[96];
     if (file < 0) return;
-    real_write()(file, line, (size_t)snprintf(line, sizeof line, "%ld %ld\n", allocations, transfers));
+    int size = snprintf(line, sizeof line, "%ld %ld %ld\n", allocations, reads, writes);
+    if (write(file, line, (size_t)size) < 0) _exit(2);
     close(file);
 }
