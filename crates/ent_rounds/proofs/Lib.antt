@@ -1,0 +1,4 @@
+pub mod Adding
+pub mod Moving
+pub mod Told
+pub mod Turning
