@@ -9,8 +9,7 @@ returns-clause-none_lent c = ap (λ (x : State). x.lent) c.recall.ensures.step.1
 
 pub returns-clause-onward : goal.returns-clause-onward
 returns-clause-onward c =
-    let step = c.recall.ensures.step in
-    (
+    let step = c.recall.ensures.step in (
       1,
       record {
         leads = (c.args.core.now, Recall, reply_seen c.recall.result, refl, step);

@@ -22,8 +22,8 @@ returns-clause-none_lent c =
     let reply = reply_seen c.in_ok-end_run.field-0 in
     let quiet = c.idle_rounds_are_quiet.ensures.quiet resolved_forms s c.is_reached.ensures.reached c.requires.idle in
     (run_over resolved_forms s reply new c.in_ok-end_run.ensures.ok
-        (λ on. (c.idle_rounds_are_quiet.ensures.ends resolved_forms s reply new quiet on c.in_ok-end_run.ensures.ok).1)
-        c.requires.idle.none_lent).1
+    (λ on. (c.idle_rounds_are_quiet.ensures.ends resolved_forms s reply new quiet on c.in_ok-end_run.ensures.ok).1)
+    c.requires.idle.none_lent).1
 
 pub returns-clause-ended : goal.returns-clause-ended
 returns-clause-ended c =
@@ -32,5 +32,5 @@ returns-clause-ended c =
     let reply = reply_seen c.in_ok-end_run.field-0 in
     let quiet = c.idle_rounds_are_quiet.ensures.quiet resolved_forms s c.is_reached.ensures.reached c.requires.idle in
     (run_over resolved_forms s reply new c.in_ok-end_run.ensures.ok
-        (λ on. (c.idle_rounds_are_quiet.ensures.ends resolved_forms s reply new quiet on c.in_ok-end_run.ensures.ok).1)
-        c.requires.idle.none_lent).0
+    (λ on. (c.idle_rounds_are_quiet.ensures.ends resolved_forms s reply new quiet on c.in_ok-end_run.ensures.ok).1)
+    c.requires.idle.none_lent).0
