@@ -35,7 +35,11 @@ fn opening(alloc: Global, rows: u32) -> Result<String, AllocError> {
 
 /// The statement by which one asks for another.
 fn asks(alloc: Global, own: u32, other: u32) -> Result<String, AllocError> {
-    format!(in alloc; "SELECT 'm{own}', a AS @f INTO ANSWER R WHERE a IN (SELECT a FROM T1) AND ('m{other}', a) IN ANSWER R CHOOSE 1;")
+    let offer = format!(in alloc; "SELECT 'm{own}', a AS @f INTO ANSWER R")?;
+    let offer = offer.as_str();
+    format!(in alloc;
+        "{offer} WHERE a IN (SELECT a FROM T1) AND ('m{other}', a) IN ANSWER R CHOOSE 1;"
+    )
 }
 
 /// The statements of the script of a number, from 0.
@@ -51,7 +55,9 @@ fn statements(alloc: Global, kind: Kind, number: u32) -> Result<String, AllocErr
                 return format!(in alloc; "INSERT INTO T63 VALUES (1, 'x'); SELECT a FROM T63;");
             }
             let next = own.wrapping_add(1);
-            format!(in alloc; "INSERT INTO T{own} VALUES (1, 'x'); INSERT INTO T{next} VALUES (2, 'y');")
+            format!(in alloc;
+                "INSERT INTO T{own} VALUES (1, 'x'); INSERT INTO T{next} VALUES (2, 'y');"
+            )
         }
         Kind::Sets => format!(in alloc; "SET @a = 1;"),
         Kind::Pairs => asks(alloc, number, number ^ 1),
@@ -65,7 +71,12 @@ fn statements(alloc: Global, kind: Kind, number: u32) -> Result<String, AllocErr
 }
 
 /// An input: so many rows in the first table, and so many scripts.
-pub(crate) fn input(alloc: Global, kind: Kind, rows: u32, scripts: u32) -> Result<String, AllocError> {
+pub(crate) fn input(
+    alloc: Global,
+    kind: Kind,
+    rows: u32,
+    scripts: u32,
+) -> Result<String, AllocError> {
     let mut text = opening(alloc, rows)?;
     for number in 0..scripts {
         let own = statements(alloc, kind, number)?;

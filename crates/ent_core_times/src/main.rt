@@ -57,11 +57,6 @@ fn time_no_cycle(rt: &HostRuntime, core: &mut Core) -> Result<u128> {
     Ok(least)
 }
 
-fn show(rt: &HostRuntime, what: &str, nanos: u128) -> Result<()> {
-    println!(rt; "{what}: {nanos} ns")?;
-    Ok(())
-}
-
 /// A begin whose job is lent, of each of 64 members.
 fn show_lent(rt: &HostRuntime, alloc: Global, scripts: u32) -> Result<()> {
     let mut core = running(alloc, Kind::Readers, 0, scripts)?;
@@ -131,7 +126,9 @@ fn show_finish(rt: &HostRuntime, alloc: Global, rows: u32, scripts: u32) -> Resu
         least = least.min(nanos);
         core.begin(tx)?;
     }
-    println!(rt; "finish of an INSERT into {rows} rows, {scripts} scripts: {least} ns, of a comparison {compared} ns")?;
+    println!(rt;
+        "finish of an INSERT into {rows} rows, {scripts} scripts: {least} ns, of a comparison {compared} ns"
+    )?;
     Ok(())
 }
 
@@ -170,7 +167,8 @@ fn show_pair(rt: &HostRuntime, alloc: Global, posted: u64, scripts: u32) -> Resu
         };
         joined = joined.min(nanos);
     }
-    println!(rt; "{posted} posted, {scripts} scripts: the last begin {posting} ns, pick {picked} ns, join_answer {joined} ns")?;
+    println!(rt; "{posted} posted, {scripts} scripts: the last begin {posting} ns")?;
+    println!(rt; "{posted} posted, {scripts} scripts: pick {picked} ns, join_answer {joined} ns")?;
     Ok(())
 }
 
@@ -284,8 +282,7 @@ fn show_all(rt: &HostRuntime, alloc: Global) -> Result<()> {
     show_finish(rt, alloc, 0, 10_000)?;
     show_finish(rt, alloc, 50_000, 100)?;
     show_joints(rt, alloc, 1)?;
-    show_joints(rt, alloc, 150)?;
-    show(rt, "nothing", 0)
+    show_joints(rt, alloc, 150)
 }
 
 fn main(rt: HostRuntime) -> Result<()> {
