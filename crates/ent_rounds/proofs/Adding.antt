@@ -57,4 +57,9 @@ module _ {F : Type 0} (forms : Forms F) where
   pub widened : (n m : ℕ) (first last : State) (start end : ℕ) → n ≤ m → TicksOn forms n first last start end
       → TicksOn forms m first last start end
   widened n m first last start end more h =
-      record { count = h.count; few = let few = h.few in omega (arith, few, more); leads_on = h.leads_on; ticks = h.ticks }
+      record {
+        count = h.count;
+        few = let few = h.few in omega (arith, few, more);
+        leads_on = h.leads_on;
+        ticks = h.ticks;
+      }

@@ -58,7 +58,8 @@ returns-in_default-reply c =
     record {
       events = c.events_add_up.ensures.widened resolved_forms 1 2 s new before c.add.new.self (omega arith)
           (subst (λ after. TicksOn resolved_forms 1 s new before after) (sym c.add.ensures) one);
-      none_lent = c.jobs_are_lent_by_replies.ensures.lent resolved_forms s (Begin tx) reply new c.requires.none_lent step
+      none_lent =
+          c.jobs_are_lent_by_replies.ensures.lent resolved_forms s (Begin tx) reply new c.requires.none_lent step
           ∙ none_lent reply lends;
       progress = λ moved most left within.
           c.progress_uses_up.ensures resolved_forms s (Begin tx) reply new most left c.is_reached.ensures.reached step
