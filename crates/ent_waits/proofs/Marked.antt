@@ -1,13 +1,13 @@
 -- The rows that are made mark each pair of a waiter and one that it waits for.
-use Rattle.std.proofs.Common.{◌≡◌, ◌≢◌, ◌⊎◌, inl, inr, ℕ, zero, suc, ◌+◌, ◌<◌, ◌≤◌, ◌==◌, Bool, true, false, not, ◌&&◌, ◌||◌}
-use Rattle.std.proofs.Common.{if◌then◌else◌, List, [], ◌∷◌, ◌++◌, length, map, get_or, set, refl, sym, ap, subst, ◌∙◌}
+use Rattle.std.proofs.Common.{◌≡◌, ◌≢◌, inl, inr, ℕ, zero, suc, ◌+◌, ◌<◌, ◌==◌, Bool, true, false, not, ◌&&◌, ◌||◌}
+use Rattle.std.proofs.Common.{if◌then◌else◌, List, [], ◌∷◌, length, map, get_or, set, refl, sym, ap, subst, ◌∙◌}
 use Rattle.std.proofs.Common.{arith, true≢false}
-use Rattle.std.specs.Prelude.{All, Contains, filter, slice_index, slice_index_or}
+use Rattle.std.specs.Prelude.{All, Contains, filter, slice_index}
 use Rattle.std.specs.List.{flat_map, list_any}
 use Rattle.std.proofs.lemmas.List.{get_or_default, get_or-map, get_or-set_other, length-map}
 use Rattle.std.proofs.lemmas.Grind.{get_or-set_at}
 use Rattle.std.proofs.lemmas.List.Elements.{All-cons, All-nil, Contains-append_cases}
-use Rattle.ent_group.specs.Marks.{IsMarked, has_mark}
+use Rattle.ent_group.specs.Marks.{has_mark}
 use Rattle.ent_group.specs.Reach.{IsAt}
 use Rattle.ent_semantics.specs.Serial.{numbered}
 use Rattle.ent_members.specs.Run.{Run, tx_of, with_run}
@@ -181,22 +181,6 @@ idle_row run submitted lent asker row idle = λ place other stands waits.
     let next = next_uses (next_in (numbered submitted asker.tx) asker) in
     absurd (true≢false
     (sym (first_of_both now (is_awaited (with_run run nothing) asker next other) waits) ∙ idle))
-
--- nobody is in the way of who asks for nothing
-none_awaited : (q : Member → Bool) (xs : List Member) → list_any q (filter (is_in_way []) xs) ≡ false
-none_awaited q [] = refl
-none_awaited q (x ∷ xs) = none_awaited q xs
-
-pub end_row : (run : Run) (submitted : List Submitted) (lent : List Job) (asker : Member) (row : ℕ)
-    → next_uses (next_in (numbered submitted asker.tx) asker) ≡ []
-    → MarksAll run.active (awaits_now run submitted lent asker) row
-end_row run submitted lent asker row nothing_asked = λ place other stands waits.
-    let s = with_run run nothing in
-    let now = is_waiting (state_with run submitted lent nothing) asker in
-    let next = next_uses (next_in (numbered submitted asker.tx) asker) in
-    absurd (true≢false (sym (second_of_both now (is_awaited s asker next other) waits)
-    ∙ ap (λ (uses : List Use). is_awaited s asker uses other) nothing_asked
-    ∙ none_awaited (waits_over asker.group other) (not_passed s asker)))
 
 -- ---- all rows
 

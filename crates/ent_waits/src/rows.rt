@@ -1,21 +1,20 @@
 //! Whom each member waits for, as rows of marks.
-ghost use Rattle.std.specs.Prelude.{◌≡◌, ℕ, ◌≤◌, length, map, slice_index};
-ghost use Rattle.std.specs.List.{flat_map, list_any};
+ghost use Rattle.std.specs.Prelude.{◌≡◌, ℕ, ◌≤◌, length, slice_index};
+ghost use Rattle.std.specs.List.{list_any};
 ghost use Rattle.ent_members.specs.Run.{with_run};
-ghost use Rattle.ent_members.specs.Uses.{membership_uses, uses_of};
 ghost use Rattle.ent_members.specs.Waits.{is_awaited, waits_over};
 ghost use Rattle.ent_protocol.specs.State.{Member as Seen};
-ghost use Rattle.ent_protocol.specs.Uses.{is_in_way, shared, uses_conflict};
+ghost use Rattle.ent_protocol.specs.Uses.{is_in_way, uses_conflict};
 ghost use Rattle.ent_waits.specs.Rows.{HasMarksOf, MarksAll, MarksOver, StandsAt, stops};
 ghost use Rattle.ent_waits.specs.Waits.{awaits_now, nothing};
 
 use crate::marks::{Row, with_mark};
+use crate::next_uses::next_uses;
 use crate::waiting::is_waiting;
-use ent_closed::{Known, Membership, Statement};
 use ent_eval::Job;
 use ent_group::{MOST_MEMBERS, Tx};
 use ent_members::{Member, Run, Use};
-use ent_next::{SubmittedScript, next_form};
+use ent_next::SubmittedScript;
 
 fn in_conflict(one: Use, other: Use) -> bool
     ensures { result ≡ uses_conflict one other }
@@ -29,44 +28,17 @@ fn any_in_conflict(asked: Use, held: &[Use]) -> bool
     held.iter().any(|other| in_conflict(asked, *other))
 }
 
-/// Whether a use that is held is in conflict with a shared use of one of some tables.
-fn any_excludes(tables: &[usize], held: &[Use]) -> bool
-    ensures { result ≡ list_any (λ own. list_any (uses_conflict own) held.now) (map shared tables.now) }
-{
-    let Some((table, others)) = tables.split_first() else {
-        return false;
-    };
-    any_in_conflict(Use::shared(*table), held) || any_excludes(others, held)
-}
-
-/// Whether a use that is held is in conflict with one that some sub-select asks for.
-fn any_excludes_atom(atoms: &[Membership<Known>], held: &[Use]) -> bool
-    ensures { result ≡ list_any (λ own. list_any (uses_conflict own) held.now) (flat_map membership_uses atoms.now) }
-{
-    let Some((membership, others)) = atoms.split_first() else {
-        return false;
-    };
-    any_excludes(membership.select.sources.as_slice(), held) || any_excludes_atom(others, held)
-}
-
-/// Whether a member holds a use in conflict with one that a statement asks for. No list of uses is made for it.
-fn is_in_way(asked: &Statement<Known>, holder: &Member) -> bool
-    ensures { result ≡ is_in_way (uses_of asked.now) holder.now }
+/// Whether a member holds a use in conflict with one that is asked for.
+fn is_in_way(asked: &[Use], holder: &Member) -> bool
+    ensures { result ≡ is_in_way asked.now holder.now }
 {
     let held = holder.uses();
-    match asked {
-        Statement::Select(select) => any_excludes(select.sources.as_slice(), held),
-        Statement::Entangled(entangled) => any_excludes_atom(entangled.atoms.as_slice(), held),
-        Statement::Insert { table, .. }
-        | Statement::Delete { table, .. }
-        | Statement::Update { table, .. } => any_in_conflict(Use::exclusive(*table), held),
-        Statement::Set { .. } => false,
-    }
+    asked.iter().any(|own| any_in_conflict(*own, held))
 }
 
-/// Whether a member is in the way of one whose statement asks for uses, and isn't passed.
-fn stops(of_group: bool, asker: &Member, asked: &Statement<Known>, holder: &Member) -> bool
-    ensures { result ≡ stops of_group asker.now (uses_of asked.now) holder.now }
+/// Whether a member is in the way of one that asks for uses and doesn't pass it.
+fn stops(of_group: bool, asker: &Member, asked: &[Use], holder: &Member) -> bool
+    ensures { result ≡ stops of_group asker.now asked.now holder.now }
 {
     let passed = if of_group {
         holder.group() == asker.group()
@@ -109,11 +81,11 @@ fn mark_over(
     holders: &[Member],
     of_group: bool,
     asker: &Member,
-    asked: &Statement<Known>,
+    asked: &[Use],
 ) -> Row
     requires { length active.now ≤ MOST_MEMBERS }
     ensures kept { HasMarksOf result row }
-    ensures marked { MarksOver of_group active.now asker.now (uses_of asked.now) holders.now result }
+    ensures marked { MarksOver of_group active.now asker.now asked.now holders.now result }
 {
     let mut marked = row;
     for holder in holders {
@@ -124,9 +96,9 @@ fn mark_over(
     marked
 }
 
-/// The row of a member whose statement asks for uses: marks at those for whom it waits.
-fn row_of(run: &Run, asker: &Member, asked: &Statement<Known>) -> Row
-    ensures { MarksAll run.now.active (is_awaited (with_run run.now nothing) asker.now (uses_of asked.now)) result }
+/// The row of a member that asks for uses: marks at those for whom it waits.
+fn row_of(run: &Run, asker: &Member, asked: &[Use]) -> Row
+    ensures { MarksAll run.now.active (is_awaited (with_run run.now nothing) asker.now asked.now) result }
 {
     let _most = run.len();
     let active = run.active();
@@ -138,12 +110,10 @@ fn row_of(run: &Run, asker: &Member, asked: &Statement<Known>) -> Row
 fn row_while_waiting(run: &Run, submitted: &[SubmittedScript], lent: &[Job], asker: &Member) -> Row
     ensures { MarksAll run.now.active (awaits_now run.now submitted.now lent.now asker.now) result }
 {
-    if !is_waiting(lent, asker) {
-        return 0;
-    }
-    match next_form(submitted, asker) {
-        Some(asked) => row_of(run, asker, asked),
-        None => 0,
+    if is_waiting(lent, asker) {
+        row_of(run, asker, next_uses(submitted, asker).as_slice())
+    } else {
+        0
     }
 }
 

@@ -1,6 +1,5 @@
 use Rattle.std.proofs.Common.{ℕ, ◌+◌, sym, subst, ◌∙◌, arith}
 use Rattle.std.proofs.lemmas.List.{get_or_default}
-use Rattle.ent_members.specs.Uses.{uses_of}
 use Rattle.ent_members.specs.Waits.{waits_over}
 use Rattle.ent_protocol.specs.State.{Member}
 use Rattle.ent_waits.specs.Rows.{HasMarksOf, MarksAll}
@@ -19,7 +18,7 @@ loop-holder-preserved c =
     let of_group = c.args.of_group in
     let active = c.args.active.now in
     let asker = c.args.asker.now in
-    let asked = uses_of c.args.asked.now in
+    let asked = c.args.asked.now in
     let holders = c.args.holders.now in
     let at = c.loop-holder.holder-index in
     let old = c.args.row in

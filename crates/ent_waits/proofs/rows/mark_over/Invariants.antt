@@ -1,4 +1,3 @@
-use Rattle.ent_members.specs.Uses.{uses_of}
 use Rattle.ent_waits.specs.Rows.{HasMarksOf}
 use Rattle.ent_waits.proofs.Marked.{MarksOverUpto}
 use Rattle.ent_waits.proofs.rows.mark_over.Given as goal
@@ -6,5 +5,5 @@ use Rattle.ent_waits.proofs.rows.mark_over.Given as goal
 abbrev pub invariant-loop-holder : goal.invariant-loop-holder
 invariant-loop-holder l = record {
   kept : HasMarksOf l.marked l.row;
-  upto : MarksOverUpto l.of_group l.active l.asker (uses_of l.asked) l.holders l.holder-index l.marked;
+  upto : MarksOverUpto l.of_group l.active l.asker l.asked l.holders l.holder-index l.marked;
 }

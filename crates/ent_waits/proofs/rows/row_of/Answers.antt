@@ -1,5 +1,4 @@
 use Rattle.std.proofs.Common.{List, true, false, subst}
-use Rattle.ent_members.specs.Uses.{uses_of}
 use Rattle.ent_protocol.specs.State.{Member}
 use Rattle.ent_waits.specs.Rows.{MarksOver}
 use Rattle.ent_waits.proofs.Marked.{row_marks}
@@ -9,7 +8,7 @@ pub returns : goal.returns
 returns c =
     let run = c.args.run.now in
     let asker = c.args.asker.now in
-    let asked = uses_of c.args.asked.now in
+    let asked = c.args.asked.now in
     let active = c.active-active.result.now in
     let is = c.active-active.ensures.list in
     row_marks run asker asked c.mark_over-row.result c.mark_over.result
