@@ -1,0 +1,65 @@
+//! The jobs that were lent, by number, and their results.
+ghost use Rattle.std.specs.Prelude.{◌≡◌, ◌×◌, Some, IfOk, IfSome};
+ghost use Rattle.std.specs.Option.{option_copied};
+ghost use Rattle.ent_protocol.specs.Job.{IsEvaluated};
+ghost use Rattle.ent_semantics.specs.Serial.{numbered};
+
+use anyhow::{Context, Result, bail};
+use ent_core::{Core, Event, Reply};
+use ent_eval::{Done, Job, evaluate};
+use ent_sql::parse_input;
+use ent_tree::Input;
+use ent_value::{Limited, Sequence};
+use std::alloc::Global;
+
+/// The job of a number, counted from 1.
+fn numbered(jobs: &[Job], number: usize) -> Option<&Job>
+    ensures { option_copied result ≡ numbered jobs.now number }
+{
+    if number == 0 {
+        return None;
+    }
+    jobs.get(number - 1)
+}
+
+/// The result of a copy of the job of a number.
+pub(crate) fn done_of(alloc: Global, jobs: &[Job], number: usize) -> Result<Done> {
+    let job = numbered(jobs, number).context("no job of this number was lent")?;
+    match evaluate(alloc, job.copy(alloc)?) {
+        Ok(done) => Ok(done),
+        Err(_) => bail!("out of memory"),
+    }
+}
+
+/// Keeps the job that a reply lends.
+pub(crate) fn keep(jobs: &mut Vec<Job>, reply: Reply) -> Result<()> {
+    if let Reply::Lent(job) = reply {
+        jobs.push(job)?;
+    }
+    Ok(())
+}
+
+/// The jobs that replies lend.
+fn jobs_of(alloc: Global, replies: Sequence<Reply>) -> Result<Vec<Job>> {
+    let mut jobs = Vec::new(alloc);
+    for reply in replies.into_vec() {
+        keep(&mut jobs, reply)?;
+    }
+    Ok(jobs)
+}
+
+/// The jobs that events lend over the tables of an input without its opening rows.
+pub(crate) fn jobs_elsewhere(
+    alloc: Global,
+    text: &str,
+    events: Sequence<Event>,
+) -> Result<Vec<Job>> {
+    let Ok(mut input) = parse_input(alloc, text) else {
+        bail!("the input isn't read again");
+    };
+    input.opening.rows = Limited::new(alloc);
+    match Core::play(alloc, input, events) {
+        Ok(played) => jobs_of(alloc, played.replies),
+        Err(_) => bail!("the events aren't played elsewhere"),
+    }
+}
