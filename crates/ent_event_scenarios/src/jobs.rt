@@ -8,7 +8,6 @@ use anyhow::{Context, Result, bail};
 use ent_core::{Core, Event, Reply};
 use ent_eval::{Done, Job, evaluate};
 use ent_sql::parse_input;
-use ent_tree::Input;
 use ent_value::{Limited, Sequence};
 use std::alloc::Global;
 

@@ -127,12 +127,18 @@ impl Record {
         event: Event,
         out: &mut Vec<u8>,
     ) -> Result<()> {
-        self.events.push(event_copy(alloc, &event)?)?;
+        self.remember(alloc, &event)?;
         let reply = step(core, event, out)?;
         self.note(alloc, &reply, out)?;
         keep(&mut self.jobs, reply)
     }
 
+    fn remember(&mut self, alloc: Global, event: &Event) -> Result<()> {
+        self.events.push(event_copy(alloc, event)?)?;
+        Ok(())
+    }
+
+    /// Keeps the line of a reply, and puts it.
     fn note(&mut self, alloc: Global, reply: &Reply, out: &mut Vec<u8>) -> Result<()> {
         let line = reply_line(alloc, reply, self.jobs.len().saturating_add(1))?;
         self.replies.extend_from_slice(line.as_slice())?;
@@ -141,14 +147,11 @@ impl Record {
     }
 
     /// Plays the events at once over the same input; where a reply is another one, a line says to which event.
-    pub(crate) fn put_difference(
-        self,
-        alloc: Global,
-        text: &str,
-        out: &mut Vec<u8>,
-    ) -> Result<()> {
+    pub(crate) fn put_difference(self, alloc: Global, text: &str, out: &mut Vec<u8>) -> Result<()> {
         let Record {
-            events, replies, ..
+            events,
+            replies,
+            ..
         } = self;
         let played = played_lines(alloc, text, events)?;
         if played.as_slice() == replies.as_slice() {

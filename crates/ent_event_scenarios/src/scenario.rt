@@ -90,10 +90,12 @@ fn close(alloc: Global, core: Core, out: &mut Vec<u8>) -> Result<Option<Core>> {
             put_report(alloc, &book, out)?;
             Ok(None)
         }
-        Err(NotClosed {
-            core,
-            refusal: Refusal::Fault(NotDone),
-        }) => {
+        Err(
+            NotClosed {
+                core,
+                refusal: Refusal::Fault(NotDone),
+            },
+        ) => {
             put(out, "E405\n")?;
             Ok(Some(core))
         }
@@ -119,17 +121,15 @@ fn take_line(
 }
 
 /// Takes lines up to the end, or up to a core that is closed.
-fn take_lines(
-    stage: &mut Stage<'_>,
-    core: Core,
-    lines: &[&str],
-    out: &mut Vec<u8>,
-) -> Result<()> {
+fn take_lines(stage: &mut Stage<'_>, core: Core, lines: &[&str], out: &mut Vec<u8>) -> Result<()> {
     let mut stands = Some(core);
     for line in lines {
+        if line.is_empty() {
+            continue;
+        }
         stands = match stands {
             Some(core) => take_line(stage, core, line, out).context(format_args!("{line}"))?,
-            None => bail!("a line stands behind the core's end: {line}"),
+            None => bail!("the core was closed before this line: {line}"),
         };
     }
     Ok(())
@@ -167,7 +167,7 @@ fn parts<'a, 'b>(lines: &'b [&'a str]) -> Result<(&'b [&'a str], &'b [&'a str])>
 
 /// The replies to a scenario, a line each.
 pub(crate) fn replies(alloc: Global, text: &str) -> Result<String> {
-    let lines: Vec<&str> = text.lines().collect(alloc)?;
+    let lines: Vec<&str> = text.split('\n').collect(alloc)?;
     let (input, events) = parts(lines.as_slice())?;
     let text = input_text(alloc, input)?;
     let mut out = Vec::new(alloc);
