@@ -1,10 +1,11 @@
 //! The jobs that were lent, by number, and their results.
-ghost use Rattle.std.specs.Prelude.{◌≡◌, ◌×◌, Some, IfOk, IfSome};
+ghost use Rattle.std.specs.Prelude.{◌≡◌, ◌+◌, ◌++◌, IfOk, OnOk, Some, length};
 ghost use Rattle.std.specs.Option.{option_copied};
+ghost use Rattle.ent_event_scenarios.specs.Lent.{lent_by};
 ghost use Rattle.ent_protocol.specs.Job.{IsEvaluated};
 ghost use Rattle.ent_semantics.specs.Serial.{numbered};
 
-use anyhow::{Context, Result, bail};
+use anyhow::{Result, bail};
 use ent_core::{Core, Event, Reply};
 use ent_eval::{Done, Job, evaluate};
 use ent_sql::parse_input;
@@ -21,9 +22,21 @@ fn numbered(jobs: &[Job], number: usize) -> Option<&Job>
     jobs.get(number - 1)
 }
 
+/// The number of the job that is lent next.
+pub(crate) fn next_number(jobs: &[Job]) -> usize
+    ensures { result ≡ length jobs.now + 1 }
+{
+    jobs.len() + 1
+}
+
 /// The result of a copy of the job of a number.
-pub(crate) fn done_of(alloc: Global, jobs: &[Job], number: usize) -> Result<Done> {
-    let job = numbered(jobs, number).context("no job of this number was lent")?;
+pub(crate) fn done_of(alloc: Global, jobs: &[Job], number: usize) -> Result<Done>
+    ensures job { IfOk result (λ done. numbered jobs.now number ≡ Some done.job) }
+    ensures meaning { IfOk result (λ done. IsEvaluated done) }
+{
+    let Some(job) = numbered(jobs, number) else {
+        bail!("no job of this number was lent");
+    };
     match evaluate(alloc, job.copy(alloc)?) {
         Ok(done) => Ok(done),
         Err(_) => bail!("out of memory"),
@@ -31,7 +44,9 @@ pub(crate) fn done_of(alloc: Global, jobs: &[Job], number: usize) -> Result<Done
 }
 
 /// Keeps the job that a reply lends.
-pub(crate) fn keep(jobs: &mut Vec<Job>, reply: Reply) -> Result<()> {
+pub(crate) fn keep(jobs: &mut Vec<Job>, reply: Reply) -> Result<()>
+    ensures { OnOk result (jobs.new.items ≡ jobs.old.items ++ lent_by reply) }
+{
     if let Reply::Lent(job) = reply {
         jobs.push(job)?;
     }

@@ -1,5 +1,11 @@
 //! The events that a core was given, its replies, and the same events played at once.
-use crate::jobs::keep;
+ghost use Rattle.std.specs.Prelude.{◌≡◌, [], ◌∷◌, ◌++◌, IfOk, OnErr, OnOk};
+ghost use Rattle.ent_core.specs.Event.{event_seen};
+ghost use Rattle.ent_core.specs.Reply.{reply_seen};
+ghost use Rattle.ent_protocol.specs.Step.{Step};
+ghost use Rattle.ent_resolved.specs.Resolved.{resolved_forms};
+
+use crate::jobs::{keep, next_number};
 use crate::shown::put_reply;
 use crate::words::{put, put_number};
 use anyhow::{Result, bail};
@@ -18,7 +24,10 @@ pub(crate) struct Record {
     replies: Vec<u8>,
 }
 
-fn event_copy(alloc: Global, event: &Event) -> Result<Event, AllocError> {
+/// The same event.
+fn event_copy(alloc: Global, event: &Event) -> Result<Event, AllocError>
+    ensures { IfOk result (λ copy. copy ≡ event.now) }
+{
     match event {
         Event::Submit(script) => Ok(Event::Submit(script.copy(alloc)?)),
         Event::StartRun => Ok(Event::StartRun),
@@ -33,7 +42,11 @@ fn event_copy(alloc: Global, event: &Event) -> Result<Event, AllocError> {
 }
 
 /// Makes an event. Where memory runs out, that is a line of its own, and the event, which came back, is made again.
-fn step(core: &mut Core, event: Event, out: &mut Vec<u8>) -> Result<Reply> {
+fn step(core: &mut Core, event: Event, out: &mut Vec<u8>) -> Result<Reply>
+    ensures ok { IfOk result (λ reply.
+        Step resolved_forms core.old (event_seen event) (reply_seen reply) core.new) }
+    ensures err { OnErr result (core.new ≡ core.old) }
+{
     match core.step(event) {
         Ok(reply) => Ok(reply),
         Err(refused) => {
@@ -133,14 +146,16 @@ impl Record {
         keep(&mut self.jobs, reply)
     }
 
-    fn remember(&mut self, alloc: Global, event: &Event) -> Result<()> {
+    fn remember(&mut self, alloc: Global, event: &Event) -> Result<()>
+        ensures { OnOk result (self.new.events ≡ self.old.events ++ event.now ∷ []) }
+    {
         self.events.push(event_copy(alloc, event)?)?;
         Ok(())
     }
 
     /// Keeps the line of a reply, and puts it.
     fn note(&mut self, alloc: Global, reply: &Reply, out: &mut Vec<u8>) -> Result<()> {
-        let line = reply_line(alloc, reply, self.jobs.len().saturating_add(1))?;
+        let line = reply_line(alloc, reply, next_number(self.jobs.as_slice()))?;
         self.replies.extend_from_slice(line.as_slice())?;
         out.extend_from_slice(line.as_slice())?;
         Ok(())
