@@ -6,9 +6,10 @@ ghost use Rattle.ent_protocol.specs.Job.{IsEvaluated};
 ghost use Rattle.ent_semantics.specs.Serial.{numbered};
 
 use anyhow::{Result, bail};
-use ent_core::{Core, Event, Reply};
+use ent_core::{Core, Event, Played, Reply};
 use ent_eval::{Done, Job, evaluate};
 use ent_sql::parse_input;
+use ent_tree::{Input, Opening};
 use ent_value::{Limited, Sequence};
 use std::alloc::Global;
 
@@ -62,18 +63,44 @@ fn jobs_of(alloc: Global, replies: Sequence<Reply>) -> Result<Vec<Job>> {
     Ok(jobs)
 }
 
+/// An input without its opening rows.
+fn without_rows(alloc: Global, input: Input) -> Input {
+    let Input { opening, scripts } = input;
+    let Opening { tables, .. } = opening;
+    Input {
+        opening: Opening {
+            tables,
+            rows: Limited::new(alloc),
+        },
+        scripts,
+    }
+}
+
+fn replies_of(played: Played) -> Sequence<Reply> {
+    let Played { replies, .. } = played;
+    replies
+}
+
+/// The replies to events over the tables of an input without its opening rows.
+fn replies_elsewhere(
+    alloc: Global,
+    input: Input,
+    events: Sequence<Event>,
+) -> Result<Sequence<Reply>> {
+    match Core::play(alloc, without_rows(alloc, input), events) {
+        Ok(played) => Ok(replies_of(played)),
+        Err(_) => bail!("the events aren't played elsewhere"),
+    }
+}
+
 /// The jobs that events lend over the tables of an input without its opening rows.
 pub(crate) fn jobs_elsewhere(
     alloc: Global,
     text: &str,
     events: Sequence<Event>,
 ) -> Result<Vec<Job>> {
-    let Ok(mut input) = parse_input(alloc, text) else {
+    let Ok(input) = parse_input(alloc, text) else {
         bail!("the input isn't read again");
     };
-    input.opening.rows = Limited::new(alloc);
-    match Core::play(alloc, input, events) {
-        Ok(played) => jobs_of(alloc, played.replies),
-        Err(_) => bail!("the events aren't played elsewhere"),
-    }
+    jobs_of(alloc, replies_elsewhere(alloc, input, events)?)
 }

