@@ -95,8 +95,9 @@ fn open_input(alloc: Global, input: Input) -> Result<Core, Refusal<FormFault>> {
 }
 
 fn submit(core: &mut Core, script: Script) -> Result<(), Refusal<FormFault>> {
-    match core.submit(script)? {
-        Reply::Faulty(_, fault) => Err(Refusal::Fault(fault)),
-        _ => Ok(()),
+    match core.submit(script) {
+        Ok(Reply::Faulty(_, fault)) => Err(Refusal::Fault(fault)),
+        Ok(_) => Ok(()),
+        Err(_) => Err(Refusal::Memory),
     }
 }

@@ -1,5 +1,5 @@
 //! The jobs that were lent, by number, and their results.
-ghost use Rattle.std.specs.Prelude.{◌≡◌, ◌+◌, ◌++◌, IfOk, OnOk, Some, length};
+ghost use Rattle.std.specs.Prelude.{◌≡◌, ◌+◌, ◌++◌, ◌∷◌, [], IfOk, OnOk, Some, length};
 ghost use Rattle.std.specs.Option.{option_copied};
 ghost use Rattle.ent_event_scenarios.specs.Lent.{lent_by};
 ghost use Rattle.ent_protocol.specs.Job.{IsEvaluated};
@@ -44,14 +44,23 @@ pub(crate) fn done_of(alloc: Global, jobs: &[Job], number: usize) -> Result<Done
     }
 }
 
+fn push(jobs: &mut Vec<Job>, job: Job) -> Result<()>
+    ensures { OnOk result (jobs.new.items ≡ jobs.old.items ++ job ∷ []) }
+{
+    match jobs.push(job) {
+        Ok(()) => Ok(()),
+        Err(_) => bail!("out of memory"),
+    }
+}
+
 /// Keeps the job that a reply lends.
 pub(crate) fn keep(jobs: &mut Vec<Job>, reply: Reply) -> Result<()>
     ensures { OnOk result (jobs.new.items ≡ jobs.old.items ++ lent_by reply) }
 {
-    if let Reply::Lent(job) = reply {
-        jobs.push(job)?;
+    match reply {
+        Reply::Lent(job) => push(jobs, job),
+        _ => Ok(()),
     }
-    Ok(())
 }
 
 /// The jobs that replies lend.
@@ -76,19 +85,16 @@ fn without_rows(alloc: Global, input: Input) -> Input {
     }
 }
 
-fn replies_of(played: Played) -> Sequence<Reply> {
+/// The jobs that were lent in a play.
+fn jobs_lent(alloc: Global, played: Played) -> Result<Vec<Job>> {
     let Played { replies, .. } = played;
-    replies
+    jobs_of(alloc, replies)
 }
 
-/// The replies to events over the tables of an input without its opening rows.
-fn replies_elsewhere(
-    alloc: Global,
-    input: Input,
-    events: Sequence<Event>,
-) -> Result<Sequence<Reply>> {
-    match Core::play(alloc, without_rows(alloc, input), events) {
-        Ok(played) => Ok(replies_of(played)),
+/// The jobs that events lend over an input.
+fn jobs_played(alloc: Global, input: Input, events: Sequence<Event>) -> Result<Vec<Job>> {
+    match Core::play(alloc, input, events) {
+        Ok(played) => jobs_lent(alloc, played),
         Err(_) => bail!("the events aren't played elsewhere"),
     }
 }
@@ -102,5 +108,5 @@ pub(crate) fn jobs_elsewhere(
     let Ok(input) = parse_input(alloc, text) else {
         bail!("the input isn't read again");
     };
-    jobs_of(alloc, replies_elsewhere(alloc, input, events)?)
+    jobs_played(alloc, without_rows(alloc, input), events)
 }

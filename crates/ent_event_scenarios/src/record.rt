@@ -37,6 +37,17 @@ fn event_copy(alloc: Global, event: &Event) -> Result<Event, AllocError>
     }
 }
 
+/// Puts a copy of an event at the end.
+fn push_copy(alloc: Global, events: &mut Sequence<Event>, event: &Event) -> Result<(), AllocError>
+    ensures { OnOk result (events.new ≡ events.old ++ event.now ∷ []) }
+{
+    let copy = event_copy(alloc, event)?;
+    match events.push(copy) {
+        Ok(()) => Ok(()),
+        Err(_) => Err(AllocError),
+    }
+}
+
 /// Makes an event. Where memory runs out, that is a line of its own, and the event, which came back, is made again.
 fn step(core: &mut Core, event: Event, out: &mut Vec<u8>) -> Result<Reply> {
     match core.step(event) {
@@ -47,7 +58,10 @@ fn step(core: &mut Core, event: Event, out: &mut Vec<u8>) -> Result<Reply> {
 
 fn step_again(core: &mut Core, event: Event, out: &mut Vec<u8>) -> Result<Reply> {
     put(out, "E900\n")?;
-    Ok(core.step(event)?)
+    match core.step(event) {
+        Ok(reply) => Ok(reply),
+        Err(_) => bail!("out of memory"),
+    }
 }
 
 /// The line of a reply, where a job that it lends has this number.
@@ -121,7 +135,7 @@ impl Record {
     pub(crate) fn events_copy(&self, alloc: Global) -> Result<Sequence<Event>> {
         let mut copies = Sequence::new(alloc);
         for event in self.events.as_slice() {
-            copies.push(event_copy(alloc, event)?)?;
+            push_copy(alloc, &mut copies, event)?;
         }
         Ok(copies)
     }
@@ -143,7 +157,7 @@ impl Record {
     fn remember(&mut self, alloc: Global, event: &Event) -> Result<()>
         ensures { OnOk result (self.new.events ≡ self.old.events ++ event.now ∷ []) }
     {
-        self.events.push(event_copy(alloc, event)?)?;
+        push_copy(alloc, &mut self.events, event)?;
         Ok(())
     }
 

@@ -131,7 +131,7 @@ fn take_line(
     out: &mut Vec<u8>,
 ) -> Result<Option<Core>> {
     let mut core = core;
-    match read_line(line)? {
+    match read_line(line).context(format_args!("{line}"))? {
         Line::Close => close(stage.alloc, core, out),
         other => {
             stage.reply(&mut core, other, out)?;
@@ -148,7 +148,7 @@ fn take_lines(stage: &mut Stage<'_>, core: Core, lines: &[&str], out: &mut Vec<u
             continue;
         }
         stands = match stands {
-            Some(core) => take_line(stage, core, line, out).context(format_args!("{line}"))?,
+            Some(core) => take_line(stage, core, line, out)?,
             None => bail!("the core was closed before this line: {line}"),
         };
     }
