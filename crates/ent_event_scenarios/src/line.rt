@@ -1,6 +1,7 @@
 //! A line behind `== events`: what it asks for.
 use crate::words::{index, number};
 use anyhow::{Context, Result, bail};
+use ent_core::Event;
 use ent_group::Tx;
 
 /// Whose result is handed in: that of the job of a number, counted from 1 as jobs are lent. Elsewhere, it is that of
@@ -24,44 +25,61 @@ pub(crate) enum LookUp<'a> {
     Entry(usize),
 }
 
-/// What a line asks for.
+/// An event that says all itself.
 #[derive(Clone, Copy)]
-pub(crate) enum Line<'a> {
+pub(crate) enum Call {
     StartRun,
     Begin(Tx),
-    Finish(Handed),
     Pick,
-    JoinAnswer(Handed),
     BreakCycle,
     EndRun,
     Recall,
+}
+
+impl Call {
+    pub(crate) fn event(self) -> Event {
+        match self {
+            Call::StartRun => Event::StartRun,
+            Call::Begin(tx) => Event::Begin(tx),
+            Call::Pick => Event::Pick,
+            Call::BreakCycle => Event::BreakCycle,
+            Call::EndRun => Event::EndRun,
+            Call::Recall => Event::Recall,
+        }
+    }
+}
+
+/// What a line other than `close` asks for.
+#[derive(Clone, Copy)]
+pub(crate) enum Line<'a> {
+    Call(Call),
+    Finish(Handed),
+    JoinAnswer(Handed),
     Submit(&'a str),
-    Close,
     LookUp(LookUp<'a>),
 }
 
 pub(crate) fn read_line(line: &str) -> Result<Line<'_>> {
     match line {
-        "start_run" => Ok(Line::StartRun),
-        "pick" => Ok(Line::Pick),
-        "break_cycle" => Ok(Line::BreakCycle),
-        "end_run" => Ok(Line::EndRun),
-        "recall" => Ok(Line::Recall),
-        "close" => Ok(Line::Close),
+        "start_run" => Ok(Line::Call(Call::StartRun)),
+        "pick" => Ok(Line::Call(Call::Pick)),
+        "break_cycle" => Ok(Line::Call(Call::BreakCycle)),
+        "end_run" => Ok(Line::Call(Call::EndRun)),
+        "recall" => Ok(Line::Call(Call::Recall)),
         "running" => Ok(Line::LookUp(LookUp::Running)),
         "members" => Ok(Line::LookUp(LookUp::Members)),
         "dormant" => Ok(Line::LookUp(LookUp::Dormant)),
-        _ => read_call(line),
+        _ => read_words(line),
     }
 }
 
 /// A line of a word and what it is about.
-fn read_call(line: &str) -> Result<Line<'_>> {
+fn read_words(line: &str) -> Result<Line<'_>> {
     let (word, about) = line
         .split_once(' ')
         .context("this is no line of a scenario")?;
     match word {
-        "begin" => Ok(Line::Begin(number(about)?)),
+        "begin" => Ok(Line::Call(Call::Begin(number(about)?))),
         "finish" => Ok(Line::Finish(read_handed(about)?)),
         "join_answer" => Ok(Line::JoinAnswer(read_handed(about)?)),
         "submit" => Ok(Line::Submit(about)),

@@ -148,25 +148,36 @@ impl Record {
         event: Event,
         out: &mut Vec<u8>,
     ) -> Result<()> {
-        self.remember(alloc, &event)?;
+        let event = self.remember(alloc, event)?;
         let reply = step(core, event, out)?;
-        self.note(alloc, &reply, out)?;
-        keep(&mut self.jobs, reply)
+        let reply = self.note(alloc, reply, out)?;
+        self.keep(reply)
     }
 
-    fn remember(&mut self, alloc: Global, event: &Event) -> Result<()>
-        ensures { OnOk result (self.new.events ≡ self.old.events ++ event.now ∷ []) }
+    /// Keeps a copy of an event, and hands the event back.
+    fn remember(&mut self, alloc: Global, event: Event) -> Result<Event>
+        ensures events { OnOk result (self.new.events ≡ self.old.events ++ event ∷ []) }
+        ensures event { IfOk result (λ same. same ≡ event) }
     {
-        push_copy(alloc, &mut self.events, event)?;
+        push_copy(alloc, &mut self.events, &event)?;
+        Ok(event)
+    }
+
+    /// Keeps the line of a reply, puts it, and hands the reply back.
+    fn note(&mut self, alloc: Global, reply: Reply, out: &mut Vec<u8>) -> Result<Reply> {
+        let line = reply_line(alloc, &reply, next_number(self.jobs.as_slice()))?;
+        self.put_line(line.as_slice(), out)?;
+        Ok(reply)
+    }
+
+    fn put_line(&mut self, line: &[u8], out: &mut Vec<u8>) -> Result<()> {
+        self.replies.extend_from_slice(line)?;
+        out.extend_from_slice(line)?;
         Ok(())
     }
 
-    /// Keeps the line of a reply, and puts it.
-    fn note(&mut self, alloc: Global, reply: &Reply, out: &mut Vec<u8>) -> Result<()> {
-        let line = reply_line(alloc, reply, next_number(self.jobs.as_slice()))?;
-        self.replies.extend_from_slice(line.as_slice())?;
-        out.extend_from_slice(line.as_slice())?;
-        Ok(())
+    fn keep(&mut self, reply: Reply) -> Result<()> {
+        keep(&mut self.jobs, reply)
     }
 
     /// Plays the events at once over the same input; where a reply is another one, a line says to which event.

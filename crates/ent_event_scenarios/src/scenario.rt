@@ -70,17 +70,11 @@ impl Stage<'_> {
     /// Puts the reply to a line other than `close`.
     fn reply(&mut self, core: &mut Core, line: Line<'_>, out: &mut Vec<u8>) -> Result<()> {
         match line {
-            Line::StartRun => self.take(core, Event::StartRun, out),
-            Line::Begin(tx) => self.take(core, Event::Begin(tx), out),
+            Line::Call(call) => self.take(core, call.event(), out),
             Line::Finish(handed) => self.finish(core, handed, out),
-            Line::Pick => self.take(core, Event::Pick, out),
             Line::JoinAnswer(handed) => self.join_answer(core, handed, out),
-            Line::BreakCycle => self.take(core, Event::BreakCycle, out),
-            Line::EndRun => self.take(core, Event::EndRun, out),
-            Line::Recall => self.take(core, Event::Recall, out),
             Line::Submit(text) => self.submit(core, text, out),
             Line::LookUp(look_up) => self.tell(core, look_up, out),
-            Line::Close => Ok(()),
         }
     }
 }
@@ -130,14 +124,13 @@ fn take_line(
     line: &str,
     out: &mut Vec<u8>,
 ) -> Result<Option<Core>> {
-    let mut core = core;
-    match read_line(line).context(format_args!("{line}"))? {
-        Line::Close => close(stage.alloc, core, out),
-        other => {
-            stage.reply(&mut core, other, out)?;
-            Ok(Some(core))
-        }
+    if line == "close" {
+        return close(stage.alloc, core, out);
     }
+    let asked = read_line(line).context(format_args!("{line}"))?;
+    let mut core = core;
+    stage.reply(&mut core, asked, out)?;
+    Ok(Some(core))
 }
 
 /// Takes lines up to the end, or up to a core that is closed.
