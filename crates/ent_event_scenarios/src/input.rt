@@ -94,10 +94,17 @@ fn open_input(alloc: Global, input: Input) -> Result<Core, Refusal<FormFault>> {
     Ok(core)
 }
 
+/// The fault of form for which a script was refused.
+fn fault_of(reply: Reply) -> Option<FormFault> {
+    match reply {
+        Reply::Faulty(_, fault) => Some(fault),
+        _ => None,
+    }
+}
+
 fn submit(core: &mut Core, script: Script) -> Result<(), Refusal<FormFault>> {
-    match core.submit(script) {
-        Ok(Reply::Faulty(_, fault)) => Err(Refusal::Fault(fault)),
-        Ok(_) => Ok(()),
-        Err(_) => Err(Refusal::Memory),
+    match fault_of(core.submit(script)?) {
+        Some(fault) => Err(Refusal::Fault(fault)),
+        None => Ok(()),
     }
 }

@@ -1,7 +1,7 @@
 //! The jobs that were lent, by number, and their results.
 ghost use Rattle.std.specs.Prelude.{◌≡◌, ◌+◌, ◌++◌, ◌∷◌, [], IfOk, OnOk, Some, length};
 ghost use Rattle.std.specs.Option.{option_copied};
-ghost use Rattle.ent_event_scenarios.specs.Lent.{lent_by};
+ghost use Rattle.ent_event_scenarios.specs.Lent.{jobs_lent, lent_by};
 ghost use Rattle.ent_protocol.specs.Job.{IsEvaluated};
 ghost use Rattle.ent_semantics.specs.Serial.{numbered};
 
@@ -44,6 +44,16 @@ pub(crate) fn done_of(alloc: Global, jobs: &[Job], number: usize) -> Result<Done
     }
 }
 
+/// The job that a reply lends.
+fn lent_job(reply: Reply) -> Option<Job>
+    ensures { result ≡ lent_by reply }
+{
+    match reply {
+        Reply::Lent(job) => Some(job),
+        _ => None,
+    }
+}
+
 fn push(jobs: &mut Vec<Job>, job: Job) -> Result<()>
     ensures { OnOk result (jobs.new.items ≡ jobs.old.items ++ job ∷ []) }
 {
@@ -55,11 +65,11 @@ fn push(jobs: &mut Vec<Job>, job: Job) -> Result<()>
 
 /// Keeps the job that a reply lends.
 pub(crate) fn keep(jobs: &mut Vec<Job>, reply: Reply) -> Result<()>
-    ensures { OnOk result (jobs.new.items ≡ jobs.old.items ++ lent_by reply) }
+    ensures { OnOk result (jobs.new.items ≡ jobs.old.items ++ jobs_lent (lent_by reply)) }
 {
-    match reply {
-        Reply::Lent(job) => push(jobs, job),
-        _ => Ok(()),
+    match lent_job(reply) {
+        Some(job) => push(jobs, job),
+        None => Ok(()),
     }
 }
 

@@ -140,44 +140,46 @@ impl Record {
         Ok(copies)
     }
 
-    /// Makes an event, and puts its reply's line.
-    pub(crate) fn take(
+    /// Keeps an event that is made next.
+    pub(crate) fn remember(&mut self, event: Event) -> Result<()>
+        ensures { OnOk result (self.new.events ≡ self.old.events ++ event ∷ []) }
+    {
+        match self.events.push(event) {
+            Ok(()) => Ok(()),
+            Err(_) => bail!("out of memory"),
+        }
+    }
+
+    /// Makes the event that was kept last, and puts its reply's line.
+    pub(crate) fn make(
         &mut self,
         alloc: Global,
         core: &mut Core,
         event: Event,
         out: &mut Vec<u8>,
     ) -> Result<()> {
-        let event = self.remember(alloc, event)?;
         let reply = step(core, event, out)?;
-        let reply = self.note(alloc, reply, out)?;
-        self.keep(reply)
+        self.note(alloc, reply, out)
     }
 
-    /// Keeps a copy of an event, and hands the event back.
-    fn remember(&mut self, alloc: Global, event: Event) -> Result<Event>
-        ensures events { OnOk result (self.new.events ≡ self.old.events ++ event ∷ []) }
-        ensures event { IfOk result (λ same. same ≡ event) }
-    {
-        push_copy(alloc, &mut self.events, &event)?;
-        Ok(event)
+    /// Keeps the job that a reply lends and the reply's line, and puts the line.
+    fn note(&mut self, alloc: Global, reply: Reply, out: &mut Vec<u8>) -> Result<()> {
+        let line = reply_line(alloc, &reply, next_number(self.jobs.as_slice()));
+        let kept = keep(&mut self.jobs, reply);
+        self.put_line(kept, line, out)
     }
 
-    /// Keeps the line of a reply, puts it, and hands the reply back.
-    fn note(&mut self, alloc: Global, reply: Reply, out: &mut Vec<u8>) -> Result<Reply> {
-        let line = reply_line(alloc, &reply, next_number(self.jobs.as_slice()))?;
-        self.put_line(line.as_slice(), out)?;
-        Ok(reply)
-    }
-
-    fn put_line(&mut self, line: &[u8], out: &mut Vec<u8>) -> Result<()> {
-        self.replies.extend_from_slice(line)?;
-        out.extend_from_slice(line)?;
+    fn put_line(
+        &mut self,
+        kept: Result<()>,
+        line: Result<Vec<u8>>,
+        out: &mut Vec<u8>,
+    ) -> Result<()> {
+        kept?;
+        let line = line?;
+        self.replies.extend_from_slice(line.as_slice())?;
+        out.extend_from_slice(line.as_slice())?;
         Ok(())
-    }
-
-    fn keep(&mut self, reply: Reply) -> Result<()> {
-        keep(&mut self.jobs, reply)
     }
 
     /// Plays the events at once over the same input; where a reply is another one, a line says to which event.

@@ -1,7 +1,7 @@
 //! A scenario, line by line.
 use crate::input::{InputFault, input_text, open};
 use crate::jobs::{done_of, jobs_elsewhere};
-use crate::line::{Handed, Line, LookUp, read_line};
+use crate::line::{Call, Handed, Line, LookUp, read_line};
 use crate::record::Record;
 use crate::script::read_script;
 use crate::told::put_look_up;
@@ -39,18 +39,28 @@ impl Stage<'_> {
         done_of(self.alloc, jobs.as_slice(), number)
     }
 
-    fn take(&mut self, core: &mut Core, event: Event, out: &mut Vec<u8>) -> Result<()> {
-        self.record.take(self.alloc, core, event, out)
+    fn make(&mut self, core: &mut Core, event: Event, out: &mut Vec<u8>) -> Result<()> {
+        self.record.make(self.alloc, core, event, out)
     }
 
+    fn call(&mut self, core: &mut Core, call: Call, out: &mut Vec<u8>) -> Result<()> {
+        self.record.remember(call.event())?;
+        self.make(core, call.event(), out)
+    }
+
+    /// Hands a result in. It is evaluated twice: what is kept is played behind the last line.
     fn finish(&mut self, core: &mut Core, handed: Handed, out: &mut Vec<u8>) -> Result<()> {
+        let kept = self.done(handed)?;
+        self.record.remember(Event::Finish(kept))?;
         let done = self.done(handed)?;
-        self.take(core, Event::Finish(done), out)
+        self.make(core, Event::Finish(done), out)
     }
 
     fn join_answer(&mut self, core: &mut Core, handed: Handed, out: &mut Vec<u8>) -> Result<()> {
+        let kept = self.done(handed)?;
+        self.record.remember(Event::JoinAnswer(kept))?;
         let done = self.done(handed)?;
-        self.take(core, Event::JoinAnswer(done), out)
+        self.make(core, Event::JoinAnswer(done), out)
     }
 
     fn tell(&self, core: &Core, look_up: LookUp<'_>, out: &mut Vec<u8>) -> Result<()> {
@@ -61,16 +71,27 @@ impl Stage<'_> {
     /// Submits the script that a text is; or puts the text's first fault.
     fn submit(&mut self, core: &mut Core, text: &str, out: &mut Vec<u8>) -> Result<()> {
         match read_script(self.alloc, text) {
-            Ok(script) => self.take(core, Event::Submit(script), out),
+            Ok(script) => {
+                self.record.remember(Event::Submit(script))?;
+                self.submit_again(core, text, out)
+            }
             Err(Refusal::Fault(fault)) => put_script_fault(out, fault),
             Err(Refusal::Memory) => bail!("out of memory"),
+        }
+    }
+
+    /// Submits the script that a text is, where that submission was kept.
+    fn submit_again(&mut self, core: &mut Core, text: &str, out: &mut Vec<u8>) -> Result<()> {
+        match read_script(self.alloc, text) {
+            Ok(script) => self.make(core, Event::Submit(script), out),
+            Err(_) => bail!("out of memory"),
         }
     }
 
     /// Puts the reply to a line other than `close`.
     fn reply(&mut self, core: &mut Core, line: Line<'_>, out: &mut Vec<u8>) -> Result<()> {
         match line {
-            Line::Call(call) => self.take(core, call.event(), out),
+            Line::Call(call) => self.call(core, call, out),
             Line::Finish(handed) => self.finish(core, handed, out),
             Line::JoinAnswer(handed) => self.join_answer(core, handed, out),
             Line::Submit(text) => self.submit(core, text, out),
