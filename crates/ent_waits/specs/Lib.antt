@@ -1,3 +1,4 @@
 pub mod Waits
+pub mod Rows
 pub mod Motion
 pub mod Victim

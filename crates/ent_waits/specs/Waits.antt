@@ -1,5 +1,5 @@
 -- Who waits for whom, as pairs of a member and another, in the order in which they are gathered.
-use Rattle.std.specs.Prelude.{ℕ, List, [], ◌∷◌, if◌then◌else◌}
+use Rattle.std.specs.Prelude.{ℕ, Bool, ◌&&◌, List, [], ◌∷◌, if◌then◌else◌}
 use Rattle.std.specs.List.{flat_map}
 use Rattle.ent_semantics.specs.Serial.{numbered}
 use Rattle.ent_members.specs.Run.{Run, with_run}
@@ -22,6 +22,12 @@ nothing = opened (record { tables = []; rows = [] })
 abbrev pub pair_if_awaited : Run → Member → List Use → Member → List (ℕ × ℕ)
 pair_if_awaited run asker asked other =
     if is_awaited (with_run run nothing) asker asked other then (asker.tx, other.tx) ∷ [] else []
+
+-- a member that is neither posted nor has a job out waits for another
+abbrev pub awaits_now : Run → List Submitted → List Job → Member → Member → Bool
+awaits_now run submitted lent asker other =
+    is_waiting (state_with run submitted lent nothing) asker
+    && is_awaited (with_run run nothing) asker (next_uses (next_in (numbered submitted asker.tx) asker)) other
 
 -- a member and each that it waits for
 abbrev pub pairs_while_waiting : Run → List Submitted → List Job → Member → List (ℕ × ℕ)

@@ -8,9 +8,12 @@
 #![tactic(auto)]
 
 mod cycles;
+mod marks;
 mod motion;
 mod next_uses;
 mod pairs;
+mod ring;
+mod rows;
 mod victim;
 mod waiting;
 

@@ -1,0 +1,191 @@
+-- Who stands in a ring is stuck: each of a ring waits for one of it.
+use Rattle.std.proofs.Common.{◌≡◌, ◌≢◌, ℕ, zero, suc, ◌+◌, ◌*◌, ◌%◌, ◌^◌, ◌<◌, ◌≤◌, ◌==◌, ◌⊎◌, inl, inr, Bool, true, false}
+use Rattle.std.proofs.Common.{not, ◌||◌, List, [], ◌∷◌, length, nat_eq, bit_and, refl, sym, ap, subst, ◌∙◌, arith}
+use Rattle.std.proofs.Common.{true≢false}
+use Rattle.std.specs.Prelude.{All, AllPairs, Contains, nat_lt, slice_index}
+use Rattle.std.specs.Int.{bit_at, w64}
+use Rattle.std.specs.Int.RustNames.{bit_or}
+use Rattle.std.proofs.lemmas.Bool.{eqb-true, eqb-false, ltb-true, ltb-false}
+use Rattle.std.proofs.lemmas.Bool.Decides.{nat_tests}
+use Rattle.std.proofs.lemmas.Nat.Bits.{bit_at-zero, bit_at_and, bit_at_set_same, bit_at_set_other}
+use Rattle.std.proofs.lemmas.List.Elements.{All-contains, All-head, All-tail, Contains-append_right}
+use Rattle.ent_group.specs.Cycle.{IsInRing, links_to}
+use Rattle.ent_group.specs.Marks.{IsMarked, has_mark}
+use Rattle.ent_group.specs.Reach.{IsAt}
+use Rattle.ent_waits.specs.Rows.{IsMarkedPair}
+
+pub below_or : (i j : ℕ) → (i < j) ⊎ (j ≤ i)
+below_or i j = elim (nat_lt i j) as (λ b. nat_lt i j ≡ b → (i < j) ⊎ (j ≤ i)) [
+  | true ↦ λ e. inl (ltb-true i j e)
+  | false ↦ λ e. inr (ltb-false i j e)
+] refl
+
+-- ---- marks
+
+no_mark : (at : ℕ) → has_mark 0 at ≡ false
+unfolding has_mark
+no_mark at = ap (λ n. n == 1) (bit_at-zero at)
+
+pub with_bit : (row at i : ℕ) → at < 64 → has_mark (bit_or row (1 * 2 ^ at % 2 ^ 64)) i ≡ ((i == at) || has_mark row i)
+unfolding has_mark
+with_bit row at i within =
+    elim (i == at) as (λ b. (i == at) ≡ b
+    → (bit_at (bit_or row (1 * 2 ^ at % 2 ^ 64)) i == 1) ≡ (b || (bit_at row i == 1))) [
+      | true ↦ λ e. ap (λ n. n == 1) (ap (bit_at (bit_or row (1 * 2 ^ at % 2 ^ 64))) (eqb-true i at e)
+          ∙ bit_at_set_same w64 row at within)
+      | false ↦ λ e. ap (λ n. n == 1) (bit_at_set_other w64 row at within i (eqb-false i at e))
+    ] refl
+
+-- two rows with a mark at one place have bits together
+pub share_bit : (left right i : ℕ) → has_mark left i ≡ true → has_mark right i ≡ true
+    → not (nat_eq (bit_and left right) 0) ≡ true
+unfolding has_mark
+share_bit left right i own other =
+    elim (nat_eq (bit_and left right) 0) as (λ b. nat_eq (bit_and left right) 0 ≡ b → not b ≡ true) [
+      | true ↦ λ e.
+          let empty : bit_at (bit_and left right) i ≡ 0 =
+          ap (λ n. bit_at n i) (eqb-true (bit_and left right) 0 e) ∙ bit_at-zero i in
+          let mine : bit_at left i ≡ 1 = eqb-true (bit_at left i) 1 own in
+          let theirs : bit_at right i ≡ 1 = eqb-true (bit_at right i) 1 other in
+          absurd (omega (arith, empty, mine, theirs, bit_at_and left right i))
+      | false ↦ λ e. refl
+    ] refl
+
+or_from : (a b : Bool) → (a ≡ true) ⊎ (b ≡ true) → (a || b) ≡ true
+or_from a b (inl e) = λ i. e i || b
+or_from true b (inr e) = refl
+or_from false b (inr e) = e
+
+eq_is : (n m : ℕ) → n ≡ m → (n == m) ≡ true
+eq_is n m is = grind (arith, nat_tests)
+
+abbrev pub MarksOneMore : ℕ → ℕ → ℕ → Type 0
+MarksOneMore row new at = (i : ℕ) → has_mark new i ≡ ((i == at) || has_mark row i)
+
+pub mark_kept : (row new at i : ℕ) → MarksOneMore row new at → has_mark row i ≡ true → has_mark new i ≡ true
+mark_kept row new at i step old = step i ∙ or_from (i == at) (has_mark row i) (inr old)
+
+pub mark_made : (row new at i : ℕ) → MarksOneMore row new at → i ≡ at → has_mark new i ≡ true
+mark_made row new at i step is = step i ∙ or_from (i == at) (has_mark row i) (inl (eq_is i at is))
+
+abbrev pub HasFirst : ℕ → ℕ → Type 0
+HasFirst row count = (i : ℕ) → i < count → has_mark row i ≡ true
+
+pub first_more : (row new at : ℕ) → MarksOneMore row new at → HasFirst row at → HasFirst new (at + 1)
+first_more row new at step old = λ i below. elim (below_or i at) [
+  | inl before ↦ mark_kept row new at i step (old i before)
+  | inr past ↦ let here : i ≡ at = omega arith in mark_made row new at i step here
+]
+
+-- ---- the places whose rows have a mark where a row of the stuck has one
+
+abbrev pub AreStuck : List ℕ → ℕ → ℕ → ℕ → Type 0
+AreStuck rows stuck left count =
+    (i j : ℕ) → i < count → IsMarked rows i j → has_mark stuck j ≡ true → has_mark left i ≡ true
+
+pub stuck_more : (rows : List ℕ) (stuck left new at : ℕ) → MarksOneMore left new at → AreStuck rows stuck left at
+    → AreStuck rows stuck new (at + 1)
+stuck_more rows stuck left new at step old = λ i j below marked other. elim (below_or i at) [
+  | inl before ↦ mark_kept left new at i step (old i j before marked other)
+  | inr past ↦ let here : i ≡ at = omega arith in mark_made left new at i step here
+]
+
+pub stuck_same : (rows : List ℕ) (stuck left at : ℕ) (share : Bool) → share ≡ false
+    → ((i : ℕ) → has_mark (slice_index rows at) i ≡ true → has_mark stuck i ≡ true → share ≡ true)
+    → AreStuck rows stuck left at → AreStuck rows stuck left (at + 1)
+stuck_same rows stuck left at share none all old = λ i j below marked other. elim (below_or i at) [
+  | inl before ↦ old i j before marked other
+  | inr past ↦
+      let here : i ≡ at = omega arith in
+      let own : IsMarked rows at j = subst (λ (k : ℕ). IsMarked rows k j) here marked in
+      absurd (true≢false (sym (all j own other) ∙ none))
+]
+
+-- ---- rings
+
+abbrev Linked : List (ℕ × ℕ) → List ℕ → ℕ → Type 0
+Linked waits xs end = All (Contains waits) (links_to xs end)
+
+-- whom one of a chain waits for
+next_of : (waits : List (ℕ × ℕ)) (xs : List ℕ) (end f : ℕ) → Linked waits xs end → Contains xs f
+    → (y : ℕ) × Contains waits (f, y) × (Contains xs y ⊎ (y ≡ end))
+next_of waits [] end f linked (k, within, e) = absurd (omega arith)
+next_of waits (x ∷ []) end f linked (zero, within, e) =
+    (end, subst (λ (v : ℕ). Contains waits (v, end)) e (All-head (Contains waits) (x, end) [] linked), inr refl)
+next_of waits (x ∷ []) end f linked (suc k, within, e) = absurd (omega arith)
+next_of waits (x ∷ y ∷ xs) end f linked (zero, within, e) = (
+  y,
+  subst (λ (v : ℕ). Contains waits (v, y)) e (All-head (Contains waits) (x, y) (links_to (y ∷ xs) end) linked),
+  inl (1, omega arith, refl),
+)
+next_of waits (x ∷ y ∷ xs) end f linked (suc k, within, e) =
+    let later = next_of waits (y ∷ xs) end f (All-tail (Contains waits) (x, y) (links_to (y ∷ xs) end) linked)
+    (k, omega arith, e) in (
+      later.0,
+      later.1,
+      elim later.2 [
+        | inl inside ↦ inl (Contains-append_right (x ∷ []) (y ∷ xs) later.0 inside)
+        | inr last ↦ inr last
+      ],
+    )
+
+-- one of a ring waits for one of it
+ring_goes_on : (waits : List (ℕ × ℕ)) (x : ℕ) → IsInRing waits x
+    → (y : ℕ) × Contains waits (x, y) × IsInRing waits y
+ring_goes_on waits x ([], ring, inside) = absurd (omega (arith, ring.not_empty))
+ring_goes_on waits x (m ∷ ms, ring, inside) =
+    let next = next_of waits (m ∷ ms) m x ring.linked inside in (
+      next.0,
+      next.1,
+      (m ∷ ms, ring, elim next.2 [ inl there ↦ there | inr last ↦ (0, omega arith, sym last) ]),
+    )
+
+same_place : (numbers : List ℕ) → AllPairs (λ x y. x ≢ y) numbers → (x i j : ℕ) → IsAt numbers x i
+    → IsAt numbers x j → i ≡ j
+same_place numbers distinct x i j (in_i, at_i) (in_j, at_j) = elim (below_or i j) [
+  | inl below ↦ absurd (distinct i j 0 below in_j (at_i ∙ sym at_j))
+  | inr above ↦ elim (below_or j i) [
+    | inl other ↦ absurd (distinct j i 0 other in_i (at_j ∙ sym at_i))
+    | inr upper ↦ omega (arith, above, upper)
+  ]
+]
+
+-- whoever stands in a ring of pairs that are marked has its place marked
+abbrev pub RingsAreStuck : List ℕ → ℕ → Type 0
+RingsAreStuck rows stuck =
+    (numbers : List ℕ) (waits : List (ℕ × ℕ)) → AllPairs (λ x y. x ≢ y) numbers
+    → length numbers ≤ length rows → All (IsMarkedPair numbers rows) waits
+    → (x : ℕ) → IsInRing waits x → (i : ℕ) → IsAt numbers x i → has_mark stuck i ≡ true
+
+abbrev pub NoRing : List ℕ → Type 0
+NoRing rows =
+    (numbers : List ℕ) (waits : List (ℕ × ℕ)) → AllPairs (λ x y. x ≢ y) numbers
+    → length numbers ≤ length rows → All (IsMarkedPair numbers rows) waits
+    → (x : ℕ) → ¬ IsInRing waits x
+
+pub all_stuck : (rows : List ℕ) (stuck : ℕ) → HasFirst stuck (length rows) → RingsAreStuck rows stuck
+all_stuck rows stuck all = λ numbers waits distinct long marked x ring i at.
+    all i (omega (arith, at.0, long))
+
+pub still : (rows : List ℕ) (stuck new : ℕ) → AreStuck rows stuck new (length rows) → RingsAreStuck rows stuck
+    → RingsAreStuck rows new
+still rows stuck new step old = λ numbers waits distinct long marked x ring i at.
+    let next = ring_goes_on waits x ring in
+    let pair = All-contains (IsMarkedPair numbers rows) waits (x, next.0) marked next.1 in
+    let here : pair.waiter ≡ i = same_place numbers distinct x pair.waiter i pair.waits at in
+    let row : IsMarked rows i pair.awaited = subst (λ (k : ℕ). IsMarked rows k pair.awaited) here pair.marked in
+    step i pair.awaited (omega (arith, at.0, long)) row
+    (old numbers waits distinct long marked next.0 next.2 pair.awaited pair.other)
+
+pub none_stuck : (rows : List ℕ) (stuck : ℕ) → stuck ≡ 0 → RingsAreStuck rows stuck → NoRing rows
+none_stuck rows stuck none old = λ numbers waits distinct long marked x ring.
+    let next = ring_goes_on waits x ring in
+    let pair = All-contains (IsMarkedPair numbers rows) waits (x, next.0) marked next.1 in
+    true≢false (sym (old numbers waits distinct long marked x ring pair.waiter pair.waits)
+    ∙ ap (λ row. has_mark row pair.waiter) none ∙ no_mark pair.waiter)
+
+pub is_zero : (n : ℕ) → not (nat_eq n 0) ≡ false → n ≡ 0
+is_zero n = elim (nat_eq n 0) as (λ b. nat_eq n 0 ≡ b → not b ≡ false → n ≡ 0) [
+  | true ↦ λ e some. eqb-true n 0 e
+  | false ↦ λ e some. absurd (true≢false some)
+] refl

@@ -1,0 +1,50 @@
+use Rattle.std.proofs.Common.{ℕ, ◌+◌, sym, subst, ◌∙◌, arith}
+use Rattle.std.proofs.lemmas.List.{get_or_default}
+use Rattle.ent_members.specs.Waits.{waits_over}
+use Rattle.ent_protocol.specs.State.{Member}
+use Rattle.ent_waits.specs.Rows.{HasMarksOf, MarksAll}
+use Rattle.ent_waits.proofs.Marked.{IsElement, MarksOverUpto, over_more, over_same}
+use Rattle.ent_waits.proofs.rows.mark_over.Goals.{then-stops, else-stops}
+use Rattle.ent_waits.proofs.rows.mark_over.Goals as goal
+
+pub loop-holder-init : goal.loop-holder-init
+loop-holder-init c = record {
+  kept = λ place own. own;
+  upto = λ place holder below stands own. absurd (omega (arith, below));
+}
+
+pub loop-holder-preserved : goal.loop-holder-preserved
+loop-holder-preserved c =
+    let of_group = c.args.of_group in
+    let active = c.args.active.now in
+    let asker = c.args.asker.now in
+    let asked = c.args.asked.now in
+    let holders = c.args.holders.now in
+    let at = c.loop-holder.holder-index in
+    let old = c.args.row in
+    let row = c.loop-holder.marked in
+    let here = c.holder-item.result in
+    let element : IsElement holders at here =
+    λ d. get_or_default holders at d here c.loop-holder-test.true ∙ sym c.holder-item.is in
+    elim c.if-stops.branch [
+      | then-stops w ↦ record {
+        kept = subst (λ (new : ℕ). HasMarksOf new old) (sym w.marked-is)
+            (λ place own. w.mark_awaited-marked.ensures.kept place (c.loop-holder.invariant.kept place own));
+        upto = subst (λ (new : ℕ). MarksOverUpto of_group active asker asked holders (at + 1) new) (sym w.marked-is)
+            (over_more of_group active asker asked holders row w.mark_awaited-marked.result at here element
+            w.mark_awaited-marked.ensures.kept
+            (subst (λ (group : ℕ). MarksAll active (λ (other : Member). waits_over group other here)
+            w.mark_awaited-marked.result) w.group.ensures w.mark_awaited-marked.ensures.marked)
+            c.loop-holder.invariant.upto);
+      }
+      | else-stops w ↦ record {
+        kept = subst (λ (new : ℕ). HasMarksOf new old) (sym w.marked-is) c.loop-holder.invariant.kept;
+        upto = subst (λ (new : ℕ). MarksOverUpto of_group active asker asked holders (at + 1) new) (sym w.marked-is)
+            (over_same of_group active asker asked holders row at here element
+            (sym c.stops.ensures ∙ w.if-stops.false) c.loop-holder.invariant.upto);
+      }
+    ]
+
+pub returns-clause-marked : goal.returns-clause-marked
+returns-clause-marked c = λ place holder stands own.
+    c.loop-holder.invariant.upto place holder (omega (arith, stands.0, c.loop-holder-test.false)) stands own

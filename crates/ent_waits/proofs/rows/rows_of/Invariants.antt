@@ -1,0 +1,11 @@
+use Rattle.std.proofs.Common.{◌≡◌, ◌≤◌, length}
+use Rattle.ent_waits.proofs.Marked.{AreRowsUpto}
+use Rattle.ent_waits.proofs.rows.rows_of.Given as goal
+
+abbrev pub invariant-loop-place : goal.invariant-loop-place
+invariant-loop-place l = record {
+  upto : AreRowsUpto l.run l.submitted l.lent l.place l.rows;
+  room : length l.rows ≡ 64;
+  bound : length l.active ≤ 64;
+  all : l.active ≡ l.run.active;
+}

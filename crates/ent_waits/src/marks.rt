@@ -1,0 +1,33 @@
+//! Rows of up to 64 marks, each a bit.
+ghost use Rattle.std.specs.Prelude.{◌≡◌, ℕ, ◌<◌, ◌≤◌, ◌==◌, ◌||◌, true};
+ghost use Rattle.ent_group.specs.Marks.{has_mark};
+
+/// Up to 64 marks.
+pub(crate) type Row = u64;
+
+/// A row with a mark at a place too.
+pub(crate) fn with_mark(row: Row, at: usize) -> Row
+    requires { at < 64 }
+    ensures { (i : ℕ) → has_mark result i ≡ (i == at || has_mark row i) }
+{
+    row | 1 << at
+}
+
+/// Whether two rows have a mark at one place; it is so wherever they have.
+pub(crate) fn share_mark(left: Row, right: Row) -> bool
+    ensures { (i : ℕ) → has_mark left i ≡ true → has_mark right i ≡ true → result ≡ true }
+{
+    left & right != 0
+}
+
+/// A row with marks at the first places, so many.
+pub(crate) fn first_marks(count: usize) -> Row
+    requires { count ≤ 64 }
+    ensures { (i : ℕ) → i < count → has_mark result i ≡ true }
+{
+    let mut row = 0;
+    for at in 0..count {
+        row = with_mark(row, at);
+    }
+    row
+}

@@ -1,0 +1,132 @@
+//! Whom each member waits for, as rows of marks.
+ghost use Rattle.std.specs.Prelude.{◌≡◌, ℕ, ◌≤◌, length, slice_index};
+ghost use Rattle.std.specs.List.{list_any};
+ghost use Rattle.ent_members.specs.Run.{with_run};
+ghost use Rattle.ent_members.specs.Waits.{is_awaited, waits_over};
+ghost use Rattle.ent_protocol.specs.State.{Member as Seen};
+ghost use Rattle.ent_protocol.specs.Uses.{is_in_way, uses_conflict};
+ghost use Rattle.ent_waits.specs.Rows.{HasMarksOf, MarksAll, MarksOver, StandsAt, stops};
+ghost use Rattle.ent_waits.specs.Waits.{awaits_now, nothing};
+
+use crate::marks::{Row, with_mark};
+use crate::next_uses::next_uses;
+use crate::waiting::is_waiting;
+use ent_eval::Job;
+use ent_group::{MOST_MEMBERS, Tx};
+use ent_members::{Member, Run, Use};
+use ent_next::SubmittedScript;
+
+fn in_conflict(one: Use, other: Use) -> bool
+    ensures { result ≡ uses_conflict one other }
+{
+    one.table() == other.table() && one.mode().in_conflict(other.mode())
+}
+
+fn any_in_conflict(asked: Use, held: &[Use]) -> bool
+    ensures { result ≡ list_any (uses_conflict asked) held.now }
+{
+    held.iter().any(|other| in_conflict(asked, *other))
+}
+
+/// Whether a member holds a use in conflict with one that is asked for.
+fn is_in_way(asked: &[Use], holder: &Member) -> bool
+    ensures { result ≡ is_in_way asked.now holder.now }
+{
+    let held = holder.uses();
+    asked.iter().any(|own| any_in_conflict(*own, held))
+}
+
+/// Whether a member is in the way of one that asks for uses and doesn't pass it.
+fn stops(of_group: bool, asker: &Member, asked: &[Use], holder: &Member) -> bool
+    ensures { result ≡ stops of_group asker.now asked.now holder.now }
+{
+    let passed = if of_group {
+        holder.group() == asker.group()
+    } else {
+        holder.tx() == asker.tx()
+    };
+    !passed && is_in_way(asked, holder)
+}
+
+/// Whether a member of a group, with one member in its way, waits for another.
+fn waits_over(group: Tx, holder: &Member, other: &Member) -> bool
+    ensures { result ≡ waits_over group other.now holder.now }
+{
+    if holder.group() == group {
+        holder.tx() == other.tx()
+    } else {
+        other.group() == holder.group()
+    }
+}
+
+/// A row with marks too at those for whom a member of a group waits, with one member in its way.
+fn mark_awaited(row: Row, active: &[Member], group: Tx, holder: &Member) -> Row
+    requires { length active.now ≤ MOST_MEMBERS }
+    ensures kept { HasMarksOf result row }
+    ensures marked { MarksAll active.now (λ other. waits_over group other holder.now) result }
+{
+    let mut marked = row;
+    for (place, other) in active.iter().enumerate() {
+        if waits_over(group, holder, other) {
+            marked = with_mark(marked, place);
+        }
+    }
+    marked
+}
+
+/// A row with marks too at those for whom a member waits while some of a list are in its way.
+fn mark_over(
+    row: Row,
+    active: &[Member],
+    holders: &[Member],
+    of_group: bool,
+    asker: &Member,
+    asked: &[Use],
+) -> Row
+    requires { length active.now ≤ MOST_MEMBERS }
+    ensures kept { HasMarksOf result row }
+    ensures marked { MarksOver of_group active.now asker.now asked.now holders.now result }
+{
+    let mut marked = row;
+    for holder in holders {
+        if stops(of_group, asker, asked, holder) {
+            marked = mark_awaited(marked, active, asker.group(), holder);
+        }
+    }
+    marked
+}
+
+/// The row of a member that asks for uses: marks at those for whom it waits.
+fn row_of(run: &Run, asker: &Member, asked: &[Use]) -> Row
+    ensures { MarksAll run.now.active (is_awaited (with_run run.now nothing) asker.now asked.now) result }
+{
+    let _most = run.len();
+    let active = run.active();
+    let row = mark_over(0, active, run.prepared(), true, asker, asked);
+    mark_over(row, active, active, false, asker, asked)
+}
+
+/// The row of a member, while it waits.
+fn row_while_waiting(run: &Run, submitted: &[SubmittedScript], lent: &[Job], asker: &Member) -> Row
+    ensures { MarksAll run.now.active (awaits_now run.now submitted.now lent.now asker.now) result }
+{
+    if is_waiting(lent, asker) {
+        row_of(run, asker, next_uses(submitted, asker).as_slice())
+    } else {
+        0
+    }
+}
+
+/// The rows of all members that aren't prepared.
+pub(crate) fn rows_of(run: &Run, submitted: &[SubmittedScript], lent: &[Job]) -> [Row; MOST_MEMBERS]
+    ensures { (place : ℕ) (asker : Seen) → StandsAt run.now.active place asker
+        → MarksAll run.now.active (awaits_now run.now submitted.now lent.now asker) (slice_index result place) }
+{
+    let mut rows = [0; MOST_MEMBERS];
+    let _most = run.len();
+    let active = run.active();
+    for (place, asker) in active.iter().enumerate() {
+        rows[place] = row_while_waiting(run, submitted, lent, asker);
+    }
+    rows
+}
