@@ -24,7 +24,7 @@ pub(crate) fn event_copy(alloc: Global, event: &Event) -> Result<Event, AllocErr
     }
 }
 
-/// The same events; none where memory runs out.
+/// The same events, where memory suffices.
 pub(crate) fn events_copy(alloc: Global, events: &[Event], out: &mut Out) -> Sequence<Event> {
     let mut copies = Sequence::new(alloc);
     for event in events {

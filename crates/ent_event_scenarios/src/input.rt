@@ -120,6 +120,7 @@ fn submit_all(core: &mut Core, scripts: Limited<Script, MOST_SCRIPTS>, out: &mut
     is_submitted
 }
 
+/// Submits a script; or puts its first fault. Whether there is none.
 fn submit(core: &mut Core, script: Script, out: &mut Out) -> bool {
     match core.submit(script) {
         Ok(reply) => {

@@ -47,6 +47,7 @@ pub(crate) fn done_of(
     }
 }
 
+/// The result of a copy of a job.
 fn done(alloc: Global, job: &Job, out: &mut Out) -> Option<Done>
     ensures job { IfSome result (λ done. done.job ≡ job.now) }
     ensures meaning { IfSome result (λ done. IsEvaluated done) }

@@ -33,6 +33,7 @@ impl Stage<'_> {
         }
     }
 
+    /// The result of the job that the same events lend over the same tables without their opening rows.
     fn done_elsewhere(&self, number: usize, out: &mut Out) -> Option<Done> {
         let events = self.events.as_slice();
         let replies = replies_at_once(self.alloc, self.text, false, events, out);
@@ -95,28 +96,21 @@ impl Stage<'_> {
         }
     }
 
-    /// Takes a line other than `close`.
-    fn reply(&mut self, core: &mut Core, line: Line<'_>, out: &mut Out) {
-        match line {
-            Line::Call(call) => self.make(core, call.event(), out),
-            Line::Finish(handed) => self.finish(core, handed, out),
-            Line::JoinAnswer(handed) => self.join_answer(core, handed, out),
-            Line::Submit(text) => self.submit(core, text, out),
-            Line::LookUp(look_up) => put_look_up(self.alloc, out, core, look_up),
-            Line::Close => out.stop(Stop::Line),
-        }
-    }
-
     /// Takes a line; the core is gone where it was closed.
     fn take(&mut self, core: Core, line: Line<'_>, out: &mut Out) -> Option<Core> {
-        if let Line::Close = line {
-            return close(self.alloc, core, out);
-        }
         let mut core = core;
-        self.reply(&mut core, line, out);
+        match line {
+            Line::Call(call) => self.make(&mut core, call.event(), out),
+            Line::Finish(handed) => self.finish(&mut core, handed, out),
+            Line::JoinAnswer(handed) => self.join_answer(&mut core, handed, out),
+            Line::Submit(text) => self.submit(&mut core, text, out),
+            Line::LookUp(look_up) => put_look_up(self.alloc, out, &core, look_up),
+            Line::Close => return close(self.alloc, core, out),
+        }
         Some(core)
     }
 
+    /// Takes a line where the core still stands.
     fn take_line(&mut self, stands: Option<Core>, line: Line<'_>, out: &mut Out) -> Option<Core> {
         match stands {
             Some(core) => self.take(core, line, out),

@@ -40,6 +40,7 @@ fn first_fault(fault: SqlFault, end: usize) -> SqlFault {
     }
 }
 
+/// The last script of an input.
 fn last_script(input: Input) -> Option<Script> {
     let Input { opening, scripts } = input;
     drop(opening);
