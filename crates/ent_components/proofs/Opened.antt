@@ -1,5 +1,6 @@
 -- The first that is open of some lists, and what it is in a state.
-use Rattle.std.proofs.Common.{◌≡◌, ◌⊎◌, inl, inr, ◌≤◌, List, [], ◌∷◌, ◌++◌, refl, sym, subst, arith}
+use Rattle.std.proofs.Common.{◌≡◌, ◌⊎◌, inl, inr, ◌≤◌, ℕ, List, [], ◌∷◌, ◌++◌, map, refl, ap, sym, subst, arith}
+use Rattle.std.proofs.Common.{Vec, Global}
 use Rattle.std.specs.Prelude.{Contains, MatchOption, Option, Some, None}
 use Rattle.std.proofs.lemmas.List.Elements.{Contains-append_left, Contains-push, Contains-push_cases}
 use Rattle.ent_protocol.specs.Job.{Asking, Job}
@@ -7,9 +8,18 @@ use Rattle.ent_protocol.specs.Member.{askings}
 use Rattle.ent_protocol.specs.PoolEvents.{CanBePicked, first_tx}
 use Rattle.ent_protocol.specs.Quiet.{IsLeast, IsUntried, NoneIs}
 use Rattle.ent_protocol.specs.State.{State}
-use Rattle.ent_components.specs.Component.{ArePresent, IsPick, IsPickIn}
+use Rattle.ent_components.specs.Component.{ArePresent, IsPick, IsPickIn, asked_by}
+use Rattle.ent_match.specs.Components.{lists_in}
 use Rattle.ent_components.specs.Open.{IsBefore, IsFirstOpen, IsOpen, NoneIsOpen}
 use Rattle.ent_components.proofs.Listed.{in_none}
+
+-- ---- the statements of lists of transactions
+
+pub listed : (posted : List Asking) (lists : List (Vec ℕ Global)) (txs : Vec ℕ Global)
+    → map (asked_by posted) (lists_in (lists ++ txs ∷ []))
+    ≡ map (asked_by posted) (lists_in lists) ++ asked_by posted txs.items ∷ []
+listed posted [] txs = refl
+listed posted (x ∷ xs) txs = ap (λ (made : List (List Asking)). asked_by posted x.items ∷ made) (listed posted xs txs)
 
 -- ---- one list after the other
 
@@ -54,6 +64,24 @@ module _ (tried : List (List Asking)) (lent : List Job) where
       by_cases : (others : List Asking) → IsOpen tried lent others → Contains lists others ⊎ (asked ≡ others) → ⊥
       by_cases others is_open (inl there) = is others there is_open
       by_cases others is_open (inr same) = later (subst (IsOpen tried lent) (sym same) is_open) tt
+
+  -- the same of the statements of one list of transactions more
+
+  pub takes_listed : (posted : List Asking) (lists : List (Vec ℕ Global)) (txs : Vec ℕ Global)
+      (first : Option (List Asking)) → IsFirst (map (asked_by posted) (lists_in lists)) first
+      → IsOpen tried lent (asked_by posted txs.items) → IsBefore (asked_by posted txs.items) first
+      → IsFirst (map (asked_by posted) (lists_in (lists ++ txs ∷ []))) (Some (asked_by posted txs.items))
+  takes_listed posted lists txs first is is_open before =
+      subst (λ (all : List (List Asking)). IsFirst all (Some (asked_by posted txs.items))) (sym (listed posted lists txs))
+      (takes (map (asked_by posted) (lists_in lists)) (asked_by posted txs.items) first is is_open before)
+
+  pub keeps_listed : (posted : List Asking) (lists : List (Vec ℕ Global)) (txs : Vec ℕ Global)
+      (first : Option (List Asking)) → IsFirst (map (asked_by posted) (lists_in lists)) first
+      → (IsOpen tried lent (asked_by posted txs.items) → IsBefore (asked_by posted txs.items) first → ⊥)
+      → IsFirst (map (asked_by posted) (lists_in (lists ++ txs ∷ []))) first
+  keeps_listed posted lists txs first is later =
+      subst (λ (all : List (List Asking)). IsFirst all first) (sym (listed posted lists txs))
+      (keeps (map (asked_by posted) (lists_in lists)) (asked_by posted txs.items) first is later)
 
 -- ---- in a state
 

@@ -14,14 +14,18 @@ use ent_tree::Duplicate;
 use ent_value::Sequence;
 use std::alloc::{AllocError, Global};
 
-fn is_of(txs: &[Tx], asking: &Asking) -> bool
+pub(crate) fn is_of(txs: &[Tx], asking: &Asking) -> bool
     ensures { result ≡ is_of txs.now asking.now }
 {
     txs.contains(&asking.tx())
 }
 
 /// Copies of the statements of some transactions, in their order.
-fn asked_by(alloc: Global, posted: &[Asking], txs: &[Tx]) -> Result<Sequence<Asking>, AllocError>
+pub(crate) fn asked_by(
+    alloc: Global,
+    posted: &[Asking],
+    txs: &[Tx],
+) -> Result<Sequence<Asking>, AllocError>
     ensures { IfOk result (λ asked. asked ≡ asked_by posted.now txs.now) }
 {
     let mut asked = Sequence::new(alloc);
@@ -48,6 +52,19 @@ fn asked_by_each(
     Ok(found)
 }
 
+/// The transactions of each component of posted statements, by number.
+pub(crate) fn component_txs(alloc: Global, posted: &[Asking]) -> Result<Vec<Vec<Tx>>, AllocError>
+    requires by_number { IsByNumber (pool_of posted.now) }
+    requires safe { IsSafe (pool_of posted.now) }
+    ensures { IfOk result (λ lists. ArePresent posted.now (map (asked_by posted.now) (lists_in lists.items))) }
+{
+    components_are_classes();
+    component_is_named();
+    let pool = pool_of(alloc, posted)?;
+    let lists = pool.components(alloc)?;
+    Ok(lists)
+}
+
 /// The components of posted statements, each by number of its transactions: exactly the present components of each
 /// state in which just these are posted. Statements are copied.
 pub fn components(alloc: Global, posted: &[Asking]) -> Result<Vec<Sequence<Asking>>, AllocError>
@@ -55,10 +72,7 @@ pub fn components(alloc: Global, posted: &[Asking]) -> Result<Vec<Sequence<Askin
     requires safe { IsSafe (pool_of posted.now) }
     ensures { IfOk result (λ found. ArePresent posted.now found.items) }
 {
-    components_are_classes();
-    component_is_named();
-    let pool = pool_of(alloc, posted)?;
-    let lists = pool.components(alloc)?;
+    let lists = component_txs(alloc, posted)?;
     let found = asked_by_each(alloc, posted, lists.as_slice())?;
     Ok(found)
 }

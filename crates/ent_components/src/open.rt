@@ -1,13 +1,17 @@
 //! Components that are neither tried nor out.
-ghost use Rattle.std.specs.Prelude.{◌≡◌, ◌↔◌, Contains, IsTrue, MatchOption};
+ghost use Rattle.std.specs.Prelude.{◌≡◌, ◌↔◌, Contains, IfOk, IsTrue, MatchOption, map};
+ghost use Rattle.ent_match.specs.Components.{lists_in};
 ghost use Rattle.ent_protocol.specs.Job.{Joint};
 ghost use Rattle.ent_protocol.specs.PoolEvents.{first_tx};
+ghost use Rattle.ent_components.specs.Component.{asked_by};
 ghost use Rattle.ent_components.specs.Open.{IsBefore, IsFirstOpen, IsOpen, IsOutAmong, NoneIsOpen};
 
+use crate::component::{asked_by, is_of};
 use ent_eval::{Asking, Job, Work};
 use ent_group::Tx;
 use ent_tree::Same;
 use ent_value::Sequence;
+use std::alloc::{AllocError, Global};
 
 /// Whether two lists are equal, statement by statement.
 pub(crate) fn are_same(mine: &[Asking], theirs: &[Asking]) -> bool
@@ -25,7 +29,7 @@ pub(crate) fn are_same(mine: &[Asking], theirs: &[Asking]) -> bool
 }
 
 /// Whether a list is one of some.
-pub(crate) fn is_among(lists: &[Sequence<Asking>], asked: &[Asking]) -> bool
+fn is_among(lists: &[Sequence<Asking>], asked: &[Asking]) -> bool
     ensures { IsTrue result ↔ Contains lists.now asked.now }
 {
     for other in lists {
@@ -74,30 +78,51 @@ pub(crate) fn first_tx(asked: &[Asking]) -> Tx
     }
 }
 
-/// Whether a list may go before the one that is the first so far.
-fn is_before(asked: &[Asking], first: &Option<Sequence<Asking>>) -> bool
-    ensures { IsTrue result ↔ IsBefore asked.now first.now }
+/// The number of the first of the statements of some transactions; 0 where there is none.
+pub(crate) fn first_tx_of(posted: &[Asking], txs: &[Tx]) -> Tx
+    ensures { result ≡ first_tx (asked_by posted.now txs.now) }
+{
+    let Some((first, rest)) = posted.split_first() else {
+        return 0;
+    };
+    if is_of(txs, first) {
+        first.tx()
+    } else {
+        first_tx_of(rest, txs)
+    }
+}
+
+/// Whether the statements of some transactions may go before those that are the first so far.
+fn is_before(posted: &[Asking], txs: &[Tx], first: &Option<Sequence<Asking>>) -> bool
+    ensures { IsTrue result ↔ IsBefore (asked_by posted.now txs.now) first.now }
 {
     match first {
-        Some(other) => first_tx(asked) < first_tx(other.as_slice()),
+        Some(other) => first_tx_of(posted, txs) < first_tx(other.as_slice()),
         None => true,
     }
 }
 
-/// Of some lists that with the least first member of those that are neither tried nor out.
+/// Of the statements of some lists of transactions those with the least first member that are neither tried nor out.
+/// Only statements that may be these are copied.
 pub(crate) fn first_open(
-    lists: Vec<Sequence<Asking>>,
+    alloc: Global,
+    posted: &[Asking],
+    lists: Vec<Vec<Tx>>,
     tried: &[Sequence<Asking>],
     lent: &[Job],
-) -> Option<Sequence<Asking>>
-    ensures { MatchOption result (NoneIsOpen lists.items tried.now lent.now)
-        (IsFirstOpen lists.items tried.now lent.now) }
+) -> Result<Option<Sequence<Asking>>, AllocError>
+    ensures { IfOk result (λ first.
+        MatchOption first (NoneIsOpen (map (asked_by posted.now) (lists_in lists.items)) tried.now lent.now)
+        (IsFirstOpen (map (asked_by posted.now) (lists_in lists.items)) tried.now lent.now)) }
 {
     let mut first = None;
-    for asked in lists {
-        if is_open(tried, lent, asked.as_slice()) && is_before(asked.as_slice(), &first) {
-            first = Some(asked);
+    for txs in lists {
+        if is_before(posted, txs.as_slice(), &first) {
+            let asked = asked_by(alloc, posted, txs.as_slice())?;
+            if is_open(tried, lent, asked.as_slice()) {
+                first = Some(asked);
+            }
         }
     }
-    first
+    Ok(first)
 }

@@ -7,7 +7,7 @@ ghost use Rattle.ent_protocol.specs.Quiet.{IsLeast, IsUntried, NoneIs};
 ghost use Rattle.ent_protocol.specs.State.{State};
 ghost use Rattle.ent_components.specs.Component.{IsPick, pool_of};
 
-use crate::component::components;
+use crate::component::component_txs;
 use crate::open::{first_open, first_tx};
 use ent_eval::{Asking, Job};
 use ent_group::Tx;
@@ -26,8 +26,9 @@ pub fn pick(
     requires safe { IsSafe (pool_of posted.now) }
     ensures { IfOk result (λ picked. IsPick posted.now tried.now lent.now picked) }
 {
-    let found = components(alloc, posted)?;
-    Ok(first_open(found, tried, lent))
+    let lists = component_txs(alloc, posted)?;
+    let picked = first_open(alloc, posted, lists, tried, lent)?;
+    Ok(picked)
 }
 
 /// The least first transaction of a component that wasn't tried, where there is one.
@@ -43,8 +44,9 @@ pub fn first_untried(
         → s.tried ≡ tried.now
         → MatchOption first (NoneIs (IsUntried s)) (IsLeast (IsUntried s))) }
 {
-    let found = components(alloc, posted)?;
-    match first_open(found, tried, &[]) {
+    let lists = component_txs(alloc, posted)?;
+    let first = first_open(alloc, posted, lists, tried, &[])?;
+    match first {
         Some(asked) => Ok(Some(first_tx(asked.as_slice()))),
         None => Ok(None),
     }

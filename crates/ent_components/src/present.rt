@@ -1,16 +1,55 @@
 //! Whether statements are a component now.
-ghost use Rattle.std.specs.Prelude.{◌≡◌, ◌↔◌, IfOk, IsTrue};
+ghost use Rattle.std.specs.Prelude.{◌≡◌, ◌↔◌, Contains, IfOk, IsTrue, map};
 ghost use Rattle.ent_coordination.specs.Pool.{IsSafe};
+ghost use Rattle.ent_match.specs.Components.{lists_in};
 ghost use Rattle.ent_match.specs.Fault.{IsByNumber};
 ghost use Rattle.ent_protocol.specs.Member.{askings};
 ghost use Rattle.ent_protocol.specs.PoolEvents.{IsPresentComponent};
 ghost use Rattle.ent_protocol.specs.State.{State};
-ghost use Rattle.ent_components.specs.Component.{pool_of};
+ghost use Rattle.ent_components.specs.Component.{asked_by, pool_of};
 
-use crate::component::components;
-use crate::open::is_among;
+use crate::component::{asked_by, component_txs};
+use crate::open::{are_same, first_tx, first_tx_of};
 use ent_eval::Asking;
+use ent_group::Tx;
 use std::alloc::{AllocError, Global};
+
+/// Whether some statements are those of some transactions among what is posted. Those that begin with the same
+/// transaction alone are copied.
+fn are_those_of(
+    alloc: Global,
+    posted: &[Asking],
+    txs: &[Tx],
+    asked: &[Asking],
+) -> Result<bool, AllocError>
+    ensures { IfOk result (λ are. IsTrue are ↔ (asked_by posted.now txs.now ≡ asked.now)) }
+{
+    if first_tx_of(posted, txs) == first_tx(asked) {
+        let own = asked_by(alloc, posted, txs)?;
+        let are = are_same(own.as_slice(), asked);
+        Ok(are)
+    } else {
+        Ok(false)
+    }
+}
+
+/// Whether some statements are those of one of some lists of transactions.
+fn are_those_of_any(
+    alloc: Global,
+    posted: &[Asking],
+    lists: &[Vec<Tx>],
+    asked: &[Asking],
+) -> Result<bool, AllocError>
+    ensures { IfOk result (λ are. IsTrue are ↔ Contains (map (asked_by posted.now) (lists_in lists.now)) asked.now) }
+{
+    let Some((txs, others)) = lists.split_first() else {
+        return Ok(false);
+    };
+    if are_those_of(alloc, posted, txs.as_slice(), asked)? {
+        return Ok(true);
+    }
+    are_those_of_any(alloc, posted, others, asked)
+}
 
 /// Whether some statements are posted just so, of these attempts and at these places, and exactly a component of those
 /// that are posted.
@@ -21,6 +60,7 @@ pub fn is_present(alloc: Global, posted: &[Asking], asked: &[Asking]) -> Result<
         → askings s ≡ posted.now
         → IsTrue is ↔ IsPresentComponent s asked.now) }
 {
-    let found = components(alloc, posted)?;
-    Ok(is_among(found.as_slice(), asked))
+    let lists = component_txs(alloc, posted)?;
+    let is = are_those_of_any(alloc, posted, lists.as_slice(), asked)?;
+    Ok(is)
 }

@@ -24,7 +24,8 @@ use Rattle.ent_protocol.specs.Member.{is_tx}
 use Rattle.ent_protocol.specs.Member.{next_of}
 use Rattle.ent_protocol.specs.Rollback.{Asked, group_numbers, rolled_back}
 use Rattle.ent_protocol.specs.State.{State, Member, Use, first_of}
-use Rattle.ent_protocol.specs.Uses.{blocker, entangled_uses, statement_uses}
+use Rattle.ent_protocol.specs.Uses.{blocker, entangled_uses, is_in_way, not_passed, statement_uses}
+use Rattle.ent_protocol.specs.Waits.{next_uses}
 use Rattle.ent_tree.specs.declared.declaration.Opening.{Opening}
 use Rattle.ent_members.specs.Run.{Run}
 use Rattle.ent_protocol.specs.State.{Submitted}
@@ -82,6 +83,16 @@ one_member x y e = cc
 abbrev absent_unless : Bool → Reply FormFault
 absent_unless b = if b then replies.NotNow else replies.Absent
 
+-- ---- who asks for nothing
+
+none_in_way : (xs : List Member) → filter (is_in_way []) xs ≡ []
+none_in_way [] = refl
+none_in_way (x ∷ xs) = none_in_way xs
+
+-- nobody is in its way
+pub free_at_end : (s : State) (member : Member) → blocker s member [] ≡ None
+free_at_end s member = rw (none_in_way (not_passed s member)) refl
+
 -- ---- where nothing is begun
 
 module _ (s : State) (tx : ℕ) where
@@ -124,7 +135,7 @@ module _ (s : State) (tx : ℕ) where
         let P : Option ℕ → Type 0 = λ o. BeginsOrdinary s member statement o reply new in
         begins_next member (Ordinary statement) begun reply new (subst P (sym is) h)
 
-    pub ordinary_blocked : (holder : ℕ) → blocker s member (statement_uses statement) ≡ Some holder
+    ordinary_blocked : (holder : ℕ) → blocker s member (statement_uses statement) ≡ Some holder
         → Begins {F = FormFault} s tx (replies.Blocked holder) s
     ordinary_blocked holder is = ordinary (Some holder) is (replies.Blocked holder) s (refl, refl)
 
@@ -150,7 +161,7 @@ module _ (s : State) (tx : ℕ) where
         let P : Option ℕ → Type 0 = λ o. BeginsEntangled s member statement o reply new in
         begins_next member (Asks statement) begun reply new (subst P (sym is) h)
 
-    pub entangled_blocked : (holder : ℕ) → blocker s member (entangled_uses statement) ≡ Some holder
+    entangled_blocked : (holder : ℕ) → blocker s member (entangled_uses statement) ≡ Some holder
         → Begins {F = FormFault} s tx (replies.Blocked holder) s
     entangled_blocked holder is = entangled (Some holder) is (replies.Blocked holder) s (refl, refl)
 
@@ -170,6 +181,14 @@ module _ (s : State) (tx : ℕ) where
         posts member begun.there
         ∙ (λ i. with_member (record (holding member (uses_are i)) { posted = true }) s) in
         entangled None none replies.Posted new (inl (safe, refl, as_posted))
+
+  -- whatever comes next, who is in the way of what it asks for is in its way
+  pub begun_blocked : (member : Member) (next : Next) → MayBegin s tx member next → (holder : ℕ)
+      → blocker s member (next_uses next) ≡ Some holder → Begins {F = FormFault} s tx (replies.Blocked holder) s
+  begun_blocked member (Ordinary statement) begun holder is = ordinary_blocked member statement begun holder is
+  begun_blocked member (Asks statement) begun holder is = entangled_blocked member statement begun holder is
+  begun_blocked member Commits begun holder is = let free = free_at_end s member in absurd cc
+  begun_blocked member RollsBack begun holder is = let free = free_at_end s member in absurd cc
 
   pub begun_rolls_back : (begun : IsToBegin s tx RollsBack) (group : ℕ) → IsGroupOf s tx group
       → (numbers : List ℕ) → numbers ≡ group_numbers s group → (new : State) → new ≡ rolled_back group (Asked tx) s

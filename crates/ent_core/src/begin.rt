@@ -1,5 +1,5 @@
 //! A member begins its next statement.
-ghost use Rattle.std.specs.Prelude.{◌≡◌, Some, IfOk, IsOk, OnErr, IsSome};
+ghost use Rattle.std.specs.Prelude.{◌≡◌, Some, None, IfOk, IsOk, OnErr, IsSome};
 ghost use Rattle.ent_core.specs.Begin.{Follows, LendsTo, MayBegin};
 ghost use Rattle.ent_core.specs.Kept.{IsKeptState};
 ghost use Rattle.ent_core.specs.Reply.{reply_seen};
@@ -8,6 +8,8 @@ ghost use Rattle.ent_protocol.specs.Begin.{Begins};
 ghost use Rattle.ent_protocol.specs.Event as replies;
 ghost use Rattle.ent_protocol.specs.Member.{Asks, Ordinary, RollsBack, active_member, next_of};
 ghost use Rattle.ent_protocol.specs.State.{Member};
+ghost use Rattle.ent_protocol.specs.Uses.{blocker, entangled_uses, statement_uses};
+ghost use Rattle.ent_protocol.specs.Waits.{next_uses};
 
 use crate::commit::commit;
 use crate::reply::Reply;
@@ -19,7 +21,7 @@ use ent_eval::{Asking, Job, Single};
 use ent_form::FormFault;
 use ent_group::Tx;
 use ent_members::{Member, Uses, entangled_uses, statement_uses, uses_are_kept_by_closing};
-use ent_next::{Next, askings, next_of};
+use ent_next::{Next, askings, next_form, next_of};
 use ent_ready::{begun_statements_are_work, used_tables_are_declared};
 use ent_roster::Cause;
 use ent_standing::{
@@ -43,7 +45,7 @@ enum Plan {
     RollsBack(Tx),
 }
 
-/// What an ordinary statement comes to.
+/// What an ordinary statement comes to that nobody is in the way of.
 fn plan_ordinary(
     store: &Store,
     member: &Member,
@@ -51,6 +53,7 @@ fn plan_ordinary(
 ) -> Result<Plan, AllocError>
     requires kept { IsKeptState store.now }
     requires next { MayBegin store.now member.now.tx member.now (Ordinary statement) }
+    requires unblocked { blocker store.now member.now (statement_uses statement) ≡ None }
     ensures { IfOk result (λ plan. Follows store.now member.now.tx plan) }
 {
     // Laws: the tables that it uses are there, and it fits them.
@@ -58,9 +61,6 @@ fn plan_ordinary(
     used_tables_are_declared();
     begun_statements_are_work();
     let uses = statement_uses(&statement);
-    if let Some(holder) = store.run.blocker(member, uses.as_slice()) {
-        return Ok(Plan::Refuses(Reply::Blocked(holder)));
-    }
     let _declared = store.tables.len();
     let tables = store.tables.seen(store.alloc, uses.as_slice())?;
     let place = member.place() as u64;
@@ -69,7 +69,7 @@ fn plan_ordinary(
     Ok(Plan::Lends(job, uses))
 }
 
-/// What an entangled statement comes to.
+/// What an entangled statement comes to that nobody is in the way of.
 fn plan_entangled(
     store: &Store,
     member: &Member,
@@ -77,6 +77,7 @@ fn plan_entangled(
 ) -> Result<Plan, AllocError>
     requires kept { IsKeptState store.now }
     requires next { MayBegin store.now member.now.tx member.now (Asks statement) }
+    requires unblocked { blocker store.now member.now (entangled_uses statement) ≡ None }
     ensures { IfOk result (λ plan. Follows store.now member.now.tx plan) }
 {
     // Laws: the pool is safe and stands by number.
@@ -84,15 +85,23 @@ fn plan_entangled(
     members_stand_by_number::<FormFault>();
     pools_are_safe::<FormFault>();
     let uses = entangled_uses(&statement);
-    if let Some(holder) = store.run.blocker(member, uses.as_slice()) {
-        return Ok(Plan::Refuses(Reply::Blocked(holder)));
-    }
     let posted = askings(store.alloc, store.submitted.as_slice(), store.run.active())?;
     let place = member.place() as u64;
     let asking = Asking::new(member.tx(), member.attempt(), place, statement);
     match post_fault(store.alloc, posted.as_slice(), &asking)? {
         Some(fault) => Ok(Plan::Refuses(Reply::HeldBack(fault))),
         None => Ok(Plan::Posts(uses)),
+    }
+}
+
+/// The least member that is in the way of what a member does next. It takes no memory, so that it is asked for before
+/// the statement is closed.
+fn blocker_of(store: &Store, member: &Member) -> Option<Tx>
+    ensures { result ≡ blocker store.now member.now (next_uses (next_of store.now member.now)) }
+{
+    match next_form(store.submitted.as_slice(), member) {
+        Some(form) => store.run.blocker(member, statement_uses(form).as_slice()),
+        None => None,
     }
 }
 
@@ -103,6 +112,9 @@ fn plan_next(store: &Store, member: &Member) -> Result<Plan, AllocError>
     ensures follows { IfOk result (λ plan. Follows store.now member.now.tx plan) }
     ensures rolls_back { next_of store.now member.now ≡ RollsBack → IsOk result }
 {
+    if let Some(holder) = blocker_of(store, member) {
+        return Ok(Plan::Refuses(Reply::Blocked(holder)));
+    }
     match next_of(store.alloc, store.submitted.as_slice(), member)? {
         Next::Ordinary(statement) => plan_ordinary(store, member, statement),
         Next::Asks(statement) => plan_entangled(store, member, statement),

@@ -7,27 +7,16 @@ use Rattle.ent_tree.specs.declared.declaration.Create.{Create}
 use Rattle.ent_protocol.specs.Job.{Seen, Single, One}
 use Rattle.ent_protocol.specs.Member.{seen_now}
 use Rattle.ent_protocol.specs.State.{State, Use}
-use Rattle.ent_protocol.specs.Uses.{blocker, statement_uses}
+use Rattle.ent_protocol.specs.Uses.{statement_uses}
 use Rattle.ent_protocol.specs.Waits.{next_uses}
-use Rattle.ent_core.specs.contracts.store.Store.{the_view}
-use Rattle.ent_core.proofs.Begun.{member_found, ordinary_blocked, ordinary_lent, some_found}
+use Rattle.ent_core.proofs.Begun.{member_found, ordinary_lent, some_found}
 use Rattle.ent_core.proofs.begin.plan_ordinary.Goals as goal
-
-pub returns-in-Some : goal.returns-in-Some
-returns-in-Some c =
-    let s : State = the_view c.store.inside in
-    let member = c.args.member.now in
-    let uses = c.as_slice.ensures.list ∙ c.statement_uses-uses.ensures
-    ∙ c.uses_are_kept_by_closing.ensures.statement c.args.statement in
-    ordinary_blocked c.args.store.now member.tx member c.args.statement c.requires.next c.in-Some.holder
-    (ap (λ (x : State). blocker x member (statement_uses c.args.statement)) (sym c.store.view_is)
-    ∙ ap (blocker s member) (sym uses) ∙ sym (c.in-Some.ensures s))
 
 pub seen-requires : goal.seen-requires
 seen-requires c =
     let inside = c.store.inside in
     let now = c.args.store.now in
-    let uses = c.as_slice-2.ensures.list ∙ c.statement_uses-uses.ensures
+    let uses = c.as_slice.ensures.list ∙ c.statement_uses-uses.ensures
     ∙ c.uses_are_kept_by_closing.ensures.statement c.args.statement in
     let all = c.used_tables_are_declared.ensures.next now c.args.member.now c.requires.kept.reached in
     let count : length now.opening.tables ≡ length inside.tables.tables =
@@ -35,8 +24,8 @@ seen-requires c =
     ∙ sym (length-map inside.opening.tables (λ (create : Create). map (λ column. column.kind) create.columns))
     ∙ ap length (sym c.store.invariant.kinds) ∙ sym c.len-declared.ensures.kinds ∙ c.len-declared.ensures.tables in
     let P : ℕ → List Use → Type 0 = λ n asked. All (λ own. own.table < n) asked in
-    let Q : ℕ → Type 0 = λ n. P n c.as_slice-2.result.now in
-    recursion_from_All (λ (own : Use). own.table < length inside.tables.tables) c.as_slice-2.result.now
+    let Q : ℕ → Type 0 = λ n. P n c.as_slice.result.now in
+    recursion_from_All (λ (own : Use). own.table < length inside.tables.tables) c.as_slice.result.now
     (subst Q count (subst (P (length now.opening.tables)) (ap next_uses c.requires.next.is_next ∙ sym uses) all))
 
 pub one-job-requires : goal.one-job-requires
@@ -45,7 +34,7 @@ one-job-requires c =
     let now = c.args.store.now in
     let member = c.args.member.now in
     let statement = c.args.statement in
-    let uses = c.as_slice-2.ensures.list ∙ c.statement_uses-uses.ensures
+    let uses = c.as_slice.ensures.list ∙ c.statement_uses-uses.ensures
     ∙ c.uses_are_kept_by_closing.ensures.statement statement in
     let single = c.new-single.ensures ∙ (λ i. record {
       tx = c.tx.ensures i;
@@ -70,14 +59,11 @@ one-job-requires c =
 
 pub returns : goal.returns
 returns c =
-    let s : State = the_view c.store.inside in
     let inside = c.store.inside in
     let now = c.args.store.now in
     let member = c.args.member.now in
     let statement = c.args.statement in
     let uses = c.statement_uses-uses.ensures ∙ c.uses_are_kept_by_closing.ensures.statement statement in
-    let none = ap (λ (x : State). blocker x member (statement_uses statement)) (sym c.store.view_is)
-    ∙ ap (blocker s member) (sym (c.as_slice.ensures.list ∙ uses)) ∙ sym (c.in_default.ensures s) in
     let single = c.new-single.ensures ∙ (λ i. record {
       tx = c.tx.ensures i;
       attempt = c.attempt.ensures i;
@@ -86,9 +72,9 @@ returns c =
     }) in
     let seen : c.in_ok-tables.tables ≡ seen_now now.opening.tables now.tables (statement_uses statement) =
     c.in_ok-tables.ensures inside.opening.tables (sym c.store.invariant.kinds)
-    ∙ ap (seen_now inside.opening.tables inside.tables.tables) (c.as_slice-2.ensures.list ∙ uses)
+    ∙ ap (seen_now inside.opening.tables inside.tables.tables) (c.as_slice.ensures.list ∙ uses)
     ∙ ap (λ (x : State). seen_now x.opening.tables x.tables (statement_uses statement)) c.store.view_is in (
       some_found member.tx now.active member c.requires.next.there,
-      ordinary_lent now member.tx member statement c.requires.next none c.statement_uses-uses.result uses
+      ordinary_lent now member.tx member statement c.requires.next c.requires.unblocked c.statement_uses-uses.result uses
           c.one-job.result (c.one-job.ensures ∙ (λ i. record { work = One (single i); tables = seen i })),
     )
