@@ -32,3 +32,8 @@ pub record PassesOver (column : ℕ) (value : Value) (before after : List (List 
   pub passed : List (List Value)
   pub all_same : AllByRecursion (λ row. slice_index_or row column no_value ≡ value) passed
   pub are : before ≡ passed ++ after
+
+-- the first of some rows, where there is one, has another value in a column
+abbrev pub BeginsOtherwise : ℕ → Value → List (List Value) → Type 0
+BeginsOtherwise column value [] = Unit {0}
+BeginsOtherwise column value (row ∷ rows) = slice_index_or row column no_value ≢ value

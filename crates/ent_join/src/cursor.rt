@@ -4,7 +4,7 @@ ghost use Rattle.std.specs.Prelude.{slice_index_or, if◌then◌else◌};
 ghost use Rattle.std.specs.List.{AllByRecursion};
 ghost use Rattle.ent_value.specs.declared.value.Value.{Value as Held};
 ghost use Rattle.ent_semantics.specs.Term.{no_value};
-ghost use Rattle.ent_join.specs.Cursor.{IsNext, PassesOver, column_values};
+ghost use Rattle.ent_join.specs.Cursor.{BeginsOtherwise, IsNext, PassesOver, column_values};
 ghost use Rattle.ent_value.specs.Ticks.{ticked};
 
 use ent_value::{Row, Ticks, Value};
@@ -62,6 +62,7 @@ fn rows_behind<'a>(rows: &'a [Row], column: usize, value: &Value) -> &'a [Row]
     requires { AllByRecursion (λ row. column < length row) rows.now }
     ensures has_column { AllByRecursion (λ row. column < length row) result.now }
     ensures passed { PassesOver column value.now rows.now result.now }
+    ensures all { BeginsOtherwise column value.now result.now }
 {
     let mut left = rows;
     while let [first, others @ ..] = left {
