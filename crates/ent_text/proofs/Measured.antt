@@ -89,3 +89,8 @@ text_is_seen place len bytes behind rest is (inside, e, size) le =
     let read : text_at place bytes ≡ Ok (Some (Literal inside), rest) = rw (here, few) refl in
     let same : inside ≡ content behind = ap content_of (sym there) in
     (read ∙ ap (λ (xs : List ℕ). let r : Result Piece TextFault = Ok (Some (Literal xs), rest) in r) same, ((inside, rest), there, omega arith))
+
+pub two_there : (rest : List ℕ) → get_or rest 1 0 ≡ 39 → 1 < length rest
+two_there [] e = absurd (omega arith)
+two_there (x ∷ []) e = absurd (omega arith)
+two_there (x ∷ y ∷ rest) e = omega arith

@@ -1,5 +1,5 @@
 -- Reading on in what is left of a text.
-use Rattle.std.proofs.Common.{◌≡◌, ℕ, zero, suc, ◌+◌, ◌-◌, ◌<◌, ◌≤◌, List, [], ◌∷◌, ◌++◌, length, drop, append_assoc, Result, Ok, Err, refl, ap, sym, ◌∙◌, arith, Option, Some, None}
+use Rattle.std.proofs.Common.{◌≡◌, ℕ, zero, suc, ◌+◌, ◌-◌, ◌<◌, ◌≤◌, List, [], ◌∷◌, ◌++◌, length, drop, append_assoc, Result, Ok, Err, refl, ap, sym, subst, ◌∙◌, arith, Option, Some, None}
 use Rattle.std.proofs.lemmas.List.{append-nil}
 use Rattle.ent_value.specs.declared.refusal.Refusal.TheVariants as errors
 use Rattle.ent_text.specs.declared.fault.TextFault.{TextFault}
@@ -7,8 +7,8 @@ use Rattle.ent_text.specs.declared.token.Token.{Token}
 use Rattle.ent_text.specs.declared.token.TokenKind.{TokenKind}
 use Rattle.ent_value.specs.Refusal.{◌>>=◌}
 use Rattle.ent_text.specs.Lexing.{tokens_from, tokens_of, piece_at, Piece, with_token}
-use Rattle.ent_text.specs.Left.{tokens_or_none, tokens_left, IsFaultless, kind_of_first, start_of_first, end_of_first, tokens_seen}
-use Rattle.ent_text.specs.View.{kind_seen, kind_if_seen}
+use Rattle.ent_text.specs.Left.{tokens_or_none, tokens_left, IsFaultless, kind_of_first, start_of_first, end_of_first, tokens_seen, IsAtEnd}
+use Rattle.ent_text.specs.View.{kind_seen, kind_if_seen, CanBeMade, CanBeMadeIfSeen}
 use Rattle.ent_text.specs.declared.view.TokenView.{TokenView}
 use Rattle.ent_text.proofs.Shorter.{piece_shorter}
 use Rattle.ent_text.proofs.Rest.{with_tokens, LeftToRead, left_at_first, nothing_left, fault_here, left_behind}
@@ -153,3 +153,25 @@ none_more found (t ∷ ts) total e kept = absurd cc
 pub one_fewer : (ts : List Token) (kind : TokenKind) → kind_of_first ts ≡ Some kind → length (drop 1 ts) < length ts
 one_fewer [] kind e = absurd cc
 one_fewer (t ∷ ts) kind e = omega arith
+
+-- where nothing is left, there is no fault and no token
+pub none_there : (place : ℕ) (rest : List ℕ) → length rest ≡ 0 → IsFaultless place rest
+none_there place [] e = nothing_faultless place
+none_there place (b ∷ rest) e = absurd (omega arith)
+
+pub empty_there : (rest : List ℕ) → length rest ≡ 0 → rest ≡ []
+empty_there [] e = refl
+empty_there (b ∷ rest) e = absurd (omega arith)
+
+-- what was seen can be made
+pub made_there : (front : Option TokenView) (view : TokenView) → front ≡ Some view → CanBeMadeIfSeen front → CanBeMade view
+made_there None view e made = absurd cc
+made_there (Some seen) view e made = let same : seen ≡ view = cc in subst CanBeMade same made
+
+-- the tokens behind the first
+pub behind_first : (front : Option TokenView) (start end : ℕ) (behind : List ℕ) → IsAtEnd front behind → tokens_left end behind ≡ drop 1 (tokens_seen front start end behind)
+behind_first None start end behind at_end = ap (tokens_left end) at_end ∙ nothing_left_there end
+behind_first (Some view) start end behind at_end = refl
+
+pub tokens_there : (bytes text : List ℕ) (tokens : List Token) → bytes ≡ text → tokens ≡ tokens_left 0 bytes → IsFaultless 0 bytes → (let r : Tokens = Ok tokens in r) ≡ tokens_of text
+tokens_there bytes text tokens same is faultless = ap (λ (ts : List Token). let r : Tokens = Ok ts in r) is ∙ sym (all_of bytes faultless) ∙ ap tokens_of same
