@@ -1,12 +1,11 @@
 -- The length of what stands in quotes.
-use Rattle.std.proofs.Common.{◌≡◌, ℕ, ◌+◌, ◌<◌, ◌≤◌, Bool, true, false, List, [], ◌∷◌, ◌++◌, length, drop, get_or, Result, Ok, Err, refl, ap, sym, ◌∙◌, arith, eqb, Some, cond, ltb}
+use Rattle.std.proofs.Common.{◌≡◌, ℕ, ◌+◌, ◌<◌, ◌≤◌, Bool, true, false, List, [], ◌∷◌, length, drop, get_or, Result, Ok, Err, refl, ap, sym, ◌∙◌, arith, eqb, Some, cond, ltb}
 use Rattle.std.proofs.lemmas.Bool.{ne_eqb}
 use Rattle.std.proofs.lemmas.Bool.Decides.{nat_tests}
 use Rattle.std.proofs.lemmas.List.{append-nil}
 use Rattle.std.specs.Char.{is_ascii_control}
 use Rattle.ent_text.specs.declared.fault.TextFault.{TextFault}
 use Rattle.ent_text.specs.declared.fault.TextFault.TheVariants.{BadChar, OpenText}
-use Rattle.ent_value.specs.Refusal.{◌>>=◌}
 use Rattle.ent_text.specs.Lexing.{Piece, with_byte, quoted_at, text_at}
 use Rattle.ent_text.specs.View.{content, content_of, IsContent}
 use Rattle.ent_text.specs.declared.token.TokenKind.TheVariants.{Literal}

@@ -92,10 +92,12 @@ token_on place rest behind kind all lt e left = on (left_behind [] place rest (O
         → (IsFaultless (place + (length rest - length behind)) behind)
         × (record { kind = kind; start = place; end = place + (length rest - length behind) } ∷ tokens_left (place + (length rest - length behind)) behind ≡ all)
     by (Ok ts) is kept =
-        let same : record { kind = kind; start = place; end = place + (length rest - length behind) } ∷ ts ≡ all = cc in
-        (is_ok (tokens_from (length behind) (place + (length rest - length behind)) behind) ts is,
-        ap (λ (r : Tokens). let xs : List Token = record { kind = kind; start = place; end = place + (length rest - length behind) } ∷ tokens_or_none r in xs) is ∙ same)
+        let same : record { kind = kind; start = place; end = place + (length rest - length behind) } ∷ ts ≡ all = cc in (
+          is_ok (tokens_from (length behind) (place + (length rest - length behind)) behind) ts is,
+          ap (λ (r : Tokens). let xs : List Token = record { kind = kind; start = place; end = place + (length rest - length behind) } ∷ tokens_or_none r in xs) is ∙ same,
+        )
     by (Err f) is kept = absurd cc
+
     on : LeftToRead (record { kind = kind; start = place; end = place + (length rest - length behind) } ∷ []) (place + (length rest - length behind)) behind (Ok all)
         → (IsFaultless (place + (length rest - length behind)) behind)
         × (record { kind = kind; start = place; end = place + (length rest - length behind) } ∷ tokens_left (place + (length rest - length behind)) behind ≡ all)

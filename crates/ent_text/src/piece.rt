@@ -65,10 +65,7 @@ fn number_at(place: usize, bytes: &[u8]) -> Result<(Option<TokenView<'_>>, &[u8]
 }
 
 #[tactic(auto, unfolding(crate::specs::Lexing::text_at))]
-fn text_at(
-    place: usize,
-    bytes: &[u8],
-) -> Result<(Option<TokenView<'_>>, &[u8]), TextFault>
+fn text_at(place: usize, bytes: &[u8]) -> Result<(Option<TokenView<'_>>, &[u8]), TextFault>
     requires room { place + length bytes.now < 2 ^ 64 }
     requires nonempty { 0 < length bytes.now }
     ensures { Sees result (text_at place bytes.now) }
@@ -108,10 +105,7 @@ pub(crate) fn piece_at(
 }
 
 #[tactic(auto, unfolding(crate::specs::Lexing::piece_at))]
-fn piece(
-    place: usize,
-    bytes: &[u8],
-) -> Result<(Option<TokenView<'_>>, &[u8]), TextFault>
+fn piece(place: usize, bytes: &[u8]) -> Result<(Option<TokenView<'_>>, &[u8]), TextFault>
     requires room { place + length bytes.now < 2 ^ 64 }
     requires nonempty { 0 < length bytes.now }
     ensures { Sees result (piece_at place bytes.now) }

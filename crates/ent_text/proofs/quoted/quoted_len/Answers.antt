@@ -1,4 +1,4 @@
-use Rattle.std.proofs.Common.{◌≡◌, ◌∙◌, ◌++◌, ◌∷◌, [], ℕ, sym, refl, arith, get_or, length}
+use Rattle.std.proofs.Common.{◌≡◌, ◌∙◌, ◌++◌, ◌∷◌, [], sym, refl, arith, get_or}
 use Rattle.std.proofs.lemmas.List.{length-append}
 use Rattle.ent_text.proofs.Reading.{left_length, on_other, on_doubled}
 use Rattle.ent_text.proofs.Measured.{begins, two_there}
@@ -20,8 +20,11 @@ loop-rest-preserved-then-byte-eq39 c =
     record {
       place = omega arith;
       few = omega arith;
-      whole = (front ++ 39 ∷ [], omega (arith, length-append front (39 ∷ []), c.loop-rest.invariant.whole.1),
-          on_doubled c.args.quote c.loop-rest.at front (front ++ 39 ∷ []) c.loop-rest.rest.now c.tail-rest.result.now _ (omega arith) c.if-byte-eq39.true also refl c.tail-rest.ensures c.loop-rest.invariant.whole.2);
+      whole = (
+        front ++ 39 ∷ [],
+        omega (arith, length-append front (39 ∷ []), c.loop-rest.invariant.whole.1),
+        on_doubled c.args.quote c.loop-rest.at front (front ++ 39 ∷ []) c.loop-rest.rest.now c.tail-rest.result.now _ (omega arith) c.if-byte-eq39.true also refl c.tail-rest.ensures c.loop-rest.invariant.whole.2,
+      );
     }
 
 pub loop-rest-preserved : goal.loop-rest-preserved
@@ -32,7 +35,10 @@ loop-rest-preserved c =
     record {
       place = omega arith;
       few = omega arith;
-      whole = (front ++ b ∷ [], omega (arith, length-append front (b ∷ []), c.loop-rest.invariant.whole.1),
-          on_other c.args.quote c.loop-rest.at b front (front ++ b ∷ []) c.loop-rest.rest.now c.tail-rest-else-byte-eq39.result.now _ (omega arith) refl c.if-byte-eq39.false (sym c.is_ascii_control.ensures.value ∙ c.if-is_ascii_control.false)
-          refl c.tail-rest-else-byte-eq39.ensures c.loop-rest.invariant.whole.2);
+      whole = (
+        front ++ b ∷ [],
+        omega (arith, length-append front (b ∷ []), c.loop-rest.invariant.whole.1),
+        on_other c.args.quote c.loop-rest.at b front (front ++ b ∷ []) c.loop-rest.rest.now c.tail-rest-else-byte-eq39.result.now _ (omega arith) refl c.if-byte-eq39.false (sym c.is_ascii_control.ensures.value ∙ c.if-is_ascii_control.false)
+            refl c.tail-rest-else-byte-eq39.ensures c.loop-rest.invariant.whole.2,
+      );
     }
