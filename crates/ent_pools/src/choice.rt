@@ -1,10 +1,12 @@
 //! Plans and least choices of a pool's statements, over the tables of its opening.
-ghost use Rattle.std.specs.Prelude.{◌≡◌, ◌≢◌, Contains, IsTrue};
+ghost use Rattle.std.specs.Prelude.{◌≡◌, ◌≢◌, Contains, IfOk, IsTrue, map};
+ghost use Rattle.std.specs.Arc.{arc_value};
 ghost use Rattle.std.specs.List.{list_any};
 ghost use Rattle.ent_value.specs.declared.value.Value.{Value as Held};
 ghost use Rattle.ent_closed.specs.declared.entangled.Atom.{Atom as HeadAtom};
 ghost use Rattle.ent_join.specs.Ranged.{AreRanged, IsRanged, is_variable, stands_in};
 ghost use Rattle.ent_plan.specs.Plan.{HasDistinctHeads, HaveDistinctHeads};
+ghost use Rattle.ent_pools.specs.Answers.{rows_by_number, rows_of};
 
 use crate::reply::put;
 use anyhow::{Context, Result, bail};
@@ -47,7 +49,7 @@ fn is_bound(memberships: &[Membership<Value>], number: usize) -> bool
 }
 
 /// Whether each written variable stands in a tuple of a sub-select.
-fn is_ranged(statement: &Entangled<Value>) -> bool
+pub(crate) fn is_ranged(statement: &Entangled<Value>) -> bool
     ensures { IsTrue result → IsRanged statement.now }
 {
     for number in 0..statement.variables.len() {
@@ -81,7 +83,7 @@ fn is_new(heads: &[Atom<Value>], head: &Atom<Value>) -> bool
 }
 
 /// Whether the heads of a statement are of distinct relations.
-fn has_distinct_heads(member: &Member) -> bool
+pub(crate) fn has_distinct_heads(member: &Member) -> bool
     ensures { IsTrue result → HasDistinctHeads member.now }
 {
     let heads = member.statement().heads.as_slice();
@@ -125,12 +127,32 @@ pub(crate) fn put_plan(alloc: Global, pool: &Pool, txs: &[Tx], out: &mut Vec<u8>
     }
 }
 
+/// The table of a number, shared.
+fn table_of(tables: &[Arc<Table>], number: usize) -> Result<Arc<Table>>
+    ensures { IfOk result (λ table. (arc_value table).rows
+        ≡ rows_of (rows_by_number (map arc_value tables.now)) number) }
+{
+    match tables.get(number) {
+        None => bail!("there is no such table"),
+        Some(table) => {
+            let shared = table.clone()?;
+            Ok(shared)
+        }
+    }
+}
+
 /// The tables of these numbers.
-fn shared(alloc: Global, tables: &[Arc<Table>], numbers: &[usize]) -> Result<Vec<Arc<Table>>> {
+pub(crate) fn tables_of(
+    alloc: Global,
+    tables: &[Arc<Table>],
+    numbers: &[usize],
+) -> Result<Vec<Arc<Table>>>
+    ensures { IfOk result (λ found. rows_by_number (map arc_value found.items)
+        ≡ map (rows_of (rows_by_number (map arc_value tables.now))) numbers.now) }
+{
     let mut found = Vec::new(alloc);
     for number in numbers {
-        let table = tables.get(*number).context("there is no such table")?;
-        found.push(table.clone()?)?;
+        found.push(table_of(tables, *number)?)?;
     }
     Ok(found)
 }
@@ -151,9 +173,10 @@ fn put_grounding(
     put(out, ")")
 }
 
-fn put_groundings(
+/// Of each transaction its values.
+pub(crate) fn put_groundings(
     alloc: Global,
-    members: &[Member],
+    txs: &[Tx],
     groundings: &[Sequence<Value>],
     out: &mut Vec<u8>,
 ) -> Result<()> {
@@ -161,10 +184,16 @@ fn put_groundings(
         if number > 0 {
             put(out, " ")?;
         }
-        let member = members.get(number).context("there is no such member")?;
-        put_grounding(alloc, member.tx(), grounding, out)?;
+        let tx = txs.get(number).context("there is no such transaction")?;
+        put_grounding(alloc, *tx, grounding, out)?;
     }
     Ok(())
+}
+
+/// The transactions of statements.
+pub(crate) fn transactions(alloc: Global, members: &[Member]) -> Result<Vec<Tx>> {
+    let txs = members.iter().map(|member| member.tx()).collect(alloc)?;
+    Ok(txs)
 }
 
 /// What the search over the tables finds for some statements, and the ticks.
@@ -177,11 +206,14 @@ fn put_found(
     if !are_ranged(plan.members()) {
         bail!("a variable stands in no tuple of a sub-select");
     }
-    let tables = shared(alloc, tables, plan.tables())?;
+    let tables = tables_of(alloc, tables, plan.tables())?;
     let mut ticks = Ticks::new();
     match first_with(alloc, plan, tables.as_slice(), &mut ticks)? {
         None => put(out, "none")?,
-        Some(groundings) => put_groundings(alloc, plan.members(), groundings.as_slice(), out)?,
+        Some(groundings) => {
+            let txs = transactions(alloc, plan.members())?;
+            put_groundings(alloc, txs.as_slice(), groundings.as_slice(), out)?;
+        }
     }
     Ok(ticks)
 }

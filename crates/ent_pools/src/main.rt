@@ -6,6 +6,7 @@
 mod atoms;
 mod choice;
 mod classes;
+mod matcher;
 mod pool;
 mod reply;
 mod stage;

@@ -1,9 +1,10 @@
-//! Pools: `== pool`. Statements are posted to a pool and withdrawn, and it tells its components, and the plans and least
-//! choices of its statements.
+//! Pools: `== pool`. Statements are posted to a pool and withdrawn, and it tells its components, and the plans and
+//! least choices of its statements.
 ghost use Rattle.std.specs.Prelude.{IsTrue};
 ghost use Rattle.ent_match.specs.Posting.{HasNone};
 
-use crate::choice::{put_choice, put_plan};
+use crate::choice::{put_choice, put_plan, transactions};
+use crate::matcher::put_answers;
 use crate::reply::{put, put_numbers};
 use crate::statement::{entangled, opening_tables};
 use crate::words::{first_word, number, numbers};
@@ -37,6 +38,7 @@ impl Posted {
         match call {
             "tables" => self.declare(alloc, rest, out),
             "post" => self.post(alloc, rest, out),
+            "answer" => self.answer(alloc, rest, out),
             "withdraw" => {
                 self.pool.withdraw(number(rest)?);
                 put_members(alloc, &self.pool, out)
@@ -70,14 +72,25 @@ impl Posted {
     }
 
     fn post(&mut self, alloc: Global, rest: &str, out: &mut Vec<u8>) -> Result<()> {
-        let (tx, text) = first_word(rest);
-        let statement = entangled(alloc, self.opening.as_str(), text)?;
-        post_to(&mut self.pool, Member::new(number(tx)?, statement), out)
+        let member = member_of(alloc, self.opening.as_str(), rest)?;
+        post_to(&mut self.pool, member, out)
+    }
+
+    fn answer(&mut self, alloc: Global, rest: &str, out: &mut Vec<u8>) -> Result<()> {
+        let member = member_of(alloc, self.opening.as_str(), rest)?;
+        put_answers(alloc, &mut self.pool, member, self.tables.as_slice(), out)
     }
 }
 
+/// A transaction and its statement.
+fn member_of(alloc: Global, opening: &str, text: &str) -> Result<Member> {
+    let (tx, text) = first_word(text);
+    let statement = entangled(alloc, opening, text)?;
+    Ok(Member::new(number(tx)?, statement))
+}
+
 /// Whether no statement of the member's transaction is there.
-fn has_none(members: &[Member], member: &Member) -> bool
+pub(crate) fn has_none(members: &[Member], member: &Member) -> bool
     ensures { IsTrue result → HasNone members.now member.now }
 {
     for other in members {
@@ -113,11 +126,7 @@ fn put_fault(why: PostFault, back: Tx, out: &mut Vec<u8>) -> Result<()> {
 }
 
 fn put_members(alloc: Global, pool: &Pool, out: &mut Vec<u8>) -> Result<()> {
-    let members: Vec<Tx> = pool
-        .members()
-        .iter()
-        .map(|member| member.tx())
-        .collect(alloc)?;
+    let members = transactions(alloc, pool.members())?;
     if members.is_empty() {
         return put(out, "nobody");
     }
