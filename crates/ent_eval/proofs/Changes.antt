@@ -22,13 +22,14 @@ use Rattle.ent_semantics.specs.declared.answer.Answer.TheVariants as answers
 use Rattle.ent_semantics.specs.declared.answer.Failure.{Failure}
 use Rattle.ent_semantics.specs.declared.answer.Failure.TheVariants.{Overflow, TableFull}
 use Rattle.ent_closed.specs.Form.{Tables, closed_worth, form_meaning}
+use Rattle.ent_closed.specs.Kinds.{tables_named}
 use Rattle.ent_closed.specs.declared.operand.Operand.{Operand}
 use Rattle.ent_closed.specs.declared.statement.Statement.{Statement}
 use Rattle.ent_closed.specs.declared.statement.Statement.TheVariants as statements
 use Rattle.ent_select.specs.Tables.{rows_in}
 use Rattle.ent_select.specs.Worth.{value_in}
 use Rattle.ent_eval.specs.Change.{or_full, image_or_overflow, replacement_of, Changes, IsFault}
-use Rattle.ent_eval.specs.Meant.{tables_named, rows_under, changed_table, effect_of, IsMeant, CanBeApplied}
+use Rattle.ent_eval.specs.Meant.{rows_under, changed_table, effect_of, IsMeant, CanBeApplied}
 use Rattle.ent_eval.specs.Worth.{image_of, there_or_overflow}
 use Rattle.ent_eval.specs.declared.outcome.Outcome.{Outcome}
 use Rattle.ent_eval.specs.declared.outcome.Outcome.TheVariants as outcomes

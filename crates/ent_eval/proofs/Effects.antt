@@ -25,8 +25,8 @@ use Rattle.ent_protocol.specs.State.{Use}
 use Rattle.ent_protocol.specs.Uses.{shared, statement_uses}
 use Rattle.ent_select.specs.Tables.{kinds_in, rows_in}
 use Rattle.ent_eval.specs.Change.{IsApplicable}
-use Rattle.ent_eval.specs.Kinds.{Fits}
-use Rattle.ent_eval.specs.Meant.{tables_named, rows_under, effect_of, IsMeant, CanBeApplied}
+use Rattle.ent_closed.specs.Kinds.{Fits, tables_named}
+use Rattle.ent_eval.specs.Meant.{rows_under, effect_of, IsMeant, CanBeApplied}
 use Rattle.ent_eval.specs.Meant as meant
 use Rattle.ent_eval.specs.Seen.{relation_of}
 use Rattle.ent_eval.specs.Work.{AreUsed, IsOne, IsRight, CanBeMade, alone_seen}

@@ -20,7 +20,7 @@ use Rattle.ent_closed.specs.declared.operand.Operand.{Operand}
 use Rattle.ent_closed.specs.declared.operand.Operand.TheVariants as operands
 use Rattle.ent_select.specs.Worth.{value_in}
 use Rattle.ent_eval.specs.Change.{image_or_overflow}
-use Rattle.ent_eval.specs.Kinds.{operand_kind, expression_kind, KeepsKinds}
+use Rattle.ent_closed.specs.Kinds.{operand_kind, expression_kind, KeepsKinds}
 use Rattle.ent_eval.specs.Worth.{image_of, there_or_overflow}
 
 kind_of_column : (row : List Value) (number : ℕ) (kind : Kind) → slice_get (kinds_of row) number ≡ Some kind

@@ -1,5 +1,4 @@
 pub mod Worth
-pub mod Kinds
 pub mod Change
 pub mod Meant
 pub mod Setting

@@ -1,6 +1,5 @@
 -- What a statement's outcome says of every database in which its tables stand.
 use Rattle.std.specs.Prelude.{◌≡◌, ℕ, List, [], ◌∷◌, map, Ok, Err, slice_index_or, slice_set}
-use Rattle.std.specs.List.{flat_map}
 use Rattle.ent_set.specs.Sets as set
 use Rattle.ent_value.specs.declared.value.Value.{Value}
 use Rattle.ent_rel.specs.Change.{changed_rows}
@@ -10,20 +9,12 @@ use Rattle.ent_semantics.specs.Effect.{Meaning}
 use Rattle.ent_semantics.specs.Entangled.{Valuation}
 use Rattle.ent_semantics.specs.declared.answer.Answer.TheVariants as answers
 use Rattle.ent_closed.specs.Form.{Tables, closed_worth, form_meaning}
+use Rattle.ent_closed.specs.Kinds.{tables_named}
 use Rattle.ent_closed.specs.declared.statement.Statement.{Statement}
 use Rattle.ent_closed.specs.declared.statement.Statement.TheVariants as statements
 use Rattle.ent_eval.specs.Change.{IsApplicable}
 use Rattle.ent_eval.specs.declared.outcome.Outcome.{Outcome}
 use Rattle.ent_eval.specs.declared.outcome.Outcome.TheVariants as outcomes
-
--- the numbers of the tables that a statement names, in order
-abbrev pub tables_named : {K : Type 0} → Statement K → List ℕ
-tables_named (statements.Select select) = select.sources
-tables_named (statements.Entangled entangled) = flat_map (λ atom. atom.select.sources) entangled.atoms
-tables_named (statements.Insert table values) = table ∷ []
-tables_named (statements.Delete table tests) = table ∷ []
-tables_named (statements.Update table image tests) = table ∷ []
-tables_named (statements.Set variable expression) = []
 
 -- the rows under some numbers
 abbrev pub rows_under : Tables → List ℕ → List Rows

@@ -11,7 +11,7 @@ use Rattle.ent_protocol.specs.PoolEvents.{joint_uses}
 use Rattle.ent_protocol.specs.State.{Use}
 use Rattle.ent_protocol.specs.Uses.{statement_uses}
 use Rattle.ent_eval.specs.Change.{IsApplicable}
-use Rattle.ent_eval.specs.Kinds.{Fits}
+use Rattle.ent_closed.specs.Kinds.{Fits}
 use Rattle.ent_eval.specs.Seen.{relation_of}
 use Rattle.ent_eval.specs.declared.outcome.JobOutcome.{JobOutcome}
 use Rattle.ent_eval.specs.declared.outcome.JobOutcome.TheVariants as outcomes

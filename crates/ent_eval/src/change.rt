@@ -6,7 +6,7 @@ ghost use Rattle.ent_rel.specs.Change.{deletion};
 ghost use Rattle.ent_semantics.specs.Selection.{meets};
 ghost use Rattle.ent_select.specs.Worth.{value_in};
 ghost use Rattle.ent_eval.specs.Change.{Changes, IsFault, insertion_of, image_or_overflow, replacement_of};
-ghost use Rattle.ent_eval.specs.Kinds.{KeepsKinds};
+ghost use Rattle.ent_closed.specs.Kinds.{KeepsKinds};
 ghost use Rattle.ent_eval.specs.Worth.{image_of};
 
 use crate::outcome::Outcome;

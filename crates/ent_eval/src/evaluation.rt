@@ -5,7 +5,7 @@ ghost use Rattle.ent_semantics.specs.Term.{expression_value};
 ghost use Rattle.ent_select.specs.Tables.{kinds_in, rows_in};
 ghost use Rattle.ent_select.specs.Worth.{itself};
 ghost use Rattle.ent_eval.specs.Setting.{Binds};
-ghost use Rattle.ent_eval.specs.Kinds.{Fits};
+ghost use Rattle.ent_closed.specs.Kinds.{Fits};
 ghost use Rattle.ent_eval.specs.Meant.{IsMeant, CanBeApplied};
 
 use crate::change::{deletion, insertion, replacement};

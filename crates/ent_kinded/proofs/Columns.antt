@@ -31,7 +31,7 @@ use Rattle.ent_form.specs.Lookup.{expression_place}
 use Rattle.ent_form.specs.Ordinary.{Image, own_from, assignment_in, assignments_from, image_in}
 use Rattle.ent_form.specs.Scope.{Visible, Scope, visible, referred_from, only_one, qualifier_in, column_in}
 use Rattle.ent_form.specs.Steps.{there}
-use Rattle.ent_eval.specs.Kinds.{operand_kind, expression_kind}
+use Rattle.ent_closed.specs.Kinds.{operand_kind, expression_kind}
 use Rattle.ent_kinded.specs.Kinds.{HasKinds}
 use Rattle.ent_kinded.proofs.Known.{value_kinded}
 use Rattle.ent_kinded.proofs.Steps.{one_answer, bound_given, demand_given, there_given, equal_kinds}

@@ -41,8 +41,7 @@ use Rattle.ent_form.specs.Lookup.{values_in, expression_in}
 use Rattle.ent_form.specs.Ordinary.{tests_in, items_in, select_in, row_from, insert_in, delete_in, image_in}
 use Rattle.ent_form.specs.Ordinary.{update_in, set_in}
 use Rattle.ent_form.specs.Scope.{sources_in, no_source, table_in, table_scope}
-use Rattle.ent_eval.specs.Kinds.{KeepsKinds, Fits}
-use Rattle.ent_eval.specs.Meant.{tables_named}
+use Rattle.ent_closed.specs.Kinds.{KeepsKinds, Fits, tables_named}
 use Rattle.ent_kinded.specs.Kinds.{column_kinds, kinds_numbered, AreDeclared, HasKinds}
 use Rattle.ent_kinded.proofs.Columns.{kinds_seen, image_kinded}
 use Rattle.ent_kinded.proofs.Found.{found_in, sources_seen}

@@ -54,7 +54,7 @@ use Rattle.ent_form.specs.Ordinary.{tests_in, Shown, with_item, items_from, colu
 use Rattle.ent_form.specs.Ordinary.{select_in}
 use Rattle.ent_form.specs.Scope.{Visible, Scope, sources_in, no_source}
 use Rattle.ent_form.specs.Steps.{there}
-use Rattle.ent_eval.specs.Kinds.{operand_kind}
+use Rattle.ent_closed.specs.Kinds.{operand_kind}
 use Rattle.ent_kinded.specs.Kinds.{kinds_numbered, AreKinded, HasKinds}
 use Rattle.ent_kinded.proofs.Columns.{kind_seen, operand_kinded}
 use Rattle.ent_kinded.proofs.Found.{sources_at, rows_kinded, sources_seen}

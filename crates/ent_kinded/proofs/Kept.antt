@@ -31,8 +31,7 @@ use Rattle.ent_semantics.specs.Kinds.{RowsHaveKinds}
 use Rattle.ent_semantics.specs.Selection.{meets}
 use Rattle.ent_semantics.specs.Term.{no_value, number_of, expression_value}
 use Rattle.ent_form.specs.declared.catalogue.TableSchema.{TableSchema}
-use Rattle.ent_eval.specs.Kinds.{operand_kind, expression_kind, KeepsKinds, Fits}
-use Rattle.ent_eval.specs.Meant.{tables_named}
+use Rattle.ent_closed.specs.Kinds.{operand_kind, expression_kind, KeepsKinds, Fits, tables_named}
 use Rattle.ent_kinded.specs.Kinds.{kinds_numbered, AreDeclared, AreKinded}
 use Rattle.ent_kinded.proofs.Found.{kinded_at, kinded_with}
 use Rattle.ent_kinded.proofs.Known.{number_kind, one_value}

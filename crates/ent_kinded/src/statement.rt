@@ -12,8 +12,7 @@ ghost use Rattle.ent_semantics.specs.Serial.{is_entangled};
 ghost use Rattle.ent_form.specs.declared.catalogue.TableSchema.{TableSchema};
 ghost use Rattle.ent_form.specs.Form.{statement_in};
 ghost use Rattle.ent_form.specs.Kinds.{Bound};
-ghost use Rattle.ent_eval.specs.Kinds.{Fits};
-ghost use Rattle.ent_eval.specs.Meant.{tables_named};
+ghost use Rattle.ent_closed.specs.Kinds.{Fits, tables_named};
 ghost use Rattle.ent_kinded.specs.Kinds.{kinds_numbered, AreDeclared, AreKinded, AnswersInKind, HasKinds};
 
 /// A resolved statement names tables that are declared, the same ones when it is closed; and an ordinary one fits the

@@ -25,8 +25,7 @@ use Rattle.ent_closed.specs.declared.entangled.Entangled.{Entangled}
 use Rattle.ent_closed.specs.declared.operand.Known.{Known}
 use Rattle.ent_closed.specs.declared.statement.Statement.{Statement}
 use Rattle.ent_closed.specs.declared.statement.Statement.TheVariants as statements
-use Rattle.ent_eval.specs.Kinds.{Fits}
-use Rattle.ent_eval.specs.Meant.{tables_named}
+use Rattle.ent_closed.specs.Kinds.{Fits, tables_named}
 use Rattle.ent_form.specs.Catalogue.{schemas_of}
 use Rattle.ent_form.specs.Entangled.{entangled_in}
 use Rattle.ent_form.specs.Form.{statement_in, statements_from}

@@ -2,8 +2,7 @@
 ghost use Rattle.std.specs.Prelude.{◌≡◌, Contains, None, map};
 ghost use Rattle.ent_value.specs.declared.value.Value.{Value};
 ghost use Rattle.ent_closed.specs.declared.statement.Statement.{Statement};
-ghost use Rattle.ent_eval.specs.Kinds.{Fits};
-ghost use Rattle.ent_eval.specs.Meant.{tables_named};
+ghost use Rattle.ent_closed.specs.Kinds.{Fits, tables_named};
 ghost use Rattle.ent_form.specs.Catalogue.{schemas_of};
 ghost use Rattle.ent_form.specs.OpeningFault.{opening_fault};
 ghost use Rattle.ent_kinded.specs.Kinds.{kinds_numbered};

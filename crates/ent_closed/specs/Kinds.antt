@@ -1,5 +1,6 @@
--- Kinds of operands and expressions, and statements that fit the kinds of their tables.
-use Rattle.std.specs.Prelude.{◌≡◌, List, [], ◌∷◌, map, length, slice_get, Option, Some}
+-- Kinds of operands and expressions, the tables that a statement names, and statements that fit the kinds of these.
+use Rattle.std.specs.Prelude.{◌≡◌, ℕ, List, [], ◌∷◌, map, length, slice_get, Option, Some}
+use Rattle.std.specs.List.{flat_map}
 use Rattle.ent_value.specs.Value.{kind_of, kinds_of}
 use Rattle.ent_value.specs.declared.value.Kind.{Kind}
 use Rattle.ent_value.specs.declared.value.Kind.TheVariants as kinds
@@ -25,6 +26,15 @@ expression_kind kind (Difference left right) = Some kinds.Int
 -- an image has the kinds of the row that it is an image of
 abbrev pub KeepsKinds : List Kind → List (Expression (Operand Value)) → Type 0
 KeepsKinds columns image = map (expression_kind (operand_kind columns)) image ≡ map Some columns
+
+-- the numbers of the tables that a statement names, in order
+abbrev pub tables_named : {K : Type 0} → Statement K → List ℕ
+tables_named (statements.Select select) = select.sources
+tables_named (statements.Entangled entangled) = flat_map (λ atom. atom.select.sources) entangled.atoms
+tables_named (statements.Insert table values) = table ∷ []
+tables_named (statements.Delete table tests) = table ∷ []
+tables_named (statements.Update table image tests) = table ∷ []
+tables_named (statements.Set variable expression) = []
 
 -- An ordinary statement has as many tables as it names, and the row or the image that it puts in has the kinds of the
 -- table's columns.
