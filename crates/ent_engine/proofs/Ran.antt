@@ -12,7 +12,7 @@ use Rattle.ent_protocol.specs.State.{State}
 use Rattle.ent_protocol.specs.State.{Submitted as OneSubmitted}
 use Rattle.ent_endings.specs.Fates.{HaveFates}
 use Rattle.ent_resolved.specs.Resolved.{resolved_forms}
-use Rattle.ent_rounds.specs.Onward.{LeadsOn}
+use Rattle.ent_sched.specs.Onward.{LeadsOn}
 use Rattle.ent_sched.specs.RunOut.{IsRunOut}
 use Rattle.ent_core.specs.Play.{AreSubmitted}
 use Rattle.ent_engine.specs.Report.{IsBookOf}

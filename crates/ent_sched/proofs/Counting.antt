@@ -3,7 +3,7 @@ use Rattle.std.proofs.Common.{◌≡◌, ◌≤◌, ◌+◌, ◌-◌, ◌*◌, �
 use Rattle.ent_protocol.specs.Run.{Forms}
 use Rattle.ent_protocol.specs.State.{State, members}
 use Rattle.ent_bounds.specs.Within.{IsBelow, IsWithin}
-use Rattle.ent_rounds.specs.Onward.{TicksOn, events_of_round}
+use Rattle.ent_sched.specs.Onward.{TicksOn, events_of_round}
 use Rattle.ent_sched.specs.Bounds.{events_of_rounds, events_of_run, most_progress, run_start}
 
 -- events and their ticks add up

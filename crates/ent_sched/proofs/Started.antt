@@ -7,7 +7,7 @@ use Rattle.ent_protocol.specs.Reached.{CanClose, LeadsTo}
 use Rattle.ent_protocol.specs.Run.{EndsWhileRunning, Forms, Starts, StartsWith, ending, starting}
 use Rattle.ent_protocol.specs.State.{State, Dormant}
 use Rattle.ent_protocol.specs.Step.{Step}
-use Rattle.ent_rounds.specs.Onward.{LeadsOn}
+use Rattle.ent_sched.specs.Onward.{LeadsOn}
 use Rattle.ent_sched.specs.Bounds.{run_start}
 use Rattle.ent_sched.proofs.Staying.{clash}
 

@@ -3,7 +3,7 @@ use Rattle.std.specs.Prelude.{ℕ, ◌+◌, ◌*◌, length, if◌then◌else◌
 use Rattle.ent_protocol.specs.Run.{starting}
 use Rattle.ent_protocol.specs.State.{State, members}
 use Rattle.ent_bounds.specs.Within.{statements_in_run}
-use Rattle.ent_rounds.specs.Onward.{events_of_round}
+use Rattle.ent_sched.specs.Onward.{events_of_round}
 
 -- a run is at its start, or is on; where none is on, the start of one
 abbrev pub run_start : State → State

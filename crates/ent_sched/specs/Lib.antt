@@ -1,3 +1,5 @@
 pub mod Bounds
+pub mod Onward
+pub mod Progress
 pub mod RunOut
 pub mod Tries

@@ -4,7 +4,7 @@ ghost use Rattle.ent_book.specs.Tables.{book_seen};
 ghost use Rattle.ent_endings.specs.Fates.{HaveFates};
 ghost use Rattle.ent_protocol.specs.Reached.{IsFinishedBook, scripts_of};
 ghost use Rattle.ent_resolved.specs.Resolved.{resolved_forms};
-ghost use Rattle.ent_rounds.specs.Onward.{LeadsOn};
+ghost use Rattle.ent_sched.specs.Onward.{LeadsOn};
 ghost use Rattle.ent_semantics.specs.Book.{IsLegal};
 ghost use Rattle.ent_sched.specs.RunOut.{IsRunOut};
 

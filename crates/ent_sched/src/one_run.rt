@@ -4,15 +4,14 @@ ghost use Rattle.ent_endings.specs.Idle.{IsIdleRound};
 ghost use Rattle.ent_endings.specs.Tries.{tries_left};
 ghost use Rattle.ent_protocol.specs.Reached.{CanClose};
 ghost use Rattle.ent_resolved.specs.Resolved.{resolved_forms};
-ghost use Rattle.ent_rounds.specs.Onward.{TicksOn};
+ghost use Rattle.ent_sched.specs.Onward.{TicksOn};
 ghost use Rattle.ent_sched.specs.Bounds.{events_of_run, run_start};
 
-use crate::law::events_use_up_tries;
+use crate::law::{events_add_up, events_use_up_tries};
 use crate::rounds::rounds;
 use ent_core::Core;
 use ent_endings::{idle_rounds_are_quiet, jobs_are_lent_by_replies};
 use ent_form::FormFault;
-use ent_rounds::events_add_up;
 use ent_value::Ticks;
 use std::alloc::{AllocError, Global};
 

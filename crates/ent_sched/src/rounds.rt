@@ -2,13 +2,14 @@
 ghost use Rattle.std.specs.Prelude.{◌≡◌, [], OnOk};
 ghost use Rattle.ent_endings.specs.Idle.{IsIdleRound};
 ghost use Rattle.ent_resolved.specs.Resolved.{resolved_forms};
-ghost use Rattle.ent_rounds.specs.Onward.{TicksOn};
+ghost use Rattle.ent_sched.specs.Onward.{TicksOn};
 ghost use Rattle.ent_sched.specs.Bounds.{events_of_rounds};
 
+use crate::law::events_add_up;
+use crate::one_round::round;
 use ent_bounds::runs_are_within;
 use ent_core::Core;
 use ent_form::FormFault;
-use ent_rounds::{events_add_up, round};
 use ent_value::Ticks;
 use std::alloc::{AllocError, Global};
 use std::marker::Brand;

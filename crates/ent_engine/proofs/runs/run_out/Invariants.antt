@@ -1,6 +1,6 @@
 use Rattle.std.proofs.Common.{ℕ}
 use Rattle.ent_resolved.specs.Resolved.{resolved_forms}
-use Rattle.ent_rounds.specs.Onward.{LeadsOn}
+use Rattle.ent_sched.specs.Onward.{LeadsOn}
 use Rattle.ent_engine.proofs.runs.run_out.Given as goal
 
 -- events lead from the core that was handed in to the present one

@@ -1,7 +1,7 @@
 use Rattle.std.proofs.Common.{◌≡◌, ℕ, []}
 use Rattle.ent_endings.specs.Tries.{tries_left}
 use Rattle.ent_resolved.specs.Resolved.{resolved_forms}
-use Rattle.ent_rounds.specs.Onward.{LeadsOn}
+use Rattle.ent_sched.specs.Onward.{LeadsOn}
 use Rattle.ent_sched.proofs.all_runs.run_all.Given as goal
 
 -- events led on from the core that was given

@@ -2,7 +2,7 @@ use Rattle.std.proofs.Common.{ℕ, refl, subst, sym}
 use Rattle.ent_core.specs.Reply.{reply_seen}
 use Rattle.ent_protocol.specs.Event.{EndRun}
 use Rattle.ent_resolved.specs.Resolved.{resolved_forms}
-use Rattle.ent_rounds.specs.Onward.{TicksOn}
+use Rattle.ent_sched.specs.Onward.{TicksOn}
 use Rattle.ent_sched.proofs.Started.{run_over}
 use Rattle.ent_sched.proofs.one_run.end.Goals as goal
 

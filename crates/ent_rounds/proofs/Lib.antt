@@ -1,4 +1,0 @@
-pub mod Adding
-pub mod Moving
-pub mod Told
-pub mod Turning

@@ -1,0 +1,60 @@
+use Rattle.std.proofs.Common.{◌≡◌, ◌≤◌, ◌+◌, ◌*◌, false, true, inl, inr, length, get_or, sym, subst, ap, ◌∙◌, arith}
+use Rattle.ent_endings.specs.Idle.{IsHeldUp}
+use Rattle.ent_protocol.specs.Lookup.{running_members}
+use Rattle.ent_protocol.specs.State.{State}
+use Rattle.ent_resolved.specs.Resolved.{resolved_forms}
+use Rattle.ent_sched.proofs.Moving.{one_moved}
+use Rattle.ent_sched.proofs.Turning.{all_taken}
+use Rattle.ent_sched.proofs.turn.take_turns.Goals.{then-branch, else-branch}
+use Rattle.ent_sched.proofs.turn.take_turns.Goals as goal
+
+pub returns-in_err-turn-clause-events : goal.returns-in_err-turn-clause-events
+returns-in_err-turn-clause-events c =
+    let s = c.args.core.now in
+    let i = c.loop-tx.tx-index in
+    let last = c.turn.new.core in
+    let start = c.args.ticks.now in
+    let end = c.turn.new.ticks in
+    let same = ap length (c.as_slice-tx-items.ensures.list ∙ c.members-members.ensures) in
+    let within = c.loop-tx-test.true in
+    let few : 2 * i + 2 ≤ 2 * length (running_members s) = omega (arith, same, within) in
+    c.events_add_up.ensures.widened resolved_forms (2 * i + 2) (2 * length (running_members s)) s last start end few
+    (c.events_add_up.ensures.joined resolved_forms (2 * i) 2 s c.loop-tx.core last start c.loop-tx.ticks end
+    c.loop-tx.invariant.events c.in_err-turn.ensures.events)
+
+pub loop-tx-preserved : goal.loop-tx-preserved
+loop-tx-preserved c =
+    let s = c.args.core.now in
+    let i = c.loop-tx.tx-index in
+    let middle = c.loop-tx.core in
+    let last = c.turn.new.core in
+    let start = c.args.ticks.now in
+    let end = c.turn.new.ticks in
+    let now = c.loop-tx.invariant in
+    let turned = c.in_ok-turn.ensures in
+    let few : 2 * i + 2 ≤ 2 * (i + 1) = omega arith in
+    let items = c.as_slice-tx-items.result.now in
+    record {
+      events = c.events_add_up.ensures.widened resolved_forms (2 * i + 2) (2 * (i + 1)) s last start end few
+          (c.events_add_up.ensures.joined resolved_forms (2 * i) 2 s middle last start c.loop-tx.ticks end now.events
+          turned.events);
+      none_lent = turned.none_lent;
+      progress = λ moved.
+          one_moved c.loop-tx.moved c.in_ok-turn.field-0 s middle last
+          (now.progress, (λ still. (now.idle still).0)) (turned.progress, (λ still. (turned.idle still).0))
+          (elim c.if-branch.branch [
+            | then-branch w ↦ inr w.if-branch.true
+            | else-branch w ↦ inl (sym w.moved-is ∙ moved)
+          ]);
+      idle = λ still.
+          elim c.if-branch.branch [
+            | then-branch w ↦ let moved : true ≡ false = sym w.moved-is ∙ still in absurd cc
+            | else-branch w ↦
+                let before = now.idle (sym w.moved-is ∙ still) in
+                let own = turned.idle w.if-branch.false in (
+                  own.0 ∙ before.0,
+                  all_taken (IsHeldUp resolved_forms s) items i 0 c.loop-tx-test.true before.1
+                      (subst (λ (x : State). IsHeldUp resolved_forms x (get_or items i 0)) before.0 own.1),
+                )
+          ];
+    }

@@ -1,0 +1,18 @@
+use Rattle.std.proofs.Common.{◌≡◌, ◌*◌, [], false, true, take}
+use Rattle.std.specs.List.{AllByRecursion}
+use Rattle.ent_endings.specs.Idle.{IsHeldUp}
+use Rattle.ent_resolved.specs.Resolved.{resolved_forms}
+use Rattle.ent_sched.specs.Onward.{TicksOn}
+use Rattle.ent_sched.specs.Progress.{UsesUp}
+use Rattle.ent_sched.proofs.turn.take_turns.Given as goal
+
+-- the members so far had their turns: one of them moved, or all of them are held up where the round began
+abbrev pub invariant-loop-tx : goal.invariant-loop-tx
+invariant-loop-tx l = record {
+  events : TicksOn resolved_forms (2 * l.tx-index) l.fn.core l.core l.fn.ticks l.ticks;
+  none_lent : l.core.lent ≡ [];
+  progress : l.moved ≡ true → UsesUp l.fn.core l.core;
+  idle : l.moved ≡ false
+      → (l.core ≡ l.fn.core)
+      × AllByRecursion (IsHeldUp resolved_forms l.fn.core) (take l.tx-index l.tx-items);
+}
