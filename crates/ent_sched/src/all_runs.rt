@@ -22,7 +22,7 @@ fn take_jobs_back(core: &mut Core)
     ensures none_lent { core.new.lent ≡ [] }
     ensures onward { (count : ℕ) × LeadsOn resolved_forms count core.old core.new }
 {
-    core.recall();
+    drop(core.recall());
 }
 
 /// Runs the scripts of a core until each has its fate, and closes it: its finished book. Jobs that are lent are taken

@@ -30,7 +30,7 @@ fn start(core: &mut Core, ticks: &mut Ticks) -> Result<bool, AllocError>
     if core.running() {
         return Ok(true);
     }
-    core.start_run()?;
+    drop(core.start_run()?);
     ticks.add();
     Ok(core.running())
 }
@@ -47,7 +47,7 @@ fn end(core: &mut Core, ticks: &mut Ticks) -> Result<(), AllocError>
     jobs_are_lent_by_replies::<FormFault>();
     core.is_reached();
     let _count = ticks.count();
-    core.end_run()?;
+    drop(core.end_run()?);
     ticks.add();
     Ok(())
 }
