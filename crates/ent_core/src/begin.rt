@@ -156,11 +156,21 @@ fn lend(store: &mut Store, tx: Tx, job: Job, uses: &Uses) -> Result<Reply, Alloc
     ensures ok { IfOk result (λ reply. LendsTo tx uses.now job store.old store.new) }
     ensures err { OnErr result (store.new ≡ store.old) }
 {
-    let copy = job.copy(store.alloc)?;
-    store.lent.lend(job)?;
+    let copy = match job.copy(store.alloc) {
+        Ok(copy) => copy,
+        Err(fault) => {
+            drop(job);
+            return Err(fault);
+        }
+    };
+    if let Err(fault) = store.lent.lend(job) {
+        drop(copy);
+        return Err(fault);
+    }
     match store.run.hold(tx, uses.as_slice()) {
         Ok(()) => Ok(Reply::Lent(copy)),
         Err(fault) => {
+            drop(copy);
             store.lent.take_back();
             Err(fault)
         }

@@ -170,7 +170,10 @@ pub(crate) fn finish(store: &mut Store, done: Done) -> Result<Reply, AllocFailed
     ensures failure { (failure : Failure) → done.outcome ≡ jobs.Fault failure → IsOk result }
 {
     match accept(store, &done) {
-        Ok(Some(reply)) => Ok(reply),
+        Ok(Some(reply)) => {
+            drop(done);
+            Ok(reply)
+        }
         Ok(None) => Ok(Reply::Stale(done)),
         Err(AllocError) => Err(AllocFailed { value: done }),
     }

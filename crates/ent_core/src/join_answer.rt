@@ -94,7 +94,10 @@ pub(crate) fn join_answer(store: &mut Store, done: Done) -> Result<Reply, AllocF
     ensures returned { IfErr result (λ refused. refused.value ≡ done) }
 {
     match accept(store, &done) {
-        Ok(Some(reply)) => Ok(reply),
+        Ok(Some(reply)) => {
+            drop(done);
+            Ok(reply)
+        }
         Ok(None) => Ok(Reply::Stale(done)),
         Err(AllocError) => Err(AllocFailed { value: done }),
     }

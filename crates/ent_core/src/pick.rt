@@ -62,7 +62,16 @@ pub(crate) fn pick(store: &mut Store) -> Result<Reply, AllocError>
     let Some(job) = picked_job(store)? else {
         return Ok(Reply::Nothing);
     };
-    let lent = job.copy(store.alloc)?;
-    store.lent.lend(lent)?;
+    let lent = match job.copy(store.alloc) {
+        Ok(copy) => copy,
+        Err(fault) => {
+            drop(job);
+            return Err(fault);
+        }
+    };
+    if let Err(fault) = store.lent.lend(lent) {
+        drop(job);
+        return Err(fault);
+    }
     Ok(Reply::Lent(job))
 }

@@ -32,7 +32,10 @@ fn fault_of(reply: Reply) -> Option<FormFault>
 {
     match reply {
         Reply::Faulty(_, fault) => Some(fault),
-        _ => None,
+        other => {
+            drop(other);
+            None
+        }
     }
 }
 

@@ -19,7 +19,10 @@ fn or_back(made: Result<Reply, AllocError>, event: Event) -> Result<Reply, Alloc
     ensures returned { IfErr result (λ refused. refused.value ≡ event) }
 {
     match made {
-        Ok(reply) => Ok(reply),
+        Ok(reply) => {
+            drop(event);
+            Ok(reply)
+        }
         Err(_) => Err(AllocFailed { value: event }),
     }
 }
