@@ -40,7 +40,8 @@ pub fn post_fault(
     let member = member_of(alloc, asking)?;
     match pool.post(member) {
         Ok(()) => Ok(None),
-        Err((_member, why)) => {
+        Err((member, why)) => {
+            drop(member);
             let fault = unsafe_post(why)?;
             Ok(Some(fault))
         }

@@ -185,10 +185,15 @@ pub(crate) fn set(
 ) -> Result<ResolvedStatement<Known>, Refusal<FormFault>>
     ensures { Gives (λ form. (form, bound_in bindings.new)) result (set_in (bound_in bindings.old) set.now) }
 {
+    let bound = set.variable.name.copy(alloc)?;
+    let variable = set.variable.name.copy(alloc)?;
     let (expression, kind) = value_expression(alloc, bindings, &set.expression)?;
-    bindings.bind(set.variable.name.copy(alloc)?, kind)?;
+    if let Err(fault) = bindings.bind(bound, kind) {
+        drop(expression);
+        return Err(Refusal::from(fault));
+    }
     Ok(ResolvedStatement::Set {
-        variable: set.variable.name.copy(alloc)?,
+        variable,
         expression,
     })
 }

@@ -78,7 +78,7 @@ impl LentJobs {
         ensures newest { (jobs : List Seen) (job : Seen) → self.old ≡ jobs ++ job ∷ [] → self.new ≡ jobs }
         ensures none { self.old ≡ [] → self.new ≡ [] }
     {
-        self.jobs.pop();
+        drop(self.jobs.pop());
     }
 
     /// Whether a job of one statement of a transaction is lent.

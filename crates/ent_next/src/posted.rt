@@ -24,9 +24,12 @@ fn push_posted(
     if !member.is_posted() {
         return Ok(());
     }
-    if let Next::Asks(statement) = next_of(alloc, submitted, member)? {
-        let place = member.place() as u64;
-        askings.push(Asking::new(member.tx(), member.attempt(), place, statement))?;
+    match next_of(alloc, submitted, member)? {
+        Next::Asks(statement) => {
+            let place = member.place() as u64;
+            askings.push(Asking::new(member.tx(), member.attempt(), place, statement))?;
+        }
+        other => drop(other),
     }
     Ok(())
 }
