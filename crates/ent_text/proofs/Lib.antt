@@ -13,3 +13,5 @@ pub mod Slices
 pub mod Ends
 pub mod OneReading
 pub mod Moved
+pub mod ReadOn
+pub mod Measured
