@@ -242,5 +242,15 @@ pub(crate) fn conditions_at(
 fn begins_with_comparison(tokens: &Tokens<'_>) -> bool
     ensures { result ≡ begins (among (firsts comparison)) tokens.now }
 {
-    matches!(tokens.front(), Some(TokenView::Sign( Symbol::Equal | Symbol::NotEqual | Symbol::Less | Symbol::LessOrEqual | Symbol::Greater | Symbol::GreaterOrEqual )))
+    matches!(
+        tokens.front(),
+        Some(TokenView::Sign(
+            Symbol::Equal
+                | Symbol::NotEqual
+                | Symbol::Less
+                | Symbol::LessOrEqual
+                | Symbol::Greater
+                | Symbol::GreaterOrEqual
+        ))
+    )
 }

@@ -24,19 +24,39 @@ pub fn begins_with_variable(tokens: &Tokens<'_>) -> bool
 pub fn begins_with_literal(tokens: &Tokens<'_>) -> bool
     ensures { result ≡ begins (among (firsts literal)) tokens.now }
 {
-    matches!(tokens.front(), Some(TokenView::Number(_) | TokenView::Literal(_) | TokenView::Sign(Symbol::Minus)))
+    matches!(
+        tokens.front(),
+        Some(TokenView::Number(_) | TokenView::Literal(_) | TokenView::Sign(Symbol::Minus))
+    )
 }
 
 #[tactic(auto, unfolding(crate::specs::Operands::value, crate::specs::Operands::host_variable, crate::specs::Operands::literal, crate::specs::Operands::negative, crate::specs::Operands::unsigned, crate::specs::Operands::positive, crate::specs::Operands::quoted))]
 pub fn begins_with_value(tokens: &Tokens<'_>) -> bool
     ensures { result ≡ begins (among (firsts value)) tokens.now }
 {
-    matches!(tokens.front(), Some(TokenView::HostVariable(_) | TokenView::Number(_) | TokenView::Literal(_) | TokenView::Sign(Symbol::Minus)))
+    matches!(
+        tokens.front(),
+        Some(
+            TokenView::HostVariable(_)
+                | TokenView::Number(_)
+                | TokenView::Literal(_)
+                | TokenView::Sign(Symbol::Minus)
+        )
+    )
 }
 
 #[tactic(auto, unfolding(crate::specs::Operands::operand, crate::specs::Operands::column_reference, crate::specs::Operands::identifier, crate::specs::Operands::value, crate::specs::Operands::host_variable, crate::specs::Operands::literal, crate::specs::Operands::negative, crate::specs::Operands::unsigned, crate::specs::Operands::positive, crate::specs::Operands::quoted))]
 pub fn begins_with_operand(tokens: &Tokens<'_>) -> bool
     ensures { result ≡ begins (among (firsts operand)) tokens.now }
 {
-    matches!(tokens.front(), Some(TokenView::Name(_) | TokenView::HostVariable(_) | TokenView::Number(_) | TokenView::Literal(_) | TokenView::Sign(Symbol::Minus)))
+    matches!(
+        tokens.front(),
+        Some(
+            TokenView::Name(_)
+                | TokenView::HostVariable(_)
+                | TokenView::Number(_)
+                | TokenView::Literal(_)
+                | TokenView::Sign(Symbol::Minus)
+        )
+    )
 }

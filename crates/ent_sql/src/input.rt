@@ -50,11 +50,7 @@ pub fn reading_is_exact()
 
 /// What the tokens of a text of this length say.
 #[tactic(auto, unfolding(crate::specs::Scripts::input))]
-fn input_of(
-    alloc: Global,
-    end: usize,
-    tokens: Tokens<'_>,
-) -> Result<Input, Refusal<GrammarFault>>
+fn input_of(alloc: Global, end: usize, tokens: Tokens<'_>) -> Result<Input, Refusal<GrammarFault>>
     ensures { Gives (λ input. input) result (reads_all input end tokens.entry) }
 {
     let (tables, rest) = many(alloc, end, tokens)?;

@@ -56,7 +56,10 @@ pub(crate) fn variable_at(
 
 /// A minus sign and the number behind it.
 #[tactic(auto, unfolding(crate::specs::Operands::negative))]
-fn negative_at(end: usize, tokens: Tokens<'_>) -> Result<(Literal, Tokens<'_>), Refusal<GrammarFault>>
+fn negative_at(
+    end: usize,
+    tokens: Tokens<'_>,
+) -> Result<(Literal, Tokens<'_>), Refusal<GrammarFault>>
     ensures { Gives (λ x. x) result (reads negative end tokens.entry) }
 {
     let (place, rest) = sign_at(Symbol::Minus, end, tokens)?;

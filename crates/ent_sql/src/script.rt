@@ -13,7 +13,10 @@ use ent_value::Refusal;
 use std::alloc::Global;
 
 /// A number from 1 on, which is too much where more runs are asked for than there may be.
-fn runs_at(end: usize, tokens: Tokens<'_>) -> Result<((Runs, usize), Tokens<'_>), Refusal<GrammarFault>>
+fn runs_at(
+    end: usize,
+    tokens: Tokens<'_>,
+) -> Result<((Runs, usize), Tokens<'_>), Refusal<GrammarFault>>
     ensures { Gives (λ x. x) result (reads (up_to MOST_RUNS) end tokens.entry) }
 {
     match tokens.front() {
