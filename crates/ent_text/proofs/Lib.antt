@@ -15,3 +15,4 @@ pub mod OneReading
 pub mod Moved
 pub mod ReadOn
 pub mod Measured
+pub mod Initials
