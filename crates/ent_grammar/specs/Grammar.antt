@@ -1,10 +1,12 @@
 -- A grammar as data, and how it is read.
-use Rattle.std.specs.Prelude.{ℕ, ◌-◌, nat_le, List, [], ◌∷◌, ◌++◌, Option, Some, None, Result, Ok, Err, cond}
+use Rattle.std.specs.Prelude.{ℕ, ◌-◌, nat_le, List, [], ◌∷◌, ◌++◌, Option, Some, None, Result, Ok, Err, cond, drop}
 use Rattle.ent_text.specs.declared.token.Token.{Token}
+use Rattle.ent_text.specs.declared.token.TokenKind.{TokenKind}
+use Rattle.ent_text.specs.Left.{kind_of_first}
 use Rattle.ent_value.specs.Refusal.{◌>>=◌}
 use Rattle.ent_grammar.specs.declared.fault.GrammarFault.{GrammarFault}
 use Rattle.ent_grammar.specs.declared.fault.GrammarFault.TheVariants.{Unexpected, TooMany}
-use Rattle.ent_grammar.specs.Read.{Read, begins}
+use Rattle.ent_grammar.specs.Read.{Read, begins, place_of}
 use Rattle.ent_grammar.specs.declared.divider.Divider.{Divider}
 use Rattle.ent_grammar.specs.Class.{Class, positive, Given, given, is, among, class_of}
 use Rattle.ent_grammar.specs.List.{more_at, many_at}
@@ -59,17 +61,23 @@ abbrev pub taken_from : {A : Type 0} → Option A → ℕ → List Token → Rea
 taken_from (Some x) place ts = Ok (x, ts)
 taken_from None place ts = Err (Unexpected place)
 
+abbrev pub taken_by : (c : Class) → Option TokenKind → ℕ → List Token → Read (Given c)
+taken_by c None place behind = Err (Unexpected place)
+taken_by c (Some kind) place behind = taken_from (given c kind place) place behind
+
 abbrev pub taken_at : (c : Class) → ℕ → List Token → Read (Given c)
-taken_at c end [] = Err (Unexpected end)
-taken_at c end (t ∷ ts) = taken_from (given c t.kind t.start) t.start ts
+taken_at c end ts = taken_by c (kind_of_first ts) (place_of end ts) (drop 1 ts)
 
 abbrev pub limited_from : Option (ℕ × ℕ) → ℕ → ℕ → List Token → Read (ℕ × ℕ)
 limited_from (Some x) most place ts = cond (nat_le x.0 most) (Ok (x, ts)) (Err (TooMany place))
 limited_from None most place ts = Err (Unexpected place)
 
+abbrev pub limited_by : ℕ → Option TokenKind → ℕ → List Token → Read (ℕ × ℕ)
+limited_by most None place behind = Err (Unexpected place)
+limited_by most (Some kind) place behind = limited_from (given positive kind place) most place behind
+
 abbrev pub limited_at : ℕ → ℕ → List Token → Read (ℕ × ℕ)
-limited_at most end [] = Err (Unexpected end)
-limited_at most end (t ∷ ts) = limited_from (given positive t.kind t.start) most t.start ts
+limited_at most end ts = limited_by most (kind_of_first ts) (place_of end ts) (drop 1 ts)
 
 -- what is read from tokens, from left to right, or the first fault
 abbrev pub reads : {A : Type 0} → Grammar A → ℕ → List Token → Read A
@@ -82,10 +90,13 @@ reads (many limit item) = λ end ts. many_at (among (firsts item)) (reads item) 
 reads (more limit divider item) =
     λ end ts. more_at (is (class_of divider)) (among (firsts item)) (reads item) end limit ts
 
+abbrev pub ended_by : {A : Type 0} → A → Option TokenKind → ℕ → Result A GrammarFault
+ended_by x None place = Ok x
+ended_by x (Some kind) place = Err (Unexpected place)
+
 -- a value, where no token is left
 abbrev pub ended : {A : Type 0} → A → ℕ → List Token → Result A GrammarFault
-ended x end [] = Ok x
-ended x end (t ∷ ts) = Err (Unexpected t.start)
+ended x end ts = ended_by x (kind_of_first ts) (place_of end ts)
 
 -- what all of the tokens say, or the first fault
 abbrev pub reads_all : {A : Type 0} → Grammar A → ℕ → List Token → Result A GrammarFault

@@ -1,7 +1,8 @@
 -- What a reader gives, and the token at the front of tokens.
-use Rattle.std.specs.Prelude.{ℕ, Bool, false, List, [], ◌∷◌, Result}
+use Rattle.std.specs.Prelude.{ℕ, Bool, false, List, Option, Some, None, Result}
 use Rattle.ent_text.specs.declared.token.Token.{Token}
 use Rattle.ent_text.specs.declared.token.TokenKind.{TokenKind}
+use Rattle.ent_text.specs.Left.{kind_of_first, start_of_first}
 use Rattle.ent_grammar.specs.declared.fault.GrammarFault.{GrammarFault}
 
 -- a value and the tokens behind it, or a fault
@@ -10,10 +11,12 @@ Read A = Result (A × List Token) GrammarFault
 
 -- where the first of these tokens stands; the end, if there is none
 abbrev pub place_of : ℕ → List Token → ℕ
-place_of end [] = end
-place_of end (t ∷ ts) = t.start
+place_of end tokens = start_of_first end tokens
+
+abbrev pub passes : (TokenKind → Bool) → Option TokenKind → Bool
+passes test None = false
+passes test (Some kind) = test kind
 
 -- the first of these tokens passes
 abbrev pub begins : (TokenKind → Bool) → List Token → Bool
-begins test [] = false
-begins test (t ∷ ts) = test t.kind
+begins test tokens = passes test (kind_of_first tokens)

@@ -15,8 +15,7 @@ mod laws;
 pub use divider::Divider;
 pub use fault::GrammarFault;
 pub use front::{
-    begins_with_divider, begins_with_sign, begins_with_word, place_of, sign_at, tail, too_many,
-    unexpected, word_at,
+    begins_with_divider, begins_with_sign, begins_with_word, sign_at, too_many, unexpected, word_at,
 };
 pub use language::Language;
 pub use laws::reading_is_exact;

@@ -17,7 +17,7 @@ use crate::test::comparison_at;
 use ent_grammar::{
     Divider, GrammarFault, begins_with_sign, begins_with_word, sign_at, unexpected, word_at,
 };
-use ent_text::{Keyword, Symbol, Token, TokenKind};
+use ent_text::{Keyword, Symbol, TokenView, Tokens};
 use ent_tree::{Condition, Identifier, MOST_PARTS, Term, Test, Tuple, ValueSpecification};
 use ent_value::{Limited, Refusal};
 use std::alloc::Global;
@@ -25,22 +25,19 @@ use std::alloc::Global;
 /// The number 1, and where it stands.
 pub(crate) fn one_at(
     end: usize,
-    tokens: &[Token],
-) -> Result<(usize, &[Token]), Refusal<GrammarFault>>
-    ensures { Gives (λ x. (x.0, x.1.now)) result (reads (token one) end tokens.now) }
+    tokens: Tokens<'_>,
+) -> Result<(usize, Tokens<'_>), Refusal<GrammarFault>>
+    ensures { Gives (λ x. x) result (reads (token one) end tokens.entry) }
 {
-    match tokens {
-        [] => Err(unexpected(end, tokens)),
-        [token, rest @ ..] => match &token.kind {
-            TokenKind::Number(number) => {
-                if number.value() == 1 {
-                    Ok((token.start, rest))
-                } else {
-                    Err(unexpected(end, tokens))
-                }
+    match tokens.front() {
+        Some(TokenView::Number(number)) => {
+            if number.value() == 1 {
+                Ok((tokens.start(end), tokens.tail()))
+            } else {
+                Err(unexpected(end, &tokens))
             }
-            _ => Err(unexpected(end, tokens)),
-        },
+        }
+        _ => Err(unexpected(end, &tokens)),
     }
 }
 
@@ -69,9 +66,9 @@ fn place_of_term(term: &Term) -> usize
 fn relation_at(
     alloc: Global,
     end: usize,
-    tokens: &[Token],
-) -> Result<(Identifier, &[Token]), Refusal<GrammarFault>>
-    ensures { Gives (λ x. (x.0, x.1.now)) result (reads relation end tokens.now) }
+    tokens: Tokens<'_>,
+) -> Result<(Identifier, Tokens<'_>), Refusal<GrammarFault>>
+    ensures { Gives (λ x. x) result (reads relation end tokens.entry) }
 {
     let (_, rest) = word_at(Keyword::Answer, end, tokens)?;
     name_at(alloc, end, rest)
@@ -83,15 +80,15 @@ impl Item for Identifier {
     ghost grammar = { relation };
 
     #[tactic(auto, unfolding(crate::specs::Entangling::relation, crate::specs::Operands::identifier))]
-    fn is_start(tokens: &[Token]) -> bool {
+    fn is_start(tokens: &Tokens<'_>) -> bool {
         begins_with_word(Keyword::Answer, tokens)
     }
 
     fn read(
         alloc: Global,
         end: usize,
-        tokens: &[Token],
-    ) -> Result<(Self, &[Token]), Refusal<GrammarFault>> {
+        tokens: Tokens<'_>,
+    ) -> Result<(Self, Tokens<'_>), Refusal<GrammarFault>> {
         relation_at(alloc, end, tokens)
     }
 }
@@ -102,12 +99,12 @@ fn membership_at(
     alloc: Global,
     tuple: Tuple,
     end: usize,
-    tokens: &[Token],
-) -> Result<(Condition, &[Token]), Refusal<GrammarFault>>
-    ensures { Gives (λ x. (x.0, x.1.now)) result (reads (membership tuple) end tokens.now) }
+    tokens: Tokens<'_>,
+) -> Result<(Condition, Tokens<'_>), Refusal<GrammarFault>>
+    ensures { Gives (λ x. x) result (reads (membership tuple) end tokens.entry) }
 {
     let (_, rest) = word_at(Keyword::In, end, tokens)?;
-    if begins_with_sign(Symbol::Open, rest) {
+    if begins_with_sign(Symbol::Open, &rest) {
         let (_, rest) = sign_at(Symbol::Open, end, rest)?;
         let (select, rest) = select_at(alloc, end, rest)?;
         let (_, rest) = sign_at(Symbol::Close, end, rest)?;
@@ -122,9 +119,9 @@ fn membership_at(
 fn bracketed_at(
     alloc: Global,
     end: usize,
-    tokens: &[Token],
-) -> Result<(Condition, &[Token]), Refusal<GrammarFault>>
-    ensures { Gives (λ x. (x.0, x.1.now)) result (reads bracketed end tokens.now) }
+    tokens: Tokens<'_>,
+) -> Result<(Condition, Tokens<'_>), Refusal<GrammarFault>>
+    ensures { Gives (λ x. x) result (reads bracketed end tokens.entry) }
 {
     let (place, rest) = sign_at(Symbol::Open, end, tokens)?;
     let (terms, rest) = listed(alloc, Divider::Comma, end, rest)?;
@@ -138,9 +135,9 @@ fn comparison_behind(
     alloc: Global,
     first: Term,
     end: usize,
-    tokens: &[Token],
-) -> Result<(Condition, &[Token]), Refusal<GrammarFault>>
-    ensures { Gives (λ x. (x.0, x.1.now)) result (reads (comparison_behind first) end tokens.now) }
+    tokens: Tokens<'_>,
+) -> Result<(Condition, Tokens<'_>), Refusal<GrammarFault>>
+    ensures { Gives (λ x. x) result (reads (comparison_behind first) end tokens.entry) }
 {
     let (comparison, rest) = comparison_at(end, tokens)?;
     let (right, rest) = term_at(alloc, end, rest)?;
@@ -161,9 +158,9 @@ fn tuple_behind(
     alloc: Global,
     first: Term,
     end: usize,
-    tokens: &[Token],
-) -> Result<(Condition, &[Token]), Refusal<GrammarFault>>
-    ensures { Gives (λ x. (x.0, x.1.now)) result (reads (tuple_behind first) end tokens.now) }
+    tokens: Tokens<'_>,
+) -> Result<(Condition, Tokens<'_>), Refusal<GrammarFault>>
+    ensures { Gives (λ x. x) result (reads (tuple_behind first) end tokens.entry) }
 {
     let place = place_of_term(&first);
     let mut before = Limited::new(alloc);
@@ -178,11 +175,11 @@ fn condition_behind(
     alloc: Global,
     first: Term,
     end: usize,
-    tokens: &[Token],
-) -> Result<(Condition, &[Token]), Refusal<GrammarFault>>
-    ensures { Gives (λ x. (x.0, x.1.now)) result (reads (condition_behind first) end tokens.now) }
+    tokens: Tokens<'_>,
+) -> Result<(Condition, Tokens<'_>), Refusal<GrammarFault>>
+    ensures { Gives (λ x. x) result (reads (condition_behind first) end tokens.entry) }
 {
-    if begins_with_comparison(tokens) {
+    if begins_with_comparison(&tokens) {
         comparison_behind(alloc, first, end, tokens)
     } else {
         tuple_behind(alloc, first, end, tokens)
@@ -193,11 +190,11 @@ fn condition_behind(
 fn condition_at(
     alloc: Global,
     end: usize,
-    tokens: &[Token],
-) -> Result<(Condition, &[Token]), Refusal<GrammarFault>>
-    ensures { Gives (λ x. (x.0, x.1.now)) result (reads condition end tokens.now) }
+    tokens: Tokens<'_>,
+) -> Result<(Condition, Tokens<'_>), Refusal<GrammarFault>>
+    ensures { Gives (λ x. x) result (reads condition end tokens.entry) }
 {
-    if begins_with_sign(Symbol::Open, tokens) {
+    if begins_with_sign(Symbol::Open, &tokens) {
         bracketed_at(alloc, end, tokens)
     } else {
         let (first, rest) = term_at(alloc, end, tokens)?;
@@ -211,15 +208,15 @@ impl Item for Condition {
     ghost grammar = { condition };
 
     #[tactic(auto, unfolding(crate::specs::Entangling::condition, crate::specs::Entangling::bracketed, crate::specs::Operands::term, crate::specs::Operands::operand, crate::specs::Operands::column_reference, crate::specs::Operands::identifier, crate::specs::Operands::value, crate::specs::Operands::host_variable, crate::specs::Operands::literal, crate::specs::Operands::negative, crate::specs::Operands::unsigned, crate::specs::Operands::positive, crate::specs::Operands::quoted))]
-    fn is_start(tokens: &[Token]) -> bool {
+    fn is_start(tokens: &Tokens<'_>) -> bool {
         begins_with_sign(Symbol::Open, tokens) || begins_with_operand(tokens)
     }
 
     fn read(
         alloc: Global,
         end: usize,
-        tokens: &[Token],
-    ) -> Result<(Self, &[Token]), Refusal<GrammarFault>> {
+        tokens: Tokens<'_>,
+    ) -> Result<(Self, Tokens<'_>), Refusal<GrammarFault>> {
         condition_at(alloc, end, tokens)
     }
 }
@@ -228,11 +225,11 @@ impl Item for Condition {
 pub(crate) fn conditions_at(
     alloc: Global,
     end: usize,
-    tokens: &[Token],
-) -> Result<(Limited<Condition, MOST_PARTS>, &[Token]), Refusal<GrammarFault>>
-    ensures { Gives (λ x. (x.0, x.1.now)) result (reads entangled_conditions end tokens.now) }
+    tokens: Tokens<'_>,
+) -> Result<(Limited<Condition, MOST_PARTS>, Tokens<'_>), Refusal<GrammarFault>>
+    ensures { Gives (λ x. x) result (reads entangled_conditions end tokens.entry) }
 {
-    if begins_with_word(Keyword::Where, tokens) {
+    if begins_with_word(Keyword::Where, &tokens) {
         let (_, rest) = word_at(Keyword::Where, end, tokens)?;
         listed(alloc, Divider::And, end, rest)
     } else {
@@ -242,21 +239,18 @@ pub(crate) fn conditions_at(
 
 /// Whether a comparison stands at the front.
 #[tactic(auto, unfolding(crate::specs::Operands::comparison))]
-fn begins_with_comparison(tokens: &[Token]) -> bool
+fn begins_with_comparison(tokens: &Tokens<'_>) -> bool
     ensures { result ≡ begins (among (firsts comparison)) tokens.now }
 {
-    match tokens {
-        [] => false,
-        [token, ..] => matches!(
-            &token.kind,
-            TokenKind::Sign(
-                Symbol::Equal
-                    | Symbol::NotEqual
-                    | Symbol::Less
-                    | Symbol::LessOrEqual
-                    | Symbol::Greater
-                    | Symbol::GreaterOrEqual
-            )
-        ),
-    }
+    matches!(
+        tokens.front(),
+        Some(TokenView::Sign(
+            Symbol::Equal
+                | Symbol::NotEqual
+                | Symbol::Less
+                | Symbol::LessOrEqual
+                | Symbol::Greater
+                | Symbol::GreaterOrEqual
+        ))
+    )
 }

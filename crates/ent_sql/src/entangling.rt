@@ -14,7 +14,7 @@ use crate::list::{Item, appended, listed};
 use crate::operand::{name_at, term_at, variable_at};
 use crate::select::select_behind;
 use ent_grammar::{Divider, GrammarFault, begins_with_sign, begins_with_word, sign_at, word_at};
-use ent_text::{Keyword, Symbol, Token};
+use ent_text::{Keyword, Symbol, Tokens};
 use ent_tree::{Entangled, EntangledItem, Identifier, Items, MOST_PARTS, Operand, Statement, Term};
 use ent_value::{Limited, Refusal};
 use std::alloc::Global;
@@ -98,11 +98,11 @@ fn items_of(
 fn binding_at(
     alloc: Global,
     end: usize,
-    tokens: &[Token],
-) -> Result<(Option<Identifier>, &[Token]), Refusal<GrammarFault>>
-    ensures { Gives (λ x. (x.0, x.1.now)) result (reads binding end tokens.now) }
+    tokens: Tokens<'_>,
+) -> Result<(Option<Identifier>, Tokens<'_>), Refusal<GrammarFault>>
+    ensures { Gives (λ x. x) result (reads binding end tokens.entry) }
 {
-    if begins_with_word(Keyword::As, tokens) {
+    if begins_with_word(Keyword::As, &tokens) {
         let (_, rest) = word_at(Keyword::As, end, tokens)?;
         let (variable, rest) = variable_at(alloc, end, rest)?;
         Ok((Some(variable), rest))
@@ -115,9 +115,9 @@ fn binding_at(
 fn entangled_item_at(
     alloc: Global,
     end: usize,
-    tokens: &[Token],
-) -> Result<(EntangledItem, &[Token]), Refusal<GrammarFault>>
-    ensures { Gives (λ x. (x.0, x.1.now)) result (reads entangled_item end tokens.now) }
+    tokens: Tokens<'_>,
+) -> Result<(EntangledItem, Tokens<'_>), Refusal<GrammarFault>>
+    ensures { Gives (λ x. x) result (reads entangled_item end tokens.entry) }
 {
     let (term, rest) = term_at(alloc, end, tokens)?;
     let (binds, rest) = binding_at(alloc, end, rest)?;
@@ -130,15 +130,15 @@ impl Item for EntangledItem {
     ghost grammar = { entangled_item };
 
     #[tactic(auto, unfolding(crate::specs::Entangling::entangled_item, crate::specs::Operands::term, crate::specs::Operands::operand, crate::specs::Operands::column_reference, crate::specs::Operands::identifier, crate::specs::Operands::value, crate::specs::Operands::host_variable, crate::specs::Operands::literal, crate::specs::Operands::negative, crate::specs::Operands::unsigned, crate::specs::Operands::positive, crate::specs::Operands::quoted))]
-    fn is_start(tokens: &[Token]) -> bool {
+    fn is_start(tokens: &Tokens<'_>) -> bool {
         begins_with_operand(tokens)
     }
 
     fn read(
         alloc: Global,
         end: usize,
-        tokens: &[Token],
-    ) -> Result<(Self, &[Token]), Refusal<GrammarFault>> {
+        tokens: Tokens<'_>,
+    ) -> Result<(Self, Tokens<'_>), Refusal<GrammarFault>> {
         entangled_item_at(alloc, end, tokens)
     }
 }
@@ -149,11 +149,11 @@ fn entangled_items_at(
     alloc: Global,
     operands: Limited<Operand, MOST_PARTS>,
     end: usize,
-    tokens: &[Token],
-) -> Result<(Limited<EntangledItem, MOST_PARTS>, &[Token]), Refusal<GrammarFault>>
-    ensures { Gives (λ x. (x.0, x.1.now)) result (reads (entangled_items operands) end tokens.now) }
+    tokens: Tokens<'_>,
+) -> Result<(Limited<EntangledItem, MOST_PARTS>, Tokens<'_>), Refusal<GrammarFault>>
+    ensures { Gives (λ x. x) result (reads (entangled_items operands) end tokens.entry) }
 {
-    if begins_with_word(Keyword::As, tokens) {
+    if begins_with_word(Keyword::As, &tokens) {
         let (_, rest) = word_at(Keyword::As, end, tokens)?;
         let (variable, rest) = variable_at(alloc, end, rest)?;
         let items = items_of(alloc, operands, Some(variable))?;
@@ -170,9 +170,9 @@ fn entangled_behind(
     alloc: Global,
     items: Limited<EntangledItem, MOST_PARTS>,
     end: usize,
-    tokens: &[Token],
-) -> Result<(Entangled, &[Token]), Refusal<GrammarFault>>
-    ensures { Gives (λ x. (x.0, x.1.now)) result (reads (entangled_behind items) end tokens.now) }
+    tokens: Tokens<'_>,
+) -> Result<(Entangled, Tokens<'_>), Refusal<GrammarFault>>
+    ensures { Gives (λ x. x) result (reads (entangled_behind items) end tokens.entry) }
 {
     let (place, rest) = word_at(Keyword::Into, end, tokens)?;
     let (relations, rest) = listed(alloc, Divider::Comma, end, rest)?;
@@ -195,9 +195,9 @@ fn ordinary_at(
     alloc: Global,
     operands: Limited<Operand, MOST_PARTS>,
     end: usize,
-    tokens: &[Token],
-) -> Result<(Statement, &[Token]), Refusal<GrammarFault>>
-    ensures { Gives (λ x. (x.0, x.1.now)) result (reads (ordinary operands) end tokens.now) }
+    tokens: Tokens<'_>,
+) -> Result<(Statement, Tokens<'_>), Refusal<GrammarFault>>
+    ensures { Gives (λ x. x) result (reads (ordinary operands) end tokens.entry) }
 {
     let (select, rest) = select_behind(alloc, Items::Listed(operands), end, tokens)?;
     Ok((Statement::Select(select), rest))
@@ -208,9 +208,9 @@ fn entangled_at(
     alloc: Global,
     operands: Limited<Operand, MOST_PARTS>,
     end: usize,
-    tokens: &[Token],
-) -> Result<(Statement, &[Token]), Refusal<GrammarFault>>
-    ensures { Gives (λ x. (x.0, x.1.now)) result (reads (entangled operands) end tokens.now) }
+    tokens: Tokens<'_>,
+) -> Result<(Statement, Tokens<'_>), Refusal<GrammarFault>>
+    ensures { Gives (λ x. x) result (reads (entangled operands) end tokens.entry) }
 {
     let (items, rest) = entangled_items_at(alloc, operands, end, tokens)?;
     let (entangled, rest) = entangled_behind(alloc, items, end, rest)?;
@@ -222,12 +222,12 @@ fn entangled_at(
 pub(crate) fn query_at(
     alloc: Global,
     end: usize,
-    tokens: &[Token],
-) -> Result<(Statement, &[Token]), Refusal<GrammarFault>>
-    ensures { Gives (λ x. (x.0, x.1.now)) result (reads query end tokens.now) }
+    tokens: Tokens<'_>,
+) -> Result<(Statement, Tokens<'_>), Refusal<GrammarFault>>
+    ensures { Gives (λ x. x) result (reads query end tokens.entry) }
 {
     let (_, rest) = word_at(Keyword::Select, end, tokens)?;
-    if begins_with_sign(Symbol::Star, rest) {
+    if begins_with_sign(Symbol::Star, &rest) {
         let (_, rest) = sign_at(Symbol::Star, end, rest)?;
         let (select, rest) = select_behind(alloc, Items::All, end, rest)?;
         Ok((Statement::Select(select), rest))
@@ -235,7 +235,7 @@ pub(crate) fn query_at(
         let (operands, rest) = listed(alloc, Divider::Comma, end, rest)?;
         let may_be_entangled = are_terms(operands.as_slice());
         if may_be_entangled {
-            if begins_with_word(Keyword::From, rest) {
+            if begins_with_word(Keyword::From, &rest) {
                 ordinary_at(alloc, operands, end, rest)
             } else {
                 entangled_at(alloc, operands, end, rest)

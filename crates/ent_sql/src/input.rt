@@ -14,7 +14,7 @@ ghost use Rattle.ent_sql.specs.FirstFault.{CantFollow, IsTooMuch};
 use crate::fault::{SqlFault, fault_of};
 use crate::list::many;
 use ent_grammar::{GrammarFault, unexpected};
-use ent_text::{Token, tokens};
+use ent_text::Tokens;
 use ent_tree::{Input, Opening};
 use ent_value::Refusal;
 use std::alloc::Global;
@@ -25,14 +25,13 @@ use std::alloc::Global;
 pub fn parse_input(alloc: Global, text: &str) -> Result<Input, Refusal<SqlFault>>
     ensures { Gives (λ input. input) result (reading text.now) }
 {
-    match tokens(alloc, text) {
-        Ok(found) => match input_of(alloc, text.len(), found.as_slice()) {
+    match Tokens::of(text) {
+        Ok(tokens) => match input_of(alloc, text.len(), tokens) {
             Ok(input) => Ok(input),
             Err(Refusal::Memory) => Err(Refusal::Memory),
             Err(Refusal::Fault(fault)) => Err(Refusal::Fault(fault_of(fault))),
         },
-        Err(Refusal::Memory) => Err(Refusal::Memory),
-        Err(Refusal::Fault(fault)) => Err(Refusal::Fault(SqlFault::Text(fault))),
+        Err(fault) => Err(Refusal::Fault(SqlFault::Text(fault))),
     }
 }
 
@@ -51,14 +50,14 @@ pub fn reading_is_exact()
 
 /// What the tokens of a text of this length say.
 #[tactic(auto, unfolding(crate::specs::Scripts::input))]
-fn input_of(alloc: Global, end: usize, tokens: &[Token]) -> Result<Input, Refusal<GrammarFault>>
-    ensures { Gives (λ input. input) result (reads_all input end tokens.now) }
+fn input_of(alloc: Global, end: usize, tokens: Tokens<'_>) -> Result<Input, Refusal<GrammarFault>>
+    ensures { Gives (λ input. input) result (reads_all input end tokens.entry) }
 {
     let (tables, rest) = many(alloc, end, tokens)?;
     let (rows, rest) = many(alloc, end, rest)?;
     let (scripts, rest) = many(alloc, end, rest)?;
-    if !rest.is_empty() {
-        return Err(unexpected(end, rest));
+    if rest.front().is_some() {
+        return Err(unexpected(end, &rest));
     }
     Ok(Input {
         opening: Opening { tables, rows },

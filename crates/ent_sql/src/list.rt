@@ -5,8 +5,8 @@ ghost use Rattle.ent_grammar.specs.Read.{begins};
 ghost use Rattle.ent_grammar.specs.Class.{among};
 ghost use Rattle.ent_grammar.specs.Grammar.{Grammar, give, chain, more, firsts, reads, listed, many};
 
-use ent_grammar::{Divider, GrammarFault, begins_with_divider, tail, too_many, unexpected};
-use ent_text::Token;
+use ent_grammar::{Divider, GrammarFault, begins_with_divider, too_many, unexpected};
+use ent_text::Tokens;
 use ent_value::{Limited, Refusal};
 use std::alloc::Global;
 
@@ -15,15 +15,15 @@ pub trait Item: Drop {
     ghost grammar: { Grammar Self };
 
     /// Whether the token at the front begins one.
-    fn is_start(tokens: &[Token]) -> bool
+    fn is_start(tokens: &Tokens<'_>) -> bool
         ensures { result ≡ begins (among (firsts grammar)) tokens.now };
 
     fn read(
         alloc: Global,
         end: usize,
-        tokens: &[Token],
-    ) -> Result<(Self, &[Token]), Refusal<GrammarFault>>
-        ensures { Gives (λ x. (x.0, x.1.now)) result (reads grammar end tokens.now) };
+        tokens: Tokens<'_>,
+    ) -> Result<(Self, Tokens<'_>), Refusal<GrammarFault>>
+        ensures { Gives (λ x. x) result (reads grammar end tokens.entry) };
 }
 
 /// Things that were read, and those behind them, each behind a divider: `LIMIT` at most in all.
@@ -32,21 +32,21 @@ pub fn appended<T: Item, const LIMIT: usize>(
     divider: Divider,
     before: Limited<T, LIMIT>,
     end: usize,
-    tokens: &[Token],
-) -> Result<(Limited<T, LIMIT>, &[Token]), Refusal<GrammarFault>>
-    ensures { Gives (λ x. (x.0, x.1.now)) result
-        (reads (chain (more (LIMIT - length before) divider T.grammar) (λ xs. give (before ++ xs))) end tokens.now) }
+    tokens: Tokens<'_>,
+) -> Result<(Limited<T, LIMIT>, Tokens<'_>), Refusal<GrammarFault>>
+    ensures { Gives (λ x. x) result
+        (reads (chain (more (LIMIT - length before) divider T.grammar) (λ xs. give (before ++ xs))) end tokens.entry) }
 {
     let mut items = before;
     let mut rest = tokens;
     let mut left = LIMIT - items.len();
-    'things: while begins_with_divider(divider, rest) {
-        let next = tail(rest);
+    'things: while begins_with_divider(divider, &rest) {
+        let next = rest.tail();
         if left == 0 {
-            if T::is_start(next) {
-                return Err(too_many(end, next));
+            if T::is_start(&next) {
+                return Err(too_many(end, &next));
             }
-            return Err(unexpected(end, next));
+            return Err(unexpected(end, &next));
         }
         let (item, after) = T::read(alloc, end, next)?;
         items.push(item)?;
@@ -61,10 +61,10 @@ pub fn listed<T: Item, const LIMIT: usize>(
     alloc: Global,
     divider: Divider,
     end: usize,
-    tokens: &[Token],
-) -> Result<(Limited<T, LIMIT>, &[Token]), Refusal<GrammarFault>>
+    tokens: Tokens<'_>,
+) -> Result<(Limited<T, LIMIT>, Tokens<'_>), Refusal<GrammarFault>>
     requires { 0 < LIMIT }
-    ensures { Gives (λ x. (x.0, x.1.now)) result (reads (listed LIMIT divider T.grammar) end tokens.now) }
+    ensures { Gives (λ x. x) result (reads (listed LIMIT divider T.grammar) end tokens.entry) }
 {
     let (first, rest) = T::read(alloc, end, tokens)?;
     let mut items = Limited::new(alloc);
@@ -76,16 +76,16 @@ pub fn listed<T: Item, const LIMIT: usize>(
 pub fn many<T: Item, const LIMIT: usize>(
     alloc: Global,
     end: usize,
-    tokens: &[Token],
-) -> Result<(Limited<T, LIMIT>, &[Token]), Refusal<GrammarFault>>
-    ensures { Gives (λ x. (x.0, x.1.now)) result (reads (many LIMIT T.grammar) end tokens.now) }
+    tokens: Tokens<'_>,
+) -> Result<(Limited<T, LIMIT>, Tokens<'_>), Refusal<GrammarFault>>
+    ensures { Gives (λ x. x) result (reads (many LIMIT T.grammar) end tokens.entry) }
 {
     let mut items = Limited::new(alloc);
     let mut rest = tokens;
     let mut left = LIMIT;
-    'things: while T::is_start(rest) {
+    'things: while T::is_start(&rest) {
         if left == 0 {
-            return Err(too_many(end, rest));
+            return Err(too_many(end, &rest));
         }
         let (item, after) = T::read(alloc, end, rest)?;
         items.push(item)?;

@@ -11,9 +11,9 @@ use crate::front::{
 };
 use crate::list::Item;
 use ent_grammar::{GrammarFault, begins_with_sign, sign_at, unexpected};
-use ent_text::{Symbol, Token, TokenKind};
+use ent_text::{Symbol, TokenView, Tokens, text_of};
 use ent_tree::{ColumnReference, Identifier, Literal, Operand, Term, ValueSpecification};
-use ent_value::{Refusal, Value};
+use ent_value::{Name, Refusal, Value};
 use std::alloc::Global;
 
 /// The name at the front.
@@ -21,20 +21,17 @@ use std::alloc::Global;
 pub(crate) fn name_at(
     alloc: Global,
     end: usize,
-    tokens: &[Token],
-) -> Result<(Identifier, &[Token]), Refusal<GrammarFault>>
-    ensures { Gives (λ x. (x.0, x.1.now)) result (reads identifier end tokens.now) }
+    tokens: Tokens<'_>,
+) -> Result<(Identifier, Tokens<'_>), Refusal<GrammarFault>>
+    ensures { Gives (λ x. x) result (reads identifier end tokens.entry) }
 {
-    match tokens {
-        [] => Err(unexpected(end, tokens)),
-        [token, rest @ ..] => match &token.kind {
-            TokenKind::Name(name) => {
-                let name = name.copy(alloc)?;
-                let place = token.start;
-                Ok((Identifier { name, place }, rest))
-            }
-            _ => Err(unexpected(end, tokens)),
-        },
+    match tokens.front() {
+        Some(TokenView::Name(word)) => {
+            let name = Name::new(alloc, word)?;
+            let place = tokens.start(end);
+            Ok((Identifier { name, place }, tokens.tail()))
+        }
+        _ => Err(unexpected(end, &tokens)),
     }
 }
 
@@ -43,38 +40,35 @@ pub(crate) fn name_at(
 pub(crate) fn variable_at(
     alloc: Global,
     end: usize,
-    tokens: &[Token],
-) -> Result<(Identifier, &[Token]), Refusal<GrammarFault>>
-    ensures { Gives (λ x. (x.0, x.1.now)) result (reads host_variable end tokens.now) }
+    tokens: Tokens<'_>,
+) -> Result<(Identifier, Tokens<'_>), Refusal<GrammarFault>>
+    ensures { Gives (λ x. x) result (reads host_variable end tokens.entry) }
 {
-    match tokens {
-        [] => Err(unexpected(end, tokens)),
-        [token, rest @ ..] => match &token.kind {
-            TokenKind::HostVariable(name) => {
-                let name = name.copy(alloc)?;
-                let place = token.start;
-                Ok((Identifier { name, place }, rest))
-            }
-            _ => Err(unexpected(end, tokens)),
-        },
+    match tokens.front() {
+        Some(TokenView::HostVariable(word)) => {
+            let name = Name::new(alloc, word)?;
+            let place = tokens.start(end);
+            Ok((Identifier { name, place }, tokens.tail()))
+        }
+        _ => Err(unexpected(end, &tokens)),
     }
 }
 
 /// A minus sign and the number behind it.
 #[tactic(auto, unfolding(crate::specs::Operands::negative))]
-fn negative_at(end: usize, tokens: &[Token]) -> Result<(Literal, &[Token]), Refusal<GrammarFault>>
-    ensures { Gives (λ x. (x.0, x.1.now)) result (reads negative end tokens.now) }
+fn negative_at(
+    end: usize,
+    tokens: Tokens<'_>,
+) -> Result<(Literal, Tokens<'_>), Refusal<GrammarFault>>
+    ensures { Gives (λ x. x) result (reads negative end tokens.entry) }
 {
     let (place, rest) = sign_at(Symbol::Minus, end, tokens)?;
-    match rest {
-        [] => Err(unexpected(end, rest)),
-        [token, rest_behind @ ..] => match &token.kind {
-            TokenKind::Number(number) => {
-                let value = Value::Int(number.negative());
-                Ok((Literal { value, place }, rest_behind))
-            }
-            _ => Err(unexpected(end, rest)),
-        },
+    match rest.front() {
+        Some(TokenView::Number(number)) => {
+            let value = Value::Int(number.negative());
+            Ok((Literal { value, place }, rest.tail()))
+        }
+        _ => Err(unexpected(end, &rest)),
     }
 }
 
@@ -82,33 +76,28 @@ fn negative_at(end: usize, tokens: &[Token]) -> Result<(Literal, &[Token]), Refu
 fn unsigned_at(
     alloc: Global,
     end: usize,
-    tokens: &[Token],
-) -> Result<(Literal, &[Token]), Refusal<GrammarFault>>
-    ensures { Gives (λ x. (x.0, x.1.now)) result (reads unsigned end tokens.now) }
+    tokens: Tokens<'_>,
+) -> Result<(Literal, Tokens<'_>), Refusal<GrammarFault>>
+    ensures { Gives (λ x. x) result (reads unsigned end tokens.entry) }
 {
-    match tokens {
-        [] => Err(unexpected(end, tokens)),
-        [token, rest @ ..] => {
-            let value = match &token.kind {
-                TokenKind::Number(number) => Value::Int(number.positive()),
-                TokenKind::Literal(text) => Value::Text(text.copy(alloc)?),
-                _ => return Err(unexpected(end, tokens)),
-            };
-            let place = token.start;
-            Ok((Literal { value, place }, rest))
-        }
-    }
+    let value = match tokens.front() {
+        Some(TokenView::Number(number)) => Value::Int(number.positive()),
+        Some(TokenView::Literal(behind)) => Value::Text(text_of(alloc, behind)?),
+        _ => return Err(unexpected(end, &tokens)),
+    };
+    let place = tokens.start(end);
+    Ok((Literal { value, place }, tokens.tail()))
 }
 
 #[tactic(auto, unfolding(crate::specs::Operands::literal, crate::specs::Operands::negative))]
 fn literal_at(
     alloc: Global,
     end: usize,
-    tokens: &[Token],
-) -> Result<(Literal, &[Token]), Refusal<GrammarFault>>
-    ensures { Gives (λ x. (x.0, x.1.now)) result (reads literal end tokens.now) }
+    tokens: Tokens<'_>,
+) -> Result<(Literal, Tokens<'_>), Refusal<GrammarFault>>
+    ensures { Gives (λ x. x) result (reads literal end tokens.entry) }
 {
-    if begins_with_sign(Symbol::Minus, tokens) {
+    if begins_with_sign(Symbol::Minus, &tokens) {
         negative_at(end, tokens)
     } else {
         unsigned_at(alloc, end, tokens)
@@ -119,11 +108,11 @@ fn literal_at(
 pub(crate) fn value_at(
     alloc: Global,
     end: usize,
-    tokens: &[Token],
-) -> Result<(ValueSpecification, &[Token]), Refusal<GrammarFault>>
-    ensures { Gives (λ x. (x.0, x.1.now)) result (reads value end tokens.now) }
+    tokens: Tokens<'_>,
+) -> Result<(ValueSpecification, Tokens<'_>), Refusal<GrammarFault>>
+    ensures { Gives (λ x. x) result (reads value end tokens.entry) }
 {
-    if begins_with_variable(tokens) {
+    if begins_with_variable(&tokens) {
         let (variable, rest) = variable_at(alloc, end, tokens)?;
         Ok((ValueSpecification::HostVariable(variable), rest))
     } else {
@@ -137,12 +126,12 @@ pub(crate) fn value_at(
 fn reference_at(
     alloc: Global,
     end: usize,
-    tokens: &[Token],
-) -> Result<(ColumnReference, &[Token]), Refusal<GrammarFault>>
-    ensures { Gives (λ x. (x.0, x.1.now)) result (reads column_reference end tokens.now) }
+    tokens: Tokens<'_>,
+) -> Result<(ColumnReference, Tokens<'_>), Refusal<GrammarFault>>
+    ensures { Gives (λ x. x) result (reads column_reference end tokens.entry) }
 {
     let (first, rest) = name_at(alloc, end, tokens)?;
-    if begins_with_sign(Symbol::Dot, rest) {
+    if begins_with_sign(Symbol::Dot, &rest) {
         let (_, rest) = sign_at(Symbol::Dot, end, rest)?;
         let (column, rest) = name_at(alloc, end, rest)?;
         let qualifier = Some(first);
@@ -158,11 +147,11 @@ fn reference_at(
 fn operand_at(
     alloc: Global,
     end: usize,
-    tokens: &[Token],
-) -> Result<(Operand, &[Token]), Refusal<GrammarFault>>
-    ensures { Gives (λ x. (x.0, x.1.now)) result (reads operand end tokens.now) }
+    tokens: Tokens<'_>,
+) -> Result<(Operand, Tokens<'_>), Refusal<GrammarFault>>
+    ensures { Gives (λ x. x) result (reads operand end tokens.entry) }
 {
-    if begins_with_name(tokens) {
+    if begins_with_name(&tokens) {
         let (column, rest) = reference_at(alloc, end, tokens)?;
         Ok((Operand::Column(column), rest))
     } else {
@@ -175,11 +164,11 @@ fn operand_at(
 pub(crate) fn term_at(
     alloc: Global,
     end: usize,
-    tokens: &[Token],
-) -> Result<(Term, &[Token]), Refusal<GrammarFault>>
-    ensures { Gives (λ x. (x.0, x.1.now)) result (reads term end tokens.now) }
+    tokens: Tokens<'_>,
+) -> Result<(Term, Tokens<'_>), Refusal<GrammarFault>>
+    ensures { Gives (λ x. x) result (reads term end tokens.entry) }
 {
-    if begins_with_name(tokens) {
+    if begins_with_name(&tokens) {
         let (variable, rest) = name_at(alloc, end, tokens)?;
         Ok((Term::Variable(variable), rest))
     } else {
@@ -193,15 +182,15 @@ impl Item for Literal {
 
     ghost grammar = { literal };
 
-    fn is_start(tokens: &[Token]) -> bool {
+    fn is_start(tokens: &Tokens<'_>) -> bool {
         begins_with_literal(tokens)
     }
 
     fn read(
         alloc: Global,
         end: usize,
-        tokens: &[Token],
-    ) -> Result<(Self, &[Token]), Refusal<GrammarFault>> {
+        tokens: Tokens<'_>,
+    ) -> Result<(Self, Tokens<'_>), Refusal<GrammarFault>> {
         literal_at(alloc, end, tokens)
     }
 }
@@ -211,15 +200,15 @@ impl Item for ValueSpecification {
 
     ghost grammar = { value };
 
-    fn is_start(tokens: &[Token]) -> bool {
+    fn is_start(tokens: &Tokens<'_>) -> bool {
         begins_with_value(tokens)
     }
 
     fn read(
         alloc: Global,
         end: usize,
-        tokens: &[Token],
-    ) -> Result<(Self, &[Token]), Refusal<GrammarFault>> {
+        tokens: Tokens<'_>,
+    ) -> Result<(Self, Tokens<'_>), Refusal<GrammarFault>> {
         value_at(alloc, end, tokens)
     }
 }
@@ -229,15 +218,15 @@ impl Item for Operand {
 
     ghost grammar = { operand };
 
-    fn is_start(tokens: &[Token]) -> bool {
+    fn is_start(tokens: &Tokens<'_>) -> bool {
         begins_with_operand(tokens)
     }
 
     fn read(
         alloc: Global,
         end: usize,
-        tokens: &[Token],
-    ) -> Result<(Self, &[Token]), Refusal<GrammarFault>> {
+        tokens: Tokens<'_>,
+    ) -> Result<(Self, Tokens<'_>), Refusal<GrammarFault>> {
         operand_at(alloc, end, tokens)
     }
 }
@@ -248,15 +237,15 @@ impl Item for Term {
     ghost grammar = { term };
 
     #[tactic(auto, unfolding(crate::specs::Operands::term, crate::specs::Operands::operand, crate::specs::Operands::column_reference, crate::specs::Operands::identifier, crate::specs::Operands::value, crate::specs::Operands::host_variable, crate::specs::Operands::literal, crate::specs::Operands::negative, crate::specs::Operands::unsigned, crate::specs::Operands::positive, crate::specs::Operands::quoted))]
-    fn is_start(tokens: &[Token]) -> bool {
+    fn is_start(tokens: &Tokens<'_>) -> bool {
         begins_with_operand(tokens)
     }
 
     fn read(
         alloc: Global,
         end: usize,
-        tokens: &[Token],
-    ) -> Result<(Self, &[Token]), Refusal<GrammarFault>> {
+        tokens: Tokens<'_>,
+    ) -> Result<(Self, Tokens<'_>), Refusal<GrammarFault>> {
         term_at(alloc, end, tokens)
     }
 }

@@ -7,38 +7,38 @@ ghost use Rattle.ent_sql.specs.Scripts.{within, ending, script};
 
 use crate::list::{Item, many};
 use ent_grammar::{GrammarFault, begins_with_word, sign_at, too_many, unexpected, word_at};
-use ent_text::{Keyword, Symbol, Token, TokenKind};
+use ent_text::{Keyword, Symbol, TokenView, Tokens};
 use ent_tree::{DEFAULT_RUNS, End, MOST_RUNS, Runs, Script};
 use ent_value::Refusal;
 use std::alloc::Global;
 
 /// A number from 1 on, which is too much where more runs are asked for than there may be.
-fn runs_at(end: usize, tokens: &[Token]) -> Result<((Runs, usize), &[Token]), Refusal<GrammarFault>>
-    ensures { Gives (λ x. (x.0, x.1.now)) result (reads (up_to MOST_RUNS) end tokens.now) }
+fn runs_at(
+    end: usize,
+    tokens: Tokens<'_>,
+) -> Result<((Runs, usize), Tokens<'_>), Refusal<GrammarFault>>
+    ensures { Gives (λ x. x) result (reads (up_to MOST_RUNS) end tokens.entry) }
 {
-    match tokens {
-        [] => Err(unexpected(end, tokens)),
-        [token, rest @ ..] => match &token.kind {
-            TokenKind::Number(number) => {
-                let runs = number.value();
-                if runs < 1 {
-                    Err(unexpected(end, tokens))
-                } else if runs <= MOST_RUNS {
-                    Ok(((Runs::new(runs), token.start), rest))
-                } else {
-                    Err(too_many(end, tokens))
-                }
+    match tokens.front() {
+        Some(TokenView::Number(number)) => {
+            let runs = number.value();
+            if runs < 1 {
+                Err(unexpected(end, &tokens))
+            } else if runs <= MOST_RUNS {
+                Ok(((Runs::new(runs), tokens.start(end)), tokens.tail()))
+            } else {
+                Err(too_many(end, &tokens))
             }
-            _ => Err(unexpected(end, tokens)),
-        },
+        }
+        _ => Err(unexpected(end, &tokens)),
     }
 }
 
 #[tactic(auto, unfolding(crate::specs::Scripts::within))]
-fn within_at(end: usize, tokens: &[Token]) -> Result<(Runs, &[Token]), Refusal<GrammarFault>>
-    ensures { Gives (λ x. (x.0, x.1.now)) result (reads within end tokens.now) }
+fn within_at(end: usize, tokens: Tokens<'_>) -> Result<(Runs, Tokens<'_>), Refusal<GrammarFault>>
+    ensures { Gives (λ x. x) result (reads within end tokens.entry) }
 {
-    if begins_with_word(Keyword::Within, tokens) {
+    if begins_with_word(Keyword::Within, &tokens) {
         let (_, rest) = word_at(Keyword::Within, end, tokens)?;
         let ((runs, _), rest) = match runs_at(end, rest) {
             Ok(read) => read,
@@ -52,10 +52,10 @@ fn within_at(end: usize, tokens: &[Token]) -> Result<(Runs, &[Token]), Refusal<G
 }
 
 #[tactic(auto, unfolding(crate::specs::Scripts::ending))]
-fn ending_at(end: usize, tokens: &[Token]) -> Result<(End, &[Token]), Refusal<GrammarFault>>
-    ensures { Gives (λ x. (x.0, x.1.now)) result (reads ending end tokens.now) }
+fn ending_at(end: usize, tokens: Tokens<'_>) -> Result<(End, Tokens<'_>), Refusal<GrammarFault>>
+    ensures { Gives (λ x. x) result (reads ending end tokens.entry) }
 {
-    if begins_with_word(Keyword::Commit, tokens) {
+    if begins_with_word(Keyword::Commit, &tokens) {
         let (_, rest) = word_at(Keyword::Commit, end, tokens)?;
         Ok((End::Commit, rest))
     } else {
@@ -68,9 +68,9 @@ fn ending_at(end: usize, tokens: &[Token]) -> Result<(End, &[Token]), Refusal<Gr
 fn script_at(
     alloc: Global,
     end: usize,
-    tokens: &[Token],
-) -> Result<(Script, &[Token]), Refusal<GrammarFault>>
-    ensures { Gives (λ x. (x.0, x.1.now)) result (reads script end tokens.now) }
+    tokens: Tokens<'_>,
+) -> Result<(Script, Tokens<'_>), Refusal<GrammarFault>>
+    ensures { Gives (λ x. x) result (reads script end tokens.entry) }
 {
     let (_, rest) = word_at(Keyword::Begin, end, tokens)?;
     let (_, rest) = word_at(Keyword::Transaction, end, rest)?;
@@ -98,15 +98,15 @@ impl Item for Script {
     ghost grammar = { script };
 
     #[tactic(auto, unfolding(crate::specs::Scripts::script))]
-    fn is_start(tokens: &[Token]) -> bool {
+    fn is_start(tokens: &Tokens<'_>) -> bool {
         begins_with_word(Keyword::Begin, tokens)
     }
 
     fn read(
         alloc: Global,
         end: usize,
-        tokens: &[Token],
-    ) -> Result<(Self, &[Token]), Refusal<GrammarFault>> {
+        tokens: Tokens<'_>,
+    ) -> Result<(Self, Tokens<'_>), Refusal<GrammarFault>> {
         script_at(alloc, end, tokens)
     }
 }

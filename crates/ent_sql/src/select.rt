@@ -8,7 +8,7 @@ use crate::front::begins_with_name;
 use crate::list::{Item, listed};
 use crate::operand::name_at;
 use ent_grammar::{Divider, GrammarFault, begins_with_sign, begins_with_word, sign_at, word_at};
-use ent_text::{Keyword, Symbol, Token};
+use ent_text::{Keyword, Symbol, Tokens};
 use ent_tree::{Items, MOST_PARTS, Operand, Select, Source, Test};
 use ent_value::{Limited, Refusal};
 use std::alloc::Global;
@@ -17,17 +17,17 @@ use std::alloc::Global;
 fn source_at(
     alloc: Global,
     end: usize,
-    tokens: &[Token],
-) -> Result<(Source, &[Token]), Refusal<GrammarFault>>
-    ensures { Gives (λ x. (x.0, x.1.now)) result (reads source end tokens.now) }
+    tokens: Tokens<'_>,
+) -> Result<(Source, Tokens<'_>), Refusal<GrammarFault>>
+    ensures { Gives (λ x. x) result (reads source end tokens.entry) }
 {
     let (table, rest) = name_at(alloc, end, tokens)?;
-    if begins_with_word(Keyword::As, rest) {
+    if begins_with_word(Keyword::As, &rest) {
         let (_, rest) = word_at(Keyword::As, end, rest)?;
         let (name, rest) = name_at(alloc, end, rest)?;
         let alias = Some(name);
         Ok((Source { table, alias }, rest))
-    } else if begins_with_name(rest) {
+    } else if begins_with_name(&rest) {
         let (name, rest) = name_at(alloc, end, rest)?;
         let alias = Some(name);
         Ok((Source { table, alias }, rest))
@@ -43,15 +43,15 @@ impl Item for Source {
     ghost grammar = { source };
 
     #[tactic(auto, unfolding(crate::specs::Selects::source, crate::specs::Operands::identifier))]
-    fn is_start(tokens: &[Token]) -> bool {
+    fn is_start(tokens: &Tokens<'_>) -> bool {
         begins_with_name(tokens)
     }
 
     fn read(
         alloc: Global,
         end: usize,
-        tokens: &[Token],
-    ) -> Result<(Self, &[Token]), Refusal<GrammarFault>> {
+        tokens: Tokens<'_>,
+    ) -> Result<(Self, Tokens<'_>), Refusal<GrammarFault>> {
         source_at(alloc, end, tokens)
     }
 }
@@ -60,11 +60,11 @@ impl Item for Source {
 pub(crate) fn tests_at(
     alloc: Global,
     end: usize,
-    tokens: &[Token],
-) -> Result<(Limited<Test<Operand>, MOST_PARTS>, &[Token]), Refusal<GrammarFault>>
-    ensures { Gives (λ x. (x.0, x.1.now)) result (reads tests end tokens.now) }
+    tokens: Tokens<'_>,
+) -> Result<(Limited<Test<Operand>, MOST_PARTS>, Tokens<'_>), Refusal<GrammarFault>>
+    ensures { Gives (λ x. x) result (reads tests end tokens.entry) }
 {
-    if begins_with_word(Keyword::Where, tokens) {
+    if begins_with_word(Keyword::Where, &tokens) {
         let (_, rest) = word_at(Keyword::Where, end, tokens)?;
         listed(alloc, Divider::And, end, rest)
     } else {
@@ -78,9 +78,9 @@ pub(crate) fn select_behind(
     alloc: Global,
     items: Items,
     end: usize,
-    tokens: &[Token],
-) -> Result<(Select, &[Token]), Refusal<GrammarFault>>
-    ensures { Gives (λ x. (x.0, x.1.now)) result (reads (select_behind items) end tokens.now) }
+    tokens: Tokens<'_>,
+) -> Result<(Select, Tokens<'_>), Refusal<GrammarFault>>
+    ensures { Gives (λ x. x) result (reads (select_behind items) end tokens.entry) }
 {
     let (_, rest) = word_at(Keyword::From, end, tokens)?;
     let (sources, rest) = listed(alloc, Divider::Comma, end, rest)?;
@@ -99,11 +99,11 @@ pub(crate) fn select_behind(
 fn items_at(
     alloc: Global,
     end: usize,
-    tokens: &[Token],
-) -> Result<(Items, &[Token]), Refusal<GrammarFault>>
-    ensures { Gives (λ x. (x.0, x.1.now)) result (reads items end tokens.now) }
+    tokens: Tokens<'_>,
+) -> Result<(Items, Tokens<'_>), Refusal<GrammarFault>>
+    ensures { Gives (λ x. x) result (reads items end tokens.entry) }
 {
-    if begins_with_sign(Symbol::Star, tokens) {
+    if begins_with_sign(Symbol::Star, &tokens) {
         let (_, rest) = sign_at(Symbol::Star, end, tokens)?;
         Ok((Items::All, rest))
     } else {
@@ -116,9 +116,9 @@ fn items_at(
 pub(crate) fn select_at(
     alloc: Global,
     end: usize,
-    tokens: &[Token],
-) -> Result<(Select, &[Token]), Refusal<GrammarFault>>
-    ensures { Gives (λ x. (x.0, x.1.now)) result (reads select end tokens.now) }
+    tokens: Tokens<'_>,
+) -> Result<(Select, Tokens<'_>), Refusal<GrammarFault>>
+    ensures { Gives (λ x. x) result (reads select end tokens.entry) }
 {
     let (_, rest) = word_at(Keyword::Select, end, tokens)?;
     let (items, rest) = items_at(alloc, end, rest)?;

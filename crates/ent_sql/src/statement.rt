@@ -12,7 +12,7 @@ use crate::select::tests_at;
 use crate::table::insert_at;
 use crate::test::expression_at;
 use ent_grammar::{Divider, GrammarFault, begins_with_word, sign_at, word_at};
-use ent_text::{Keyword, Symbol, Token};
+use ent_text::{Keyword, Symbol, Tokens};
 use ent_tree::{Assignment, Delete, Operand, Set, Statement, Update, ValueSpecification};
 use ent_value::Refusal;
 use std::alloc::Global;
@@ -21,9 +21,9 @@ use std::alloc::Global;
 fn delete_at(
     alloc: Global,
     end: usize,
-    tokens: &[Token],
-) -> Result<(Delete, &[Token]), Refusal<GrammarFault>>
-    ensures { Gives (λ x. (x.0, x.1.now)) result (reads delete end tokens.now) }
+    tokens: Tokens<'_>,
+) -> Result<(Delete, Tokens<'_>), Refusal<GrammarFault>>
+    ensures { Gives (λ x. x) result (reads delete end tokens.entry) }
 {
     let (_, rest) = word_at(Keyword::Delete, end, tokens)?;
     let (_, rest) = word_at(Keyword::From, end, rest)?;
@@ -36,9 +36,9 @@ fn delete_at(
 fn assignment_at(
     alloc: Global,
     end: usize,
-    tokens: &[Token],
-) -> Result<(Assignment, &[Token]), Refusal<GrammarFault>>
-    ensures { Gives (λ x. (x.0, x.1.now)) result (reads assignment end tokens.now) }
+    tokens: Tokens<'_>,
+) -> Result<(Assignment, Tokens<'_>), Refusal<GrammarFault>>
+    ensures { Gives (λ x. x) result (reads assignment end tokens.entry) }
 {
     let (column, rest) = name_at(alloc, end, tokens)?;
     let (_, rest) = sign_at(Symbol::Equal, end, rest)?;
@@ -52,15 +52,15 @@ impl Item for Assignment {
     ghost grammar = { assignment };
 
     #[tactic(auto, unfolding(crate::specs::Statements::assignment, crate::specs::Operands::identifier))]
-    fn is_start(tokens: &[Token]) -> bool {
+    fn is_start(tokens: &Tokens<'_>) -> bool {
         begins_with_name(tokens)
     }
 
     fn read(
         alloc: Global,
         end: usize,
-        tokens: &[Token],
-    ) -> Result<(Self, &[Token]), Refusal<GrammarFault>> {
+        tokens: Tokens<'_>,
+    ) -> Result<(Self, Tokens<'_>), Refusal<GrammarFault>> {
         assignment_at(alloc, end, tokens)
     }
 }
@@ -69,9 +69,9 @@ impl Item for Assignment {
 fn update_at(
     alloc: Global,
     end: usize,
-    tokens: &[Token],
-) -> Result<(Update, &[Token]), Refusal<GrammarFault>>
-    ensures { Gives (λ x. (x.0, x.1.now)) result (reads update end tokens.now) }
+    tokens: Tokens<'_>,
+) -> Result<(Update, Tokens<'_>), Refusal<GrammarFault>>
+    ensures { Gives (λ x. x) result (reads update end tokens.entry) }
 {
     let (_, rest) = word_at(Keyword::Update, end, tokens)?;
     let (table, rest) = name_at(alloc, end, rest)?;
@@ -92,9 +92,9 @@ fn update_at(
 fn set_at(
     alloc: Global,
     end: usize,
-    tokens: &[Token],
-) -> Result<(Set, &[Token]), Refusal<GrammarFault>>
-    ensures { Gives (λ x. (x.0, x.1.now)) result (reads set end tokens.now) }
+    tokens: Tokens<'_>,
+) -> Result<(Set, Tokens<'_>), Refusal<GrammarFault>>
+    ensures { Gives (λ x. x) result (reads set end tokens.entry) }
 {
     let (_, rest) = word_at(Keyword::Set, end, tokens)?;
     let (variable, rest) = variable_at(alloc, end, rest)?;
@@ -113,20 +113,20 @@ fn set_at(
 fn statement_at(
     alloc: Global,
     end: usize,
-    tokens: &[Token],
-) -> Result<(Statement, &[Token]), Refusal<GrammarFault>>
-    ensures { Gives (λ x. (x.0, x.1.now)) result (reads statement end tokens.now) }
+    tokens: Tokens<'_>,
+) -> Result<(Statement, Tokens<'_>), Refusal<GrammarFault>>
+    ensures { Gives (λ x. x) result (reads statement end tokens.entry) }
 {
-    if begins_with_word(Keyword::Insert, tokens) {
+    if begins_with_word(Keyword::Insert, &tokens) {
         let (insert, rest) = insert_at(alloc, end, tokens)?;
         Ok((Statement::Insert(insert), rest))
-    } else if begins_with_word(Keyword::Delete, tokens) {
+    } else if begins_with_word(Keyword::Delete, &tokens) {
         let (delete, rest) = delete_at(alloc, end, tokens)?;
         Ok((Statement::Delete(delete), rest))
-    } else if begins_with_word(Keyword::Update, tokens) {
+    } else if begins_with_word(Keyword::Update, &tokens) {
         let (update, rest) = update_at(alloc, end, tokens)?;
         Ok((Statement::Update(update), rest))
-    } else if begins_with_word(Keyword::Set, tokens) {
+    } else if begins_with_word(Keyword::Set, &tokens) {
         let (set, rest) = set_at(alloc, end, tokens)?;
         Ok((Statement::Set(set), rest))
     } else {
@@ -138,9 +138,9 @@ fn statement_at(
 fn ended_statement_at(
     alloc: Global,
     end: usize,
-    tokens: &[Token],
-) -> Result<(Statement, &[Token]), Refusal<GrammarFault>>
-    ensures { Gives (λ x. (x.0, x.1.now)) result (reads ended_statement end tokens.now) }
+    tokens: Tokens<'_>,
+) -> Result<(Statement, Tokens<'_>), Refusal<GrammarFault>>
+    ensures { Gives (λ x. x) result (reads ended_statement end tokens.entry) }
 {
     let (statement, rest) = statement_at(alloc, end, tokens)?;
     let (_, rest) = sign_at(Symbol::Semicolon, end, rest)?;
@@ -153,7 +153,7 @@ impl Item for Statement {
     ghost grammar = { ended_statement };
 
     #[tactic(auto, unfolding(crate::specs::Statements::ended_statement, crate::specs::Statements::statement, crate::specs::Statements::delete, crate::specs::Statements::update, crate::specs::Statements::set, crate::specs::Tables::insert, crate::specs::Tables::row, crate::specs::Entangling::query))]
-    fn is_start(tokens: &[Token]) -> bool {
+    fn is_start(tokens: &Tokens<'_>) -> bool {
         begins_with_word(Keyword::Insert, tokens)
             || begins_with_word(Keyword::Delete, tokens)
             || begins_with_word(Keyword::Update, tokens)
@@ -164,8 +164,8 @@ impl Item for Statement {
     fn read(
         alloc: Global,
         end: usize,
-        tokens: &[Token],
-    ) -> Result<(Self, &[Token]), Refusal<GrammarFault>> {
+        tokens: Tokens<'_>,
+    ) -> Result<(Self, Tokens<'_>), Refusal<GrammarFault>> {
         ended_statement_at(alloc, end, tokens)
     }
 }

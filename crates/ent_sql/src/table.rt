@@ -8,7 +8,7 @@ use crate::front::begins_with_name;
 use crate::list::{Item, listed};
 use crate::operand::name_at;
 use ent_grammar::{Divider, GrammarFault, begins_with_word, sign_at, word_at};
-use ent_text::{Keyword, Symbol, Token};
+use ent_text::{Keyword, Symbol, Tokens};
 use ent_tree::{
     Column, Create, Identifier, Insert, Literal, MOST_PARTS, OpeningRow, ValueSpecification,
 };
@@ -16,10 +16,10 @@ use ent_value::{Kind, Limited, Refusal};
 use std::alloc::Global;
 
 #[tactic(auto, unfolding(crate::specs::Tables::kind))]
-fn kind_at(end: usize, tokens: &[Token]) -> Result<(Kind, &[Token]), Refusal<GrammarFault>>
-    ensures { Gives (λ x. (x.0, x.1.now)) result (reads kind end tokens.now) }
+fn kind_at(end: usize, tokens: Tokens<'_>) -> Result<(Kind, Tokens<'_>), Refusal<GrammarFault>>
+    ensures { Gives (λ x. x) result (reads kind end tokens.entry) }
 {
-    if begins_with_word(Keyword::Int, tokens) {
+    if begins_with_word(Keyword::Int, &tokens) {
         let (_, rest) = word_at(Keyword::Int, end, tokens)?;
         Ok((Kind::Int, rest))
     } else {
@@ -32,9 +32,9 @@ fn kind_at(end: usize, tokens: &[Token]) -> Result<(Kind, &[Token]), Refusal<Gra
 fn column_at(
     alloc: Global,
     end: usize,
-    tokens: &[Token],
-) -> Result<(Column, &[Token]), Refusal<GrammarFault>>
-    ensures { Gives (λ x. (x.0, x.1.now)) result (reads column end tokens.now) }
+    tokens: Tokens<'_>,
+) -> Result<(Column, Tokens<'_>), Refusal<GrammarFault>>
+    ensures { Gives (λ x. x) result (reads column end tokens.entry) }
 {
     let (name, rest) = name_at(alloc, end, tokens)?;
     let (kind, rest) = kind_at(end, rest)?;
@@ -47,15 +47,15 @@ impl Item for Column {
     ghost grammar = { column };
 
     #[tactic(auto, unfolding(crate::specs::Tables::column, crate::specs::Operands::identifier))]
-    fn is_start(tokens: &[Token]) -> bool {
+    fn is_start(tokens: &Tokens<'_>) -> bool {
         begins_with_name(tokens)
     }
 
     fn read(
         alloc: Global,
         end: usize,
-        tokens: &[Token],
-    ) -> Result<(Self, &[Token]), Refusal<GrammarFault>> {
+        tokens: Tokens<'_>,
+    ) -> Result<(Self, Tokens<'_>), Refusal<GrammarFault>> {
         column_at(alloc, end, tokens)
     }
 }
@@ -64,9 +64,9 @@ impl Item for Column {
 fn create_at(
     alloc: Global,
     end: usize,
-    tokens: &[Token],
-) -> Result<(Create, &[Token]), Refusal<GrammarFault>>
-    ensures { Gives (λ x. (x.0, x.1.now)) result (reads create end tokens.now) }
+    tokens: Tokens<'_>,
+) -> Result<(Create, Tokens<'_>), Refusal<GrammarFault>>
+    ensures { Gives (λ x. x) result (reads create end tokens.entry) }
 {
     let (_, rest) = word_at(Keyword::Create, end, tokens)?;
     let (_, rest) = word_at(Keyword::Table, end, rest)?;
@@ -84,15 +84,15 @@ impl Item for Create {
     ghost grammar = { create };
 
     #[tactic(auto, unfolding(crate::specs::Tables::create))]
-    fn is_start(tokens: &[Token]) -> bool {
+    fn is_start(tokens: &Tokens<'_>) -> bool {
         begins_with_word(Keyword::Create, tokens)
     }
 
     fn read(
         alloc: Global,
         end: usize,
-        tokens: &[Token],
-    ) -> Result<(Self, &[Token]), Refusal<GrammarFault>> {
+        tokens: Tokens<'_>,
+    ) -> Result<(Self, Tokens<'_>), Refusal<GrammarFault>> {
         create_at(alloc, end, tokens)
     }
 }
@@ -102,9 +102,9 @@ impl Item for Create {
 fn row_at<T: Item>(
     alloc: Global,
     end: usize,
-    tokens: &[Token],
-) -> Result<((Identifier, usize, Limited<T, MOST_PARTS>), &[Token]), Refusal<GrammarFault>>
-    ensures { Gives (λ x. (x.0, x.1.now)) result (reads (row T.grammar) end tokens.now) }
+    tokens: Tokens<'_>,
+) -> Result<((Identifier, usize, Limited<T, MOST_PARTS>), Tokens<'_>), Refusal<GrammarFault>>
+    ensures { Gives (λ x. x) result (reads (row T.grammar) end tokens.entry) }
 {
     let (_, rest) = word_at(Keyword::Insert, end, tokens)?;
     let (_, rest) = word_at(Keyword::Into, end, rest)?;
@@ -120,9 +120,9 @@ fn row_at<T: Item>(
 fn opening_row_at(
     alloc: Global,
     end: usize,
-    tokens: &[Token],
-) -> Result<(OpeningRow, &[Token]), Refusal<GrammarFault>>
-    ensures { Gives (λ x. (x.0, x.1.now)) result (reads opening_row end tokens.now) }
+    tokens: Tokens<'_>,
+) -> Result<(OpeningRow, Tokens<'_>), Refusal<GrammarFault>>
+    ensures { Gives (λ x. x) result (reads opening_row end tokens.entry) }
 {
     let (row, rest) = row_at::<Literal>(alloc, end, tokens)?;
     let (_, rest) = sign_at(Symbol::Semicolon, end, rest)?;
@@ -143,15 +143,15 @@ impl Item for OpeningRow {
     ghost grammar = { opening_row };
 
     #[tactic(auto, unfolding(crate::specs::Tables::opening_row, crate::specs::Tables::row))]
-    fn is_start(tokens: &[Token]) -> bool {
+    fn is_start(tokens: &Tokens<'_>) -> bool {
         begins_with_word(Keyword::Insert, tokens)
     }
 
     fn read(
         alloc: Global,
         end: usize,
-        tokens: &[Token],
-    ) -> Result<(Self, &[Token]), Refusal<GrammarFault>> {
+        tokens: Tokens<'_>,
+    ) -> Result<(Self, Tokens<'_>), Refusal<GrammarFault>> {
         opening_row_at(alloc, end, tokens)
     }
 }
@@ -160,9 +160,9 @@ impl Item for OpeningRow {
 pub(crate) fn insert_at(
     alloc: Global,
     end: usize,
-    tokens: &[Token],
-) -> Result<(Insert, &[Token]), Refusal<GrammarFault>>
-    ensures { Gives (λ x. (x.0, x.1.now)) result (reads insert end tokens.now) }
+    tokens: Tokens<'_>,
+) -> Result<(Insert, Tokens<'_>), Refusal<GrammarFault>>
+    ensures { Gives (λ x. x) result (reads insert end tokens.entry) }
 {
     let (row, rest) = row_at::<ValueSpecification>(alloc, end, tokens)?;
     let (table, place, values) = row;

@@ -7,7 +7,7 @@ ghost use Rattle.ent_sql.specs.Operands.{comparison, compared, expression_behind
 use crate::front::begins_with_operand;
 use crate::list::Item;
 use ent_grammar::{GrammarFault, begins_with_sign, sign_at};
-use ent_text::{Symbol, Token};
+use ent_text::{Symbol, Tokens};
 use ent_tree::{Comparison, Expression, Operand, Test};
 use ent_value::Refusal;
 use std::alloc::Global;
@@ -15,23 +15,23 @@ use std::alloc::Global;
 #[tactic(auto, unfolding(crate::specs::Operands::comparison))]
 pub(crate) fn comparison_at(
     end: usize,
-    tokens: &[Token],
-) -> Result<(Comparison, &[Token]), Refusal<GrammarFault>>
-    ensures { Gives (λ x. (x.0, x.1.now)) result (reads comparison end tokens.now) }
+    tokens: Tokens<'_>,
+) -> Result<(Comparison, Tokens<'_>), Refusal<GrammarFault>>
+    ensures { Gives (λ x. x) result (reads comparison end tokens.entry) }
 {
-    if begins_with_sign(Symbol::Equal, tokens) {
+    if begins_with_sign(Symbol::Equal, &tokens) {
         let (_, rest) = sign_at(Symbol::Equal, end, tokens)?;
         Ok((Comparison::Equal, rest))
-    } else if begins_with_sign(Symbol::NotEqual, tokens) {
+    } else if begins_with_sign(Symbol::NotEqual, &tokens) {
         let (_, rest) = sign_at(Symbol::NotEqual, end, tokens)?;
         Ok((Comparison::NotEqual, rest))
-    } else if begins_with_sign(Symbol::Less, tokens) {
+    } else if begins_with_sign(Symbol::Less, &tokens) {
         let (_, rest) = sign_at(Symbol::Less, end, tokens)?;
         Ok((Comparison::Less, rest))
-    } else if begins_with_sign(Symbol::LessOrEqual, tokens) {
+    } else if begins_with_sign(Symbol::LessOrEqual, &tokens) {
         let (_, rest) = sign_at(Symbol::LessOrEqual, end, tokens)?;
         Ok((Comparison::LessOrEqual, rest))
-    } else if begins_with_sign(Symbol::Greater, tokens) {
+    } else if begins_with_sign(Symbol::Greater, &tokens) {
         let (_, rest) = sign_at(Symbol::Greater, end, tokens)?;
         Ok((Comparison::Greater, rest))
     } else {
@@ -44,9 +44,9 @@ pub(crate) fn comparison_at(
 fn test_at<T: Item>(
     alloc: Global,
     end: usize,
-    tokens: &[Token],
-) -> Result<(Test<T>, &[Token]), Refusal<GrammarFault>>
-    ensures { Gives (λ x. (x.0, x.1.now)) result (reads (compared T.grammar) end tokens.now) }
+    tokens: Tokens<'_>,
+) -> Result<(Test<T>, Tokens<'_>), Refusal<GrammarFault>>
+    ensures { Gives (λ x. x) result (reads (compared T.grammar) end tokens.entry) }
 {
     let (left, rest) = T::read(alloc, end, tokens)?;
     let (comparison, rest) = comparison_at(end, rest)?;
@@ -67,15 +67,15 @@ impl Item for Test<Operand> {
     ghost grammar = { compared operand };
 
     #[tactic(auto, unfolding(crate::specs::Operands::compared, crate::specs::Operands::operand, crate::specs::Operands::column_reference, crate::specs::Operands::identifier, crate::specs::Operands::value, crate::specs::Operands::host_variable, crate::specs::Operands::literal, crate::specs::Operands::negative, crate::specs::Operands::unsigned, crate::specs::Operands::positive, crate::specs::Operands::quoted))]
-    fn is_start(tokens: &[Token]) -> bool {
+    fn is_start(tokens: &Tokens<'_>) -> bool {
         begins_with_operand(tokens)
     }
 
     fn read(
         alloc: Global,
         end: usize,
-        tokens: &[Token],
-    ) -> Result<(Self, &[Token]), Refusal<GrammarFault>> {
+        tokens: Tokens<'_>,
+    ) -> Result<(Self, Tokens<'_>), Refusal<GrammarFault>> {
         test_at(alloc, end, tokens)
     }
 }
@@ -86,15 +86,15 @@ fn expression_behind<T: Item>(
     alloc: Global,
     first: T,
     end: usize,
-    tokens: &[Token],
-) -> Result<(Expression<T>, &[Token]), Refusal<GrammarFault>>
-    ensures { Gives (λ x. (x.0, x.1.now)) result (reads (expression_behind T.grammar first) end tokens.now) }
+    tokens: Tokens<'_>,
+) -> Result<(Expression<T>, Tokens<'_>), Refusal<GrammarFault>>
+    ensures { Gives (λ x. x) result (reads (expression_behind T.grammar first) end tokens.entry) }
 {
-    if begins_with_sign(Symbol::Plus, tokens) {
+    if begins_with_sign(Symbol::Plus, &tokens) {
         let (_, rest) = sign_at(Symbol::Plus, end, tokens)?;
         let (second, rest) = T::read(alloc, end, rest)?;
         Ok((Expression::Sum(first, second), rest))
-    } else if begins_with_sign(Symbol::Minus, tokens) {
+    } else if begins_with_sign(Symbol::Minus, &tokens) {
         let (_, rest) = sign_at(Symbol::Minus, end, tokens)?;
         let (second, rest) = T::read(alloc, end, rest)?;
         Ok((Expression::Difference(first, second), rest))
@@ -107,9 +107,9 @@ fn expression_behind<T: Item>(
 pub(crate) fn expression_at<T: Item>(
     alloc: Global,
     end: usize,
-    tokens: &[Token],
-) -> Result<(Expression<T>, &[Token]), Refusal<GrammarFault>>
-    ensures { Gives (λ x. (x.0, x.1.now)) result (reads (expression T.grammar) end tokens.now) }
+    tokens: Tokens<'_>,
+) -> Result<(Expression<T>, Tokens<'_>), Refusal<GrammarFault>>
+    ensures { Gives (λ x. x) result (reads (expression T.grammar) end tokens.entry) }
 {
     let (first, rest) = T::read(alloc, end, tokens)?;
     expression_behind(alloc, first, end, rest)

@@ -13,3 +13,6 @@ pub mod Slices
 pub mod Ends
 pub mod OneReading
 pub mod Moved
+pub mod ReadOn
+pub mod Measured
+pub mod Initials

@@ -8,3 +8,5 @@ pub mod Slices
 pub mod Lexing
 pub mod Ends
 pub mod Moved
+pub mod View
+pub mod Left

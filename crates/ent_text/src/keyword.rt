@@ -1,6 +1,6 @@
 //! Reserved words.
-ghost use Rattle.std.specs.Prelude.{◌≡◌};
-ghost use Rattle.std.specs.List.{find};
+ghost use Rattle.std.specs.Prelude.{◌≡◌, ◌==◌, slice_index};
+ghost use Rattle.std.specs.List.{find, filter};
 ghost use Rattle.ent_text.specs.Keyword.{keyword_text};
 ghost use Rattle.ent_text.specs.Lexing.{keywords, keyword_of, is_written};
 
@@ -32,33 +32,6 @@ pub enum Keyword {
     Where,
     Within,
 }
-
-const KEYWORDS: [Keyword; 24] = [
-    Keyword::And,
-    Keyword::Answer,
-    Keyword::As,
-    Keyword::Begin,
-    Keyword::Choose,
-    Keyword::Commit,
-    Keyword::Create,
-    Keyword::Delete,
-    Keyword::From,
-    Keyword::In,
-    Keyword::Insert,
-    Keyword::Int,
-    Keyword::Into,
-    Keyword::Rollback,
-    Keyword::Runs,
-    Keyword::Select,
-    Keyword::Set,
-    Keyword::Table,
-    Keyword::Text,
-    Keyword::Transaction,
-    Keyword::Update,
-    Keyword::Values,
-    Keyword::Where,
-    Keyword::Within,
-];
 
 impl Keyword {
     /// The word in capitals.
@@ -113,6 +86,27 @@ fn is_written(word: &[u8], capitals: &[u8]) -> bool
     capitals.is_empty()
 }
 
+/// The reserved words that begin with this capital.
+fn with_initial(capital: u8) -> &'static [Keyword]
+    ensures { result.now ≡ filter (λ keyword. slice_index (keyword_text keyword) 0 == capital) keywords }
+{
+    match capital {
+        b'A' => &[Keyword::And, Keyword::Answer, Keyword::As],
+        b'B' => &[Keyword::Begin],
+        b'C' => &[Keyword::Choose, Keyword::Commit, Keyword::Create],
+        b'D' => &[Keyword::Delete],
+        b'F' => &[Keyword::From],
+        b'I' => &[Keyword::In, Keyword::Insert, Keyword::Int, Keyword::Into],
+        b'R' => &[Keyword::Rollback, Keyword::Runs],
+        b'S' => &[Keyword::Select, Keyword::Set],
+        b'T' => &[Keyword::Table, Keyword::Text, Keyword::Transaction],
+        b'U' => &[Keyword::Update],
+        b'V' => &[Keyword::Values],
+        b'W' => &[Keyword::Where, Keyword::Within],
+        _ => &[],
+    }
+}
+
 /// The first of some reserved words that is written so.
 fn first_written(word: &[u8], keywords: &[Keyword]) -> Option<Keyword>
     ensures { result ≡ find (λ keyword. is_written word.now (keyword_text keyword)) keywords.now }
@@ -126,9 +120,11 @@ fn first_written(word: &[u8], keywords: &[Keyword]) -> Option<Keyword>
 }
 
 /// The reserved word that a word is.
-#[tactic(auto, unfolding(crate::specs::Lexing::keyword_of))]
 pub(crate) fn keyword_of(word: &[u8]) -> Option<Keyword>
     ensures { result ≡ keyword_of word.now }
 {
-    first_written(word, &KEYWORDS)
+    let [first, ..] = word else {
+        return None;
+    };
+    first_written(word, with_initial(first.to_ascii_uppercase()))
 }

@@ -5,7 +5,7 @@ ghost use Rattle.ent_text.specs.Numeral.{negative_of};
 use std::marker::Model;
 
 /// A number without a sign: 0 to 9223372036854775807.
-#[derive(Debug, Drop)]
+#[derive(Clone, Copy, Debug)]
 pub struct Numeral {
     magnitude: u64,
 }
@@ -18,6 +18,8 @@ impl Model for Numeral {
     ghost view = { λ n. n.magnitude };
 
     ghost invariant = { λ n. n.magnitude ≤ 9223372036854775807 };
+
+    ghost inverse = { λ n. record { magnitude = n } };
 }
 
 impl Numeral {

@@ -2,21 +2,20 @@
 ghost use Rattle.std.specs.Prelude.{◌≡◌, ◌<◌, ◌≤◌, ◌+◌, ◌^◌, length, IfOk, IfSome, IfNone, slice_index};
 ghost use Rattle.std.specs.List.{prefix_len};
 ghost use Rattle.std.specs.Char.{is_ascii_digit};
-ghost use Rattle.ent_value.specs.Refusal.{Gives};
 ghost use Rattle.ent_text.specs.Spelling.{is_blank};
 ghost use Rattle.ent_text.specs.Lexing.{number_at, value_from, text_at, symbol_at, piece_at};
+ghost use Rattle.ent_text.specs.View.{Sees};
 
 use crate::bytes::{byte_at, tail};
 use crate::comment::{begins_comment, behind_line};
 use crate::fault::TextFault;
 use crate::host_variable::host_variable_at;
 use crate::numeral::Numeral;
-use crate::quoted::quoted_at;
+use crate::quoted::quoted_len;
 use crate::symbol::symbol_of;
-use crate::token::TokenKind;
+use crate::view::TokenView;
 use crate::word::word_at;
-use ent_value::{LONGEST_TEXT, Refusal, Text};
-use std::alloc::Global;
+use ent_value::LONGEST_TEXT;
 
 fn is_blank(byte: u8) -> bool
     ensures { result ≡ is_blank byte }
@@ -55,81 +54,73 @@ fn value_of(digits: &[u8]) -> Option<Numeral>
 }
 
 #[tactic(auto, unfolding(crate::specs::Lexing::number_at))]
-fn number_at(place: usize, bytes: &[u8]) -> Result<(Option<TokenKind>, &[u8]), Refusal<TextFault>>
-    ensures { Gives (λ x. (x.0, x.1.now)) result (number_at place bytes.now) }
+fn number_at(place: usize, bytes: &[u8]) -> Result<(Option<TokenView<'_>>, &[u8]), TextFault>
+    ensures { Sees result (number_at place bytes.now) }
 {
     let (digits, rest) = bytes.split_at(digits_len(bytes));
     let Some(value) = value_of(digits) else {
-        return Err(Refusal::Fault(TextFault::NumberTooLarge(place)));
+        return Err(TextFault::NumberTooLarge(place));
     };
-    Ok((Some(TokenKind::Number(value)), rest))
+    Ok((Some(TokenView::Number(value)), rest))
 }
 
 #[tactic(auto, unfolding(crate::specs::Lexing::text_at))]
-fn text_at(
-    alloc: Global,
-    place: usize,
-    bytes: &[u8],
-) -> Result<(Option<TokenKind>, &[u8]), Refusal<TextFault>>
+fn text_at(place: usize, bytes: &[u8]) -> Result<(Option<TokenView<'_>>, &[u8]), TextFault>
     requires room { place + length bytes.now < 2 ^ 64 }
     requires nonempty { 0 < length bytes.now }
-    ensures { Gives (λ x. (x.0, x.1.now)) result (text_at place bytes.now) }
+    ensures { Sees result (text_at place bytes.now) }
 {
-    let (text, rest) = quoted_at(alloc, place, place + 1, tail(bytes, 1))?;
-    if text.len() > LONGEST_TEXT {
-        return Err(Refusal::Fault(TextFault::TextTooLong(place)));
+    let behind = tail(bytes, 1);
+    let (len, rest) = quoted_len(place, place + 1, behind)?;
+    if len > LONGEST_TEXT {
+        return Err(TextFault::TextTooLong(place));
     }
-    Ok((Some(TokenKind::Literal(Text::from_vec(text))), rest))
+    Ok((Some(TokenView::Literal(behind)), rest))
 }
 
 #[tactic(auto, unfolding(crate::specs::Lexing::symbol_at))]
-fn symbol_at(place: usize, bytes: &[u8]) -> Result<(Option<TokenKind>, &[u8]), Refusal<TextFault>>
-    ensures { Gives (λ x. (x.0, x.1.now)) result (symbol_at place bytes.now) }
+fn symbol_at(place: usize, bytes: &[u8]) -> Result<(Option<TokenView<'_>>, &[u8]), TextFault>
+    ensures { Sees result (symbol_at place bytes.now) }
 {
     let Some((symbol, len)) = symbol_of(byte_at(bytes, 0), byte_at(bytes, 1)) else {
-        return Err(Refusal::Fault(TextFault::BadChar(place)));
+        return Err(TextFault::BadChar(place));
     };
     Ok((
-        Some(TokenKind::Sign(symbol)),
+        Some(TokenView::Sign(symbol)),
         bytes.get(len..).unwrap_or(&[]),
     ))
 }
 
 /// The piece at the front, and the bytes behind it.
 pub(crate) fn piece_at(
-    alloc: Global,
     place: usize,
     bytes: &[u8],
-) -> Result<(Option<TokenKind>, &[u8]), Refusal<TextFault>>
+) -> Result<(Option<TokenView<'_>>, &[u8]), TextFault>
     requires room { place + length bytes.now < 2 ^ 64 }
     requires nonempty { 0 < length bytes.now }
-    ensures value { Gives (λ x. (x.0, x.1.now)) result (piece_at place bytes.now) }
+    ensures value { Sees result (piece_at place bytes.now) }
     ensures shorter { IfOk result (λ x. length x.1.now < length bytes.now) }
 {
-    piece(alloc, place, bytes)
+    piece(place, bytes)
 }
 
 #[tactic(auto, unfolding(crate::specs::Lexing::piece_at))]
-fn piece(
-    alloc: Global,
-    place: usize,
-    bytes: &[u8],
-) -> Result<(Option<TokenKind>, &[u8]), Refusal<TextFault>>
+fn piece(place: usize, bytes: &[u8]) -> Result<(Option<TokenView<'_>>, &[u8]), TextFault>
     requires room { place + length bytes.now < 2 ^ 64 }
     requires nonempty { 0 < length bytes.now }
-    ensures { Gives (λ x. (x.0, x.1.now)) result (piece_at place bytes.now) }
+    ensures { Sees result (piece_at place bytes.now) }
 {
     let first = bytes[0];
     if is_blank(first) {
         Ok((None, tail(bytes, 1)))
     } else if first.is_ascii_alphabetic() {
-        word_at(alloc, place, bytes)
+        word_at(place, bytes)
     } else if first.is_ascii_digit() {
         number_at(place, bytes)
     } else if first == b'\'' {
-        text_at(alloc, place, bytes)
+        text_at(place, bytes)
     } else if first == b'@' {
-        host_variable_at(alloc, place, bytes)
+        host_variable_at(place, bytes)
     } else if begins_comment(bytes) {
         Ok((None, behind_line(bytes)))
     } else {

@@ -1,17 +1,65 @@
 //! What stands in quotes.
-ghost use Rattle.std.specs.Prelude.{◌<◌, ◌+◌, ◌^◌, length};
+ghost use Rattle.std.specs.Prelude.{◌≡◌, ◌<◌, ◌≤◌, ◌+◌, ◌^◌, length, IfOk};
 ghost use Rattle.ent_value.specs.Refusal.{Gives};
 ghost use Rattle.ent_text.specs.Lexing.{quoted_at};
+ghost use Rattle.ent_text.specs.View.{content, IsContent, Measures};
 
-use crate::bytes::tail;
+use crate::bytes::{byte_at, tail};
 use crate::fault::TextFault;
-use ent_value::Refusal;
-use std::alloc::Global;
+use ent_value::{Refusal, Text};
+use std::alloc::{AllocError, Global};
+
+/// How long the content is of a text whose opening quote stands at `quote`, just before these bytes, and the bytes
+/// behind its closing quote.
+#[tactic(auto, unfolding(crate::specs::Lexing::quoted_at))]
+pub(crate) fn quoted_len(
+    quote: usize,
+    place: usize,
+    bytes: &[u8],
+) -> Result<(usize, &[u8]), TextFault>
+    requires { place + length bytes.now < 2 ^ 64 }
+    ensures { Measures result (quoted_at quote place bytes.now) }
+{
+    let mut count = 0;
+    let mut rest = bytes;
+    let mut at = place;
+    while rest.len() > 0 {
+        let byte = rest[0];
+        if byte == b'\'' {
+            if byte_at(rest, 1) != b'\'' {
+                return Ok((count, tail(rest, 1)));
+            }
+            rest = tail(rest, 2);
+            at += 2;
+            count += 1;
+        } else {
+            if byte.is_ascii_control() {
+                return Err(TextFault::BadChar(at));
+            }
+            rest = tail(rest, 1);
+            at += 1;
+            count += 1;
+        }
+    }
+    Err(TextFault::OpenText(quote))
+}
+
+/// The text whose opening quote stands just before these bytes.
+pub fn text_of(alloc: Global, behind: &[u8]) -> Result<Text, AllocError>
+    requires { IsContent behind.now }
+    ensures { IfOk result (λ text. text ≡ content behind.now) }
+{
+    match quoted_at(alloc, 0, 0, behind) {
+        Ok((text, _)) => Ok(Text::from_vec(text)),
+        Err(Refusal::Memory) => Err(AllocError),
+        Err(Refusal::Fault(_)) => unreachable!(),
+    }
+}
 
 /// The content of a text whose opening quote stands at `quote`, just before these bytes, and the bytes behind its
 /// closing quote.
 #[tactic(auto, unfolding(crate::specs::Lexing::quoted_at))]
-pub(crate) fn quoted_at(
+fn quoted_at(
     alloc: Global,
     quote: usize,
     place: usize,

@@ -8,7 +8,7 @@ ghost use Rattle.ent_text.specs.Slices.{IsSliceOf, AreInOrder};
 ghost use Rattle.ent_text.specs.Lexing.{tokens_of};
 
 use crate::fault::TextFault;
-use crate::piece::piece_at;
+use crate::left::Tokens;
 use crate::token::Token;
 use ent_value::{Refusal, Sequence};
 use std::alloc::Global;
@@ -30,26 +30,20 @@ pub fn tokens(alloc: Global, text: &str) -> Result<Sequence<Token>, Refusal<Text
     all_tokens(alloc, text)
 }
 
-#[tactic(auto, unfolding(crate::specs::Lexing::tokens_of))]
 fn all_tokens(alloc: Global, text: &str) -> Result<Sequence<Token>, Refusal<TextFault>>
     ensures { Gives (λ tokens. tokens) result (tokens_of text.now) }
 {
-    let bytes = text.as_bytes();
+    let mut left = match Tokens::of(text) {
+        Ok(tokens) => tokens,
+        Err(fault) => return Err(Refusal::Fault(fault)),
+    };
     let mut found = Sequence::new(alloc);
-    let mut rest = bytes;
-    let mut place = 0;
-    while rest.len() > 0 {
-        let (piece, after) = piece_at(alloc, place, rest)?;
-        let next = place + (rest.len() - after.len());
-        if let Some(kind) = piece {
-            found.push(Token {
-                kind,
-                start: place,
-                end: next,
-            })?;
-        }
-        rest = after;
-        place = next;
+    while let Some(view) = left.front() {
+        let kind = view.make(alloc)?;
+        let start = left.start(0);
+        let end = left.end(0);
+        found.push(Token { kind, start, end })?;
+        left = left.tail();
     }
     Ok(found)
 }

@@ -1,14 +1,10 @@
-use Rattle.std.proofs.Common.{◌≡◌, ◌+◌, length}
+use Rattle.std.proofs.Common.{◌≡◌, ◌++◌, Ok, length}
 use Rattle.ent_text.specs.Lexing.{tokens_of}
-use Rattle.ent_text.proofs.Rest.{LeftToRead}
 use Rattle.ent_text.proofs.tokenizer.all_tokens.Given as goal
 
--- the tokens so far and those of what is left are all
-abbrev pub invariant-loop-rest : goal.invariant-loop-rest
-invariant-loop-rest l = record {
-  place : l.place + length l.rest ≡ length l.text;
-  left : LeftToRead l.found l.place l.rest (tokens_of l.text);
-}
+-- the tokens so far and those that are left are all
+abbrev pub invariant-loop-view : goal.invariant-loop-view
+invariant-loop-view l = tokens_of l.text ≡ Ok (l.found ++ l.left)
 
-abbrev pub decreases-loop-rest : goal.decreases-loop-rest
-decreases-loop-rest l = length l.rest
+abbrev pub decreases-loop-view : goal.decreases-loop-view
+decreases-loop-view l = length l.left

@@ -1,0 +1,22 @@
+use Rattle.std.proofs.Common.{arith}
+use Rattle.ent_text.specs.Lexing.{tokens_of}
+use Rattle.ent_text.proofs.ReadOn.{some_first, some_behind, some_fault, some_faultless}
+use Rattle.ent_text.proofs.left.first_fault.Goals as goal
+
+pub loop-rest-init : goal.loop-rest-init
+loop-rest-init c = record {
+  place = omega arith;
+  left = some_first c.args.bytes.now;
+}
+
+pub loop-rest-preserved : goal.loop-rest-preserved
+loop-rest-preserved c = record {
+  place = omega (arith, c.in-Ok.ensures.shorter);
+  left = some_behind c.loop-rest.place c.loop-rest.rest.now c.in-Ok.behind.now _ (tokens_of c.args.bytes.now) c.loop-rest-test.true c.in-Ok.ensures.value.0 c.loop-rest.invariant.left;
+}
+
+pub returns-in-Err : goal.returns-in-Err
+returns-in-Err c = some_fault c.in-Err.fault c.loop-rest.place c.loop-rest.rest.now (tokens_of c.args.bytes.now) c.loop-rest-test.true c.in-Err.ensures.value c.loop-rest.invariant.left
+
+pub returns : goal.returns
+returns c = some_faultless c.loop-rest.place c.loop-rest.rest.now c.args.bytes.now (omega arith) c.loop-rest.invariant.left

@@ -1,0 +1,68 @@
+-- A token seen where it stands in its text.
+use Rattle.std.specs.Prelude.{◌≡◌, ◌≤◌, ℕ, List, [], length, Option, Some, None, Result, Ok, Err, ⊤}
+use Rattle.std.specs.Borrow.{Bor}
+use Rattle.ent_value.specs.Name.{IsWord}
+use Rattle.ent_value.specs.declared.text.TheConstants.{LONGEST_TEXT}
+use Rattle.ent_text.specs.declared.fault.TextFault.{TextFault}
+use Rattle.ent_text.specs.declared.token.TokenKind.{TokenKind}
+use Rattle.ent_text.specs.declared.token.TokenKind.TheVariants.{Word, Name, HostVariable, Number, Literal, Sign}
+use Rattle.ent_text.specs.declared.view.TokenView.{TokenView}
+use Rattle.ent_text.specs.declared.view.TokenView.TheVariants as views
+use Rattle.ent_text.specs.Lexing.{Piece, quoted_at}
+
+-- what stands in quotes, if they are closed
+abbrev pub content_of : Result (List ℕ × List ℕ) TextFault → List ℕ
+content_of (Ok text) = text.0
+content_of (Err fault) = []
+
+-- what stands in the quotes that open just before these bytes
+abbrev pub content : List ℕ → List ℕ
+content behind = content_of (quoted_at 0 0 behind)
+
+-- a text without fault begins just before these bytes
+abbrev pub IsContent : List ℕ → Type 0
+IsContent behind = (text : List ℕ × List ℕ) × (quoted_at 0 0 behind ≡ Ok text) × (length text.0 ≤ LONGEST_TEXT)
+
+-- the token that is seen
+abbrev pub kind_seen : TokenView → TokenKind
+kind_seen (views.Word keyword) = Word keyword
+kind_seen (views.Name word) = Name word.now
+kind_seen (views.HostVariable word) = HostVariable word.now
+kind_seen (views.Number n) = Number n
+kind_seen (views.Literal behind) = Literal (content behind.now)
+kind_seen (views.Sign symbol) = Sign symbol
+
+-- a token that is seen can be made
+abbrev pub CanBeMade : TokenView → Type 0
+CanBeMade (views.Word keyword) = ⊤
+CanBeMade (views.Name word) = IsWord word.now
+CanBeMade (views.HostVariable word) = IsWord word.now
+CanBeMade (views.Number n) = ⊤
+CanBeMade (views.Literal behind) = IsContent behind.now
+CanBeMade (views.Sign symbol) = ⊤
+
+abbrev pub kind_if_seen : Option TokenView → Option TokenKind
+kind_if_seen None = None
+kind_if_seen (Some view) = Some (kind_seen view)
+
+abbrev pub CanBeMadeIfSeen : Option TokenView → Type 0
+CanBeMadeIfSeen None = ⊤
+CanBeMadeIfSeen (Some view) = CanBeMade view
+
+abbrev pub kind_if_lent : Option (Bor TokenView) → Option TokenKind
+kind_if_lent None = None
+kind_if_lent (Some view) = Some (kind_seen view.now)
+
+abbrev pub CanBeMadeIfLent : Option (Bor TokenView) → Type 0
+CanBeMadeIfLent None = ⊤
+CanBeMadeIfLent (Some view) = CanBeMade view.now
+
+-- this piece is seen and can be made, or this fault is found
+abbrev pub Sees : Result (Option TokenView × Bor (List ℕ)) TextFault → Result Piece TextFault → Type 0
+Sees (Ok piece) meant = (meant ≡ Ok (kind_if_seen piece.0, piece.1.now)) × CanBeMadeIfSeen piece.0
+Sees (Err fault) meant = meant ≡ Err fault
+
+-- a text with a content of this length, or this fault
+abbrev pub Measures : Result (ℕ × Bor (List ℕ)) TextFault → Result (List ℕ × List ℕ) TextFault → Type 0
+Measures (Ok text) meant = (content : List ℕ) × (meant ≡ Ok (content, text.1.now)) × (length content ≡ text.0)
+Measures (Err fault) meant = meant ≡ Err fault

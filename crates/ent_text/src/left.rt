@@ -1,0 +1,138 @@
+//! What is left of a text, as its tokens.
+ghost use Rattle.std.specs.Prelude.{◌≡◌, ◌<◌, ◌+◌, ◌^◌, MatchOption, Err, drop, length};
+ghost use Rattle.ent_text.specs.Left.{IsFaultless, tokens_left};
+ghost use Rattle.ent_text.specs.Left.{kind_of_first, start_of_first, end_of_first};
+ghost use Rattle.ent_text.specs.Lexing.{tokens_of};
+
+use crate::fault::TextFault;
+use crate::piece::piece_at;
+use crate::view::TokenView;
+use std::marker::Model;
+
+/// The tokens that are left of a text, of which contracts see the list. The text has no fault. A token is read where
+/// it stands, once those before it are taken, so they take no memory, however many they are.
+#[derive(Drop)]
+pub struct Tokens<'a> {
+    front: Option<TokenView<'a>>,
+    start: usize,
+    end: usize,
+    behind: &'a [u8],
+}
+
+impl<'a> Model for Tokens<'a> {
+    ghost use Rattle.std.specs.Prelude.{List};
+    ghost use Rattle.ent_text.specs.declared.token.Token.{Token};
+    ghost use Rattle.ent_text.specs.Left.{tokens_seen, IsReadOn};
+
+    ghost Value = { List Token };
+
+    ghost view = { λ t. tokens_seen t.front t.start t.end t.behind.now };
+
+    ghost invariant = { λ t. IsReadOn t.front t.end t.behind.now };
+}
+
+/// The first fault of a text, if it has one.
+fn first_fault(bytes: &[u8]) -> Option<TextFault>
+    ensures { MatchOption result (IsFaultless 0 bytes.now) (λ fault. tokens_of bytes.now ≡ Err fault) }
+{
+    let mut rest = bytes;
+    let mut place = 0;
+    while rest.len() > 0 {
+        match piece_at(place, rest) {
+            Ok((_, behind)) => {
+                place += rest.len() - behind.len();
+                rest = behind;
+            }
+            Err(fault) => return Some(fault),
+        }
+    }
+    None
+}
+
+/// The tokens of the bytes from a place on.
+fn tokens_from(place: usize, bytes: &[u8]) -> Tokens<'_>
+    requires room { place + length bytes.now < 2 ^ 64 }
+    requires faultless { IsFaultless place bytes.now }
+    ensures { result ≡ tokens_left place bytes.now }
+{
+    let mut rest = bytes;
+    let mut start = place;
+    while rest.len() > 0 {
+        match piece_at(start, rest) {
+            Ok((front, behind)) => {
+                let end = start + (rest.len() - behind.len());
+                match front {
+                    Some(view) => {
+                        return Tokens {
+                            front: Some(view),
+                            start,
+                            end,
+                            behind,
+                        };
+                    }
+                    None => {
+                        rest = behind;
+                        start = end;
+                    }
+                }
+            }
+            Err(_) => unreachable!(),
+        }
+    }
+    Tokens {
+        front: None,
+        start,
+        end: start,
+        behind: rest,
+    }
+}
+
+impl<'a> Tokens<'a> {
+    ghost use Rattle.ent_text.specs.View.{kind_if_lent, CanBeMadeIfLent};
+
+    /// The tokens of a text, or its first fault.
+    pub fn of(text: &'a str) -> Result<Self, TextFault>
+        ensures { result ≡ tokens_of text.now }
+    {
+        let bytes = text.as_bytes();
+        match first_fault(bytes) {
+            None => Ok(tokens_from(0, bytes)),
+            Some(fault) => Err(fault),
+        }
+    }
+
+    /// What the first of them is, if there is one.
+    pub fn front(&self) -> Option<&TokenView<'a>>
+        ensures kind { kind_if_lent result ≡ kind_of_first self.now }
+        ensures made { CanBeMadeIfLent result }
+    {
+        self.front.as_ref()
+    }
+
+    /// Where the first of them stands; another place, if there is none.
+    pub fn start(&self, none: usize) -> usize
+        ensures { result ≡ start_of_first none self.now }
+    {
+        match &self.front {
+            None => none,
+            Some(_) => self.start,
+        }
+    }
+
+    /// Where the first of them ends; another place, if there is none.
+    pub fn end(&self, none: usize) -> usize
+        ensures { result ≡ end_of_first none self.now }
+    {
+        match &self.front {
+            None => none,
+            Some(_) => self.end,
+        }
+    }
+
+    /// Those behind the first.
+    pub fn tail(self) -> Tokens<'a>
+        ensures { result ≡ drop 1 self.entry }
+    {
+        tokens_from(self.end, self.behind)
+    }
+}

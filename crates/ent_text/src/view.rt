@@ -1,0 +1,42 @@
+//! A token seen where it stands.
+ghost use Rattle.std.specs.Prelude.{◌≡◌, IfOk};
+
+use crate::keyword::Keyword;
+use crate::numeral::Numeral;
+use crate::quoted::text_of;
+use crate::symbol::Symbol;
+use crate::token::TokenKind;
+use ent_value::Name;
+use std::alloc::{AllocError, Global};
+
+/// What a token is, seen where it stands in its text: nothing is copied.
+#[derive(Clone, Copy)]
+pub enum TokenView<'a> {
+    Word(Keyword),
+    Name(&'a [u8]),
+    /// The word directly behind an `@`.
+    HostVariable(&'a [u8]),
+    Number(Numeral),
+    /// What stands behind the opening quote, up to the end of the whole text.
+    Literal(&'a [u8]),
+    Sign(Symbol),
+}
+
+impl<'a> TokenView<'a> {
+    ghost use Rattle.ent_text.specs.View.{kind_seen, CanBeMade};
+
+    /// The token, with a copy of what it says.
+    pub(crate) fn make(&self, alloc: Global) -> Result<TokenKind, AllocError>
+        requires { CanBeMade self.now }
+        ensures { IfOk result (λ kind. kind ≡ kind_seen self.now) }
+    {
+        match self {
+            TokenView::Word(keyword) => Ok(TokenKind::Word(*keyword)),
+            TokenView::Name(word) => Ok(TokenKind::Name(Name::new(alloc, word)?)),
+            TokenView::HostVariable(word) => Ok(TokenKind::HostVariable(Name::new(alloc, word)?)),
+            TokenView::Number(number) => Ok(TokenKind::Number(*number)),
+            TokenView::Literal(behind) => Ok(TokenKind::Literal(text_of(alloc, behind)?)),
+            TokenView::Sign(symbol) => Ok(TokenKind::Sign(*symbol)),
+        }
+    }
+}
