@@ -1,20 +1,39 @@
-//! The stored scenarios of events, and one that comes on standard input.
+//! Plays event scenarios through a core: an input, and lines of events and look-ups. Without a word it goes over the
+//! stored ones and stops at the first reply that differs; with the word `play` it reads one from standard input and
+//! writes the replies.
+#![tactic(auto)]
+
+mod answer;
+mod close;
+mod event;
+mod input;
+mod line;
+mod out;
+mod played;
+mod reply;
+mod scenario;
+mod script;
+mod shown;
+mod told;
+
 use crate::scenario::replies;
 use anyhow::{Context, Result, ensure};
-use std::{fs, io};
+use std::{env, fs, io};
 
-/// Plays the stored scenarios, and says how many replies each has.
-pub(crate) fn check_all(rt: &HostRuntime) -> Result<()> {
-    let index = fs::read_to_string(rt, "scenarios/INDEX")?;
+fn main(rt: HostRuntime) -> Result<()> {
+    if env::args(&rt)?.nth(1).is_some() {
+        return play(&rt);
+    }
+    let index = fs::read_to_string(&rt, "scenarios/INDEX")?;
     for name in index.lines() {
-        let count = check(rt, name).context(format_args!("scenario {name}"))?;
+        let count = check(&rt, name).context(format_args!("scenario {name}"))?;
         println!(rt; "{name}: {count} replies")?;
     }
     Ok(())
 }
 
 /// Plays the scenario on standard input.
-pub(crate) fn play(rt: &HostRuntime) -> Result<()> {
+fn play(rt: &HostRuntime) -> Result<()> {
     let text = io::read_to_string(rt.alloc(), rt.reader())?;
     let given = replies(rt.alloc(), text.as_str())?;
     print!(rt; "{}", given.as_str())?;
