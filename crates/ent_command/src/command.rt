@@ -1,7 +1,4 @@
 //! What the program does: it reads its command line, and runs what that asks for.
-ghost use Rattle.std.specs.Prelude.{◌≡◌};
-ghost use Rattle.std.specs.Process.{exit_status};
-
 use crate::ending::Ending;
 use crate::words::{command, options_of};
 use clap::Error;
@@ -10,12 +7,11 @@ use ent_engine::{FaultLine, RunFault, RunOptions};
 use ent_value::Watched;
 use std::alloc::Global;
 use std::env::Env;
-use std::process::ExitCode;
 use std::{env, io};
 
 /// The program: reads its command line, and runs the scripts of standard input where it asks for that. A fault is one
-/// line on standard error.
-pub fn entangle<R: Env + AllocGlobal + Input + Print + Eprint>(rt: &R) -> ExitCode {
+/// line on standard error. How it ended says what `main` ends with.
+pub fn entangle<R: Env + AllocGlobal + Input + Print + Eprint>(rt: &R) -> Ending {
     let ending = match words_of(rt) {
         Ok(words) => match read_command_line(rt.alloc(), words.as_slice()) {
             Ok(options) => Ending::from(run(rt, options)),
@@ -26,7 +22,7 @@ pub fn entangle<R: Env + AllocGlobal + Input + Print + Eprint>(rt: &R) -> ExitCo
     if let Ending::Faulty(fault) = ending {
         let _ = eprintln!(rt; "{}", FaultLine(fault));
     }
-    ending.exit_code()
+    ending
 }
 
 /// The words of the command line. One that isn't UTF-8 is a fault of the command line, and is said.

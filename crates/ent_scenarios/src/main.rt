@@ -4,7 +4,6 @@
 
 mod book;
 mod counts;
-mod engine;
 mod entangled;
 mod forms;
 mod groups;

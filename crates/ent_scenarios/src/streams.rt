@@ -1,5 +1,4 @@
 //! Readers and writers that move few bytes, or fail at a stated call: `== streams`.
-use crate::engine::put_run;
 use crate::reply::{put, put_number, yes_or_no};
 use crate::words::{index, unescaped};
 use anyhow::{Context, Result, bail};
@@ -147,7 +146,6 @@ pub(crate) fn reply(
         ["write", text] => put_written(alloc, &mut streams.writer, text, out),
         ["flush"] => put_flushed(&mut streams.writer, out),
         ["taken"] => put_taken(out, streams.writer.get().taken()),
-        ["run"] => put_run(alloc, &mut streams.reader, &mut streams.writer, out),
         _ => bail!("streams know no such call"),
     }
 }

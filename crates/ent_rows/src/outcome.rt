@@ -1,0 +1,59 @@
+//! How a run of the command ended.
+use crate::machine::{Machine, Manner};
+use anyhow::{Result, ensure};
+use ent_command::entangle;
+use std::alloc::Global;
+
+/// What a run of the command gave: its exit status, and what it wrote to standard output and to standard error.
+#[derive(Drop)]
+pub(crate) struct Outcome {
+    status: u8,
+    output: Vec<u8>,
+    errors: Vec<u8>,
+}
+
+impl Outcome {
+    /// Runs the command with these words behind its name, on an input that is read so, where output is written so.
+    pub(crate) fn of(
+        alloc: Global,
+        words: &str,
+        input: &[u8],
+        reads: Manner,
+        writes: Manner,
+    ) -> Result<Self> {
+        let mut given = vec![in alloc; "entangle"]?;
+        for word in words.split_whitespace() {
+            given.push(word)?;
+        }
+        let machine = Machine::new(alloc, given.as_slice(), input, reads, writes);
+        let status = entangle(&machine).status();
+        let (output, errors) = machine.into_written();
+        Ok(Outcome {
+            status,
+            output,
+            errors,
+        })
+    }
+
+    /// What was written to standard output.
+    pub(crate) fn output(&self) -> &[u8] {
+        self.output.as_slice()
+    }
+
+    /// Checks the exit status, and the line on standard error: none where the line is empty, and some text where it
+    /// is `*`.
+    pub(crate) fn check_end(&self, alloc: Global, status: &str, line: &str) -> Result<()> {
+        let got = format!(in alloc; "{}", self.status)?;
+        ensure!(got.as_str() == status, "status {got}");
+        if line == "*" {
+            ensure!(!self.errors.is_empty(), "nothing is said");
+            return Ok(());
+        }
+        let mut wanted = Vec::from_slice(alloc, line.as_bytes())?;
+        if !line.is_empty() {
+            wanted.push(b'\n')?;
+        }
+        ensure!(self.errors == wanted, "another line on standard error");
+        Ok(())
+    }
+}

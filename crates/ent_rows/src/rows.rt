@@ -1,0 +1,91 @@
+//! The worked rows, the examples and the longest input.
+//!
+//! A row is an input and a command line, and the report, the exit status and the line on standard error that they must
+//! give; `INDEX.tsv` lists the rows. An example is an input and its report.
+use crate::machine::Manner;
+use crate::outcome::Outcome;
+use anyhow::{Context, Result, bail, ensure};
+use std::alloc::Global;
+use std::fs;
+
+/// The examples, each an input and its report.
+const EXAMPLES: [&str; 10] = [
+    "concert",
+    "first",
+    "flights",
+    "friends",
+    "library",
+    "orders",
+    "seats",
+    "theatre",
+    "trains",
+    "transfers",
+];
+
+/// Checks the rows, the examples and the longest input, and says how many there are.
+pub(crate) fn check_all(rt: &HostRuntime) -> Result<()> {
+    let rows = check_rows(rt)?;
+    println!(rt; "{rows} rows")?;
+    for name in EXAMPLES {
+        check_example(rt, name)?;
+    }
+    println!(rt; "{} examples", EXAMPLES.len())?;
+    check_longest(rt.alloc())?;
+    println!(rt; "the longest input, and one byte more")?;
+    Ok(())
+}
+
+fn run_over(alloc: Global, words: &str, input: &[u8]) -> Result<Outcome> {
+    Outcome::of(alloc, words, input, Manner::FREE, Manner::FREE)
+}
+
+/// Checks the rows, and answers how many they are.
+fn check_rows(rt: &HostRuntime) -> Result<usize> {
+    let index = fs::read_to_string(rt, "rows/INDEX.tsv")?;
+    let mut count = 0usize;
+    for line in index.lines().skip(1) {
+        let fields: Vec<&str> = line.split('\t').collect(rt.alloc())?;
+        let [name, words, status, told, _] = fields.as_slice() else {
+            bail!("the index has a line of another form: {line}");
+        };
+        check_row(rt, name, words, status, told).context(format_args!("row {name}"))?;
+        count = count.saturating_add(1);
+    }
+    Ok(count)
+}
+
+fn check_row(rt: &HostRuntime, name: &str, words: &str, status: &str, line: &str) -> Result<()> {
+    let alloc = rt.alloc();
+    let input = fs::read(rt, format!(in alloc; "rows/{name}.in")?)?;
+    let wanted = fs::read(rt, format!(in alloc; "rows/{name}.out")?)?;
+    let ran = run_over(alloc, words, input.as_slice())?;
+    ensure!(ran.output() == wanted.as_slice(), "another report");
+    ran.check_end(alloc, status, line)
+}
+
+fn check_example(rt: &HostRuntime, name: &str) -> Result<()> {
+    let alloc = rt.alloc();
+    let input = fs::read(rt, format!(in alloc; "examples/{name}.sql")?)?;
+    let wanted = fs::read(rt, format!(in alloc; "examples/{name}.report")?)?;
+    let ran = run_over(alloc, "run", input.as_slice())?;
+    ensure!(
+        ran.output() == wanted.as_slice(),
+        "example {name} gives another report"
+    );
+    ran.check_end(alloc, "0", "")
+}
+
+/// The longest input, of white space alone, and one byte more.
+fn check_longest(alloc: Global) -> Result<()> {
+    let mut spaces = vec![in alloc; b' '; 16_777_216]?;
+    let longest = run_over(alloc, "run", spaces.as_slice())?;
+    ensure!(
+        longest.output() == b"report 1\nend\n".as_slice(),
+        "the longest input"
+    );
+    longest.check_end(alloc, "0", "")?;
+    spaces.push(b' ')?;
+    let longer = run_over(alloc, "run", spaces.as_slice())?;
+    ensure!(longer.output().is_empty(), "a longer input is answered");
+    longer.check_end(alloc, "1", "E105")
+}

@@ -1,0 +1,50 @@
+//! Streams that move few bytes, or fail at a stated call.
+//!
+//! `STREAMS.tsv` names a row's input, the most bytes that a read moves and which read fails (0 for none), the same of
+//! writes, and how the command must end: the exit status, the line on standard error, and how many bytes of the row's
+//! report were written.
+use crate::machine::Manner;
+use crate::outcome::Outcome;
+use anyhow::{Context, Result, bail, ensure};
+use std::fs;
+
+/// Checks the streams, and says how many there are.
+pub(crate) fn check_all(rt: &HostRuntime) -> Result<()> {
+    let index = fs::read_to_string(rt, "rows/STREAMS.tsv")?;
+    let mut count = 0usize;
+    for line in index.lines().skip(1) {
+        let fields: Vec<&str> = line.split('\t').collect(rt.alloc())?;
+        check(rt, fields.as_slice()).context(format_args!("streams {line}"))?;
+        count = count.saturating_add(1);
+    }
+    println!(rt; "{count} streams")?;
+    Ok(())
+}
+
+fn check(rt: &HostRuntime, fields: &[&str]) -> Result<()> {
+    let alloc = rt.alloc();
+    let [name, read, failing_read, written, failing_write, status, line, length, _] = fields else {
+        bail!("a line of another form");
+    };
+    let input = fs::read(rt, format!(in alloc; "rows/{name}.in")?)?;
+    let report = fs::read(rt, format!(in alloc; "rows/{name}.out")?)?;
+    let (reads, writes) = (manner(read, failing_read)?, manner(written, failing_write)?);
+    let ran = Outcome::of(alloc, "run", input.as_slice(), reads, writes)?;
+    let length = number(length)?;
+    ensure!(
+        Some(ran.output()) == report.as_slice().get(..length),
+        "another beginning of the report"
+    );
+    ran.check_end(alloc, status, line)
+}
+
+fn manner(most: &str, fails_at: &str) -> Result<Manner> {
+    Ok(Manner {
+        most: number(most)?,
+        fails_at: number(fails_at)?,
+    })
+}
+
+fn number(word: &str) -> Result<usize> {
+    word.parse::<usize>().context("this is no number")
+}
