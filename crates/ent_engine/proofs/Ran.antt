@@ -14,7 +14,7 @@ use Rattle.ent_endings.specs.Fates.{HaveFates}
 use Rattle.ent_resolved.specs.Resolved.{resolved_forms}
 use Rattle.ent_sched.specs.Onward.{LeadsOn}
 use Rattle.ent_sched.specs.RunOut.{IsRunOut}
-use Rattle.ent_core.specs.Play.{AreSubmitted}
+use Rattle.ent_sched.specs.Play.{AreSubmitted}
 use Rattle.ent_engine.specs.Report.{IsBookOf}
 
 -- events behind events

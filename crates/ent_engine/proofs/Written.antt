@@ -6,7 +6,7 @@ use Rattle.ent_tree.specs.declared.script.Input.{Input}
 use Rattle.ent_book.specs.Report.{report_text}
 use Rattle.ent_semantics.specs.declared.book.Book.{Book}
 use Rattle.ent_semantics.specs.Database.{Database}
-use Rattle.ent_core.specs.Play.{input_fault}
+use Rattle.ent_sched.specs.Play.{input_fault}
 use Rattle.ent_engine.specs.Report.{IsBookOf}
 use Rattle.ent_engine.specs.Reading.{IsInput, IsRead}
 use Rattle.ent_engine.specs.Io.{WritesBeginning, WritesReport}

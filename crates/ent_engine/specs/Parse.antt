@@ -1,7 +1,7 @@
 -- How the text of an input is refused, and how its form is.
 use Rattle.std.specs.Prelude.{◌≡◌, ℕ, List, Some}
 use Rattle.ent_tree.specs.declared.script.Input.{Input}
-use Rattle.ent_core.specs.Play.{input_fault}
+use Rattle.ent_sched.specs.Play.{input_fault}
 use Rattle.ent_engine.specs.declared.fault.RunFault.{RunFault}
 use Rattle.ent_engine.specs.declared.fault.RunFault.TheVariants.{NotUtf8, TooLong, Sql, Form}
 use Rattle.ent_engine.specs.declared.fault.RunFault.TheVariants.{ReadFault, WriteFault, Memory}

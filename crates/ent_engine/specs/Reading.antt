@@ -3,7 +3,7 @@ use Rattle.std.specs.Prelude.{◌≡◌, ℕ, ◌<◌, ◌≤◌, List, length, 
 use Rattle.std.specs.Str.{IsUtf8, IsValidUpTo}
 use Rattle.ent_tree.specs.declared.script.Input.{Input}
 use Rattle.ent_sql.specs.Reading.{reading}
-use Rattle.ent_core.specs.Play.{input_fault}
+use Rattle.ent_sched.specs.Play.{input_fault}
 use Rattle.ent_engine.specs.declared.reader.TheConstants.{MOST_BYTES}
 use Rattle.ent_engine.specs.declared.fault.RunFault.{RunFault}
 use Rattle.ent_engine.specs.declared.fault.RunFault.TheVariants.{NotUtf8, TooLong, Sql, Form}

@@ -1,7 +1,7 @@
 //! The scripts of an input, submitted to a core and run until each has its fate.
 ghost use Rattle.std.specs.Prelude.{◌≡◌, IfErr, IfOk, None};
 ghost use Rattle.ent_book.specs.Tables.{book_seen};
-ghost use Rattle.ent_core.specs.Play.{AreSubmitted, input_fault};
+ghost use Rattle.ent_sched.specs.Play.{AreSubmitted, input_fault};
 ghost use Rattle.ent_endings.specs.Fates.{HaveFates};
 ghost use Rattle.ent_engine.specs.Parse.{IsRefusedForForm};
 ghost use Rattle.ent_resolved.specs.Resolved.{resolved_forms};
@@ -10,10 +10,9 @@ ghost use Rattle.ent_semantics.specs.Book.{IsLegal};
 
 use crate::fault::RunFault;
 use ent_book::NamedTable;
-use ent_core::{Core, Played};
 use ent_endings::events_lead_on;
 use ent_form::FormFault;
-use ent_sched::run_all;
+use ent_sched::{Core, Played, run_all};
 use ent_semantics::Book;
 use ent_tree::Input;
 use ent_value::{Refusal, Sequence};

@@ -39,6 +39,17 @@ fn read_relation(alloc: Global, word: &str) -> Result<Name> {
     Ok(Name::new(alloc, bytes)?)
 }
 
+fn read_terms(alloc: Global, words: &str) -> Result<Limited<Term<Value>, MOST_PARTS>> {
+    let mut terms = Limited::new(alloc);
+    for word in words.split(',') {
+        if terms.len() >= MOST_PARTS {
+            bail!("these terms are too many");
+        }
+        terms.push(read_term(alloc, word)?)?;
+    }
+    Ok(terms)
+}
+
 fn read_atom(alloc: Global, word: &str) -> Result<Owned> {
     let (member, rest) = word
         .split_once(':')
@@ -47,18 +58,21 @@ fn read_atom(alloc: Global, word: &str) -> Result<Owned> {
     let inner = rest
         .strip_suffix(')')
         .context("an atom ends with a parenthesis")?;
-    let mut terms = Limited::new(alloc);
-    for part in inner.split(',') {
-        if terms.len() >= MOST_PARTS {
-            bail!("these terms are too many");
-        }
-        terms.push(read_term(alloc, part)?)?;
-    }
+    let member = index(member)?;
     let relation = read_relation(alloc, relation)?;
+    let terms = read_terms(alloc, inner)?;
     Ok(Owned {
-        member: index(member)?,
+        member,
         atom: Atom { relation, terms },
     })
+}
+
+fn read_pairs(alloc: Global, words: &str) -> Result<Vec<(Owned, Owned)>> {
+    let mut pairs = Vec::new(alloc);
+    for word in words.split(' ') {
+        pairs.push(read_pair(alloc, word)?)?;
+    }
+    Ok(pairs)
 }
 
 fn read_pair(alloc: Global, word: &str) -> Result<(Owned, Owned)> {
@@ -113,23 +127,30 @@ impl Sides {
     }
 
     fn put_unifier(&self, alloc: Global, line: &str, out: &mut Vec<u8>) -> Result<()> {
-        let mut owned = Vec::new(alloc);
-        for word in line.split(' ') {
-            owned.push(read_pair(alloc, word)?)?;
-        }
+        let pairs = read_pairs(alloc, line)?;
         let kinds: Vec<&[Kind]> = self
             .kinds
             .iter()
             .map(|kinds| kinds.as_slice())
             .collect(alloc)?;
-        let pairs = owned
-            .iter()
-            .map(|pair| (lent(&pair.0), lent(&pair.1)))
-            .collect::<Vec<_>>(alloc)?;
-        match unify(alloc, kinds.as_slice(), pairs.as_slice())? {
-            Some(unifier) => put_classes(alloc, &unifier, kinds.as_slice(), out),
-            None => put(out, "none"),
-        }
+        put_unified(alloc, kinds.as_slice(), pairs.as_slice(), out)
+    }
+}
+
+/// The classes of the unifier of pairs of atoms.
+fn put_unified(
+    alloc: Global,
+    kinds: &[&[Kind]],
+    pairs: &[(Owned, Owned)],
+    out: &mut Vec<u8>,
+) -> Result<()> {
+    let pairs = pairs
+        .iter()
+        .map(|pair| (lent(&pair.0), lent(&pair.1)))
+        .collect::<Vec<_>>(alloc)?;
+    match unify(alloc, kinds, pairs.as_slice())? {
+        Some(unifier) => put_classes(alloc, &unifier, kinds, out),
+        None => put(out, "none"),
     }
 }
 

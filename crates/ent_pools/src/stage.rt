@@ -26,17 +26,30 @@ fn reply(alloc: Global, stage: &mut Stage, line: &str, out: &mut Vec<u8>) -> Res
     }
 }
 
+/// Puts the reply to a line at the end, or begins what the line names.
+fn put_reply(alloc: Global, now: &mut Stage, line: &str, out: &mut Vec<u8>) -> Result<()> {
+    let Some(name) = line.strip_prefix("== ") else {
+        reply(alloc, now, line, out).context(format_args!("{line}"))?;
+        out.push(b'\n')?;
+        return Ok(());
+    };
+    *now = set_stage(alloc, name)?;
+    Ok(())
+}
+
+fn put_replies(alloc: Global, now: &mut Stage, text: &str, out: &mut Vec<u8>) -> Result<()> {
+    for line in text.lines() {
+        put_reply(alloc, now, line, out)?;
+    }
+    Ok(())
+}
+
 /// The replies to a scenario's calls, a line each.
 pub(crate) fn replies(alloc: Global, text: &str) -> Result<String> {
     let mut out = Vec::new(alloc);
     let mut now = Stage::Atoms(Sides::new(alloc));
-    for line in text.lines() {
-        if let Some(name) = line.strip_prefix("== ") {
-            now = set_stage(alloc, name)?;
-        } else {
-            reply(alloc, &mut now, line, &mut out).context(format_args!("{line}"))?;
-            out.push(b'\n')?;
-        }
-    }
+    let played = put_replies(alloc, &mut now, text, &mut out);
+    drop(now);
+    played?;
     String::from_utf8(out).context("the replies aren't UTF-8")
 }

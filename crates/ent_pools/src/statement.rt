@@ -46,18 +46,34 @@ fn first_form(alloc: Global, input: &Input) -> Result<Plain> {
     }
 }
 
-/// An entangled statement over the tables of an opening. It stands alone in its script, and uses no host variable.
-pub(crate) fn entangled(alloc: Global, opening: &str, text: &str) -> Result<Entangled<Value>> {
-    let whole = format!(in alloc; "{opening} BEGIN TRANSACTION; {text} COMMIT;")?;
-    let input = read(alloc, whole.as_str())?;
-    let plain = first_form(alloc, &input)?;
+/// The first statement of a resolved script, closed without host variables.
+fn first_closed(alloc: Global, plain: &Plain) -> Result<Statement<Value>> {
     let first = plain
         .statements
         .as_slice()
         .first()
         .context("there is no statement")?;
-    match closed(alloc, first, &Environment::new(alloc))? {
+    Ok(closed(alloc, first, &Environment::new(alloc))?)
+}
+
+fn only_entangled(statement: Statement<Value>) -> Result<Entangled<Value>> {
+    match statement {
         Statement::Entangled(entangled) => Ok(entangled),
-        _ => bail!("this is no entangled statement"),
+        other => {
+            drop(other);
+            bail!("this is no entangled statement")
+        }
     }
+}
+
+/// An entangled statement over the tables of an opening. It stands alone in its script, and uses no host variable.
+pub(crate) fn entangled(alloc: Global, opening: &str, text: &str) -> Result<Entangled<Value>> {
+    let whole = format!(in alloc; "{opening} BEGIN TRANSACTION; {text} COMMIT;")?;
+    let input = read(alloc, whole.as_str())?;
+    let plain = first_form(alloc, &input);
+    drop(input);
+    let plain = plain?;
+    let statement = first_closed(alloc, &plain);
+    drop(plain);
+    only_entangled(statement?)
 }

@@ -50,6 +50,11 @@ fn check(rt: &HostRuntime, name: &str) -> Result<usize> {
     let text = fs::read_to_string(rt, format!(in alloc; "scenarios/{name}.in")?)?;
     let wanted = fs::read_to_string(rt, format!(in alloc; "scenarios/{name}.out")?)?;
     let given = replies(alloc, text.as_str())?;
+    count_equal(given.as_str(), wanted.as_str())
+}
+
+/// How many lines of replies there are, where each is as expected.
+fn count_equal(given: &str, wanted: &str) -> Result<usize> {
     let mut expected = wanted.lines();
     let mut count = 0usize;
     for line in given.lines() {

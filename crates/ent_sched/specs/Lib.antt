@@ -1,5 +1,6 @@
 pub mod Bounds
 pub mod Onward
+pub mod Play
 pub mod Progress
 pub mod RunOut
 pub mod Tries

@@ -6,7 +6,7 @@
 //! moved leaves the state as it was, and the run quiet. On [`run`], that it makes a bounded number of events and leaves
 //! no run on, and that each run uses up tries; and on [`run_all`], that it answers the finished book of the core that
 //! it is given, which is legal, and in which each script has a fate. Only want of memory keeps it from that, and then
-//! the core comes back.
+//! the core comes back. The core that runs take and give is passed on by its name.
 #![tactic(auto)]
 
 mod all_runs;
@@ -20,6 +20,7 @@ mod rounds;
 mod turn;
 
 pub use all_runs::run_all;
+pub use ent_core::{Core, Played};
 pub use law::{events_add_up, events_use_up_tries};
 pub use one_round::round;
 pub use one_run::run;
