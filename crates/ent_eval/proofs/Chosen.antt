@@ -13,8 +13,7 @@ use Rattle.ent_semantics.specs.Entangled.{Valuation}
 use Rattle.ent_closed.specs.Form.{Tables}
 use Rattle.ent_coordination.specs.Choice.{AreGroundings, IsChoice}
 use Rattle.ent_coordination.specs.Pool.{IsPool, Posted}
-use Rattle.ent_plan.specs.Plan.{AreKindedFor, HaveNoPlan}
-use Rattle.ent_plan.specs.Tables.{sources_of, tables_named}
+use Rattle.ent_join.specs.Plans.{AreKindedFor, HaveNoPlan, sources_of, tables_named}
 use Rattle.ent_protocol.specs.Job.{Asking, Seen, posted_of, tables_of}
 use Rattle.ent_select.specs.Tables.{rows_in}
 use Rattle.ent_eval.specs.Seen.{relation_of}

@@ -3,7 +3,7 @@ use Rattle.std.specs.Prelude.{◌≡◌, List, [], ◌∷◌, map, slice_index_o
 use Rattle.ent_set.specs.Sets as set
 use Rattle.ent_coordination.specs.Component.{IsComponent}
 use Rattle.ent_coordination.specs.Pool.{IsSafe}
-use Rattle.ent_plan.specs.Plan.{HaveDistinctHeads}
+use Rattle.ent_join.specs.Plans.{HaveDistinctHeads}
 use Rattle.ent_join.specs.Ranged.{AreRanged}
 use Rattle.ent_protocol.specs.Job.{Single, Asking, Seen, Done, IsEvaluated, posted_of, tables_of}
 use Rattle.ent_protocol.specs.Job as jobs

@@ -1,15 +1,13 @@
 //! Posted statements that are to be answered together.
 ghost use Rattle.std.specs.Prelude.{◌≡◌, IfOk, List, MatchOption, map};
 ghost use Rattle.ent_coordination.specs.Choice.{IsLeastChoiceIfAny};
-ghost use Rattle.ent_plan.specs.Plan.{HaveNoPlan};
+ghost use Rattle.ent_join.specs.Plans.{HaveNoPlan};
 ghost use Rattle.ent_protocol.specs.Job.{Seen as TableSeen, posted_of, tables_of};
 ghost use Rattle.ent_eval.specs.Work.{IsJoint};
 
 use crate::asking::Asking;
 use crate::seen::{Seen, tables_shared};
-use ent_join::first;
-use ent_match::Member;
-use ent_plan::JoinPlan;
+use ent_join::{JoinPlan, Member, first};
 use ent_tree::Duplicate;
 use ent_value::{Sequence, Value};
 use std::alloc::{AllocError, Global};

@@ -1,3 +1,4 @@
+pub mod Plans
 pub mod Cursor
 pub mod Search
 pub mod Going

@@ -2,3 +2,4 @@ pub mod Least
 pub mod Jobs
 pub mod Movers
 pub mod Quiet
+pub mod Deadlock

@@ -23,7 +23,18 @@ pub(crate) fn check_all(rt: &HostRuntime) -> Result<()> {
 
 fn check(rt: &HostRuntime, fields: &[&str]) -> Result<()> {
     let alloc = rt.alloc();
-    let [name, read, failing_read, written, failing_write, status, line, length, _] = fields else {
+    let [
+        name,
+        read,
+        failing_read,
+        written,
+        failing_write,
+        status,
+        line,
+        length,
+        _,
+    ] = fields
+    else {
         bail!("a line of another form");
     };
     let input = fs::read(rt, format!(in alloc; "rows/{name}.in")?)?;

@@ -5,8 +5,7 @@ use Rattle.ent_set.specs.Sets as set
 use Rattle.ent_semantics.specs.Database.{Rows}
 use Rattle.ent_coordination.specs.Choice.{IsLeastChoiceIfAny}
 use Rattle.ent_coordination.specs.Pool.{Posted}
-use Rattle.ent_plan.specs.Plan.{HaveNoPlan, Plan}
-use Rattle.ent_plan.specs.Tables.{tables_named}
+use Rattle.ent_join.specs.Plans.{HaveNoPlan, Plan, tables_named}
 use Rattle.ent_protocol.specs.Job.{posted_of, tables_of}
 use Rattle.ent_select.specs.Tables.{rows_in}
 use Rattle.ent_eval.proofs.Chosen.{no_choice, stand_planned}
