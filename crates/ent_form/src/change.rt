@@ -19,6 +19,7 @@ use ent_tree::{
 };
 use ent_value::{Limited, Name, Refusal, Sequence};
 use std::alloc::{AllocError, Global};
+use std::mem::replace;
 
 /// Values side by side with columns, from left to right: each has its column's kind.
 fn row(
@@ -120,7 +121,7 @@ fn assign(
         let place = expression_place(&assignment.expression);
         return Err(Refusal::Fault(FormFault::WrongKind(place)));
     }
-    image[number] = expression;
+    drop(replace(&mut image[number], expression));
     Ok(())
 }
 

@@ -5,6 +5,8 @@ ghost use Rattle.ent_form.specs.Bindings.{bound_in, bound_from};
 ghost use Rattle.ent_form.specs.Catalogue.{is_among};
 ghost use Rattle.ent_form.specs.Entangled.{term_place, term_in, terms_in, no_offer, bind_in, item_in, offer_from};
 ghost use Rattle.ent_form.specs.Entangled.{heads_from, atom_from, post_in, others_from, kinds_of, entangled_in};
+ghost use Rattle.ent_form.specs.Entangled.{variables_of};
+ghost use Rattle.ent_form.specs.Kinds.{none_bound};
 ghost use Rattle.ent_form.specs.Lookup.{test_in};
 ghost use Rattle.ent_form.specs.Seen.{offer_of};
 
@@ -336,9 +338,40 @@ fn bind_all(bindings: &mut Bindings, bound: Sequence<Binding>) -> Result<(), All
     Ok(())
 }
 
+/// An entangled statement of these written variables, of which none is demanded yet.
+#[tactic(auto, unfolding(crate::specs::Entangled::entangled_in))]
+fn form_of(
+    alloc: Global,
+    catalogue: &Catalogue,
+    bindings: &mut Bindings,
+    names: &[&Name],
+    kinds: &mut Bindings,
+    entangled: &Entangled,
+) -> Result<ResolvedEntangled<Known>, Refusal<FormFault>>
+    requires names { map (λ name. name.now) names.now ≡ variables_of entangled.now }
+    requires kinds { bound_in kinds.old ≡ none_bound }
+    ensures { Gives (λ form. (form, bound_in bindings.new)) result
+        (entangled_in catalogue.now.tables (bound_in bindings.old) entangled.now) }
+{
+    let conditions = &entangled.conditions;
+    let atoms = memberships(alloc, catalogue, bindings, names, kinds, conditions)?;
+    let offered = offers(alloc, names, kinds, bindings, &entangled.items)?;
+    let heads = heads(alloc, &offered.terms, &entangled.relations)?;
+    let others = others(alloc, names, kinds, bindings, conditions)?;
+    let variables = variable_kinds(alloc, kinds, names)?;
+    bind_all(bindings, offered.bound)?;
+    Ok(ResolvedEntangled {
+        variables,
+        posts: others.posts,
+        heads,
+        atoms,
+        tests: others.tests,
+        binds: offered.binds,
+    })
+}
+
 /// An entangled statement: all its `IN (SELECT ..)` conditions, then all else in the order of the text. What it binds
 /// is bound from then on.
-#[tactic(auto, unfolding(crate::specs::Entangled::entangled_in))]
 pub(crate) fn entangled(
     alloc: Global,
     catalogue: &Catalogue,
@@ -350,19 +383,5 @@ pub(crate) fn entangled(
 {
     let names = variables(alloc, entangled)?;
     let mut kinds = Bindings::new(alloc);
-    let conditions = &entangled.conditions;
-    let atoms = memberships(alloc, catalogue, bindings, &names, &mut kinds, conditions)?;
-    let offered = offers(alloc, &names, &kinds, bindings, &entangled.items)?;
-    let heads = heads(alloc, &offered.terms, &entangled.relations)?;
-    let others = others(alloc, &names, &kinds, bindings, conditions)?;
-    let variables = variable_kinds(alloc, &kinds, &names)?;
-    bind_all(bindings, offered.bound)?;
-    Ok(ResolvedEntangled {
-        variables,
-        posts: others.posts,
-        heads,
-        atoms,
-        tests: others.tests,
-        binds: offered.binds,
-    })
+    form_of(alloc, catalogue, bindings, &names, &mut kinds, entangled)
 }
