@@ -1,19 +1,28 @@
-//! Plays scenarios: a line a call, the answer that is expected. Without a word it goes over the stored ones and says of
-//! each that differs what it gave; with the word `play` it reads one from standard input and writes the replies.
+//! Plays scenarios: a line a call, the answer that is expected. Without a word it goes over the stored ones and stops
+//! at the first reply that differs; with the word `play` it reads one from standard input and writes the replies. With
+//! the word `times` it says how long calls on large tables take.
 #![tactic(auto)]
 
+mod atoms;
 mod book;
+mod choice;
+mod classes;
 mod counts;
 mod entangled;
 mod forms;
 mod groups;
 mod locks;
+mod opening;
+mod pool;
 mod prints;
 mod reply;
 mod resolved;
 mod stage;
+mod statement;
 mod streams;
 mod table;
+mod timed_rows;
+mod times;
 mod tokens;
 mod trees;
 mod undo;
@@ -25,12 +34,20 @@ use anyhow::{Context, Result, ensure};
 use std::{env, fs, io};
 
 fn main(rt: HostRuntime) -> Result<()> {
-    if env::args(&rt)?.nth(1).is_some() {
-        return play(&rt);
+    let Some(word) = env::args(&rt)?.nth(1) else {
+        return check_all(&rt);
+    };
+    if word.as_str() == "times" {
+        return Ok(times::show_all(&rt)?);
     }
-    let index = fs::read_to_string(&rt, "scenarios/INDEX")?;
+    play(&rt)
+}
+
+/// Plays the stored scenarios, and says how many replies each has.
+fn check_all(rt: &HostRuntime) -> Result<()> {
+    let index = fs::read_to_string(rt, "scenarios/INDEX")?;
     for name in index.lines() {
-        let count = check(&rt, name).context(format_args!("scenario {name}"))?;
+        let count = check(rt, name).context(format_args!("scenario {name}"))?;
         println!(rt; "{name}: {count} replies")?;
     }
     Ok(())

@@ -1,6 +1,8 @@
 //! What the calls of a scenario speak of.
+use crate::atoms::Sides;
 use crate::book::Draft;
 use crate::groups::{reply_to_cycles, reply_to_groups, reply_to_members};
+use crate::pool::Posted;
 use crate::streams::Streams;
 use crate::undo::Tables;
 use crate::{book, counts, forms, locks, prints, streams, table, tokens, trees, undo, values};
@@ -9,6 +11,7 @@ use ent_group::{Groups, Members};
 use ent_lock::LockTable;
 use ent_rel::Table;
 use std::alloc::Global;
+use std::mem::replace;
 
 /// What is called, as the line `== ..` before the calls names it.
 #[derive(Drop)]
@@ -28,6 +31,8 @@ enum Stage {
     Locks(LockTable),
     Book(Draft),
     Streams(Streams),
+    Pool(Posted),
+    Atoms(Sides),
 }
 
 fn set_stage(alloc: Global, name: &str) -> Result<Stage> {
@@ -47,6 +52,8 @@ fn set_stage(alloc: Global, name: &str) -> Result<Stage> {
         "locks" => Stage::Locks(LockTable::new(alloc)),
         "book" => Stage::Book(Draft::new(alloc)),
         "streams" => Stage::Streams(Streams::new(alloc)?),
+        "pool" => Stage::Pool(Posted::new(alloc)),
+        "atoms" => Stage::Atoms(Sides::new(alloc)),
         _ => bail!("nothing is called {name}"),
     })
 }
@@ -70,6 +77,8 @@ fn reply(alloc: Global, stage: &mut Stage, line: &str, out: &mut Vec<u8>) -> Res
         Stage::Locks(locks) => locks::reply(alloc, locks, call, out),
         Stage::Book(draft) => book::reply(alloc, draft, call, out),
         Stage::Streams(streams) => streams::reply(alloc, streams, call, out),
+        Stage::Pool(posted) => posted.reply(alloc, line, out),
+        Stage::Atoms(sides) => sides.reply(alloc, line, out),
     }
 }
 
@@ -80,7 +89,7 @@ fn put_reply(alloc: Global, now: &mut Stage, line: &str, out: &mut Vec<u8>) -> R
         out.push(b'\n')?;
         return Ok(());
     };
-    *now = set_stage(alloc, name)?;
+    drop(replace(now, set_stage(alloc, name)?));
     Ok(())
 }
 

@@ -35,6 +35,14 @@ pub(crate) fn unescaped(alloc: Global, text: &str) -> Result<String> {
     Ok(plain)
 }
 
+/// The first word of a line, and what stands behind it.
+pub(crate) fn first_word(line: &str) -> (&str, &str) {
+    match line.split_once(' ') {
+        Some((first, rest)) => (first, rest),
+        None => (line, ""),
+    }
+}
+
 pub(crate) fn number(word: &str) -> Result<u64> {
     word.parse::<u64>().context("this is no number")
 }
@@ -49,6 +57,12 @@ pub(crate) fn numbers(alloc: Global, words: &[&str]) -> Result<Vec<u64>> {
         found.push(number(word)?)?;
     }
     Ok(found)
+}
+
+/// The numbers of a line, a blank between two.
+pub(crate) fn numbers_in(alloc: Global, line: &str) -> Result<Vec<u64>> {
+    let words: Vec<&str> = line.split(' ').collect(alloc)?;
+    numbers(alloc, words.as_slice())
 }
 
 pub(crate) fn name(alloc: Global, word: &str) -> Result<Name> {
@@ -95,7 +109,7 @@ pub(crate) fn kinds_of(alloc: Global, row: &Row) -> Result<Vec<Kind>, AllocError
     row.values().iter().map(|value| value.kind()).collect(alloc)
 }
 
-fn are_same(left: &[Kind], right: &[Kind]) -> bool
+pub(crate) fn are_same(left: &[Kind], right: &[Kind]) -> bool
     ensures { IsTrue result ↔ (left.now ≡ right.now) }
 {
     left == right
@@ -124,9 +138,12 @@ pub(crate) fn rows_of(alloc: Global, words: &[&str], kinds: &[Kind]) -> Result<V
     Ok(rows)
 }
 
-/// The kinds of a table's columns as one word, as `INT,TEXT`.
+/// The kinds of a table's columns, or of a member's variables, as one word, as `INT,TEXT`; `-` for none.
 pub(crate) fn kinds(alloc: Global, word: &str) -> Result<Vec<Kind>> {
     let mut found = Vec::new(alloc);
+    if word == "-" {
+        return Ok(found);
+    }
     for part in word.split(',') {
         found.push(match part {
             "INT" => Kind::Int,
