@@ -118,6 +118,7 @@ fn assign(
     }
     let (expression, kind) = operand_expression(alloc, sources, bindings, &assignment.expression)?;
     if !same_kind(wanted, kind) {
+        drop(expression);
         let place = expression_place(&assignment.expression);
         return Err(Refusal::Fault(FormFault::WrongKind(place)));
     }

@@ -152,6 +152,7 @@ fn offer(
 {
     if let Some(variable) = binds {
         if is_bound(offer.bound.as_slice(), &variable.name) {
+            drop(term);
             return Err(Refusal::Fault(FormFault::Repeated(variable.place)));
         }
         let bind = Bind {

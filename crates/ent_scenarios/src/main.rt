@@ -11,6 +11,7 @@ mod counts;
 mod entangled;
 mod forms;
 mod groups;
+mod lists;
 mod locks;
 mod opening;
 mod pool;

@@ -2,6 +2,7 @@
 use crate::atoms::Sides;
 use crate::book::Draft;
 use crate::groups::{reply_to_cycles, reply_to_groups, reply_to_members};
+use crate::lists::Lists;
 use crate::pool::Posted;
 use crate::streams::Streams;
 use crate::undo::Tables;
@@ -33,6 +34,7 @@ enum Stage {
     Streams(Streams),
     Pool(Posted),
     Atoms(Sides),
+    Lists(Lists),
 }
 
 fn set_stage(alloc: Global, name: &str) -> Result<Stage> {
@@ -54,6 +56,7 @@ fn set_stage(alloc: Global, name: &str) -> Result<Stage> {
         "streams" => Stage::Streams(Streams::new(alloc)?),
         "pool" => Stage::Pool(Posted::new(alloc)),
         "atoms" => Stage::Atoms(Sides::new(alloc)),
+        "lists" => Stage::Lists(Lists::new(alloc)),
         _ => bail!("nothing is called {name}"),
     })
 }
@@ -79,6 +82,7 @@ fn reply(alloc: Global, stage: &mut Stage, line: &str, out: &mut Vec<u8>) -> Res
         Stage::Streams(streams) => streams::reply(alloc, streams, call, out),
         Stage::Pool(posted) => posted.reply(alloc, line, out),
         Stage::Atoms(sides) => sides.reply(alloc, line, out),
+        Stage::Lists(lists) => lists.reply(alloc, call, out),
     }
 }
 

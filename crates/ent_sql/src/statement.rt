@@ -143,8 +143,13 @@ fn ended_statement_at(
     ensures { Gives (λ x. x) result (reads ended_statement end tokens.entry) }
 {
     let (statement, rest) = statement_at(alloc, end, tokens)?;
-    let (_, rest) = sign_at(Symbol::Semicolon, end, rest)?;
-    Ok((statement, rest))
+    match sign_at(Symbol::Semicolon, end, rest) {
+        Ok((_, rest)) => Ok((statement, rest)),
+        Err(fault) => {
+            drop(statement);
+            Err(Refusal::from(fault))
+        }
+    }
 }
 
 impl Item for Statement {
