@@ -14,9 +14,9 @@ use Rattle.ent_semantics.specs.Names.{equal_names}
 use Rattle.ent_form.specs.declared.catalogue.TableSchema.{TableSchema}
 use Rattle.ent_form.specs.declared.fault.FormFault.{FormFault}
 use Rattle.ent_form.specs.Kinds.{Bound, none_bound, with_kind}
-use Rattle.ent_faults.specs.AllFaults.{select_faults}
+use Rattle.ent_form.specs.AllFaults.{select_faults}
 use Rattle.ent_faults.specs.Demanded.{sides_unless, condition_sides, kind_demanded, IsDemandedFirst}
-use Rattle.ent_faults.specs.EntangledFaults.{select_kinds, demanding, demanding_all, demanding_unless, demanded_from}
+use Rattle.ent_form.specs.EntangledFaults.{select_kinds, demanding, demanding_all, demanding_unless, demanded_from}
 use Rattle.ent_faults.specs.EntangledStanding.{demanding_sides}
 use Rattle.ent_faults.proofs.Membership.{both, turned, CutWhere, cut_nil, cut_cons}
 

@@ -17,7 +17,7 @@ use Rattle.ent_form.specs.declared.fault.FormFault.{FormFault}
 use Rattle.ent_form.specs.Catalogue.{is_among}
 use Rattle.ent_form.specs.Entangled.{noted, noted_terms, noted_items}
 use Rattle.ent_form.specs.Kinds.{Bound}
-use Rattle.ent_faults.specs.EntangledFaults.{taking}
+use Rattle.ent_form.specs.EntangledFaults.{taking}
 use Rattle.ent_faults.specs.EntangledStanding.{IsTermFault, IsTermsFault, item_variables, item_hosts, IsOtherFault}
 use Rattle.ent_faults.specs.EntangledStanding.{other_variables}
 use Rattle.ent_faults.proofs.Found.{among}

@@ -16,7 +16,7 @@ use Rattle.ent_form.specs.declared.fault.FormFault.{FormFault}
 use Rattle.ent_form.specs.declared.fault.FormFault.TheVariants.{NoTable}
 use Rattle.ent_form.specs.Catalogue.{table_from, table_named, names_of, column_from, column_named, is_among}
 use Rattle.ent_form.specs.Kinds.{same_kind}
-use Rattle.ent_faults.specs.AllFaults.{faults_where, faults_at, unless_any, kinds_faults}
+use Rattle.ent_form.specs.AllFaults.{faults_where, faults_at, unless_any, kinds_faults}
 use Rattle.ent_faults.specs.Standing.{IsTableFault, Differ}
 use Rattle.ent_faults.proofs.Membership.{both, either, holding, none_there, here, there, contains_cons}
 

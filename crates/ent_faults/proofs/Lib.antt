@@ -1,11 +1,7 @@
-pub mod Steps
-pub mod Heads
 pub mod Membership
 pub mod Found
 pub mod Earlier
 pub mod Stands
-pub mod EntangledHeads
-pub mod ScriptHeads
 pub mod ScriptStands
 pub mod Unset
 pub mod Demands

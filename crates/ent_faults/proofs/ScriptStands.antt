@@ -26,17 +26,17 @@ use Rattle.ent_form.specs.Catalogue.{is_among}
 use Rattle.ent_form.specs.Entangled.{noted, noted_terms, noted_items, term_place}
 use Rattle.ent_form.specs.Kinds.{Bound, none_bound}
 use Rattle.ent_form.specs.Lookup.{value_place}
-use Rattle.ent_faults.specs.AllFaults.{faults_where, kinds_faults, repeated_names, value_kind, value_faults}
-use Rattle.ent_faults.specs.AllFaults.{select_faults}
-use Rattle.ent_faults.specs.EntangledFaults.{select_kinds, demanding, demanding_unless, demanded_from, member_faults}
-use Rattle.ent_faults.specs.EntangledFaults.{members_faults, membership_faults, memberships_faults, body_variables}
-use Rattle.ent_faults.specs.EntangledFaults.{term_faults, terms_faults, term_kind, binds_faults, taking, offer_faults}
-use Rattle.ent_faults.specs.EntangledFaults.{others_faults, entangled_faults}
+use Rattle.ent_form.specs.AllFaults.{faults_where, kinds_faults, repeated_names, value_kind, value_faults}
+use Rattle.ent_form.specs.AllFaults.{select_faults}
+use Rattle.ent_form.specs.EntangledFaults.{select_kinds, demanding, demanding_unless, demanded_from, member_faults}
+use Rattle.ent_form.specs.EntangledFaults.{members_faults, membership_faults, memberships_faults, body_variables}
+use Rattle.ent_form.specs.EntangledFaults.{term_faults, terms_faults, term_kind, binds_faults, taking, offer_faults}
+use Rattle.ent_form.specs.EntangledFaults.{others_faults, entangled_faults}
 use Rattle.ent_faults.specs.EntangledStanding.{IsMemberFault, demanding_sides, IsMembersFault, IsMembershipFault}
 use Rattle.ent_faults.specs.EntangledStanding.{IsSubselectFault, IsSubselectsFault, IsTermFault, IsTermsFault, IsTaken}
 use Rattle.ent_faults.specs.EntangledStanding.{item_variables, item_hosts, other_variables, IsItemsFault, IsOtherFault}
 use Rattle.ent_faults.specs.EntangledStanding.{IsOthersFault, IsEntangledFault}
-use Rattle.ent_faults.specs.ScriptFaults.{bound_after, bound_by, statement_faults, statements_faults, script_faults}
+use Rattle.ent_form.specs.ScriptFaults.{bound_after, bound_by, statement_faults, statements_faults, script_faults}
 use Rattle.ent_faults.specs.ScriptStanding.{IsStatementFault, IsScriptFault}
 use Rattle.ent_faults.proofs.Earlier.{Alike, taking_all, noted_others, term_noted, terms_noted, items_noted}
 use Rattle.ent_faults.proofs.Earlier.{others_noted, all_taken, term_alike, other_alike, same_by}

@@ -40,15 +40,15 @@ use Rattle.ent_form.specs.Catalogue.{schemas_of, table_named, names_of, column_n
 use Rattle.ent_form.specs.Kinds.{Bound, same_kind}
 use Rattle.ent_form.specs.Lookup.{operand_place, expression_place}
 use Rattle.ent_form.specs.Scope.{Visible, source_place}
-use Rattle.ent_faults.specs.AllFaults.{faults_where, kinds_faults, repeated_names, declarations_faults}
-use Rattle.ent_faults.specs.AllFaults.{literals_faults, row_faults, opening_row_faults, opening_faults, Terms}
-use Rattle.ent_faults.specs.AllFaults.{value_faults}
-use Rattle.ent_faults.specs.AllFaults.{values, View, columns_meant, meant_faults, qualifier_faults, reference_faults}
-use Rattle.ent_faults.specs.AllFaults.{operand_faults, operands_over, wanted_faults, test_faults, expression_faults}
-use Rattle.ent_faults.specs.AllFaults.{expression_kind, view_of, sources_faults, items_faults, select_faults}
-use Rattle.ent_faults.specs.AllFaults.{values_faults}
-use Rattle.ent_faults.specs.AllFaults.{insert_faults, table_view, delete_faults, assignment_faults, assignments_faults}
-use Rattle.ent_faults.specs.AllFaults.{update_faults, set_faults}
+use Rattle.ent_form.specs.AllFaults.{faults_where, kinds_faults, repeated_names, declarations_faults}
+use Rattle.ent_form.specs.AllFaults.{literals_faults, row_faults, opening_row_faults, opening_faults, Terms}
+use Rattle.ent_form.specs.AllFaults.{value_faults}
+use Rattle.ent_form.specs.AllFaults.{values, View, columns_meant, meant_faults, qualifier_faults, reference_faults}
+use Rattle.ent_form.specs.AllFaults.{operand_faults, operands_over, wanted_faults, test_faults, expression_faults}
+use Rattle.ent_form.specs.AllFaults.{expression_kind, view_of, sources_faults, items_faults, select_faults}
+use Rattle.ent_form.specs.AllFaults.{values_faults}
+use Rattle.ent_form.specs.AllFaults.{insert_faults, table_view, delete_faults, assignment_faults, assignments_faults}
+use Rattle.ent_form.specs.AllFaults.{update_faults, set_faults}
 use Rattle.ent_faults.specs.Standing.{IsRepetition, IsDeclarationFault, IsRowFault, IsOpeningRowFault, IsOpeningFault}
 use Rattle.ent_faults.specs.Standing.{IsValueFault, IsQualifierFault, IsReferenceFault, IsOperandFault, IsUnwanted}
 use Rattle.ent_faults.specs.Standing.{IsTestFault, IsExpressionFault, IsItemFault, IsWhereFault}

@@ -14,9 +14,9 @@ use Rattle.ent_semantics.specs.Database.{Name, same_name}
 use Rattle.ent_semantics.specs.Names.{equal_names, name_itself}
 use Rattle.ent_form.specs.declared.catalogue.TableSchema.{TableSchema}
 use Rattle.ent_form.specs.Kinds.{Bound, none_bound, with_kind}
-use Rattle.ent_faults.specs.AllFaults.{values, expression_kind}
-use Rattle.ent_faults.specs.EntangledFaults.{demanded_from, term_kind}
-use Rattle.ent_faults.specs.ScriptFaults.{item_binds, items_bind, bound_after, bound_by}
+use Rattle.ent_form.specs.AllFaults.{values, expression_kind}
+use Rattle.ent_form.specs.EntangledFaults.{demanded_from, term_kind}
+use Rattle.ent_form.specs.ScriptFaults.{item_binds, items_bind, bound_after, bound_by}
 use Rattle.ent_faults.specs.ScriptStanding.{IsBoundBy, Binds}
 use Rattle.ent_faults.proofs.Membership.{both, any_nil, any_cons}
 

@@ -10,8 +10,8 @@ use Rattle.ent_semantics.specs.Database.{Name, same_name}
 use Rattle.ent_form.specs.declared.catalogue.TableSchema.{TableSchema}
 use Rattle.ent_form.specs.declared.fault.FormFault.{FormFault}
 use Rattle.ent_form.specs.Kinds.{Bound}
-use Rattle.ent_faults.specs.AllFaults.{select_faults}
-use Rattle.ent_faults.specs.EntangledFaults.{select_kinds}
+use Rattle.ent_form.specs.AllFaults.{select_faults}
+use Rattle.ent_form.specs.EntangledFaults.{select_kinds}
 
 -- the terms of a tuple, each beside the kind that it is to be of; none where the sub-select has a fault
 abbrev pub sides_unless : List FormFault → List (Option Kind) → List Term → List (Option Kind × Term)

@@ -19,8 +19,8 @@ use Rattle.ent_form.specs.declared.fault.FormFault.TheVariants.{Arity, WrongKind
 use Rattle.ent_form.specs.Entangled.{term_place}
 use Rattle.ent_form.specs.Kinds.{Bound, none_bound}
 use Rattle.ent_form.specs.Lookup.{value_place}
-use Rattle.ent_faults.specs.AllFaults.{value_kind}
-use Rattle.ent_faults.specs.EntangledFaults.{select_kinds, demanding, demanded_from, body_variables, term_kind}
+use Rattle.ent_form.specs.AllFaults.{value_kind}
+use Rattle.ent_form.specs.EntangledFaults.{select_kinds, demanding, demanded_from, body_variables, term_kind}
 use Rattle.ent_faults.specs.Standing.{IsRepetition, IsValueFault, Differ, IsSelectFault}
 
 -- ---- IN (SELECT ..)

@@ -10,7 +10,7 @@ use Rattle.ent_form.specs.declared.catalogue.TableSchema.{TableSchema}
 use Rattle.ent_form.specs.declared.fault.FormFault.{FormFault}
 use Rattle.ent_form.specs.Kinds.{Bound, none_bound}
 use Rattle.ent_faults.specs.EntangledStanding.{IsEntangledFault}
-use Rattle.ent_faults.specs.ScriptFaults.{bound_by}
+use Rattle.ent_form.specs.ScriptFaults.{bound_by}
 use Rattle.ent_faults.specs.Standing.{IsSelectFault, IsInsertFault, IsDeleteFault, IsUpdateFault, IsSetFault}
 
 abbrev pub IsStatementFault : List TableSchema → Bound → Statement → FormFault → Type 0

@@ -36,8 +36,8 @@ use Rattle.ent_form.specs.Catalogue.{schemas_of, table_named, names_of, column_n
 use Rattle.ent_form.specs.Kinds.{Bound}
 use Rattle.ent_form.specs.Lookup.{operand_place, expression_place}
 use Rattle.ent_form.specs.Scope.{source_place}
-use Rattle.ent_faults.specs.AllFaults.{Terms, values, View, columns_meant, operands_over, expression_kind, view_of}
-use Rattle.ent_faults.specs.AllFaults.{table_view}
+use Rattle.ent_form.specs.AllFaults.{Terms, values, View, columns_meant, operands_over, expression_kind, view_of}
+use Rattle.ent_form.specs.AllFaults.{table_view}
 
 -- ---- declarations and opening rows
 

@@ -12,14 +12,14 @@ ghost use Rattle.ent_form.specs.declared.fault.FormFault.{FormFault};
 ghost use Rattle.ent_form.specs.Form.{statement_in, script_in};
 ghost use Rattle.ent_form.specs.Kinds.{Bound, none_bound};
 ghost use Rattle.ent_form.specs.OpeningFault.{opening_fault};
-ghost use Rattle.ent_faults.specs.AllFaults.{fault_of, head_of, opening_faults};
+ghost use Rattle.ent_form.specs.AllFaults.{fault_of, head_of, opening_faults};
 ghost use Rattle.ent_faults.specs.Demanded.{condition_sides, IsDemandedFirst};
-ghost use Rattle.ent_faults.specs.EntangledFaults.{demanded_from};
-ghost use Rattle.ent_faults.specs.ScriptFaults.{bound_by, statement_faults, script_faults};
+ghost use Rattle.ent_form.specs.EntangledFaults.{demanded_from};
+ghost use Rattle.ent_form.specs.ScriptFaults.{bound_by, statement_faults, script_faults};
 ghost use Rattle.ent_faults.specs.ScriptStanding.{IsStatementFault, IsScriptFault, Binds};
 ghost use Rattle.ent_faults.specs.Standing.{IsOpeningFault};
 
-/// The fault that is answered is the first of all.
+/// The fault that ends the resolving of an opening, of a statement or of a script is the first in its list.
 pub fn first_fault_is_first()
     ensures opening { (opening : Opening) → opening_fault opening ≡ head_of (opening_faults opening) }
     ensures statement { (tables : List TableSchema) (bound : Bound) (statement : Statement)

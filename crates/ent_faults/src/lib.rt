@@ -1,8 +1,7 @@
-//! Which faults of form stand in an input, and that the first of them is the one that is answered.
+//! Which faults of form stand in an input.
 //!
-//! `Standing`, `EntangledStanding` and `ScriptStanding` say of each fault when it stands, with no order; `AllFaults`,
-//! `EntangledFaults` and `ScriptFaults` list those that stand in the order in which they count. The laws tie both to
-//! the fault that `ent_form` answers. Nothing of this crate runs.
+//! `Standing`, `EntangledStanding` and `ScriptStanding` say of each fault when it stands, with no order. The laws tie
+//! them to the lists of `ent_form`, whose head is the fault that is answered. Nothing of this crate runs.
 #![tactic(auto)]
 
 mod law;

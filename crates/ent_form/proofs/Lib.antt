@@ -2,3 +2,8 @@ pub mod Steps
 pub mod Declared
 pub mod Listed
 pub mod Columns
+pub mod FaultSteps
+pub mod Heads
+pub mod EntangledHeads
+pub mod ScriptHeads
+pub mod FirstFault

@@ -11,3 +11,7 @@ pub mod Ordinary
 pub mod Entangled
 pub mod Form
 pub mod Seen
+pub mod AllFaults
+pub mod EntangledFaults
+pub mod ScriptFaults
+pub mod FirstFault

@@ -2,7 +2,9 @@
 ghost use Rattle.std.specs.Prelude.{◌≡◌, IfOk};
 ghost use Rattle.std.specs.Option.{option_map};
 ghost use Rattle.ent_value.specs.Refusal.{Gives};
+ghost use Rattle.ent_form.specs.AllFaults.{opening_faults};
 ghost use Rattle.ent_form.specs.Catalogue.{column_schema, table_schema, schemas_of, table_named, column_named};
+ghost use Rattle.ent_form.specs.FirstFault.{RefusedForFirst};
 ghost use Rattle.ent_form.specs.OpeningFault.{opening_fault, unless};
 
 use crate::declaration::declarations_fault;
@@ -47,22 +49,15 @@ impl TableSchema {
 }
 
 impl Catalogue {
-    /// The tables of an input whose declarations and opening rows have no fault; else the first fault, those of
-    /// the declarations before those of the rows.
+    /// The tables of an input whose declarations and opening rows have no fault; else the first of their faults, in the
+    /// order in which `AllFaults` lists those that stand: those of the declarations before those of the rows. Where
+    /// memory runs out nothing is answered.
     pub fn of(alloc: Global, opening: &Opening) -> Result<Catalogue, Refusal<FormFault>>
-        ensures { Gives (λ catalogue. catalogue.tables) result
+        ensures tables { Gives (λ catalogue. catalogue.tables) result
             (unless (opening_fault opening.now) (schemas_of opening.now.tables)) }
+        ensures first { RefusedForFirst (opening_faults opening.now) result }
     {
-        if let Some(fault) = declarations_fault(opening.tables.as_slice()) {
-            return Err(Refusal::Fault(fault));
-        }
-        let catalogue = Catalogue {
-            tables: schemas_of(alloc, opening.tables.as_slice())?,
-        };
-        if let Some(fault) = rows_fault(&catalogue, opening.rows.as_slice()) {
-            return Err(Refusal::Fault(fault));
-        }
-        Ok(catalogue)
+        declared(alloc, opening)
     }
 
     /// The first table of this name and its number, counted from 0.
@@ -76,6 +71,23 @@ impl Catalogue {
         }
         None
     }
+}
+
+/// What is declared, unless a declaration or an opening row has a fault.
+fn declared(alloc: Global, opening: &Opening) -> Result<Catalogue, Refusal<FormFault>>
+    ensures { Gives (λ catalogue. catalogue.tables) result
+        (unless (opening_fault opening.now) (schemas_of opening.now.tables)) }
+{
+    if let Some(fault) = declarations_fault(opening.tables.as_slice()) {
+        return Err(Refusal::Fault(fault));
+    }
+    let catalogue = Catalogue {
+        tables: schemas_of(alloc, opening.tables.as_slice())?,
+    };
+    if let Some(fault) = rows_fault(&catalogue, opening.rows.as_slice()) {
+        return Err(Refusal::Fault(fault));
+    }
+    Ok(catalogue)
 }
 
 fn column_schema(alloc: Global, column: &Column) -> Result<ColumnSchema, AllocError>

@@ -1,8 +1,9 @@
 //! Declared tables, and statements with each name resolved to a number.
 //!
-//! A caller may rely on the first fault: [`Catalogue::of`] answers the fault of declarations and opening rows that
-//! comes first in the order of `OpeningFault`, or else the catalogue; [`resolve`] goes over a script once, in the order
-//! that `Ordinary`, `Entangled` and `Form` say, and answers the form, or the fault that ends it.
+//! A caller may rely on the first fault: [`Catalogue::of`] and [`resolve`] answer where no fault stands, and else
+//! refuse for the head of the list of those that stand, which `AllFaults`, `EntangledFaults` and `ScriptFaults` give in
+//! the order in which they count. What is answered is said in the order of `Ordinary`, `Entangled` and `Form`, part by
+//! part, each looked up once.
 #![tactic(auto)]
 
 mod binding;

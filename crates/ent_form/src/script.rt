@@ -2,7 +2,9 @@
 ghost use Rattle.std.specs.Prelude.{◌≡◌, []};
 ghost use Rattle.ent_value.specs.Refusal.{Gives};
 ghost use Rattle.ent_form.specs.Bindings.{bound_in};
+ghost use Rattle.ent_form.specs.FirstFault.{RefusedForFirst};
 ghost use Rattle.ent_form.specs.Form.{statement_in, script_in};
+ghost use Rattle.ent_form.specs.ScriptFaults.{script_faults};
 
 use crate::binding::Bindings;
 use crate::catalogue::Catalogue;
@@ -50,9 +52,8 @@ fn statement(
     })
 }
 
-/// The statements of a script with their names resolved against the catalogue, or the first fault, statement by
-/// statement. The host variables that a statement may use are those that the statements before it bind.
-pub fn resolve(
+/// A script resolved statement by statement, or the fault that ends this.
+fn in_order(
     alloc: Global,
     catalogue: &Catalogue,
     script: &Script,
@@ -70,4 +71,18 @@ pub fn resolve(
         statements,
         end: script.end,
     })
+}
+
+/// The statements of a script with their names resolved against the catalogue, or the first of its faults, in the order
+/// in which `ScriptFaults` lists those that stand. The host variables that a statement may use are those that the
+/// statements before it bind. Where memory runs out nothing is answered.
+pub fn resolve(
+    alloc: Global,
+    catalogue: &Catalogue,
+    script: &Script,
+) -> Result<Plain, Refusal<FormFault>>
+    ensures form { Gives (λ plain. plain) result (script_in catalogue.now.tables script.now) }
+    ensures first { RefusedForFirst (script_faults catalogue.now.tables script.now) result }
+{
+    in_order(alloc, catalogue, script)
 }

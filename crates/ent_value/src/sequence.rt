@@ -3,7 +3,7 @@ ghost use Rattle.std.specs.Prelude.{◌≡◌, [], ◌∷◌, ◌++◌, ◌==◌
 ghost use Rattle.std.specs.Slice.Iter.{iter_rest};
 ghost use Rattle.std.specs.Option.{option_copied};
 
-use std::alloc::{AllocFailed, Global};
+use std::alloc::{AllocError, AllocFailed, Global};
 use std::marker::Model;
 use std::slice::Iter;
 
@@ -53,7 +53,22 @@ impl<T> Sequence<T> {
         ensures err { OnErr result (self.new ≡ self.old) }
         ensures value_returned { IfErr result (λ e. e.value ≡ element) }
     {
-        self.elements.push(element)
+        match self.make_room() {
+            Ok(()) => self.elements.push(element),
+            Err(AllocError) => Err(AllocFailed { value: element }),
+        }
+    }
+
+    /// Room for one element more: for the first just its own, and for as many again as there are once they fill it. A
+    /// tree has many lists that stay short.
+    fn make_room(&mut self) -> Result<(), AllocError>
+        ensures { self.new ≡ self.old }
+    {
+        let len = self.len();
+        if len == self.elements.capacity() {
+            self.elements.reserve_exact(len.max(1))?;
+        }
+        Ok(())
     }
 
     pub fn len(&self) -> usize

@@ -7,22 +7,22 @@ use Rattle.ent_core.proofs.open.open.Goals as goal
 pub open-requires-clause-tables : goal.open-requires-clause-tables
 open-requires-clause-tables c =
     (catalogued (opening_fault c.args.opening) (schemas_of c.args.opening.tables) c.in_ok-catalogue.catalogue.tables
-    c.in_ok-catalogue.ensures).1
+    c.in_ok-catalogue.ensures.tables).1
 
 pub open-requires-clause-formed : goal.open-requires-clause-formed
 open-requires-clause-formed c =
     (catalogued (opening_fault c.args.opening) (schemas_of c.args.opening.tables) c.in_ok-catalogue.catalogue.tables
-    c.in_ok-catalogue.ensures).0
+    c.in_ok-catalogue.ensures.tables).0
 
 pub invariant_of-result : goal.invariant_of-result
 invariant_of-result c =
     kept_opened_store c.args.opening c.in_ok-catalogue.catalogue.tables c.new.result.items c.new-2.result c.new-3.result
-    c.in_ok-tables.tables c.in_ok-catalogue.ensures c.new.ensures.items c.new-2.ensures c.new-3.ensures.prepared
+    c.in_ok-tables.tables c.in_ok-catalogue.ensures.tables c.new.ensures.items c.new-2.ensures c.new-3.ensures.prepared
     c.new-3.ensures.active c.in_ok-tables.ensures.kinds
 
 pub returns : goal.returns
 returns c =
-    opened_store c.args.opening c.in_ok-catalogue.catalogue.tables _ c.in_ok-catalogue.ensures
+    opened_store c.args.opening c.in_ok-catalogue.catalogue.tables _ c.in_ok-catalogue.ensures.tables
     (λ i. record (opened c.args.opening) {
       submitted = c.new.ensures.items i;
       dormant = (c.new-2.ensures i).dormant;

@@ -1,5 +1,5 @@
-use Rattle.ent_faults.proofs.Heads.{opening_head}
-use Rattle.ent_faults.proofs.ScriptHeads.{statement_head, script_head}
+use Rattle.ent_form.proofs.Heads.{opening_head}
+use Rattle.ent_form.proofs.ScriptHeads.{statement_head, script_head}
 use Rattle.ent_faults.proofs.law.first_fault_is_first.Goals as goal
 
 pub returns-clause-opening : goal.returns-clause-opening

@@ -7,7 +7,7 @@ use Rattle.ent_value.specs.Refusal.{◌>>=◌}
 use Rattle.ent_form.specs.declared.fault.FormFault.{FormFault}
 use Rattle.ent_form.specs.OpeningFault.{Check, ◌before◌, refused_where, first_of, where_there}
 use Rattle.ent_form.specs.Steps.{there, demand}
-use Rattle.ent_faults.specs.AllFaults.{fault_of, head_of, faults_where, faults_at, unless_any}
+use Rattle.ent_form.specs.AllFaults.{fault_of, head_of, faults_where, faults_at, unless_any}
 
 -- ---- checks
 

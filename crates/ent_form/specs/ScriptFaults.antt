@@ -13,9 +13,9 @@ use Rattle.ent_tree.specs.declared.statement.Set.{Set}
 use Rattle.ent_form.specs.declared.catalogue.TableSchema.{TableSchema}
 use Rattle.ent_form.specs.declared.fault.FormFault.{FormFault}
 use Rattle.ent_form.specs.Kinds.{Bound, none_bound, with_kind}
-use Rattle.ent_faults.specs.AllFaults.{select_faults, insert_faults, delete_faults, update_faults, set_faults, values}
-use Rattle.ent_faults.specs.AllFaults.{expression_kind}
-use Rattle.ent_faults.specs.EntangledFaults.{demanded_from, term_kind, entangled_faults}
+use Rattle.ent_form.specs.AllFaults.{select_faults, insert_faults, delete_faults, update_faults, set_faults, values}
+use Rattle.ent_form.specs.AllFaults.{expression_kind}
+use Rattle.ent_form.specs.EntangledFaults.{demanded_from, term_kind, entangled_faults}
 
 -- A SET binds its host variable; where its value has no kind there is a fault, and any kind will do.
 abbrev pub set_binds : Bound → Set → Bound

@@ -23,8 +23,8 @@ use Rattle.ent_form.specs.declared.fault.FormFault.TheVariants.{Arity, WrongKind
 use Rattle.ent_form.specs.Catalogue.{is_among}
 use Rattle.ent_form.specs.Entangled.{noted, noted_terms, noted_items, term_place}
 use Rattle.ent_form.specs.Kinds.{Bound, none_bound, with_kind}
-use Rattle.ent_faults.specs.AllFaults.{faults_where, unless_any, kinds_faults, repeated_names, value_kind, value_faults}
-use Rattle.ent_faults.specs.AllFaults.{values, View, operand_kind, view_of, select_faults}
+use Rattle.ent_form.specs.AllFaults.{faults_where, unless_any, kinds_faults, repeated_names, value_kind, value_faults}
+use Rattle.ent_form.specs.AllFaults.{values, View, operand_kind, view_of, select_faults}
 
 -- ---- IN (SELECT ..)
 

@@ -2,7 +2,7 @@ use Rattle.std.proofs.Common.{◌≡◌, [], length, drop}
 use Rattle.ent_form.specs.Bindings.{bound_in}
 use Rattle.ent_form.specs.Form.{statements_from}
 use Rattle.ent_form.specs.Kinds.{none_bound}
-use Rattle.ent_form.proofs.script.resolve.Given as goal
+use Rattle.ent_form.proofs.script.in_order.Given as goal
 
 -- behind those before, the statements that are left give what all of them give
 abbrev pub invariant-loop-one : goal.invariant-loop-one

@@ -55,17 +55,17 @@ use Rattle.ent_form.specs.Scope.{Visible, Scope, no_source, visible, with_source
 use Rattle.ent_form.specs.Scope.{sources_in}
 use Rattle.ent_form.specs.Scope.{table_scope, referred_from, only_one, qualifier_in, column_in}
 use Rattle.ent_form.specs.Steps.{there, demand}
-use Rattle.ent_faults.specs.AllFaults.{fault_of, head_of, faults_where, unless_any, kinds_faults, repeated_names}
-use Rattle.ent_faults.specs.AllFaults.{declarations_faults, literals_faults, row_faults, opening_row_faults}
-use Rattle.ent_faults.specs.AllFaults.{opening_faults}
-use Rattle.ent_faults.specs.AllFaults.{Terms, value_kind, value_faults, values, View, columns_meant, only_kind}
-use Rattle.ent_faults.specs.AllFaults.{meant_faults}
-use Rattle.ent_faults.specs.AllFaults.{qualifier_faults, reference_faults, operands_over, wanted_faults, test_faults}
-use Rattle.ent_faults.specs.AllFaults.{expression_faults, expression_kind, columns_there, view_of, sources_faults}
-use Rattle.ent_faults.specs.AllFaults.{items_faults, select_faults, values_faults, insert_faults, delete_faults}
-use Rattle.ent_faults.specs.AllFaults.{assignment_faults, assignments_faults, update_faults, set_faults}
-use Rattle.ent_faults.proofs.Steps.{head_before, head_refused, head_kept, head_first, head_where_there, head_then}
-use Rattle.ent_faults.proofs.Steps.{head_last, head_unless, head_at, head_there, head_demand, head_new, head_demanded}
+use Rattle.ent_form.specs.AllFaults.{fault_of, head_of, faults_where, unless_any, kinds_faults, repeated_names}
+use Rattle.ent_form.specs.AllFaults.{declarations_faults, literals_faults, row_faults, opening_row_faults}
+use Rattle.ent_form.specs.AllFaults.{opening_faults}
+use Rattle.ent_form.specs.AllFaults.{Terms, value_kind, value_faults, values, View, columns_meant, only_kind}
+use Rattle.ent_form.specs.AllFaults.{meant_faults}
+use Rattle.ent_form.specs.AllFaults.{qualifier_faults, reference_faults, operands_over, wanted_faults, test_faults}
+use Rattle.ent_form.specs.AllFaults.{expression_faults, expression_kind, columns_there, view_of, sources_faults}
+use Rattle.ent_form.specs.AllFaults.{items_faults, select_faults, values_faults, insert_faults, delete_faults}
+use Rattle.ent_form.specs.AllFaults.{assignment_faults, assignments_faults, update_faults, set_faults}
+use Rattle.ent_form.proofs.FaultSteps.{head_before, head_refused, head_kept, head_first, head_where_there, head_then}
+use Rattle.ent_form.proofs.FaultSteps.{head_last, head_unless, head_at, head_there, head_demand, head_new, head_demanded}
 
 -- ---- openings
 

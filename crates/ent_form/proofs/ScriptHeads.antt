@@ -28,16 +28,16 @@ use Rattle.ent_form.specs.Form.{statement_in, statements_from, script_in}
 use Rattle.ent_form.specs.Kinds.{Bound, none_bound, with_kind}
 use Rattle.ent_form.specs.Lookup.{values_in, expression_in}
 use Rattle.ent_form.specs.Ordinary.{select_in, insert_in, delete_in, update_in, set_in}
-use Rattle.ent_faults.specs.AllFaults.{fault_of, head_of, values}
-use Rattle.ent_faults.specs.EntangledFaults.{body_variables, term_kind}
-use Rattle.ent_faults.specs.ScriptFaults.{set_binds, item_binds, items_bind, entangled_binds, bound_after}
-use Rattle.ent_faults.specs.ScriptFaults.{statement_faults}
-use Rattle.ent_faults.specs.ScriptFaults.{statements_faults, script_faults}
-use Rattle.ent_faults.proofs.EntangledHeads.{memberships_known, memberships_there, term_known, entangled_head}
-use Rattle.ent_faults.proofs.Heads.{one_answer, found_of, demand_of, values_agree, expression_known, select_head}
-use Rattle.ent_faults.proofs.Heads.{insert_head}
-use Rattle.ent_faults.proofs.Heads.{delete_head, update_head, set_head}
-use Rattle.ent_faults.proofs.Steps.{head_then, head_last}
+use Rattle.ent_form.specs.AllFaults.{fault_of, head_of, values}
+use Rattle.ent_form.specs.EntangledFaults.{body_variables, term_kind}
+use Rattle.ent_form.specs.ScriptFaults.{set_binds, item_binds, items_bind, entangled_binds, bound_after}
+use Rattle.ent_form.specs.ScriptFaults.{statement_faults}
+use Rattle.ent_form.specs.ScriptFaults.{statements_faults, script_faults}
+use Rattle.ent_form.proofs.EntangledHeads.{memberships_known, memberships_there, term_known, entangled_head}
+use Rattle.ent_form.proofs.Heads.{one_answer, found_of, demand_of, values_agree, expression_known, select_head}
+use Rattle.ent_form.proofs.Heads.{insert_head}
+use Rattle.ent_form.proofs.Heads.{delete_head, update_head, set_head}
+use Rattle.ent_form.proofs.FaultSteps.{head_then, head_last}
 
 -- ---- what a statement binds
 

@@ -46,17 +46,17 @@ use Rattle.ent_form.specs.Lookup.{value_in, values_in, operand_in, operands_in, 
 use Rattle.ent_form.specs.Ordinary.{tests_in, Shown, with_item, items_from, all_shown, items_in, select_in}
 use Rattle.ent_form.specs.Scope.{Scope, sources_in}
 use Rattle.ent_form.specs.Steps.{there, demand}
-use Rattle.ent_faults.specs.AllFaults.{fault_of, head_of, faults_where, kinds_faults, repeated_names}
-use Rattle.ent_faults.specs.AllFaults.{value_faults, values, View, operand_kind, wanted_faults, select_faults}
-use Rattle.ent_faults.specs.EntangledFaults.{shown_kinds, select_kinds, demanding, demanding_all, demanding_unless}
-use Rattle.ent_faults.specs.EntangledFaults.{demanded_from, member_faults, members_faults, membership_faults}
-use Rattle.ent_faults.specs.EntangledFaults.{memberships_faults, body_variables, term_faults, terms_faults}
-use Rattle.ent_faults.specs.EntangledFaults.{term_kind, binds_faults, taking, offer_faults, others_faults}
-use Rattle.ent_faults.specs.EntangledFaults.{entangled_faults}
-use Rattle.ent_faults.proofs.Heads.{one_answer, found_of, there_of, demand_of, view_in, value_head, value_known}
-use Rattle.ent_faults.proofs.Heads.{values_agree}
-use Rattle.ent_faults.proofs.Heads.{wanted_head, operand_known, view_seen, select_head}
-use Rattle.ent_faults.proofs.Steps.{head_then, head_last, head_unless, head_there, head_demand, head_new, head_demanded}
+use Rattle.ent_form.specs.AllFaults.{fault_of, head_of, faults_where, kinds_faults, repeated_names}
+use Rattle.ent_form.specs.AllFaults.{value_faults, values, View, operand_kind, wanted_faults, select_faults}
+use Rattle.ent_form.specs.EntangledFaults.{shown_kinds, select_kinds, demanding, demanding_all, demanding_unless}
+use Rattle.ent_form.specs.EntangledFaults.{demanded_from, member_faults, members_faults, membership_faults}
+use Rattle.ent_form.specs.EntangledFaults.{memberships_faults, body_variables, term_faults, terms_faults}
+use Rattle.ent_form.specs.EntangledFaults.{term_kind, binds_faults, taking, offer_faults, others_faults}
+use Rattle.ent_form.specs.EntangledFaults.{entangled_faults}
+use Rattle.ent_form.proofs.Heads.{one_answer, found_of, there_of, demand_of, view_in, value_head, value_known}
+use Rattle.ent_form.proofs.Heads.{values_agree}
+use Rattle.ent_form.proofs.Heads.{wanted_head, operand_known, view_seen, select_head}
+use Rattle.ent_form.proofs.FaultSteps.{head_then, head_last, head_unless, head_there, head_demand, head_new, head_demanded}
 
 -- ---- the kinds of a sub-select's items
 
