@@ -7,7 +7,7 @@ ghost use Rattle.ent_match.specs.declared.fault.PostFault.TheVariants as faults;
 ghost use Rattle.ent_protocol.specs.Job.{posted_of};
 ghost use Rattle.ent_components.specs.Component.{pool_and, pool_of};
 
-use crate::pool::{member_of, pool_of};
+use crate::pool::pool_of;
 use ent_eval::Asking;
 use ent_match::{PostFault, Unsafe, same_statements_are_alike};
 use std::alloc::{AllocError, Global};
@@ -37,7 +37,7 @@ pub fn post_fault(
 {
     same_statements_are_alike();
     let mut pool = pool_of(alloc, posted)?;
-    let member = member_of(alloc, asking)?;
+    let member = asking.member()?;
     match pool.post(member) {
         Ok(()) => Ok(None),
         Err((member, why)) => {

@@ -87,7 +87,7 @@ fn plan_entangled(
     let uses = entangled_uses(&statement);
     let posted = askings(store.alloc, store.submitted.as_slice(), store.run.active())?;
     let place = member.place() as u64;
-    let asking = Asking::new(member.tx(), member.attempt(), place, statement);
+    let asking = Asking::new(store.alloc, member.tx(), member.attempt(), place, statement)?;
     match post_fault(store.alloc, posted.as_slice(), &asking)? {
         Some(fault) => Ok(Plan::Refuses(Reply::HeldBack(fault))),
         None => Ok(Plan::Posts(uses)),

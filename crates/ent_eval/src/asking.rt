@@ -1,40 +1,53 @@
 //! Posted statements of transactions.
-ghost use Rattle.std.specs.Prelude.{◌≡◌};
+ghost use Rattle.std.specs.Prelude.{◌≡◌, IfOk};
+ghost use Rattle.ent_protocol.specs.Job.{posted_of};
 
 use ent_closed::Entangled;
 use ent_group::Tx;
+use ent_join::Member;
 use ent_tree::{Duplicate, Same};
 use ent_value::Value;
 use std::alloc::{AllocError, Global};
 use std::marker::Model;
+use std::sync::Arc;
 
-/// A closed entangled statement at a place of a transaction, in one of its attempts, which is posted.
+/// A closed entangled statement at a place of a transaction, in one of its attempts, which is posted. Copies share
+/// the statement.
 #[derive(Drop)]
 pub struct Asking {
     tx: Tx,
     attempt: u64,
     place: u64,
-    statement: Entangled<Value>,
+    statement: Arc<Entangled<Value>>,
 }
 
 impl Model for Asking {
+    ghost use Rattle.std.specs.Arc.{arc_value};
     ghost use Rattle.ent_protocol.specs.Job.{Asking as Work};
 
     ghost Value = { Work };
 
-    ghost view = { λ w. record { tx = w.tx; attempt = w.attempt; place = w.place; statement = w.statement } };
+    ghost view = { λ w. record { tx = w.tx; attempt = w.attempt; place = w.place; statement = arc_value w.statement } };
 }
 
 impl Asking {
-    pub fn new(tx: Tx, attempt: u64, place: u64, statement: Entangled<Value>) -> Self
-        ensures { result ≡ record { tx = tx; attempt = attempt; place = place; statement = statement } }
+    pub fn new(
+        alloc: Global,
+        tx: Tx,
+        attempt: u64,
+        place: u64,
+        statement: Entangled<Value>,
+    ) -> Result<Self, AllocError>
+        ensures { IfOk result (λ asking.
+            asking ≡ record { tx = tx; attempt = attempt; place = place; statement = statement }) }
     {
-        Asking {
+        let statement = Arc::new(alloc, statement)?;
+        Ok(Asking {
             tx,
             attempt,
             place,
             statement,
-        }
+        })
     }
 
     /// The transaction's number.
@@ -63,11 +76,19 @@ impl Asking {
     {
         &self.statement
     }
+
+    /// The statement as a pool has it, which is shared.
+    pub fn member(&self) -> Result<Member, AllocError>
+        ensures { IfOk result (λ member. member ≡ posted_of self.now) }
+    {
+        let statement = self.statement.clone()?;
+        Ok(Member::new(self.tx, statement))
+    }
 }
 
 impl Duplicate for Asking {
-    fn copy(&self, alloc: Global) -> Result<Self, AllocError> {
-        let statement = self.statement.copy(alloc)?;
+    fn copy(&self, _alloc: Global) -> Result<Self, AllocError> {
+        let statement = self.statement.clone()?;
         Ok(Asking {
             tx: self.tx,
             attempt: self.attempt,

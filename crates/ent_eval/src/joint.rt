@@ -8,7 +8,6 @@ ghost use Rattle.ent_eval.specs.Work.{IsJoint};
 use crate::asking::Asking;
 use crate::seen::{Seen, tables_shared};
 use ent_join::{JoinPlan, Member, first};
-use ent_tree::Duplicate;
 use ent_value::{Sequence, Value};
 use std::alloc::{AllocError, Global};
 
@@ -18,7 +17,7 @@ fn posted(alloc: Global, asked: &[Asking]) -> Result<Vec<Member>, AllocError>
 {
     let mut members = Vec::with_capacity(alloc, asked.len())?;
     for asking in asked {
-        members.push(Member::new(asking.tx(), asking.statement().copy(alloc)?))?;
+        members.push(asking.member()?)?;
     }
     Ok(members)
 }

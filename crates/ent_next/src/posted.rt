@@ -27,7 +27,8 @@ fn push_posted(
     match next_of(alloc, submitted, member)? {
         Next::Asks(statement) => {
             let place = member.place() as u64;
-            askings.push(Asking::new(member.tx(), member.attempt(), place, statement))?;
+            let asking = Asking::new(alloc, member.tx(), member.attempt(), place, statement)?;
+            askings.push(asking)?;
         }
         other => drop(other),
     }

@@ -7,7 +7,7 @@ ghost use Rattle.ent_plan.specs.Plan.{HaveDistinctHeads, HaveNoPlan, IsPlan, nam
 ghost use Rattle.ent_plan.specs.Tables.{tables_named};
 
 use crate::class::{Class, rows_of};
-use crate::named::copies_of;
+use crate::named::shared_of;
 use crate::pair::{heads_of, pairs_of, posts_of};
 use crate::slot::Slot;
 use crate::table::tables_of;
@@ -173,6 +173,6 @@ pub fn combine(alloc: Global, pool: &Pool, txs: &[Tx]) -> Result<Option<JoinPlan
     ensures { IfOk result (λ plan. MatchOption plan (HaveNoPlan (named pool.now txs.now))
         (λ some. some.members ≡ named pool.now txs.now)) }
 {
-    let members = copies_of(alloc, pool.members(), txs)?;
+    let members = shared_of(alloc, pool.members(), txs)?;
     JoinPlan::of(alloc, members)
 }

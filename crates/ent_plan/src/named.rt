@@ -4,7 +4,6 @@ ghost use Rattle.ent_plan.specs.Plan.{is_named, named};
 
 use ent_group::Tx;
 use ent_match::Member;
-use ent_tree::Duplicate;
 use std::alloc::{AllocError, Global};
 
 /// Whether a statement is of one of some transactions.
@@ -14,19 +13,19 @@ fn is_named(txs: &[Tx], member: &Member) -> bool
     txs.contains(&member.tx())
 }
 
-/// Copies of the statements of some transactions.
-pub(crate) fn copies_of(
+/// The statements of some transactions, which are shared.
+pub(crate) fn shared_of(
     alloc: Global,
     members: &[Member],
     txs: &[Tx],
 ) -> Result<Vec<Member>, AllocError>
-    ensures { IfOk result (λ copies. copies.items ≡ named members.now txs.now) }
+    ensures { IfOk result (λ shared. shared.items ≡ named members.now txs.now) }
 {
-    let mut copies = Vec::new(alloc);
+    let mut shared = Vec::new(alloc);
     for member in members {
         if is_named(txs, member) {
-            copies.push(Member::new(member.tx(), member.statement().copy(alloc)?))?;
+            shared.push(member.shared()?)?;
         }
     }
-    Ok(copies)
+    Ok(shared)
 }

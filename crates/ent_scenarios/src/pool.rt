@@ -71,7 +71,7 @@ impl Posted {
 
     fn post(&mut self, alloc: Global, rest: &str, out: &mut Vec<u8>) -> Result<()> {
         let (tx, text) = first_word(rest);
-        let statement = entangled(alloc, self.opening.as_str(), text)?;
+        let statement = Arc::new(alloc, entangled(alloc, self.opening.as_str(), text)?)?;
         post_to(&mut self.pool, Member::new(number(tx)?, statement), out)
     }
 }
