@@ -51,61 +51,80 @@ pub(crate) fn reply(
     match call {
         ["report", words @ ..] => put_report(alloc, &draft.book, words, out),
         ["report_2", words @ ..] => put_report_2(alloc, &draft.book, words, out),
-        ["input", text] => {
-            take_input(alloc, &mut draft.book, text)?;
-            put_number(out, draft.book.scripts.len())
-        }
+        ["input", text] => take_input(alloc, &mut draft.book, text, out),
         ["table", table, word, rows @ ..] => {
-            let table = table_of(alloc, table, word, rows)?;
-            draft.book.database.push(table)?;
-            put_number(out, draft.book.database.len())
+            take_table(alloc, &mut draft.book.database, table, word, rows, out)
         }
-        ["count" | "set" | "rows" | "heads", ..] => {
-            draft.answers.push(answer(alloc, call)?)?;
-            put_number(out, draft.answers.len())
+        ["count" | "set" | "rows" | "heads", ..] => take_answer(alloc, draft, call, out),
+        ["entry", tx] => take_answers(alloc, draft, tx, out),
+        ["member", tx, place, values @ ..] => {
+            take_member(alloc, &mut draft.members, tx, place, values, out)
         }
-        ["entry", tx] => {
-            take_answers(alloc, draft, number(tx)?)?;
-            put_number(out, draft.book.journal.len())
-        }
-        _ => reply_of_fates(alloc, draft, call, out),
+        ["joint"] => take_members(alloc, draft, out),
+        _ => take_fate(&mut draft.book.fates, call, out),
     }
 }
 
-fn reply_of_fates(
+fn take_table(
     alloc: Global,
-    draft: &mut Draft,
-    call: &[&str],
+    database: &mut Sequence<NamedTable>,
+    table: &str,
+    word: &str,
+    rows: &[&str],
     out: &mut Vec<u8>,
 ) -> Result<()> {
-    match call {
-        ["member", tx, place, values @ ..] => {
-            draft.members.push(member(alloc, tx, place, values)?)?;
-            put_number(out, draft.members.len())
-        }
-        ["joint"] => {
-            let members = mem::replace(&mut draft.members, Sequence::new(alloc));
-            draft.book.joint_answers.push(JointAnswer { members })?;
-            put_number(out, draft.book.joint_answers.len())
-        }
-        _ => {
-            let fate = fate(call)?;
-            let tx = (draft.book.fates.len() as u64).saturating_add(1);
-            draft.book.fates.push(Fated { tx, fate })?;
-            put_number(out, draft.book.fates.len())
-        }
-    }
+    database.push(table_of(alloc, table, word, rows)?)?;
+    put_number(out, database.len())
+}
+
+/// An answer that the next entry takes.
+fn take_answer(alloc: Global, draft: &mut Draft, call: &[&str], out: &mut Vec<u8>) -> Result<()> {
+    draft.answers.push(answer(alloc, call)?)?;
+    put_number(out, draft.answers.len())
+}
+
+/// A member that the next joint answer takes.
+fn take_member(
+    alloc: Global,
+    members: &mut Sequence<Member>,
+    tx: &str,
+    place: &str,
+    values: &[&str],
+    out: &mut Vec<u8>,
+) -> Result<()> {
+    members.push(member(alloc, tx, place, values)?)?;
+    put_number(out, members.len())
+}
+
+/// The next joint answer takes the members that were told.
+fn take_members(alloc: Global, draft: &mut Draft, out: &mut Vec<u8>) -> Result<()> {
+    let members = mem::replace(&mut draft.members, Sequence::new(alloc));
+    draft.book.joint_answers.push(JointAnswer { members })?;
+    put_number(out, draft.book.joint_answers.len())
+}
+
+/// The fate of the next transaction.
+fn take_fate(fates: &mut Sequence<Fated>, call: &[&str], out: &mut Vec<u8>) -> Result<()> {
+    let fate = fate(call)?;
+    let tx = (fates.len() as u64).saturating_add(1);
+    fates.push(Fated { tx, fate })?;
+    put_number(out, fates.len())
 }
 
 /// The opening and the scripts are those of an input.
-fn take_input(alloc: Global, book: &mut Book<Sequence<NamedTable>>, text: &str) -> Result<()> {
+fn take_input(
+    alloc: Global,
+    book: &mut Book<Sequence<NamedTable>>,
+    text: &str,
+    out: &mut Vec<u8>,
+) -> Result<()> {
     let text = unescaped(alloc, text)?;
     let input = parse_input(alloc, text.as_str())
         .ok()
         .context("this is no input")?;
     book.opening = input.opening;
     book.scripts = Sequence::from_vec(input.scripts.into_vec());
-    Ok(())
+    put_number(out, book.scripts.len())
 }
 
 fn table_of(alloc: Global, table: &str, word: &str, rows: &[&str]) -> Result<NamedTable> {
@@ -147,10 +166,11 @@ fn facts(alloc: Global, words: &[&str]) -> Result<Sequence<Fact>> {
 }
 
 /// The journal's next entry takes the answers that were told.
-fn take_answers(alloc: Global, draft: &mut Draft, tx: u64) -> Result<()> {
+fn take_answers(alloc: Global, draft: &mut Draft, tx: &str, out: &mut Vec<u8>) -> Result<()> {
+    let tx = number(tx)?;
     let answers = mem::replace(&mut draft.answers, Sequence::new(alloc));
     draft.book.journal.push(Entry { tx, answers })?;
-    Ok(())
+    put_number(out, draft.book.journal.len())
 }
 
 fn member(alloc: Global, tx: &str, place: &str, values: &[&str]) -> Result<Member> {
@@ -165,7 +185,7 @@ fn member(alloc: Global, tx: &str, place: &str, values: &[&str]) -> Result<Membe
     })
 }
 
-/// The fate of the next transaction.
+/// What became of a transaction.
 fn fate(call: &[&str]) -> Result<Fate> {
     match call {
         ["committed", place, runs] => Ok(Fate::Committed {

@@ -5,7 +5,7 @@ use crate::values::put_kind;
 use anyhow::Result;
 use ent_closed::{Atom, Binding, Entangled, Known, Membership, Operand, Select, Statement, Term};
 use ent_form::Plain;
-use ent_value::Kind;
+use ent_value::{Kind, Name};
 use std::alloc::Global;
 use std::io::Write;
 
@@ -125,48 +125,59 @@ fn put_table(out: &mut Vec<u8>, word: &str, table: usize) -> Result<()> {
     put(out, " ")
 }
 
+/// A statement behind its word and the number of its table: a list of its parts, and its tests where it has some.
+fn put_change<T: Show>(
+    alloc: Global,
+    out: &mut Vec<u8>,
+    word: &str,
+    table: usize,
+    parts: &[T],
+) -> Result<()> {
+    put_table(out, word, table)?;
+    put_list(alloc, out, parts, ", ")
+}
+
+/// A statement that has nothing behind it.
+fn put_ended<T: Show>(alloc: Global, out: &mut Vec<u8>, word: &str, part: &T) -> Result<()> {
+    put(out, word)?;
+    part.show(alloc, out)?;
+    put(out, ";")
+}
+
+fn put_set<T: Show>(alloc: Global, out: &mut Vec<u8>, variable: &Name, part: &T) -> Result<()> {
+    put(out, " set :")?;
+    variable.show(alloc, out)?;
+    put_ended(alloc, out, " = ", part)
+}
+
+fn put_delete<T: Show>(alloc: Global, out: &mut Vec<u8>, table: usize, tests: &[T]) -> Result<()> {
+    put(out, " delete ")?;
+    put_number(out, table)?;
+    put_tests(alloc, out, tests)
+}
+
 impl<K: Show> Show for Statement<K> {
     fn show(&self, alloc: Global, out: &mut Vec<u8>) -> Result<()> {
         match self {
-            Statement::Select(select) => {
-                put(out, " select ")?;
-                select.show(alloc, out)?;
-                put(out, ";")
-            }
-            Statement::Entangled(entangled) => {
-                put(out, " ")?;
-                entangled.show(alloc, out)?;
-                put(out, ";")
-            }
+            Statement::Select(select) => put_ended(alloc, out, " select ", select),
+            Statement::Entangled(entangled) => put_ended(alloc, out, " ", entangled),
             Statement::Insert { table, values } => {
-                put_table(out, " insert ", *table)?;
-                put_list(alloc, out, values.as_slice(), ", ")?;
+                put_change(alloc, out, " insert ", *table, values.as_slice())?;
                 put(out, ";")
             }
-            Statement::Delete { table, tests } => {
-                put(out, " delete ")?;
-                put_number(out, *table)?;
-                put_tests(alloc, out, tests.as_slice())
-            }
+            Statement::Delete { table, tests } => put_delete(alloc, out, *table, tests.as_slice()),
             Statement::Update {
                 table,
                 image,
                 tests,
             } => {
-                put_table(out, " update ", *table)?;
-                put_list(alloc, out, image.as_slice(), ", ")?;
+                put_change(alloc, out, " update ", *table, image.as_slice())?;
                 put_tests(alloc, out, tests.as_slice())
             }
             Statement::Set {
                 variable,
                 expression,
-            } => {
-                put(out, " set :")?;
-                variable.show(alloc, out)?;
-                put(out, " = ")?;
-                expression.show(alloc, out)?;
-                put(out, ";")
-            }
+            } => put_set(alloc, out, variable, expression),
         }
     }
 }

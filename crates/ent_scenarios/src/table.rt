@@ -3,7 +3,6 @@ ghost use Rattle.std.specs.Prelude.{◌≡◌, All, IfOk};
 ghost use Rattle.ent_value.specs.Value.{kinds_of};
 
 use crate::reply::{Show, put, put_list, put_number, yes_or_no};
-use crate::values::put_kind;
 use crate::words::{index, kinds, row_of, rows_of};
 use anyhow::{Context, Result, bail};
 use ent_rel::{Delta, Table, TableFull};
@@ -17,23 +16,10 @@ pub(crate) fn reply(
     out: &mut Vec<u8>,
 ) -> Result<()> {
     match call {
-        ["new", word] => {
-            *table = Table::new(alloc, kinds(alloc, word)?);
-            put_number(out, table.len())
-        }
-        ["load", word, rows @ ..] => {
-            let kinds = kinds(alloc, word)?;
-            let rows = rows_of(alloc, rows, kinds.as_slice())?;
-            put_changed(table, loaded(alloc, kinds, rows), out)
-        }
-        ["fill", from, to] => {
-            let loaded = filled(alloc, index(from)?, index(to)?)?;
-            put_changed(table, loaded, out)
-        }
-        ["copy"] => {
-            *table = table.copy(alloc)?;
-            put_number(out, table.len())
-        }
+        ["new", word] => put_in_place(table, Table::new(alloc, kinds(alloc, word)?), out),
+        ["load", word, rows @ ..] => load(alloc, table, word, rows, out),
+        ["fill", from, to] => fill(alloc, table, index(from)?, index(to)?, out),
+        ["copy"] => copy(alloc, table, out),
         ["insert", word] => insert(alloc, table, word, out),
         ["delete_above", least] => delete(alloc, table, least, out),
         ["replace_above", least, word] => replace(alloc, table, least, word, out),
@@ -45,29 +31,57 @@ pub(crate) fn reply(
 /// The reply to a call that changes nothing.
 fn reply_of(alloc: Global, table: &Table, call: &[&str], out: &mut Vec<u8>) -> Result<()> {
     match call {
-        ["rows"] => put_list(alloc, out, table.rows(alloc)?.as_slice(), " "),
+        ["rows"] => put_rows(alloc, table, out),
         ["is_empty"] => put(out, yes_or_no(table.is_empty())),
-        ["contains", word] => {
-            let row = row_of(alloc, word, table.kinds())?;
-            put(out, yes_or_no(table.contains(&row)))
-        }
-        ["kinds"] => {
-            let mut before = "";
-            for kind in table.kinds() {
-                put(out, before)?;
-                put_kind(out, *kind)?;
-                before = " ";
-            }
-            Ok(())
-        }
-        ["is_table_of", rows @ ..] => {
-            let kinds = Vec::from_slice(alloc, table.kinds())?;
-            let rows = rows_of(alloc, rows, kinds.as_slice())?;
-            let other = Table::load(alloc, kinds, rows).ok().context("no table")?;
-            put(out, yes_or_no(table.is_same(&other)))
-        }
+        ["contains", word] => put_contains(alloc, table, word, out),
+        ["kinds"] => put_list(alloc, out, table.kinds(), " "),
+        ["is_table_of", rows @ ..] => put_is_table_of(alloc, table, rows, out),
         _ => bail!("tables know no such call"),
     }
+}
+
+fn put_rows(alloc: Global, table: &Table, out: &mut Vec<u8>) -> Result<()> {
+    put_list(alloc, out, table.rows(alloc)?.as_slice(), " ")
+}
+
+fn put_contains(alloc: Global, table: &Table, word: &str, out: &mut Vec<u8>) -> Result<()> {
+    let row = row_of(alloc, word, table.kinds())?;
+    put(out, yes_or_no(table.contains(&row)))
+}
+
+/// Replies whether these are the table's rows.
+fn put_is_table_of(alloc: Global, table: &Table, rows: &[&str], out: &mut Vec<u8>) -> Result<()> {
+    let kinds = Vec::from_slice(alloc, table.kinds())?;
+    let rows = rows_of(alloc, rows, kinds.as_slice())?;
+    let other = Table::load(alloc, kinds, rows).ok().context("no table")?;
+    put(out, yes_or_no(table.is_same(&other)))
+}
+
+/// Puts a table in another's place, and replies how many rows it has.
+fn put_in_place(table: &mut Table, other: Table, out: &mut Vec<u8>) -> Result<()> {
+    *table = other;
+    put_number(out, table.len())
+}
+
+fn copy(alloc: Global, table: &mut Table, out: &mut Vec<u8>) -> Result<()> {
+    let copy = table.copy(alloc)?;
+    put_in_place(table, copy, out)
+}
+
+fn load(
+    alloc: Global,
+    table: &mut Table,
+    word: &str,
+    rows: &[&str],
+    out: &mut Vec<u8>,
+) -> Result<()> {
+    let kinds = kinds(alloc, word)?;
+    let rows = rows_of(alloc, rows, kinds.as_slice())?;
+    put_changed(table, loaded(alloc, kinds, rows), out)
+}
+
+fn fill(alloc: Global, table: &mut Table, from: usize, to: usize, out: &mut Vec<u8>) -> Result<()> {
+    put_changed(table, filled(alloc, from, to)?, out)
 }
 
 /// Puts a table in another's place, and replies how many rows it has; or replies that there is none.
@@ -77,10 +91,7 @@ fn put_changed(
     out: &mut Vec<u8>,
 ) -> Result<()> {
     match changed {
-        Ok(changed) => {
-            *table = changed;
-            put_number(out, table.len())
-        }
+        Ok(changed) => put_in_place(table, changed, out),
         Err(Refusal::Fault(TableFull)) => put(out, "full"),
         Err(Refusal::Memory) => bail!("memory ran out"),
     }

@@ -1,6 +1,6 @@
 //! Tables of numbers and the undo log of their changes: `== undo`.
 use crate::reply::{put, put_number};
-use crate::words::{index, numbers, rows_of};
+use crate::words::{index, number, numbers, rows_of};
 use anyhow::{Context, Result, bail};
 use ent_rel::Table;
 use ent_undo::{UndoLog, log_tells_of_writes};
@@ -40,30 +40,45 @@ pub(crate) fn reply(
     call: &[&str],
     out: &mut Vec<u8>,
 ) -> Result<()> {
+    carry_out(alloc, tables, call)?;
+    put_tables(alloc, tables.tables.as_slice(), out)
+}
+
+fn carry_out(alloc: Global, tables: &mut Tables, call: &[&str]) -> Result<()> {
     match call {
-        ["table", rows @ ..] => {
-            let table = table_of(alloc, rows)?;
-            tables.tables.push(table)?;
-        }
-        ["write", tx, at, rows @ ..] => {
-            write(alloc, tables, tx.parse::<u64>()?, index(at)?, rows)?;
-        }
-        ["roll_back", members @ ..] => {
-            let members = numbers(alloc, members)?;
-            let Tables { tables, log } = tables;
-            log.roll_back(members.as_slice(), tables.as_mut_slice());
-        }
+        ["table", rows @ ..] => add(alloc, tables, rows),
+        ["write", tx, at, rows @ ..] => write(alloc, tables, number(tx)?, index(at)?, rows),
+        ["roll_back", members @ ..] => roll_back(alloc, tables, members),
         ["take_back"] => {
-            let Tables { tables, log } = tables;
-            log.take_back(tables.as_mut_slice());
+            take_back(tables);
+            Ok(())
         }
-        ["forget", members @ ..] => {
-            let members = numbers(alloc, members)?;
-            tables.log.forget(members.as_slice());
-        }
+        ["forget", members @ ..] => forget(alloc, &mut tables.log, members),
         _ => bail!("the undo log knows no such call"),
     }
-    put_tables(alloc, tables.tables.as_slice(), out)
+}
+
+fn add(alloc: Global, tables: &mut Tables, rows: &[&str]) -> Result<()> {
+    tables.tables.push(table_of(alloc, rows)?)?;
+    Ok(())
+}
+
+fn roll_back(alloc: Global, tables: &mut Tables, members: &[&str]) -> Result<()> {
+    let members = numbers(alloc, members)?;
+    let Tables { tables, log } = tables;
+    log.roll_back(members.as_slice(), tables.as_mut_slice());
+    Ok(())
+}
+
+fn take_back(tables: &mut Tables) {
+    let Tables { tables, log } = tables;
+    log.take_back(tables.as_mut_slice());
+}
+
+fn forget(alloc: Global, log: &mut UndoLog, members: &[&str]) -> Result<()> {
+    let members = numbers(alloc, members)?;
+    log.forget(members.as_slice());
+    Ok(())
 }
 
 /// Puts a table in another's place, which is noted.
