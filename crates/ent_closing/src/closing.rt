@@ -40,8 +40,7 @@ pub(crate) fn closed_list<T: Closing, const LIMIT: usize>(
 ) -> Result<Limited<T::Closed, LIMIT>, AllocError>
     ensures { IfOk result (λ closed. closed ≡ map (T.closing (environment_of environment.now)) list.now) }
 {
-    let _len = list.len();
-    let mut closed = Limited::new(alloc);
+    let mut closed = Limited::with_capacity(alloc, list.len())?;
     for element in list.as_slice() {
         closed.push(element.closed(alloc, environment)?)?;
     }

@@ -6,3 +6,4 @@ mod Fronts
 mod Cells
 mod Beginnings
 mod Changes
+mod Chunks

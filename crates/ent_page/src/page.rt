@@ -9,6 +9,9 @@ use std::alloc::{AllocError, Global};
 use std::cmp::Ordering;
 use std::marker::Model;
 
+/// How many bytes are compared at a time.
+const CHUNK: usize = 64;
+
 /// A list of keys in two arrays: the bytes of all, and where each ends. Contracts see the list.
 #[derive(Drop)]
 pub struct Page {
@@ -190,8 +193,25 @@ fn push_ends(new: &mut Vec<usize>, ends: &[usize], start: usize, base: usize)
     }
 }
 
+/// Whether two lists of chunks are the same.
+fn are_same_chunks(left: &[[u8; CHUNK]], right: &[[u8; CHUNK]]) -> bool
+    ensures { IsTrue result ↔ (left.now ≡ right.now) }
+{
+    left == right
+}
+
+/// Whether two lists of bytes are the same. They are compared chunk by chunk, which is many times as fast as byte by
+/// byte.
+fn are_same_bytes(left: &[u8], right: &[u8]) -> bool
+    ensures { IsTrue result ↔ (left.now ≡ right.now) }
+{
+    let (chunks, rest) = left.as_chunks::<CHUNK>();
+    let (other_chunks, other_rest) = right.as_chunks::<CHUNK>();
+    are_same_chunks(chunks, other_chunks) && rest == other_rest
+}
+
 fn are_same_arrays(bytes: &[u8], other_bytes: &[u8], ends: &[usize], other_ends: &[usize]) -> bool
     ensures { IsTrue result ↔ ((bytes.now ≡ other_bytes.now) × (ends.now ≡ other_ends.now)) }
 {
-    ends == other_ends && bytes == other_bytes
+    ends == other_ends && are_same_bytes(bytes, other_bytes)
 }

@@ -41,10 +41,9 @@ impl<T: Duplicate + Drop> Duplicate for Sequence<T> {
 
 impl<T: Duplicate + Drop, const LIMIT: usize> Duplicate for Limited<T, LIMIT> {
     fn copy(&self, alloc: Global) -> Result<Self, AllocError> {
-        let mut copies = Limited::new(alloc);
-        let elements = self.as_slice();
         // The limit of the elements is that of the copies.
-        let _limited = self.len();
+        let mut copies = Limited::with_capacity(alloc, self.len())?;
+        let elements = self.as_slice();
         for element in elements {
             copies.push(element.copy(alloc)?)?;
         }

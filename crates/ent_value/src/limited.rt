@@ -1,8 +1,8 @@
 //! A list of elements with a limit.
-ghost use Rattle.std.specs.Prelude.{◌≡◌, [], ◌∷◌, ◌++◌, ◌<◌, ◌≤◌, length, OnOk, OnErr, IfErr};
+ghost use Rattle.std.specs.Prelude.{◌≡◌, [], ◌∷◌, ◌++◌, ◌<◌, ◌≤◌, length, OnOk, OnErr, IfOk, IfErr};
 
 use crate::sequence::Sequence;
-use std::alloc::{AllocFailed, Global};
+use std::alloc::{AllocError, AllocFailed, Global};
 use std::marker::Model;
 use std::ops::Deref;
 
@@ -31,6 +31,14 @@ impl<T, const LIMIT: usize> Limited<T, LIMIT> {
         Limited {
             elements: Sequence::new(alloc),
         }
+    }
+
+    /// The list of no element, with room for so many.
+    pub fn with_capacity(alloc: Global, room: usize) -> Result<Self, AllocError>
+        ensures { IfOk result (λ made. made ≡ []) }
+    {
+        let elements = Sequence::with_capacity(alloc, room)?;
+        Ok(Limited { elements })
     }
 
     /// Puts an element at the end. Where memory runs out the element comes back.

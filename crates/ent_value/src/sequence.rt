@@ -1,5 +1,5 @@
 //! A list of elements.
-ghost use Rattle.std.specs.Prelude.{◌≡◌, [], ◌∷◌, ◌++◌, ◌==◌, ◌<◌, length, OnOk, OnErr, IfErr, slice_get};
+ghost use Rattle.std.specs.Prelude.{◌≡◌, [], ◌∷◌, ◌++◌, ◌==◌, ◌<◌, length, OnOk, OnErr, IfOk, IfErr, slice_get};
 ghost use Rattle.std.specs.Slice.Iter.{iter_rest};
 ghost use Rattle.std.specs.Option.{option_copied};
 
@@ -30,6 +30,14 @@ impl<T> Sequence<T> {
         Sequence {
             elements: Vec::new(alloc),
         }
+    }
+
+    /// The sequence of no element, with room for so many.
+    pub fn with_capacity(alloc: Global, room: usize) -> Result<Self, AllocError>
+        ensures { IfOk result (λ made. made ≡ []) }
+    {
+        let elements = Vec::with_capacity(alloc, room)?;
+        Ok(Sequence { elements })
     }
 
     /// The elements of a vector, which is moved and not copied.
