@@ -44,12 +44,20 @@ pub(crate) fn quoted_len(
     Err(TextFault::OpenText(quote))
 }
 
+/// How long the content is of a text whose opening quote stands just before these bytes; 0 where it isn't closed.
+fn content_len(behind: &[u8]) -> usize {
+    match quoted_len(0, 0, behind) {
+        Ok((len, _)) => len,
+        Err(_) => 0,
+    }
+}
+
 /// The text whose opening quote stands just before these bytes.
 pub fn text_of(alloc: Global, behind: &[u8]) -> Result<Text, AllocError>
     requires { IsContent behind.now }
     ensures { IfOk result (λ text. text ≡ content behind.now) }
 {
-    match quoted_at(alloc, 0, 0, behind) {
+    match quoted_at(alloc, content_len(behind), 0, 0, behind) {
         Ok((text, _)) => Ok(Text::from_vec(text)),
         Err(Refusal::Memory) => Err(AllocError),
         Err(Refusal::Fault(_)) => unreachable!(),
@@ -57,10 +65,11 @@ pub fn text_of(alloc: Global, behind: &[u8]) -> Result<Text, AllocError>
 }
 
 /// The content of a text whose opening quote stands at `quote`, just before these bytes, and the bytes behind its
-/// closing quote.
+/// closing quote. It makes room for a content of this length at once.
 #[tactic(auto, unfolding(crate::specs::Lexing::quoted_at))]
 fn quoted_at(
     alloc: Global,
+    len: usize,
     quote: usize,
     place: usize,
     bytes: &[u8],
@@ -68,7 +77,7 @@ fn quoted_at(
     requires { place + length bytes.now < 2 ^ 64 }
     ensures { Gives (λ x. (x.0.items, x.1.now)) result (quoted_at quote place bytes.now) }
 {
-    let mut content = Vec::new(alloc);
+    let mut content = Vec::with_capacity(alloc, len)?;
     let mut rest = bytes;
     let mut at = place;
     while rest.len() > 0 {
