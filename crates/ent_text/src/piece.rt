@@ -1,5 +1,5 @@
 //! A piece of a text: a token, or a gap of white space or a comment.
-ghost use Rattle.std.specs.Prelude.{◌≡◌, ◌<◌, ◌≤◌, ◌+◌, ◌^◌, length, IfOk, IfSome, IfNone, slice_index};
+ghost use Rattle.std.specs.Prelude.{◌≡◌, ◌<◌, ◌≤◌, ◌+◌, ◌^◌, false, length, IfOk, IfSome, IfNone, slice_index};
 ghost use Rattle.std.specs.List.{prefix_len};
 ghost use Rattle.std.specs.Char.{is_ascii_digit};
 ghost use Rattle.ent_text.specs.Spelling.{is_blank};
@@ -91,7 +91,9 @@ fn symbol_at(place: usize, bytes: &[u8]) -> Result<(Option<TokenView<'_>>, &[u8]
     ))
 }
 
-/// The piece at the front, and the bytes behind it.
+/// The piece at the front, and the bytes behind it. A blank is passed over at once: of a text's pieces many are blanks.
+#[inline(always)]
+#[tactic(auto, unfolding(crate::specs::Lexing::piece_at))]
 pub(crate) fn piece_at(
     place: usize,
     bytes: &[u8],
@@ -101,19 +103,24 @@ pub(crate) fn piece_at(
     ensures value { Sees result (piece_at place bytes.now) }
     ensures shorter { IfOk result (λ x. length x.1.now < length bytes.now) }
 {
-    piece(place, bytes)
+    if is_blank(bytes[0]) {
+        Ok((None, tail(bytes, 1)))
+    } else {
+        other_piece(place, bytes)
+    }
 }
 
+/// The piece at the front where that is no blank.
+#[inline(never)]
 #[tactic(auto, unfolding(crate::specs::Lexing::piece_at))]
-fn piece(place: usize, bytes: &[u8]) -> Result<(Option<TokenView<'_>>, &[u8]), TextFault>
+fn other_piece(place: usize, bytes: &[u8]) -> Result<(Option<TokenView<'_>>, &[u8]), TextFault>
     requires room { place + length bytes.now < 2 ^ 64 }
     requires nonempty { 0 < length bytes.now }
+    requires other { is_blank (slice_index bytes.now 0) ≡ false }
     ensures { Sees result (piece_at place bytes.now) }
 {
     let first = bytes[0];
-    if is_blank(first) {
-        Ok((None, tail(bytes, 1)))
-    } else if first.is_ascii_alphabetic() {
+    if first.is_ascii_alphabetic() {
         word_at(place, bytes)
     } else if first.is_ascii_digit() {
         number_at(place, bytes)

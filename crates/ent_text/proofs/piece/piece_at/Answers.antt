@@ -11,5 +11,5 @@ leaves_less : (place : ℕ) (bytes : List ℕ) (r : Result (Option TokenView × 
 leaves_less place bytes (Ok x) lt given = piece_shorter place bytes (kind_if_seen x.0, x.1.now) lt given.0
 leaves_less place bytes (Err e) lt given = tt
 
-pub returns-clause-shorter : goal.returns-clause-shorter
-returns-clause-shorter c = leaves_less c.args.place c.args.bytes.now c.piece.result c.requires.nonempty c.piece.ensures
+pub returns-else-is_blank-clause-shorter : goal.returns-else-is_blank-clause-shorter
+returns-else-is_blank-clause-shorter c = leaves_less c.args.place c.args.bytes.now c.other_piece.result c.requires.nonempty c.other_piece.ensures
