@@ -85,7 +85,7 @@ fn script_at(
     Ok((
         Script {
             within,
-            statements,
+            statements: statements.shrunk(),
             end: ended,
         },
         rest,

@@ -60,6 +60,16 @@ impl<T, const LIMIT: usize> Limited<T, LIMIT> {
         elements.into_vec()
     }
 
+    /// The same elements, with no more room than they need.
+    pub fn shrunk(self) -> Self
+        ensures { result ≡ self }
+    {
+        let Limited { elements } = self;
+        Limited {
+            elements: elements.shrunk(),
+        }
+    }
+
     pub fn len(&self) -> usize
         ensures len { result ≡ length self.now }
         ensures limit { result ≤ LIMIT }

@@ -79,6 +79,16 @@ impl<T> Sequence<T> {
         Ok(())
     }
 
+    /// The same elements, with no more room than they need.
+    pub fn shrunk(self) -> Self
+        ensures { result ≡ self }
+    {
+        let Sequence { elements } = self;
+        let mut elements = elements;
+        elements.shrink_to_fit();
+        Sequence { elements }
+    }
+
     pub fn len(&self) -> usize
         ensures { result ≡ length self.now }
     {
