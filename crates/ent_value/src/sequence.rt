@@ -83,10 +83,9 @@ impl<T> Sequence<T> {
     pub fn shrunk(self) -> Self
         ensures { result ≡ self }
     {
-        let Sequence { elements } = self;
-        let mut elements = elements;
+        let mut elements = self.into_vec();
         elements.shrink_to_fit();
-        Sequence { elements }
+        Sequence::from_vec(elements)
     }
 
     pub fn len(&self) -> usize
