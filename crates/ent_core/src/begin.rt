@@ -1,5 +1,6 @@
 //! A member begins its next statement.
 ghost use Rattle.std.specs.Prelude.{◌≡◌, Some, None, IfOk, IsOk, OnErr, IsSome};
+ghost use Rattle.std.specs.Arc.{arc_value};
 ghost use Rattle.ent_core.specs.Begin.{Follows, LendsTo, MayBegin};
 ghost use Rattle.ent_core.specs.Kept.{IsKeptState};
 ghost use Rattle.ent_core.specs.Reply.{reply_seen};
@@ -30,6 +31,7 @@ use ent_standing::{
 };
 use ent_value::Value;
 use std::alloc::AllocError;
+use std::sync::Arc;
 
 /// What a begin comes to, before anything is changed.
 #[derive(Drop)]
@@ -73,11 +75,11 @@ fn plan_ordinary(
 fn plan_entangled(
     store: &Store,
     member: &Member,
-    statement: Entangled<Value>,
+    statement: Arc<Entangled<Value>>,
 ) -> Result<Plan, AllocError>
     requires kept { IsKeptState store.now }
-    requires next { MayBegin store.now member.now.tx member.now (Asks statement) }
-    requires unblocked { blocker store.now member.now (entangled_uses statement) ≡ None }
+    requires next { MayBegin store.now member.now.tx member.now (Asks (arc_value statement)) }
+    requires unblocked { blocker store.now member.now (entangled_uses (arc_value statement)) ≡ None }
     ensures { IfOk result (λ plan. Follows store.now member.now.tx plan) }
 {
     // Laws: the pool is safe and stands by number.
@@ -87,7 +89,7 @@ fn plan_entangled(
     let uses = entangled_uses(&statement);
     let posted = askings(store.alloc, store.submitted.as_slice(), store.run.active())?;
     let place = member.place() as u64;
-    let asking = Asking::new(store.alloc, member.tx(), member.attempt(), place, statement)?;
+    let asking = Asking::new(member.tx(), member.attempt(), place, statement);
     match post_fault(store.alloc, posted.as_slice(), &asking)? {
         Some(fault) => Ok(Plan::Refuses(Reply::HeldBack(fault))),
         None => Ok(Plan::Posts(uses)),

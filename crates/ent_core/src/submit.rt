@@ -44,17 +44,21 @@ pub(crate) fn submit(store: &mut Store, script: Script) -> Result<Reply, AllocFa
         Err(Refusal::Fault(fault)) => return Ok(Reply::Faulty(script, fault)),
         Err(Refusal::Memory) => return Err(AllocFailed { value: script }),
     };
-    if store.submitted.reserve(1).is_err() {
-        return Err(AllocFailed { value: script });
-    }
+    let own = SubmittedScript::new(store.alloc, script, form)?;
+    let _asked = own.within();
     let tx = before as u64 + 1;
+    if store.submitted.reserve(1).is_err() {
+        return Err(AllocFailed {
+            value: own.into_script(),
+        });
+    }
     match store.roster.admit(tx) {
         Ok(()) => {
-            let own = SubmittedScript::new(script, form);
-            let _asked = own.within();
             store.submitted.push_reserved(own);
             Ok(Reply::Submitted(tx))
         }
-        Err(AllocError) => Err(AllocFailed { value: script }),
+        Err(AllocError) => Err(AllocFailed {
+            value: own.into_script(),
+        }),
     }
 }

@@ -1,5 +1,6 @@
 //! Posted statements of transactions.
 ghost use Rattle.std.specs.Prelude.{◌≡◌, IfOk};
+ghost use Rattle.std.specs.Arc.{arc_value};
 ghost use Rattle.ent_protocol.specs.Job.{posted_of};
 
 use ent_closed::Entangled;
@@ -31,23 +32,15 @@ impl Model for Asking {
 }
 
 impl Asking {
-    pub fn new(
-        alloc: Global,
-        tx: Tx,
-        attempt: u64,
-        place: u64,
-        statement: Entangled<Value>,
-    ) -> Result<Self, AllocError>
-        ensures { IfOk result (λ asking.
-            asking ≡ record { tx = tx; attempt = attempt; place = place; statement = statement }) }
+    pub fn new(tx: Tx, attempt: u64, place: u64, statement: Arc<Entangled<Value>>) -> Self
+        ensures { result ≡ record { tx = tx; attempt = attempt; place = place; statement = arc_value statement } }
     {
-        let statement = Arc::new(alloc, statement)?;
-        Ok(Asking {
+        Asking {
             tx,
             attempt,
             place,
             statement,
-        })
+        }
     }
 
     /// The transaction's number.

@@ -1,3 +1,4 @@
+pub mod Asked
 pub mod Form
 pub mod Next
 pub mod Turn

@@ -6,6 +6,7 @@
 //! statements of a state with these scripts and members.
 #![tactic(auto)]
 
+mod first_asked;
 mod form;
 mod next;
 mod numbered;

@@ -1,37 +1,56 @@
 //! What a member does next.
 ghost use Rattle.std.specs.Prelude.{◌≡◌, Some, IfOk, IsOk};
 ghost use Rattle.ent_semantics.specs.Serial.{numbered};
+ghost use Rattle.ent_closed.specs.Closing.{closed};
+ghost use Rattle.ent_closing.specs.Environment.{environment_of};
 ghost use Rattle.ent_protocol.specs.Member.{Commits, RollsBack, end_next, next_in, statement_next};
 ghost use Rattle.ent_next.specs.Next.{next_seen};
 
 use crate::numbered::{script_of, with_number};
 use crate::submitted::SubmittedScript;
-use ent_closed::{Entangled, Statement};
-use ent_closing::closed;
+use ent_closed::{Entangled, Known, Statement};
+use ent_closing::{Environment, closed};
 use ent_members::Member;
 use ent_tree::End;
 use ent_value::Value;
 use std::alloc::{AllocError, Global};
+use std::sync::Arc;
 
 /// What a member does next.
 #[derive(Drop)]
 pub enum Next {
     /// A statement, closed, that isn't entangled.
     Ordinary(Statement<Value>),
-    /// An entangled statement, closed.
-    Asks(Entangled<Value>),
+    /// An entangled statement, closed, which copies share.
+    Asks(Arc<Entangled<Value>>),
     Commits,
     RollsBack,
 }
 
 /// A closed statement as what comes next.
-fn statement_next(statement: Statement<Value>) -> Next
-    ensures { next_seen result ≡ statement_next statement }
+pub(crate) fn statement_next(alloc: Global, statement: Statement<Value>) -> Result<Next, AllocError>
+    ensures { IfOk result (λ next. next_seen next ≡ statement_next statement) }
 {
     match statement {
-        Statement::Entangled(entangled) => Next::Asks(entangled),
-        ordinary => Next::Ordinary(ordinary),
+        Statement::Entangled(entangled) => {
+            let shared = Arc::new(alloc, entangled)?;
+            Ok(Next::Asks(shared))
+        }
+        ordinary => Ok(Next::Ordinary(ordinary)),
     }
+}
+
+/// The statement at a place where a member stands that bound this, as what comes next.
+fn form_next(
+    alloc: Global,
+    form: &Statement<Known>,
+    environment: &Environment,
+) -> Result<Next, AllocError>
+    ensures { IfOk result (λ next.
+        next_seen next ≡ statement_next (closed (environment_of environment.now) form.now)) }
+{
+    let statement = closed(alloc, form, environment)?;
+    statement_next(alloc, statement)
 }
 
 /// The end of a script as what comes next.
@@ -51,10 +70,13 @@ fn next_in(alloc: Global, own: &SubmittedScript, member: &Member) -> Result<Next
     ensures rolls_back { next_in (Some own.now) member.now ≡ RollsBack → IsOk result }
 {
     match with_number(own.form(), member.place()) {
-        Some(form) => {
-            let statement = closed(alloc, form, member.environment())?;
-            Ok(statement_next(statement))
-        }
+        Some(form) => match own.asked_at(member.place(), member.environment()) {
+            Some(asked) => {
+                let shared = asked.clone()?;
+                Ok(Next::Asks(shared))
+            }
+            None => form_next(alloc, form, member.environment()),
+        },
         None => Ok(end_next(own.end())),
     }
 }

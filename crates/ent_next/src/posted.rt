@@ -27,7 +27,7 @@ fn push_posted(
     match next_of(alloc, submitted, member)? {
         Next::Asks(statement) => {
             let place = member.place() as u64;
-            let asking = Asking::new(alloc, member.tx(), member.attempt(), place, statement)?;
+            let asking = Asking::new(member.tx(), member.attempt(), place, statement);
             askings.push(asking)?;
         }
         other => drop(other),

@@ -1,32 +1,75 @@
 //! Scripts that were submitted.
-ghost use Rattle.std.specs.Prelude.{◌≡◌, ◌≤◌};
+ghost use Rattle.std.specs.Prelude.{◌≡◌, ◌≤◌, [], IfOk, IfErr, IfSome};
+ghost use Rattle.std.specs.Arc.{arc_value};
 ghost use Rattle.ent_tree.specs.declared.limits.TheConstants.{MOST_RUNS};
+ghost use Rattle.ent_next.specs.Asked.{IsAskedAt};
 
-use ent_closed::{Known, Statement};
+use crate::first_asked::FirstAsked;
+use ent_closed::{Entangled, Known, Statement};
+use ent_closing::Environment;
 use ent_tree::{End, MOST_STATEMENTS, Script};
-use ent_value::Limited;
+use ent_value::{Limited, Value};
+use std::alloc::{AllocError, AllocFailed, Global};
 use std::marker::Model;
+use std::sync::Arc;
 
 /// A script that was submitted, with its statements resolved.
 #[derive(Drop)]
 pub struct SubmittedScript {
     script: Script,
     form: Limited<Statement<Known>, MOST_STATEMENTS>,
+    first_asked: Option<FirstAsked>,
 }
 
 impl Model for SubmittedScript {
+    ghost use Rattle.std.specs.Prelude.{IfSome};
+    ghost use Rattle.std.specs.Arc.{arc_value};
     ghost use Rattle.ent_protocol.specs.State.{Submitted};
+    ghost use Rattle.ent_next.specs.Asked.{IsAskedAt};
 
     ghost Value = { Submitted };
 
     ghost view = { λ own. record { script = own.script; form = own.form } };
+
+    ghost invariant = { λ own. IfSome own.first_asked (λ asked.
+        IsAskedAt own.form asked.place (arc_value asked.statement)) };
 }
 
 impl SubmittedScript {
-    pub fn new(script: Script, form: Limited<Statement<Known>, MOST_STATEMENTS>) -> Self
-        ensures { result ≡ record { script = script; form = form } }
+    /// The script with these statements. What it asks for first is closed here, so that it needn't be for each who
+    /// looks at the pool. Where memory runs out the script comes back.
+    pub fn new(
+        alloc: Global,
+        script: Script,
+        form: Limited<Statement<Known>, MOST_STATEMENTS>,
+    ) -> Result<Self, AllocFailed<Script>>
+        ensures ok { IfOk result (λ own. own ≡ record { script = script; form = form }) }
+        ensures returned { IfErr result (λ refused. refused.value ≡ script) }
     {
-        SubmittedScript { script, form }
+        match FirstAsked::of(alloc, form.as_slice()) {
+            Ok(first_asked) => Ok(SubmittedScript {
+                script,
+                form,
+                first_asked,
+            }),
+            Err(AllocError) => Err(AllocFailed { value: script }),
+        }
+    }
+
+    /// The entangled statement at a place, closed, where it is the first one and nothing is bound.
+    pub(crate) fn asked_at(
+        &self,
+        place: usize,
+        environment: &Environment,
+    ) -> Option<&Arc<Entangled<Value>>>
+        ensures { IfSome result (λ asked. (environment.now ≡ []) × IsAskedAt self.now.form place (arc_value asked.now)) }
+    {
+        match &self.first_asked {
+            Some(first) if first.place == place && environment.count() == 0 => {
+                Some(&first.statement)
+            }
+            _ => None,
+        }
     }
 
     /// The script as it was submitted.
@@ -63,7 +106,11 @@ impl SubmittedScript {
     pub fn into_script(self) -> Script
         ensures { result ≡ self.script }
     {
-        let SubmittedScript { script, form: _ } = self;
+        let SubmittedScript {
+            script,
+            form: _,
+            first_asked: _,
+        } = self;
         script
     }
 }

@@ -40,7 +40,7 @@ fn stays_safe(
     match next_of(alloc, submitted, member)? {
         Next::Asks(statement) => {
             let place = member.place() as u64;
-            let asking = Asking::new(alloc, member.tx(), member.attempt(), place, statement)?;
+            let asking = Asking::new(member.tx(), member.attempt(), place, statement);
             let fault = post_fault(alloc, posted, &asking)?;
             Ok(fault.is_none())
         }

@@ -1,9 +1,11 @@
 use Rattle.std.proofs.Common.{◌≡◌, ◌∙◌, ◌++◌, ◌∷◌, [], ap, sym, subst, List, Option, map, nat_eq}
 use Rattle.std.specs.Prelude.{Contains, MatchOption}
+use Rattle.std.specs.Arc.{arc_value}
 use Rattle.std.specs.List.{IsDistinct}
 use Rattle.ent_coordination.specs.Pool.{IsFirstUnsafe, IsSafe, Posted, Unsafe}
 use Rattle.ent_match.specs.Fault.{IsByNumber}
 use Rattle.ent_members.specs.Run.{tx_of}
+use Rattle.ent_members.specs.Uses.{uses_of_entangled}
 use Rattle.ent_protocol.specs.Begin.{pool_with}
 use Rattle.ent_protocol.specs.Job.{Asking}
 use Rattle.ent_protocol.specs.Member.{askings, is_lent, pool}
@@ -48,24 +50,24 @@ post_fault-requires-clause-none c = λ other at own.
     let D : State → Type 0 = λ x. IsDistinct nat_eq (map tx_of x.active) in
     none_posted now member.tx member (subst D c.store.view_is c.active.ensures.distinct) c.requires.next.there
     (or_first member.posted (is_lent now member.tx) c.requires.next.free) other (subst C all at)
-    (own ∙ ap (λ (a : Asking). a.tx) c.in_ok-asking.ensures ∙ c.tx.ensures)
+    (own ∙ ap (λ (a : Asking). a.tx) c.new-asking.ensures ∙ c.tx.ensures)
 
 pub returns-in-Some : goal.returns-in-Some
 returns-in-Some c =
     let s : State = the_view c.store.inside in
     let now = c.args.store.now in
     let member = c.args.member.now in
-    let statement = c.args.statement in
+    let statement = arc_value c.args.statement in
     let posted : c.as_slice-2.result.now ≡ askings s =
     c.as_slice-2.ensures
     ∙ c.in_ok-posted.ensures.askings s (sym c.as_slice.ensures.value) (sym c.active.ensures.list) in
     let all : pool_of c.as_slice-2.result.now ≡ pool now = ap pool_of posted ∙ ap pool c.store.view_is in
-    let number = ap (λ (a : Asking). a.tx) c.in_ok-asking.ensures ∙ c.tx.ensures in
-    let asked = ap (λ (a : Asking). a.statement) c.in_ok-asking.ensures in
-    let whole : pool_and c.as_slice-2.result.now c.in_ok-asking.asking ≡ pool_with now member statement =
+    let number = ap (λ (a : Asking). a.tx) c.new-asking.ensures ∙ c.tx.ensures in
+    let asked = ap (λ (a : Asking). a.statement) c.new-asking.ensures in
+    let whole : pool_and c.as_slice-2.result.now c.new-asking.result ≡ pool_with now member statement =
     λ i. all i ++ record { tx = number i; statement = asked i } ∷ [] in
-    let M : Option Unsafe → Type 0 = λ o. MatchOption o (IsSafe (pool_and c.as_slice-2.result.now c.in_ok-asking.asking))
-    (IsFirstUnsafe (pool_and c.as_slice-2.result.now c.in_ok-asking.asking)) in
+    let M : Option Unsafe → Type 0 = λ o. MatchOption o (IsSafe (pool_and c.as_slice-2.result.now c.new-asking.result))
+    (IsFirstUnsafe (pool_and c.as_slice-2.result.now c.new-asking.result)) in
     let P : List Posted → Type 0 = λ posts. IsFirstUnsafe posts c.in-Some.fault in
     entangled_held now member.tx member statement c.requires.next c.requires.unblocked c.in-Some.fault
     (subst P whole (subst M c.in-Some.is c.in_ok-fault.ensures))
@@ -75,18 +77,20 @@ returns c =
     let s : State = the_view c.store.inside in
     let now = c.args.store.now in
     let member = c.args.member.now in
-    let statement = c.args.statement in
-    let uses = c.entangled_uses-uses.ensures ∙ c.uses_are_kept_by_closing.ensures.entangled statement in
+    let statement = arc_value c.args.statement in
+    let uses =
+    c.entangled_uses-uses.ensures ∙ ap uses_of_entangled c.deref.ensures
+    ∙ c.uses_are_kept_by_closing.ensures.entangled statement in
     let posted : c.as_slice-2.result.now ≡ askings s =
     c.as_slice-2.ensures
     ∙ c.in_ok-posted.ensures.askings s (sym c.as_slice.ensures.value) (sym c.active.ensures.list) in
     let all : pool_of c.as_slice-2.result.now ≡ pool now = ap pool_of posted ∙ ap pool c.store.view_is in
-    let number = ap (λ (a : Asking). a.tx) c.in_ok-asking.ensures ∙ c.tx.ensures in
-    let asked = ap (λ (a : Asking). a.statement) c.in_ok-asking.ensures in
-    let whole : pool_and c.as_slice-2.result.now c.in_ok-asking.asking ≡ pool_with now member statement =
+    let number = ap (λ (a : Asking). a.tx) c.new-asking.ensures ∙ c.tx.ensures in
+    let asked = ap (λ (a : Asking). a.statement) c.new-asking.ensures in
+    let whole : pool_and c.as_slice-2.result.now c.new-asking.result ≡ pool_with now member statement =
     λ i. all i ++ record { tx = number i; statement = asked i } ∷ [] in
-    let M : Option Unsafe → Type 0 = λ o. MatchOption o (IsSafe (pool_and c.as_slice-2.result.now c.in_ok-asking.asking))
-    (IsFirstUnsafe (pool_and c.as_slice-2.result.now c.in_ok-asking.asking)) in
+    let M : Option Unsafe → Type 0 = λ o. MatchOption o (IsSafe (pool_and c.as_slice-2.result.now c.new-asking.result))
+    (IsFirstUnsafe (pool_and c.as_slice-2.result.now c.new-asking.result)) in
     let P : List Posted → Type 0 = IsSafe in (
       some_found member.tx now.active member c.requires.next.there,
       entangled_posted now member.tx member statement c.requires.next c.requires.unblocked

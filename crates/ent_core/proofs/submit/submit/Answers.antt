@@ -7,6 +7,6 @@ pub invariant_of-store-in-Ok-admit : goal.invariant_of-store-in-Ok-admit
 invariant_of-store-in-Ok-admit c =
     let inside = c.store.inside in
     kept_submitted inside.catalogue.tables inside.opening inside.submitted.items _ inside.roster _ inside.running inside.run
-    inside.tables c.new-own.result _ c.store.invariant c.within-asked.ensures.least
-    (c.push_reserved.ensures.items ∙ ap (λ (xs : List Submitted). xs ++ c.new-own.result ∷ []) c.reserve.ensures.items)
+    inside.tables c.in_ok-own.own _ c.store.invariant c.within-asked.ensures.least
+    (c.push_reserved.ensures.items ∙ ap (λ (xs : List Submitted). xs ++ c.in_ok-own.own ∷ []) c.reserve.ensures.items)
     c.in-Ok-admit.ensures.ok (omega arith)
