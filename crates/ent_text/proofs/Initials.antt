@@ -36,3 +36,20 @@ pub by_initial : (word : List ℕ) → 0 < length word
 unfolding keyword_of
 by_initial [] some = absurd (omega (arith, some))
 by_initial (b ∷ bs) some = find_filtered (λ keyword. is_written (b ∷ bs) (keyword_text keyword)) (λ keyword. slice_index (keyword_text keyword) 0 == to_ascii_uppercase b) (λ keyword e. begins_so b bs (keyword_text keyword) e) keywords
+
+-- a word that is written so is as long
+pub written_is_as_long : (word capitals : List ℕ) → is_written word capitals ≡ true → length word ≡ length capitals
+written_is_as_long [] [] e = refl
+written_is_as_long [] (c ∷ cs) e = absurd cc
+written_is_as_long (b ∷ bs) [] e = absurd cc
+written_is_as_long (b ∷ bs) (c ∷ cs) e =
+    let h = and_parts (eqb (to_ascii_uppercase b) c) (is_written bs cs) e in
+    omega (arith, written_is_as_long bs cs h.1)
+
+-- a word of another length isn't written so
+pub other_length : (word capitals : List ℕ) → (length word ≡ length capitals → ⊥) → false ≡ is_written word capitals
+other_length word capitals other = on (is_written word capitals) refl
+  where
+    on : (t : Bool) → is_written word capitals ≡ t → false ≡ t
+    on false e = refl
+    on true e = absurd (other (written_is_as_long word capitals e))

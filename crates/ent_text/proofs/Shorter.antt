@@ -143,3 +143,8 @@ leaves_ok n (Err f) x h e = absurd cc
 pub piece_shorter : (place : ℕ) (bytes : List ℕ) (x : Piece) → 0 < length bytes → piece_at place bytes ≡ Ok x → length x.1 < length bytes
 piece_shorter place [] x lt e = absurd (omega arith)
 piece_shorter place (b ∷ bytes) x lt e = leaves_ok _ (piece_at place (b ∷ bytes)) x (piece_leaves place b bytes) e
+
+-- where a letter stands first, the piece is the word
+pub piece_of_word : (place : ℕ) (bytes : List ℕ) → is_blank (slice_index bytes 0) ≡ false → is_ascii_alphabetic (slice_index bytes 0) ≡ true → piece_at place bytes ≡ word_at place bytes
+unfolding piece_at
+piece_of_word place bytes visible letter = rw (visible, letter) refl

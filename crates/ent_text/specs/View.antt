@@ -8,7 +8,7 @@ use Rattle.ent_text.specs.declared.token.TokenKind.{TokenKind}
 use Rattle.ent_text.specs.declared.token.TokenKind.TheVariants.{Word, Name, HostVariable, Number, Literal, Sign}
 use Rattle.ent_text.specs.declared.view.TokenView.{TokenView}
 use Rattle.ent_text.specs.declared.view.TokenView.TheVariants as views
-use Rattle.ent_text.specs.Lexing.{Piece, quoted_at}
+use Rattle.ent_text.specs.Lexing.{Piece, word_kind, quoted_at}
 
 -- what stands in quotes, if they are closed
 abbrev pub content_of : Result (List ℕ × List ℕ) TextFault → List ℕ
@@ -61,6 +61,16 @@ CanBeMadeIfLent (Some view) = CanBeMade view.now
 abbrev pub Sees : Result (Option TokenView × Bor (List ℕ)) TextFault → Result Piece TextFault → Type 0
 Sees (Ok piece) meant = (meant ≡ Ok (kind_if_seen piece.0, piece.1.now)) × CanBeMadeIfSeen piece.0
 Sees (Err fault) meant = meant ≡ Err fault
+
+-- these bytes stand behind the piece, or this fault is found
+abbrev pub IsBehind : Result (Bor (List ℕ)) TextFault → Result Piece TextFault → Type 0
+IsBehind (Ok rest) meant = (kind : Option TokenKind) × (meant ≡ Ok (kind, rest.now))
+IsBehind (Err fault) meant = meant ≡ Err fault
+
+-- this word is the piece and can be a name, with the bytes behind it, or this fault is found
+abbrev pub FindsWord : Result (Bor (List ℕ) × Bor (List ℕ)) TextFault → Result Piece TextFault → Type 0
+FindsWord (Ok found) meant = (meant ≡ Ok (Some (word_kind found.0.now), found.1.now)) × IsWord found.0.now
+FindsWord (Err fault) meant = meant ≡ Err fault
 
 -- a text with a content of this length, or this fault
 abbrev pub Measures : Result (ℕ × Bor (List ℕ)) TextFault → Result (List ℕ × List ℕ) TextFault → Type 0

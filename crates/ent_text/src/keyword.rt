@@ -71,6 +71,9 @@ impl Keyword {
 fn is_written(word: &[u8], capitals: &[u8]) -> bool
     ensures { result ≡ is_written word.now capitals.now }
 {
+    if word.len() != capitals.len() {
+        return false;
+    }
     let mut word = word;
     let mut capitals = capitals;
     while let [byte, bytes @ ..] = word {

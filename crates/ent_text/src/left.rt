@@ -5,7 +5,7 @@ ghost use Rattle.ent_text.specs.Left.{kind_of_first, start_of_first, end_of_firs
 ghost use Rattle.ent_text.specs.Lexing.{tokens_of};
 
 use crate::fault::TextFault;
-use crate::piece::piece_at;
+use crate::piece::{behind_piece, piece_at};
 use crate::view::TokenView;
 use std::marker::Model;
 
@@ -38,8 +38,8 @@ fn first_fault(bytes: &[u8]) -> Option<TextFault>
     let mut rest = bytes;
     let mut place = 0;
     while rest.len() > 0 {
-        match piece_at(place, rest) {
-            Ok((_, behind)) => {
+        match behind_piece(place, rest) {
+            Ok(behind) => {
                 place += rest.len() - behind.len();
                 rest = behind;
             }

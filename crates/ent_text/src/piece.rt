@@ -1,10 +1,10 @@
 //! A piece of a text: a token, or a gap of white space or a comment.
 ghost use Rattle.std.specs.Prelude.{◌≡◌, ◌<◌, ◌≤◌, ◌+◌, ◌^◌, false, length, IfOk, IfSome, IfNone, slice_index};
 ghost use Rattle.std.specs.List.{prefix_len};
-ghost use Rattle.std.specs.Char.{is_ascii_digit};
+ghost use Rattle.std.specs.Char.{is_ascii_alphabetic, is_ascii_digit};
 ghost use Rattle.ent_text.specs.Spelling.{is_blank};
 ghost use Rattle.ent_text.specs.Lexing.{number_at, value_from, text_at, symbol_at, piece_at};
-ghost use Rattle.ent_text.specs.View.{Sees};
+ghost use Rattle.ent_text.specs.View.{Sees, IsBehind};
 
 use crate::bytes::{byte_at, tail};
 use crate::comment::{begins_comment, behind_line};
@@ -14,7 +14,7 @@ use crate::numeral::Numeral;
 use crate::quoted::quoted_len;
 use crate::symbol::symbol_of;
 use crate::view::TokenView;
-use crate::word::word_at;
+use crate::word::{word_and_rest, word_at};
 use ent_value::LONGEST_TEXT;
 
 fn is_blank(byte: u8) -> bool
@@ -103,26 +103,53 @@ pub(crate) fn piece_at(
     ensures value { Sees result (piece_at place bytes.now) }
     ensures shorter { IfOk result (λ x. length x.1.now < length bytes.now) }
 {
-    if is_blank(bytes[0]) {
+    let first = bytes[0];
+    if is_blank(first) {
         Ok((None, tail(bytes, 1)))
+    } else if first.is_ascii_alphabetic() {
+        word_at(place, bytes)
     } else {
         other_piece(place, bytes)
     }
 }
 
-/// The piece at the front where that is no blank.
+/// The bytes behind the piece at the front, or its fault. No reserved word is looked up, and nothing is seen.
+#[inline(always)]
+#[tactic(auto, unfolding(crate::specs::Lexing::piece_at))]
+pub(crate) fn behind_piece(place: usize, bytes: &[u8]) -> Result<&[u8], TextFault>
+    requires room { place + length bytes.now < 2 ^ 64 }
+    requires nonempty { 0 < length bytes.now }
+    ensures value { IsBehind result (piece_at place bytes.now) }
+    ensures shorter { IfOk result (λ rest. length rest.now < length bytes.now) }
+{
+    let first = bytes[0];
+    if is_blank(first) {
+        Ok(tail(bytes, 1))
+    } else if first.is_ascii_alphabetic() {
+        match word_and_rest(place, bytes) {
+            Ok((_, rest)) => Ok(rest),
+            Err(fault) => Err(fault),
+        }
+    } else {
+        match other_piece(place, bytes) {
+            Ok((_, rest)) => Ok(rest),
+            Err(fault) => Err(fault),
+        }
+    }
+}
+
+/// The piece at the front where that is no blank and no word.
 #[inline(never)]
 #[tactic(auto, unfolding(crate::specs::Lexing::piece_at))]
 fn other_piece(place: usize, bytes: &[u8]) -> Result<(Option<TokenView<'_>>, &[u8]), TextFault>
     requires room { place + length bytes.now < 2 ^ 64 }
     requires nonempty { 0 < length bytes.now }
-    requires other { is_blank (slice_index bytes.now 0) ≡ false }
+    requires visible { is_blank (slice_index bytes.now 0) ≡ false }
+    requires wordless { is_ascii_alphabetic (slice_index bytes.now 0) ≡ false }
     ensures { Sees result (piece_at place bytes.now) }
 {
     let first = bytes[0];
-    if first.is_ascii_alphabetic() {
-        word_at(place, bytes)
-    } else if first.is_ascii_digit() {
+    if first.is_ascii_digit() {
         number_at(place, bytes)
     } else if first == b'\'' {
         text_at(place, bytes)

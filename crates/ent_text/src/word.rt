@@ -4,7 +4,7 @@ ghost use Rattle.std.specs.List.{prefix_len};
 ghost use Rattle.std.specs.Char.{is_ascii_alphabetic};
 ghost use Rattle.ent_value.specs.Name.{is_word_byte, IsWord};
 ghost use Rattle.ent_text.specs.Lexing.{word_at, word_kind};
-ghost use Rattle.ent_text.specs.View.{kind_seen, CanBeMade, Sees};
+ghost use Rattle.ent_text.specs.View.{kind_seen, CanBeMade, Sees, FindsWord};
 
 use crate::fault::TextFault;
 use crate::keyword::keyword_of;
@@ -30,8 +30,20 @@ fn view_of(word: &[u8]) -> TokenView<'_>
     }
 }
 
-/// The word that these bytes begin, the first being a letter, and the bytes behind it.
+/// The bytes of the word at the front, the first being a letter, and the bytes behind it.
 #[tactic(auto, unfolding(crate::specs::Lexing::word_at))]
+pub(crate) fn word_and_rest(place: usize, bytes: &[u8]) -> Result<(&[u8], &[u8]), TextFault>
+    requires { is_ascii_alphabetic (slice_index bytes.now 0) ≡ true }
+    ensures { FindsWord result (word_at place bytes.now) }
+{
+    let (word, rest) = bytes.split_at(word_len(bytes));
+    if word.len() > LONGEST_NAME {
+        return Err(TextFault::TextTooLong(place));
+    }
+    Ok((word, rest))
+}
+
+/// The word that these bytes begin, the first being a letter, and the bytes behind it.
 pub(crate) fn word_at(
     place: usize,
     bytes: &[u8],
@@ -39,9 +51,6 @@ pub(crate) fn word_at(
     requires { is_ascii_alphabetic (slice_index bytes.now 0) ≡ true }
     ensures { Sees result (word_at place bytes.now) }
 {
-    let (word, rest) = bytes.split_at(word_len(bytes));
-    if word.len() > LONGEST_NAME {
-        return Err(TextFault::TextTooLong(place));
-    }
+    let (word, rest) = word_and_rest(place, bytes)?;
     Ok((Some(view_of(word)), rest))
 }

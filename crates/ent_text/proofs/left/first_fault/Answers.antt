@@ -12,7 +12,7 @@ loop-rest-init c = record {
 pub loop-rest-preserved : goal.loop-rest-preserved
 loop-rest-preserved c = record {
   place = omega (arith, c.in-Ok.ensures.shorter);
-  left = some_behind c.loop-rest.place c.loop-rest.rest.now c.in-Ok.behind.now _ (tokens_of c.args.bytes.now) c.loop-rest-test.true c.in-Ok.ensures.value.0 c.loop-rest.invariant.left;
+  left = some_behind c.loop-rest.place c.loop-rest.rest.now c.in-Ok.behind.now c.in-Ok.ensures.value.0 (tokens_of c.args.bytes.now) c.loop-rest-test.true c.in-Ok.ensures.value.1 c.loop-rest.invariant.left;
 }
 
 pub returns-in-Err : goal.returns-in-Err
