@@ -15,4 +15,5 @@ pub mod OneReading
 pub mod Moved
 pub mod ReadOn
 pub mod Measured
+pub mod Verbatim
 pub mod Initials

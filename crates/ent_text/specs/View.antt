@@ -1,5 +1,6 @@
 -- A token seen where it stands in its text.
-use Rattle.std.specs.Prelude.{◌≡◌, ◌≤◌, ℕ, List, [], length, Option, Some, None, Result, Ok, Err, ⊤}
+use Rattle.std.specs.Prelude.{◌≡◌, ◌≤◌, ◌==◌, ◌||◌, not, ℕ, Bool, List, [], length, Option, Some, None, Result, Ok, Err, ⊤}
+use Rattle.std.specs.Char.{is_ascii_control}
 use Rattle.std.specs.Borrow.{Bor}
 use Rattle.ent_value.specs.Name.{IsWord}
 use Rattle.ent_value.specs.declared.text.TheConstants.{LONGEST_TEXT}
@@ -18,6 +19,10 @@ content_of (Err fault) = []
 -- what stands in the quotes that open just before these bytes
 abbrev pub content : List ℕ → List ℕ
 content behind = content_of (quoted_at 0 0 behind)
+
+-- the byte stands in quotes as it is: no quote, and no control character
+abbrev pub is_verbatim : ℕ → Bool
+is_verbatim b = not ((b == 39) || is_ascii_control b)
 
 -- a text without fault begins just before these bytes
 abbrev pub IsContent : List ℕ → Type 0

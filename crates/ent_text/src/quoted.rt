@@ -1,13 +1,29 @@
 //! What stands in quotes.
 ghost use Rattle.std.specs.Prelude.{◌≡◌, ◌<◌, ◌≤◌, ◌+◌, ◌^◌, length, IfOk};
+ghost use Rattle.std.specs.List.{prefix_len};
 ghost use Rattle.ent_value.specs.Refusal.{Gives};
 ghost use Rattle.ent_text.specs.Lexing.{quoted_at};
-ghost use Rattle.ent_text.specs.View.{content, IsContent, Measures};
+ghost use Rattle.ent_text.specs.View.{content, is_verbatim, IsContent, Measures};
 
 use crate::bytes::{byte_at, tail};
 use crate::fault::TextFault;
 use ent_value::{Refusal, Text};
 use std::alloc::{AllocError, Global};
+
+/// Whether a byte stands in quotes as it is: no quote, and no control character.
+fn is_verbatim(byte: u8) -> bool
+    ensures { result ≡ is_verbatim byte }
+{
+    byte != b'\'' && !byte.is_ascii_control()
+}
+
+/// How many bytes in front stand in quotes as they are.
+fn verbatim_len(bytes: &[u8]) -> usize
+    ensures value { result ≡ prefix_len is_verbatim bytes.now }
+    ensures bound { result ≤ length bytes.now }
+{
+    bytes.iter().take_while(|byte| is_verbatim(**byte)).count()
+}
 
 /// How long the content is of a text whose opening quote stands at `quote`, just before these bytes, and the bytes
 /// behind its closing quote.
@@ -23,25 +39,24 @@ pub(crate) fn quoted_len(
     let mut count = 0;
     let mut rest = bytes;
     let mut at = place;
-    while rest.len() > 0 {
-        let byte = rest[0];
-        if byte == b'\'' {
-            if byte_at(rest, 1) != b'\'' {
-                return Ok((count, tail(rest, 1)));
-            }
-            rest = tail(rest, 2);
-            at += 2;
-            count += 1;
-        } else {
-            if byte.is_ascii_control() {
-                return Err(TextFault::BadChar(at));
-            }
-            rest = tail(rest, 1);
-            at += 1;
-            count += 1;
+    loop {
+        let len = verbatim_len(rest);
+        rest = tail(rest, len);
+        at += len;
+        count += len;
+        if rest.is_empty() {
+            return Err(TextFault::OpenText(quote));
         }
+        if rest[0] != b'\'' {
+            return Err(TextFault::BadChar(at));
+        }
+        if byte_at(rest, 1) != b'\'' {
+            return Ok((count, tail(rest, 1)));
+        }
+        rest = tail(rest, 2);
+        at += 2;
+        count += 1;
     }
-    Err(TextFault::OpenText(quote))
 }
 
 /// How long the content is of a text whose opening quote stands just before these bytes; 0 where it isn't closed.
@@ -52,11 +67,16 @@ fn content_len(behind: &[u8]) -> usize {
     }
 }
 
-/// The text whose opening quote stands just before these bytes.
+/// The text whose opening quote stands just before these bytes. Where no quote in it is doubled, its bytes are copied at
+/// once.
 pub fn text_of(alloc: Global, behind: &[u8]) -> Result<Text, AllocError>
     requires { IsContent behind.now }
     ensures { IfOk result (λ text. text ≡ content behind.now) }
 {
+    let (run, end) = behind.split_at(verbatim_len(behind));
+    if byte_at(end, 1) != b'\'' {
+        return Text::from_bytes(alloc, run);
+    }
     match quoted_at(alloc, content_len(behind), 0, 0, behind) {
         Ok((text, _)) => Ok(Text::from_vec(text)),
         Err(Refusal::Memory) => Err(AllocError),

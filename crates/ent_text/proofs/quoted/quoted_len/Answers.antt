@@ -1,7 +1,9 @@
-use Rattle.std.proofs.Common.{◌≡◌, ◌∙◌, ◌++◌, ◌∷◌, [], sym, refl, arith, get_or}
+use Rattle.std.proofs.Common.{◌≡◌, ◌∙◌, ◌++◌, ◌∷◌, ◌<◌, ◌+◌, get_or, [], List, ℕ, Ok, ap, sym, refl, arith, length, take, length-take}
+use Rattle.std.proofs.lemmas.Bool.Decides.{nat_tests}
 use Rattle.std.proofs.lemmas.List.{length-append}
-use Rattle.ent_text.proofs.Reading.{left_length, on_other, on_doubled}
-use Rattle.ent_text.proofs.Measured.{begins, two_there}
+use Rattle.ent_text.proofs.Reading.{Body, left_length, on_doubled}
+use Rattle.ent_text.proofs.Measured.{begins, closes, controls, opens, two_there}
+use Rattle.ent_text.proofs.Verbatim.{control_there, run_stops, over_run}
 use Rattle.ent_text.proofs.quoted.quoted_len.Goals as goal
 
 pub loop-rest-init : goal.loop-rest-init
@@ -11,34 +13,46 @@ loop-rest-init c = record {
   whole = ([], refl, begins c.args.quote c.args.place c.args.bytes.now);
 }
 
-pub loop-rest-preserved-then-byte-eq39 : goal.loop-rest-preserved-then-byte-eq39
-loop-rest-preserved-then-byte-eq39 c =
-    let also : get_or c.loop-rest.rest.now 1 0 ≡ 39 = sym c.byte_at.ensures ∙ c.if-byte_at-ne39.false in
-    let two = two_there c.loop-rest.rest.now also in
-    let left = left_length 2 c.loop-rest.rest.now c.tail-rest.result.now (omega arith) c.tail-rest.ensures in
-    let front = c.loop-rest.invariant.whole.0 in
-    record {
-      place = omega arith;
-      few = omega arith;
-      whole = (
-        front ++ 39 ∷ [],
-        omega (arith, length-append front (39 ∷ []), c.loop-rest.invariant.whole.1),
-        on_doubled c.args.quote c.loop-rest.at front (front ++ 39 ∷ []) c.loop-rest.rest.now c.tail-rest.result.now _ (omega arith) c.if-byte-eq39.true also refl c.tail-rest.ensures c.loop-rest.invariant.whole.2,
-      );
-    }
+pub returns-then-is_empty : goal.returns-then-is_empty
+returns-then-is_empty c =
+    opens c.args.quote _ _ c.tail-rest.result.now _ (grind (arith, nat_tests))
+    (over_run c.args.quote c.loop-rest.at c.verbatim_len-len.result c.loop-rest.invariant.whole.0 c.loop-rest.rest.now c.tail-rest.result.now _ c.verbatim_len-len.ensures.value c.tail-rest.ensures c.loop-rest.invariant.whole.2)
+
+pub returns-then-rest-ne39 : goal.returns-then-rest-ne39
+returns-then-rest-ne39 c =
+    let some : 0 < length c.tail-rest.result.now = grind (arith, nat_tests) in
+    controls c.args.quote _ _ c.tail-rest.result.now _ some c.if-rest-ne39.true
+    (control_there _ (run_stops c.verbatim_len-len.result c.loop-rest.rest.now c.tail-rest.result.now c.verbatim_len-len.ensures.value c.tail-rest.ensures some) c.if-rest-ne39.true)
+    (over_run c.args.quote c.loop-rest.at c.verbatim_len-len.result c.loop-rest.invariant.whole.0 c.loop-rest.rest.now c.tail-rest.result.now _ c.verbatim_len-len.ensures.value c.tail-rest.ensures c.loop-rest.invariant.whole.2)
+
+pub returns-then-byte_at-ne39 : goal.returns-then-byte_at-ne39
+returns-then-byte_at-ne39 c =
+    let len = c.verbatim_len-len.result in
+    let front = c.loop-rest.invariant.whole.0 ++ take len c.loop-rest.rest.now in
+    let some : 0 < length c.tail-rest.result.now = grind (arith, nat_tests) in (
+      front,
+      closes c.args.quote _ front c.tail-rest.result.now _ some c.if-rest-ne39.false (λ e. c.if-byte_at-ne39.true (c.byte_at.ensures ∙ e))
+          (over_run c.args.quote c.loop-rest.at len c.loop-rest.invariant.whole.0 c.loop-rest.rest.now c.tail-rest.result.now _ c.verbatim_len-len.ensures.value c.tail-rest.ensures c.loop-rest.invariant.whole.2)
+          ∙ ap (λ (xs : List ℕ). let r : Body = Ok (front, xs) in r) (sym c.tail.ensures),
+      omega (arith, length-append c.loop-rest.invariant.whole.0 (take len c.loop-rest.rest.now), length-take len c.loop-rest.rest.now, c.loop-rest.invariant.whole.1, c.verbatim_len-len.ensures.bound),
+    )
 
 pub loop-rest-preserved : goal.loop-rest-preserved
 loop-rest-preserved c =
-    let left = left_length 1 c.loop-rest.rest.now c.tail-rest-else-byte-eq39.result.now (omega arith) c.tail-rest-else-byte-eq39.ensures in
-    let front = c.loop-rest.invariant.whole.0 in
-    let b = get_or c.loop-rest.rest.now 0 0 in
+    let len = c.verbatim_len-len.result in
+    let run = take len c.loop-rest.rest.now in
+    let before = c.loop-rest.invariant.whole.0 in
+    let also : get_or c.tail-rest.result.now 1 0 ≡ 39 = sym c.byte_at.ensures ∙ c.if-byte_at-ne39.false in
+    let two = two_there c.tail-rest.result.now also in
+    let over = left_length len c.loop-rest.rest.now c.tail-rest.result.now c.verbatim_len-len.ensures.bound c.tail-rest.ensures in
+    let left = left_length 2 c.tail-rest.result.now c.tail-rest-in-loop-rest.result.now (omega arith) c.tail-rest-in-loop-rest.ensures in
     record {
       place = omega arith;
       few = omega arith;
       whole = (
-        front ++ b ∷ [],
-        omega (arith, length-append front (b ∷ []), c.loop-rest.invariant.whole.1),
-        on_other c.args.quote c.loop-rest.at b front (front ++ b ∷ []) c.loop-rest.rest.now c.tail-rest-else-byte-eq39.result.now _ (omega arith) refl c.if-byte-eq39.false (sym c.is_ascii_control.ensures.value ∙ c.if-is_ascii_control.false)
-            refl c.tail-rest-else-byte-eq39.ensures c.loop-rest.invariant.whole.2,
+        (before ++ run) ++ 39 ∷ [],
+        omega (arith, length-append (before ++ run) (39 ∷ []), length-append before run, length-take len c.loop-rest.rest.now, c.loop-rest.invariant.whole.1, c.verbatim_len-len.ensures.bound),
+        on_doubled c.args.quote (c.loop-rest.at + len) (before ++ run) ((before ++ run) ++ 39 ∷ []) c.tail-rest.result.now c.tail-rest-in-loop-rest.result.now _ two c.if-rest-ne39.false also refl c.tail-rest-in-loop-rest.ensures
+            (over_run c.args.quote c.loop-rest.at len before c.loop-rest.rest.now c.tail-rest.result.now _ c.verbatim_len-len.ensures.value c.tail-rest.ensures c.loop-rest.invariant.whole.2),
       );
     }
