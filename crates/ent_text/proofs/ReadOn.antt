@@ -1,5 +1,5 @@
 -- Reading on in what is left of a text.
-use Rattle.std.proofs.Common.{◌≡◌, ℕ, zero, suc, ◌+◌, ◌-◌, ◌<◌, ◌≤◌, List, [], ◌∷◌, ◌++◌, length, drop, append_assoc, Result, Ok, Err, refl, ap, sym, subst, ◌∙◌, arith, Option, Some, None}
+use Rattle.std.proofs.Common.{◌≡◌, true, ℕ, zero, suc, ◌+◌, ◌-◌, ◌<◌, ◌≤◌, List, [], ◌∷◌, ◌++◌, length, drop, append_assoc, Result, Ok, Err, refl, ap, sym, subst, ◌∙◌, arith, Option, Some, None}
 use Rattle.std.proofs.lemmas.List.{append-nil}
 use Rattle.ent_value.specs.declared.refusal.Refusal.TheVariants as errors
 use Rattle.ent_text.specs.declared.fault.TextFault.{TextFault}
@@ -10,7 +10,10 @@ use Rattle.ent_text.specs.Lexing.{tokens_from, tokens_of, piece_at, Piece, with_
 use Rattle.ent_text.specs.Left.{tokens_or_none, tokens_left, IsFaultless, kind_of_first, start_of_first, end_of_first, tokens_seen, IsAtEnd}
 use Rattle.ent_text.specs.View.{kind_seen, kind_if_seen, CanBeMade, CanBeMadeIfSeen}
 use Rattle.ent_text.specs.declared.view.TokenView.{TokenView}
-use Rattle.ent_text.proofs.Shorter.{piece_shorter}
+use Rattle.std.specs.Prelude.{slice_index}
+use Rattle.ent_text.specs.Spelling.{is_blank}
+use Rattle.ent_text.proofs.Reading.{left_length}
+use Rattle.ent_text.proofs.Shorter.{piece_shorter, piece_of_blank}
 use Rattle.ent_text.proofs.Rest.{with_tokens, LeftToRead, left_at_first, nothing_left, fault_here, left_behind}
 
 abbrev Tokens : Type 0
@@ -81,6 +84,20 @@ some_fault f place rest total lt e (found, left) = fault_here (errors.Fault f) f
 pub over_gap : (place : ℕ) (rest behind : List ℕ) (total : Tokens) → 0 < length rest → piece_at place rest ≡ Ok (None, behind) → LeftToRead [] place rest total
     → LeftToRead [] (place + (length rest - length behind)) behind total
 over_gap place rest behind total lt e left = left_behind [] place rest total (None, behind) lt e left
+
+one_on : (place : ℕ) (rest behind : List ℕ) → 0 < length rest → behind ≡ drop 1 rest → place + (length rest - length behind) ≡ place + 1
+one_on place rest behind lt is = omega (arith, left_length 1 rest behind (omega arith) is)
+
+-- a blank is read over
+pub over_blank : (place : ℕ) (rest behind : List ℕ) (total : Tokens) → 0 < length rest → is_blank (slice_index rest 0) ≡ true → behind ≡ drop 1 rest → LeftToRead [] place rest total
+    → LeftToRead [] (place + 1) behind total
+over_blank place rest behind total lt blank is left =
+    subst (λ (k : ℕ). LeftToRead [] k behind total) (one_on place rest behind lt is) (over_gap place rest behind total lt (piece_of_blank place rest behind blank is) left)
+
+pub some_behind_blank : (place : ℕ) (rest behind : List ℕ) (total : Tokens) → 0 < length rest → is_blank (slice_index rest 0) ≡ true → behind ≡ drop 1 rest → SomeLeft place rest total
+    → SomeLeft (place + 1) behind total
+some_behind_blank place rest behind total lt blank is left =
+    subst (λ (k : ℕ). SomeLeft k behind total) (one_on place rest behind lt is) (some_behind place rest behind None total lt (piece_of_blank place rest behind blank is) left)
 
 -- a token and those behind it are all
 pub token_on : (place : ℕ) (rest behind : List ℕ) (kind : TokenKind) (all : List Token) → 0 < length rest → piece_at place rest ≡ Ok (Some kind, behind) → LeftToRead [] place rest (Ok all)

@@ -144,6 +144,11 @@ pub piece_shorter : (place : ℕ) (bytes : List ℕ) (x : Piece) → 0 < length 
 piece_shorter place [] x lt e = absurd (omega arith)
 piece_shorter place (b ∷ bytes) x lt e = leaves_ok _ (piece_at place (b ∷ bytes)) x (piece_leaves place b bytes) e
 
+-- where a blank stands first, the piece is this gap
+pub piece_of_blank : (place : ℕ) (bytes behind : List ℕ) → is_blank (slice_index bytes 0) ≡ true → behind ≡ drop 1 bytes → piece_at place bytes ≡ Ok (None, behind)
+unfolding piece_at
+piece_of_blank place bytes behind blank is = rw (blank, is) refl
+
 -- where a letter stands first, the piece is the word
 pub piece_of_word : (place : ℕ) (bytes : List ℕ) → is_blank (slice_index bytes 0) ≡ false → is_ascii_alphabetic (slice_index bytes 0) ≡ true → piece_at place bytes ≡ word_at place bytes
 unfolding piece_at

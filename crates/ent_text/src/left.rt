@@ -4,8 +4,9 @@ ghost use Rattle.ent_text.specs.Left.{IsFaultless, tokens_left};
 ghost use Rattle.ent_text.specs.Left.{kind_of_first, start_of_first, end_of_first};
 ghost use Rattle.ent_text.specs.Lexing.{tokens_of};
 
+use crate::bytes::tail;
 use crate::fault::TextFault;
-use crate::piece::{behind_piece, piece_at};
+use crate::piece::{behind_piece, is_blank, piece_at};
 use crate::view::TokenView;
 use std::marker::Model;
 
@@ -31,13 +32,18 @@ impl<'a> Model for Tokens<'a> {
     ghost invariant = { λ t. IsReadOn t.front t.end t.behind.now };
 }
 
-/// The first fault of a text, if it has one.
+/// The first fault of a text, if it has one. A blank is passed over at once: of a text's pieces many are blanks.
 fn first_fault(bytes: &[u8]) -> Option<TextFault>
     ensures { MatchOption result (IsFaultless 0 bytes.now) (λ fault. tokens_of bytes.now ≡ Err fault) }
 {
     let mut rest = bytes;
     let mut place = 0;
     while rest.len() > 0 {
+        if is_blank(rest[0]) {
+            rest = tail(rest, 1);
+            place += 1;
+            continue;
+        }
         match behind_piece(place, rest) {
             Ok(behind) => {
                 place += rest.len() - behind.len();
@@ -49,7 +55,7 @@ fn first_fault(bytes: &[u8]) -> Option<TextFault>
     None
 }
 
-/// The tokens of the bytes from a place on.
+/// The tokens of the bytes from a place on. A blank is passed over at once here too.
 fn tokens_from(place: usize, bytes: &[u8]) -> Tokens<'_>
     requires room { place + length bytes.now < 2 ^ 64 }
     requires faultless { IsFaultless place bytes.now }
@@ -58,23 +64,25 @@ fn tokens_from(place: usize, bytes: &[u8]) -> Tokens<'_>
     let mut rest = bytes;
     let mut start = place;
     while rest.len() > 0 {
+        if is_blank(rest[0]) {
+            rest = tail(rest, 1);
+            start += 1;
+            continue;
+        }
         match piece_at(start, rest) {
             Ok((front, behind)) => {
                 let end = start + (rest.len() - behind.len());
-                match front {
-                    Some(view) => {
-                        return Tokens {
-                            front: Some(view),
-                            start,
-                            end,
-                            behind,
-                        };
-                    }
-                    None => {
-                        rest = behind;
-                        start = end;
-                    }
-                }
+                let Some(view) = front else {
+                    rest = behind;
+                    start = end;
+                    continue;
+                };
+                return Tokens {
+                    front: Some(view),
+                    start,
+                    end,
+                    behind,
+                };
             }
             Err(_) => unreachable!(),
         }

@@ -17,7 +17,7 @@ use crate::view::TokenView;
 use crate::word::{word_and_rest, word_at};
 use ent_value::LONGEST_TEXT;
 
-fn is_blank(byte: u8) -> bool
+pub(crate) fn is_blank(byte: u8) -> bool
     ensures { result ≡ is_blank byte }
 {
     byte == b' ' || byte == b'\t' || byte == b'\r' || byte == b'\n'
@@ -91,7 +91,7 @@ fn symbol_at(place: usize, bytes: &[u8]) -> Result<(Option<TokenView<'_>>, &[u8]
     ))
 }
 
-/// The piece at the front, and the bytes behind it. A blank is passed over at once: of a text's pieces many are blanks.
+/// The piece at the front, which is no blank, and the bytes behind it.
 #[inline(always)]
 #[tactic(auto, unfolding(crate::specs::Lexing::piece_at))]
 pub(crate) fn piece_at(
@@ -100,32 +100,28 @@ pub(crate) fn piece_at(
 ) -> Result<(Option<TokenView<'_>>, &[u8]), TextFault>
     requires room { place + length bytes.now < 2 ^ 64 }
     requires nonempty { 0 < length bytes.now }
+    requires visible { is_blank (slice_index bytes.now 0) ≡ false }
     ensures value { Sees result (piece_at place bytes.now) }
     ensures shorter { IfOk result (λ x. length x.1.now < length bytes.now) }
 {
-    let first = bytes[0];
-    if is_blank(first) {
-        Ok((None, tail(bytes, 1)))
-    } else if first.is_ascii_alphabetic() {
+    if bytes[0].is_ascii_alphabetic() {
         word_at(place, bytes)
     } else {
         other_piece(place, bytes)
     }
 }
 
-/// The bytes behind the piece at the front, or its fault. No reserved word is looked up, and nothing is seen.
+/// The bytes behind the piece at the front, which is no blank. No reserved word is looked up.
 #[inline(always)]
 #[tactic(auto, unfolding(crate::specs::Lexing::piece_at))]
 pub(crate) fn behind_piece(place: usize, bytes: &[u8]) -> Result<&[u8], TextFault>
     requires room { place + length bytes.now < 2 ^ 64 }
     requires nonempty { 0 < length bytes.now }
+    requires visible { is_blank (slice_index bytes.now 0) ≡ false }
     ensures value { IsBehind result (piece_at place bytes.now) }
     ensures shorter { IfOk result (λ rest. length rest.now < length bytes.now) }
 {
-    let first = bytes[0];
-    if is_blank(first) {
-        Ok(tail(bytes, 1))
-    } else if first.is_ascii_alphabetic() {
+    if bytes[0].is_ascii_alphabetic() {
         match word_and_rest(place, bytes) {
             Ok((_, rest)) => Ok(rest),
             Err(fault) => Err(fault),

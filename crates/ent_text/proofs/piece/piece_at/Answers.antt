@@ -14,7 +14,7 @@ leaves_less place bytes (Err e) lt given = tt
 pub returns-then-is_ascii_alphabetic-clause-shorter : goal.returns-then-is_ascii_alphabetic-clause-shorter
 returns-then-is_ascii_alphabetic-clause-shorter c =
     leaves_less c.args.place c.args.bytes.now c.word_at.result c.requires.nonempty
-    (subst (Sees c.word_at.result) (sym (piece_of_word c.args.place c.args.bytes.now (sym c.is_blank.ensures ∙ c.if-is_blank.false) (sym c.is_ascii_alphabetic.ensures.value ∙ c.if-is_ascii_alphabetic.true))) c.word_at.ensures)
+    (subst (Sees c.word_at.result) (sym (piece_of_word c.args.place c.args.bytes.now c.requires.visible (sym c.is_ascii_alphabetic.ensures.value ∙ c.if-is_ascii_alphabetic.true))) c.word_at.ensures)
 
 pub returns-else-is_ascii_alphabetic-clause-shorter : goal.returns-else-is_ascii_alphabetic-clause-shorter
 returns-else-is_ascii_alphabetic-clause-shorter c = leaves_less c.args.place c.args.bytes.now c.other_piece.result c.requires.nonempty c.other_piece.ensures
