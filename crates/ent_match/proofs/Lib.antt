@@ -7,3 +7,5 @@ pub mod Joins
 pub mod Firsts
 pub mod Listing
 pub mod Alike
+pub mod Parts
+pub mod Marked

@@ -15,7 +15,7 @@ same_or_not a b =
       | inr not_less ↦ elim (cases_lt b a) [ inl more ↦ inr (λ e. omega arith) | inr not_more ↦ inl (omega arith) ]
     ]
 
-unmarked-set : (marks : List Bool) (i : ℕ) → i < length marks → get_or marks i false ≡ false
+pub unmarked-set : (marks : List Bool) (i : ℕ) → i < length marks → get_or marks i false ≡ false
     → unmarked (set marks i true) < unmarked marks
 unmarked-set [] i below is = absurd (omega arith)
 unmarked-set (true ∷ marks) zero below is = absurd (true≢false is)

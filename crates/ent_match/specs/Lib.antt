@@ -4,3 +4,4 @@ pub mod Links
 pub mod Remainder
 pub mod Components
 pub mod Same
+pub mod Parts

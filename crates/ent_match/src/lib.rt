@@ -11,10 +11,11 @@ mod law;
 mod link;
 mod meets;
 mod member;
+mod part;
 mod pool;
 mod remainder;
 
 pub use fault::{PostFault, Unsafe};
-pub use law::same_statements_are_alike;
+pub use law::{parts_are_apart, same_statements_are_alike};
 pub use member::Member;
 pub use pool::Pool;

@@ -1,13 +1,15 @@
 //! The pool.
-ghost use Rattle.std.specs.Prelude.{◌≡◌, ◌≢◌, [], AllPairs, IfOk, OnOk, OnErr, IfErr, filter};
+ghost use Rattle.std.specs.Prelude.{◌≡◌, ◌≢◌, [], ◌<◌, AllPairs, IfOk, OnOk, OnErr, IfErr, filter, length};
 ghost use Rattle.ent_coordination.specs.Pool.{IsSafe};
 ghost use Rattle.ent_match.specs.Components.{AreComponents, AscendByFirst, lists_in};
 ghost use Rattle.ent_match.specs.Fault.{IsByNumber};
+ghost use Rattle.ent_match.specs.Parts.{AreSplit};
 ghost use Rattle.ent_match.specs.Posting.{HasNone, IsPostedTo, IsWhyWith, IsPlaceFor, is_of_other};
 
 use crate::components::components_of;
 use crate::fault::{PostFault, fault_of};
 use crate::member::Member;
+use crate::part::{part_marks, split_by};
 use ent_group::Tx;
 use std::alloc::{AllocError, Global};
 use std::marker::Model;
@@ -79,6 +81,18 @@ impl Pool {
     {
         let members = self.members();
         components_of(alloc, members)
+    }
+
+    /// The part of the pool around a place, and the rest: no statement of one has a head for a post of the other.
+    /// Statements are shared, so that none is copied.
+    pub fn split(&self, alloc: Global, place: usize) -> Result<(Pool, Pool), AllocError>
+        requires { place < length self.now }
+        ensures { IfOk result (λ two. AreSplit self.now place two.0 two.1) }
+    {
+        let members = self.members();
+        let marks = part_marks(alloc, members, place)?;
+        let (part, rest) = split_by(alloc, members, marks.as_slice())?;
+        Ok((Pool::of_safe(part), Pool::of_safe(rest)))
     }
 
     /// Takes the statement of a transaction out, where there is one. It takes no memory.
