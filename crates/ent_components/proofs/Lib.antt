@@ -4,4 +4,6 @@ pub mod Named
 pub mod Exact
 pub mod Pooled
 pub mod Opened
+pub mod Around
+pub mod Picked
 pub mod Used

@@ -1,6 +1,7 @@
 -- The components of posted statements, in the words of the states in which these are posted.
-use Rattle.std.specs.Prelude.{◌≡◌, ◌≤◌, ◌↔◌, ℕ, Bool, List, [], ◌∷◌, ◌++◌, map, Contains, Option, Some, None}
+use Rattle.std.specs.Prelude.{◌≡◌, ◌≤◌, ◌↔◌, ℕ, Bool, List, [], ◌∷◌, ◌++◌, map, All, Contains, Option, Some, None}
 use Rattle.std.specs.List.{filter}
+use Rattle.ent_coordination.specs.Component.{IsComponent}
 use Rattle.ent_coordination.specs.Pool.{Posted}
 use Rattle.ent_plan.specs.Plan.{is_named}
 use Rattle.ent_protocol.specs.Job.{Asking, Job, posted_of}
@@ -23,6 +24,11 @@ is_of txs asking = is_named txs (posted_of asking)
 -- the statements of some transactions
 abbrev pub asked_by : List Asking → List ℕ → List Asking
 asked_by posted txs = filter (is_of txs) posted
+
+-- statements that are exactly a component of those that are posted
+pub record IsComponentAmong (posted asked : List Asking) : Type 0 where
+  pub present : All (Contains posted) asked
+  pub component : IsComponent (pool_of posted) (pool_of asked)
 
 -- exactly the components of each state in which these statements are posted
 abbrev pub ArePresent : List Asking → List (List Asking) → Type 0

@@ -8,6 +8,7 @@
 mod component;
 mod fault;
 mod open;
+mod part;
 mod picking;
 mod pool;
 mod present;

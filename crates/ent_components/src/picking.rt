@@ -1,21 +1,53 @@
 //! Which component is picked.
-ghost use Rattle.std.specs.Prelude.{◌≡◌, IfOk, MatchOption};
+ghost use Rattle.std.specs.Prelude.{◌≡◌, ◌<◌, IfOk, MatchBool, MatchOption, length};
 ghost use Rattle.ent_coordination.specs.Pool.{IsSafe};
 ghost use Rattle.ent_match.specs.Fault.{IsByNumber};
 ghost use Rattle.ent_protocol.specs.Member.{askings};
 ghost use Rattle.ent_protocol.specs.Quiet.{IsLeast, IsUntried, NoneIs};
 ghost use Rattle.ent_protocol.specs.State.{State};
 ghost use Rattle.ent_components.specs.Component.{IsPick, pool_of};
+ghost use Rattle.ent_components.specs.Part.{AreBehind, IsEarlier};
 
-use crate::component::component_txs;
 use crate::open::{first_open, first_tx};
+use crate::part::take_part;
+use crate::pool::pool_of;
 use ent_eval::{Asking, Job};
 use ent_group::Tx;
+use ent_match::Pool;
 use ent_value::Sequence;
 use std::alloc::{AllocError, Global};
 
+/// Whether a component of what is left of a pool may go before the first so far.
+fn may_go_before(rest: &Pool, first: &Option<Sequence<Asking>>) -> bool
+    ensures { MatchBool result (0 < length rest.now) (AreBehind rest.now first.now) }
+{
+    let Some(next) = rest.members().first() else {
+        return false;
+    };
+    match first {
+        Some(asked) => next.tx() < first_tx(asked.as_slice()),
+        None => true,
+    }
+}
+
+/// Of two components that may be there the one with the lesser first member.
+fn earlier(
+    one: Option<Sequence<Asking>>,
+    other: Option<Sequence<Asking>>,
+) -> Option<Sequence<Asking>>
+    ensures { IsEarlier one other result }
+{
+    let Some(one) = one else {
+        return other;
+    };
+    match other {
+        Some(other) if first_tx(other.as_slice()) < first_tx(one.as_slice()) => Some(other),
+        _ => Some(one),
+    }
+}
+
 /// The component that is picked: of those that weren't tried, and no joint job of which is lent, the one with the least
-/// first member; none where there is none.
+/// first member; none where there is none. The pool is gone through part by part, and no further than need be.
 pub fn pick(
     alloc: Global,
     posted: &[Asking],
@@ -26,9 +58,15 @@ pub fn pick(
     requires safe { IsSafe (pool_of posted.now) }
     ensures { IfOk result (λ picked. IsPick posted.now tried.now lent.now picked) }
 {
-    let lists = component_txs(alloc, posted)?;
-    let picked = first_open(alloc, posted, lists, tried, lent)?;
-    Ok(picked)
+    let mut rest = pool_of(alloc, posted)?;
+    let mut first = None;
+    'parts: while may_go_before(&rest, &first) {
+        let (lists, others) = take_part(alloc, &rest, 0)?;
+        let found = first_open(alloc, posted, lists, tried, lent)?;
+        first = earlier(first, found);
+        rest = others;
+    }
+    Ok(first)
 }
 
 /// The least first transaction of a component that wasn't tried, where there is one.
@@ -44,8 +82,7 @@ pub fn first_untried(
         → s.tried ≡ tried.now
         → MatchOption first (NoneIs (IsUntried s)) (IsLeast (IsUntried s))) }
 {
-    let lists = component_txs(alloc, posted)?;
-    let first = first_open(alloc, posted, lists, tried, &[])?;
+    let first = pick(alloc, posted, tried, &[])?;
     match first {
         Some(asked) => Ok(Some(first_tx(asked.as_slice()))),
         None => Ok(None),

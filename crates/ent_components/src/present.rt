@@ -8,8 +8,10 @@ ghost use Rattle.ent_protocol.specs.PoolEvents.{IsPresentComponent};
 ghost use Rattle.ent_protocol.specs.State.{State};
 ghost use Rattle.ent_components.specs.Component.{asked_by, pool_of};
 
-use crate::component::{asked_by, component_txs};
+use crate::component::asked_by;
 use crate::open::{are_same, first_tx, first_tx_of};
+use crate::part::{place_of, take_part};
+use crate::pool::pool_of;
 use ent_eval::Asking;
 use ent_group::Tx;
 use std::alloc::{AllocError, Global};
@@ -52,7 +54,7 @@ fn are_those_of_any(
 }
 
 /// Whether some statements are posted just so, of these attempts and at these places, and exactly a component of those
-/// that are posted.
+/// that are posted. Only the part of the pool around the first of them is gone through.
 pub fn is_present(alloc: Global, posted: &[Asking], asked: &[Asking]) -> Result<bool, AllocError>
     requires by_number { IsByNumber (pool_of posted.now) }
     requires safe { IsSafe (pool_of posted.now) }
@@ -60,7 +62,14 @@ pub fn is_present(alloc: Global, posted: &[Asking], asked: &[Asking]) -> Result<
         → askings s ≡ posted.now
         → IsTrue is ↔ IsPresentComponent s asked.now) }
 {
-    let lists = component_txs(alloc, posted)?;
+    let Some(first) = asked.first() else {
+        return Ok(false);
+    };
+    let pool = pool_of(alloc, posted)?;
+    let Some(place) = place_of(pool.members(), first.tx()) else {
+        return Ok(false);
+    };
+    let (lists, _) = take_part(alloc, &pool, place)?;
     let is = are_those_of_any(alloc, posted, lists.as_slice(), asked)?;
     Ok(is)
 }
