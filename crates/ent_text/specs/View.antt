@@ -1,5 +1,6 @@
 -- A token seen where it stands in its text.
-use Rattle.std.specs.Prelude.{◌≡◌, ◌≤◌, ◌==◌, ◌||◌, not, ℕ, Bool, List, [], length, Option, Some, None, Result, Ok, Err, ⊤}
+use Rattle.std.specs.Prelude.{◌≡◌, ◌≤◌, ◌==◌, ◌||◌, not, ℕ, Bool, List, [], length, Option, Some, None, Result}
+use Rattle.std.specs.Prelude.{Ok, Err, ⊤}
 use Rattle.std.specs.Char.{is_ascii_control}
 use Rattle.std.specs.Borrow.{Bor}
 use Rattle.ent_value.specs.Name.{IsWord}

@@ -67,8 +67,8 @@ fn content_len(behind: &[u8]) -> usize {
     }
 }
 
-/// The text whose opening quote stands just before these bytes. Where no quote in it is doubled, its bytes are copied at
-/// once.
+/// The text whose opening quote stands just before these bytes. Where no quote in it is doubled, its bytes are copied
+/// at once.
 pub fn text_of(alloc: Global, behind: &[u8]) -> Result<Text, AllocError>
     requires { IsContent behind.now }
     ensures { IfOk result (λ text. text ≡ content behind.now) }
