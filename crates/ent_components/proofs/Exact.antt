@@ -12,7 +12,7 @@ use Rattle.ent_protocol.specs.Job.{Asking}
 use Rattle.ent_protocol.specs.Member.{askings}
 use Rattle.ent_protocol.specs.PoolEvents.{IsPresentComponent}
 use Rattle.ent_protocol.specs.State.{State}
-use Rattle.ent_components.specs.Component.{ArePresent, IsComponentAmong, asked_by, is_of, pool_of}
+use Rattle.ent_components.specs.Component.{IsComponentAmong, asked_by, is_of, pool_of}
 use Rattle.ent_components.specs.Part.{AreComponentsOf}
 use Rattle.ent_components.proofs.Listed.{contains_map, mapped_from}
 use Rattle.ent_components.proofs.Named.{asked_named, named_same}
@@ -146,21 +146,6 @@ module _ (classes : AreClasses) (are_named : AreNamed) (posted : List Asking) (a
               subst (Contains (map (asked_by posted) lists)) made.2
               (contains_map (asked_by posted) lists made.0 made.1);
         }
-
-  -- of all that is posted
-  pub are_present : (lists : List (List ℕ)) → AreComponents (pool_of posted) lists
-      → ArePresent posted (map (asked_by posted) lists)
-  are_present lists found s asked is = (
-    λ there. present_in s posted asked is (all.exact asked there),
-    λ h.
-        let among = among_in s posted asked is h in
-        let first = has_first posted asked among in
-        all.covers asked among.component.first among first among.component.in_remainder.is_in.0,
-  )
-    where
-      all : AreComponentsOf posted (pool_of posted) (map (asked_by posted) lists)
-      all = are_components (pool_of posted) lists
-          (record { exact = found.exact; covers = λ member here remains. found.covers member remains })
 
   -- of a part
   pub components_of_part : Remain → AreOfPool → (part : List Posted) (lists : List (List ℕ))

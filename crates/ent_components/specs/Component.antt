@@ -1,12 +1,12 @@
 -- The components of posted statements, in the words of the states in which these are posted.
-use Rattle.std.specs.Prelude.{◌≡◌, ◌≤◌, ◌↔◌, ℕ, Bool, List, [], ◌∷◌, ◌++◌, map, All, Contains, Option, Some, None}
+use Rattle.std.specs.Prelude.{◌≡◌, ◌≤◌, ℕ, Bool, List, [], ◌∷◌, ◌++◌, map, All, Contains, Option, Some, None}
 use Rattle.std.specs.List.{filter}
 use Rattle.ent_coordination.specs.Component.{IsComponent}
 use Rattle.ent_coordination.specs.Pool.{Posted}
 use Rattle.ent_plan.specs.Plan.{is_named}
 use Rattle.ent_protocol.specs.Job.{Asking, Job, posted_of}
 use Rattle.ent_protocol.specs.Member.{askings}
-use Rattle.ent_protocol.specs.PoolEvents.{IsPresentComponent, CanBePicked, first_tx}
+use Rattle.ent_protocol.specs.PoolEvents.{CanBePicked, first_tx}
 use Rattle.ent_protocol.specs.State.{State}
 
 -- the pool that posted statements make
@@ -29,11 +29,6 @@ asked_by posted txs = filter (is_of txs) posted
 pub record IsComponentAmong (posted asked : List Asking) : Type 0 where
   pub present : All (Contains posted) asked
   pub component : IsComponent (pool_of posted) (pool_of asked)
-
--- exactly the components of each state in which these statements are posted
-abbrev pub ArePresent : List Asking → List (List Asking) → Type 0
-ArePresent posted lists =
-    (s : State) (asked : List Asking) → askings s ≡ posted → Contains lists asked ↔ IsPresentComponent s asked
 
 -- a component that may be picked, with the least first member
 pub record IsFirstToPick (s : State) (asked : List Asking) : Type 0 where

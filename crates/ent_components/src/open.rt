@@ -6,7 +6,7 @@ ghost use Rattle.ent_protocol.specs.PoolEvents.{first_tx};
 ghost use Rattle.ent_components.specs.Component.{asked_by};
 ghost use Rattle.ent_components.specs.Open.{IsBefore, IsFirstOpen, IsOpen, IsOutAmong, NoneIsOpen};
 
-use crate::component::{asked_by, is_of};
+use crate::asked::{asked_by, is_of};
 use ent_eval::{Asking, Job, Work};
 use ent_group::Tx;
 use ent_tree::Same;

@@ -8,7 +8,7 @@ ghost use Rattle.ent_protocol.specs.PoolEvents.{IsPresentComponent};
 ghost use Rattle.ent_protocol.specs.State.{State};
 ghost use Rattle.ent_components.specs.Component.{asked_by, pool_of};
 
-use crate::component::asked_by;
+use crate::asked::asked_by;
 use crate::open::{are_same, first_tx, first_tx_of};
 use crate::part::{place_of, take_part};
 use crate::pool::pool_of;
