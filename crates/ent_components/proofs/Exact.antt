@@ -89,7 +89,8 @@ record AreTransactionsOf (pool part : List Posted) (lists : List (List ℕ)) : T
   covers : (member : Posted) → Contains part member → IsInRemainder pool member
       → (txs : List ℕ) × Contains lists txs × Contains txs member.tx
 
-module _ (classes : AreClasses) (are_named : AreNamed) (posted : List Asking) (ascends : IsByNumber (pool_of posted)) where
+module _ (classes : AreClasses) (are_named : AreNamed) (posted : List Asking)
+    (ascends : IsByNumber (pool_of posted)) where
   module _ (part : List Posted) (lists : List (List ℕ)) (found : AreTransactionsOf (pool_of posted) part lists) where
     is_component : (txs : List ℕ) → Contains lists txs → IsComponent (pool_of posted) (pool_of (asked_by posted txs))
     is_component txs there =

@@ -2,13 +2,16 @@
 use Rattle.std.proofs.Common.{◌≡◌, ◌≢◌, ◌⊎◌, ◌∙◌, ℕ, zero, suc, ◌+◌, ◌<◌, ◌≤◌, Bool, true, false, not, List, [], ◌∷◌}
 use Rattle.std.proofs.Common.{◌++◌, take, length, get_or, map, set, refl, sym, ap, subst, arith, inl, inr, true≢false}
 use Rattle.std.proofs.lemmas.Bool.{cases_Bool, cases_lt}
-use Rattle.std.proofs.lemmas.List.{get_or-set_same, get_or-set_other, length-set}
+use Rattle.std.proofs.lemmas.List.{get_or_default, get_or-set_same, get_or-set_other, length-set}
+use Rattle.ent_coordination.specs.Component.{AreJoined}
 use Rattle.ent_coordination.specs.Pool.{IsSafe, Posted}
 use Rattle.ent_match.specs.Components.{marked_in}
 use Rattle.ent_match.specs.Links.{IsMarked}
-use Rattle.ent_match.specs.Parts.{AreMarkedFrom, AreSplit, IsMarkedPart, IsPart, JoinedAreMarked}
+use Rattle.ent_match.specs.Parts.{AreLeast, AreMarkedFrom, AreSplit, IsMarkedPart, IsPart}
+use Rattle.ent_match.specs.Parts.{JoinedAreMarked}
 use Rattle.ent_match.specs.Remainder.{At}
 use Rattle.ent_match.proofs.Joins.{at_marked, class_more, marked_at}
+use Rattle.ent_match.proofs.Offered.{one_place}
 use Rattle.ent_match.proofs.Parts.{joined_back, safe_part}
 
 pub marked_below : (marks : List Bool) (place : ℕ) → IsMarked marks place → place < length marks
@@ -111,6 +114,8 @@ module _ (pool : List Posted) (place : ℕ) (marks : List Bool) (is : IsMarkedPa
         part_is = marked_part;
         rest_is = left_part;
         here = λ member at. at_marked marks pool member place at is.here;
+        least = λ other part has member inside.
+            let r = marked_at marks pool member inside in is.least other part has r.0 r.2 member r.1;
         covers = λ member inside.
             let at : At pool inside.0 member = (inside.1, inside.2) in
             elim (cases_Bool (get_or marks inside.0 false)) [
@@ -131,10 +136,11 @@ pub record AreGoneFrom (pool : List Posted) (place : ℕ) (marks done : List Boo
   pub room_done : length done ≡ length pool
   pub here : IsMarked marks place
   pub joined : (first : ℕ) → IsMarked done first → JoinedAreMarked pool first marks
+  pub least : AreLeast pool place marks
 
-pub gone_from : (pool : List Posted) (place next : ℕ) (marks done new : List Bool) → AreGoneFrom pool place marks done
-    → AreMarkedFrom pool next marks new → AreGoneFrom pool place new (set done next true)
-gone_from pool place next marks done new so_far round =
+pub gone_from : (pool : List Posted) (place next : ℕ) (marks done new : List Bool) → IsMarked marks next
+    → AreGoneFrom pool place marks done → AreMarkedFrom pool next marks new → AreGoneFrom pool place new (set done next true)
+gone_from pool place next marks done new from so_far round =
     record {
       room = round.room ∙ so_far.room;
       room_done = length-set done next true ∙ so_far.room_done;
@@ -144,6 +150,17 @@ gone_from pool place next marks done new so_far round =
         | inr before ↦ λ last one other at there joined.
             round.kept last (so_far.joined first before last one other at there joined)
       ];
+      least = λ part is has last marked other at.
+          let one = get_or pool next other in
+          let room = so_far.room in
+          let inside = marked_below marks next from in
+          let below : next < length pool = omega arith in
+          let stands : At pool next one = (below, get_or_default pool next one other below) in
+          elim (round.sound last one other marked stands at) [
+            | inl before ↦ so_far.least part is has last before other at
+            | inr joined ↦
+                is.joined one other (so_far.least part is has next from one stands) (last, at.0, at.1) joined
+          ];
     }
 
 -- ---- statements that are put apart
@@ -156,3 +173,34 @@ put_more marks pool i o member old new room below is marked own so_far pushed =
     pushed ∙ (ap (λ (xs : List Posted). xs ++ member ∷ []) so_far
     ∙ (ap (λ (m : Posted). marked_in (take i marks) (take i pool) ++ m ∷ []) own
     ∙ sym (class_more marks pool i o room below is marked)))
+
+-- ---- one statement after the other
+
+abbrev pub JoinedUpTo : List Posted → Posted → ℕ → List Bool → Type 0
+JoinedUpTo pool one n marks =
+    (last : ℕ) (other : Posted) → last < n → At pool last other → AreJoined one other → IsMarked marks last
+
+pub joined_more : (pool : List Posted) (one : Posted) (cur new : List Bool) (i : ℕ)
+    → ((k : ℕ) → IsMarked cur k → IsMarked new k) → JoinedUpTo pool one i cur
+    → ((other : Posted) → At pool i other → AreJoined one other → IsMarked new i) → JoinedUpTo pool one (i + 1) new
+joined_more pool one cur new i kept so_far here last other below at joined =
+    elim (cases_lt last i) [
+      | inl before ↦ kept last (so_far last other before at joined)
+      | inr not_before ↦
+          let same : i ≡ last = omega arith in
+          subst (IsMarked new) same (here other (subst (λ k. At pool k other) (sym same) at) joined)
+    ]
+
+abbrev pub IsSoundUpTo : List Posted → Posted → List Bool → List Bool → Type 0
+IsSoundUpTo pool one old new =
+    (last : ℕ) (other : Posted) → IsMarked new last → At pool last other → IsMarked old last ⊎ AreJoined one other
+
+pub sound_more : (pool : List Posted) (one : Posted) (old cur : List Bool) (i : ℕ) (o : Posted) → i < length pool
+    → o ≡ get_or pool i o → AreJoined one o → IsSoundUpTo pool one old cur → IsSoundUpTo pool one old (set cur i true)
+sound_more pool one old cur i o below is joined so_far last other marked at =
+    elim (marked_before cur i last marked) [
+      | inl same ↦
+          let own = one_place pool i o other (below, sym is) (subst (λ k. At pool k other) (sym same) at) in
+          inr (subst (AreJoined one) own joined)
+      | inr before ↦ so_far last other before at
+    ]

@@ -11,11 +11,17 @@ pub record IsPart (pool part : List Posted) : Type 0 where
   pub joined : (one other : Posted) → Contains part one → Contains pool other → AreJoined one other
       → Contains part other
 
--- a part with the statement at a place, and the rest of the pool, which is a part as well
+-- the statement at a place is in a list
+abbrev pub HasAt : List Posted → ℕ → List Posted → Type 0
+HasAt pool place part = (member : Posted) → At pool place member → Contains part member
+
+-- the least part with the statement at a place, and the rest of the pool, which is a part as well
 pub record AreSplit (pool : List Posted) (place : ℕ) (part rest : List Posted) : Type 0 where
   pub part_is : IsPart pool part
   pub rest_is : IsPart pool rest
-  pub here : (member : Posted) → At pool place member → Contains part member
+  pub here : HasAt pool place part
+  pub least : (other : List Posted) → IsPart pool other → HasAt pool place other → (member : Posted)
+      → Contains part member → Contains other member
   pub covers : (member : Posted) → Contains pool member → Contains part member ⊎ Contains rest member
   pub fewer : length rest < length pool
 
@@ -31,14 +37,23 @@ JoinedAreMarked pool place marks =
     (last : ℕ) (one other : Posted) → At pool place one → At pool last other → AreJoined one other
     → IsMarked marks last
 
--- the statements that are joined to the one at a place are marked, and those that were
+-- exactly the statements that are joined to the one at a place are marked, and those that were
 pub record AreMarkedFrom (pool : List Posted) (place : ℕ) (old new : List Bool) : Type 0 where
   pub room : length new ≡ length old
   pub kept : (last : ℕ) → IsMarked old last → IsMarked new last
   pub joined : JoinedAreMarked pool place new
+  pub sound : (last : ℕ) (one other : Posted) → IsMarked new last → At pool place one → At pool last other
+      → IsMarked old last ⊎ AreJoined one other
 
--- a place is marked, and with each marked one those of all statements that are joined to it
+-- the marked statements are in each part with the statement at a place
+abbrev pub AreLeast : List Posted → ℕ → List Bool → Type 0
+AreLeast pool place marks =
+    (part : List Posted) → IsPart pool part → HasAt pool place part → (last : ℕ) → IsMarked marks last
+    → HasAt pool last part
+
+-- a place is marked, and with each marked one those of all statements that are joined to it, and no others
 pub record IsMarkedPart (pool : List Posted) (place : ℕ) (marks : List Bool) : Type 0 where
   pub room : length marks ≡ length pool
   pub here : IsMarked marks place
   pub joined : (first : ℕ) → IsMarked marks first → JoinedAreMarked pool first marks
+  pub least : AreLeast pool place marks

@@ -1,4 +1,4 @@
-use Rattle.std.proofs.Common.{◌≡◌, ℕ, ◌<◌, length}
+use Rattle.std.proofs.Common.{◌≡◌, ◌⊎◌, ℕ, ◌<◌, length}
 use Rattle.ent_coordination.specs.Component.{AreJoined}
 use Rattle.ent_coordination.specs.Pool.{Posted}
 use Rattle.ent_match.specs.Links.{IsMarked}
@@ -12,4 +12,6 @@ invariant-loop-other l = record {
   kept : (last : ℕ) → IsMarked l.fn.marks last → IsMarked l.marks last;
   joined : (last : ℕ) (other : Posted) → last < l.other → At l.members last other → AreJoined l.member other
       → IsMarked l.marks last;
+  sound : (last : ℕ) (other : Posted) → IsMarked l.marks last → At l.members last other
+      → IsMarked l.fn.marks last ⊎ AreJoined l.member other;
 }

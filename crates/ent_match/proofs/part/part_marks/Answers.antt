@@ -24,8 +24,9 @@ rounds-preserved c =
     let done = c.rounds.done.items in
     let new = c.mark_joined.new.marks in
     let next = c.in-Some.next in
+    let marked = subst (λ (xs : List Bool). IsMarked xs next) c.as_slice.ensures.value c.in-Some.ensures.0 in
     let round = subst (λ (old : List Bool). AreMarkedFrom pool next old new) c.as_mut_slice.ensures.value
     c.mark_joined.ensures in
     subst (λ (marks : List Bool). AreGoneFrom pool c.args.place marks (set done next true))
     (sym (with_items_is c.rounds.marks new (c.mark_joined.ensures.room ∙ c.as_mut_slice.ensures.len)))
-    (gone_from pool c.args.place next c.rounds.marks.items done new c.rounds.invariant round)
+    (gone_from pool c.args.place next c.rounds.marks.items done new marked c.rounds.invariant round)
