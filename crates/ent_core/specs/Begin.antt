@@ -1,13 +1,17 @@
 -- What a begin comes to, before anything is changed.
-use Rattle.std.specs.Prelude.{◌≡◌, ◌||◌, ℕ, false, List, [], ◌∷◌, ◌++◌, Some, IsSome}
+use Rattle.std.specs.Prelude.{◌≡◌, ◌||◌, ℕ, false, List, [], ◌∷◌, ◌++◌, None, Some, IsSome}
 use Rattle.ent_form.specs.declared.fault.FormFault.{FormFault}
 use Rattle.ent_members.specs.Changes.{posting}
 use Rattle.ent_protocol.specs.Begin.{Begins, holding, with_member}
+use Rattle.ent_protocol.specs.Event.{Reply}
 use Rattle.ent_protocol.specs.Event as replies
 use Rattle.ent_protocol.specs.Job.{Job}
 use Rattle.ent_protocol.specs.Member.{Commits, Next, RollsBack, active_member, is_lent, next_of}
 use Rattle.ent_protocol.specs.State.{State, Member, Use}
-use Rattle.ent_core.specs.Reply.{reply_seen}
+use Rattle.ent_protocol.specs.Uses.{blocker}
+use Rattle.ent_protocol.specs.Waits.{next_uses}
+use Rattle.ent_core.specs.declared.begin.Hindrance.{Hindrance}
+use Rattle.ent_core.specs.declared.begin.Hindrance.TheVariants as hindrances
 use Rattle.ent_core.specs.declared.begin.Plan.{Plan}
 use Rattle.ent_core.specs.declared.begin.Plan.TheVariants as plans
 
@@ -16,6 +20,17 @@ pub record MayBegin (s : State) (tx : ℕ) (member : Member) (next : Next) : Typ
   pub there : active_member s tx ≡ Some member
   pub free : (member.posted || is_lent s tx) ≡ false
   pub is_next : next_of s member ≡ next
+
+-- the member of a number may begin, and nobody is in the way of what comes next
+pub record IsFree (s : State) (tx : ℕ) (member : Member) : Type 0 where
+  pub may : MayBegin s tx member (next_of s member)
+  pub unblocked : blocker s member (next_uses (next_of s member)) ≡ None
+
+-- what is replied to a member that may not begin
+abbrev pub hindrance_seen : Hindrance → Reply FormFault
+hindrance_seen hindrances.Absent = replies.Absent
+hindrance_seen hindrances.NotNow = replies.NotNow
+hindrance_seen (hindrances.Blocked holder) = replies.Blocked holder
 
 pub record IsToBegin (s : State) (tx : ℕ) (next : Next) : Type 0 where
   pub member : Member
@@ -38,7 +53,7 @@ IsGroupOf s tx group = (member : Member) → active_member s tx ≡ Some member 
 
 -- doing what is planned is the begin
 abbrev pub Follows : State → ℕ → Plan → Type 0
-Follows s tx (plans.Refuses reply) = Begins s tx (reply_seen reply) s
+Follows s tx (plans.HeldBack fault) = Begins {F = FormFault} s tx (replies.HeldBack fault) s
 Follows s tx (plans.Lends job uses) =
     IsSome (active_member s tx)
     × ((new : State) → LendsTo tx uses job s new → Begins {F = FormFault} s tx (replies.Lent job) new)

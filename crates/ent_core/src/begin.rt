@@ -1,7 +1,7 @@
 //! A member begins its next statement.
-ghost use Rattle.std.specs.Prelude.{◌≡◌, Some, None, IfOk, IsOk, OnErr, IsSome};
+ghost use Rattle.std.specs.Prelude.{◌≡◌, Some, None, IfErr, IfOk, IsOk, OnErr, IsSome};
 ghost use Rattle.std.specs.Arc.{arc_value};
-ghost use Rattle.ent_core.specs.Begin.{Follows, LendsTo, MayBegin};
+ghost use Rattle.ent_core.specs.Begin.{Follows, IsFree, LendsTo, MayBegin, hindrance_seen};
 ghost use Rattle.ent_core.specs.Kept.{IsKeptState};
 ghost use Rattle.ent_core.specs.Reply.{reply_seen};
 ghost use Rattle.ent_members.specs.Places.{found};
@@ -21,6 +21,7 @@ use ent_components::post_fault;
 use ent_eval::{Asking, Job, Single};
 use ent_form::FormFault;
 use ent_group::Tx;
+use ent_match::Unsafe;
 use ent_members::{Member, Uses, entangled_uses, statement_uses, uses_are_kept_by_closing};
 use ent_next::{Next, askings, next_form, next_of};
 use ent_ready::{begun_statements_are_work, used_tables_are_declared};
@@ -33,11 +34,34 @@ use ent_value::Value;
 use std::alloc::AllocError;
 use std::sync::Arc;
 
-/// What a begin comes to, before anything is changed.
+/// Why a member may not begin what comes next.
+#[derive(Clone, Copy)]
+enum Hindrance {
+    /// No such member of the run.
+    Absent,
+    /// It is prepared, or its statement is in the pool, or the result of its job is awaited.
+    NotNow,
+    /// The least member that holds a use in conflict with one of those that it asks for.
+    Blocked(Tx),
+}
+
+impl Hindrance {
+    fn reply(self) -> Reply
+        ensures { reply_seen result ≡ hindrance_seen self }
+    {
+        match self {
+            Hindrance::Absent => Reply::Absent,
+            Hindrance::NotNow => Reply::NotNow,
+            Hindrance::Blocked(holder) => Reply::Blocked(holder),
+        }
+    }
+}
+
+/// What a begin that nothing hinders comes to, before anything is changed.
 #[derive(Drop)]
 enum Plan {
-    /// Nothing changes.
-    Refuses(Reply),
+    /// Nothing changes, since a post of the pool would have heads of two statements.
+    HeldBack(Unsafe),
     /// The job is lent, and the member holds these uses too.
     Lends(Job, Uses),
     /// The statement is in the pool, and the member holds these uses too.
@@ -91,7 +115,7 @@ fn plan_entangled(
     let place = member.place() as u64;
     let asking = Asking::new(member.tx(), member.attempt(), place, statement);
     match post_fault(store.alloc, posted.as_slice(), &asking)? {
-        Some(fault) => Ok(Plan::Refuses(Reply::HeldBack(fault))),
+        Some(fault) => Ok(Plan::HeldBack(fault)),
         None => Ok(Plan::Posts(uses)),
     }
 }
@@ -107,47 +131,56 @@ fn blocker_of(store: &Store, member: &Member) -> Option<Tx>
     }
 }
 
-/// What the begin of a member that may begin comes to.
-fn plan_next(store: &Store, member: &Member) -> Result<Plan, AllocError>
+/// The member of a number, where it is at its turn.
+fn member_at_turn(store: &Store, tx: Tx) -> Result<&Member, Hindrance>
+    ensures number { IfOk result (λ member. member.now.tx ≡ tx) }
+    ensures free { IfOk result (λ member. MayBegin store.now tx member.now (next_of store.now member.now)) }
+    ensures hindered { IfErr result (λ hindrance. Begins store.now tx (hindrance_seen hindrance) store.now) }
+{
+    match store.run.active_member(tx) {
+        Some(member) => {
+            if member.is_posted() {
+                return Err(Hindrance::NotNow);
+            }
+            if store.lent.is_out(tx) {
+                return Err(Hindrance::NotNow);
+            }
+            Ok(member)
+        }
+        None => {
+            if store.run.is_prepared(tx) {
+                return Err(Hindrance::NotNow);
+            }
+            Err(Hindrance::Absent)
+        }
+    }
+}
+
+/// The member of a number, where nothing keeps it from what comes next.
+fn free_member(store: &Store, tx: Tx) -> Result<&Member, Hindrance>
+    ensures number { IfOk result (λ member. member.now.tx ≡ tx) }
+    ensures free { IfOk result (λ member. IsFree store.now tx member.now) }
+    ensures hindered { IfErr result (λ hindrance. Begins store.now tx (hindrance_seen hindrance) store.now) }
+{
+    let member = member_at_turn(store, tx)?;
+    match blocker_of(store, member) {
+        Some(holder) => Err(Hindrance::Blocked(holder)),
+        None => Ok(member),
+    }
+}
+
+/// What the begin of a member comes to that nothing hinders.
+fn plan_of(store: &Store, member: &Member) -> Result<Plan, AllocError>
     requires kept { IsKeptState store.now }
-    requires free { MayBegin store.now member.now.tx member.now (next_of store.now member.now) }
+    requires free { IsFree store.now member.now.tx member.now }
     ensures follows { IfOk result (λ plan. Follows store.now member.now.tx plan) }
     ensures rolls_back { next_of store.now member.now ≡ RollsBack → IsOk result }
 {
-    if let Some(holder) = blocker_of(store, member) {
-        return Ok(Plan::Refuses(Reply::Blocked(holder)));
-    }
     match next_of(store.alloc, store.submitted.as_slice(), member)? {
         Next::Ordinary(statement) => plan_ordinary(store, member, statement),
         Next::Asks(statement) => plan_entangled(store, member, statement),
         Next::Commits => Ok(Plan::Commits),
         Next::RollsBack => Ok(Plan::RollsBack(member.group())),
-    }
-}
-
-/// What a begin comes to.
-fn plan_of(store: &Store, tx: Tx) -> Result<Plan, AllocError>
-    requires kept { IsKeptState store.now }
-    ensures follows { IfOk result (λ plan. Follows store.now tx plan) }
-    ensures rolls_back { (member : Member) → active_member store.now tx ≡ Some member
-        → next_of store.now member ≡ RollsBack → IsOk result }
-{
-    match store.run.active_member(tx) {
-        Some(member) => {
-            if member.is_posted() {
-                return Ok(Plan::Refuses(Reply::NotNow));
-            }
-            if store.lent.is_out(tx) {
-                return Ok(Plan::Refuses(Reply::NotNow));
-            }
-            plan_next(store, member)
-        }
-        None => {
-            if store.run.is_prepared(tx) {
-                return Ok(Plan::Refuses(Reply::NotNow));
-            }
-            Ok(Plan::Refuses(Reply::Absent))
-        }
     }
 }
 
@@ -193,7 +226,7 @@ fn carry_out(store: &mut Store, tx: Tx, plan: Plan) -> Result<Reply, AllocError>
     attempts_stay_within::<FormFault>();
     transactions_stand_once::<FormFault>();
     match plan {
-        Plan::Refuses(reply) => Ok(reply),
+        Plan::HeldBack(fault) => Ok(Reply::HeldBack(fault)),
         Plan::Lends(job, uses) => lend(store, tx, job, &uses),
         Plan::Posts(uses) => {
             store.run.post(tx, uses.as_slice())?;
@@ -216,6 +249,9 @@ pub(crate) fn begin(store: &mut Store, tx: Tx) -> Result<Reply, AllocError>
     ensures rolls_back { (member : Member) → active_member store.old tx ≡ Some member
         → next_of store.old member ≡ RollsBack → IsOk result }
 {
-    let plan = plan_of(store, tx)?;
+    let plan = match free_member(store, tx) {
+        Ok(member) => plan_of(store, member)?,
+        Err(hindrance) => return Ok(hindrance.reply()),
+    };
     carry_out(store, tx, plan)
 }

@@ -56,9 +56,15 @@ use std::marker::Model;
 
 /// Scripts that are run at once over an opening. Contracts see the protocol's state; it is always reached: events led
 /// to it from the opening's own state.
-#[derive(Drop)]
 pub struct Core {
     store: Store,
+}
+
+/// Written out, so that the crates above call it, and none makes and compiles it anew.
+impl Drop for Core {
+    fn drop(self) {
+        let Core { store: _store } = self;
+    }
 }
 
 impl Model for Core {
