@@ -14,12 +14,23 @@ use std::sync::Arc;
 
 /// A closed entangled statement at a place of a transaction, in one of its attempts, which is posted. Copies share
 /// the statement.
-#[derive(Drop)]
 pub struct Asking {
     tx: Tx,
     attempt: u64,
     place: u64,
     statement: Arc<Entangled<Value>>,
+}
+
+/// Written out, so that the crates above call it, and none makes and compiles it anew.
+impl Drop for Asking {
+    fn drop(self) {
+        let Asking {
+            tx: _tx,
+            attempt: _attempt,
+            place: _place,
+            statement: _statement,
+        } = self;
+    }
 }
 
 impl Model for Asking {

@@ -14,10 +14,19 @@ use std::marker::Model;
 
 /// Work, and the tables that it uses as they stand. A statement that is to be carried out alone fits its tables; posted
 /// statements are one component of the pool that they make, which is safe.
-#[derive(Drop)]
 pub struct Job {
     work: Work,
     tables: Sequence<Seen>,
+}
+
+/// Written out, so that the crates above call it, and none makes and compiles it anew.
+impl Drop for Job {
+    fn drop(self) {
+        let Job {
+            work: _work,
+            tables: _tables,
+        } = self;
+    }
 }
 
 impl Model for Job {

@@ -14,11 +14,21 @@ use std::marker::Model;
 use std::sync::Arc;
 
 /// A script that was submitted, with its statements resolved.
-#[derive(Drop)]
 pub struct SubmittedScript {
     script: Script,
     form: Limited<Statement<Known>, MOST_STATEMENTS>,
     first_asked: Option<FirstAsked>,
+}
+
+/// Written out, so that the crates above call it, and none makes and compiles it anew.
+impl Drop for SubmittedScript {
+    fn drop(self) {
+        let SubmittedScript {
+            script: _script,
+            form: _form,
+            first_asked: _first_asked,
+        } = self;
+    }
 }
 
 impl Model for SubmittedScript {

@@ -27,10 +27,19 @@ use std::marker::Model;
 ///
 /// A table keeps its rows as keys in an ordered list of pages. Tables that come from one another share the pages that
 /// are the same in both.
-#[derive(Drop)]
 pub struct Table {
     kinds: Vec<Kind>,
     keys: KeySet,
+}
+
+/// Written out, so that the crates above call it, and none makes and compiles it anew.
+impl Drop for Table {
+    fn drop(self) {
+        let Table {
+            kinds: _kinds,
+            keys: _keys,
+        } = self;
+    }
 }
 
 impl Model for Table {

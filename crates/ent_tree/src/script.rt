@@ -27,12 +27,22 @@ pub enum End {
 }
 
 /// `BEGIN TRANSACTION WITHIN within RUNS; statements end;`
-#[derive(Drop)]
 pub struct Script {
     /// In how many runs the transaction may take part, [`crate::DEFAULT_RUNS`] where the text says nothing.
     pub within: Runs,
     pub statements: Limited<Statement, MOST_STATEMENTS>,
     pub end: End,
+}
+
+/// Written out, so that the crates above call it, and none makes and compiles it anew.
+impl Drop for Script {
+    fn drop(self) {
+        let Script {
+            within: _within,
+            statements: _statements,
+            end: _end,
+        } = self;
+    }
 }
 
 #[derive(Drop)]
