@@ -40,6 +40,13 @@ CarriesOut s index single outcome reply new =
     → (left : List Job) × IsTaken job s.lent left
     × FinishesBy (record s { lent = left }) member single.statement outcome reply new
 
+-- where the job of a result stands among those that are lent, which is of one statement; nowhere where the result isn't
+-- outstanding
+abbrev pub StandsAt : State → Done → Option ℕ → Type 0
+StandsAt s done None = IsOutstandingSingle s done → ⊥
+StandsAt s done (Some place) =
+    (slice_get s.lent place ≡ Some done.job) × ((single : Single) × (done.job.work ≡ One single))
+
 -- a result that is outstanding is carried out; where there is no reply, it isn't outstanding
 abbrev pub Accepts : State → Done → Option Given → State → Type 0
 Accepts s done None new = (IsOutstandingSingle s done → ⊥) × (new ≡ s)

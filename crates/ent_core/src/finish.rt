@@ -1,8 +1,8 @@
 //! A result of one statement comes in.
-ghost use Rattle.std.specs.Prelude.{◌≡◌, ◌<◌, IfErr, IfOk, IfSome, IsNone, IsOk, IsSome, OnErr, Some};
+ghost use Rattle.std.specs.Prelude.{◌≡◌, ◌<◌, ◌∷◌, [], IfErr, IfOk, IfSome, IsNone, IsOk, IsSome, OnErr, Some};
 ghost use Rattle.std.specs.Prelude.{length, slice_get};
 ghost use Rattle.ent_core.specs.Advance.{Advances, MayAdvance};
-ghost use Rattle.ent_core.specs.Finish.{Accepts, CarriesOut, MayCarryOut};
+ghost use Rattle.ent_core.specs.Finish.{Accepts, CarriesOut, MayCarryOut, StandsAt};
 ghost use Rattle.ent_core.specs.Kept.{IsKeptState};
 ghost use Rattle.ent_core.specs.Reply.{reply_seen};
 ghost use Rattle.ent_eval.specs.Work.{alone_seen};
@@ -43,6 +43,20 @@ pub(crate) fn outstanding(lent: &LentJobs, job: &Job) -> Option<usize>
 {
     match job.work() {
         Work::One(_) => lent.find(job),
+        Work::Joint(_) => None,
+    }
+}
+
+/// The same where just this job is lent: no tables are compared.
+fn outstanding_alone(lent: &LentJobs, job: &Job) -> Option<usize>
+    requires { lent.now ≡ job.now ∷ [] }
+    ensures some { IfSome result (λ index. slice_get lent.now index ≡ Some job.now) }
+    ensures single { IfSome result (λ index. (single : jobs.Single) × (job.now.work ≡ jobs.One single)) }
+    ensures none { IsNone result → (s : State) (done : jobs.Done) → s.lent ≡ lent.now → done.job ≡ job.now
+        → IsOutstandingSingle s done → ⊥ }
+{
+    match job.work() {
+        Work::One(_) => Some(0),
         Work::Joint(_) => None,
     }
 }
@@ -135,9 +149,10 @@ fn carry_out(
     }
 }
 
-/// Carries out a result that is outstanding. Another one changes nothing, and gets no reply here.
-fn accept(store: &mut Store, done: &Done) -> Result<Option<Reply>, AllocError>
+/// Carries out a result whose job stands at a place. One that is nowhere changes nothing, and gets no reply here.
+fn accept(store: &mut Store, place: Option<usize>, done: &Done) -> Result<Option<Reply>, AllocError>
     requires kept { IsKeptState store.old }
+    requires stands { StandsAt store.old done.now place }
     ensures ok { IfOk result (λ reply. Accepts store.old done.now reply store.new) }
     ensures err { OnErr result (store.new ≡ store.old) }
     ensures failure { (failure : Failure) → done.now.outcome ≡ jobs.Fault failure → IsOk result }
@@ -146,7 +161,7 @@ fn accept(store: &mut Store, done: &Done) -> Result<Option<Reply>, AllocError>
     resolved_jobs_are_present();
     lent_tables_are_declared::<FormFault>();
     used_tables_are_declared();
-    let Some(index) = outstanding(&store.lent, done.job()) else {
+    let Some(index) = place else {
         return Ok(None);
     };
     let Work::One(single) = done.job().work() else {
@@ -159,6 +174,25 @@ fn accept(store: &mut Store, done: &Done) -> Result<Option<Reply>, AllocError>
     Ok(Some(reply))
 }
 
+/// A result comes in whose job stands at a place, or nowhere: then it is stale, and comes back.
+fn take(store: &mut Store, place: Option<usize>, done: Done) -> Result<Reply, AllocFailed<Done>>
+    requires kept { IsKeptState store.old }
+    requires stands { StandsAt store.old done place }
+    ensures ok { IfOk result (λ reply. Finishes store.old done (reply_seen reply) store.new) }
+    ensures err { OnErr result (store.new ≡ store.old) }
+    ensures returned { IfErr result (λ refused. refused.value ≡ done) }
+    ensures failure { (failure : Failure) → done.outcome ≡ jobs.Fault failure → IsOk result }
+{
+    match accept(store, place, &done) {
+        Ok(Some(reply)) => {
+            drop(done);
+            Ok(reply)
+        }
+        Ok(None) => Ok(Reply::Stale(done)),
+        Err(AllocError) => Err(AllocFailed { value: done }),
+    }
+}
+
 /// A result of one statement comes in. Where its job isn't lent any more it is stale, and comes back. Else the job is
 /// lent no more, and its member has the answer; or the statement failed, and the member's group is rolled back, which
 /// takes no memory. Where memory runs out nothing changes, and the result comes back too.
@@ -169,12 +203,19 @@ pub(crate) fn finish(store: &mut Store, done: Done) -> Result<Reply, AllocFailed
     ensures returned { IfErr result (λ refused. refused.value ≡ done) }
     ensures failure { (failure : Failure) → done.outcome ≡ jobs.Fault failure → IsOk result }
 {
-    match accept(store, &done) {
-        Ok(Some(reply)) => {
-            drop(done);
-            Ok(reply)
-        }
-        Ok(None) => Ok(Reply::Stale(done)),
-        Err(AllocError) => Err(AllocFailed { value: done }),
-    }
+    let place = outstanding(&store.lent, done.job());
+    take(store, place, done)
+}
+
+/// The same where just this job is lent: no tables are compared.
+pub(crate) fn finish_at_once(store: &mut Store, done: Done) -> Result<Reply, AllocFailed<Done>>
+    requires kept { IsKeptState store.old }
+    requires alone { store.old.lent ≡ done.job ∷ [] }
+    ensures ok { IfOk result (λ reply. Finishes store.old done (reply_seen reply) store.new) }
+    ensures err { OnErr result (store.new ≡ store.old) }
+    ensures returned { IfErr result (λ refused. refused.value ≡ done) }
+    ensures failure { (failure : Failure) → done.outcome ≡ jobs.Fault failure → IsOk result }
+{
+    let place = outstanding_alone(&store.lent, done.job());
+    take(store, place, done)
 }

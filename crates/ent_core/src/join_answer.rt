@@ -1,11 +1,13 @@
 //! A result of a joint job comes in.
-ghost use Rattle.std.specs.Prelude.{◌≡◌, ◌<◌, ◌↔◌, IfErr, IfOk, IfSome, IsTrue, OnErr, length, map, nat_eq};
+ghost use Rattle.std.specs.Prelude.{◌≡◌, ◌<◌, ◌↔◌, ◌∷◌, [], List, Some, IfErr, IfOk, IfSome, IsTrue, OnErr, length};
+ghost use Rattle.std.specs.Prelude.{map, nat_eq, slice_get};
 ghost use Rattle.std.specs.List.{IsDistinct};
 ghost use Rattle.std.specs.Option.{option_map};
 ghost use Rattle.ent_core.specs.Joining.{Accepts, AnswersAt};
 ghost use Rattle.ent_core.specs.Kept.{IsKeptState};
 ghost use Rattle.ent_core.specs.Reply.{reply_seen};
-ghost use Rattle.ent_protocol.specs.PoolEvents.{IsPresentComponent, JoinsOrIsStale};
+ghost use Rattle.ent_protocol.specs.Job as jobs;
+ghost use Rattle.ent_protocol.specs.PoolEvents.{IsOutstandingJoint, IsPresentComponent, JoinsOrIsStale};
 
 use crate::joining::join;
 use crate::reply::Reply;
@@ -61,6 +63,26 @@ fn carry_out(
     }
 }
 
+/// Carries out a result whose job stands at an index, and whose statements, if it is a joint one, are a component.
+/// Another one changes nothing, and gets no reply here.
+fn settle(store: &mut Store, index: usize, done: &Done) -> Result<Option<Reply>, AllocError>
+    requires lent { slice_get store.old.lent index ≡ Some done.now.job }
+    requires component { (asked : List jobs.Asking)
+        → done.now.job.work ≡ jobs.Joint asked
+        → IsPresentComponent store.old asked }
+    ensures ok { IfOk result (λ reply. Accepts store.old done.now (option_map reply_seen reply) store.new) }
+    ensures err { OnErr result (store.new ≡ store.old) }
+{
+    let Work::Joint(asked) = done.job().work() else {
+        return Ok(None);
+    };
+    let JobOutcome::Choice(choice) = done.outcome() else {
+        return Ok(None);
+    };
+    let reply = carry_out(store, index, asked, choice)?;
+    Ok(Some(reply))
+}
+
 /// Carries out a result that is outstanding. Another one changes nothing, and gets no reply here.
 fn accept(store: &mut Store, done: &Done) -> Result<Option<Reply>, AllocError>
     requires kept { IsKeptState store.old }
@@ -73,12 +95,8 @@ fn accept(store: &mut Store, done: &Done) -> Result<Option<Reply>, AllocError>
     let Work::Joint(asked) = done.job().work() else {
         return Ok(None);
     };
-    let JobOutcome::Choice(choice) = done.outcome() else {
-        return Ok(None);
-    };
     if is_component(store, asked.as_slice())? {
-        let reply = carry_out(store, index, asked, choice)?;
-        Ok(Some(reply))
+        settle(store, index, done)
     } else {
         Ok(None)
     }
@@ -94,6 +112,25 @@ pub(crate) fn join_answer(store: &mut Store, done: Done) -> Result<Reply, AllocF
     ensures returned { IfErr result (λ refused. refused.value ≡ done) }
 {
     match accept(store, &done) {
+        Ok(Some(reply)) => {
+            drop(done);
+            Ok(reply)
+        }
+        Ok(None) => Ok(Reply::Stale(done)),
+        Err(AllocError) => Err(AllocFailed { value: done }),
+    }
+}
+
+/// The same where just this job is lent, and its result is outstanding: no tables are compared, and no component is
+/// sought.
+pub(crate) fn join_answer_at_once(store: &mut Store, done: Done) -> Result<Reply, AllocFailed<Done>>
+    requires alone { store.old.lent ≡ done.job ∷ [] }
+    requires outstanding { IsOutstandingJoint store.old done }
+    ensures ok { IfOk result (λ reply. JoinsOrIsStale store.old done (reply_seen reply) store.new) }
+    ensures err { OnErr result (store.new ≡ store.old) }
+    ensures returned { IfErr result (λ refused. refused.value ≡ done) }
+{
+    match settle(store, 0, &done) {
         Ok(Some(reply)) => {
             drop(done);
             Ok(reply)

@@ -1,5 +1,5 @@
 //! The core whose type keeps that its state is reached.
-ghost use Rattle.std.specs.Prelude.{IfErr, IfOk, IsOk, None, OnErr, OnOk, Some, ◌≡◌};
+ghost use Rattle.std.specs.Prelude.{IfErr, IfOk, IsOk, None, OnErr, OnOk, Some, ◌≡◌, ◌∷◌, []};
 ghost use Rattle.std.specs.List.{AllByRecursion};
 ghost use Rattle.std.specs.Option.{option_copied, option_map};
 ghost use Rattle.ent_book.specs.Tables.{book_seen};
@@ -12,6 +12,7 @@ ghost use Rattle.ent_protocol.specs.Event.{Recall, StartRun, Submit};
 ghost use Rattle.ent_protocol.specs.Member.{RollsBack, active_member, next_of};
 ghost use Rattle.ent_protocol.specs.State.{Member};
 ghost use Rattle.ent_protocol.specs.Job as jobs;
+ghost use Rattle.ent_protocol.specs.PoolEvents.{IsOutstandingJoint};
 ghost use Rattle.ent_semantics.specs.declared.answer.Failure.{Failure};
 ghost use Rattle.ent_protocol.specs.Lookup.{answers_of, dormant_at, entry_at, group_of, present_rows};
 ghost use Rattle.ent_protocol.specs.Lookup.{running_members, standing};
@@ -28,8 +29,8 @@ use crate::begin::begin;
 use crate::break_cycle::break_cycle;
 use crate::closing::{NotClosed, NotDone, book, book_parts, can_close};
 use crate::end_run::end_run;
-use crate::finish::finish;
-use crate::join_answer::join_answer;
+use crate::finish::{finish, finish_at_once};
+use crate::join_answer::{join_answer, join_answer_at_once};
 use crate::lookup;
 use crate::open::open;
 use crate::pick::pick;
@@ -148,6 +149,21 @@ impl Core {
         finish(&mut self.store, done)
     }
 
+    /// What [`Core::finish`] does, for a caller who knows that just this job is lent, as whoever hands a result in
+    /// before anything else happens does. Tables aren't compared, so it takes no longer where they are large.
+    pub fn finish_at_once(&mut self, done: Done) -> Result<Reply, AllocFailed<Done>>
+        requires { self.old.lent ≡ done.job ∷ [] }
+        ensures ok { IfOk result (λ reply. Step resolved_forms self.old (Finish done) (reply_seen reply) self.new) }
+        ensures err { OnErr result (self.new ≡ self.old) }
+        ensures returned { IfErr result (λ refused. refused.value ≡ done) }
+        ensures failure { (failure : Failure) → done.outcome ≡ jobs.Fault failure → IsOk result }
+        ensures legal { IsLegal (book_of self.new) }
+    {
+        resolved_runs_are_legal();
+        steps_go_on::<FormFault>();
+        finish_at_once(&mut self.store, done)
+    }
+
     /// Lends the job of a component of the posted statements: of those that weren't tried, and no job of which is out,
     /// that with the least first member. Where there is none, nothing is lent.
     pub fn pick(&mut self) -> Result<Reply, AllocError>
@@ -173,6 +189,23 @@ impl Core {
         resolved_runs_are_legal();
         steps_go_on::<FormFault>();
         join_answer(&mut self.store, done)
+    }
+
+    /// What [`Core::join_answer`] does, for a caller who knows that just this job is lent, and that its result is
+    /// outstanding, as whoever hands it in before anything else happens does. Tables aren't compared, and the component
+    /// isn't sought again.
+    pub fn join_answer_at_once(&mut self, done: Done) -> Result<Reply, AllocFailed<Done>>
+        requires alone { self.old.lent ≡ done.job ∷ [] }
+        requires outstanding { IsOutstandingJoint self.old done }
+        ensures ok { IfOk result (λ reply.
+            Step resolved_forms self.old (JoinAnswer done) (reply_seen reply) self.new) }
+        ensures err { OnErr result (self.new ≡ self.old) }
+        ensures returned { IfErr result (λ refused. refused.value ≡ done) }
+        ensures legal { IsLegal (book_of self.new) }
+    {
+        resolved_runs_are_legal();
+        steps_go_on::<FormFault>();
+        join_answer_at_once(&mut self.store, done)
     }
 
     /// Rolls back the group of the first member of a deadlock, the greatest transaction that stands in any, where there

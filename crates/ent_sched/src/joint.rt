@@ -9,7 +9,7 @@ ghost use Rattle.ent_sched.specs.Progress.{IsJustLent, UsesUp};
 use crate::law::events_add_up;
 use ent_bounds::{progress_uses_up, steps_stay_within};
 use ent_core::{Core, Reply};
-use ent_endings::results_are_taken_at_once;
+use ent_endings::{jobs_are_lent_by_replies, results_are_taken_at_once};
 use ent_eval::{Done, Job, evaluate};
 use ent_form::FormFault;
 use ent_value::Ticks;
@@ -24,11 +24,12 @@ fn hand_in(core: &mut Core, done: Done, ticks: &mut Ticks) -> Result<(), AllocEr
     ensures progress { OnOk result (UsesUp core.old core.new) }
 {
     events_add_up::<FormFault>();
+    jobs_are_lent_by_replies::<FormFault>();
     results_are_taken_at_once::<FormFault>();
     progress_uses_up::<FormFault>();
     core.is_reached();
     let _count = ticks.count();
-    match core.join_answer(done) {
+    match core.join_answer_at_once(done) {
         Ok(reply) => {
             drop(reply);
             ticks.add();

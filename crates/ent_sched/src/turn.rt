@@ -31,11 +31,12 @@ fn hand_in(core: &mut Core, done: Done, ticks: &mut Ticks) -> Result<(), AllocEr
     ensures progress { OnOk result (UsesUp core.old core.new) }
 {
     events_add_up::<FormFault>();
+    jobs_are_lent_by_replies::<FormFault>();
     results_are_taken_at_once::<FormFault>();
     progress_uses_up::<FormFault>();
     core.is_reached();
     let _count = ticks.count();
-    match core.finish(done) {
+    match core.finish_at_once(done) {
         Ok(reply) => {
             drop(reply);
             ticks.add();

@@ -1,16 +1,23 @@
 use Rattle.std.proofs.Common.{sym, subst, refl}
 use Rattle.ent_core.specs.Reply.{reply_seen}
 use Rattle.ent_endings.specs.Lending.{IsLentAlone}
-use Rattle.ent_protocol.specs.Event.{Begin, Finish}
+use Rattle.ent_protocol.specs.Event.{Begin, Finish, Lent}
 use Rattle.ent_resolved.specs.Resolved.{resolved_forms}
 use Rattle.ent_sched.specs.Onward.{TicksOn}
 use Rattle.ent_sched.proofs.Moving.{single_progress}
 use Rattle.ent_sched.proofs.turn.hand_in.Goals as goal
 
+pub finish_at_once-requires : goal.finish_at_once-requires
+finish_at_once-requires c =
+    let tx = c.requires.lent.0 in
+    let lent = c.requires.lent.1 in
+    c.jobs_are_lent_by_replies.ensures.lent resolved_forms lent.before (Begin tx) (Lent c.args.done.job) c.args.core.now
+    lent.none_lent lent.lends
+
 pub returns-in-Ok-clause-events : goal.returns-in-Ok-clause-events
 returns-in-Ok-clause-events c =
     let s = c.args.core.now in
-    let new = c.finish.new.self in
+    let new = c.finish_at_once.new.self in
     let before = c.args.ticks.now in
     let one = c.events_add_up.ensures.one resolved_forms s (Finish c.args.done) (reply_seen c.in-Ok.reply) new before
     c.in-Ok.ensures.ok refl in
@@ -23,14 +30,14 @@ returns-in-Ok-clause-none_lent c =
     let alone : IsLentAlone resolved_forms lent.before (Begin tx) c.args.done c.args.core.now =
     record { none_lent = lent.none_lent; lends = lent.lends } in
     c.results_are_taken_at_once.ensures.single_returned resolved_forms lent.before tx c.args.done c.args.core.now
-    (reply_seen c.in-Ok.reply) c.finish.new.self alone c.in-Ok.ensures.ok
+    (reply_seen c.in-Ok.reply) c.finish_at_once.new.self alone c.in-Ok.ensures.ok
 
 pub returns-in-Ok-clause-progress : goal.returns-in-Ok-clause-progress
 returns-in-Ok-clause-progress c = λ most left within.
     let tx = c.requires.lent.0 in
     let lent = c.requires.lent.1 in
     let s = c.args.core.now in
-    let new = c.finish.new.self in
+    let new = c.finish_at_once.new.self in
     let reply = reply_seen c.in-Ok.reply in
     let alone : IsLentAlone resolved_forms lent.before (Begin tx) c.args.done s =
     record { none_lent = lent.none_lent; lends = lent.lends } in
