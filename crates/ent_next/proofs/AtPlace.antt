@@ -31,6 +31,13 @@ asked_there own member asked nothing there =
     ∙ ap (λ bound. statement_next (closed (with_values nothing_bound bound) there.statement)) nothing
     ∙ there.closed_is
 
+-- what was closed before comes next, where it is found
+pub kept_there : {T : Type 0} (value : T → Entangled Value) (own : Submitted) (member : Member) (found : Option T)
+    → IfSome found (λ asked. (member.bound ≡ []) × IsAskedAt own.form member.place (value asked))
+    → IfSome found (λ asked. next_in (Some own) member ≡ Asks (value asked))
+kept_there value own member None is = tt
+kept_there value own member (Some asked) is = asked_there own member (value asked) is.0 is.1
+
 pub uses_next : (statement : Statement Value) → next_uses (statement_next statement) ≡ statement_uses statement
 uses_next (statements.Entangled entangled) = refl
 uses_next (statements.Select select) = refl

@@ -1,14 +1,36 @@
 //! Posted statements.
-ghost use Rattle.std.specs.Prelude.{◌≡◌, ◌++◌, false, All, IfOk, OnOk, IsOk};
+ghost use Rattle.std.specs.Prelude.{◌≡◌, ◌++◌, ◌∷◌, [], false, All, IfOk, OnOk, IsOk};
+ghost use Rattle.std.specs.Arc.{arc_value};
 ghost use Rattle.ent_protocol.specs.Member.{asking_of, askings};
 ghost use Rattle.ent_protocol.specs.State.{State};
 
-use crate::next::{Next, next_of};
+use crate::next::{Next, kept_next, next_of};
 use crate::submitted::SubmittedScript;
+use ent_closed::Entangled;
 use ent_eval::Asking;
 use ent_members::Member;
-use ent_value::Sequence;
+use ent_value::{Sequence, Value};
 use std::alloc::{AllocError, Global};
+use std::sync::Arc;
+
+/// Puts a statement that a member asks for at the end.
+fn push_asked(
+    member: &Member,
+    statement: Arc<Entangled<Value>>,
+    askings: &mut Sequence<Asking>,
+) -> Result<(), AllocError>
+    ensures { OnOk result (askings.new ≡ askings.old ++ record {
+      tx = member.now.tx;
+      attempt = member.now.attempt;
+      place = member.now.place;
+      statement = arc_value statement;
+    } ∷ []) }
+{
+    let place = member.place() as u64;
+    let asking = Asking::new(member.tx(), member.attempt(), place, statement);
+    askings.push(asking)?;
+    Ok(())
+}
 
 /// Puts a member's statement at the end, where it is posted.
 fn push_posted(
@@ -24,15 +46,17 @@ fn push_posted(
     if !member.is_posted() {
         return Ok(());
     }
-    match next_of(alloc, submitted, member)? {
-        Next::Asks(statement) => {
-            let place = member.place() as u64;
-            let asking = Asking::new(member.tx(), member.attempt(), place, statement);
-            askings.push(asking)?;
-        }
-        other => drop(other),
+    if let Some(kept) = kept_next(submitted, member) {
+        let shared = kept.clone()?;
+        return push_asked(member, shared, askings);
     }
-    Ok(())
+    match next_of(alloc, submitted, member)? {
+        Next::Asks(statement) => push_asked(member, statement, askings),
+        other => {
+            drop(other);
+            Ok(())
+        }
+    }
 }
 
 /// The statements that members posted, in the order of the members: those in the pool of each state with these scripts
