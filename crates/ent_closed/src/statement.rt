@@ -5,12 +5,22 @@ use ent_tree::{Expression, MOST_PARTS, MOST_SOURCES, Test};
 use ent_value::{Limited, Name, Sequence};
 
 /// The items of the combinations of the sources' rows that meet every test.
-#[derive(Drop)]
 pub struct Select<K> {
     /// The tables, by number.
     pub sources: Limited<usize, MOST_SOURCES>,
     pub items: Sequence<Operand<K>>,
     pub tests: Limited<Test<Operand<K>>, MOST_PARTS>,
+}
+
+/// Written out, so that the crates above call it, and none makes and compiles it anew.
+impl<K: Drop> Drop for Select<K> {
+    fn drop(self) {
+        let Select {
+            sources: _sources,
+            items: _items,
+            tests: _tests,
+        } = self;
+    }
 }
 
 /// A statement over tables by their number, counted from 0 in the order of declaration.

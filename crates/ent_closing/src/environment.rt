@@ -10,9 +10,17 @@ use std::marker::Model;
 
 /// The host variables that a script has bound, each with its value. Contracts see the list of the bindings, in the
 /// order of their making: of those of one variable the last counts.
-#[derive(Drop)]
 pub struct Environment {
     bindings: Vec<(Name, Value)>,
+}
+
+/// Written out, so that the crates above call it, and none makes and compiles it anew.
+impl Drop for Environment {
+    fn drop(self) {
+        let Environment {
+            bindings: _bindings,
+        } = self;
+    }
 }
 
 impl Model for Environment {

@@ -10,10 +10,19 @@ use std::marker::Model;
 use std::sync::Arc;
 
 /// A table as it stands, and its number. Contracts see the number, the kinds and the rows.
-#[derive(Drop)]
 pub struct Seen {
     number: usize,
     table: Arc<Table>,
+}
+
+/// Written out, so that the crates above call it, and none makes and compiles it anew.
+impl Drop for Seen {
+    fn drop(self) {
+        let Seen {
+            number: _number,
+            table: _table,
+        } = self;
+    }
 }
 
 impl Model for Seen {

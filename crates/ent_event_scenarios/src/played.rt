@@ -3,7 +3,7 @@ use crate::event::events_copy;
 use crate::out::{Out, Stop};
 use ent_core::{Core, Event, Played, Reply};
 use ent_sql::parse_input;
-use ent_tree::{Input, Opening};
+use ent_tree::Input;
 use ent_value::{Limited, Sequence};
 use std::alloc::Global;
 
@@ -23,12 +23,9 @@ fn play(alloc: Global, input: Input, events: Sequence<Event>) -> Option<Sequence
 
 /// An input without its opening rows.
 fn without_rows(alloc: Global, input: Input) -> Input {
-    let Input { opening, scripts } = input;
-    let Opening { tables, rows } = opening;
-    drop(rows);
-    let rows = Limited::new(alloc);
-    let opening = Opening { tables, rows };
-    Input { opening, scripts }
+    let mut input = input;
+    input.opening.rows = Limited::new(alloc);
+    input
 }
 
 /// The input that a text is, with its opening rows or without them.

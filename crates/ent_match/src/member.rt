@@ -10,10 +10,19 @@ use std::marker::Model;
 use std::sync::Arc;
 
 /// A transaction with a closed entangled statement, which copies share.
-#[derive(Drop)]
 pub struct Member {
     tx: Tx,
     statement: Arc<Entangled<Value>>,
+}
+
+/// Written out, so that the crates above call it, and none makes and compiles it anew.
+impl Drop for Member {
+    fn drop(self) {
+        let Member {
+            tx: _tx,
+            statement: _statement,
+        } = self;
+    }
 }
 
 impl Model for Member {

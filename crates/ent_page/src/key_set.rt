@@ -21,10 +21,19 @@ use std::sync::Arc;
 
 /// A set of keys: an ordered list of pages, each ordered. Sets that come from one another share the pages that are
 /// the same in both. Contracts see the set.
-#[derive(Drop)]
 pub struct KeySet {
     pages: Vec<Arc<Page>>,
     len: usize,
+}
+
+/// Written out, so that the crates above call it, and none makes and compiles it anew.
+impl Drop for KeySet {
+    fn drop(self) {
+        let KeySet {
+            pages: _pages,
+            len: _len,
+        } = self;
+    }
 }
 
 impl Model for KeySet {

@@ -20,12 +20,23 @@ use std::marker::Model;
 
 /// The plan of the coordinating choices of posted statements. Contracts see the statements, what each of their written
 /// variables is, and the kinds of the classes, and may rely on it that this is a plan of them.
-#[derive(Drop)]
 pub struct JoinPlan {
     members: Vec<Member>,
     slots: Vec<Sequence<Slot>>,
     kinds: Vec<Kind>,
     tables: Vec<usize>,
+}
+
+/// Written out, so that the crates above call it, and none makes and compiles it anew.
+impl Drop for JoinPlan {
+    fn drop(self) {
+        let JoinPlan {
+            members: _members,
+            slots: _slots,
+            kinds: _kinds,
+            tables: _tables,
+        } = self;
+    }
 }
 
 impl Model for JoinPlan {

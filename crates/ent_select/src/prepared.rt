@@ -51,11 +51,11 @@ impl PreparedTests {
         ensures may_meet { IfOk result (λ prepared. (row : List Held)
             → prepared_may_meet prepared row ≡ may_meet tests.now (front.now ++ row)) }
     {
-        let none = KnownValue::of(alloc, &Value::Int(0))?;
         let mut prepared = Sequence::new(alloc);
         for test in tests {
             prepared.push(prepared_test(alloc, front, test)?)?;
         }
+        let none = KnownValue::of(alloc, &Value::Int(0))?;
         Ok(PreparedTests {
             tests: prepared,
             none,

@@ -2,14 +2,22 @@
 use ent_value::{Name, Row, Sequence, Value};
 
 /// A row of an answer relation.
-#[derive(Drop)]
 pub struct Fact {
     pub relation: Name,
     pub values: Row,
 }
 
+/// Written out, so that the crates above call it, and none makes and compiles it anew.
+impl Drop for Fact {
+    fn drop(self) {
+        let Fact {
+            relation: _relation,
+            values: _values,
+        } = self;
+    }
+}
+
 /// What a statement answers.
-#[derive(Drop)]
 pub enum Answer {
     /// How many rows an INSERT put in, or a DELETE or an UPDATE concerned.
     Count(u64),
@@ -19,6 +27,18 @@ pub enum Answer {
     Rows(Sequence<Row>),
     /// The heads of an entangled statement, one for each answer relation, in order of the text.
     Heads(Sequence<Fact>),
+}
+
+/// Written out, so that the crates above call it, and none makes and compiles it anew.
+impl Drop for Answer {
+    fn drop(self) {
+        match self {
+            Answer::Count(_count) => {}
+            Answer::Value(_value) => {}
+            Answer::Rows(_rows) => {}
+            Answer::Heads(_heads) => {}
+        }
+    }
 }
 
 /// Why a statement can't be carried out; its transaction fails.

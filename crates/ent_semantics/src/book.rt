@@ -24,25 +24,50 @@ pub struct Fated {
 }
 
 /// A committed transaction, and the answers of its statements, in order.
-#[derive(Drop)]
 pub struct Entry {
     pub tx: u64,
     pub answers: Sequence<Answer>,
 }
 
+/// Written out, so that the crates above call it, and none makes and compiles it anew.
+impl Drop for Entry {
+    fn drop(self) {
+        let Entry {
+            tx: _tx,
+            answers: _answers,
+        } = self;
+    }
+}
+
 /// An entangled statement that was answered: its transaction, its place in the script, counted from 1, and the value of
 /// each of its written variables, in order of their first appearance.
-#[derive(Drop)]
 pub struct Member {
     pub tx: u64,
     pub place: u64,
     pub grounding: Sequence<Value>,
 }
 
+/// Written out, so that the crates above call it, and none makes and compiles it anew.
+impl Drop for Member {
+    fn drop(self) {
+        let Member {
+            tx: _tx,
+            place: _place,
+            grounding: _grounding,
+        } = self;
+    }
+}
+
 /// Entangled statements that were answered together, by number of their transactions.
-#[derive(Drop)]
 pub struct JointAnswer {
     pub members: Sequence<Member>,
+}
+
+/// Written out, so that the crates above call it, and none makes and compiles it anew.
+impl Drop for JointAnswer {
+    fn drop(self) {
+        let JointAnswer { members: _members } = self;
+    }
 }
 
 /// What scripts came to over an opening. `D` is how the database is held.

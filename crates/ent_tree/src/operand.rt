@@ -41,11 +41,21 @@ pub enum Operand {
 }
 
 /// A term, or the sum or the difference of two.
-#[derive(Drop)]
 pub enum Expression<T> {
     Single(T),
     Sum(T, T),
     Difference(T, T),
+}
+
+/// Written out, so that the crates above call it, and none makes and compiles it anew.
+impl<T: Drop> Drop for Expression<T> {
+    fn drop(self) {
+        match self {
+            Expression::Single(_term) => {}
+            Expression::Sum(_left, _right) => {}
+            Expression::Difference(_left, _right) => {}
+        }
+    }
 }
 
 /// How two operands are compared.
@@ -60,11 +70,21 @@ pub enum Comparison {
 }
 
 /// `left comparison right`, of operands in a WHERE, of terms in an entangled statement.
-#[derive(Drop)]
 pub struct Test<T> {
     pub left: T,
     pub comparison: Comparison,
     pub right: T,
+}
+
+/// Written out, so that the crates above call it, and none makes and compiles it anew.
+impl<T: Drop> Drop for Test<T> {
+    fn drop(self) {
+        let Test {
+            left: _left,
+            comparison: _comparison,
+            right: _right,
+        } = self;
+    }
 }
 
 impl Duplicate for Identifier {

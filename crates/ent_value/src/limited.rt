@@ -8,9 +8,17 @@ use std::ops::Deref;
 
 /// A list of at most `LIMIT` elements, which contracts see as that list. Its elements are read by the calls of
 /// [`Sequence`].
-#[derive(Drop)]
 pub struct Limited<T, const LIMIT: usize> {
     elements: Sequence<T>,
+}
+
+/// Written out, so that the crates above call it, and none makes and compiles it anew.
+impl<T: Drop, const LIMIT: usize> Drop for Limited<T, LIMIT> {
+    fn drop(self) {
+        let Limited {
+            elements: _elements,
+        } = self;
+    }
 }
 
 impl<T, const LIMIT: usize> Model for Limited<T, LIMIT> {

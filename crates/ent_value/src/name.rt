@@ -18,9 +18,16 @@ pub const LONGEST_NAME: usize = 63;
 
 /// A name: an ASCII letter, then letters, digits and `_`, at most [`LONGEST_NAME`] bytes in all. Case matters,
 /// and names are ordered by their bytes.
-#[derive(Debug, Drop)]
+#[derive(Debug)]
 pub struct Name {
     word: Text,
+}
+
+/// Written out, so that the crates above call it, and none makes and compiles it anew.
+impl Drop for Name {
+    fn drop(self) {
+        let Name { word: _word } = self;
+    }
 }
 
 impl Model for Name {

@@ -1,5 +1,6 @@
 //! A list of elements.
 ghost use Rattle.std.specs.Prelude.{◌≡◌, [], ◌∷◌, ◌++◌, ◌==◌, ◌<◌, length, OnOk, OnErr, IfOk, IfErr, slice_get};
+ghost use Rattle.std.specs.Prelude.{vec_len, vec_capacity};
 ghost use Rattle.std.specs.Slice.Iter.{iter_rest};
 ghost use Rattle.std.specs.Option.{option_copied};
 
@@ -7,11 +8,32 @@ use std::alloc::{AllocError, AllocFailed, Global};
 use std::marker::Model;
 use std::slice::Iter;
 
+/// Room for one element more: for the first just its own, and for as many again as there are once they fill it. A tree
+/// has many lists that stay short.
+fn make_room<T>(elements: &mut Vec<T>) -> Result<(), AllocError>
+    ensures same { elements.new.items ≡ elements.old.items }
+    ensures room { OnOk result (vec_len elements.new < vec_capacity elements.new) }
+{
+    let len = elements.len();
+    if len < elements.capacity() {
+        return Ok(());
+    }
+    elements.reserve_exact(len.max(1))
+}
+
 /// A list of elements, which contracts see as that list and nothing else: two sequences of the same elements are
 /// the same, whatever room they hold.
-#[derive(Drop)]
 pub struct Sequence<T> {
     elements: Vec<T>,
+}
+
+/// Written out, so that the crates above call it, and none makes and compiles it anew.
+impl<T: Drop> Drop for Sequence<T> {
+    fn drop(self) {
+        let Sequence {
+            elements: _elements,
+        } = self;
+    }
 }
 
 impl<T> Model for Sequence<T> {
@@ -61,22 +83,13 @@ impl<T> Sequence<T> {
         ensures err { OnErr result (self.new ≡ self.old) }
         ensures value_returned { IfErr result (λ e. e.value ≡ element) }
     {
-        match self.make_room() {
-            Ok(()) => self.elements.push(element),
+        match make_room(&mut self.elements) {
+            Ok(()) => {
+                self.elements.push_reserved(element);
+                Ok(())
+            }
             Err(AllocError) => Err(AllocFailed { value: element }),
         }
-    }
-
-    /// Room for one element more: for the first just its own, and for as many again as there are once they fill it. A
-    /// tree has many lists that stay short.
-    fn make_room(&mut self) -> Result<(), AllocError>
-        ensures { self.new ≡ self.old }
-    {
-        let len = self.len();
-        if len == self.elements.capacity() {
-            self.elements.reserve_exact(len.max(1))?;
-        }
-        Ok(())
     }
 
     /// The same elements, with no more room than they need.

@@ -6,6 +6,7 @@ ghost use Rattle.std.specs.Cmp.Rules.{comparing};
 ghost use Rattle.std.specs.Ordering.{nat_cmp, as_partial_cmp};
 ghost use Rattle.std.specs.Cmp.Lexicographic.{slice_cmp, pointwise};
 
+use smallvec::SmallVec;
 use std::alloc::{AllocError, Global};
 use std::cmp::Ordering;
 use std::marker::Model;
@@ -13,10 +14,20 @@ use std::marker::Model;
 /// The most bytes of a text's content.
 pub const LONGEST_TEXT: usize = 255;
 
+/// So many bytes are kept in the text itself, and more in an allocation. Most names are no longer.
+const INLINE: usize = 16;
+
 /// A text of at most [`LONGEST_TEXT`] bytes, kept and compared as its bytes of UTF-8.
-#[derive(Debug, Drop)]
+#[derive(Debug)]
 pub struct Text {
-    content: Vec<u8>,
+    content: SmallVec<u8, INLINE>,
+}
+
+/// Written out, so that the crates above call it, and none makes and compiles it anew.
+impl Drop for Text {
+    fn drop(self) {
+        let Text { content: _content } = self;
+    }
 }
 
 impl Model for Text {
@@ -37,7 +48,7 @@ impl Text {
         ensures { IfOk result (λ t. t ≡ bytes.now) }
     {
         Ok(Text {
-            content: Vec::from_slice(alloc, bytes)?,
+            content: SmallVec::from_slice(alloc, bytes)?,
         })
     }
 
@@ -46,7 +57,9 @@ impl Text {
         requires { length content.items ≤ LONGEST_TEXT }
         ensures { result ≡ content.items }
     {
-        Text { content }
+        Text {
+            content: SmallVec::from_vec(content),
+        }
     }
 
     pub fn as_bytes(&self) -> &[u8]

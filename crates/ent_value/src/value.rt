@@ -17,10 +17,20 @@ pub enum Kind {
 }
 
 /// A value of a row: numbers come before texts, numbers in order of value, texts in order of their bytes.
-#[derive(Debug, PartialEq, Eq, PartialOrd, Ord, Drop)]
+#[derive(Debug, PartialEq, Eq, PartialOrd, Ord)]
 pub enum Value {
     Int(i64),
     Text(Text),
+}
+
+/// Written out, so that the crates above call it, and none makes and compiles it anew.
+impl Drop for Value {
+    fn drop(self) {
+        match self {
+            Value::Int(_number) => {}
+            Value::Text(_text) => {}
+        }
+    }
 }
 
 impl Value {

@@ -56,7 +56,7 @@ returns-clause-choice c = λ laid e.
     let values = c.in-Some.values in
     let made : c.in_ok-valuations-in-Some.field-0 ≡ spread plan values =
     c.in_ok-valuations-in-Some.ensures
-    ∙ (λ i. map (map (slot_value (c.values-in-Some.ensures i))) (c.slots-in-Some.ensures.slots i)) in
+    ∙ (λ i. map (map (slot_value (c.values.ensures i))) (c.slots-in-Some.ensures.slots i)) in
     subst (IsLeastChoice laid plan.members) (sym made)
     (chosen plan is tables frame indexes tests (c.in_ok-frame.ensures.kinds ∙ c.kinds.ensures.kinds) laid e
     (λ groundings. c.plan_has_the_choices.ensures laid plan groundings is)

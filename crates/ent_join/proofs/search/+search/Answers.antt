@@ -56,30 +56,6 @@ loop-value-preserved-else-branch g t c =
           (now.first ends).0 c.in-Some.ensures.value none.1 ends);
     }
 
-pub loop-value-preserved-else-branch-2 : goal.loop-value-preserved-else-branch-2
-loop-value-preserved-else-branch-2 g t c =
-    let passes = g.G.Guide.passes c.args.guide.now in
-    let candidates = g.G.Guide.candidates c.args.guide.now in
-    let old = c.args.values.now.items in
-    let left = c.args.left in
-    let value = c.in-Some.value.now in
-    let now = c.loop-value.invariant in
-    let push : c.push.new.self.items ≡ old ++ value ∷ [] =
-    pushed_is _ _ _ _ _ c.in_ok-push.ensures.items now.unchanged c.in_ok-copy.ensures in
-    let none = searched_none passes (left - 1) c.push.new.self.items c.search.new.values.items c.in_ok-search.field-0
-    c.if-branch.false c.in_ok-search.ensures.found in
-    record {
-      unchanged = popped old c.search.new.values.items c.pop.new.self.items value (vec_len c.search.new.values)
-          (none.0 ∙ push) c.search.new.values.ok.0 c.pop.ensures.rest;
-      ascending = ascending_after c.loop-value.cursor c.next_value.new.self value now.ascending c.in-Some.ensures.value;
-      complete = complete_after passes (length old + left) left (left - 1) old c.push.new.self.items
-          c.loop-value.cursor c.next_value.new.self value (omega arith) refl push now.complete c.in-Some.ensures.value
-          none.1;
-      first = λ ends. absurd (no_dead_end candidates passes (length old + left) left (left - 1) old
-          c.push.new.self.items c.loop-value.cursor c.next_value.new.self value (omega arith) refl push
-          (now.first ends).0 c.in-Some.ensures.value none.1 ends);
-    }
-
 pub returns-clause-found : goal.returns-clause-found
 returns-clause-found g t c =
     let now = c.loop-value.invariant in (

@@ -11,7 +11,6 @@ use Rattle.ent_select.proofs.prepared.PreparedTests.new.Given as goal
 -- the tests so far
 abbrev pub invariant-loop-test : goal.invariant-loop-test
 invariant-loop-test l = record {
-  none : l.none ≡ no_value;
   same : (row : List Value) → list_all (prepared_holds no_value row) l.prepared
       ≡ list_all (holds (value_in (l.front ++ row))) (take l.test-index l.tests);
   same_early : (row : List Value) → list_all (prepared_may_hold row) l.prepared
