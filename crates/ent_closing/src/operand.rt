@@ -7,7 +7,7 @@ ghost use Rattle.ent_closing.specs.Environment.{environment_of};
 use crate::closing::Closing;
 use crate::environment::Environment;
 use ent_closed::{Known, Operand, Term};
-use ent_tree::{Expression, Test};
+use ent_tree::{Boxed, Expression, Test};
 use ent_value::Value;
 use std::alloc::{AllocError, Global};
 
@@ -104,12 +104,13 @@ impl<T: Closing> Closing for Expression<T> {
             Expression::Single(term) => Ok(Expression::Single(term.closed(alloc, environment)?)),
             Expression::Sum(left, right) => {
                 let left = left.closed(alloc, environment)?;
-                Ok(Expression::Sum(left, right.closed(alloc, environment)?))
+                let right = right.get().closed(alloc, environment)?;
+                Ok(Expression::Sum(left, Boxed::new(alloc, right)?))
             }
             Expression::Difference(left, right) => {
                 let left = left.closed(alloc, environment)?;
-                let right = right.closed(alloc, environment)?;
-                Ok(Expression::Difference(left, right))
+                let right = right.get().closed(alloc, environment)?;
+                Ok(Expression::Difference(left, Boxed::new(alloc, right)?))
             }
         }
     }

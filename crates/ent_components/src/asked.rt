@@ -2,8 +2,8 @@
 ghost use Rattle.std.specs.Prelude.{◌≡◌, IfOk};
 ghost use Rattle.ent_components.specs.Component.{asked_by, is_of};
 
-use ent_eval::Asking;
 use ent_group::Tx;
+use ent_job::Asking;
 use ent_tree::Duplicate;
 use ent_value::Sequence;
 use std::alloc::{AllocError, Global};

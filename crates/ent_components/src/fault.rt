@@ -8,7 +8,7 @@ ghost use Rattle.ent_protocol.specs.Job.{posted_of};
 ghost use Rattle.ent_components.specs.Component.{pool_and, pool_of};
 
 use crate::pool::pool_of;
-use ent_eval::Asking;
+use ent_job::Asking;
 use ent_match::{PostFault, Unsafe, same_statements_are_alike};
 use std::alloc::{AllocError, Global};
 

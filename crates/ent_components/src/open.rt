@@ -7,8 +7,8 @@ ghost use Rattle.ent_components.specs.Component.{asked_by};
 ghost use Rattle.ent_components.specs.Open.{IsBefore, IsFirstOpen, IsOpen, IsOutAmong, NoneIsOpen};
 
 use crate::asked::{asked_by, is_of};
-use ent_eval::{Asking, Job, Work};
 use ent_group::Tx;
+use ent_job::{Asking, Job, Work};
 use ent_tree::Same;
 use ent_value::Sequence;
 use std::alloc::{AllocError, Global};

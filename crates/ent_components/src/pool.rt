@@ -4,7 +4,7 @@ ghost use Rattle.ent_coordination.specs.Pool.{IsSafe};
 ghost use Rattle.ent_match.specs.Fault.{IsByNumber};
 ghost use Rattle.ent_components.specs.Component.{pool_of};
 
-use ent_eval::Asking;
+use ent_job::Asking;
 use ent_match::Pool;
 use std::alloc::{AllocError, Global};
 

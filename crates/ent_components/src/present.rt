@@ -12,8 +12,8 @@ use crate::asked::asked_by;
 use crate::open::{are_same, first_tx, first_tx_of};
 use crate::part::{place_of, take_part};
 use crate::pool::pool_of;
-use ent_eval::Asking;
 use ent_group::Tx;
+use ent_job::Asking;
 use std::alloc::{AllocError, Global};
 
 /// Whether some statements are those of some transactions among what is posted. Those that begin with the same

@@ -2,7 +2,7 @@
 ghost use Rattle.std.specs.Prelude.{◌≡◌, IfOk};
 ghost use Rattle.ent_protocol.specs.PoolEvents.{joint_uses};
 
-use ent_eval::Asking;
+use ent_job::Asking;
 use ent_members::{Use, entangled_uses, uses_are_kept_by_closing, with_uses};
 use std::alloc::{AllocError, Global};
 

@@ -9,8 +9,9 @@ use Rattle.ent_value.specs.declared.value.Value.{Value}
 use Rattle.ent_closed.specs.declared.statement.Statement.{Statement}
 use Rattle.ent_closed.specs.declared.statement.Statement.TheVariants as statements
 use Rattle.ent_eval.specs.Change.{IsApplicable}
-use Rattle.ent_eval.specs.Seen.{relation_of}
-use Rattle.ent_eval.specs.Work.{AreUsed, CanBeMade, IsOne, IsWork, StandAtNumbers}
+use Rattle.ent_job.specs.Seen.{relation_of}
+use Rattle.ent_job.specs.Work.{AreUsed, IsOne, IsWork, StandAtNumbers}
+use Rattle.ent_eval.specs.Result.{CanBeMade}
 use Rattle.ent_form.specs.declared.fault.FormFault.{FormFault}
 use Rattle.ent_legal.specs.Faithful.{is_used}
 use Rattle.ent_legal.specs.Present.{LentIsPresent, SameWhereUsed}

@@ -1,7 +1,7 @@
 -- What is picked, and the job that is made of it.
 use Rattle.std.proofs.Common.{◌≡◌, List, Option, Some, sym, subst, ap, ◌∙◌}
 use Rattle.ent_components.specs.Component.{IsFirstToPick, IsPick, IsPickIn}
-use Rattle.ent_eval.specs.Work.{IsJoint}
+use Rattle.ent_job.specs.Work.{IsJoint}
 use Rattle.ent_protocol.specs.Job.{Asking, Job, Seen}
 use Rattle.ent_protocol.specs.Member.{askings, seen_now}
 use Rattle.ent_protocol.specs.PoolEvents.{joint_job, joint_uses}

@@ -8,8 +8,8 @@ ghost use Rattle.ent_semantics.specs.declared.answer.Answer.TheVariants as answe
 
 use crate::copies::rows_copy;
 use ent_closed::Statement;
-use ent_eval::Single;
 use ent_group::Tx;
+use ent_job::Single;
 use ent_members::Run;
 use ent_rel::Delta;
 use ent_semantics::Answer;

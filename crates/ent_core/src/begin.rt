@@ -1,9 +1,10 @@
 //! A member begins its next statement.
-ghost use Rattle.std.specs.Prelude.{◌≡◌, Some, None, IfErr, IfOk, IsOk, OnErr, IsSome};
+ghost use Rattle.std.specs.Prelude.{◌≡◌, ℕ, Some, None, true, IfErr, IfOk, IsOk, OnErr, IsSome};
 ghost use Rattle.std.specs.Arc.{arc_value};
 ghost use Rattle.ent_core.specs.Begin.{Follows, IsFree, LendsTo, MayBegin, hindrance_seen};
 ghost use Rattle.ent_core.specs.Kept.{IsKeptState};
 ghost use Rattle.ent_core.specs.Reply.{reply_seen};
+ghost use Rattle.ent_form.specs.declared.fault.FormFault.{FormFault as Form};
 ghost use Rattle.ent_members.specs.Places.{found};
 ghost use Rattle.ent_protocol.specs.Begin.{Begins};
 ghost use Rattle.ent_protocol.specs.Event as replies;
@@ -18,9 +19,9 @@ use crate::store::Store;
 use crate::take_out::roll_back;
 use ent_closed::{Entangled, Statement};
 use ent_components::post_fault;
-use ent_eval::{Asking, Job, Single};
 use ent_form::FormFault;
 use ent_group::Tx;
+use ent_job::{Asking, Job, Single};
 use ent_match::Unsafe;
 use ent_members::{Member, Uses, entangled_uses, statement_uses, uses_are_kept_by_closing};
 use ent_next::{Next, askings, next_form, next_of};
@@ -126,7 +127,7 @@ fn blocker_of(store: &Store, member: &Member) -> Option<Tx>
     ensures { result ≡ blocker store.now member.now (next_uses (next_of store.now member.now)) }
 {
     match next_form(store.submitted.as_slice(), member) {
-        Some(form) => store.run.blocker(member, statement_uses(form).as_slice()),
+        Some(form) => store.run.statement_blocker(member, form),
         None => None,
     }
 }
@@ -166,6 +167,16 @@ fn free_member(store: &Store, tx: Tx) -> Result<&Member, Hindrance>
     match blocker_of(store, member) {
         Some(holder) => Err(Hindrance::Blocked(holder)),
         None => Ok(member),
+    }
+}
+
+/// Whether the begin of a member would be blocked. No reply is made.
+pub(crate) fn is_blocked(store: &Store, tx: Tx) -> bool
+    ensures { result ≡ true → (holder : ℕ) × Begins {F = Form} store.now tx (replies.Blocked holder) store.now }
+{
+    match free_member(store, tx) {
+        Err(Hindrance::Blocked(_)) => true,
+        _ => false,
     }
 }
 

@@ -5,7 +5,7 @@ ghost use Rattle.ent_members.specs.Answered.{member_answers};
 ghost use Rattle.ent_protocol.specs.PoolEvents.{joining, joint_members};
 
 use crate::store::Store;
-use ent_eval::Asking;
+use ent_job::Asking;
 use ent_members::MemberAnswer;
 use ent_semantics::{JointAnswer, Member};
 use ent_tree::Duplicate;

@@ -8,8 +8,8 @@ ghost use Rattle.ent_protocol.specs.PoolEvents.{IsPresentComponent, Picks, joint
 use crate::reply::Reply;
 use crate::store::Store;
 use ent_components::{joint_uses, pick as first_to_pick};
-use ent_eval::{Asking, Job};
 use ent_form::FormFault;
+use ent_job::{Asking, Job};
 use ent_next::askings;
 use ent_ready::{picked_statements_fit, used_tables_are_declared};
 use ent_standing::{members_stand_by_number, pools_are_safe};

@@ -1,5 +1,5 @@
 //! The core whose type keeps that its state is reached.
-ghost use Rattle.std.specs.Prelude.{IfErr, IfOk, IsOk, None, OnErr, OnOk, Some, ◌≡◌, ◌∷◌, []};
+ghost use Rattle.std.specs.Prelude.{IfErr, IfOk, IsOk, None, OnErr, OnOk, Some, true, ℕ, ◌≡◌, ◌∷◌, []};
 ghost use Rattle.std.specs.List.{AllByRecursion};
 ghost use Rattle.std.specs.Option.{option_copied, option_map};
 ghost use Rattle.ent_book.specs.Tables.{book_seen};
@@ -7,7 +7,7 @@ ghost use Rattle.ent_core.specs.Kinds.{kinds_of_table};
 ghost use Rattle.ent_core.specs.Reply.{reply_seen};
 ghost use Rattle.ent_core.specs.Standing.{standing_seen};
 ghost use Rattle.ent_form.specs.OpeningFault.{opening_fault, unless};
-ghost use Rattle.ent_protocol.specs.Event.{Begin, BreakCycle, EndRun, Finish, JoinAnswer, Pick};
+ghost use Rattle.ent_protocol.specs.Event.{Begin, Blocked, BreakCycle, EndRun, Finish, JoinAnswer, Pick};
 ghost use Rattle.ent_protocol.specs.Event.{Recall, StartRun, Submit};
 ghost use Rattle.ent_protocol.specs.Member.{RollsBack, active_member, next_of};
 ghost use Rattle.ent_protocol.specs.State.{Member};
@@ -25,7 +25,7 @@ ghost use Rattle.ent_value.specs.Refusal.{Gives};
 ghost use Rattle.ent_value.specs.declared.refusal.Refusal.TheVariants.{Fault};
 ghost use Rattle.ent_core.specs.declared.closing.NotDone.{NotDone};
 
-use crate::begin::begin;
+use crate::begin::{begin, is_blocked};
 use crate::break_cycle::break_cycle;
 use crate::closing::{NotClosed, NotDone, book, book_parts, can_close};
 use crate::end_run::end_run;
@@ -132,6 +132,15 @@ impl Core {
         resolved_runs_are_legal();
         steps_go_on::<FormFault>();
         begin(&mut self.store, tx)
+    }
+
+    /// Whether another member is in the way of the next statement of the member of a number, so that a begin of it is
+    /// refused and changes nothing. Where this says no, the begin tells what it comes to. It is quicker than a begin,
+    /// since no reply is made.
+    pub fn is_blocked(&self, tx: Tx) -> bool
+        ensures { result ≡ true → (holder : ℕ) × Step resolved_forms self.now (Begin tx) (Blocked holder) self.now }
+    {
+        is_blocked(&self.store, tx)
     }
 
     /// Takes the result of one statement. Where its job isn't lent any more it is stale, and comes back. Else the

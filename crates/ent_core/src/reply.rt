@@ -1,7 +1,8 @@
 //! What a core replies to an event.
-use ent_eval::{Done, Job};
+use ent_eval::Done;
 use ent_form::FormFault;
 use ent_group::{Members, Tx};
+use ent_job::Job;
 use ent_match::Unsafe;
 use ent_quiet::Reason;
 use ent_semantics::{Answer, Failure};

@@ -2,8 +2,8 @@
 ghost use Rattle.std.specs.List.{AllByRecursion};
 ghost use Rattle.ent_standing.specs.Attempts.{AsksForRun};
 
-use ent_eval::Asking;
 use ent_form::Catalogue;
+use ent_job::Asking;
 use ent_lent::LentJobs;
 use ent_members::Run;
 use ent_next::SubmittedScript;

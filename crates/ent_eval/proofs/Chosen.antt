@@ -16,8 +16,8 @@ use Rattle.ent_coordination.specs.Pool.{IsPool, Posted}
 use Rattle.ent_join.specs.Plans.{AreKindedFor, HaveNoPlan, sources_of, tables_named}
 use Rattle.ent_protocol.specs.Job.{Asking, Seen, posted_of, tables_of}
 use Rattle.ent_select.specs.Tables.{rows_in}
-use Rattle.ent_eval.specs.Seen.{relation_of}
-use Rattle.ent_eval.specs.Work.{IsJoint}
+use Rattle.ent_job.specs.Seen.{relation_of}
+use Rattle.ent_job.specs.Work.{IsJoint}
 use Rattle.ent_eval.proofs.Used.{joint_tables}
 
 -- statements by number are of distinct transactions

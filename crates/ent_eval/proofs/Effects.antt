@@ -28,8 +28,9 @@ use Rattle.ent_eval.specs.Change.{IsApplicable}
 use Rattle.ent_closed.specs.Kinds.{Fits, tables_named}
 use Rattle.ent_eval.specs.Meant.{rows_under, effect_of, IsMeant, CanBeApplied}
 use Rattle.ent_eval.specs.Meant as meant
-use Rattle.ent_eval.specs.Seen.{relation_of}
-use Rattle.ent_eval.specs.Work.{AreUsed, IsOne, IsRight, CanBeMade, alone_seen}
+use Rattle.ent_job.specs.Seen.{relation_of}
+use Rattle.ent_job.specs.Work.{AreUsed, IsOne}
+use Rattle.ent_eval.specs.Result.{IsRight, CanBeMade, alone_seen}
 use Rattle.ent_eval.specs.declared.outcome.Outcome.{Outcome}
 use Rattle.ent_eval.specs.declared.outcome.Outcome.TheVariants as outcomes
 

@@ -10,7 +10,7 @@ use Rattle.ent_tree.specs.declared.declaration.Create.{Create}
 use Rattle.ent_protocol.specs.Job.{Seen, laid, tables_of}
 use Rattle.ent_protocol.specs.Member.{declared_kinds, seen_now}
 use Rattle.ent_protocol.specs.State.{Use}
-use Rattle.ent_eval.specs.Work.{StandAtNumbers}
+use Rattle.ent_job.specs.Work.{StandAtNumbers}
 
 same_or_not : (a b : ℕ) → (a ≡ b) ⊎ (a ≢ b)
 same_or_not a b =

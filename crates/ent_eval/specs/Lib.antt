@@ -2,5 +2,4 @@ pub mod Worth
 pub mod Change
 pub mod Meant
 pub mod Setting
-pub mod Seen
-pub mod Work
+pub mod Result

@@ -2,15 +2,14 @@
 ghost use Rattle.std.specs.Prelude.{◌≡◌, IfOk, IfErr};
 ghost use Rattle.ent_protocol.specs.Job.{IsEvaluated};
 ghost use Rattle.ent_protocol.specs.Job as jobs;
-ghost use Rattle.ent_eval.specs.Work.{CanBeMade, IsOne, IsRight, alone_seen, outcome_seen};
+ghost use Rattle.ent_job.specs.Work.{IsOne};
+ghost use Rattle.ent_eval.specs.Result.{CanBeMade, IsRight, alone_seen, outcome_seen};
 
 use crate::evaluation::statement_outcome;
-use crate::job::Job;
 use crate::joint::choice;
 use crate::outcome::{JobOutcome, Outcome};
-use crate::seen::{Seen, tables_shared};
-use crate::single::Single;
-use crate::work::Work;
+use crate::shared::tables_shared;
+use ent_job::{Job, Seen, Single, Work};
 use std::alloc::{AllocError, Global};
 use std::marker::Model;
 
@@ -40,7 +39,7 @@ impl Model for Done {
 
     ghost coded = { Prim.hlevel (codes, coded_rows) };
 
-    ghost use Rattle.ent_eval.specs.Work.{IsRight, outcome_seen};
+    ghost use Rattle.ent_eval.specs.Result.{IsRight, outcome_seen};
 
     ghost view = { λ d. record { job = d.job; outcome = outcome_seen d.outcome } };
 

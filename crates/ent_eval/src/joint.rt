@@ -3,10 +3,10 @@ ghost use Rattle.std.specs.Prelude.{◌≡◌, IfOk, List, MatchOption, map};
 ghost use Rattle.ent_coordination.specs.Choice.{IsLeastChoiceIfAny};
 ghost use Rattle.ent_join.specs.Plans.{HaveNoPlan};
 ghost use Rattle.ent_protocol.specs.Job.{Seen as TableSeen, posted_of, tables_of};
-ghost use Rattle.ent_eval.specs.Work.{IsJoint};
+ghost use Rattle.ent_job.specs.Work.{IsJoint};
 
-use crate::asking::Asking;
-use crate::seen::{Seen, tables_shared};
+use crate::shared::tables_shared;
+use ent_job::{Asking, Seen};
 use ent_join::{JoinPlan, Member, first};
 use ent_value::{Sequence, Value};
 use std::alloc::{AllocError, Global};

@@ -6,7 +6,7 @@ ghost use Rattle.ent_coordination.specs.Component.{IsComponent};
 ghost use Rattle.ent_coordination.specs.Pool.{IsSafe, Posted};
 ghost use Rattle.ent_protocol.specs.Member.{seen_now};
 ghost use Rattle.ent_protocol.specs.State.{Use};
-ghost use Rattle.ent_eval.specs.Work.{StandAtNumbers};
+ghost use Rattle.ent_job.specs.Work.{StandAtNumbers};
 
 /// The tables that are lent for uses stand at their numbers.
 #[tactic(auto, using(crate::proofs::Standing::lent_stand))]

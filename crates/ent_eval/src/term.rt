@@ -51,8 +51,8 @@ pub(crate) fn known_expression(
 {
     match expression {
         Expression::Single(value) => Ok(value.copy(alloc)?),
-        Expression::Sum(left, right) => sum(left, right),
-        Expression::Difference(left, right) => difference(left, right),
+        Expression::Sum(left, right) => sum(left, right.get()),
+        Expression::Difference(left, right) => difference(left, right.get()),
     }
 }
 
@@ -70,11 +70,11 @@ pub(crate) fn operand_expression(
         Expression::Single(term) => Ok(operand_value(row, term, &none).copy(alloc)?),
         Expression::Sum(left, right) => sum(
             operand_value(row, left, &none),
-            operand_value(row, right, &none),
+            operand_value(row, right.get(), &none),
         ),
         Expression::Difference(left, right) => difference(
             operand_value(row, left, &none),
-            operand_value(row, right, &none),
+            operand_value(row, right.get(), &none),
         ),
     }
 }

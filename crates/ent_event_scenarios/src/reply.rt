@@ -5,7 +5,8 @@ ghost use Rattle.ent_protocol.specs.Job.{IsEvaluated};
 use crate::out::{Out, Stop};
 use crate::shown::put_reply;
 use ent_core::Reply;
-use ent_eval::{Done, Job, evaluate};
+use ent_eval::{Done, evaluate};
+use ent_job::Job;
 use ent_value::Sequence;
 use std::alloc::Global;
 

@@ -30,8 +30,7 @@ fn row(
 ) -> Result<Limited<Known, MOST_PARTS>, Refusal<FormFault>>
     ensures { Gives (λ row. row) result (row_from (bound_in bindings.now) [] columns.now values.now) }
 {
-    let _limit = values.len();
-    let mut row = Limited::new(alloc);
+    let mut row = Limited::with_capacity(alloc, values.len())?;
     for (column, value) in columns.iter().zip(values.as_slice()) {
         row.push(value_of_kind(alloc, bindings, column.kind, value)?)?;
     }
@@ -83,7 +82,7 @@ fn own_image(
 ) -> Result<Vec<Expression<ResolvedOperand<Known>>>, AllocError>
     ensures { IfOk result (λ image. image.items ≡ own_from 0 table.now.columns) }
 {
-    let mut image = Vec::new(alloc);
+    let mut image = Vec::with_capacity(alloc, table.columns.len())?;
     for (number, _) in table.columns.as_slice().iter().enumerate() {
         image.push(Expression::Single(ResolvedOperand::Column(number)))?;
     }

@@ -116,8 +116,7 @@ fn copy_terms(
 ) -> Result<Limited<ResolvedTerm<Known>, MOST_PARTS>, AllocError>
     ensures { IfOk result (λ copy. copy ≡ terms.now) }
 {
-    let _limit = terms.len();
-    let mut copy = Limited::new(alloc);
+    let mut copy = Limited::with_capacity(alloc, terms.len())?;
     for term in terms.as_slice() {
         copy.push(copy_term(alloc, term)?)?;
     }
@@ -221,9 +220,8 @@ fn heads(
 ) -> Result<Limited<Atom<Known>, MOST_PARTS>, Refusal<FormFault>>
     ensures { Gives (λ heads. heads) result (heads_from terms.now [] [] relations.now) }
 {
-    let _limit = relations.len();
     let mut earlier = Vec::new(alloc);
-    let mut heads = Limited::new(alloc);
+    let mut heads = Limited::with_capacity(alloc, relations.len())?;
     for relation in relations.as_slice() {
         if is_among(&earlier, &relation.name) {
             return Err(Refusal::Fault(FormFault::Repeated(relation.place)));
@@ -248,8 +246,7 @@ fn atom_terms(
     ensures { Gives (λ forms. forms) result
         (atom_from (map (λ name. name.now) names.now) (bound_in kinds.now) (bound_in bindings.now) [] terms.now) }
 {
-    let _limit = terms.len();
-    let mut forms = Limited::new(alloc);
+    let mut forms = Limited::with_capacity(alloc, terms.len())?;
     for one in terms.as_slice() {
         let (form, _) = term(alloc, names, kinds, bindings, one)?;
         forms.push(form)?;

@@ -11,7 +11,7 @@ use crate::fault::FormFault;
 use crate::row::same_kind;
 use crate::scope::{SeenSources, column};
 use ent_closed::{Known, Operand as ResolvedOperand};
-use ent_tree::{ColumnReference, Expression, Operand, Test, ValueSpecification};
+use ent_tree::{Boxed, ColumnReference, Expression, Operand, Test, ValueSpecification};
 use ent_value::{Kind, Refusal};
 use std::alloc::Global;
 
@@ -29,7 +29,7 @@ fn reference_place(reference: &ColumnReference) -> usize
     ensures { result ≡ reference_place reference.now }
 {
     match &reference.qualifier {
-        Some(qualifier) => qualifier.place,
+        Some(qualifier) => qualifier.get().place,
         None => reference.column.place,
     }
 }
@@ -158,12 +158,14 @@ pub(crate) fn value_expression(
         }
         Expression::Sum(left, right) => {
             let left = value_of_kind(alloc, bindings, Kind::Int, left)?;
-            let right = value_of_kind(alloc, bindings, Kind::Int, right)?;
+            let right = value_of_kind(alloc, bindings, Kind::Int, right.get())?;
+            let right = Boxed::new(alloc, right)?;
             Ok((Expression::Sum(left, right), Kind::Int))
         }
         Expression::Difference(left, right) => {
             let left = value_of_kind(alloc, bindings, Kind::Int, left)?;
-            let right = value_of_kind(alloc, bindings, Kind::Int, right)?;
+            let right = value_of_kind(alloc, bindings, Kind::Int, right.get())?;
+            let right = Boxed::new(alloc, right)?;
             Ok((Expression::Difference(left, right), Kind::Int))
         }
     }
@@ -186,12 +188,14 @@ pub(crate) fn operand_expression(
         }
         Expression::Sum(left, right) => {
             let left = operand_of_kind(alloc, sources, bindings, Kind::Int, left)?;
-            let right = operand_of_kind(alloc, sources, bindings, Kind::Int, right)?;
+            let right = operand_of_kind(alloc, sources, bindings, Kind::Int, right.get())?;
+            let right = Boxed::new(alloc, right)?;
             Ok((Expression::Sum(left, right), Kind::Int))
         }
         Expression::Difference(left, right) => {
             let left = operand_of_kind(alloc, sources, bindings, Kind::Int, left)?;
-            let right = operand_of_kind(alloc, sources, bindings, Kind::Int, right)?;
+            let right = operand_of_kind(alloc, sources, bindings, Kind::Int, right.get())?;
+            let right = Boxed::new(alloc, right)?;
             Ok((Expression::Difference(left, right), Kind::Int))
         }
     }

@@ -72,8 +72,7 @@ fn members(
         (members_from (map (λ name. name.now) names.now) (bound_in bindings.now) [] (bound_in kinds.old) wanted.now
         terms.now) }
 {
-    let _limit = terms.len();
-    let mut members = Limited::new(alloc);
+    let mut members = Limited::with_capacity(alloc, terms.len())?;
     for (kind, term) in wanted.iter().zip(terms.as_slice()) {
         members.push(member(alloc, names, bindings, kinds, *kind, term)?)?;
     }

@@ -33,7 +33,7 @@ fn source_name(source: &Source) -> &Name
     ensures { result.now ≡ source_name source.now }
 {
     match &source.alias {
-        Some(alias) => &alias.name,
+        Some(alias) => &alias.get().name,
         None => &source.table.name,
     }
 }
@@ -43,7 +43,7 @@ fn source_place(source: &Source) -> usize
     ensures { result ≡ source_place source.now }
 {
     match &source.alias {
-        Some(alias) => alias.place,
+        Some(alias) => alias.get().place,
         None => source.table.place,
     }
 }
@@ -68,7 +68,7 @@ fn refers_to(reference: &ColumnReference, column: &SeenColumn<'_>) -> bool
         return false;
     }
     match &reference.qualifier {
-        Some(qualifier) => qualifier.name == *column.source,
+        Some(qualifier) => qualifier.get().name == *column.source,
         None => true,
     }
 }
@@ -100,6 +100,7 @@ pub(crate) fn column(
     ensures { result ≡ column_in (scope_of sources.now) reference.now }
 {
     if let Some(qualifier) = &reference.qualifier {
+        let qualifier = qualifier.get();
         if !is_among(&sources.names, &qualifier.name) {
             return Err(FormFault::NoTable(qualifier.place));
         }

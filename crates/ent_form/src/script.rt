@@ -60,9 +60,8 @@ fn in_order(
 ) -> Result<Plain, Refusal<FormFault>>
     ensures { Gives (λ plain. plain) result (script_in catalogue.now.tables script.now) }
 {
-    let _limit = script.statements.len();
     let mut bindings = Bindings::new(alloc);
-    let mut statements = Limited::new(alloc);
+    let mut statements = Limited::with_capacity(alloc, script.statements.len())?;
     for one in script.statements.as_slice() {
         statements.push(statement(alloc, catalogue, &mut bindings, one)?)?;
     }

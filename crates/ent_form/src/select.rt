@@ -33,8 +33,7 @@ pub(crate) fn tests(
 ) -> Result<Limited<Test<ResolvedOperand<Known>>, MOST_PARTS>, Refusal<FormFault>>
     ensures { Gives (λ forms. forms) result (tests_in (scope_of sources.now) (bound_in bindings.now) tests.now) }
 {
-    let _limit = tests.len();
-    let mut forms = Limited::new(alloc);
+    let mut forms = Limited::with_capacity(alloc, tests.len())?;
     for one in tests.as_slice() {
         forms.push(test(alloc, sources, bindings, one)?)?;
     }
@@ -45,7 +44,7 @@ pub(crate) fn tests(
 fn every_column(alloc: Global, sources: &SeenSources<'_>) -> Result<Shown, AllocError>
     ensures { IfOk result (λ shown. shown_of shown ≡ all_shown (scope_of sources.now)) }
 {
-    let mut items = Sequence::new(alloc);
+    let mut items = Sequence::with_capacity(alloc, sources.columns.len())?;
     let mut kinds = Sequence::new(alloc);
     for (number, column) in sources.columns.iter().enumerate() {
         items.push(ResolvedOperand::Column(number))?;
@@ -63,7 +62,7 @@ fn listed_items(
     ensures { let lookup = operands_in (scope_of sources.now) (bound_in bindings.now) in
         Gives shown_of result (items_from lookup ([], []) listed.now) }
 {
-    let mut items = Sequence::new(alloc);
+    let mut items = Sequence::with_capacity(alloc, listed.len())?;
     let mut kinds = Sequence::new(alloc);
     for item in listed {
         let (form, kind) = operand(alloc, sources, bindings, item)?;

@@ -19,7 +19,7 @@ use Rattle.ent_select.specs.Tables.{rows_in}
 use Rattle.ent_join.specs.Asked.{all_indexes, all_tests}
 use Rattle.ent_join.specs.Frame.{IsFrame, are_of_kinds, candidates_of, has_class, is_kind, lets_through, may_hold}
 use Rattle.ent_join.specs.Index.{IsIndexed, goes_on}
-use Rattle.ent_join.specs.Ranged.{AreRanged}
+use Rattle.ent_plan.specs.Ranged.{AreRanged}
 use Rattle.ent_join.specs.Search.{IsGuide, IsLeast, NonePasses}
 use Rattle.ent_join.specs.declared.frame.Frame.{Frame}
 use Rattle.ent_join.proofs.Guiding.{frame_guides}

@@ -26,7 +26,7 @@ use Rattle.ent_join.specs.Asked.{all_indexes, membership_index, select_rows}
 use Rattle.ent_join.specs.Frame.{has_class}
 use Rattle.ent_join.specs.Index.{Indexed, IsIndexed, column_of}
 use Rattle.ent_join.specs.Keyed.{class_numbers, is_class, term_slot}
-use Rattle.ent_join.specs.Ranged.{AreRanged, is_variable, stands_in}
+use Rattle.ent_plan.specs.Ranged.{AreRanged, is_variable, stands_in}
 use Rattle.ent_join.proofs.Deduped.{all_members}
 use Rattle.ent_join.proofs.Keys.{index_is, nat_exact}
 use Rattle.ent_join.proofs.Tied.{Named, SlotBelow, all_left, all_right}

@@ -23,7 +23,7 @@ use Rattle.ent_join.specs.Asked.{all_indexes, all_tests, membership_index, selec
 use Rattle.ent_join.specs.Frame.{are_of_kinds, candidates_of, has_class, lets_through}
 use Rattle.ent_join.specs.Index.{Indexed, column_of}
 use Rattle.ent_join.specs.Keyed.{IsIndexOf, is_class, keys_under, term_slot}
-use Rattle.ent_join.specs.Ranged.{AreRanged}
+use Rattle.ent_plan.specs.Ranged.{AreRanged}
 use Rattle.ent_join.specs.Row.{AsksForARow}
 use Rattle.ent_join.specs.Search.{AreTicks, NoDeadEnds}
 use Rattle.ent_join.specs.declared.frame.Frame.{Frame}

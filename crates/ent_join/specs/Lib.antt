@@ -6,6 +6,5 @@ pub mod Index
 pub mod Frame
 pub mod Keyed
 pub mod Asked
-pub mod Ranged
 pub mod Laid
 pub mod Row

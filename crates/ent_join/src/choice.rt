@@ -6,7 +6,7 @@ ghost use Rattle.ent_coordination.specs.Choice.{IsLeastChoiceIfAny};
 ghost use Rattle.ent_coordination.specs.Pool.{Posted};
 ghost use Rattle.ent_plan.specs.Plan.{slot_value};
 ghost use Rattle.ent_join.specs.Laid.{AreLaid};
-ghost use Rattle.ent_join.specs.Ranged.{AreRanged};
+ghost use Rattle.ent_plan.specs.Ranged.{AreRanged};
 ghost use Rattle.ent_join.specs.Row.{AsksForARow};
 ghost use Rattle.ent_join.specs.Search.{AreTicks};
 

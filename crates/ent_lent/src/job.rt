@@ -4,8 +4,8 @@ ghost use Rattle.ent_lent.specs.Lent.{goes_with_any};
 ghost use Rattle.ent_protocol.specs.Job as jobs;
 ghost use Rattle.ent_protocol.specs.Member.{is_single_of};
 
-use ent_eval::{Asking, Job, Work};
 use ent_group::{Members, Tx};
+use ent_job::{Asking, Job, Work};
 use ent_tree::Same;
 
 /// Whether a job is of one statement of a transaction.

@@ -11,8 +11,8 @@ ghost use Rattle.ent_protocol.specs.Rollback.{goes_with};
 ghost use Rattle.ent_protocol.specs.State.{Member, State};
 
 use crate::list;
-use ent_eval::{Asking, Job};
 use ent_group::{Members, Tx};
+use ent_job::{Asking, Job};
 use std::alloc::{AllocError, Global};
 use std::marker::Model;
 

@@ -8,8 +8,8 @@ ghost use Rattle.ent_protocol.specs.Job.{Job as Seen};
 ghost use Rattle.ent_protocol.specs.Member.{is_single_of};
 
 use crate::job::{goes_with, is_joint_of, is_single_of};
-use ent_eval::{Asking, Job};
 use ent_group::{Members, Tx};
+use ent_job::{Asking, Job};
 
 /// Whether a job of one statement of a transaction is among them.
 pub(crate) fn is_lent(jobs: &[Job], tx: Tx) -> bool

@@ -1,11 +1,12 @@
 -- Those that are in the way.
 use Rattle.std.proofs.Common.{◌≡◌, ℕ, Bool, true, false, not, ◌==◌, ◌&&◌, if◌then◌else◌, List, [], ◌∷◌, ◌++◌, map}
-use Rattle.std.proofs.Common.{refl, sym, ap, ◌∙◌}
+use Rattle.std.proofs.Common.{refl, sym, ap, ◌∙◌, arith}
+use Rattle.std.specs.Prelude.{Option, Some, None, nat_lt}
 use Rattle.std.specs.List.{filter}
 use Rattle.std.proofs.lemmas.List.{map-append, append-nil}
 use Rattle.std.proofs.lemmas.List.Elements.{filter-append}
 use Rattle.ent_protocol.specs.State.{Member, Use}
-use Rattle.ent_protocol.specs.Uses.{is_in_way}
+use Rattle.ent_protocol.specs.Uses.{is_in_way, least}
 use Rattle.ent_members.specs.declared.in_way.Passed.{Passed}
 use Rattle.ent_members.specs.declared.in_way.Passed.TheVariants.{Group, Itself}
 use Rattle.ent_members.specs.Passed.{is_passed, stands_in_way}
@@ -47,3 +48,45 @@ in_way_of asked group tx prepared active =
     (filtered_twice asked (Itself tx) active)
     ∙ sym (map-append tx_of (filter (is_in_way asked) passing) (filter (is_in_way asked) others))
     ∙ ap (map tx_of) (sym (filter-append (is_in_way asked) passing others))
+
+-- ---- the least of some numbers, in whatever order they stand
+
+abbrev lesser_with : ℕ → Option ℕ → ℕ
+lesser_with n None = n
+lesser_with n (Some m) = if nat_lt n m then n else m
+
+least_with : (n : ℕ) (ns : List ℕ) → least (n ∷ ns) ≡ Some (lesser_with n (least ns))
+least_with n [] = refl
+least_with n (m ∷ ms) = refl
+
+two_alike : (n m : ℕ) → (if nat_lt n m then n else m) ≡ (if nat_lt m n then m else n)
+two_alike n m = grind arith
+
+three_alike : (n m k : ℕ)
+    → (if nat_lt n (if nat_lt m k then m else k) then n else if nat_lt m k then m else k)
+    ≡ (if nat_lt m (if nat_lt n k then n else k) then m else if nat_lt n k then n else k)
+three_alike n m k = grind arith
+
+either_first : (n m : ℕ) (ns : List ℕ) → least (n ∷ m ∷ ns) ≡ least (m ∷ n ∷ ns)
+either_first n m [] = ap Some (two_alike n m)
+either_first n m (k ∷ ks) = ap Some (three_alike n m (lesser_with k (least ks)))
+
+pub least_moved : (n : ℕ) (xs ns : List ℕ) → least (xs ++ n ∷ ns) ≡ least (n ∷ xs ++ ns)
+least_moved n [] ns = refl
+least_moved n (x ∷ xs) ns =
+    least_with x (xs ++ n ∷ ns)
+    ∙ ap (λ o. Some (lesser_with x o)) (least_moved n xs ns)
+    ∙ sym (least_with x (n ∷ xs ++ ns))
+    ∙ either_first x n (xs ++ ns)
+
+-- the first of a list may be taken after the others
+pub first_last : (p : Member → Bool) (x : Member) (xs : List Member) (ns : List ℕ)
+    → least (map tx_of (filter p xs) ++ (map tx_of (filter p (x ∷ [])) ++ ns))
+    ≡ least (map tx_of (filter p (x ∷ xs)) ++ ns)
+first_last p x xs ns =
+    elim (p x) as (λ b.
+    least (map tx_of (filter p xs) ++ (map tx_of (if b then x ∷ [] else []) ++ ns))
+    ≡ least (map tx_of (if b then x ∷ filter p xs else filter p xs) ++ ns)) [
+      | true ↦ least_moved x.tx (map tx_of (filter p xs)) ns
+      | false ↦ refl
+    ]

@@ -1,5 +1,5 @@
 //! Who is in the way of a member that asks for uses.
-ghost use Rattle.std.specs.Prelude.{◌≡◌, ℕ, List, ◌++◌, ◌∷◌, map, filter};
+ghost use Rattle.std.specs.Prelude.{◌≡◌, ℕ, List, [], ◌++◌, ◌∷◌, Some, if◌then◌else◌, map, filter};
 ghost use Rattle.std.specs.List.{list_any};
 ghost use Rattle.ent_protocol.specs.Uses.{is_in_way, least, uses_conflict};
 ghost use Rattle.ent_members.specs.Passed.{is_passed, stands_in_way};
@@ -46,13 +46,28 @@ fn is_in_way(asked: &[Use], holder: &Member) -> bool
     asked.iter().any(|own| any_in_conflict(*own, held))
 }
 
-/// The least of a number and of those of which the least is given.
-fn least_with(tx: Tx, others: Option<Tx>) -> Option<Tx>
-    ensures { (numbers : List ℕ) → others ≡ least numbers → result ≡ least (tx ∷ numbers) }
+/// Whether a number is less than others of which the least is given.
+fn comes_first(tx: Tx, others: Option<Tx>) -> bool
+    ensures { (numbers : List ℕ) → others ≡ least numbers
+        → least (tx ∷ numbers) ≡ (if result then Some tx else others) }
 {
     match others {
-        Some(other) if other <= tx => Some(other),
-        _ => Some(tx),
+        Some(other) => tx < other,
+        None => true,
+    }
+}
+
+/// The least of a member, where it is in the way and not passed, and of others of which the least is given. A member
+/// that isn't less than these needn't be looked at.
+fn least_with(holder: &Member, asked: &[Use], passed: Passed, others: Option<Tx>) -> Option<Tx>
+    ensures { (numbers : List ℕ) → others ≡ least numbers
+        → result ≡ least (map tx_of (filter (stands_in_way asked.now passed) (holder.now ∷ [])) ++ numbers) }
+{
+    let tx = holder.tx();
+    if comes_first(tx, others) && !is_passed(passed, holder) && is_in_way(asked, holder) {
+        Some(tx)
+    } else {
+        others
     }
 }
 
@@ -66,15 +81,13 @@ pub(crate) fn least_in_way(
     ensures { (numbers : List ℕ) → others ≡ least numbers
         → result ≡ least (map tx_of (filter (stands_in_way asked.now passed) holders.now) ++ numbers) }
 {
-    let Some((first, rest)) = holders.split_first() else {
-        return others;
-    };
-    let beyond = least_in_way(rest, asked, passed, others);
-    if !is_passed(passed, first) && is_in_way(asked, first) {
-        least_with(first.tx(), beyond)
-    } else {
-        beyond
+    let mut found = others;
+    let mut rest = holders;
+    while let Some((first, later)) = rest.split_first() {
+        found = least_with(first, asked, passed, found);
+        rest = later;
     }
+    found
 }
 
 /// Whether a member of a group, with one member in its way, waits for another.

@@ -23,6 +23,7 @@ ghost use Rattle.ent_members.specs.Leavers.{leaver_of, leavers_in};
 ghost use Rattle.ent_members.specs.Moves.{Leave, Prepares, is_not_of, is_of_another};
 ghost use Rattle.ent_members.specs.Places.{Changes, found};
 ghost use Rattle.ent_members.specs.Run.{with_run, tx_of};
+ghost use Rattle.ent_members.specs.Uses.{uses_of};
 ghost use Rattle.ent_members.specs.Waits.{is_awaited};
 
 use crate::answer::{answer_each, numbers_of};
@@ -37,6 +38,8 @@ use crate::moves::{any_of, prepare, remove, take_group};
 use crate::search::{is_among, member_in};
 use crate::start::fresh_members;
 use crate::table_use::Use;
+use crate::uses::{changed_table, statement_uses};
+use ent_closed::Statement;
 use ent_group::{MOST_MEMBERS, Members, Tx};
 use ent_semantics::Answer;
 use ent_value::{Name, Value};
@@ -177,6 +180,17 @@ impl Run {
     {
         let least = least_in_way(self.active(), asked, Passed::Itself(asker.tx()), None);
         least_in_way(self.prepared(), asked, Passed::Group(asker.group()), least)
+    }
+
+    /// The least member in the way of one that asks for the uses of a statement, as [`Run::blocker`] says. What changes
+    /// a table asks for one use, and needs no room for more.
+    pub fn statement_blocker<K>(&self, asker: &Member, statement: &Statement<K>) -> Option<Tx>
+        ensures { (s : State) → result ≡ blocker (with_run self.now s) asker.now (uses_of statement.now) }
+    {
+        match changed_table(statement) {
+            Some(table) => self.blocker(asker, &[Use::exclusive(table)]),
+            None => self.blocker(asker, statement_uses(statement).as_slice()),
+        }
     }
 
     /// Whether a member that asks for uses would wait for another member, which isn't prepared.

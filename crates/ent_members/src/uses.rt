@@ -1,5 +1,5 @@
 //! The uses that a statement asks for, in a fixed array.
-ghost use Rattle.std.specs.Prelude.{◌≡◌, ◌+◌, ◌≤◌, ◌<◌, List, [], ◌∷◌, ◌++◌, length, map};
+ghost use Rattle.std.specs.Prelude.{◌≡◌, ◌+◌, ◌≤◌, ◌<◌, List, [], ◌∷◌, ◌++◌, length, map, IfSome};
 ghost use Rattle.ent_value.specs.declared.value.Value.{Value};
 ghost use Rattle.ent_closed.specs.declared.operand.Known.{Known};
 ghost use Rattle.ent_closed.specs.declared.entangled.Entangled.{Entangled as EntangledForm};
@@ -103,6 +103,18 @@ pub fn statement_uses<K>(statement: &Statement<K>) -> Uses
         Statement::Set { .. } => {}
     }
     uses
+}
+
+/// The table that a statement changes: the one that it uses.
+pub(crate) fn changed_table<K>(statement: &Statement<K>) -> Option<usize>
+    ensures { IfSome result (λ table. uses_of statement.now ≡ exclusive table ∷ []) }
+{
+    match statement {
+        Statement::Insert { table, .. }
+        | Statement::Delete { table, .. }
+        | Statement::Update { table, .. } => Some(*table),
+        _ => None,
+    }
 }
 
 /// The uses that a closed statement asks for are the protocol's, and closing a statement changes none.

@@ -7,7 +7,7 @@ ghost use Rattle.ent_protocol.specs.State.{State};
 use crate::next::{Next, kept_next, next_of};
 use crate::submitted::SubmittedScript;
 use ent_closed::Entangled;
-use ent_eval::Asking;
+use ent_job::Asking;
 use ent_members::Member;
 use ent_value::{Sequence, Value};
 use std::alloc::{AllocError, Global};

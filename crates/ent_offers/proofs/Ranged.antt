@@ -40,7 +40,7 @@ use Rattle.ent_form.specs.Steps.{there}
 use Rattle.ent_form.specs.declared.catalogue.TableSchema.{TableSchema}
 use Rattle.ent_form.specs.declared.fault.FormFault.TheVariants.{Arity, WrongKind, Unbound}
 use Rattle.ent_form.specs.declared.script.Plain.{Plain}
-use Rattle.ent_join.specs.Ranged.{is_variable, stands_in, IsRanged}
+use Rattle.ent_plan.specs.Ranged.{is_variable, stands_in, IsRanged}
 use Rattle.ent_offers.proofs.Noted.{OfVariable, OfVariables, OfItems, OfConditions, variable_weaker, variables_weaker}
 use Rattle.ent_offers.proofs.Noted.{variable_at}
 use Rattle.ent_offers.proofs.Statements.{OfResolved, script_each}

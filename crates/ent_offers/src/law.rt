@@ -9,7 +9,7 @@ ghost use Rattle.ent_closed.specs.declared.statement.Statement.TheVariants as st
 ghost use Rattle.ent_form.specs.Form.{script_in};
 ghost use Rattle.ent_form.specs.declared.catalogue.TableSchema.{TableSchema};
 ghost use Rattle.ent_form.specs.declared.script.Plain.{Plain};
-ghost use Rattle.ent_join.specs.Ranged.{IsRanged};
+ghost use Rattle.ent_plan.specs.Ranged.{IsRanged};
 ghost use Rattle.ent_plan.specs.Plan.{HasDistinctHeads};
 
 /// The heads of each entangled statement of a script that is resolved are of distinct relations, whatever its host

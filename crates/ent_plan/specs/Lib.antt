@@ -3,3 +3,4 @@ pub mod Tables
 pub mod Pairs
 pub mod Agreement
 pub mod Classes
+pub mod Ranged

@@ -41,7 +41,7 @@ fn print_column(printer: &mut Printer, reference: &ColumnReference) -> Result<()
     ensures { OnOk result (printer.new ≡ with_lexemes printer.old (column_spelling reference.now)) }
 {
     if let Some(qualifier) = &reference.qualifier {
-        printer.push_name(&qualifier.name)?;
+        printer.push_name(&qualifier.get().name)?;
         printer.push_sign(Symbol::Dot)?;
     }
     printer.push_name(&reference.column.name)
@@ -68,12 +68,12 @@ impl<T: Spelled> Spelled for Expression<T> {
             Expression::Sum(left, right) => {
                 left.print(printer)?;
                 printer.push_sign(Symbol::Plus)?;
-                right.print(printer)
+                right.get().print(printer)
             }
             Expression::Difference(left, right) => {
                 left.print(printer)?;
                 printer.push_sign(Symbol::Minus)?;
-                right.print(printer)
+                right.get().print(printer)
             }
         }
     }

@@ -19,7 +19,7 @@ impl Spelled for Source {
         printer.push_name(&self.table.name)?;
         if let Some(alias) = &self.alias {
             printer.push_word(Keyword::As)?;
-            printer.push_name(&alias.name)?;
+            printer.push_name(&alias.get().name)?;
         }
         Ok(())
     }

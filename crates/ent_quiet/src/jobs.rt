@@ -5,15 +5,15 @@ ghost use Rattle.ent_match.specs.Fault.{IsByNumber};
 ghost use Rattle.ent_protocol.specs.Member.{askings};
 ghost use Rattle.ent_protocol.specs.Quiet.{HasJobOut};
 ghost use Rattle.ent_protocol.specs.State.{State};
-ghost use Rattle.ent_eval.specs.Work.{work_seen};
+ghost use Rattle.ent_job.specs.Work.{work_seen};
 ghost use Rattle.ent_components.specs.Component.{pool_of};
 ghost use Rattle.ent_quiet.specs.Jobs.{HasAsking, HasJobIn, IsWorkOf};
 ghost use Rattle.ent_quiet.specs.Least.{LeastIfAny};
 
 use crate::least::lesser;
 use ent_components::is_present;
-use ent_eval::{Asking, Job, Work};
 use ent_group::Tx;
+use ent_job::{Asking, Job, Work};
 use std::alloc::{AllocError, Global};
 
 /// The least transaction of some statements.

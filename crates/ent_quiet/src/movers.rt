@@ -14,8 +14,8 @@ ghost use Rattle.ent_quiet.specs.Movers.{HasMoverIn, IsMover, IsNotAsking, OnlyP
 
 use crate::least::lesser;
 use ent_components::post_fault;
-use ent_eval::{Asking, Job};
 use ent_group::Tx;
+use ent_job::{Asking, Job};
 use ent_members::{Member, Run};
 use ent_next::{Next, SubmittedScript, next_of};
 use ent_waits::{Motion, motion_of};

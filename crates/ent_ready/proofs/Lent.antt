@@ -7,7 +7,7 @@ use Rattle.ent_protocol.specs.Job.{Asking, posted_of}
 use Rattle.ent_protocol.specs.Member.{askings, pool, seen_now}
 use Rattle.ent_protocol.specs.PoolEvents.{IsPresentComponent}
 use Rattle.ent_protocol.specs.State.{State, Use}
-use Rattle.ent_eval.specs.Work.{AreUsed}
+use Rattle.ent_job.specs.Work.{AreUsed}
 use Rattle.ent_ready.proofs.Declared.{of_index}
 use Rattle.ent_ready.proofs.Lists.{In, contains_in, in_map, to_map}
 

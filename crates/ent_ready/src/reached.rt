@@ -1,6 +1,6 @@
 //! Laws of states that are reached. What holds is in the contracts.
 ghost use Rattle.std.specs.Prelude.{◌≡◌, Contains, Ok};
-ghost use Rattle.ent_join.specs.Ranged.{AreRanged};
+ghost use Rattle.ent_plan.specs.Ranged.{AreRanged};
 ghost use Rattle.ent_plan.specs.Plan.{HaveDistinctHeads};
 ghost use Rattle.ent_protocol.specs.Member.{pool};
 ghost use Rattle.ent_protocol.specs.Reached.{IsReached};

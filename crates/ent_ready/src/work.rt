@@ -2,7 +2,7 @@
 ghost use Rattle.std.specs.Prelude.{◌≡◌, ◌<◌, All, Contains, List, None, length};
 ghost use Rattle.ent_value.specs.declared.value.Value.{Value};
 ghost use Rattle.ent_closed.specs.declared.statement.Statement.{Statement};
-ghost use Rattle.ent_eval.specs.Work.{IsJoint, IsOne};
+ghost use Rattle.ent_job.specs.Work.{IsJoint, IsOne};
 ghost use Rattle.ent_form.specs.OpeningFault.{opening_fault};
 ghost use Rattle.ent_protocol.specs.Begin.{single_job};
 ghost use Rattle.ent_protocol.specs.Finish.{table_of};

@@ -3,7 +3,7 @@ ghost use Rattle.std.specs.Prelude.{◌≡◌, ◌≢◌, Contains, IsTrue};
 ghost use Rattle.std.specs.List.{list_any};
 ghost use Rattle.ent_value.specs.declared.value.Value.{Value as Held};
 ghost use Rattle.ent_closed.specs.declared.entangled.Atom.{Atom as HeadAtom};
-ghost use Rattle.ent_join.specs.Ranged.{AreRanged, IsRanged, is_variable, stands_in};
+ghost use Rattle.ent_plan.specs.Ranged.{AreRanged, IsRanged, is_variable, stands_in};
 ghost use Rattle.ent_plan.specs.Plan.{HasDistinctHeads, HaveDistinctHeads};
 
 use crate::reply::put;

@@ -98,7 +98,7 @@ impl Show for ValueSpecification {
 impl Show for ColumnReference {
     fn show(&self, alloc: Global, out: &mut Vec<u8>) -> Result<()> {
         if let Some(qualifier) = &self.qualifier {
-            qualifier.show(alloc, out)?;
+            qualifier.get().show(alloc, out)?;
             put(out, ".")?;
         }
         self.column.show(alloc, out)
@@ -118,8 +118,13 @@ impl<T: Show> Show for Expression<T> {
     fn show(&self, alloc: Global, out: &mut Vec<u8>) -> Result<()> {
         match self {
             Expression::Single(term) => term.show(alloc, out),
-            Expression::Sum(left, right) => put_list(alloc, out, &[left, right], " + "),
-            Expression::Difference(left, right) => put_list(alloc, out, &[left, right], " - "),
+            Expression::Sum(left, right) => put_list(alloc, out, &[left, right.get()], " + "),
+            Expression::Difference(left, right) => put_list(
+                alloc,
+                out,
+                &[left, right.get()],
+                " - ",
+            ),
         }
     }
 }
@@ -160,7 +165,7 @@ impl Show for Source {
         self.table.show(alloc, out)?;
         if let Some(alias) = &self.alias {
             put(out, " as ")?;
-            alias.show(alloc, out)?;
+            alias.get().show(alloc, out)?;
         }
         Ok(())
     }

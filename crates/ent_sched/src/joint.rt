@@ -10,8 +10,9 @@ use crate::law::events_add_up;
 use ent_bounds::{progress_uses_up, steps_stay_within};
 use ent_core::{Core, Reply};
 use ent_endings::{jobs_are_lent_by_replies, results_are_taken_at_once};
-use ent_eval::{Done, Job, evaluate};
+use ent_eval::{Done, evaluate};
 use ent_form::FormFault;
+use ent_job::Job;
 use ent_value::Ticks;
 use std::alloc::{AllocError, Global};
 

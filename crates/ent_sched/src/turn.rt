@@ -2,8 +2,9 @@
 ghost use Rattle.std.specs.Prelude.{◌≡◌, ◌*◌, ℕ, [], false, true, IfOk, OnOk, length};
 ghost use Rattle.std.specs.List.{AllByRecursion};
 ghost use Rattle.ent_endings.specs.Idle.{IsHeldUp};
-ghost use Rattle.ent_protocol.specs.Event.{Begin};
+ghost use Rattle.ent_protocol.specs.Event.{Begin, Blocked};
 ghost use Rattle.ent_protocol.specs.Lookup.{running_members};
+ghost use Rattle.ent_protocol.specs.Step.{Step};
 ghost use Rattle.ent_resolved.specs.Resolved.{resolved_forms};
 ghost use Rattle.ent_sched.specs.Onward.{TicksOn};
 ghost use Rattle.ent_sched.specs.Progress.{IsJustLent, UsesUp};
@@ -15,9 +16,10 @@ use ent_core::{Core, Reply, Standing};
 use ent_endings::{
     jobs_are_lent_by_replies, ready_members_are_answered, results_are_taken_at_once,
 };
-use ent_eval::{Done, Job, evaluate};
+use ent_eval::{Done, evaluate};
 use ent_form::FormFault;
 use ent_group::Tx;
+use ent_job::Job;
 use ent_protocol::refusals_change_nothing;
 use ent_value::Ticks;
 use std::alloc::{AllocError, Global};
@@ -67,6 +69,18 @@ fn carry_out(alloc: Global, core: &mut Core, job: Job, ticks: &mut Ticks) -> Res
     }
 }
 
+/// The begin of a member that another one is in the way of is refused. It is counted, and changes nothing.
+fn count_refused(core: &Core, tx: Tx, ticks: &mut Ticks)
+    requires { (holder : ℕ) × Step resolved_forms core.now (Begin tx) (Blocked holder) core.now }
+    ensures events { TicksOn resolved_forms 1 core.now core.now ticks.old ticks.new }
+    ensures held_up { IsHeldUp resolved_forms core.now tx }
+{
+    events_add_up::<FormFault>();
+    core.is_reached();
+    let _count = ticks.count();
+    ticks.add();
+}
+
 /// One member's turn: where it is ready it begins its next statement, and a job that is lent is carried out at once.
 /// Whether it moved. Where memory runs out the events that were made stand.
 fn turn(alloc: Global, core: &mut Core, tx: Tx, ticks: &mut Ticks) -> Result<bool, AllocError>
@@ -88,6 +102,10 @@ fn turn(alloc: Global, core: &mut Core, tx: Tx, ticks: &mut Ticks) -> Result<boo
     let Some(Standing::Ready(_)) = core.standing(tx) else {
         return Ok(false);
     };
+    if core.is_blocked(tx) {
+        count_refused(core, tx, ticks);
+        return Ok(false);
+    }
     let reply = core.begin(tx)?;
     ticks.add();
     match reply {

@@ -12,7 +12,7 @@ use crate::front::{
 use crate::list::Item;
 use ent_grammar::{GrammarFault, begins_with_sign, sign_at, unexpected};
 use ent_text::{Symbol, TokenView, Tokens, text_of};
-use ent_tree::{ColumnReference, Identifier, Literal, Operand, Term, ValueSpecification};
+use ent_tree::{Boxed, ColumnReference, Identifier, Literal, Operand, Term, ValueSpecification};
 use ent_value::{Name, Refusal, Value};
 use std::alloc::Global;
 
@@ -134,7 +134,7 @@ fn reference_at(
     if begins_with_sign(Symbol::Dot, &rest) {
         let (_, rest) = sign_at(Symbol::Dot, end, rest)?;
         let (column, rest) = name_at(alloc, end, rest)?;
-        let qualifier = Some(first);
+        let qualifier = Some(Boxed::new(alloc, first)?);
         Ok((ColumnReference { qualifier, column }, rest))
     } else {
         let qualifier = None;

@@ -9,7 +9,7 @@ use crate::list::{Item, listed};
 use crate::operand::name_at;
 use ent_grammar::{Divider, GrammarFault, begins_with_sign, begins_with_word, sign_at, word_at};
 use ent_text::{Keyword, Symbol, Tokens};
-use ent_tree::{Items, MOST_PARTS, Operand, Select, Source, Test};
+use ent_tree::{Boxed, Items, MOST_PARTS, Operand, Select, Source, Test};
 use ent_value::{Limited, Refusal};
 use std::alloc::Global;
 
@@ -25,11 +25,11 @@ fn source_at(
     if begins_with_word(Keyword::As, &rest) {
         let (_, rest) = word_at(Keyword::As, end, rest)?;
         let (name, rest) = name_at(alloc, end, rest)?;
-        let alias = Some(name);
+        let alias = Some(Boxed::new(alloc, name)?);
         Ok((Source { table, alias }, rest))
     } else if begins_with_name(&rest) {
         let (name, rest) = name_at(alloc, end, rest)?;
-        let alias = Some(name);
+        let alias = Some(Boxed::new(alloc, name)?);
         Ok((Source { table, alias }, rest))
     } else {
         let alias = None;

@@ -8,7 +8,7 @@ use crate::front::begins_with_operand;
 use crate::list::Item;
 use ent_grammar::{GrammarFault, begins_with_sign, sign_at};
 use ent_text::{Symbol, Tokens};
-use ent_tree::{Comparison, Expression, Operand, Test};
+use ent_tree::{Boxed, Comparison, Expression, Operand, Test};
 use ent_value::Refusal;
 use std::alloc::Global;
 
@@ -93,11 +93,14 @@ fn expression_behind<T: Item>(
     if begins_with_sign(Symbol::Plus, &tokens) {
         let (_, rest) = sign_at(Symbol::Plus, end, tokens)?;
         let (second, rest) = T::read(alloc, end, rest)?;
-        Ok((Expression::Sum(first, second), rest))
+        Ok((Expression::Sum(first, Boxed::new(alloc, second)?), rest))
     } else if begins_with_sign(Symbol::Minus, &tokens) {
         let (_, rest) = sign_at(Symbol::Minus, end, tokens)?;
         let (second, rest) = T::read(alloc, end, rest)?;
-        Ok((Expression::Difference(first, second), rest))
+        Ok((
+            Expression::Difference(first, Boxed::new(alloc, second)?),
+            rest,
+        ))
     } else {
         Ok((Expression::Single(first), tokens))
     }

@@ -6,7 +6,7 @@ ghost use Rattle.ent_rel.specs.Change.{changed_rows};
 ghost use Rattle.ent_eval.specs.Change.{IsApplicable};
 ghost use Rattle.ent_tables.specs.AtNumber.{no_table, seen_at, seen_in};
 
-use ent_eval::Seen;
+use ent_job::Seen;
 use ent_members::Use;
 use ent_rel::{Delta, Table, TableFull};
 use ent_value::{Refusal, Sequence};

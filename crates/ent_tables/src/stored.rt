@@ -15,9 +15,9 @@ ghost use Rattle.ent_tables.specs.Stored.{changed, kinds_declared, relation_at, 
 ghost use Rattle.ent_tables.specs.Stored.{settled, settled_with, taken_back};
 
 use crate::at_number::{table_at, table_changed, tables_seen};
-use ent_eval::Seen;
 use ent_form::Catalogue;
 use ent_group::{Members, Tx};
+use ent_job::Seen;
 use ent_loading::load_tables;
 use ent_members::Use;
 use ent_rel::{Delta, Table};

@@ -5,6 +5,7 @@
 //! [`Same`] compares.
 #![tactic(auto)]
 
+mod boxed;
 mod declaration;
 mod duplicate;
 mod entangled;
@@ -15,6 +16,7 @@ mod script;
 mod select;
 mod statement;
 
+pub use boxed::Boxed;
 pub use declaration::{Column, Create, Opening, OpeningRow};
 pub use duplicate::Duplicate;
 pub use entangled::{Condition, Entangled, EntangledItem, Term, Tuple};

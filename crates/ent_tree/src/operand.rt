@@ -1,4 +1,5 @@
 //! Names, values and what is made of them.
+use crate::boxed::Boxed;
 use crate::duplicate::Duplicate;
 use crate::same::Same;
 use ent_value::{Name, Value};
@@ -29,7 +30,7 @@ pub enum ValueSpecification {
 /// `column`, or `qualifier.column`. The qualifier is the name or the alias of a source.
 #[derive(Drop)]
 pub struct ColumnReference {
-    pub qualifier: Option<Identifier>,
+    pub qualifier: Option<Boxed<Identifier>>,
     pub column: Identifier,
 }
 
@@ -43,8 +44,8 @@ pub enum Operand {
 /// A term, or the sum or the difference of two.
 pub enum Expression<T> {
     Single(T),
-    Sum(T, T),
-    Difference(T, T),
+    Sum(T, Boxed<T>),
+    Difference(T, Boxed<T>),
 }
 
 /// Written out, so that the crates above call it, and none makes and compiles it anew.

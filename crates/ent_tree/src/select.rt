@@ -1,4 +1,5 @@
 //! SELECT over tables.
+use crate::boxed::Boxed;
 use crate::duplicate::Duplicate;
 use crate::limits::{MOST_PARTS, MOST_SOURCES};
 use crate::operand::{Identifier, Operand, Test};
@@ -10,7 +11,7 @@ use std::alloc::{AllocError, Global};
 #[derive(Drop)]
 pub struct Source {
     pub table: Identifier,
-    pub alias: Option<Identifier>,
+    pub alias: Option<Boxed<Identifier>>,
 }
 
 /// What a SELECT shows: every column, source by source, or these items.

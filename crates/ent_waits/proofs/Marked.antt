@@ -17,7 +17,7 @@ use Rattle.ent_protocol.specs.Member.{next_in}
 use Rattle.ent_protocol.specs.State.{Member, Submitted, Use}
 use Rattle.ent_protocol.specs.Uses.{in_way, is_in_way, not_passed}
 use Rattle.ent_protocol.specs.Waits.{is_waiting, next_uses}
-use Rattle.ent_waits.specs.Rows.{HasMarksOf, IsMarkedPair, MarksAll, MarksOver, StandsAt, stops}
+use Rattle.ent_waits.specs.Rows.{HasMarksOf, IsMarkedPair, MarksAll, MarksGroups, MarksOver, StandsAt, goes_with, stops}
 use Rattle.ent_waits.specs.Waits.{awaits_now, gathered, nothing, pair_if_awaited, pairs_while_waiting, state_with}
 use Rattle.ent_waits.proofs.Rings.{all_of_flat_map}
 use Rattle.ent_waits.proofs.Stuck.{MarksOneMore, below_or, mark_kept, mark_made}
@@ -93,6 +93,43 @@ over_same of_group active asker asked holders row at here is free upto =
           ∙ ap (stops of_group asker asked) (sym (element_is holders at place here holder is same stands)) ∙ free))
     ]
 
+-- ---- one row, over holders and those who go with them, whoever asks
+
+abbrev pub MarksGroupsUpto : List Member → List Use → List Member → ℕ → ℕ → Type 0
+MarksGroupsUpto active asked holders count row =
+    (place : ℕ) (holder : Member) → place < count → StandsAt holders place holder → is_in_way asked holder ≡ true
+    → MarksAll active (goes_with holder) row
+
+pub groups_more : (active : List Member) (asked : List Use) (holders : List Member) (row new at : ℕ) (here : Member)
+    → IsElement holders at here → HasMarksOf new row → MarksAll active (goes_with here) new
+    → MarksGroupsUpto active asked holders at row → MarksGroupsUpto active asked holders (at + 1) new
+groups_more active asked holders row new at here is kept marks upto =
+    λ place holder below stands own. elim (below_or place at) [
+      | inl before ↦ λ k other at_k waits. kept k (upto place holder before stands own k other at_k waits)
+      | inr past ↦
+          let same : place ≡ at = omega arith in
+          subst (λ (h : Member). MarksAll active (goes_with h) new)
+          (element_is holders at place here holder is same stands) marks
+    ]
+
+pub groups_same : (active : List Member) (asked : List Use) (holders : List Member) (row at : ℕ) (here : Member)
+    → IsElement holders at here → is_in_way asked here ≡ false
+    → MarksGroupsUpto active asked holders at row → MarksGroupsUpto active asked holders (at + 1) row
+groups_same active asked holders row at here is free upto =
+    λ place holder below stands own. elim (below_or place at) [
+      | inl before ↦ upto place holder before stands own
+      | inr past ↦
+          let same : place ≡ at = omega arith in
+          absurd (true≢false (sym own
+          ∙ ap (is_in_way asked) (sym (element_is holders at place here holder is same stands)) ∙ free))
+    ]
+
+goes_if : (own_group same own : Bool) → (if own_group then own else same) ≡ true → (same || own) ≡ true
+goes_if true true own is = refl
+goes_if true false own is = is
+goes_if false true own is = refl
+goes_if false false own is = absurd (true≢false (sym is))
+
 -- ---- whom a member waits for
 
 some_if : (q : Member → Bool) (x : Member) (xs : List Member) (b : Bool) → q x ≡ b
@@ -138,6 +175,15 @@ first_of_both false b is = is
 second_of_both : (a b : Bool) → (a && b) ≡ true → b ≡ true
 second_of_both true b is = is
 second_of_both false b is = absurd (true≢false (sym is))
+
+-- who is awaited over a holder goes with it
+pub over_from_groups : (of_group : Bool) (active : List Member) (asker : Member) (asked : List Use)
+    (holders : List Member) (row : ℕ) → MarksGroups active asked holders row
+    → MarksOver of_group active asker asked holders row
+over_from_groups of_group active asker asked holders row marks = λ place holder stands own k other at_k waits.
+    let passed = if of_group then holder.group == asker.group else (holder.tx == asker.tx) in
+    marks place holder stands (second_of_both (not passed) (is_in_way asked holder) own) k other at_k
+    (goes_if (holder.group == asker.group) (other.group == holder.group) (holder.tx == other.tx) waits)
 
 pub row_marks : (run : Run) (asker : Member) (asked : List Use) (first row : ℕ)
     → MarksOver true run.active asker asked run.prepared first → HasMarksOf row first

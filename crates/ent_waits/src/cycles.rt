@@ -11,8 +11,8 @@ use crate::pairs::{MOST_PAIRS, Pairs};
 use crate::ring::may_ring;
 use crate::rows::rows_of;
 use crate::waiting::is_waiting;
-use ent_eval::Job;
 use ent_group::{MOST_MEMBERS, Members, cycle};
+use ent_job::Job;
 use ent_members::{Member, Run, Use, awaited_members_are_waited_for};
 use ent_next::SubmittedScript;
 

@@ -7,6 +7,7 @@
 //! would begin; and that no call takes memory, so that none can fail.
 #![tactic(auto)]
 
+mod changers;
 mod cycles;
 mod marks;
 mod motion;

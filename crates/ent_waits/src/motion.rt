@@ -12,8 +12,8 @@ ghost use Rattle.ent_waits.specs.Waits.{state_with};
 use crate::next_uses::next_uses;
 use crate::waiting::is_waiting;
 use ent_closed::Statement;
-use ent_eval::Job;
 use ent_group::Tx;
+use ent_job::Job;
 use ent_members::{Member, Run};
 use ent_next::{SubmittedScript, next_form};
 

@@ -1,18 +1,19 @@
 //! Whom each member waits for, as rows of marks.
-ghost use Rattle.std.specs.Prelude.{◌≡◌, ℕ, ◌≤◌, length, slice_index};
+ghost use Rattle.std.specs.Prelude.{◌≡◌, ℕ, ◌≤◌, ◌<◌, length, slice_index, IfSome};
 ghost use Rattle.std.specs.List.{list_any};
 ghost use Rattle.ent_members.specs.Run.{with_run};
 ghost use Rattle.ent_members.specs.Waits.{is_awaited, waits_over};
 ghost use Rattle.ent_protocol.specs.State.{Member as Seen};
 ghost use Rattle.ent_protocol.specs.Uses.{is_in_way, uses_conflict};
-ghost use Rattle.ent_waits.specs.Rows.{HasMarksOf, MarksAll, MarksOver, StandsAt, stops};
+ghost use Rattle.ent_waits.specs.Rows.{HasMarksOf, IsOfChangers, MarksAll, MarksOver, StandsAt, stops};
 ghost use Rattle.ent_waits.specs.Waits.{awaits_now, nothing};
 
+use crate::changers::{ChangersRow, exclusive_table, row_of_changer};
 use crate::marks::{Row, with_mark};
 use crate::next_uses::next_uses;
 use crate::waiting::is_waiting;
-use ent_eval::Job;
 use ent_group::{MOST_MEMBERS, Tx};
+use ent_job::Job;
 use ent_members::{Member, Run, Use};
 use ent_next::SubmittedScript;
 
@@ -29,7 +30,7 @@ fn any_in_conflict(asked: Use, held: &[Use]) -> bool
 }
 
 /// Whether a member holds a use in conflict with one that is asked for.
-fn is_in_way(asked: &[Use], holder: &Member) -> bool
+pub(crate) fn is_in_way(asked: &[Use], holder: &Member) -> bool
     ensures { result ≡ is_in_way asked.now holder.now }
 {
     let held = holder.uses();
@@ -97,7 +98,7 @@ fn mark_over(
 }
 
 /// The row of a member that asks for uses: marks at those for whom it waits.
-fn row_of(run: &Run, asker: &Member, asked: &[Use]) -> Row
+pub(crate) fn row_of(run: &Run, asker: &Member, asked: &[Use]) -> Row
     ensures { MarksAll run.now.active (is_awaited (with_run run.now nothing) asker.now asked.now) result }
 {
     let _most = run.len();
@@ -107,13 +108,26 @@ fn row_of(run: &Run, asker: &Member, asked: &[Use]) -> Row
 }
 
 /// The row of a member, while it waits.
-fn row_while_waiting(run: &Run, submitted: &[SubmittedScript], lent: &[Job], asker: &Member) -> Row
-    ensures { MarksAll run.now.active (awaits_now run.now submitted.now lent.now asker.now) result }
+fn row_while_waiting(
+    run: &Run,
+    submitted: &[SubmittedScript],
+    lent: &[Job],
+    asker: &Member,
+    place: usize,
+    known: &mut Option<ChangersRow>,
+) -> Row
+    requires place { place < MOST_MEMBERS }
+    requires known { IfSome known.old (IsOfChangers run.now) }
+    ensures row { MarksAll run.now.active (awaits_now run.now submitted.now lent.now asker.now) result }
+    ensures known { IfSome known.new (IsOfChangers run.now) }
 {
-    if is_waiting(lent, asker) {
-        row_of(run, asker, next_uses(submitted, asker).as_slice())
-    } else {
-        0
+    if !is_waiting(lent, asker) {
+        return 0;
+    }
+    let asked = next_uses(submitted, asker);
+    match exclusive_table(asked.as_slice()) {
+        Some(table) => row_of_changer(run, asker, place, table, known),
+        None => row_of(run, asker, asked.as_slice()),
     }
 }
 
@@ -123,10 +137,11 @@ pub(crate) fn rows_of(run: &Run, submitted: &[SubmittedScript], lent: &[Job]) ->
         → MarksAll run.now.active (awaits_now run.now submitted.now lent.now asker) (slice_index result place) }
 {
     let mut rows = [0; MOST_MEMBERS];
+    let mut known = None;
     let _most = run.len();
     let active = run.active();
     for (place, asker) in active.iter().enumerate() {
-        rows[place] = row_while_waiting(run, submitted, lent, asker);
+        rows[place] = row_while_waiting(run, submitted, lent, asker, place, &mut known);
     }
     rows
 }

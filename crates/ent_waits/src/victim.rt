@@ -6,8 +6,8 @@ ghost use Rattle.ent_waits.specs.Victim.{IsVictim};
 ghost use Rattle.ent_waits.specs.Waits.{state_with};
 
 use crate::cycles::deadlock;
-use ent_eval::Job;
 use ent_group::{Members, Tx};
+use ent_job::Job;
 use ent_members::Run;
 use ent_next::SubmittedScript;
 

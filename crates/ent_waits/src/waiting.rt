@@ -3,8 +3,8 @@ ghost use Rattle.std.specs.Prelude.{◌≡◌, not, ◌&&◌};
 ghost use Rattle.std.specs.List.{list_any};
 ghost use Rattle.ent_protocol.specs.Member.{is_single_of};
 
-use ent_eval::{Job, Work};
 use ent_group::Tx;
+use ent_job::{Job, Work};
 use ent_members::Member;
 
 /// Whether a job is of one statement of a transaction.

@@ -12,9 +12,9 @@ pub returns-in-Some : goal.returns-in-Some
 returns-in-Some c =
     let s : State = the_view c.store.inside in
     let member = c.args.member.now in
-    c.blocker.ensures s
+    c.statement_blocker.ensures s
     ∙ ap (λ (asked : List Use). blocker s member asked)
-    (c.as_slice-in-Some.ensures.list ∙ c.statement_uses.ensures ∙ sym c.in-Some.ensures.uses
+    (sym c.in-Some.ensures.uses
     ∙ ap (λ (submitted : List Submitted). next_uses (next_in (numbered submitted member.tx) member))
     c.as_slice.ensures.value)
     ∙ ap (λ (x : State). blocker x member (next_uses (next_of x member))) c.store.view_is

@@ -2,7 +2,7 @@ use Rattle.std.proofs.Common.{◌≡◌, ◌<◌, ◌∙◌, ℕ, ap, sym, subst
 use Rattle.std.specs.Prelude.{All}
 use Rattle.std.proofs.lemmas.List.{length-map}
 use Rattle.std.proofs.lemmas.List.Elements.{recursion_from_All}
-use Rattle.ent_eval.specs.Work.{IsOne}
+use Rattle.ent_job.specs.Work.{IsOne}
 use Rattle.ent_tree.specs.declared.declaration.Create.{Create}
 use Rattle.ent_protocol.specs.Job.{Seen, Single, One}
 use Rattle.ent_protocol.specs.Member.{seen_now}

@@ -1,8 +1,9 @@
 use Rattle.std.proofs.Common.{◌≡◌, ◌∙◌, Some, ap, refl, subst, sym, slice_get}
 use Rattle.std.proofs.lemmas.Option.{slice_get_within}
-use Rattle.ent_eval.specs.Work.{CanBeMade, IsWork, alone_seen, outcome_seen, work_seen}
+use Rattle.ent_job.specs.Work.{IsWork, work_seen}
+use Rattle.ent_eval.specs.Result.{CanBeMade, alone_seen, outcome_seen}
 use Rattle.ent_eval.specs.declared.outcome.JobOutcome.{JobOutcome}
-use Rattle.ent_eval.specs.declared.work.Work.{Work}
+use Rattle.ent_job.specs.declared.work.Work.{Work}
 use Rattle.ent_protocol.specs.Job.{Job, One, Outcome}
 use Rattle.ent_protocol.specs.State.{State}
 use Rattle.ent_resolved.specs.Resolved.{resolved_forms}

@@ -1,5 +1,5 @@
 use Rattle.std.proofs.Common.{◌≡◌, ◌∙◌, List, Some, ap, refl, subst, sym, slice_get}
-use Rattle.ent_eval.specs.Work.{alone_seen}
+use Rattle.ent_eval.specs.Result.{alone_seen}
 use Rattle.ent_form.specs.declared.fault.FormFault.{FormFault}
 use Rattle.ent_protocol.specs.Event as replies
 use Rattle.ent_protocol.specs.Finish.{FinishesBy, IsTaken}

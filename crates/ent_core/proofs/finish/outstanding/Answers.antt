@@ -1,6 +1,6 @@
 use Rattle.std.proofs.Common.{◌∙◌, ap, sym}
-use Rattle.ent_eval.specs.Work.{work_seen}
-use Rattle.ent_eval.specs.declared.work.Work.{Work}
+use Rattle.ent_job.specs.Work.{work_seen}
+use Rattle.ent_job.specs.declared.work.Work.{Work}
 use Rattle.ent_core.proofs.Outstanding.{joint_not_single, not_lent}
 use Rattle.ent_core.proofs.finish.outstanding.Goals as goal
 

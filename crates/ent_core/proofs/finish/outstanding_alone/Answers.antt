@@ -1,6 +1,6 @@
 use Rattle.std.proofs.Common.{◌≡◌, ◌∙◌, ◌∷◌, [], List, Some, ap, refl, sym, slice_get}
-use Rattle.ent_eval.specs.Work.{work_seen}
-use Rattle.ent_eval.specs.declared.work.Work.{Work}
+use Rattle.ent_job.specs.Work.{work_seen}
+use Rattle.ent_job.specs.declared.work.Work.{Work}
 use Rattle.ent_protocol.specs.Job.{Job}
 use Rattle.ent_core.proofs.Outstanding.{joint_not_single}
 use Rattle.ent_core.proofs.finish.outstanding_alone.Goals as goal

@@ -1,8 +1,9 @@
 use Rattle.std.proofs.Common.{◌≡◌, ◌∙◌, ap, sym}
 use Rattle.std.proofs.lemmas.Option.{slice_get_within}
-use Rattle.ent_eval.specs.Work.{outcome_seen, work_seen}
+use Rattle.ent_job.specs.Work.{work_seen}
+use Rattle.ent_eval.specs.Result.{outcome_seen}
 use Rattle.ent_eval.specs.declared.outcome.JobOutcome.{JobOutcome}
-use Rattle.ent_eval.specs.declared.work.Work.{Work}
+use Rattle.ent_job.specs.declared.work.Work.{Work}
 use Rattle.ent_protocol.specs.Job.{Job, Joint}
 use Rattle.ent_core.specs.Reply.{reply_seen}
 use Rattle.ent_core.proofs.JointResults.{accepted, distinct_by_number, one_grounding_each}

@@ -1,6 +1,6 @@
 use Rattle.std.proofs.Common.{List, sym, subst, ◌∙◌, true≢false}
-use Rattle.ent_eval.specs.Work.{work_seen}
-use Rattle.ent_eval.specs.declared.work.Work.{Work}
+use Rattle.ent_job.specs.Work.{work_seen}
+use Rattle.ent_job.specs.declared.work.Work.{Work}
 use Rattle.ent_protocol.specs.Job.{Asking}
 use Rattle.ent_protocol.specs.PoolEvents.{IsPresentComponent}
 use Rattle.ent_quiet.specs.Jobs.{HasAsking, IsWorkOf}

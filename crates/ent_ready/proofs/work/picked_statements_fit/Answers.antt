@@ -1,6 +1,6 @@
 use Rattle.std.proofs.Common.{map}
 use Rattle.ent_coordination.specs.Pool.{Posted}
-use Rattle.ent_join.specs.Ranged.{IsRanged}
+use Rattle.ent_plan.specs.Ranged.{IsRanged}
 use Rattle.ent_protocol.specs.Job.{posted_of}
 use Rattle.ent_protocol.specs.Member.{pool}
 use Rattle.ent_protocol.specs.PoolEvents.{joint_uses}

@@ -1,6 +1,6 @@
 use Rattle.std.proofs.Common.{◌≡◌, ℕ, ◌<◌, true}
 use Rattle.std.specs.List.{list_any}
-use Rattle.ent_join.specs.Ranged.{stands_in}
+use Rattle.ent_plan.specs.Ranged.{stands_in}
 use Rattle.ent_scenarios.proofs.choice.is_ranged.Given as goal
 
 abbrev pub invariant-loop-number : goal.invariant-loop-number

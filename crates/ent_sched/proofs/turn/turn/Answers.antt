@@ -70,3 +70,13 @@ returns-in_default-reply c =
             (λ turn is. (reply, idle, (new, step))),
           );
     }
+
+pub returns-then-is_blocked : goal.returns-then-is_blocked
+returns-then-is_blocked c =
+    let s = c.args.core.now in record {
+      events = c.events_add_up.ensures.widened resolved_forms 1 2 s s c.args.ticks.now c.count_refused.new.ticks
+          (omega arith) c.count_refused.ensures.events;
+      none_lent = c.requires.none_lent;
+      progress = λ moved. absurd cc;
+      idle = λ still. (refl, c.count_refused.ensures.held_up);
+    }

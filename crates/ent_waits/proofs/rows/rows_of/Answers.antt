@@ -16,7 +16,8 @@ loop-place-preserved c =
       upto = rows_more run c.args.submitted.now c.args.lent.now c.loop-place.rows at c.row_while_waiting.result here
           (subst (λ (members : List Member). IsElement members at here) c.active-active.ensures.list element)
           (omega (arith, c.loop-place-test.true, c.loop-place.invariant.bound, c.loop-place.invariant.room))
-          c.row_while_waiting.ensures c.loop-place.invariant.upto;
+          c.row_while_waiting.ensures.row c.loop-place.invariant.upto;
+      known = c.row_while_waiting.ensures.known;
       room = length-set c.loop-place.rows at c.row_while_waiting.result ∙ c.loop-place.invariant.room;
       bound = c.loop-place.invariant.bound;
       all = c.loop-place.invariant.all;

@@ -1,5 +1,5 @@
 use Rattle.std.proofs.Common.{subst}
-use Rattle.ent_eval.specs.Work.{IsRight}
+use Rattle.ent_eval.specs.Result.{IsRight}
 use Rattle.ent_eval.proofs.done.Done.outcome.Goals as goal
 
 pub returns-clause-change : goal.returns-clause-change

@@ -5,7 +5,7 @@ ghost use Rattle.ent_protocol.specs.Job.{posted_of};
 
 use ent_closed::Entangled;
 use ent_group::Tx;
-use ent_join::Member;
+use ent_match::Member;
 use ent_tree::{Duplicate, Same};
 use ent_value::Value;
 use std::alloc::{AllocError, Global};

@@ -1,7 +1,7 @@
 //! Jobs.
 ghost use Rattle.std.specs.Prelude.{◌≡◌, ◌↔◌, IfOk, IsTrue};
 ghost use Rattle.ent_protocol.specs.Job as jobs;
-ghost use Rattle.ent_eval.specs.Work.{IsOne, IsJoint, IsWork, work_seen};
+ghost use Rattle.ent_job.specs.Work.{IsOne, IsJoint, IsWork, work_seen};
 
 use crate::asking::Asking;
 use crate::seen::Seen;
@@ -38,7 +38,7 @@ impl Model for Job {
 
     ghost coded = { Prim.hlevel (codes, coded_rows) };
 
-    ghost use Rattle.ent_eval.specs.Work.{IsWork, work_seen};
+    ghost use Rattle.ent_job.specs.Work.{IsWork, work_seen};
 
     ghost view = { λ j. record { work = work_seen j.work; tables = j.tables } };
 

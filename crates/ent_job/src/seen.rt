@@ -1,7 +1,7 @@
 //! Tables as work sees them.
-ghost use Rattle.std.specs.Prelude.{◌≡◌, IfOk, map};
+ghost use Rattle.std.specs.Prelude.{◌≡◌};
 ghost use Rattle.std.specs.Arc.{arc_value};
-ghost use Rattle.ent_eval.specs.Seen.{relation_of};
+ghost use Rattle.ent_job.specs.Seen.{relation_of};
 
 use ent_rel::Table;
 use ent_tree::{Duplicate, Same};
@@ -79,15 +79,4 @@ impl Same for Seen {
     fn is_same(&self, other: &Seen) -> bool {
         self.number == other.number && self.table.is_same(&other.table)
     }
-}
-
-/// Tables without their numbers; they are shared.
-pub(crate) fn tables_shared(alloc: Global, tables: &[Seen]) -> Result<Vec<Arc<Table>>, AllocError>
-    ensures { IfOk result (λ shared. map arc_value shared.items ≡ map relation_of tables.now) }
-{
-    let mut shared = Vec::with_capacity(alloc, tables.len())?;
-    for seen in tables {
-        shared.push(seen.table().clone()?)?;
-    }
-    Ok(shared)
 }

@@ -1,7 +1,7 @@
 use Rattle.std.proofs.Common.{◌≡◌, map, take}
 use Rattle.std.specs.Arc.{arc_value}
-use Rattle.ent_eval.specs.Seen.{relation_of}
-use Rattle.ent_eval.proofs.seen.tables_shared.Given as goal
+use Rattle.ent_job.specs.Seen.{relation_of}
+use Rattle.ent_eval.proofs.shared.tables_shared.Given as goal
 
 -- the tables so far
 abbrev pub invariant-loop-seen : goal.invariant-loop-seen

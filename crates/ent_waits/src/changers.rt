@@ -1,0 +1,116 @@
+//! The row that those who change one table have in common.
+ghost use Rattle.std.specs.Prelude.{◌≡◌, ◌≤◌, ◌<◌, [], ◌∷◌, length, IfSome};
+ghost use Rattle.ent_members.specs.Run.{with_run};
+ghost use Rattle.ent_members.specs.Waits.{is_awaited};
+ghost use Rattle.ent_protocol.specs.Uses.{exclusive};
+ghost use Rattle.ent_waits.specs.Rows.{HasMarksOf, IsOfChangers, IsRowOfAny, MarksAll, MarksGroups, goes_with};
+ghost use Rattle.ent_waits.specs.Waits.{nothing};
+
+use crate::marks::{Row, share_mark, with_mark};
+use crate::rows::{is_in_way, row_of};
+use ent_group::MOST_MEMBERS;
+use ent_lock::Mode;
+use ent_members::{Member, Run, Use};
+
+/// A table, and the row of whoever changes it: marks at those for whom any such member waits, and maybe at others of
+/// their groups.
+#[derive(Clone, Copy)]
+pub(crate) struct ChangersRow {
+    table: usize,
+    row: Row,
+}
+
+/// Whether another member is of the group of a holder, or is this one.
+fn goes_with(holder: &Member, other: &Member) -> bool
+    ensures { result ≡ goes_with holder.now other.now }
+{
+    other.group() == holder.group() || holder.tx() == other.tx()
+}
+
+/// A row with marks too at those who go with a holder.
+fn mark_group(row: Row, active: &[Member], holder: &Member) -> Row
+    requires { length active.now ≤ MOST_MEMBERS }
+    ensures kept { HasMarksOf result row }
+    ensures marked { MarksAll active.now (goes_with holder.now) result }
+{
+    let mut marked = row;
+    for (place, other) in active.iter().enumerate() {
+        if goes_with(holder, other) {
+            marked = with_mark(marked, place);
+        }
+    }
+    marked
+}
+
+/// A row with marks too at those who go with some of a list that are in the way.
+fn mark_groups(row: Row, active: &[Member], holders: &[Member], asked: &[Use]) -> Row
+    requires { length active.now ≤ MOST_MEMBERS }
+    ensures kept { HasMarksOf result row }
+    ensures marked { MarksGroups active.now asked.now holders.now result }
+{
+    let mut marked = row;
+    for holder in holders {
+        if is_in_way(asked, holder) {
+            marked = mark_group(marked, active, holder);
+        }
+    }
+    marked
+}
+
+/// The row of whoever asks for uses.
+fn row_of_any(run: &Run, asked: &[Use]) -> Row
+    ensures { IsRowOfAny run.now asked.now result }
+{
+    let _most = run.len();
+    let active = run.active();
+    let row = mark_groups(0, active, run.prepared(), asked);
+    mark_groups(row, active, active, asked)
+}
+
+/// The table that is asked for exclusively, where nothing else is asked for.
+pub(crate) fn exclusive_table(asked: &[Use]) -> Option<usize>
+    ensures { IfSome result (λ table. asked.now ≡ exclusive table ∷ []) }
+{
+    let (own, rest) = asked.split_first()?;
+    if !rest.is_empty() {
+        return None;
+    }
+    match own.mode() {
+        Mode::Exclusive => Some(own.table()),
+        Mode::Shared => None,
+    }
+}
+
+/// The row of whoever changes a table, which may be known.
+fn common_row(run: &Run, table: usize, known: Option<ChangersRow>) -> Row
+    requires { IfSome known (IsOfChangers run.now) }
+    ensures { IsRowOfAny run.now (exclusive table ∷ []) result }
+{
+    match known {
+        Some(common) if common.table == table => common.row,
+        _ => row_of_any(run, &[Use::exclusive(table)]),
+    }
+}
+
+/// The row of a member that changes a table. The row that it has in common with others is its own, but where it is
+/// marked itself: then some of its own group are in the way, and they are looked at one by one.
+pub(crate) fn row_of_changer(
+    run: &Run,
+    asker: &Member,
+    place: usize,
+    table: usize,
+    known: &mut Option<ChangersRow>,
+) -> Row
+    requires place { place < MOST_MEMBERS }
+    requires known { IfSome known.old (IsOfChangers run.now) }
+    ensures row { MarksAll run.now.active (is_awaited (with_run run.now nothing) asker.now (exclusive table ∷ [])) result }
+    ensures known { IfSome known.new (IsOfChangers run.now) }
+{
+    let row = common_row(run, table, *known);
+    *known = Some(ChangersRow { table, row });
+    if share_mark(row, with_mark(0, place)) {
+        row_of(run, asker, &[Use::exclusive(table)])
+    } else {
+        row
+    }
+}
