@@ -1,6 +1,6 @@
 -- Lists that are put in order by number.
-use Rattle.std.proofs.Common.{◌≡◌, ℕ, suc, ◌≤◌, Bool, true, false, nat_lt, nat_eq, if◌then◌else◌, List, [], ◌∷◌, ◌++◌}
-use Rattle.std.proofs.Common.{length, map, insert, refl, sym, ap, subst, ◌∙◌, arith, rules}
+use Rattle.std.proofs.Common.{◌≡◌, ℕ, suc, ◌<◌, ◌≤◌, Bool, true, false, nat_lt, nat_eq, if◌then◌else◌, List, [], ◌∷◌, ◌++◌}
+use Rattle.std.proofs.Common.{length, map, insert, refl, sym, ap, subst, ◌∙◌, arith}
 use Rattle.std.specs.Prelude.{Option, Some, None}
 use Rattle.std.specs.List.{filter, IsDistinct, AllByRecursion}
 use Rattle.std.proofs.lemmas.Bool.Decides.{nat_tests}
@@ -9,8 +9,9 @@ use Rattle.ent_protocol.specs.Run.{fresh}
 use Rattle.ent_protocol.specs.State.{Member, Dormant, inserted, by_number}
 use Rattle.ent_members.specs.declared.leavers.Leaver.{Leaver}
 use Rattle.ent_members.specs.Leavers.{leaver_of, number_of, numbers_in, is_within, gathered, leavers_in}
-use Rattle.ent_members.specs.Order.{place_in}
+use Rattle.ent_members.specs.Order.{IsAscending, place_in}
 use Rattle.ent_members.specs.Run.{IsRun, tx_of}
+use Rattle.ent_members.proofs.Ascending.{run_by_number}
 
 place_if : (n m : ℕ) (b : Bool) → n ≤ m → (if b then 0 else suc n) ≤ suc m
 place_if n m true le = omega arith
@@ -54,9 +55,6 @@ module _ {A : Type 0} where
 
 -- ---- distinct numbers
 
-eq_sym : (a b : ℕ) → nat_eq a b ≡ false → nat_eq b a ≡ false
-eq_sym a b is = grind (arith, nat_tests)
-
 all_if : (P : ℕ → Type 0) (x y : Member) (ys : List Member) (b : Bool) → P x.tx → P y.tx
     → AllByRecursion P (map tx_of ys) → AllByRecursion P (map tx_of (inserted tx_of x ys))
     → AllByRecursion P (map tx_of (if b then x ∷ y ∷ ys else y ∷ inserted tx_of x ys))
@@ -74,29 +72,39 @@ all-by_number : (P : ℕ → Type 0) (xs : List Member) → AllByRecursion P (ma
 all-by_number P [] all = all
 all-by_number P (x ∷ xs) all = all-inserted P x (by_number tx_of xs) all.0 (all-by_number P xs all.1)
 
-distinct_if : (x y : Member) (ys : List Member) (b : Bool)
-    → AllByRecursion (λ n. nat_eq x.tx n ≡ false) (map tx_of (y ∷ ys)) → IsDistinct nat_eq (map tx_of (y ∷ ys))
-    → IsDistinct nat_eq (map tx_of (inserted tx_of x ys))
-    → IsDistinct nat_eq (map tx_of (if b then x ∷ y ∷ ys else y ∷ inserted tx_of x ys))
-unfolding IsDistinct
-distinct_if x y ys true apart distinct rest = (apart, distinct)
-distinct_if x y ys false apart distinct rest =
-    (all-inserted (λ n. nat_eq y.tx n ≡ false) x ys (eq_sym x.tx y.tx apart.0) distinct.0, rest)
+lower : (a b : ℕ) → nat_lt a b ≡ false → nat_eq a b ≡ false → b < a
+lower a b below apart = grind (arith, nat_tests)
 
-distinct-inserted : (x : Member) (xs : List Member) → AllByRecursion (λ n. nat_eq x.tx n ≡ false) (map tx_of xs)
-    → IsDistinct nat_eq (map tx_of xs) → IsDistinct nat_eq (map tx_of (inserted tx_of x xs))
-unfolding IsDistinct
-distinct-inserted x [] apart distinct = (apart, distinct)
-distinct-inserted x (y ∷ ys) apart distinct =
-    distinct_if x y ys (nat_lt x.tx y.tx) apart distinct (distinct-inserted x ys apart.1 distinct.1)
+higher : (a b : ℕ) → nat_lt a b ≡ true → a < b
+higher a b below = grind (arith, nat_tests)
 
-distinct-by_number : (xs : List Member) → IsDistinct nat_eq (map tx_of xs)
-    → IsDistinct nat_eq (map tx_of (by_number tx_of xs))
+all_higher : (a b : ℕ) (ns : List ℕ) → a < b → AllByRecursion (λ n. b < n) ns → AllByRecursion (λ n. a < n) ns
+all_higher a b [] lt all = tt
+all_higher a b (n ∷ ns) lt all = (omega (arith, lt, all.0), all_higher a b ns lt all.1)
+
+ascending_if : (x y : Member) (ys : List Member) (b : Bool) → nat_lt x.tx y.tx ≡ b
+    → AllByRecursion (λ n. nat_eq x.tx n ≡ false) (map tx_of (y ∷ ys)) → IsAscending (map tx_of (y ∷ ys))
+    → IsAscending (map tx_of (inserted tx_of x ys))
+    → IsAscending (map tx_of (if b then x ∷ y ∷ ys else y ∷ inserted tx_of x ys))
+ascending_if x y ys true first apart ascending rest =
+    let below : x.tx < y.tx = higher x.tx y.tx first in
+    ((below, all_higher x.tx y.tx (map tx_of ys) below ascending.0), ascending)
+ascending_if x y ys false first apart ascending rest =
+    (all-inserted (λ n. y.tx < n) x ys (lower x.tx y.tx first apart.0) ascending.0, rest)
+
+ascending-inserted : (x : Member) (xs : List Member) → AllByRecursion (λ n. nat_eq x.tx n ≡ false) (map tx_of xs)
+    → IsAscending (map tx_of xs) → IsAscending (map tx_of (inserted tx_of x xs))
+ascending-inserted x [] apart ascending = (tt, tt)
+ascending-inserted x (y ∷ ys) apart ascending =
+    ascending_if x y ys (nat_lt x.tx y.tx) refl apart ascending (ascending-inserted x ys apart.1 ascending.1)
+
+ascending-by_number : (xs : List Member) → IsDistinct nat_eq (map tx_of xs)
+    → IsAscending (map tx_of (by_number tx_of xs))
 unfolding IsDistinct
-distinct-by_number [] distinct = distinct
-distinct-by_number (x ∷ xs) distinct =
-    distinct-inserted x (by_number tx_of xs) (all-by_number (λ n. nat_eq x.tx n ≡ false) xs distinct.0)
-    (distinct-by_number xs distinct.1)
+ascending-by_number [] distinct = tt
+ascending-by_number (x ∷ xs) distinct =
+    ascending-inserted x (by_number tx_of xs) (all-by_number (λ n. nat_eq x.tx n ≡ false) xs distinct.0)
+    (ascending-by_number xs distinct.1)
 
 fresh_numbers : (entrants : List Dormant) → map tx_of (map fresh entrants) ≡ map (λ (e : Dormant). e.tx) entrants
 fresh_numbers [] = refl
@@ -106,21 +114,15 @@ fresh_length : (entrants : List Dormant) → length (map fresh entrants) ≡ len
 fresh_length [] = refl
 fresh_length (e ∷ entrants) = ap suc (fresh_length entrants)
 
-none_distinct : IsDistinct nat_eq (map tx_of [])
-unfolding IsDistinct
-none_distinct = search rules
-
 pub no_member : IsRun [] []
-no_member = record { bound = omega arith; distinct = none_distinct }
+no_member = run_by_number [] [] (omega arith) tt
 
 pub starts : (entrants : List Dormant) → length entrants ≤ 64
     → IsDistinct nat_eq (map (λ (e : Dormant). e.tx) entrants) → IsRun [] (by_number tx_of (map fresh entrants))
 starts entrants bound distinct =
-    record {
-      bound = omega (arith, bound, length-by_number tx_of (map fresh entrants), fresh_length entrants);
-      distinct = distinct-by_number (map fresh entrants)
-          (subst (IsDistinct nat_eq) (sym (fresh_numbers entrants)) distinct);
-    }
+    run_by_number [] (by_number tx_of (map fresh entrants))
+    (omega (arith, bound, length-by_number tx_of (map fresh entrants), fresh_length entrants))
+    (ascending-by_number (map fresh entrants) (subst (IsDistinct nat_eq) (sym (fresh_numbers entrants)) distinct))
 
 -- ---- those who leave
 

@@ -3,7 +3,7 @@ use Rattle.std.proofs.Common.{◌≡◌, ℕ, Bool, true, false, not, ◌==◌, 
 use Rattle.std.proofs.Common.{refl, sym, ap, ◌∙◌, arith}
 use Rattle.std.specs.Prelude.{Option, Some, None, nat_lt}
 use Rattle.std.specs.List.{filter}
-use Rattle.std.proofs.lemmas.List.{map-append, append-nil}
+use Rattle.std.proofs.lemmas.List.{map-append}
 use Rattle.std.proofs.lemmas.List.Elements.{filter-append}
 use Rattle.ent_protocol.specs.State.{Member, Use}
 use Rattle.ent_protocol.specs.Uses.{is_in_way, least}
@@ -33,16 +33,14 @@ filtered_twice asked passed (x ∷ xs) =
 -- the least of the prepared ones in the way, then of the others
 pub in_way_of : (asked : List Use) (group tx : ℕ) (prepared active : List Member)
     → map tx_of (filter (stands_in_way asked (Group group)) prepared)
-    ++ (map tx_of (filter (stands_in_way asked (Itself tx)) active) ++ [])
+    ++ map tx_of (filter (stands_in_way asked (Itself tx)) active)
     ≡ map tx_of (filter (is_in_way asked)
     (filter (λ (holder : Member). not (holder.group == group)) prepared
     ++ filter (λ (holder : Member). not (holder.tx == tx)) active))
 in_way_of asked group tx prepared active =
     let passing = filter (λ (holder : Member). not (holder.group == group)) prepared in
     let others = filter (λ (holder : Member). not (holder.tx == tx)) active in
-    ap (λ ns. map tx_of (filter (stands_in_way asked (Group group)) prepared) ++ ns)
-    (append-nil (map tx_of (filter (stands_in_way asked (Itself tx)) active)))
-    ∙ ap (λ ms. map tx_of ms ++ map tx_of (filter (stands_in_way asked (Itself tx)) active))
+    ap (λ ms. map tx_of ms ++ map tx_of (filter (stands_in_way asked (Itself tx)) active))
     (filtered_twice asked (Group group) prepared)
     ∙ ap (λ ms. map tx_of (filter (is_in_way asked) passing) ++ map tx_of ms)
     (filtered_twice asked (Itself tx) active)
@@ -51,7 +49,7 @@ in_way_of asked group tx prepared active =
 
 -- ---- the least of some numbers, in whatever order they stand
 
-abbrev lesser_with : ℕ → Option ℕ → ℕ
+abbrev pub lesser_with : ℕ → Option ℕ → ℕ
 lesser_with n None = n
 lesser_with n (Some m) = if nat_lt n m then n else m
 

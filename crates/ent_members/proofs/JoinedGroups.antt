@@ -77,6 +77,7 @@ run_joined labels prepared active run =
     let kept = run_kept prepared active (map (in_joined_group labels) active) (same_numbers labels active) run in
     record {
       bound = omega (arith, kept.bound, length-map prepared (in_joined_group labels));
+      ascending = kept.ascending;
       distinct = kept.distinct;
     }
 

@@ -1,3 +1,5 @@
+pub mod Ascending
+pub mod InOrder
 pub mod ByNumber
 pub mod InWay
 pub mod Closed

@@ -1,40 +1,18 @@
 -- Members that leave a list.
-use Rattle.std.proofs.Common.{◌≡◌, ℕ, suc, ◌<◌, ◌≤◌, Bool, true, false, not, ◌||◌, nat_eq, ◌==◌, if◌then◌else◌, List}
+use Rattle.std.proofs.Common.{◌≡◌, ℕ, suc, ◌<◌, ◌≤◌, Bool, not, ◌||◌, ◌==◌, if◌then◌else◌, List}
 use Rattle.std.proofs.Common.{[], ◌∷◌, ◌++◌, length, map, take, drop, get_or, refl, sym, ap, subst, ◌∙◌, arith}
 use Rattle.std.specs.Prelude.{filter}
-use Rattle.std.specs.List.{IsDistinct, AllByRecursion, remove, list_any}
+use Rattle.std.specs.List.{remove, list_any}
 use Rattle.std.proofs.lemmas.List.{length-append, length-take, length-drop}
 use Rattle.std.proofs.lemmas.List.Sums.{count_by-le-length, length-filter}
 use Rattle.ent_protocol.specs.Member.{is_tx}
 use Rattle.ent_protocol.specs.Rollback.{is_among}
 use Rattle.ent_protocol.specs.State.{Member}
 use Rattle.ent_members.specs.Moves.{is_not_of}
+use Rattle.ent_members.specs.Order.{IsAscending}
 use Rattle.ent_members.specs.Run.{IsRun, tx_of}
+use Rattle.ent_members.proofs.Ascending.{ascending_filter, run_by_number}
 use Rattle.ent_members.proofs.OneMember.{removed_at}
-
-all_filter_if : (P : ℕ → Type 0) (x : Member) (xs : List Member) (b : Bool) → P x.tx
-    → AllByRecursion P (map tx_of xs) → AllByRecursion P (map tx_of (if b then x ∷ xs else xs))
-all_filter_if P x xs true here rest = (here, rest)
-all_filter_if P x xs false here rest = rest
-
-all_filter : (P : ℕ → Type 0) (p : Member → Bool) (xs : List Member) → AllByRecursion P (map tx_of xs)
-    → AllByRecursion P (map tx_of (filter p xs))
-all_filter P p [] all = all
-all_filter P p (x ∷ xs) all = all_filter_if P x (filter p xs) (p x) all.0 (all_filter P p xs all.1)
-
-distinct_if : (x : Member) (xs : List Member) (b : Bool) → AllByRecursion (λ n. nat_eq x.tx n ≡ false) (map tx_of xs)
-    → IsDistinct nat_eq (map tx_of xs) → IsDistinct nat_eq (map tx_of (if b then x ∷ xs else xs))
-unfolding IsDistinct
-distinct_if x xs true apart rest = (apart, rest)
-distinct_if x xs false apart rest = rest
-
-distinct_filter : (p : Member → Bool) (xs : List Member) → IsDistinct nat_eq (map tx_of xs)
-    → IsDistinct nat_eq (map tx_of (filter p xs))
-unfolding IsDistinct
-distinct_filter p [] distinct = distinct
-distinct_filter p (x ∷ xs) distinct =
-    distinct_if x (filter p xs) (p x) (all_filter (λ n. nat_eq x.tx n ≡ false) p xs distinct.0)
-    (distinct_filter p xs distinct.1)
 
 shorter : (p : Member → Bool) (xs : List Member) → length (filter p xs) ≤ length xs
 shorter p xs = omega (arith, length-filter p xs, count_by-le-length p xs)
@@ -42,27 +20,24 @@ shorter p xs = omega (arith, length-filter p xs, count_by-le-length p xs)
 pub run_filtered : (p : Member → Bool) (prepared active : List Member) → IsRun prepared active
     → IsRun (filter p prepared) (filter p active)
 run_filtered p prepared active run =
-    record {
-      bound = omega (arith, run.bound, shorter p prepared, shorter p active);
-      distinct = distinct_filter p active run.distinct;
-    }
+    run_by_number (filter p prepared) (filter p active)
+    (omega (arith, run.bound, shorter p prepared, shorter p active)) (ascending_filter p active run.ascending)
 
 pub run_prepared : (prepared active : List Member) (i : ℕ) (d member : Member) → i < length active
     → IsRun prepared active → IsRun (prepared ++ member ∷ []) (remove active i)
 run_prepared prepared active i d member lt run =
-    record {
-      bound = omega (
-        arith,
-        lt,
-        run.bound,
-        length-append prepared (member ∷ []),
-        length-append (take i active) (drop (suc i) active),
-        length-take i active,
-        length-drop (suc i) active,
-      );
-      distinct = subst (λ ms. IsDistinct nat_eq (map tx_of ms)) (sym (removed_at active i d run.distinct lt))
-          (distinct_filter (λ other. not (is_tx (get_or active i d).tx other)) active run.distinct);
-    }
+    run_by_number (prepared ++ member ∷ []) (remove active i)
+    (omega (
+      arith,
+      lt,
+      run.bound,
+      length-append prepared (member ∷ []),
+      length-append (take i active) (drop (suc i) active),
+      length-take i active,
+      length-drop (suc i) active,
+    ))
+    (subst (λ ms. IsAscending (map tx_of ms)) (sym (removed_at active i d run.distinct lt))
+    (ascending_filter (λ other. not (is_tx (get_or active i d).tx other)) active run.ascending))
 
 among_if : (gone : List Member) (tx : ℕ)
     → list_any (λ n. n == tx) (map tx_of gone) ≡ is_among gone tx
@@ -80,4 +55,4 @@ filtered_out gone (x ∷ xs) =
 pub run_committed : (p : Member → Bool) (prepared active : List Member) → IsRun prepared active
     → IsRun (filter p prepared) active
 run_committed p prepared active run =
-    record { bound = omega (arith, run.bound, shorter p prepared); distinct = run.distinct }
+    run_by_number (filter p prepared) active (omega (arith, run.bound, shorter p prepared)) run.ascending

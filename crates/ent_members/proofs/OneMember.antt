@@ -10,6 +10,7 @@ use Rattle.ent_protocol.specs.Begin.{replaced}
 use Rattle.ent_protocol.specs.Member.{is_tx}
 use Rattle.ent_protocol.specs.State.{Member, first_of}
 use Rattle.ent_members.specs.Places.{IsAt, Changes, found}
+use Rattle.ent_members.specs.Order.{IsAscending}
 use Rattle.ent_members.specs.Run.{IsRun, tx_of}
 
 -- ---- the member at an index, and the others
@@ -130,5 +131,6 @@ pub run_kept : (prepared old new : List Member) → map tx_of new ≡ map tx_of 
 run_kept prepared old new same run =
     record {
       bound = omega (arith, run.bound, length-map new tx_of, length-map old tx_of, ap length same);
+      ascending = subst IsAscending (sym same) run.ascending;
       distinct = subst (IsDistinct nat_eq) (sym same) run.distinct;
     }

@@ -1,5 +1,11 @@
 -- Lists by number.
-use Rattle.std.specs.Prelude.{ℕ, suc, List, [], ◌∷◌, nat_lt, if◌then◌else◌}
+use Rattle.std.specs.Prelude.{ℕ, suc, ◌<◌, List, [], ◌∷◌, nat_lt, if◌then◌else◌}
+use Rattle.std.specs.List.{AllByRecursion}
+
+-- each number is less than those behind it
+abbrev pub IsAscending : List ℕ → Type 0
+IsAscending [] = Unit {0}
+IsAscending (n ∷ ns) = AllByRecursion (λ m. n < m) ns × IsAscending ns
 
 -- the index of the first of a greater number, or else the length
 abbrev pub place_in : {A : Type 0} → (A → ℕ) → List A → ℕ → ℕ

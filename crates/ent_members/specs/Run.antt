@@ -3,6 +3,7 @@ use Rattle.std.specs.Prelude.{ℕ, ◌+◌, ◌≤◌, List, length, map, nat_eq
 use Rattle.std.specs.List.{IsDistinct}
 use Rattle.ent_group.specs.declared.members.TheConstants.{MOST_MEMBERS}
 use Rattle.ent_protocol.specs.State.{State, Member}
+use Rattle.ent_members.specs.Order.{IsAscending}
 
 pub record Run : Type 0 where
   -- in the order in which they prepared
@@ -17,7 +18,8 @@ with_run run s = record s { prepared = run.prepared; active = run.active }
 abbrev pub tx_of : Member → ℕ
 tx_of member = member.tx
 
--- as many as a run may have, and one of each number among those that aren't prepared
+-- as many as a run may have; those that aren't prepared stand by number, and one of each
 pub record IsRun (prepared active : List Member) : Type 0 where
   pub bound : length prepared + length active ≤ MOST_MEMBERS
+  pub ascending : IsAscending (map tx_of active)
   pub distinct : IsDistinct nat_eq (map tx_of active)

@@ -2,6 +2,7 @@
 ghost use Rattle.std.specs.Prelude.{◌≡◌, ℕ, List, [], ◌++◌, ◌∷◌, Some, if◌then◌else◌, map, filter};
 ghost use Rattle.std.specs.List.{list_any};
 ghost use Rattle.ent_protocol.specs.Uses.{is_in_way, least, uses_conflict};
+ghost use Rattle.ent_members.specs.Order.{IsAscending};
 ghost use Rattle.ent_members.specs.Passed.{is_passed, stands_in_way};
 ghost use Rattle.ent_members.specs.Run.{tx_of};
 ghost use Rattle.ent_members.specs.Waits.{is_awaited_over, waits_over};
@@ -39,7 +40,7 @@ fn any_in_conflict(asked: Use, held: &[Use]) -> bool
 }
 
 /// Whether a member holds a use in conflict with one that is asked for.
-fn is_in_way(asked: &[Use], holder: &Member) -> bool
+pub fn is_in_way(asked: &[Use], holder: &Member) -> bool
     ensures { result ≡ is_in_way asked.now holder.now }
 {
     let held = holder.uses();
@@ -90,8 +91,24 @@ pub(crate) fn least_in_way(
     found
 }
 
-/// Whether a member of a group, with one member in its way, waits for another.
-fn waits_over(group: Tx, holder: &Member, other: &Member) -> bool
+/// The first of a list by number that is in the way and not passed. It is the least of them.
+pub(crate) fn first_in_way(holders: &[Member], asked: &[Use], passed: Passed) -> Option<Tx>
+    requires { IsAscending (map tx_of holders.now) }
+    ensures { result ≡ least (map tx_of (filter (stands_in_way asked.now passed) holders.now)) }
+{
+    let mut rest = holders;
+    while let Some((first, later)) = rest.split_first() {
+        if !is_passed(passed, first) && is_in_way(asked, first) {
+            return Some(first.tx());
+        }
+        rest = later;
+    }
+    None
+}
+
+/// Whether a member of a group, with one member in its way, waits for another: for that one, where it is of the group,
+/// else for each of that one's group.
+pub fn waits_over(group: Tx, holder: &Member, other: &Member) -> bool
     ensures { result ≡ waits_over group other.now holder.now }
 {
     if holder.group() == group {

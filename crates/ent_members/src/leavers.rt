@@ -1,8 +1,9 @@
 //! A few members by number, in a fixed array.
-ghost use Rattle.std.specs.Prelude.{◌≡◌, ◌<◌, ◌≤◌, ◌+◌, [], length, map, take, insert};
+ghost use Rattle.std.specs.Prelude.{◌≡◌, ◌<◌, ◌≤◌, ◌+◌, ◌++◌, ◌∷◌, [], length, map, take, insert};
 ghost use Rattle.ent_protocol.specs.State.{inserted};
-ghost use Rattle.ent_members.specs.Leavers.{gathered, is_within, number_of, numbers_in};
-ghost use Rattle.ent_members.specs.Order.{place_in};
+ghost use Rattle.ent_members.specs.Leavers.{gathered, is_within, leaver_of, leavers_in, number_of, numbers_in};
+ghost use Rattle.ent_members.specs.Order.{IsAscending, place_in};
+ghost use Rattle.ent_members.specs.Run.{tx_of};
 
 use crate::member::Member;
 use ent_group::{MOST_MEMBERS, Members, Tx};
@@ -44,6 +45,15 @@ impl Leavers {
             leavers: [nobody; MOST_MEMBERS],
             len: 0,
         }
+    }
+
+    /// Puts one at the end.
+    fn push(&mut self, leaver: Leaver)
+        requires { length self.old < MOST_MEMBERS }
+        ensures { self.new ≡ self.old ++ leaver ∷ [] }
+    {
+        self.leavers[self.len] = leaver;
+        self.len += 1;
     }
 
     /// Puts one in by number, before the first of a greater one.
@@ -114,6 +124,33 @@ fn is_within(member: &Member, group: Option<Tx>) -> bool
     }
 }
 
+fn leaver_of(member: &Member) -> Leaver
+    ensures { result ≡ leaver_of member.now }
+{
+    Leaver {
+        tx: member.tx(),
+        attempt: member.attempt(),
+    }
+}
+
+/// The members of the group with a label, where one is named, else all, of a list by number.
+pub(crate) fn gather_by_number(members: &[Member], group: Option<Tx>) -> Leavers
+    requires ascending { IsAscending (map tx_of members.now) }
+    requires bound { length members.now ≤ MOST_MEMBERS }
+    ensures list { result ≡ leavers_in group members.now }
+    ensures room { length result ≤ length members.now }
+{
+    let mut leavers = Leavers::new();
+    let mut rest = members;
+    while let Some((first, later)) = rest.split_first() {
+        if is_within(first, group) {
+            leavers.push(leaver_of(first));
+        }
+        rest = later;
+    }
+    leavers
+}
+
 /// Puts in the members of the group with a label, where one is named, else all of a list.
 pub(crate) fn gather(members: &[Member], group: Option<Tx>, leavers: &mut Leavers)
     requires { length members.now + length leavers.old ≤ MOST_MEMBERS }
@@ -125,9 +162,6 @@ pub(crate) fn gather(members: &[Member], group: Option<Tx>, leavers: &mut Leaver
     };
     gather(rest, group, leavers);
     if is_within(first, group) {
-        leavers.insert(Leaver {
-            tx: first.tx(),
-            attempt: first.attempt(),
-        });
+        leavers.insert(leaver_of(first));
     }
 }

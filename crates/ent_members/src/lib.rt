@@ -25,6 +25,7 @@ mod uses;
 
 pub use entrant::Entrant;
 pub use hold::with_uses;
+pub use in_way::{is_in_way, waits_over};
 pub use law::awaited_members_are_waited_for;
 pub use leavers::{Leaver, Leavers};
 pub use member::Member;

@@ -29,13 +29,13 @@ ghost use Rattle.ent_members.specs.Waits.{is_awaited};
 use crate::answer::{answer_each, numbers_of};
 use crate::change;
 use crate::entrant::Entrant;
-use crate::in_way::{Passed, is_awaited_over, least_in_way};
+use crate::in_way::{Passed, first_in_way, is_awaited_over, least_in_way};
 use crate::join::{gather_labels, join_groups};
-use crate::leavers::{Leavers, gather};
+use crate::leavers::{Leavers, gather, gather_by_number};
 use crate::member::Member;
 use crate::member_answer::MemberAnswer;
 use crate::moves::{any_of, prepare, remove, take_group};
-use crate::search::{is_among, member_in};
+use crate::search::{is_among, member_by_number, member_in};
 use crate::start::fresh_members;
 use crate::table_use::Use;
 use crate::uses::{changed_table, statement_uses};
@@ -125,7 +125,7 @@ impl Run {
     pub fn active_member(&self, tx: Tx) -> Option<&Member>
         ensures { (s : State) → option_copied result ≡ active_member (with_run self.now s) tx }
     {
-        member_in(self.active(), tx)
+        member_by_number(self.active.as_slice(), tx)
     }
 
     /// The member of a number, prepared or not.
@@ -134,7 +134,7 @@ impl Run {
     {
         match member_in(self.prepared(), tx) {
             Some(member) => Some(member),
-            None => member_in(self.active(), tx),
+            None => member_by_number(self.active.as_slice(), tx),
         }
     }
 
@@ -178,7 +178,7 @@ impl Run {
     pub fn blocker(&self, asker: &Member, asked: &[Use]) -> Option<Tx>
         ensures { (s : State) → result ≡ blocker (with_run self.now s) asker.now asked.now }
     {
-        let least = least_in_way(self.active(), asked, Passed::Itself(asker.tx()), None);
+        let least = first_in_way(self.active.as_slice(), asked, Passed::Itself(asker.tx()));
         least_in_way(self.prepared(), asked, Passed::Group(asker.group()), least)
     }
 
@@ -345,8 +345,7 @@ impl Run {
     fn leavers_within(&self, group: Option<Tx>) -> Leavers
         ensures { result ≡ leavers_in group (self.now.prepared ++ self.now.active) }
     {
-        let mut leavers = Leavers::new();
-        gather(self.active.as_slice(), group, &mut leavers);
+        let mut leavers = gather_by_number(self.active.as_slice(), group);
         gather(self.prepared.as_slice(), group, &mut leavers);
         leavers
     }

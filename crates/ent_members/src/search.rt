@@ -4,6 +4,7 @@ ghost use Rattle.std.specs.List.{list_any};
 ghost use Rattle.std.specs.Option.{option_copied};
 ghost use Rattle.ent_protocol.specs.Member.{is_tx};
 ghost use Rattle.ent_protocol.specs.State.{first_of};
+ghost use Rattle.ent_members.specs.Order.{IsAscending};
 ghost use Rattle.ent_members.specs.Places.{IsAt};
 ghost use Rattle.ent_members.specs.Run.{tx_of};
 
@@ -20,6 +21,17 @@ pub(crate) fn member_in<'a>(members: &'a [Member], tx: Tx) -> Option<&'a Member>
         }
     }
     None
+}
+
+/// The member of a number, in a list by number.
+pub(crate) fn member_by_number<'a>(members: &'a [Member], tx: Tx) -> Option<&'a Member>
+    requires { IsAscending (map tx_of members.now) }
+    ensures { option_copied result ≡ first_of (filter (is_tx tx) members.now) }
+{
+    match members.binary_search_by_key(&tx, |member| member.tx()) {
+        Ok(at) => Some(&members[at]),
+        Err(_) => None,
+    }
 }
 
 /// The index of the first member of a number.

@@ -7,10 +7,10 @@ ghost use Rattle.ent_waits.specs.Rows.{HasMarksOf, IsOfChangers, IsRowOfAny, Mar
 ghost use Rattle.ent_waits.specs.Waits.{nothing};
 
 use crate::marks::{Row, share_mark, with_mark};
-use crate::rows::{is_in_way, row_of};
+use crate::rows::row_of;
 use ent_group::MOST_MEMBERS;
 use ent_lock::Mode;
-use ent_members::{Member, Run, Use};
+use ent_members::{Member, Run, Use, is_in_way};
 
 /// A table, and the row of whoever changes it: marks at those for whom any such member waits, and maybe at others of
 /// their groups.
@@ -103,7 +103,8 @@ pub(crate) fn row_of_changer(
 ) -> Row
     requires place { place < MOST_MEMBERS }
     requires known { IfSome known.old (IsOfChangers run.now) }
-    ensures row { MarksAll run.now.active (is_awaited (with_run run.now nothing) asker.now (exclusive table ∷ [])) result }
+    ensures row { MarksAll run.now.active
+        (is_awaited (with_run run.now nothing) asker.now (exclusive table ∷ [])) result }
     ensures known { IfSome known.new (IsOfChangers run.now) }
 {
     let row = common_row(run, table, *known);

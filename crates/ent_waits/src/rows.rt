@@ -1,10 +1,8 @@
 //! Whom each member waits for, as rows of marks.
 ghost use Rattle.std.specs.Prelude.{◌≡◌, ℕ, ◌≤◌, ◌<◌, length, slice_index, IfSome};
-ghost use Rattle.std.specs.List.{list_any};
 ghost use Rattle.ent_members.specs.Run.{with_run};
 ghost use Rattle.ent_members.specs.Waits.{is_awaited, waits_over};
 ghost use Rattle.ent_protocol.specs.State.{Member as Seen};
-ghost use Rattle.ent_protocol.specs.Uses.{is_in_way, uses_conflict};
 ghost use Rattle.ent_waits.specs.Rows.{HasMarksOf, IsOfChangers, MarksAll, MarksOver, StandsAt, stops};
 ghost use Rattle.ent_waits.specs.Waits.{awaits_now, nothing};
 
@@ -14,28 +12,8 @@ use crate::next_uses::next_uses;
 use crate::waiting::is_waiting;
 use ent_group::{MOST_MEMBERS, Tx};
 use ent_job::Job;
-use ent_members::{Member, Run, Use};
+use ent_members::{Member, Run, Use, is_in_way, waits_over};
 use ent_next::SubmittedScript;
-
-fn in_conflict(one: Use, other: Use) -> bool
-    ensures { result ≡ uses_conflict one other }
-{
-    one.table() == other.table() && one.mode().in_conflict(other.mode())
-}
-
-fn any_in_conflict(asked: Use, held: &[Use]) -> bool
-    ensures { result ≡ list_any (uses_conflict asked) held.now }
-{
-    held.iter().any(|other| in_conflict(asked, *other))
-}
-
-/// Whether a member holds a use in conflict with one that is asked for.
-pub(crate) fn is_in_way(asked: &[Use], holder: &Member) -> bool
-    ensures { result ≡ is_in_way asked.now holder.now }
-{
-    let held = holder.uses();
-    asked.iter().any(|own| any_in_conflict(*own, held))
-}
 
 /// Whether a member is in the way of one that asks for uses and doesn't pass it.
 fn stops(of_group: bool, asker: &Member, asked: &[Use], holder: &Member) -> bool
@@ -47,17 +25,6 @@ fn stops(of_group: bool, asker: &Member, asked: &[Use], holder: &Member) -> bool
         holder.tx() == asker.tx()
     };
     !passed && is_in_way(asked, holder)
-}
-
-/// Whether a member of a group, with one member in its way, waits for another.
-fn waits_over(group: Tx, holder: &Member, other: &Member) -> bool
-    ensures { result ≡ waits_over group other.now holder.now }
-{
-    if holder.group() == group {
-        holder.tx() == other.tx()
-    } else {
-        other.group() == holder.group()
-    }
 }
 
 /// A row with marks too at those for whom a member of a group waits, with one member in its way.

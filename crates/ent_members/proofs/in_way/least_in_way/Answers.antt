@@ -1,4 +1,4 @@
-use Rattle.std.proofs.Common.{ℕ, List, [], ◌++◌, ◌∷◌, map, ◌∙◌, sym, ap}
+use Rattle.std.proofs.Common.{[], ◌++◌, ◌∷◌, map, ◌∙◌, sym, ap}
 use Rattle.std.specs.List.{filter}
 use Rattle.ent_protocol.specs.Uses.{least}
 use Rattle.ent_members.specs.Passed.{stands_in_way}

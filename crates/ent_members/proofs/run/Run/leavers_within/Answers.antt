@@ -9,10 +9,9 @@ pub returns : goal.returns
 returns c =
     let prepared = c.self.inside.prepared.items in
     let active = c.self.inside.active.items in
-    c.gather-2.ensures.list
-    ∙ ap (λ (ms : List Member). gathered c.args.group ms c.gather.new.leavers) c.as_slice-2.ensures.value
-    ∙ ap (gathered c.args.group prepared) (c.gather.ensures.list
-    ∙ ap (λ (ms : List Member). gathered c.args.group ms c.new-leavers.result) c.as_slice.ensures.value
-    ∙ ap (gathered c.args.group active) c.new-leavers.ensures)
+    c.gather.ensures.list
+    ∙ ap (λ (ms : List Member). gathered c.args.group ms c.gather_by_number-leavers.result) c.as_slice-2.ensures.value
+    ∙ ap (gathered c.args.group prepared) (c.gather_by_number-leavers.ensures.list
+    ∙ ap (leavers_in c.args.group) c.as_slice.ensures.value)
     ∙ sym (gathered-append c.args.group prepared active [])
     ∙ ap (λ (run : Run). leavers_in c.args.group (run.prepared ++ run.active)) c.self.view_is

@@ -1,0 +1,153 @@
+-- What members that stand by number allow: a search, the first as the least, and a list that is in order already.
+use Rattle.std.proofs.Common.{◌≡◌, ℕ, zero, suc, ◌+◌, ◌<◌, ◌≤◌, Bool, true, false, ◌==◌, nat_lt, if◌then◌else◌, List}
+use Rattle.std.proofs.Common.{[], ◌∷◌, length, map, get_or, refl, sym, ap, subst, ◌∙◌, arith}
+use Rattle.std.specs.Prelude.{Option, Some, None}
+use Rattle.std.specs.List.{filter, AllByRecursion}
+use Rattle.std.specs.List.Sorted.{IsNonDecreasingBy, IsPartitionPoint}
+use Rattle.std.specs.Ordering.{is_lt, nat_cmp, ordering_index}
+use Rattle.std.specs.declared.cmp.Ordering.TheVariants.{Less, Greater}
+use Rattle.std.proofs.lemmas.Bool.Decides.{nat_tests}
+use Rattle.std.proofs.lemmas.Cmp.{nat_cmp_total}
+use Rattle.std.proofs.lemmas.List.Sorted.{searchable_from_sorted}
+use Rattle.ent_protocol.specs.Member.{is_tx}
+use Rattle.ent_protocol.specs.State.{Member, first_of, inserted}
+use Rattle.ent_protocol.specs.Uses.{least}
+use Rattle.ent_members.specs.declared.leavers.Leaver.{Leaver}
+use Rattle.ent_members.specs.Leavers.{gathered, is_within, leaver_of, leavers_in, number_of, numbers_in}
+use Rattle.ent_members.specs.Order.{IsAscending}
+use Rattle.ent_members.specs.Places.{found}
+use Rattle.ent_members.specs.Run.{tx_of}
+use Rattle.ent_members.proofs.Ascending.{all_filter}
+use Rattle.ent_members.proofs.ByNumber.{leaver_numbers}
+use Rattle.ent_members.proofs.InWay.{lesser_with}
+use Rattle.ent_members.proofs.OneMember.{all_at}
+
+-- ---- the member of a number
+
+eq_is : (n m : ℕ) → n ≡ m → (n == m) ≡ true
+eq_is n m is = grind (arith, nat_tests)
+
+eq_below : (n m : ℕ) → n < m → (n == m) ≡ false
+eq_below n m below = grind (arith, nat_tests)
+
+eq_above : (n m : ℕ) → m < n → (n == m) ≡ false
+eq_above n m above = grind (arith, nat_tests)
+
+pub found_here : (xs : List Member) (i tx : ℕ) (d : Member) → IsAscending (map tx_of xs) → i < length xs
+    → (get_or xs i d).tx ≡ tx → found xs tx ≡ Some (get_or xs i d)
+found_here [] i tx d ascending lt is = absurd (omega (arith, lt))
+found_here (x ∷ xs) zero tx d ascending lt is =
+    ap (λ b. first_of (if b then x ∷ filter (is_tx tx) xs else filter (is_tx tx) xs)) (eq_is x.tx tx is)
+found_here (x ∷ xs) (suc i) tx d ascending lt is =
+    let below : x.tx < (get_or xs i d).tx = all_at (λ n. x.tx < n) xs i d (omega (arith, lt)) ascending.0 in
+    ap (λ b. first_of (if b then x ∷ filter (is_tx tx) xs else filter (is_tx tx) xs))
+    (eq_below x.tx tx (omega (arith, below, is)))
+    ∙ found_here xs i tx d ascending.1 (omega (arith, lt)) is
+
+next_above : (xs : List Member) (k j : ℕ) (d : Member) → IsAscending (map tx_of xs) → j ≡ suc k → j < length xs
+    → (get_or xs k d).tx < (get_or xs j d).tx
+next_above [] k j d ascending next lt = absurd (omega (arith, lt))
+next_above (x ∷ xs) k zero d ascending next lt = absurd (omega (arith, next))
+next_above (x ∷ xs) zero (suc j) d ascending next lt =
+    all_at (λ n. x.tx < n) xs j d (omega (arith, lt)) ascending.0
+next_above (x ∷ xs) (suc k) (suc j) d ascending next lt =
+    next_above xs k j d ascending.1 (omega (arith, next)) (omega (arith, lt))
+
+found_nowhere : (xs : List Member) (tx : ℕ)
+    → ((k : ℕ) (d : Member) → k < length xs → ((get_or xs k d).tx == tx) ≡ false) → found xs tx ≡ None
+found_nowhere [] tx none = refl
+found_nowhere (x ∷ xs) tx none =
+    ap (λ b. first_of (if b then x ∷ filter (is_tx tx) xs else filter (is_tx tx) xs)) (none 0 x (omega arith))
+    ∙ found_nowhere xs tx (λ k d lt. none (suc k) d (omega (arith, lt)))
+
+not_less : (n m : ℕ) → nat_cmp n m ≡ Less → (n == m) ≡ false
+not_less n m is = eq_below n m (is_below is)
+  where
+    is_below : nat_cmp n m ≡ Less → n < m
+    is_below less = grind (arith, nat_tests, less)
+
+not_greater : (n m : ℕ) → nat_cmp n m ≡ Greater → (n == m) ≡ false
+not_greater n m is = eq_above n m (is_above is)
+  where
+    is_above : nat_cmp n m ≡ Greater → m < n
+    is_above greater = grind (arith, nat_tests, greater)
+
+rises : (xs : List Member) (tx : ℕ) → IsAscending (map tx_of xs)
+    → IsNonDecreasingBy (λ (x : Member). ordering_index (nat_cmp x.tx tx)) xs
+rises xs tx ascending =
+    searchable_from_sorted nat_cmp_total tx_of xs tx (λ k d low next.
+    not_lower (get_or xs k d).tx (get_or xs (k + 1) d).tx
+    (next_above xs k (k + 1) d ascending (omega arith) (omega (arith, next))))
+  where
+    not_lower : (n m : ℕ) → n < m → is_lt (nat_cmp m n) ≡ false
+    not_lower n m lt = grind (arith, nat_tests, lt)
+
+pub found_between : (xs : List Member) (tx i : ℕ) → IsAscending (map tx_of xs)
+    → (IsNonDecreasingBy (λ (x : Member). ordering_index (nat_cmp x.tx tx)) xs
+    → IsPartitionPoint (λ (x : Member). nat_cmp x.tx tx ≡ Less) (λ (x : Member). nat_cmp x.tx tx ≡ Greater) xs i)
+    → found xs tx ≡ None
+found_between xs tx i ascending parted = found_nowhere xs tx (λ k d lt. on_a_side k d lt (nat_lt k i) refl)
+  where
+    sides : IsPartitionPoint (λ (x : Member). nat_cmp x.tx tx ≡ Less) (λ (x : Member). nat_cmp x.tx tx ≡ Greater) xs i
+    sides = parted (rises xs tx ascending)
+
+    below : (k : ℕ) → nat_lt k i ≡ true → k < i
+    below k is = grind (arith, nat_tests, is)
+
+    beyond : (k : ℕ) → nat_lt k i ≡ false → i ≤ k
+    beyond k is = grind (arith, nat_tests, is)
+
+    on_a_side : (k : ℕ) (d : Member) → k < length xs → (b : Bool) → nat_lt k i ≡ b
+        → ((get_or xs k d).tx == tx) ≡ false
+    on_a_side k d lt true is = not_less (get_or xs k d).tx tx (sides.0 k d (omega arith) (below k is))
+    on_a_side k d lt false is = not_greater (get_or xs k d).tx tx (sides.1 k d (beyond k is) lt)
+
+-- ---- the least is the first
+
+lesser_above : (n m : ℕ) (ms : List ℕ) → n < m → AllByRecursion (λ k. n < k) ms → n < lesser_with m (least ms)
+lesser_above n m [] lt all = lt
+lesser_above n m (k ∷ ks) lt all = lesser_if (lesser_with k (least ks)) (lesser_above n k ks all.0 all.1)
+  where
+    lesser_if : (j : ℕ) → n < j → n < (if nat_lt m j then m else j)
+    lesser_if j above = grind (arith, lt, above)
+
+first_is_lesser : (n m : ℕ) → n < m → (if nat_lt n m then n else m) ≡ n
+first_is_lesser n m lt = grind (arith, lt)
+
+pub least_first : (n : ℕ) (ns : List ℕ) → AllByRecursion (λ m. n < m) ns → least (n ∷ ns) ≡ Some n
+least_first n [] all = refl
+least_first n (m ∷ ms) all =
+    ap Some (first_is_lesser n (lesser_with m (least ms)) (lesser_above n m ms all.0 all.1))
+
+-- ---- those who leave
+
+inserted_first : (x : Leaver) (ys : List Leaver) → AllByRecursion (λ n. x.tx < n) (numbers_in ys)
+    → inserted number_of x ys ≡ x ∷ ys
+inserted_first x [] all = refl
+inserted_first x (y ∷ ys) all =
+    ap (λ b. if b then x ∷ y ∷ ys else y ∷ inserted number_of x ys) (lt_is x.tx y.tx all.0)
+  where
+    lt_is : (n m : ℕ) → n < m → nat_lt n m ≡ true
+    lt_is n m lt = grind (arith, nat_tests)
+
+gathered_if : (group : Option ℕ) (x : Member) (xs : List Member) (b : Bool)
+    → gathered group xs [] ≡ map leaver_of (filter (is_within group) xs)
+    → AllByRecursion (λ n. x.tx < n) (map tx_of (filter (is_within group) xs))
+    → (if b then inserted number_of (leaver_of x) (gathered group xs []) else gathered group xs [])
+    ≡ map leaver_of (if b then x ∷ filter (is_within group) xs else filter (is_within group) xs)
+gathered_if group x xs true rest above =
+    ap (inserted number_of (leaver_of x)) rest
+    ∙ inserted_first (leaver_of x) (map leaver_of (filter (is_within group) xs))
+    (subst (AllByRecursion (λ n. x.tx < n)) (sym (leaver_numbers (filter (is_within group) xs))) above)
+gathered_if group x xs false rest above = rest
+
+pub gathered_in_order : (group : Option ℕ) (xs : List Member) → IsAscending (map tx_of xs)
+    → leavers_in group xs ≡ map leaver_of (filter (is_within group) xs)
+gathered_in_order group [] ascending = refl
+gathered_in_order group (x ∷ xs) ascending =
+    gathered_if group x xs (is_within group x) (gathered_in_order group xs ascending.1)
+    (all_filter (λ n. x.tx < n) (is_within group) xs ascending.0)
+
+pub none_left : (xs : List Member) → length xs ≡ 0 → [] ≡ xs
+none_left [] is = refl
+none_left (x ∷ xs) is = absurd (omega (arith, is))
