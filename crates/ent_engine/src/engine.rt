@@ -42,6 +42,7 @@ pub fn run<R: Read, W: Write>(
 {
     let bytes = read_whole(alloc, reader)?;
     let input = parse(alloc, bytes.as_slice())?;
+    drop(bytes);
     let core = submit_all(alloc, input)?;
     let book = run_out(alloc, core, options.tries)?;
     match write_report(alloc, &book, writer) {
