@@ -1,5 +1,5 @@
 -- The uses that a statement asks for, whatever its operands are.
-use Rattle.std.specs.Prelude.{List, [], ◌∷◌, map}
+use Rattle.std.specs.Prelude.{ℕ, List, [], ◌∷◌, map, Option, Some, None}
 use Rattle.std.specs.List.{flat_map}
 use Rattle.ent_closed.specs.declared.entangled.Entangled.{Entangled}
 use Rattle.ent_closed.specs.declared.entangled.Membership.{Membership}
@@ -21,3 +21,12 @@ uses_of (statements.Insert table values) = exclusive table ∷ []
 uses_of (statements.Delete table tests) = exclusive table ∷ []
 uses_of (statements.Update table image tests) = exclusive table ∷ []
 uses_of (statements.Set variable expression) = []
+
+-- the table that a statement changes: INSERT, DELETE and UPDATE theirs, and no other statement any
+abbrev pub table_changed_by : {K : Type 0} → Statement K → Option ℕ
+table_changed_by (statements.Insert table values) = Some table
+table_changed_by (statements.Delete table tests) = Some table
+table_changed_by (statements.Update table image tests) = Some table
+table_changed_by (statements.Select select) = None
+table_changed_by (statements.Entangled entangled) = None
+table_changed_by (statements.Set variable expression) = None

@@ -33,4 +33,6 @@ pub use member_answer::MemberAnswer;
 pub use run::Run;
 pub use search::member_numbers;
 pub use table_use::Use;
-pub use uses::{MOST_USES, Uses, entangled_uses, statement_uses, uses_are_kept_by_closing};
+pub use uses::{
+    MOST_USES, Uses, changed_table, entangled_uses, statement_uses, uses_are_kept_by_closing,
+};

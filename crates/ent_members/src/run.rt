@@ -182,6 +182,13 @@ impl Run {
         least_in_way(self.prepared(), asked, Passed::Group(asker.group()), least)
     }
 
+    /// The same of one that asks for the uses of a statement, which are put together.
+    fn uses_blocker<K>(&self, asker: &Member, statement: &Statement<K>) -> Option<Tx>
+        ensures { (s : State) → result ≡ blocker (with_run self.now s) asker.now (uses_of statement.now) }
+    {
+        self.blocker(asker, statement_uses(statement).as_slice())
+    }
+
     /// The least member in the way of one that asks for the uses of a statement, as [`Run::blocker`] says. What changes
     /// a table asks for one use, and needs no room for more.
     pub fn statement_blocker<K>(&self, asker: &Member, statement: &Statement<K>) -> Option<Tx>
@@ -189,7 +196,7 @@ impl Run {
     {
         match changed_table(statement) {
             Some(table) => self.blocker(asker, &[Use::exclusive(table)]),
-            None => self.blocker(asker, statement_uses(statement).as_slice()),
+            None => self.uses_blocker(asker, statement),
         }
     }
 

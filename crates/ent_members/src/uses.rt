@@ -8,7 +8,7 @@ ghost use Rattle.ent_closed.specs.Closing.{closed};
 ghost use Rattle.ent_semantics.specs.Database.{Environment};
 ghost use Rattle.ent_protocol.specs.State.{Use as Seen};
 ghost use Rattle.ent_protocol.specs.Uses.{shared, exclusive, entangled_uses, statement_uses};
-ghost use Rattle.ent_members.specs.Uses.{uses_of, uses_of_entangled};
+ghost use Rattle.ent_members.specs.Uses.{table_changed_by, uses_of, uses_of_entangled};
 
 use crate::table_use::Use;
 use ent_closed::{Entangled, Statement};
@@ -105,15 +105,17 @@ pub fn statement_uses<K>(statement: &Statement<K>) -> Uses
     uses
 }
 
-/// The table that a statement changes: the one that it uses.
-pub(crate) fn changed_table<K>(statement: &Statement<K>) -> Option<usize>
-    ensures { IfSome result (λ table. uses_of statement.now ≡ exclusive table ∷ []) }
+/// The table that a statement changes; none for a statement that changes no table. Where there is one, its exclusive use
+/// is all that the statement asks for.
+pub fn changed_table<K>(statement: &Statement<K>) -> Option<usize>
+    ensures table { result ≡ table_changed_by statement.now }
+    ensures uses { IfSome result (λ table. uses_of statement.now ≡ exclusive table ∷ []) }
 {
     match statement {
         Statement::Insert { table, .. }
         | Statement::Delete { table, .. }
         | Statement::Update { table, .. } => Some(*table),
-        _ => None,
+        Statement::Select(_) | Statement::Entangled(_) | Statement::Set { .. } => None,
     }
 }
 

@@ -1,6 +1,7 @@
 //! Posted statements.
 ghost use Rattle.std.specs.Prelude.{◌≡◌, ◌++◌, ◌∷◌, [], false, All, IfOk, OnOk, IsOk};
 ghost use Rattle.std.specs.Arc.{arc_value};
+ghost use Rattle.std.specs.List.{list_any};
 ghost use Rattle.ent_protocol.specs.Member.{asking_of, askings};
 ghost use Rattle.ent_protocol.specs.State.{State};
 
@@ -59,6 +60,25 @@ fn push_posted(
     }
 }
 
+/// Whether a member posted.
+fn any_posted(active: &[Member]) -> bool
+    ensures { result ≡ list_any (λ member. member.posted) active.now }
+{
+    active.iter().any(|member| member.is_posted())
+}
+
+/// No statement, with room for one of each member; it takes no memory where nobody posted.
+fn room_for(alloc: Global, active: &[Member]) -> Result<Sequence<Asking>, AllocError>
+    ensures empty { IfOk result (λ made. made ≡ []) }
+    ensures idle { All (λ member. member.posted ≡ false) active.now → IsOk result }
+{
+    if any_posted(active) {
+        Sequence::with_capacity(alloc, active.len())
+    } else {
+        Ok(Sequence::new(alloc))
+    }
+}
+
 /// The statements that members posted, in the order of the members: those in the pool of each state with these scripts
 /// and these members that aren't prepared. It takes no memory where nobody posted.
 pub fn askings(
@@ -70,7 +90,7 @@ pub fn askings(
         → IfOk result (λ made. made ≡ askings s) }
     ensures idle { All (λ member. member.posted ≡ false) active.now → IsOk result }
 {
-    let mut askings = Sequence::new(alloc);
+    let mut askings = room_for(alloc, active)?;
     for member in active {
         push_posted(alloc, submitted, member, &mut askings)?;
     }

@@ -1,9 +1,9 @@
 //! Turns of members.
-ghost use Rattle.std.specs.Prelude.{◌≡◌, ◌*◌, ℕ, [], false, true, IfOk, OnOk, length};
+ghost use Rattle.std.specs.Prelude.{◌≡◌, ◌*◌, ℕ, [], false, true, IfOk, OnOk, Some, length};
 ghost use Rattle.std.specs.List.{AllByRecursion};
 ghost use Rattle.ent_endings.specs.Idle.{IsHeldUp};
 ghost use Rattle.ent_protocol.specs.Event.{Begin, Blocked};
-ghost use Rattle.ent_protocol.specs.Lookup.{running_members};
+ghost use Rattle.ent_protocol.specs.Lookup.{Ready, Turn, running_members, standing};
 ghost use Rattle.ent_protocol.specs.Step.{Step};
 ghost use Rattle.ent_resolved.specs.Resolved.{resolved_forms};
 ghost use Rattle.ent_sched.specs.Onward.{TicksOn};
@@ -81,10 +81,11 @@ fn count_refused(core: &Core, tx: Tx, ticks: &mut Ticks)
     ticks.add();
 }
 
-/// One member's turn: where it is ready it begins its next statement, and a job that is lent is carried out at once.
-/// Whether it moved. Where memory runs out the events that were made stand.
-fn turn(alloc: Global, core: &mut Core, tx: Tx, ticks: &mut Ticks) -> Result<bool, AllocError>
+/// A member that is ready and that nobody is in the way of begins its next statement, and a job that is lent is carried
+/// out at once. Whether it moved. Where memory runs out the events that were made stand.
+fn begin(alloc: Global, core: &mut Core, tx: Tx, ticks: &mut Ticks) -> Result<bool, AllocError>
     requires none_lent { core.old.lent ≡ [] }
+    requires ready { (turn : Turn) × (standing core.old tx ≡ Some (Ready turn)) }
     ensures events { TicksOn resolved_forms 2 core.old core.new ticks.old ticks.new }
     ensures none_lent { OnOk result (core.new.lent ≡ []) }
     ensures progress { IfOk result (λ moved. moved ≡ true → UsesUp core.old core.new) }
@@ -99,13 +100,6 @@ fn turn(alloc: Global, core: &mut Core, tx: Tx, ticks: &mut Ticks) -> Result<boo
     refusals_change_nothing::<FormFault>();
     core.is_reached();
     let _count = ticks.count();
-    let Some(Standing::Ready(_)) = core.standing(tx) else {
-        return Ok(false);
-    };
-    if core.is_blocked(tx) {
-        count_refused(core, tx, ticks);
-        return Ok(false);
-    }
     let reply = core.begin(tx)?;
     ticks.add();
     match reply {
@@ -114,6 +108,28 @@ fn turn(alloc: Global, core: &mut Core, tx: Tx, ticks: &mut Ticks) -> Result<boo
             Ok(true)
         }
         other => Ok(told_of_progress(other)),
+    }
+}
+
+/// One member's turn: where it is ready it begins its next statement, and a job that is lent is carried out at once.
+/// Whether it moved. Where memory runs out the events that were made stand.
+fn turn(alloc: Global, core: &mut Core, tx: Tx, ticks: &mut Ticks) -> Result<bool, AllocError>
+    requires none_lent { core.old.lent ≡ [] }
+    ensures events { TicksOn resolved_forms 2 core.old core.new ticks.old ticks.new }
+    ensures none_lent { OnOk result (core.new.lent ≡ []) }
+    ensures progress { IfOk result (λ moved. moved ≡ true → UsesUp core.old core.new) }
+    ensures idle { IfOk result (λ moved. moved ≡ false
+        → (core.new ≡ core.old) × IsHeldUp resolved_forms core.old tx) }
+{
+    events_add_up::<FormFault>();
+    let _count = ticks.count();
+    if core.is_blocked(tx) {
+        count_refused(core, tx, ticks);
+        return Ok(false);
+    }
+    match core.standing(tx) {
+        Some(Standing::Ready(_)) => begin(alloc, core, tx, ticks),
+        _ => Ok(false),
     }
 }
 

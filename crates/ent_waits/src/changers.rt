@@ -9,7 +9,6 @@ ghost use Rattle.ent_waits.specs.Waits.{nothing};
 use crate::marks::{Row, share_mark, with_mark};
 use crate::rows::row_of;
 use ent_group::MOST_MEMBERS;
-use ent_lock::Mode;
 use ent_members::{Member, Run, Use, is_in_way};
 
 /// A table, and the row of whoever changes it: marks at those for whom any such member waits, and maybe at others of
@@ -65,20 +64,6 @@ fn row_of_any(run: &Run, asked: &[Use]) -> Row
     let active = run.active();
     let row = mark_groups(0, active, run.prepared(), asked);
     mark_groups(row, active, active, asked)
-}
-
-/// The table that is asked for exclusively, where nothing else is asked for.
-pub(crate) fn exclusive_table(asked: &[Use]) -> Option<usize>
-    ensures { IfSome result (λ table. asked.now ≡ exclusive table ∷ []) }
-{
-    let (own, rest) = asked.split_first()?;
-    if !rest.is_empty() {
-        return None;
-    }
-    match own.mode() {
-        Mode::Exclusive => Some(own.table()),
-        Mode::Shared => None,
-    }
 }
 
 /// The row of whoever changes a table, which may be known.

@@ -1,19 +1,20 @@
 //! Whom each member waits for, as rows of marks.
 ghost use Rattle.std.specs.Prelude.{◌≡◌, ℕ, ◌≤◌, ◌<◌, length, slice_index, IfSome};
 ghost use Rattle.ent_members.specs.Run.{with_run};
+ghost use Rattle.ent_members.specs.Uses.{uses_of};
 ghost use Rattle.ent_members.specs.Waits.{is_awaited, waits_over};
 ghost use Rattle.ent_protocol.specs.State.{Member as Seen};
 ghost use Rattle.ent_waits.specs.Rows.{HasMarksOf, IsOfChangers, MarksAll, MarksOver, StandsAt, stops};
 ghost use Rattle.ent_waits.specs.Waits.{awaits_now, nothing};
 
-use crate::changers::{ChangersRow, exclusive_table, row_of_changer};
+use crate::changers::{ChangersRow, row_of_changer};
 use crate::marks::{Row, with_mark};
-use crate::next_uses::next_uses;
 use crate::waiting::is_waiting;
+use ent_closed::{Known, Statement};
 use ent_group::{MOST_MEMBERS, Tx};
 use ent_job::Job;
-use ent_members::{Member, Run, Use, is_in_way, waits_over};
-use ent_next::SubmittedScript;
+use ent_members::{Member, Run, Use, changed_table, is_in_way, statement_uses, waits_over};
+use ent_next::{SubmittedScript, next_form};
 
 /// Whether a member is in the way of one that asks for uses and doesn't pass it.
 fn stops(of_group: bool, asker: &Member, asked: &[Use], holder: &Member) -> bool
@@ -74,7 +75,33 @@ pub(crate) fn row_of(run: &Run, asker: &Member, asked: &[Use]) -> Row
     mark_over(row, active, active, false, asker, asked)
 }
 
-/// The row of a member, while it waits.
+/// The row of a member that asks for the uses of a statement, which are put together.
+fn row_of_uses(run: &Run, asker: &Member, form: &Statement<Known>) -> Row
+    ensures { MarksAll run.now.active (is_awaited (with_run run.now nothing) asker.now (uses_of form.now)) result }
+{
+    row_of(run, asker, statement_uses(form).as_slice())
+}
+
+/// The row of a member that asks for the uses of a statement.
+fn row_of_form(
+    run: &Run,
+    asker: &Member,
+    place: usize,
+    form: &Statement<Known>,
+    known: &mut Option<ChangersRow>,
+) -> Row
+    requires place { place < MOST_MEMBERS }
+    requires known { IfSome known.old (IsOfChangers run.now) }
+    ensures row { MarksAll run.now.active (is_awaited (with_run run.now nothing) asker.now (uses_of form.now)) result }
+    ensures known { IfSome known.new (IsOfChangers run.now) }
+{
+    match changed_table(form) {
+        Some(table) => row_of_changer(run, asker, place, table, known),
+        None => row_of_uses(run, asker, form),
+    }
+}
+
+/// The row of a member, while it waits. At the end of its script it asks for nothing.
 fn row_while_waiting(
     run: &Run,
     submitted: &[SubmittedScript],
@@ -91,10 +118,9 @@ fn row_while_waiting(
     if !is_waiting(lent, asker) {
         return 0;
     }
-    let asked = next_uses(submitted, asker);
-    match exclusive_table(asked.as_slice()) {
-        Some(table) => row_of_changer(run, asker, place, table, known),
-        None => row_of(run, asker, asked.as_slice()),
+    match next_form(submitted, asker) {
+        Some(form) => row_of_form(run, asker, place, form, known),
+        None => row_of(run, asker, &[]),
     }
 }
 

@@ -8,10 +8,4 @@ pub returns-in-Some : goal.returns-in-Some
 returns-in-Some g c = λ s.
     c.blocker.ensures s
     ∙ ap (λ (asked : List Use). blocker (with_run c.args.self.now s) c.args.asker.now asked)
-    (ap (λ (own : Use). own ∷ []) c.exclusive.ensures ∙ sym c.in-Some.ensures)
-
-pub returns-in-None : goal.returns-in-None
-returns-in-None g c = λ s.
-    c.blocker-in-None.ensures s
-    ∙ ap (λ (asked : List Use). blocker (with_run c.args.self.now s) c.args.asker.now asked)
-    (c.as_slice.ensures.list ∙ c.statement_uses.ensures)
+    (ap (λ (own : Use). own ∷ []) c.exclusive.ensures ∙ sym c.in-Some.ensures.uses)
