@@ -18,12 +18,12 @@ use Rattle.ent_protocol.specs.Begin.{holding, pool_with, single_job, with_member
 use Rattle.ent_protocol.specs.Commit.{is_ready, preparing}
 use Rattle.ent_protocol.specs.Event.{Reply}
 use Rattle.ent_protocol.specs.Event as replies
-use Rattle.ent_protocol.specs.Job.{Job}
+use Rattle.ent_protocol.specs.Job.{Asking, Job}
 use Rattle.ent_protocol.specs.Member.{Asks, Commits, Next, Ordinary, RollsBack, active_member, is_lent, is_prepared}
 use Rattle.ent_protocol.specs.Member.{is_tx}
 use Rattle.ent_protocol.specs.Member.{next_of}
 use Rattle.ent_protocol.specs.Rollback.{Asked, group_numbers, rolled_back}
-use Rattle.ent_protocol.specs.State.{State, Member, Use, first_of}
+use Rattle.ent_protocol.specs.State.{State, Member, first_of}
 use Rattle.ent_protocol.specs.Uses.{blocker, entangled_uses, is_in_way, not_passed, statement_uses}
 use Rattle.ent_protocol.specs.Waits.{next_uses}
 use Rattle.ent_tree.specs.declared.declaration.Opening.{Opening}
@@ -34,7 +34,7 @@ use Rattle.ent_core.specs.Store.{IsKept}
 use Rattle.ent_tables.specs.Stored.{Stored}
 use Rattle.ent_core.specs.Reply.{reply_seen}
 use Rattle.ent_core.specs.declared.reply.Reply.{Reply as Given}
-use Rattle.ent_core.specs.Begin.{IsGroupOf, IsToBegin, LendsTo, MayBegin, PostsTo}
+use Rattle.ent_core.specs.Begin.{IsGroupOf, IsToBegin, LendsTo, MayBegin, PostsTo, job_uses}
 
 -- ---- the member of a number
 
@@ -140,15 +140,14 @@ module _ (s : State) (tx : ℕ) where
     ordinary_blocked holder is = ordinary (Some holder) is (replies.Blocked holder) s (refl, refl)
 
     pub ordinary_lent : blocker s member (statement_uses statement) ≡ None
-        → (uses : List Use) → uses ≡ statement_uses statement
-        → (job : Job) → job ≡ single_job s member statement → (new : State) → LendsTo tx uses job s new
+        → (job : Job) → job ≡ single_job s member statement → (new : State) → LendsTo tx job s new
         → Begins {F = FormFault} s tx (replies.Lent job) new
-    ordinary_lent none uses uses_are job job_is new lends =
+    ordinary_lent none job job_is new lends =
         let as_lent : new
         ≡ record (with_member (holding member (statement_uses statement)) s) {
           lent = s.lent ++ single_job s member statement ∷ [];
         } =
-        lends member begun.there ∙ (λ i. record (with_member (holding member (uses_are i)) s) {
+        lends member begun.there ∙ (λ i. record (with_member (holding member (job_uses (job_is i))) s) {
           lent = s.lent ++ job_is i ∷ [];
         }) in
         ordinary None none (replies.Lent job) new (ap (λ (j : Job). replies.Lent j) job_is, as_lent)
@@ -173,13 +172,13 @@ module _ (s : State) (tx : ℕ) where
 
     pub entangled_posted : blocker s member (entangled_uses statement) ≡ None
         → IsSafe (pool_with s member statement)
-        → (uses : List Use) → uses ≡ entangled_uses statement → (new : State) → PostsTo tx uses s new
+        → (asking : Asking) → asking.statement ≡ statement → (new : State) → PostsTo tx asking s new
         → Begins {F = FormFault} s tx replies.Posted new
-    entangled_posted none safe uses uses_are new posts =
+    entangled_posted none safe asking same new posts =
         let as_posted : new
         ≡ with_member (record (holding member (entangled_uses statement)) { posted = true }) s =
         posts member begun.there
-        ∙ (λ i. with_member (record (holding member (uses_are i)) { posted = true }) s) in
+        ∙ (λ i. with_member (record (holding member (entangled_uses (same i))) { posted = true }) s) in
         entangled None none replies.Posted new (inl (safe, refl, as_posted))
 
   -- whatever comes next, who is in the way of what it asks for is in its way
@@ -243,16 +242,17 @@ module _ (s : State) (tx : ℕ) where
         cc
 
     -- so a plan that lends or posts isn't its plan
-    pub plans_no_job : (uses : List Use) (job : Job)
-        → ((new : State) → LendsTo tx uses job s new → Begins {F = FormFault} s tx (replies.Lent job) new) → ⊥
-    plans_no_job uses job plan =
-        let done : Member → State = λ m. record (with_member (holding m uses) s) { lent = s.lent ++ job ∷ [] } in
+    pub plans_no_job : (job : Job)
+        → ((new : State) → LendsTo tx job s new → Begins {F = FormFault} s tx (replies.Lent job) new) → ⊥
+    plans_no_job job plan =
+        let done : Member → State =
+        λ m. record (with_member (holding m (job_uses job)) s) { lent = s.lent ++ job ∷ [] } in
         lends_not job (done member) (plan (done member) (λ m at. ap done (one_member member m (sym there ∙ at))))
 
-    pub plans_no_post : (uses : List Use)
-        → ((new : State) → PostsTo tx uses s new → Begins {F = FormFault} s tx replies.Posted new) → ⊥
-    plans_no_post uses plan =
-        let done : Member → State = λ m. with_member (posting uses m) s in
+    pub plans_no_post : (asking : Asking)
+        → ((new : State) → PostsTo tx asking s new → Begins {F = FormFault} s tx replies.Posted new) → ⊥
+    plans_no_post asking plan =
+        let done : Member → State = λ m. with_member (posting (entangled_uses asking.statement) m) s in
         posts_not (done member) (plan (done member) (λ m at. ap done (one_member member m (sym there ∙ at))))
 
 -- ---- what the store keeps

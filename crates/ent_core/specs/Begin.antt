@@ -5,10 +5,10 @@ use Rattle.ent_members.specs.Changes.{posting}
 use Rattle.ent_protocol.specs.Begin.{Begins, holding, with_member}
 use Rattle.ent_protocol.specs.Event.{Reply}
 use Rattle.ent_protocol.specs.Event as replies
-use Rattle.ent_protocol.specs.Job.{Job}
+use Rattle.ent_protocol.specs.Job.{Asking, Job, Joint, One, Work}
 use Rattle.ent_protocol.specs.Member.{Commits, Next, RollsBack, active_member, is_lent, next_of}
 use Rattle.ent_protocol.specs.State.{State, Member, Use}
-use Rattle.ent_protocol.specs.Uses.{blocker}
+use Rattle.ent_protocol.specs.Uses.{blocker, entangled_uses, statement_uses}
 use Rattle.ent_protocol.specs.Waits.{next_uses}
 use Rattle.ent_core.specs.declared.begin.Hindrance.{Hindrance}
 use Rattle.ent_core.specs.declared.begin.Hindrance.TheVariants as hindrances
@@ -36,16 +36,25 @@ pub record IsToBegin (s : State) (tx : ℕ) (next : Next) : Type 0 where
   pub member : Member
   pub may : MayBegin s tx member next
 
--- a member's job is lent, and it holds the job's uses
-abbrev pub LendsTo : ℕ → List Use → Job → State → State → Type 0
-LendsTo tx uses job old new =
+-- the uses of the statement that work carries out alone; posted statements hold theirs already
+abbrev pub work_uses : Work → List Use
+work_uses (One single) = statement_uses single.statement
+work_uses (Joint askings) = []
+
+abbrev pub job_uses : Job → List Use
+job_uses job = work_uses job.work
+
+-- a member's job is lent, and it holds the uses of the job's statement
+abbrev pub LendsTo : ℕ → Job → State → State → Type 0
+LendsTo tx job old new =
     (member : Member) → active_member old tx ≡ Some member
-    → new ≡ record (with_member (holding member uses) old) { lent = old.lent ++ job ∷ [] }
+    → new ≡ record (with_member (holding member (job_uses job)) old) { lent = old.lent ++ job ∷ [] }
 
 -- a member's statement is posted, and it holds the uses of the statement
-abbrev pub PostsTo : ℕ → List Use → State → State → Type 0
-PostsTo tx uses old new =
-    (member : Member) → active_member old tx ≡ Some member → new ≡ with_member (posting uses member) old
+abbrev pub PostsTo : ℕ → Asking → State → State → Type 0
+PostsTo tx asking old new =
+    (member : Member) → active_member old tx ≡ Some member
+    → new ≡ with_member (posting (entangled_uses asking.statement) member) old
 
 -- the label of the group of the member of a number
 abbrev pub IsGroupOf : State → ℕ → ℕ → Type 0
@@ -54,11 +63,11 @@ IsGroupOf s tx group = (member : Member) → active_member s tx ≡ Some member 
 -- doing what is planned is the begin
 abbrev pub Follows : State → ℕ → Plan → Type 0
 Follows s tx (plans.HeldBack fault) = Begins {F = FormFault} s tx (replies.HeldBack fault) s
-Follows s tx (plans.Lends job uses) =
+Follows s tx (plans.Lends job) =
     IsSome (active_member s tx)
-    × ((new : State) → LendsTo tx uses job s new → Begins {F = FormFault} s tx (replies.Lent job) new)
-Follows s tx (plans.Posts uses) =
+    × ((new : State) → LendsTo tx job s new → Begins {F = FormFault} s tx (replies.Lent job) new)
+Follows s tx (plans.Posts asking) =
     IsSome (active_member s tx)
-    × ((new : State) → PostsTo tx uses s new → Begins {F = FormFault} s tx replies.Posted new)
+    × ((new : State) → PostsTo tx asking s new → Begins {F = FormFault} s tx replies.Posted new)
 Follows s tx plans.Commits = IsToBegin s tx Commits
 Follows s tx (plans.RollsBack group) = IsToBegin s tx RollsBack × IsGroupOf s tx group

@@ -1,7 +1,7 @@
 //! A member begins its next statement.
 ghost use Rattle.std.specs.Prelude.{◌≡◌, ℕ, Some, None, true, IfErr, IfOk, IsOk, OnErr, IsSome};
 ghost use Rattle.std.specs.Arc.{arc_value};
-ghost use Rattle.ent_core.specs.Begin.{Follows, IsFree, LendsTo, MayBegin, hindrance_seen};
+ghost use Rattle.ent_core.specs.Begin.{Follows, IsFree, LendsTo, MayBegin, PostsTo, hindrance_seen, job_uses};
 ghost use Rattle.ent_core.specs.Kept.{IsKeptState};
 ghost use Rattle.ent_core.specs.Reply.{reply_seen};
 ghost use Rattle.ent_form.specs.declared.fault.FormFault.{FormFault as Form};
@@ -21,7 +21,7 @@ use ent_closed::{Entangled, Statement};
 use ent_components::post_fault;
 use ent_form::FormFault;
 use ent_group::Tx;
-use ent_job::{Asking, Job, Single};
+use ent_job::{Asking, Job, Single, Work};
 use ent_match::Unsafe;
 use ent_members::{Member, Uses, entangled_uses, statement_uses, uses_are_kept_by_closing};
 use ent_next::{Next, askings, next_form, next_of};
@@ -63,10 +63,10 @@ impl Hindrance {
 enum Plan {
     /// Nothing changes, since a post of the pool would have heads of two statements.
     HeldBack(Unsafe),
-    /// The job is lent, and the member holds these uses too.
-    Lends(Job, Uses),
-    /// The statement is in the pool, and the member holds these uses too.
-    Posts(Uses),
+    /// The job is lent, and the member holds the uses of its statement too.
+    Lends(Job),
+    /// The statement is in the pool, and the member holds its uses too.
+    Posts(Asking),
     Commits,
     /// The group with this label is rolled back.
     RollsBack(Tx),
@@ -92,8 +92,7 @@ fn plan_ordinary(
     let tables = store.tables.seen(store.alloc, uses.as_slice())?;
     let place = member.place() as u64;
     let single = Single::new(member.tx(), member.attempt(), place, statement);
-    let job = Job::one(single, tables);
-    Ok(Plan::Lends(job, uses))
+    Ok(Plan::Lends(Job::one(single, tables)))
 }
 
 /// What an entangled statement comes to that nobody is in the way of.
@@ -108,16 +107,14 @@ fn plan_entangled(
     ensures { IfOk result (λ plan. Follows store.now member.now.tx plan) }
 {
     // Laws: the pool is safe and stands by number.
-    uses_are_kept_by_closing();
     members_stand_by_number::<FormFault>();
     pools_are_safe::<FormFault>();
-    let uses = entangled_uses(&statement);
     let posted = askings(store.alloc, store.submitted.as_slice(), store.run.active())?;
     let place = member.place() as u64;
     let asking = Asking::new(member.tx(), member.attempt(), place, statement);
     match post_fault(store.alloc, posted.as_slice(), &asking)? {
         Some(fault) => Ok(Plan::HeldBack(fault)),
-        None => Ok(Plan::Posts(uses)),
+        None => Ok(Plan::Posts(asking)),
     }
 }
 
@@ -195,13 +192,25 @@ fn plan_of(store: &Store, member: &Member) -> Result<Plan, AllocError>
     }
 }
 
+/// The uses of the statement that a job carries out alone. Posted statements hold theirs already.
+fn job_uses(job: &Job) -> Uses
+    ensures { result ≡ job_uses job.now }
+{
+    uses_are_kept_by_closing();
+    match job.work() {
+        Work::One(single) => statement_uses(single.statement()),
+        Work::Joint(_) => Uses::new(),
+    }
+}
+
 /// A job is lent, and the member holds the uses of its statement. Where memory runs out nothing changes.
-fn lend(store: &mut Store, tx: Tx, job: Job, uses: &Uses) -> Result<Reply, AllocError>
+fn lend(store: &mut Store, tx: Tx, job: Job) -> Result<Reply, AllocError>
     requires { IsSome (found store.old.active tx) }
     ensures reply { IfOk result (λ reply. reply_seen reply ≡ replies.Lent job) }
-    ensures ok { IfOk result (λ reply. LendsTo tx uses.now job store.old store.new) }
+    ensures ok { IfOk result (λ reply. LendsTo tx job store.old store.new) }
     ensures err { OnErr result (store.new ≡ store.old) }
 {
+    let uses = job_uses(&job);
     let copy = match job.copy(store.alloc) {
         Ok(copy) => copy,
         Err(fault) => {
@@ -223,6 +232,19 @@ fn lend(store: &mut Store, tx: Tx, job: Job, uses: &Uses) -> Result<Reply, Alloc
     }
 }
 
+/// A statement is posted, and the member holds its uses. Where memory runs out nothing changes.
+fn post(store: &mut Store, tx: Tx, asking: &Asking) -> Result<Reply, AllocError>
+    requires { IsSome (found store.old.active tx) }
+    ensures reply { IfOk result (λ reply. reply_seen reply ≡ replies.Posted) }
+    ensures ok { IfOk result (λ reply. PostsTo tx asking.now store.old store.new) }
+    ensures err { OnErr result (store.new ≡ store.old) }
+{
+    uses_are_kept_by_closing();
+    let uses = entangled_uses(asking.statement());
+    store.run.post(tx, uses.as_slice())?;
+    Ok(Reply::Posted)
+}
+
 /// Does what a begin comes to.
 fn carry_out(store: &mut Store, tx: Tx, plan: Plan) -> Result<Reply, AllocError>
     requires kept { IsKeptState store.old }
@@ -238,11 +260,8 @@ fn carry_out(store: &mut Store, tx: Tx, plan: Plan) -> Result<Reply, AllocError>
     transactions_stand_once::<FormFault>();
     match plan {
         Plan::HeldBack(fault) => Ok(Reply::HeldBack(fault)),
-        Plan::Lends(job, uses) => lend(store, tx, job, &uses),
-        Plan::Posts(uses) => {
-            store.run.post(tx, uses.as_slice())?;
-            Ok(Reply::Posted)
-        }
+        Plan::Lends(job) => lend(store, tx, job),
+        Plan::Posts(asking) => post(store, tx, &asking),
         Plan::Commits => commit(store, tx),
         Plan::RollsBack(group) => {
             let _submitted = store.submitted.len();

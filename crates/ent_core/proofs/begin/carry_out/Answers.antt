@@ -1,14 +1,11 @@
 use Rattle.std.proofs.Common.{sym, subst}
-use Rattle.std.specs.Prelude.{IsSome}
 use Rattle.std.specs.List.{AllByRecursion}
 use Rattle.ent_standing.specs.Attempts.{AsksForRun}
-use Rattle.ent_members.specs.Places.{found}
 use Rattle.ent_protocol.specs.State.{State}
 use Rattle.ent_resolved.specs.Resolved.{resolved_forms}
 use Rattle.ent_core.specs.Begin.{Follows}
 use Rattle.ent_core.specs.declared.begin.Plan.{Plan}
-use Rattle.ent_core.proofs.Begun.{begun_commits, begun_rolls_back, kept_changed, plans_no_job, plans_no_post}
-use Rattle.ent_core.proofs.Begun.{some_found}
+use Rattle.ent_core.proofs.Begun.{begun_commits, begun_rolls_back, plans_no_job, plans_no_post, some_found}
 use Rattle.ent_core.proofs.begin.carry_out.Goals as goal
 
 pub lend-requires : goal.lend-requires
@@ -19,28 +16,18 @@ lend-requires c =
 pub post-requires : goal.post-requires
 post-requires c =
     let P : Plan → Type 0 = Follows c.args.store.now c.args.tx in
-    let S : State → Type 0 = λ x. IsSome (found x.active c.args.tx) in
-    subst S (sym c.store.view_is) (subst P c.in-Posts.is c.requires.follows).0
+    (subst P c.in-Posts.is c.requires.follows).0
 
-pub returns-in_err-post-in-Posts-clause-rolls_back : goal.returns-in_err-post-in-Posts-clause-rolls_back
-returns-in_err-post-in-Posts-clause-rolls_back c = λ member there rolls.
+pub returns-in-Posts-clause-rolls_back : goal.returns-in-Posts-clause-rolls_back
+returns-in-Posts-clause-rolls_back c = λ member there rolls.
     let P : Plan → Type 0 = Follows c.args.store.now c.args.tx in
-    absurd (plans_no_post c.args.store.now c.args.tx member there rolls c.in-Posts.uses
+    absurd (plans_no_post c.args.store.now c.args.tx member there rolls c.in-Posts.asking
     (subst P c.in-Posts.is c.requires.follows).1)
-
-pub invariant_of-store-in-Posts : goal.invariant_of-store-in-Posts
-invariant_of-store-in-Posts c =
-    let inside = c.store.inside in
-    let P : Plan → Type 0 = Follows c.args.store.now c.args.tx in
-    let S : State → Type 0 = λ x. IsSome (found x.active c.args.tx) in
-    let there = subst S (sym c.store.view_is) (subst P c.in-Posts.is c.requires.follows).0 in
-    kept_changed inside.catalogue.tables inside.opening inside.submitted.items inside.roster inside.running inside.run
-    _ inside.tables c.args.tx c.store.invariant there c.post.ensures.prepared
 
 pub returns-in-Lends-clause-rolls_back : goal.returns-in-Lends-clause-rolls_back
 returns-in-Lends-clause-rolls_back c = λ member there rolls.
     let P : Plan → Type 0 = Follows c.args.store.now c.args.tx in
-    absurd (plans_no_job c.args.store.now c.args.tx member there rolls c.in-Lends.uses c.in-Lends.job
+    absurd (plans_no_job c.args.store.now c.args.tx member there rolls c.in-Lends.job
     (subst P c.in-Lends.is c.requires.follows).1)
 
 pub returns-in-RollsBack-clause-ok : goal.returns-in-RollsBack-clause-ok
@@ -66,7 +53,7 @@ pub roll_back-requires-clause-within : goal.roll_back-requires-clause-within
 roll_back-requires-clause-within c =
     let A : State → Type 0 = λ x. AllByRecursion AsksForRun x.submitted in
     c.attempts_stay_within.ensures.own resolved_forms c.args.store.now c.requires.kept.reached
-    (subst A c.store-in-RollsBack.view_is c.store-in-RollsBack.invariant.asks)
+    (subst A c.store.view_is c.store.invariant.asks)
 
 pub roll_back-requires-clause-once : goal.roll_back-requires-clause-once
 roll_back-requires-clause-once c =

@@ -5,7 +5,6 @@ use Rattle.std.specs.List.{IsDistinct}
 use Rattle.ent_coordination.specs.Pool.{IsFirstUnsafe, IsSafe, Posted, Unsafe}
 use Rattle.ent_match.specs.Fault.{IsByNumber}
 use Rattle.ent_members.specs.Run.{tx_of}
-use Rattle.ent_members.specs.Uses.{uses_of_entangled}
 use Rattle.ent_protocol.specs.Begin.{pool_with}
 use Rattle.ent_protocol.specs.Job.{Asking}
 use Rattle.ent_protocol.specs.Member.{askings, is_lent, pool}
@@ -78,9 +77,6 @@ returns c =
     let now = c.args.store.now in
     let member = c.args.member.now in
     let statement = arc_value c.args.statement in
-    let uses =
-    c.entangled_uses-uses.ensures ∙ ap uses_of_entangled c.deref.ensures
-    ∙ c.uses_are_kept_by_closing.ensures.entangled statement in
     let posted : c.as_slice-2.result.now ≡ askings s =
     c.as_slice-2.ensures
     ∙ c.in_ok-posted.ensures.askings s (sym c.as_slice.ensures.value) (sym c.active.ensures.list) in
@@ -94,5 +90,5 @@ returns c =
     let P : List Posted → Type 0 = IsSafe in (
       some_found member.tx now.active member c.requires.next.there,
       entangled_posted now member.tx member statement c.requires.next c.requires.unblocked
-          (subst P whole (subst M c.in-None.is c.in_ok-fault.ensures)) c.entangled_uses-uses.result uses,
+          (subst P whole (subst M c.in-None.is c.in_ok-fault.ensures)) c.new-asking.result asked,
     )

@@ -28,8 +28,8 @@ seen-requires c =
     recursion_from_All (λ (own : Use). own.table < length inside.tables.tables) c.as_slice.result.now
     (subst Q count (subst (P (length now.opening.tables)) (ap next_uses c.requires.next.is_next ∙ sym uses) all))
 
-pub one-job-requires : goal.one-job-requires
-one-job-requires c =
+pub one-requires : goal.one-requires
+one-requires c =
     let inside = c.store.inside in
     let now = c.args.store.now in
     let member = c.args.member.now in
@@ -75,6 +75,5 @@ returns c =
     ∙ ap (seen_now inside.opening.tables inside.tables.tables) (c.as_slice.ensures.list ∙ uses)
     ∙ ap (λ (x : State). seen_now x.opening.tables x.tables (statement_uses statement)) c.store.view_is in (
       some_found member.tx now.active member c.requires.next.there,
-      ordinary_lent now member.tx member statement c.requires.next c.requires.unblocked c.statement_uses-uses.result uses
-          c.one-job.result (c.one-job.ensures ∙ (λ i. record { work = One (single i); tables = seen i })),
+      ordinary_lent now member.tx member statement c.requires.next c.requires.unblocked c.one.result (c.one.ensures ∙ (λ i. record { work = One (single i); tables = seen i })),
     )
