@@ -86,8 +86,8 @@ pub(crate) fn split_by(
     ensures marked { IfOk result (λ two. two.0.items ≡ marked_in marks.now members.now) }
     ensures others { IfOk result (λ two. two.1.items ≡ marked_in (map not marks.now) members.now) }
 {
-    let mut part = Vec::new(alloc);
-    let mut rest = Vec::new(alloc);
+    let mut part = Vec::with_capacity(alloc, members.len())?;
+    let mut rest = Vec::with_capacity(alloc, members.len())?;
     for place in 0..members.len() {
         let member = members[place].shared()?;
         if marks[place] {

@@ -67,7 +67,13 @@ pub fn listed<T: Item, const LIMIT: usize>(
     ensures { Gives (λ x. x) result (reads (listed LIMIT divider T.grammar) end tokens.entry) }
 {
     let (first, rest) = T::read(alloc, end, tokens)?;
-    let mut items = Limited::new(alloc);
+    // Where a second thing follows there is room for it at once.
+    let room = if begins_with_divider(divider, &rest) {
+        2
+    } else {
+        1
+    };
+    let mut items = Limited::with_capacity(alloc, room)?;
     items.push(first)?;
     appended(alloc, divider, items, end, rest)
 }

@@ -53,6 +53,13 @@ left_of place rest faultless = (length rest, omega arith, none_before (tokens_fr
 whole_of : (place : ℕ) (rest : List ℕ) (total : Tokens) → LeftToRead [] place rest total → tokens_from (length rest) place rest ≡ total
 whole_of place rest total (n, le, kept) = enough (length rest) n place rest (omega arith) le ∙ sym (none_before (tokens_from n place rest)) ∙ kept
 
+-- what is left to read has no fault, and its tokens are all
+pub rest_is_all : (place : ℕ) (rest : List ℕ) (all : List Token) → LeftToRead [] place rest (Ok all)
+    → IsFaultless place rest × (tokens_left place rest ≡ all)
+rest_is_all place rest all left =
+    let whole = whole_of place rest (Ok all) left in
+    (is_ok (tokens_from (length rest) place rest) all whole, ap tokens_or_none whole)
+
 -- where no token is left, there is none
 pub none_left : (place : ℕ) (rest : List ℕ) (all : List Token) → length rest ≡ 0 → LeftToRead [] place rest (Ok all) → [] ≡ all
 none_left place rest all e left = let whole = nothing_left [] place rest (Ok all) e left in let same : all ≡ [] = cc in sym same

@@ -1,13 +1,16 @@
 //! What is left of a text, as its tokens.
-ghost use Rattle.std.specs.Prelude.{◌≡◌, ◌<◌, ◌+◌, ◌^◌, MatchOption, Err, drop, length};
+ghost use Rattle.std.specs.Prelude.{◌≡◌, ◌<◌, ◌+◌, ◌^◌, MatchOption, Err, drop, false, length, slice_index, true};
+ghost use Rattle.std.specs.Char.{is_ascii_alphabetic};
 ghost use Rattle.ent_text.specs.Left.{IsFaultless, tokens_left};
 ghost use Rattle.ent_text.specs.Left.{kind_of_first, start_of_first, end_of_first};
 ghost use Rattle.ent_text.specs.Lexing.{tokens_of};
+ghost use Rattle.ent_text.specs.Spelling.{is_blank};
 
 use crate::bytes::tail;
 use crate::fault::TextFault;
-use crate::piece::{behind_piece, is_blank, piece_at};
+use crate::piece::{behind_piece, is_blank, other_piece};
 use crate::view::TokenView;
+use crate::word::{view_of, word_and_rest};
 use std::marker::Model;
 
 /// The tokens that are left of a text, of which contracts see the list. The text has no fault. A token is read where
@@ -55,6 +58,28 @@ fn first_fault(bytes: &[u8]) -> Option<TextFault>
     None
 }
 
+/// The tokens of the bytes from a place on, the first of which is a word. They are made where the word is found: most
+/// tokens are words, and a piece that is handed on is copied.
+#[inline(always)]
+fn tokens_from_word(place: usize, bytes: &[u8]) -> Tokens<'_>
+    requires room { place + length bytes.now < 2 ^ 64 }
+    requires faultless { IsFaultless place bytes.now }
+    requires nonempty { 0 < length bytes.now }
+    requires visible { is_blank (slice_index bytes.now 0) ≡ false }
+    requires letter { is_ascii_alphabetic (slice_index bytes.now 0) ≡ true }
+    ensures { result ≡ tokens_left place bytes.now }
+{
+    match word_and_rest(place, bytes) {
+        Ok((word, behind)) => Tokens {
+            front: Some(view_of(word)),
+            start: place,
+            end: place + (bytes.len() - behind.len()),
+            behind,
+        },
+        Err(_) => unreachable!(),
+    }
+}
+
 /// The tokens of the bytes from a place on. A blank is passed over at once here too.
 fn tokens_from(place: usize, bytes: &[u8]) -> Tokens<'_>
     requires room { place + length bytes.now < 2 ^ 64 }
@@ -69,7 +94,10 @@ fn tokens_from(place: usize, bytes: &[u8]) -> Tokens<'_>
             start += 1;
             continue;
         }
-        match piece_at(start, rest) {
+        if rest[0].is_ascii_alphabetic() {
+            return tokens_from_word(start, rest);
+        }
+        match other_piece(start, rest) {
             Ok((front, behind)) => {
                 let end = start + (rest.len() - behind.len());
                 let Some(view) = front else {

@@ -14,7 +14,7 @@ use crate::numeral::Numeral;
 use crate::quoted::quoted_len;
 use crate::symbol::symbol_of;
 use crate::view::TokenView;
-use crate::word::{word_and_rest, word_at};
+use crate::word::word_and_rest;
 use ent_value::LONGEST_TEXT;
 
 pub(crate) fn is_blank(byte: u8) -> bool
@@ -91,26 +91,6 @@ fn symbol_at(place: usize, bytes: &[u8]) -> Result<(Option<TokenView<'_>>, &[u8]
     ))
 }
 
-/// The piece at the front, which is no blank, and the bytes behind it.
-#[inline(always)]
-#[tactic(auto, unfolding(crate::specs::Lexing::piece_at))]
-pub(crate) fn piece_at(
-    place: usize,
-    bytes: &[u8],
-) -> Result<(Option<TokenView<'_>>, &[u8]), TextFault>
-    requires room { place + length bytes.now < 2 ^ 64 }
-    requires nonempty { 0 < length bytes.now }
-    requires visible { is_blank (slice_index bytes.now 0) ≡ false }
-    ensures value { Sees result (piece_at place bytes.now) }
-    ensures shorter { IfOk result (λ x. length x.1.now < length bytes.now) }
-{
-    if bytes[0].is_ascii_alphabetic() {
-        word_at(place, bytes)
-    } else {
-        other_piece(place, bytes)
-    }
-}
-
 /// The bytes behind the piece at the front, which is no blank. No reserved word is looked up.
 #[inline(always)]
 #[tactic(auto, unfolding(crate::specs::Lexing::piece_at))]
@@ -134,10 +114,13 @@ pub(crate) fn behind_piece(place: usize, bytes: &[u8]) -> Result<&[u8], TextFaul
     }
 }
 
-/// The piece at the front where that is no blank and no word.
+/// The piece at the front where that is no blank and no word, and the bytes behind it.
 #[inline(never)]
 #[tactic(auto, unfolding(crate::specs::Lexing::piece_at))]
-fn other_piece(place: usize, bytes: &[u8]) -> Result<(Option<TokenView<'_>>, &[u8]), TextFault>
+pub(crate) fn other_piece(
+    place: usize,
+    bytes: &[u8],
+) -> Result<(Option<TokenView<'_>>, &[u8]), TextFault>
     requires room { place + length bytes.now < 2 ^ 64 }
     requires nonempty { 0 < length bytes.now }
     requires visible { is_blank (slice_index bytes.now 0) ≡ false }

@@ -1,10 +1,10 @@
 //! Words.
-ghost use Rattle.std.specs.Prelude.{◌≡◌, ◌≤◌, length, slice_index, true};
+ghost use Rattle.std.specs.Prelude.{◌≡◌, ◌+◌, ◌≤◌, IfOk, length, slice_index, true};
 ghost use Rattle.std.specs.List.{prefix_len};
 ghost use Rattle.std.specs.Char.{is_ascii_alphabetic};
 ghost use Rattle.ent_value.specs.Name.{is_word_byte, IsWord};
 ghost use Rattle.ent_text.specs.Lexing.{word_at, word_kind};
-ghost use Rattle.ent_text.specs.View.{kind_seen, CanBeMade, Sees, FindsWord};
+ghost use Rattle.ent_text.specs.View.{kind_seen, CanBeMade, FindsWord};
 
 use crate::fault::TextFault;
 use crate::keyword::keyword_of;
@@ -19,7 +19,8 @@ pub(crate) fn word_len(bytes: &[u8]) -> usize
     bytes.iter().take_while(|byte| is_word_byte(**byte)).count()
 }
 
-fn view_of(word: &[u8]) -> TokenView<'_>
+/// A word as a token: a reserved word, or a name.
+pub(crate) fn view_of(word: &[u8]) -> TokenView<'_>
     requires { IsWord word.now }
     ensures kind { kind_seen result ≡ word_kind word.now }
     ensures made { CanBeMade result }
@@ -34,23 +35,12 @@ fn view_of(word: &[u8]) -> TokenView<'_>
 #[tactic(auto, unfolding(crate::specs::Lexing::word_at))]
 pub(crate) fn word_and_rest(place: usize, bytes: &[u8]) -> Result<(&[u8], &[u8]), TextFault>
     requires { is_ascii_alphabetic (slice_index bytes.now 0) ≡ true }
-    ensures { FindsWord result (word_at place bytes.now) }
+    ensures word { FindsWord result (word_at place bytes.now) }
+    ensures halves { IfOk result (λ found. length found.0.now + length found.1.now ≡ length bytes.now) }
 {
     let (word, rest) = bytes.split_at(word_len(bytes));
     if word.len() > LONGEST_NAME {
         return Err(TextFault::TextTooLong(place));
     }
     Ok((word, rest))
-}
-
-/// The word that these bytes begin, the first being a letter, and the bytes behind it.
-pub(crate) fn word_at(
-    place: usize,
-    bytes: &[u8],
-) -> Result<(Option<TokenView<'_>>, &[u8]), TextFault>
-    requires { is_ascii_alphabetic (slice_index bytes.now 0) ≡ true }
-    ensures { Sees result (word_at place bytes.now) }
-{
-    let (word, rest) = word_and_rest(place, bytes)?;
-    Ok((Some(view_of(word)), rest))
 }

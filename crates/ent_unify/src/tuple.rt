@@ -82,7 +82,8 @@ impl<'a> Tuple<'a> {
         false
     }
 
-    /// Whether the two can be one.
+    /// Whether the two can be one. It has the room of its equations to itself: most tuples are told apart without it.
+    #[inline(never)]
     pub(crate) fn unifies(self, other: Tuple<'a>, none: &'a Value) -> bool
         requires columns { length self.terms.now ≡ length other.terms.now }
         requires limit { length self.terms.now ≤ MOST_PARTS }
