@@ -56,7 +56,7 @@ pub fn appended<T: Item, const LIMIT: usize>(
     Ok((items, rest))
 }
 
-/// Things with dividers between them: one at least, `LIMIT` at most.
+/// Things with dividers between them: one at least, `LIMIT` at most. They keep no room for more.
 pub fn listed<T: Item, const LIMIT: usize>(
     alloc: Global,
     divider: Divider,
@@ -75,7 +75,8 @@ pub fn listed<T: Item, const LIMIT: usize>(
     };
     let mut items = Limited::with_capacity(alloc, room)?;
     items.push(first)?;
-    appended(alloc, divider, items, end, rest)
+    let (items, rest) = appended(alloc, divider, items, end, rest)?;
+    Ok((items.shrunk(), rest))
 }
 
 /// Things one behind the other, `LIMIT` at most.
