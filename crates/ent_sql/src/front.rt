@@ -26,7 +26,12 @@ pub fn begins_with_literal(tokens: &Tokens<'_>) -> bool
 {
     matches!(
         tokens.front(),
-        Some(TokenView::Number(_) | TokenView::Literal(_) | TokenView::Sign(Symbol::Minus))
+        Some(
+            TokenView::Number(_)
+                | TokenView::Literal(_)
+                | TokenView::Doubled(_)
+                | TokenView::Sign(Symbol::Minus)
+        )
     )
 }
 
@@ -40,6 +45,7 @@ pub fn begins_with_value(tokens: &Tokens<'_>) -> bool
             TokenView::HostVariable(_)
                 | TokenView::Number(_)
                 | TokenView::Literal(_)
+                | TokenView::Doubled(_)
                 | TokenView::Sign(Symbol::Minus)
         )
     )
@@ -56,6 +62,7 @@ pub fn begins_with_operand(tokens: &Tokens<'_>) -> bool
                 | TokenView::HostVariable(_)
                 | TokenView::Number(_)
                 | TokenView::Literal(_)
+                | TokenView::Doubled(_)
                 | TokenView::Sign(Symbol::Minus)
         )
     )

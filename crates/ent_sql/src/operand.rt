@@ -13,7 +13,7 @@ use crate::list::Item;
 use ent_grammar::{GrammarFault, begins_with_sign, sign_at, unexpected};
 use ent_text::{Symbol, TokenView, Tokens, text_of};
 use ent_tree::{Boxed, ColumnReference, Identifier, Literal, Operand, Term, ValueSpecification};
-use ent_value::{Name, Refusal, Value};
+use ent_value::{Name, Refusal, Text, Value};
 use std::alloc::Global;
 
 /// The name at the front.
@@ -82,7 +82,8 @@ fn unsigned_at(
 {
     let value = match tokens.front() {
         Some(TokenView::Number(number)) => Value::Int(number.positive()),
-        Some(TokenView::Literal(behind)) => Value::Text(text_of(alloc, behind)?),
+        Some(TokenView::Literal(content)) => Value::Text(Text::from_bytes(alloc, content)?),
+        Some(TokenView::Doubled(behind)) => Value::Text(text_of(alloc, behind)?),
         _ => return Err(unexpected(end, &tokens)),
     };
     let place = tokens.start(end);

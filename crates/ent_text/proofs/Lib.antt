@@ -15,5 +15,6 @@ pub mod OneReading
 pub mod Moved
 pub mod ReadOn
 pub mod Measured
+pub mod Enclosed
 pub mod Verbatim
 pub mod Initials

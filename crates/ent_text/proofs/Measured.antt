@@ -7,7 +7,7 @@ use Rattle.std.specs.Char.{is_ascii_control}
 use Rattle.ent_text.specs.declared.fault.TextFault.{TextFault}
 use Rattle.ent_text.specs.declared.fault.TextFault.TheVariants.{BadChar, OpenText}
 use Rattle.ent_text.specs.Lexing.{Piece, with_byte, quoted_at, text_at}
-use Rattle.ent_text.specs.View.{content, content_of, IsContent}
+use Rattle.ent_text.specs.View.{content, content_of, Encloses}
 use Rattle.ent_text.specs.declared.token.TokenKind.TheVariants.{Literal}
 use Rattle.ent_text.proofs.Reading.{Body, with_front, quoted-closed, quoted-control}
 
@@ -79,7 +79,7 @@ not_over n le = grind (arith, nat_tests)
 
 -- a text within its limit is seen
 pub text_is_seen : (place len : ℕ) (bytes behind rest : List ℕ) → behind ≡ drop 1 bytes → (inside : List ℕ) × (quoted_at place (place + 1) behind ≡ Ok (inside, rest)) × (length inside ≡ len) → len ≤ 255
-    → (text_at place bytes ≡ Ok (Some (Literal (content behind)), rest)) × IsContent behind
+    → (text_at place bytes ≡ Ok (Some (Literal (content behind)), rest)) × Encloses behind len (length rest)
 unfolding text_at
 text_is_seen place len bytes behind rest is (inside, e, size) le =
     let here : quoted_at place (place + 1) (drop 1 bytes) ≡ Ok (inside, rest) = ap (quoted_at place (place + 1)) (sym is) ∙ e in
@@ -87,7 +87,7 @@ text_is_seen place len bytes behind rest is (inside, e, size) le =
     let few : ltb 255 (length inside) ≡ false = not_over (length inside) (omega arith) in
     let read : text_at place bytes ≡ Ok (Some (Literal inside), rest) = rw (here, few) refl in
     let same : inside ≡ content behind = ap content_of (sym there) in
-    (read ∙ ap (λ (xs : List ℕ). let r : Result Piece TextFault = Ok (Some (Literal xs), rest) in r) same, ((inside, rest), there, omega arith))
+    (read ∙ ap (λ (xs : List ℕ). let r : Result Piece TextFault = Ok (Some (Literal xs), rest) in r) same, ((inside, rest), there, size, refl))
 
 pub two_there : (rest : List ℕ) → get_or rest 1 0 ≡ 39 → 1 < length rest
 two_there [] e = absurd (omega arith)

@@ -1,16 +1,15 @@
 -- Bytes that stand in quotes as they are.
-use Rattle.std.proofs.Common.{◌≡◌, ℕ, suc, ◌+◌, ◌<◌, ◌≤◌, Bool, true, false, cond, eqb, List, [], ◌∷◌, ◌++◌, length, take, drop, get_or, Result, Ok, Err, refl, ap, sym, ◌∙◌, arith, append_assoc, eq-eqb, length-drop}
-use Rattle.std.specs.Prelude.{not, ◌||◌, IfOk}
-use Rattle.std.proofs.lemmas.Bool.{ne_eqb, eqb-true}
+use Rattle.std.proofs.Common.{◌≡◌, ℕ, suc, ◌+◌, ◌<◌, Bool, true, false, cond, eqb, List, [], ◌∷◌, ◌++◌, length, take, drop, get_or, Ok, Err, refl, ap, sym, ◌∙◌, arith, append_assoc, length-drop}
+use Rattle.std.specs.Prelude.{not, ◌||◌}
+use Rattle.std.proofs.lemmas.Bool.{ne_eqb}
 use Rattle.std.proofs.lemmas.List.{get_or-drop}
 use Rattle.std.proofs.lemmas.List.Sums.{prefix_len_stops}
 use Rattle.std.specs.List.{prefix_len}
 use Rattle.std.specs.Char.{is_ascii_control}
-use Rattle.ent_text.specs.declared.fault.TextFault.TheVariants.{BadChar, OpenText}
 use Rattle.ent_text.specs.Lexing.{with_byte, quoted_at}
-use Rattle.ent_text.specs.View.{content, content_of, is_verbatim, IsContent}
+use Rattle.ent_text.specs.View.{is_verbatim}
 use Rattle.ent_text.proofs.Reading.{Body, with_front, quoted-other}
-use Rattle.ent_text.proofs.Measured.{begins, closes, controls, opens}
+use Rattle.ent_text.proofs.Measured.{begins}
 
 neither : (t u : Bool) → not (t || u) ≡ true → (t ≡ false) × (u ≡ false)
 neither false false e = (refl, refl)
@@ -72,34 +71,3 @@ over_run quote place len front bytes rest total run behind kept =
     front_twice front (take len bytes) (quoted_at quote (place + len) (drop len bytes)) ∙
     ap (λ (k : ℕ). with_front front (with_front (take k bytes) (quoted_at quote (place + k) (drop k bytes)))) run ∙
     ap (with_front front) (run_on quote place bytes) ∙ kept
-
--- a text with no doubled quote is the run behind its opening quote
-pub run_is_content : (len : ℕ) (bytes front rest : List ℕ) → len ≡ prefix_len is_verbatim bytes → front ≡ take len bytes → rest ≡ drop len bytes → (get_or rest 1 0 ≡ 39 → ⊥) → IsContent bytes
-    → (front ≡ content bytes) × (length front ≤ 255)
-run_is_content len bytes front rest run before behind alone (text, e, few) =
-    let from : len ≡ 0 + len = omega arith in
-    on rest behind alone
-    (ap (λ (xs : List ℕ). with_front xs (quoted_at 0 len rest)) before ∙ ap (λ (k : ℕ). with_front (take len bytes) (quoted_at 0 k rest)) from ∙
-    over_run 0 0 len [] bytes rest (quoted_at 0 0 bytes) run behind (begins 0 0 bytes))
-  where
-    on : (rest : List ℕ) → rest ≡ drop len bytes → (get_or rest 1 0 ≡ 39 → ⊥) → with_front front (quoted_at 0 len rest) ≡ quoted_at 0 0 bytes
-        → (front ≡ content bytes) × (length front ≤ 255)
-    on [] behind alone over =
-        let unclosed : quoted_at 0 0 bytes ≡ Err (OpenText 0) = opens 0 len front [] (quoted_at 0 0 bytes) (omega arith) over in
-        absurd (let no : Ok text ≡ Err (OpenText 0) = sym e ∙ unclosed in cc)
-    on (b ∷ rest) behind alone over = by (eqb b 39) refl
-      where
-        by : (t : Bool) → eqb b 39 ≡ t → (front ≡ content bytes) × (length front ≤ 255)
-        by true is =
-            let closed : quoted_at 0 0 bytes ≡ Ok (front, rest) = closes 0 len front (b ∷ rest) (quoted_at 0 0 bytes) (omega arith) (eqb-true b 39 is) alone over in
-            let same : front ≡ text.0 = ap content_of (sym closed ∙ e) in
-            (ap content_of (sym closed), omega (arith, few, ap length same))
-        by false is =
-            let other : (b ≡ 39 → ⊥) = λ h. (let yes : eqb b 39 ≡ true = eq-eqb b 39 h in let no : true ≡ false = sym yes ∙ is in cc) in
-            let bad : quoted_at 0 0 bytes ≡ Err (BadChar len) =
-            controls 0 len front (b ∷ rest) (quoted_at 0 0 bytes) (omega arith) other (control_there b (run_stops len bytes (b ∷ rest) run behind (omega arith)) other) over in
-            absurd (let no : Ok text ≡ Err (BadChar len) = sym e ∙ bad in cc)
-
-pub copied : {E : Type 0} (copy : Result (List ℕ) E) (front bytes : List ℕ) → front ≡ content bytes → IfOk copy (λ text. text ≡ front) → IfOk copy (λ text. text ≡ content bytes)
-copied (Ok text) front bytes same is = is ∙ same
-copied (Err e) front bytes same is = tt

@@ -29,13 +29,19 @@ is_verbatim b = not ((b == 39) || is_ascii_control b)
 abbrev pub IsContent : List ℕ → Type 0
 IsContent behind = (text : List ℕ × List ℕ) × (quoted_at 0 0 behind ≡ Ok text) × (length text.0 ≤ LONGEST_TEXT)
 
+-- a text with a content of this length begins just before these bytes, the last so many of which stand behind it
+abbrev pub Encloses : List ℕ → ℕ → ℕ → Type 0
+Encloses behind len left =
+    (text : List ℕ × List ℕ) × (quoted_at 0 0 behind ≡ Ok text) × (length text.0 ≡ len) × (length text.1 ≡ left)
+
 -- the token that is seen
 abbrev pub kind_seen : TokenView → TokenKind
 kind_seen (views.Word keyword) = Word keyword
 kind_seen (views.Name word) = Name word.now
 kind_seen (views.HostVariable word) = HostVariable word.now
 kind_seen (views.Number n) = Number n
-kind_seen (views.Literal behind) = Literal (content behind.now)
+kind_seen (views.Literal text) = Literal text.now
+kind_seen (views.Doubled behind) = Literal (content behind.now)
 kind_seen (views.Sign symbol) = Sign symbol
 
 -- a token that is seen can be made
@@ -44,7 +50,8 @@ CanBeMade (views.Word keyword) = ⊤
 CanBeMade (views.Name word) = IsWord word.now
 CanBeMade (views.HostVariable word) = IsWord word.now
 CanBeMade (views.Number n) = ⊤
-CanBeMade (views.Literal behind) = IsContent behind.now
+CanBeMade (views.Literal text) = length text.now ≤ LONGEST_TEXT
+CanBeMade (views.Doubled behind) = IsContent behind.now
 CanBeMade (views.Sign symbol) = ⊤
 
 abbrev pub kind_if_seen : Option TokenView → Option TokenKind

@@ -4,7 +4,9 @@ ghost use Rattle.std.specs.List.{prefix_len};
 ghost use Rattle.std.specs.Char.{is_ascii_alphabetic, is_ascii_digit};
 ghost use Rattle.ent_text.specs.Spelling.{is_blank};
 ghost use Rattle.ent_text.specs.Lexing.{number_at, value_from, text_at, symbol_at, piece_at};
-ghost use Rattle.ent_text.specs.View.{Sees, IsBehind};
+ghost use Rattle.ent_text.specs.View.{content, kind_seen, CanBeMade, Encloses, Sees, IsBehind};
+ghost use Rattle.ent_text.specs.declared.token.TokenKind.TheVariants.{Literal};
+ghost use Rattle.ent_value.specs.declared.text.TheConstants.{LONGEST_TEXT};
 
 use crate::bytes::{byte_at, tail};
 use crate::comment::{begins_comment, behind_line};
@@ -64,6 +66,21 @@ fn number_at(place: usize, bytes: &[u8]) -> Result<(Option<TokenView<'_>>, &[u8]
     Ok((Some(TokenView::Number(value)), rest))
 }
 
+/// The text with so long a content whose opening quote stands just before these bytes, the last `left` of which stand
+/// behind its closing quote. Where no quote is doubled its content is there as it is.
+fn literal_of(behind: &[u8], len: usize, left: usize) -> TokenView<'_>
+    requires text { Encloses behind.now len left }
+    requires short { len ≤ LONGEST_TEXT }
+    ensures kind { kind_seen result ≡ Literal (content behind.now) }
+    ensures made { CanBeMade result }
+{
+    if behind.len() - left == len + 1 {
+        TokenView::Literal(behind.split_at(len).0)
+    } else {
+        TokenView::Doubled(behind)
+    }
+}
+
 #[tactic(auto, unfolding(crate::specs::Lexing::text_at))]
 fn text_at(place: usize, bytes: &[u8]) -> Result<(Option<TokenView<'_>>, &[u8]), TextFault>
     requires room { place + length bytes.now < 2 ^ 64 }
@@ -75,7 +92,7 @@ fn text_at(place: usize, bytes: &[u8]) -> Result<(Option<TokenView<'_>>, &[u8]),
     if len > LONGEST_TEXT {
         return Err(TextFault::TextTooLong(place));
     }
-    Ok((Some(TokenView::Literal(behind)), rest))
+    Ok((Some(literal_of(behind, len, rest.len())), rest))
 }
 
 #[tactic(auto, unfolding(crate::specs::Lexing::symbol_at))]

@@ -67,16 +67,11 @@ fn content_len(behind: &[u8]) -> usize {
     }
 }
 
-/// The text whose opening quote stands just before these bytes. Where no quote in it is doubled, its bytes are copied
-/// at once.
+/// The text whose opening quote stands just before these bytes.
 pub fn text_of(alloc: Global, behind: &[u8]) -> Result<Text, AllocError>
     requires { IsContent behind.now }
     ensures { IfOk result (λ text. text ≡ content behind.now) }
 {
-    let (run, end) = behind.split_at(verbatim_len(behind));
-    if byte_at(end, 1) != b'\'' {
-        return Text::from_bytes(alloc, run);
-    }
     match quoted_at(alloc, content_len(behind), 0, 0, behind) {
         Ok((text, _)) => Ok(Text::from_vec(text)),
         Err(Refusal::Memory) => Err(AllocError),

@@ -6,7 +6,7 @@ use crate::numeral::Numeral;
 use crate::quoted::text_of;
 use crate::symbol::Symbol;
 use crate::token::TokenKind;
-use ent_value::Name;
+use ent_value::{Name, Text};
 use std::alloc::{AllocError, Global};
 
 /// What a token is, seen where it stands in its text: nothing is copied.
@@ -17,8 +17,10 @@ pub enum TokenView<'a> {
     /// The word directly behind an `@`.
     HostVariable(&'a [u8]),
     Number(Numeral),
-    /// What stands behind the opening quote, up to the end of the whole text.
+    /// The content of a text in which no quote is doubled.
     Literal(&'a [u8]),
+    /// What stands behind the opening quote of a text in which quotes are doubled, up to the end of all.
+    Doubled(&'a [u8]),
     Sign(Symbol),
 }
 
@@ -35,7 +37,10 @@ impl<'a> TokenView<'a> {
             TokenView::Name(word) => Ok(TokenKind::Name(Name::new(alloc, word)?)),
             TokenView::HostVariable(word) => Ok(TokenKind::HostVariable(Name::new(alloc, word)?)),
             TokenView::Number(number) => Ok(TokenKind::Number(*number)),
-            TokenView::Literal(behind) => Ok(TokenKind::Literal(text_of(alloc, behind)?)),
+            TokenView::Literal(content) => Ok(TokenKind::Literal(Text::from_bytes(
+                alloc, content,
+            )?)),
+            TokenView::Doubled(behind) => Ok(TokenKind::Literal(text_of(alloc, behind)?)),
             TokenView::Sign(symbol) => Ok(TokenKind::Sign(*symbol)),
         }
     }

@@ -1,4 +1,4 @@
-use Rattle.std.proofs.Common.{◌≡◌, ◌<◌, ◌∙◌, ℕ, List, Ok, arith, length, sym}
+use Rattle.std.proofs.Common.{◌<◌, ◌∙◌, Ok, arith, length, sym}
 use Rattle.ent_text.proofs.Reading.{left_length}
 use Rattle.ent_text.proofs.Shorter.{piece_shorter}
 use Rattle.ent_text.specs.Left.{tokens_left}

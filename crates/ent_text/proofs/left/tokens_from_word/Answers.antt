@@ -1,5 +1,4 @@
-use Rattle.std.proofs.Common.{◌≡◌, ◌∷◌, ◌∙◌, ◌-◌, ◌+◌, ap, arith, length, Ok, Some, Result, List}
-use Rattle.ent_text.specs.declared.fault.TextFault.{TextFault}
+use Rattle.std.proofs.Common.{◌∷◌, ◌∙◌, ◌-◌, ◌+◌, ap, arith, length, List}
 use Rattle.ent_text.specs.declared.token.Token.{Token}
 use Rattle.ent_text.specs.declared.token.TokenKind.{TokenKind}
 use Rattle.ent_text.specs.Left.{tokens_left}
