@@ -56,7 +56,7 @@ pub fn appended<T: Item, const LIMIT: usize>(
     Ok((items, rest))
 }
 
-/// Things with dividers between them: one at least, `LIMIT` at most. They keep no room for more.
+/// Things with dividers between them: one at least, `LIMIT` at most. They keep room for one more at most.
 pub fn listed<T: Item, const LIMIT: usize>(
     alloc: Global,
     divider: Divider,

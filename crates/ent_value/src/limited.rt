@@ -68,7 +68,7 @@ impl<T, const LIMIT: usize> Limited<T, LIMIT> {
         elements.into_vec()
     }
 
-    /// The same elements, with no more room than they need.
+    /// The same elements, with room for one more at most.
     pub fn shrunk(self) -> Self
         ensures { result ≡ self }
     {

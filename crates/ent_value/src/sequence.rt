@@ -92,12 +92,14 @@ impl<T> Sequence<T> {
         }
     }
 
-    /// The same elements, with no more room than they need.
+    /// The same elements, with room for one more at most: giving back the room of one costs more than it is worth.
     pub fn shrunk(self) -> Self
         ensures { result ≡ self }
     {
         let mut elements = self.into_vec();
-        elements.shrink_to_fit();
+        if elements.capacity() - elements.len() > 1 {
+            elements.shrink_to_fit();
+        }
         Sequence::from_vec(elements)
     }
 
