@@ -26,6 +26,7 @@ alike_self (kinds.Name n) = refl
 alike_self (kinds.HostVariable n) = refl
 alike_self (kinds.Number n) = refl
 alike_self (kinds.Literal n) = refl
+alike_self (kinds.Fault f) = refl
 
 -- a kind that says the same of itself, whatever else it says
 abbrev bare : TokenKind → TokenKind
@@ -35,6 +36,7 @@ bare (kinds.Name n) = kinds.Name (120 ∷ [])
 bare (kinds.HostVariable n) = kinds.HostVariable (120 ∷ [])
 bare (kinds.Number n) = kinds.Number 1
 bare (kinds.Literal n) = kinds.Literal []
+bare (kinds.Fault f) = kinds.Fault f
 
 of_class : (c : Class) (k : TokenKind) → is c k ≡ true → bare k ≡ kind_of c
 of_class (word w) (kinds.Word v) e = ap (λ (u : Keyword). kinds.Word u) (word_same v w e)

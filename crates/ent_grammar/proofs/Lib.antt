@@ -8,3 +8,4 @@ pub mod Firm
 pub mod Complete
 pub mod Stopped
 pub mod Place
+pub mod Faultless

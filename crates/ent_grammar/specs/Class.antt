@@ -95,6 +95,7 @@ alike (kinds.Name these) (kinds.Name those) = true
 alike (kinds.HostVariable these) (kinds.HostVariable those) = true
 alike (kinds.Number these) (kinds.Number those) = true
 alike (kinds.Literal these) (kinds.Literal those) = true
+alike (kinds.Fault this) (kinds.Fault that) = true
 alike _ _ = false
 
 -- no token is of the class and of one of these

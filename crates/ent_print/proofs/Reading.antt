@@ -16,7 +16,7 @@ use Rattle.ent_text.specs.declared.keyword.Keyword.TheVariants as keywords
 use Rattle.ent_text.specs.declared.symbol.Symbol.TheVariants as symbols
 use Rattle.ent_text.specs.declared.token.Token.{Token as PlacedToken}
 use Rattle.ent_text.specs.declared.token.TokenKind.{TokenKind}
-use Rattle.ent_text.specs.declared.token.TokenKind.TheVariants.{Word, Name, HostVariable, Number, Literal, Sign}
+use Rattle.ent_text.specs.declared.token.TokenKind.TheVariants.{Word, Name, HostVariable, Number, Literal, Sign, Fault}
 use Rattle.ent_text.specs.Keyword.{keyword_text}
 use Rattle.ent_text.specs.Spelling.{Spells, IsWithinLimit, IsLongest, is_blank}
 use Rattle.ent_text.specs.Ends.{goes_on}
@@ -102,6 +102,7 @@ spelled (HostVariable word) can = (refl, can.0.1.1)
 spelled (Number n) can = let h = decimal_is_IsNumeral n (omega (arith, can.1)) in (h.0, h.1)
 spelled (Literal text) can = (refl, can.0.1.1)
 spelled (Sign symbol) can = inl refl
+spelled (Fault fault) can = absurd can.1
 
 -- ---- what stands behind a lexeme
 
@@ -117,6 +118,7 @@ quiet b w d q g e m (Sign symbols.Less) = or_from (eqb b 62) (eqb b 61) g e
 quiet b w d q g e m (Sign symbols.Greater) = e
 quiet b w d q g e m (Sign symbols.Minus) = m
 quiet b w d q g e m (Sign other) = refl
+quiet b w d q g e m (Fault fault) = refl
 
 at_end : (kind : TokenKind) → goes_on kind 0 ≡ false
 at_end = quiet 0 refl refl refl refl refl refl

@@ -8,14 +8,14 @@ use Rattle.ent_text.specs.Symbol.{symbol_text}
 use Rattle.ent_text.specs.declared.symbol.Symbol.{Symbol}
 use Rattle.ent_text.specs.declared.symbol.Symbol.TheVariants.{Open, Close, Comma, Semicolon, Dot}
 use Rattle.ent_text.specs.declared.token.TokenKind.{TokenKind}
-use Rattle.ent_text.specs.declared.token.TokenKind.TheVariants.{Word, Name, HostVariable, Number, Literal, Sign}
+use Rattle.ent_text.specs.declared.token.TokenKind.TheVariants.{Word, Name, HostVariable, Number, Literal, Sign, Fault}
 
 -- A part of a printed text: a token, or the two tokens of a negative number, which nothing keeps apart.
 pub data Lexeme : Type 0 where
   Token : TokenKind → Lexeme
   Negative : ℕ → Lexeme
 
--- the one spelling that is printed: a reserved word in capitals, a number without leading zeros
+-- The one spelling that is printed: a reserved word in capitals, a number without leading zeros. A fault has none.
 abbrev pub kind_text : TokenKind → List ℕ
 kind_text (Word keyword) = keyword_text keyword
 kind_text (Name word) = word
@@ -23,6 +23,7 @@ kind_text (HostVariable word) = 64 ∷ word
 kind_text (Number n) = decimal n
 kind_text (Literal text) = quoted text
 kind_text (Sign symbol) = symbol_text symbol
+kind_text (Fault fault) = []
 
 abbrev pub lexeme_text : Lexeme → List ℕ
 lexeme_text (Token kind) = kind_text kind

@@ -48,6 +48,10 @@ fn put_token(out: &mut Vec<u8>, token: &Token) -> Result<()> {
             write!(out, " sign {symbol:?}")?;
             Ok(())
         }
+        TokenKind::Fault(fault) => {
+            write!(out, " fault {fault}")?;
+            Ok(())
+        }
     }
 }
 

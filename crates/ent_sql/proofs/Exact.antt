@@ -1,8 +1,12 @@
 -- What is read of a text is what it says, and each fault is answered where it is the first.
-use Rattle.std.proofs.Common.{◌≡◌, ℕ, true, List, length, Result, Ok, Err, refl, ap, ◌∙◌}
+use Rattle.std.proofs.Common.{◌≡◌, ℕ, true, List, length, Result, Ok, Err, refl, ap, sym, ◌∙◌}
 use Rattle.ent_text.specs.declared.token.Token.{Token}
 use Rattle.ent_text.specs.declared.fault.TextFault.{TextFault}
 use Rattle.ent_text.specs.Lexing.{tokens_of}
+use Rattle.ent_text.specs.Left.{tokens_left, tell_fault}
+use Rattle.ent_text.proofs.UpTo.{all_left, fault_left}
+use Rattle.ent_grammar.proofs.Faultless.{read_without_fault}
+use Rattle.ent_sql.specs.Fault.{fault_of}
 use Rattle.ent_grammar.specs.declared.fault.GrammarFault.{GrammarFault}
 use Rattle.ent_grammar.specs.declared.fault.GrammarFault.TheVariants as grammar
 use Rattle.ent_grammar.specs.Grammar.{reads_all}
@@ -59,6 +63,28 @@ text_from text f (Err g) is e = let k : g ≡ f = cc in is ∙ ap (λ (h : TextF
 with_these : (text : List ℕ) (tokens : List Token) → tokens_of text ≡ Ok tokens → reading text ≡ with_fault (reads_all input (length text) tokens)
 unfolding reading
 with_these text tokens is = ap (λ (r : Result (List Token) TextFault). with_tokens r (length text)) is
+
+-- ---- with tokens up to the first fault
+
+-- what the tokens up to the first fault say is what all of them say
+pub read_up_to : (text : List ℕ) (tokens : List Token) (tree : Input) → tokens ≡ tokens_left 0 text → reads_all input (length text) tokens ≡ Ok tree → reading text ≡ Ok tree
+read_up_to text tokens tree left e = from (tokens_of text) refl
+  where
+    from : (r : Result (List Token) TextFault) → tokens_of text ≡ r → reading text ≡ Ok tree
+    from (Ok ts) is =
+        with_these text ts is ∙ ap (λ (r : Result Input GrammarFault). with_fault r)
+        (ap (λ (xs : List Token). reads_all input (length text) xs) (sym (left ∙ all_left text ts is)) ∙ e)
+    from (Err f) is =
+        let told = fault_left text f is in
+        let untold = ap tell_fault (sym left) ∙ read_without_fault input input_next (length text) tokens tree e in
+        absurd cc
+
+-- without a fault of the tokens, the first fault is that of the grammar
+pub fault_up_to : (text : List ℕ) (tokens : List Token) (fault : GrammarFault) → tokens ≡ tokens_left 0 text → tokens_of text ≡ Ok (tokens_left 0 text)
+    → reads_all input (length text) tokens ≡ Err fault → reading text ≡ Err (fault_of fault)
+fault_up_to text tokens fault left is e =
+    with_these text (tokens_left 0 text) is ∙ ap (λ (r : Result Input GrammarFault). with_fault r)
+    (ap (λ (xs : List Token). reads_all input (length text) xs) (sym left) ∙ e)
 
 -- ---- a text
 

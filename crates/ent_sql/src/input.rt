@@ -14,24 +14,25 @@ ghost use Rattle.ent_sql.specs.FirstFault.{CantFollow, IsTooMuch};
 use crate::fault::{SqlFault, fault_of};
 use crate::list::many;
 use ent_grammar::{GrammarFault, unexpected};
-use ent_text::Tokens;
+use ent_text::{Tokens, fault_in};
 use ent_tree::{Input, Opening};
 use ent_value::Refusal;
 use std::alloc::Global;
 
 /// What a text says, or its first fault: all faults of tokens come before those of the grammar, which are the first
-/// token that can't follow what stands before it, or that begins a thing beyond a limit.
+/// token that can't follow what stands before it, or that begins a thing beyond a limit. A text that says something has
+/// no fault of its tokens, so these are looked for in other texts only.
 #[tactic(auto, unfolding(crate::specs::Reading::reading))]
 pub fn parse_input(alloc: Global, text: &str) -> Result<Input, Refusal<SqlFault>>
     ensures { Gives (λ input. input) result (reading text.now) }
 {
-    match Tokens::of(text) {
-        Ok(tokens) => match input_of(alloc, text.len(), tokens) {
-            Ok(input) => Ok(input),
-            Err(Refusal::Memory) => Err(Refusal::Memory),
-            Err(Refusal::Fault(fault)) => Err(Refusal::Fault(fault_of(fault))),
+    match input_of(alloc, text.len(), Tokens::of(text)) {
+        Ok(input) => Ok(input),
+        Err(Refusal::Memory) => Err(Refusal::Memory),
+        Err(Refusal::Fault(fault)) => match fault_in(text) {
+            None => Err(Refusal::Fault(fault_of(fault))),
+            Some(earlier) => Err(Refusal::Fault(SqlFault::Text(earlier))),
         },
-        Err(fault) => Err(Refusal::Fault(SqlFault::Text(fault))),
     }
 }
 

@@ -12,7 +12,7 @@ use Rattle.ent_text.specs.declared.symbol.Symbol.TheVariants.{Open, Close, Comma
 use Rattle.ent_text.specs.declared.symbol.Symbol.TheVariants.{Equal, NotEqual, Less, LessOrEqual, Greater}
 use Rattle.ent_text.specs.declared.symbol.Symbol.TheVariants.{GreaterOrEqual}
 use Rattle.ent_text.specs.declared.token.TokenKind.{TokenKind}
-use Rattle.ent_text.specs.declared.token.TokenKind.TheVariants.{Word, Name, HostVariable, Number, Literal, Sign}
+use Rattle.ent_text.specs.declared.token.TokenKind.TheVariants.{Word, Name, HostVariable, Number, Literal, Sign, Fault}
 use Rattle.ent_text.specs.Symbol.{symbol_text, SpellsSymbol}
 use Rattle.ent_text.specs.Spelling.{IsWordLike, IsLongest, Spells, is_blank}
 use Rattle.ent_text.specs.Lexing.{symbol_of, begins_comment}
@@ -133,6 +133,7 @@ token_ends bytes behind (Number n) spelled e = number_ends bytes behind n spelle
 token_ends bytes behind (Literal text) spelled e =
     subst (λ (l : List ℕ). IsLongest l behind) (sym spelled.0) (text_longest text behind (stops is_quote behind e))
 token_ends bytes behind (Sign symbol) spelled e = symbol_ends bytes behind symbol spelled e
+token_ends bytes behind (Fault fault) spelled e = absurd spelled
 
 pub blank_ends : (b : ℕ) (behind : List ℕ) → is_blank b ≡ true → IsLongest (b ∷ []) behind
 blank_ends b behind e = blank_longest b behind (class_of_blank b e)

@@ -6,7 +6,7 @@ use Rattle.std.specs.Int.{is_in_range}
 use Rattle.std.proofs.lemmas.Bool.{agree_below_at, and_parts, or_cases, leb-true, eqb-true}
 use Rattle.ent_text.specs.declared.fault.TextFault.{TextFault}
 use Rattle.ent_text.specs.declared.token.TokenKind.{TokenKind}
-use Rattle.ent_text.specs.declared.token.TokenKind.TheVariants.{Word, Name, HostVariable, Number, Literal, Sign}
+use Rattle.ent_text.specs.declared.token.TokenKind.TheVariants.{Word, Name, HostVariable, Number, Literal, Sign, Fault}
 use Rattle.ent_text.specs.declared.symbol.Symbol.{Symbol}
 use Rattle.ent_text.specs.declared.symbol.Symbol.TheVariants.{Open, Close, Comma, Semicolon, Dot, Star, Plus, Minus, Equal, NotEqual, Less, LessOrEqual, Greater, GreaterOrEqual}
 use Rattle.ent_text.specs.Symbol.{symbol_text, SpellsSymbol}
@@ -82,6 +82,7 @@ class_of_kind (HostVariable word) = 5
 class_of_kind (Number n) = 2
 class_of_kind (Literal text) = 3
 class_of_kind (Sign symbol) = 4
+class_of_kind (Fault fault) = 4
 
 -- a piece whose first byte is of this class; a comment begins as a symbol does
 abbrev pub PieceOf : ℕ → List ℕ → Option TokenKind → Type 0
@@ -120,6 +121,7 @@ kind_of_first b bytes (HostVariable word) h = let k : b ≡ 64 = ap (λ (l : Lis
 kind_of_first b bytes (Number n) h = class_of_digit b (is_digit b h.0.1.0)
 kind_of_first b bytes (Literal text) h = let k : b ≡ 39 = ap (λ (l : List ℕ). slice_index l 0) h.0 in ap class_of k ∙ class_of_quote
 kind_of_first b bytes (Sign symbol) h = class_of_symbol (b ∷ bytes) symbol h
+kind_of_first b bytes (Fault fault) h = absurd h
 
 pub piece_of_first : (b k : ℕ) (bytes : List ℕ) (piece : Option TokenKind) → class_of b ≡ k → IsPiece (b ∷ bytes) piece → PieceOf k (b ∷ bytes) piece
 piece_of_first b k bytes None e (inl h) = let first : b ≡ h.0 = ap (λ (l : List ℕ). slice_index l 0) h.1 in inl (sym e ∙ ap class_of first ∙ class_of_blank h.0 h.2, h)
@@ -153,6 +155,7 @@ no_empty_piece (Some (Number n)) h = absurd (omega arith)
 no_empty_piece (Some (Literal text)) h = absurd cc
 no_empty_piece (Some (Sign symbol)) (inl e) = absurd (omega (arith, length_of_mark symbol, ap length e))
 no_empty_piece (Some (Sign symbol)) (inr e) = absurd (omega (arith, ap length e.0))
+no_empty_piece (Some (Fault fault)) h = absurd h
 
 -- ---- what is read there
 

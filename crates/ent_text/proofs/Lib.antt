@@ -14,6 +14,7 @@ pub mod Ends
 pub mod OneReading
 pub mod Moved
 pub mod ReadOn
+pub mod UpTo
 pub mod Measured
 pub mod Enclosed
 pub mod Verbatim

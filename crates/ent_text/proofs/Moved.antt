@@ -12,7 +12,7 @@ use Rattle.ent_text.specs.declared.symbol.Symbol.{Symbol}
 use Rattle.ent_text.specs.declared.symbol.Symbol.TheVariants as symbols
 use Rattle.ent_text.specs.declared.token.Token.{Token}
 use Rattle.ent_text.specs.declared.token.TokenKind.{TokenKind}
-use Rattle.ent_text.specs.declared.token.TokenKind.TheVariants.{Word, Name, HostVariable, Number, Literal, Sign}
+use Rattle.ent_text.specs.declared.token.TokenKind.TheVariants.{Word, Name, HostVariable, Number, Literal, Sign, Fault}
 use Rattle.ent_text.specs.Symbol.{symbol_text}
 use Rattle.ent_text.specs.Spelling.{IsPlain, IsPiece, IsLongest, is_in_line}
 use Rattle.ent_text.specs.Reading.{Reads, nothing, gap, token, AreTokens}
@@ -84,6 +84,7 @@ no_piece (Some (Sign symbol)) b front behind (inl e) =
     no_feed is_in_line refl (b ∷ front) behind (ap (list_all is_in_line) e ∙ symbol_in_line symbol)
 no_piece (Some (Sign symbol)) b front behind (inr e) =
     no_feed is_in_line refl (b ∷ front) behind (ap (list_all is_in_line) e.0)
+no_piece (Some (Fault fault)) b front behind h = absurd h
 
 -- a front of two lists goes on into the second, or doesn't
 parted : (front rest whole behind : List ℕ) → front ++ rest ≡ whole ++ behind

@@ -18,7 +18,7 @@ use Rattle.ent_text.specs.declared.fault.TextFault.{TextFault}
 use Rattle.ent_text.specs.declared.fault.TextFault.TheVariants.{BadChar, OpenText, NumberTooLarge, TextTooLong}
 use Rattle.ent_text.specs.declared.token.Token.{Token}
 use Rattle.ent_text.specs.declared.token.TokenKind.{TokenKind}
-use Rattle.ent_text.specs.declared.token.TokenKind.TheVariants.{Word, Name, HostVariable, Number, Literal, Sign}
+use Rattle.ent_text.specs.declared.token.TokenKind.TheVariants.{Word, Name, HostVariable, Number, Literal, Sign, Fault}
 use Rattle.ent_text.specs.Symbol.{SpellsSymbol}
 use Rattle.ent_text.specs.Spelling.{Spells, IsPlain, IsPiece, IsLongest, IsWordLike, IsComment, is_blank, is_in_line}
 use Rattle.ent_text.specs.Reading.{Reads, nothing, gap, token, AreTokens, IsTooLong, IsFaulty, HasFault}
@@ -291,6 +291,7 @@ judged place (Some (HostVariable word)) rest = HostVariableRead place word rest
 judged place (Some (Number n)) rest = NumberRead place n rest
 judged place (Some (Literal text)) rest = TextRead place (Ok (text, rest))
 judged place (Some (Sign symbol)) rest = Ok (Some (Sign symbol), rest)
+judged place (Some (Fault fault)) rest = Err fault
 
 pub reads_as : (place : ℕ) (word rest : List ℕ) (piece : Option TokenKind) → IsPiece word piece → IsLongest word rest → piece_at place (word ++ rest) ≡ judged place piece rest
 reads_as place [] rest piece spelled longest = absurd (no_empty_piece piece spelled)
@@ -316,6 +317,7 @@ reads_as place (b ∷ word) rest (Some (Literal text)) spelled longest =
     let closed : IsLongest (quoted text) rest = subst (λ (l : List ℕ). IsLongest l rest) spelled.0 longest in
     ap (λ (l : List ℕ). piece_at place (l ++ rest)) spelled.0 ∙ text_reads place text rest spelled.1 closed
 reads_as place (b ∷ word) rest (Some (Sign symbol)) spelled longest = symbol_reads place b word rest symbol (kind_of_first b word (Sign symbol) spelled) spelled longest
+reads_as place (b ∷ word) rest (Some (Fault fault)) spelled longest = absurd spelled
 
 within_is_read : (place : ℕ) (piece : Option TokenKind) (rest : List ℕ) → IsPieceWithin piece → judged place piece rest ≡ Ok (piece, rest)
 within_is_read place None rest h = refl
@@ -325,6 +327,7 @@ within_is_read place (Some (HostVariable word)) rest h = ap (λ (t : Bool). let 
 within_is_read place (Some (Number n)) rest h = ap (λ (t : Bool). let r : Result Piece TextFault = cond t (Err (NumberTooLarge place)) (Ok (Some (Number n), rest)) in r) (le-ltb 9223372036854775807 n h)
 within_is_read place (Some (Literal text)) rest h = ap (λ (t : Bool). let r : Result Piece TextFault = cond t (Err (TextTooLong place)) (Ok (Some (Literal text), rest)) in r) (le-ltb 255 (length text) h)
 within_is_read place (Some (Sign symbol)) rest h = refl
+within_is_read place (Some (Fault fault)) rest h = absurd h
 
 too_long_is_read : (place : ℕ) (kind : TokenKind) (rest : List ℕ) → IsTooLong kind → judged place (Some kind) rest ≡ Err (TextTooLong place)
 too_long_is_read place (Word keyword) rest h = absurd h
@@ -333,6 +336,7 @@ too_long_is_read place (HostVariable word) rest h = ap (λ (t : Bool). let r : R
 too_long_is_read place (Number n) rest h = absurd h
 too_long_is_read place (Literal text) rest h = ap (λ (t : Bool). let r : Result Piece TextFault = cond t (Err (TextTooLong place)) (Ok (Some (Literal text), rest)) in r) (lt-ltb 255 (length text) h)
 too_long_is_read place (Sign symbol) rest h = absurd h
+too_long_is_read place (Fault fault) rest h = absurd h
 
 -- ---- faults
 

@@ -9,7 +9,7 @@ use Rattle.std.proofs.lemmas.List.Folds.{length-prefix_len}
 use Rattle.std.proofs.lemmas.List.Sums.{take_while-cons}
 use Rattle.ent_value.specs.Name.{is_word_byte}
 use Rattle.ent_text.specs.declared.token.TokenKind.{TokenKind}
-use Rattle.ent_text.specs.declared.token.TokenKind.TheVariants.{Word, Name, HostVariable, Number, Literal, Sign}
+use Rattle.ent_text.specs.declared.token.TokenKind.TheVariants.{Word, Name, HostVariable, Number, Literal, Sign, Fault}
 use Rattle.ent_text.specs.Spelling.{is_in_line, IsWordLike, IsComment, IsPiece, IsLongest}
 use Rattle.ent_text.specs.declared.symbol.Symbol.{Symbol}
 use Rattle.ent_text.specs.declared.symbol.Symbol.TheVariants.{Open, Close, Comma, Semicolon, Dot, Star, Plus, Minus, Equal, NotEqual, Less, LessOrEqual, Greater, GreaterOrEqual}
@@ -41,6 +41,7 @@ word_bytes bytes (Some (HostVariable word)) h = absurd (omega (arith, h.0))
 word_bytes bytes (Some (Number n)) h = absurd (omega (arith, h.0))
 word_bytes bytes (Some (Literal text)) h = absurd (omega (arith, h.0))
 word_bytes bytes (Some (Sign symbol)) h = absurd (omega (arith, h.0))
+word_bytes bytes (Some (Fault fault)) h = absurd h.1
 
 number_bytes : (bytes : List ℕ) (piece : Option TokenKind) → PieceOf 2 bytes piece → list_all is_ascii_digit bytes ≡ true
 number_bytes bytes None (inl h) = absurd (omega (arith, h.0))
@@ -51,6 +52,7 @@ number_bytes bytes (Some (HostVariable word)) h = absurd (omega (arith, h.0))
 number_bytes bytes (Some (Number n)) h = digits_pass bytes h.1.0.1
 number_bytes bytes (Some (Literal text)) h = absurd (omega (arith, h.0))
 number_bytes bytes (Some (Sign symbol)) h = absurd (omega (arith, h.0))
+number_bytes bytes (Some (Fault fault)) h = absurd h.1
 
 pub word_longest : (b : ℕ) (bytes : List ℕ) → class_of b ≡ 1 → IsLongest (take_while is_word_byte (b ∷ bytes)) (after is_word_byte (b ∷ bytes))
 word_longest b bytes k = run_longest is_word_byte b bytes (λ others piece spelled. word_bytes (b ∷ others) piece (piece_of_first b 1 others piece k spelled))
@@ -69,6 +71,7 @@ is_host_variable bytes (Some (HostVariable word)) h = (word, h.1.0, h.1.1)
 is_host_variable bytes (Some (Number n)) h = absurd (omega (arith, h.0))
 is_host_variable bytes (Some (Literal text)) h = absurd (omega (arith, h.0))
 is_host_variable bytes (Some (Sign symbol)) h = absurd (omega (arith, h.0))
+is_host_variable bytes (Some (Fault fault)) h = absurd h.1
 
 -- what begins with an `@` is that and a word
 pub behind_at_sign : (x : ℕ) (others : List ℕ) (piece : Option TokenKind) → x ≡ 64 → IsPiece (x ∷ others) piece → IsWordLike others
@@ -97,6 +100,7 @@ blank_is_short bytes (Some (HostVariable word)) h = absurd (omega (arith, h.0))
 blank_is_short bytes (Some (Number n)) h = absurd (omega (arith, h.0))
 blank_is_short bytes (Some (Literal text)) h = absurd (omega (arith, h.0))
 blank_is_short bytes (Some (Sign symbol)) h = absurd (omega (arith, h.0))
+blank_is_short bytes (Some (Fault fault)) h = absurd h.1
 
 pub blank_longest : (b : ℕ) (rest : List ℕ) → class_of b ≡ 0 → IsLongest (b ∷ []) rest
 blank_longest b rest k [] behind more piece same spelled = omega arith
@@ -138,6 +142,7 @@ other_is_in_line bytes (Some (HostVariable word)) h = absurd (omega (arith, h.0)
 other_is_in_line bytes (Some (Number n)) h = absurd (omega (arith, h.0))
 other_is_in_line bytes (Some (Literal text)) h = absurd (omega (arith, h.0))
 other_is_in_line bytes (Some (Sign symbol)) h = symbol_is_in_line bytes symbol h.1
+other_is_in_line bytes (Some (Fault fault)) h = absurd h.1
 
 pub comment_longest : (b : ℕ) (bytes : List ℕ) → class_of b ≡ 4 → IsLongest (take_while is_in_line (b ∷ bytes)) (after is_in_line (b ∷ bytes))
 comment_longest b bytes k = run_longest is_in_line b bytes (λ others piece spelled. other_is_in_line (b ∷ others) piece (piece_of_first b 4 others piece k spelled))

@@ -5,7 +5,7 @@ use Rattle.std.specs.Char.{is_ascii_alphabetic}
 use Rattle.std.proofs.lemmas.Bool.{eqb-true, eqb-false}
 use Rattle.std.proofs.lemmas.List.{length-take-le, take-append-drop, length-append}
 use Rattle.ent_text.specs.declared.token.TokenKind.{TokenKind}
-use Rattle.ent_text.specs.declared.token.TokenKind.TheVariants.{Word, Name, HostVariable, Number, Literal, Sign}
+use Rattle.ent_text.specs.declared.token.TokenKind.TheVariants.{Word, Name, HostVariable, Number, Literal, Sign, Fault}
 use Rattle.ent_text.specs.declared.symbol.Symbol.{Symbol}
 use Rattle.ent_text.specs.declared.symbol.Symbol.TheVariants.{Open, Close, Comma, Semicolon, Dot, Star, Plus, Minus, Equal, NotEqual, Less, LessOrEqual, Greater, GreaterOrEqual}
 use Rattle.ent_text.specs.Symbol.{symbol_text, SpellsSymbol}
@@ -95,6 +95,7 @@ is_symbol bytes behind (Some (HostVariable word)) h plain = absurd (omega (arith
 is_symbol bytes behind (Some (Number n)) h plain = absurd (omega (arith, h.0))
 is_symbol bytes behind (Some (Literal text)) h plain = absurd (omega (arith, h.0))
 is_symbol bytes behind (Some (Sign symbol)) h plain = (symbol, h.1)
+is_symbol bytes behind (Some (Fault fault)) h plain = absurd h.1
 
 piece_takes : (x : ℕ) (front behind : List ℕ) (piece : Option TokenKind) → class_of x ≡ 4 → begins_comment (x ∷ (front ++ behind)) ≡ false → IsPiece (x ∷ front) piece
     → Takes (length (x ∷ front)) (symbol_of x (slice_index (front ++ behind) 0))

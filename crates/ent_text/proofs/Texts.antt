@@ -7,7 +7,7 @@ use Rattle.std.specs.List.{list_any}
 use Rattle.std.specs.Char.{is_ascii_control}
 use Rattle.ent_text.specs.declared.fault.TextFault.TheVariants.{BadChar, OpenText, NumberTooLarge, TextTooLong}
 use Rattle.ent_text.specs.declared.token.TokenKind.{TokenKind}
-use Rattle.ent_text.specs.declared.token.TokenKind.TheVariants.{Word, Name, HostVariable, Number, Literal, Sign}
+use Rattle.ent_text.specs.declared.token.TokenKind.TheVariants.{Word, Name, HostVariable, Number, Literal, Sign, Fault}
 use Rattle.ent_value.specs.Print.{doubled, quoted}
 use Rattle.ent_text.specs.Spelling.{IsPlain, IsLongest}
 use Rattle.ent_text.specs.Lexing.{with_byte, quoted_at}
@@ -136,6 +136,7 @@ is_text bytes (Some (HostVariable word)) h = absurd (omega (arith, h.0))
 is_text bytes (Some (Number n)) h = absurd (omega (arith, h.0))
 is_text bytes (Some (Literal text)) h = (text, h.1.0)
 is_text bytes (Some (Sign symbol)) h = absurd (omega (arith, h.0))
+is_text bytes (Some (Fault fault)) h = absurd h.1
 
 -- a closed text that no quote follows is the longest piece
 pub text_longest : (content rest : List ℕ) → Stops is_quote rest → IsLongest (quoted content) rest

@@ -1,23 +1,39 @@
 -- The tokens of what is left of a text.
-use Rattle.std.specs.Prelude.{◌≡◌, ◌<◌, ◌+◌, ◌^◌, ℕ, List, [], ◌∷◌, length, Option, Some, None, Result, Ok, Err, ⊤}
+use Rattle.std.specs.Prelude.{◌≡◌, ◌<◌, ◌+◌, ◌-◌, ◌^◌, ◌||◌, ℕ, zero, suc, Bool, true, false, List, [], ◌∷◌, length}
+use Rattle.std.specs.Prelude.{Option, Some, None, Result, Ok, Err, ⊤}
 use Rattle.ent_text.specs.declared.fault.TextFault.{TextFault}
 use Rattle.ent_text.specs.declared.token.Token.{Token}
 use Rattle.ent_text.specs.declared.token.TokenKind.{TokenKind}
 use Rattle.ent_text.specs.declared.view.TokenView.{TokenView}
-use Rattle.ent_text.specs.Lexing.{tokens_from}
+use Rattle.ent_text.specs.declared.token.TokenKind.TheVariants.{Fault}
+use Rattle.ent_text.specs.Lexing.{Piece, piece_at, with_token}
 use Rattle.ent_text.specs.View.{kind_seen, CanBeMadeIfSeen}
 
-abbrev pub tokens_or_none : Result (List Token) TextFault → List Token
-tokens_or_none (Ok tokens) = tokens
-tokens_or_none (Err fault) = []
+-- the token that the piece at the front is, and those behind it; or the fault that stands there, with all behind it
+abbrev pub led_by : Result Piece TextFault → ℕ → ℕ → (ℕ → List ℕ → List Token) → List Token
+led_by (Ok piece) place size more =
+    let next = place + (size - length piece.1) in with_token piece.0 place next (more next piece.1)
+led_by (Err fault) place size more = record { kind = Fault fault; start = place; end = place + size } ∷ []
 
--- the tokens of the bytes from a place on
+-- The tokens of the bytes from a place on, up to the first fault, which ends them. n bytes have no more than n pieces.
+unfoldable pub tokens_up_to : ℕ → ℕ → List ℕ → List Token
+tokens_up_to n place [] = []
+tokens_up_to zero place (b ∷ bytes) = []
+tokens_up_to (suc n) place (b ∷ bytes) =
+    led_by (piece_at place (b ∷ bytes)) place (length (b ∷ bytes)) (λ next rest. tokens_up_to n next rest)
+
 abbrev pub tokens_left : ℕ → List ℕ → List Token
-tokens_left place bytes = tokens_or_none (tokens_from (length bytes) place bytes)
+tokens_left place bytes = tokens_up_to (length bytes) place bytes
 
--- no fault stands in the bytes from a place on
-abbrev pub IsFaultless : ℕ → List ℕ → Type 0
-IsFaultless place bytes = tokens_from (length bytes) place bytes ≡ Ok (tokens_left place bytes)
+-- the token is a fault
+abbrev pub is_fault : TokenKind → Bool
+is_fault (Fault fault) = true
+is_fault other = false
+
+-- one of the tokens is a fault
+abbrev pub tell_fault : List Token → Bool
+tell_fault [] = false
+tell_fault (t ∷ ts) = is_fault t.kind || tell_fault ts
 
 -- the token that is seen, if there is one, and those behind it
 abbrev pub tokens_seen : Option TokenView → ℕ → ℕ → List ℕ → List Token
@@ -30,10 +46,9 @@ abbrev pub IsAtEnd : Option TokenView → List ℕ → Type 0
 IsAtEnd None behind = behind ≡ []
 IsAtEnd (Some view) behind = ⊤
 
--- a token is seen that can be made, or none is left; and no fault stands behind
+-- a token is seen that can be made, or none is left
 pub record IsReadOn (front : Option TokenView) (end : ℕ) (behind : List ℕ) : Type 0 where
   pub room : end + length behind < 2 ^ 64
-  pub faultless : IsFaultless end behind
   pub made : CanBeMadeIfSeen front
   pub at_end : IsAtEnd front behind
 

@@ -8,7 +8,7 @@ use Rattle.ent_text.specs.declared.fault.TextFault.{TextFault}
 use Rattle.ent_text.specs.declared.fault.TextFault.TheVariants.{BadChar, OpenText, NumberTooLarge, TextTooLong}
 use Rattle.ent_text.specs.declared.token.Token.{Token}
 use Rattle.ent_text.specs.declared.token.TokenKind.{TokenKind}
-use Rattle.ent_text.specs.declared.token.TokenKind.TheVariants.{Word, Name, HostVariable, Number, Literal, Sign}
+use Rattle.ent_text.specs.declared.token.TokenKind.TheVariants.{Word, Name, HostVariable, Number, Literal, Sign, Fault}
 use Rattle.ent_text.specs.Spelling.{Spells, IsPlain, IsWithinLimit, IsGap, IsPiece, IsLongest}
 
 -- The bytes from a place on are gaps, of white space and comments, and these tokens in turn, up to the end, where the
@@ -57,6 +57,7 @@ IsTooLong (HostVariable word) = LONGEST_NAME < length word
 IsTooLong (Number n) = ⊥
 IsTooLong (Literal text) = LONGEST_TEXT < length text
 IsTooLong (Sign symbol) = ⊥
+IsTooLong (Fault fault) = ⊥
 
 -- what stands at this place has this fault
 abbrev pub IsFaulty : ℕ → List ℕ → TextFault → Type 0

@@ -10,7 +10,7 @@ use Rattle.ent_value.specs.declared.name.TheConstants.{LONGEST_NAME}
 use Rattle.ent_value.specs.declared.text.TheConstants.{LONGEST_TEXT}
 use Rattle.ent_text.specs.declared.keyword.Keyword.{Keyword}
 use Rattle.ent_text.specs.declared.token.TokenKind.{TokenKind}
-use Rattle.ent_text.specs.declared.token.TokenKind.TheVariants.{Word, Name, HostVariable, Number, Literal, Sign}
+use Rattle.ent_text.specs.declared.token.TokenKind.TheVariants.{Word, Name, HostVariable, Number, Literal, Sign, Fault}
 use Rattle.ent_text.specs.Keyword.{keyword_text}
 use Rattle.ent_text.specs.Symbol.{SpellsSymbol}
 
@@ -27,7 +27,7 @@ abbrev pub IsPlain : List ℕ → Type 0
 IsPlain bytes = IsFalse (list_any is_ascii_control bytes)
 
 -- These bytes spell this token, whatever its length or value. A host variable is an `@` and any word directly after
--- it. In a text each quote is doubled.
+-- it. In a text each quote is doubled. Nothing spells a fault.
 abbrev pub Spells : List ℕ → TokenKind → Type 0
 Spells bytes (Word keyword) = IsWordLike bytes × IsInAnyCase keyword bytes
 Spells bytes (Name word) = IsWordLike bytes × (bytes ≡ word) × ((keyword : Keyword) → ¬ (IsInAnyCase keyword bytes))
@@ -35,6 +35,7 @@ Spells bytes (HostVariable word) = (bytes ≡ 64 ∷ word) × IsWordLike word
 Spells bytes (Number n) = IsNumeral 10 bytes × (digits_value 10 bytes ≡ n)
 Spells bytes (Literal text) = (bytes ≡ quoted text) × IsPlain text
 Spells bytes (Sign symbol) = SpellsSymbol bytes symbol
+Spells bytes (Fault fault) = ⊥
 
 -- what a token may be at most: a name 63 bytes, also that of a host variable, a number 9223372036854775807, a text 255
 -- bytes
@@ -45,6 +46,7 @@ IsWithinLimit (HostVariable word) = length word ≤ LONGEST_NAME
 IsWithinLimit (Number n) = n ≤ 9223372036854775807
 IsWithinLimit (Literal text) = length text ≤ LONGEST_TEXT
 IsWithinLimit (Sign symbol) = ⊤
+IsWithinLimit (Fault fault) = ⊥
 
 -- space, tab, CR, LF
 abbrev pub is_blank : ℕ → Bool

@@ -7,7 +7,7 @@ use Rattle.ent_value.specs.Name.{IsWord}
 use Rattle.ent_value.specs.declared.text.TheConstants.{LONGEST_TEXT}
 use Rattle.ent_text.specs.declared.fault.TextFault.{TextFault}
 use Rattle.ent_text.specs.declared.token.TokenKind.{TokenKind}
-use Rattle.ent_text.specs.declared.token.TokenKind.TheVariants.{Word, Name, HostVariable, Number, Literal, Sign}
+use Rattle.ent_text.specs.declared.token.TokenKind.TheVariants.{Word, Name, HostVariable, Number, Literal, Sign, Fault}
 use Rattle.ent_text.specs.declared.view.TokenView.{TokenView}
 use Rattle.ent_text.specs.declared.view.TokenView.TheVariants as views
 use Rattle.ent_text.specs.Lexing.{Piece, word_kind, quoted_at}
@@ -43,6 +43,7 @@ kind_seen (views.Number n) = Number n
 kind_seen (views.Literal text) = Literal text.now
 kind_seen (views.Doubled behind) = Literal (content behind.now)
 kind_seen (views.Sign symbol) = Sign symbol
+kind_seen (views.Fault fault) = Fault fault
 
 -- a token that is seen can be made
 abbrev pub CanBeMade : TokenView → Type 0
@@ -53,6 +54,7 @@ CanBeMade (views.Number n) = ⊤
 CanBeMade (views.Literal text) = length text.now ≤ LONGEST_TEXT
 CanBeMade (views.Doubled behind) = IsContent behind.now
 CanBeMade (views.Sign symbol) = ⊤
+CanBeMade (views.Fault fault) = ⊤
 
 abbrev pub kind_if_seen : Option TokenView → Option TokenKind
 kind_if_seen None = None

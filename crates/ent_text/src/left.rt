@@ -1,10 +1,14 @@
 //! What is left of a text, as its tokens.
-ghost use Rattle.std.specs.Prelude.{◌≡◌, ◌<◌, ◌+◌, ◌^◌, MatchOption, Err, drop, false, length, slice_index, true};
+ghost use Rattle.std.specs.Prelude.{◌≡◌, ◌<◌, ◌+◌, ◌^◌, MatchOption, Ok, Err, drop, false, length, slice_index, true};
+ghost use Rattle.std.specs.Prelude.{[], ◌∷◌, IfNone, IfSome, List, ℕ};
 ghost use Rattle.std.specs.Char.{is_ascii_alphabetic};
-ghost use Rattle.ent_text.specs.Left.{IsFaultless, tokens_left};
+ghost use Rattle.ent_text.specs.Left.{tokens_left, tell_fault};
 ghost use Rattle.ent_text.specs.Left.{kind_of_first, start_of_first, end_of_first};
 ghost use Rattle.ent_text.specs.Lexing.{tokens_of};
 ghost use Rattle.ent_text.specs.Spelling.{is_blank};
+ghost use Rattle.ent_text.specs.declared.fault.TextFault.{TextFault};
+ghost use Rattle.ent_text.specs.declared.token.Token.{Token};
+ghost use Rattle.ent_text.specs.declared.token.TokenKind.TheVariants.{Fault};
 
 use crate::bytes::tail;
 use crate::fault::TextFault;
@@ -13,8 +17,9 @@ use crate::view::TokenView;
 use crate::word::{view_of, word_and_rest};
 use std::marker::Model;
 
-/// The tokens that are left of a text, of which contracts see the list. The text has no fault. A token is read where
-/// it stands, once those before it are taken, so they take no memory, however many they are.
+/// The tokens that are left of a text, of which contracts see the list. They end where the text does, or with its first
+/// fault. A token is read where it stands, once those before it are taken, so they take no memory, however many they
+/// are.
 #[derive(Drop)]
 pub struct Tokens<'a> {
     front: Option<TokenView<'a>>,
@@ -37,7 +42,8 @@ impl<'a> Model for Tokens<'a> {
 
 /// The first fault of a text, if it has one. A blank is passed over at once: of a text's pieces many are blanks.
 fn first_fault(bytes: &[u8]) -> Option<TextFault>
-    ensures { MatchOption result (IsFaultless 0 bytes.now) (λ fault. tokens_of bytes.now ≡ Err fault) }
+    ensures { MatchOption result (tokens_of bytes.now ≡ Ok (tokens_left 0 bytes.now))
+        (λ fault. tokens_of bytes.now ≡ Err fault) }
 {
     let mut rest = bytes;
     let mut place = 0;
@@ -58,12 +64,32 @@ fn first_fault(bytes: &[u8]) -> Option<TextFault>
     None
 }
 
+/// The first fault of a text, if it has one.
+pub fn fault_in(text: &str) -> Option<TextFault>
+    ensures none { IfNone result (tokens_of text.now ≡ Ok (tokens_left 0 text.now)) }
+    ensures some { IfSome result (λ fault. tokens_of text.now ≡ Err fault) }
+{
+    first_fault(text.as_bytes())
+}
+
+/// The fault at a place, and nothing behind it: so many bytes are left there.
+fn ended_by<'a>(fault: TextFault, place: usize, left: usize) -> Tokens<'a>
+    requires { place + left < 2 ^ 64 }
+    ensures { result ≡ record { kind = Fault fault; start = place; end = place + left } ∷ [] }
+{
+    Tokens {
+        front: Some(TokenView::Fault(fault)),
+        start: place,
+        end: place + left,
+        behind: &[],
+    }
+}
+
 /// The tokens of the bytes from a place on, the first of which is a word. They are made where the word is found: most
 /// tokens are words, and a piece that is handed on is copied.
 #[inline(always)]
 fn tokens_from_word(place: usize, bytes: &[u8]) -> Tokens<'_>
     requires room { place + length bytes.now < 2 ^ 64 }
-    requires faultless { IsFaultless place bytes.now }
     requires nonempty { 0 < length bytes.now }
     requires visible { is_blank (slice_index bytes.now 0) ≡ false }
     requires letter { is_ascii_alphabetic (slice_index bytes.now 0) ≡ true }
@@ -76,14 +102,13 @@ fn tokens_from_word(place: usize, bytes: &[u8]) -> Tokens<'_>
             end: place + (bytes.len() - behind.len()),
             behind,
         },
-        Err(_) => unreachable!(),
+        Err(fault) => ended_by(fault, place, bytes.len()),
     }
 }
 
 /// The tokens of the bytes from a place on. A blank is passed over at once here too.
 fn tokens_from(place: usize, bytes: &[u8]) -> Tokens<'_>
     requires room { place + length bytes.now < 2 ^ 64 }
-    requires faultless { IsFaultless place bytes.now }
     ensures { result ≡ tokens_left place bytes.now }
 {
     let mut rest = bytes;
@@ -112,7 +137,7 @@ fn tokens_from(place: usize, bytes: &[u8]) -> Tokens<'_>
                     behind,
                 };
             }
-            Err(_) => unreachable!(),
+            Err(fault) => return ended_by(fault, start, rest.len()),
         }
     }
     Tokens {
@@ -126,15 +151,11 @@ fn tokens_from(place: usize, bytes: &[u8]) -> Tokens<'_>
 impl<'a> Tokens<'a> {
     ghost use Rattle.ent_text.specs.View.{kind_if_lent, CanBeMadeIfLent};
 
-    /// The tokens of a text, or its first fault.
-    pub fn of(text: &'a str) -> Result<Self, TextFault>
-        ensures { result ≡ tokens_of text.now }
+    /// The tokens of a text, up to its first fault.
+    pub fn of(text: &'a str) -> Self
+        ensures { result ≡ tokens_left 0 text.now }
     {
-        let bytes = text.as_bytes();
-        match first_fault(bytes) {
-            None => Ok(tokens_from(0, bytes)),
-            Some(fault) => Err(fault),
-        }
+        tokens_from(0, text.as_bytes())
     }
 
     /// What the first of them is, if there is one.
@@ -172,3 +193,10 @@ impl<'a> Tokens<'a> {
         tokens_from(self.end, self.behind)
     }
 }
+
+/// The tokens up to the first fault are all tokens of a text without a fault, and else one of them is a fault.
+pub fn fault_ends_tokens()
+    ensures faultless { (text : List ℕ) (tokens : List Token) → tokens_of text ≡ Ok tokens → tokens_left 0 text ≡ tokens }
+    ensures faulty { (text : List ℕ) (fault : TextFault)
+        → tokens_of text ≡ Err fault → tell_fault (tokens_left 0 text) ≡ true }
+{}

@@ -1,4 +1,5 @@
 //! Tokens.
+use crate::fault::TextFault;
 use crate::keyword::Keyword;
 use crate::numeral::Numeral;
 use crate::symbol::Symbol;
@@ -15,6 +16,8 @@ pub enum TokenKind {
     /// The content of a text, each doubled quote being one.
     Literal(Text),
     Sign(Symbol),
+    /// No token, but the first fault of the text, where [`Tokens`](crate::Tokens) end before the text does.
+    Fault(TextFault),
 }
 
 /// A token: the bytes from `start` up to `end`, counted from the text's start.

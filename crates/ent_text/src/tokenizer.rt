@@ -8,7 +8,7 @@ ghost use Rattle.ent_text.specs.Slices.{IsSliceOf, AreInOrder};
 ghost use Rattle.ent_text.specs.Lexing.{tokens_of};
 
 use crate::fault::TextFault;
-use crate::left::Tokens;
+use crate::left::{Tokens, fault_in};
 use crate::token::Token;
 use ent_value::{Refusal, Sequence};
 use std::alloc::Global;
@@ -33,10 +33,10 @@ pub fn tokens(alloc: Global, text: &str) -> Result<Sequence<Token>, Refusal<Text
 fn all_tokens(alloc: Global, text: &str) -> Result<Sequence<Token>, Refusal<TextFault>>
     ensures { Gives (λ tokens. tokens) result (tokens_of text.now) }
 {
-    let mut left = match Tokens::of(text) {
-        Ok(tokens) => tokens,
-        Err(fault) => return Err(Refusal::Fault(fault)),
-    };
+    if let Some(fault) = fault_in(text) {
+        return Err(Refusal::Fault(fault));
+    }
+    let mut left = Tokens::of(text);
     let mut found = Sequence::new(alloc);
     while let Some(view) = left.front() {
         let kind = view.make(alloc)?;

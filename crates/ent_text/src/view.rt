@@ -1,6 +1,7 @@
 //! A token seen where it stands.
 ghost use Rattle.std.specs.Prelude.{◌≡◌, IfOk};
 
+use crate::fault::TextFault;
 use crate::keyword::Keyword;
 use crate::numeral::Numeral;
 use crate::quoted::text_of;
@@ -22,6 +23,8 @@ pub enum TokenView<'a> {
     /// What stands behind the opening quote of a text in which quotes are doubled, up to the end of all.
     Doubled(&'a [u8]),
     Sign(Symbol),
+    /// No token, but the first fault of the text.
+    Fault(TextFault),
 }
 
 impl<'a> TokenView<'a> {
@@ -42,6 +45,7 @@ impl<'a> TokenView<'a> {
             )?)),
             TokenView::Doubled(behind) => Ok(TokenKind::Literal(text_of(alloc, behind)?)),
             TokenView::Sign(symbol) => Ok(TokenKind::Sign(*symbol)),
+            TokenView::Fault(fault) => Ok(TokenKind::Fault(*fault)),
         }
     }
 }

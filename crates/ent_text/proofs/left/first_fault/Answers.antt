@@ -1,7 +1,9 @@
 use Rattle.std.proofs.Common.{◌∙◌, arith, sym}
 use Rattle.ent_text.proofs.Reading.{left_length}
 use Rattle.ent_text.specs.Lexing.{tokens_of}
-use Rattle.ent_text.proofs.ReadOn.{some_first, some_behind, some_behind_blank, some_fault, some_faultless}
+use Rattle.ent_text.proofs.ReadOn.{some_first, some_behind, some_behind_blank, some_fault}
+use Rattle.ent_text.proofs.Rest.{nothing_left}
+use Rattle.ent_text.proofs.UpTo.{found_is_left}
 use Rattle.ent_text.proofs.left.first_fault.Goals as goal
 
 pub loop-rest-init : goal.loop-rest-init
@@ -26,4 +28,7 @@ pub returns-in-Err : goal.returns-in-Err
 returns-in-Err c = some_fault c.in-Err.fault c.loop-rest.place c.loop-rest.rest.now (tokens_of c.args.bytes.now) c.loop-rest-test.true c.in-Err.ensures.value c.loop-rest.invariant.left
 
 pub returns : goal.returns
-returns c = some_faultless c.loop-rest.place c.loop-rest.rest.now c.args.bytes.now (omega arith) c.loop-rest.invariant.left
+returns c =
+    found_is_left c.args.bytes.now c.loop-rest.invariant.left.0
+    (nothing_left c.loop-rest.invariant.left.0 c.loop-rest.place c.loop-rest.rest.now (tokens_of c.args.bytes.now)
+    (omega arith) c.loop-rest.invariant.left.1)

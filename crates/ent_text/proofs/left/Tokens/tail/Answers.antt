@@ -1,6 +1,6 @@
 use Rattle.std.proofs.Common.{◌∙◌, List, drop, ap}
 use Rattle.ent_text.specs.declared.token.Token.{Token}
-use Rattle.ent_text.proofs.ReadOn.{behind_first}
+use Rattle.ent_text.proofs.UpTo.{behind_first}
 use Rattle.ent_text.proofs.left.Tokens.tail.Goals as goal
 
 pub returns : goal.returns
