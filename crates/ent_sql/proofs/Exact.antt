@@ -1,12 +1,13 @@
 -- What is read of a text is what it says, and each fault is answered where it is the first.
-use Rattle.std.proofs.Common.{◌≡◌, ℕ, true, List, length, Result, Ok, Err, refl, ap, sym, ◌∙◌}
+use Rattle.std.proofs.Common.{◌≡◌, ℕ, true, List, [], ◌∷◌, ◌++◌, length, Result, Ok, Err, refl, ap, sym, ◌∙◌}
 use Rattle.ent_text.specs.declared.token.Token.{Token}
 use Rattle.ent_text.specs.declared.fault.TextFault.{TextFault}
 use Rattle.ent_text.specs.Lexing.{tokens_of}
-use Rattle.ent_text.specs.Left.{tokens_left, tell_fault}
-use Rattle.ent_text.proofs.UpTo.{all_left, fault_left}
-use Rattle.ent_grammar.proofs.Faultless.{read_without_fault}
-use Rattle.ent_sql.specs.Fault.{fault_of}
+use Rattle.ent_text.specs.Left.{tokens_left, fault_among, IsFaultlessBefore}
+use Rattle.ent_text.proofs.Found.{found_are_tokens}
+use Rattle.ent_text.proofs.FirstFault.{all_left, fault_left, faultless_front}
+use Rattle.ent_grammar.proofs.Faultless.{read_without_fault, begun_without_fault}
+use Rattle.ent_sql.specs.Fault.{fault_of, place_of}
 use Rattle.ent_grammar.specs.declared.fault.GrammarFault.{GrammarFault}
 use Rattle.ent_grammar.specs.declared.fault.GrammarFault.TheVariants as grammar
 use Rattle.ent_grammar.specs.Grammar.{reads_all}
@@ -73,10 +74,11 @@ read_up_to text tokens tree left e = from (tokens_of text) refl
     from : (r : Result (List Token) TextFault) → tokens_of text ≡ r → reading text ≡ Ok tree
     from (Ok ts) is =
         with_these text ts is ∙ ap (λ (r : Result Input GrammarFault). with_fault r)
-        (ap (λ (xs : List Token). reads_all input (length text) xs) (sym (left ∙ all_left text ts is)) ∙ e)
+        (ap (λ (xs : List Token). reads_all input (length text) xs)
+        (sym (left ∙ all_left text ts (found_are_tokens text ts is))) ∙ e)
     from (Err f) is =
         let told = fault_left text f is in
-        let untold = ap tell_fault (sym left) ∙ read_without_fault input input_next (length text) tokens tree e in
+        let untold = ap fault_among (sym left) ∙ read_without_fault input input_next (length text) tokens tree e in
         absurd cc
 
 -- without a fault of the tokens, the first fault is that of the grammar
@@ -85,6 +87,29 @@ pub fault_up_to : (text : List ℕ) (tokens : List Token) (fault : GrammarFault)
 fault_up_to text tokens fault left is e =
     with_these text (tokens_left 0 text) is ∙ ap (λ (r : Result Input GrammarFault). with_fault r)
     (ap (λ (xs : List Token). reads_all input (length text) xs) (sym left) ∙ e)
+
+-- no token is a fault that stands before the one at which reading stopped
+pub faultless_before : (text : List ℕ) (tokens : List Token) (fault : GrammarFault) → tokens ≡ tokens_left 0 text
+    → reads_all input (length text) tokens ≡ Err fault → IsFaultlessBefore text (place_of (fault_of fault))
+faultless_before text tokens (grammar.Unexpected place) left e =
+    let c = unexpected_cant_follow input input_next (length text) tokens place e in
+    record {
+      before = c.before;
+      back = c.back;
+      whole = sym left ∙ c.whole;
+      faultless = begun_without_fault input c.before c.can_go_on;
+      stands = c.stands;
+    }
+faultless_before text tokens (grammar.TooMany place) left e =
+    let c = too_many_is_too_much input input_next (length text) tokens place e in
+    record {
+      before = c.before;
+      back = c.token ∷ c.back;
+      whole = sym left ∙ c.whole;
+      faultless =
+          faultless_front c.before (c.token ∷ []) (begun_without_fault input (c.before ++ c.token ∷ []) c.can_go_on);
+      stands = c.stands;
+    }
 
 -- ---- a text
 

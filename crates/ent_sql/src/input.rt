@@ -14,14 +14,14 @@ ghost use Rattle.ent_sql.specs.FirstFault.{CantFollow, IsTooMuch};
 use crate::fault::{SqlFault, fault_of};
 use crate::list::many;
 use ent_grammar::{GrammarFault, unexpected};
-use ent_text::{Tokens, fault_in};
+use ent_text::{Tokens, fault_from};
 use ent_tree::{Input, Opening};
 use ent_value::Refusal;
 use std::alloc::Global;
 
 /// What a text says, or its first fault: all faults of tokens come before those of the grammar, which are the first
-/// token that can't follow what stands before it, or that begins a thing beyond a limit. A text that says something has
-/// no fault of its tokens, so these are looked for in other texts only.
+/// token that can't follow what stands before it, or that begins a thing beyond a limit. What was read has no fault of
+/// its tokens, so these are looked for only where reading stopped, and only in what stands there.
 #[tactic(auto, unfolding(crate::specs::Reading::reading))]
 pub fn parse_input(alloc: Global, text: &str) -> Result<Input, Refusal<SqlFault>>
     ensures { Gives (λ input. input) result (reading text.now) }
@@ -29,10 +29,13 @@ pub fn parse_input(alloc: Global, text: &str) -> Result<Input, Refusal<SqlFault>
     match input_of(alloc, text.len(), Tokens::of(text)) {
         Ok(input) => Ok(input),
         Err(Refusal::Memory) => Err(Refusal::Memory),
-        Err(Refusal::Fault(fault)) => match fault_in(text) {
-            None => Err(Refusal::Fault(fault_of(fault))),
-            Some(earlier) => Err(Refusal::Fault(SqlFault::Text(earlier))),
-        },
+        Err(Refusal::Fault(fault)) => {
+            let found = fault_of(fault);
+            match fault_from(text, found.place()) {
+                None => Err(Refusal::Fault(found)),
+                Some(earlier) => Err(Refusal::Fault(SqlFault::Text(earlier))),
+            }
+        }
     }
 }
 

@@ -1,5 +1,6 @@
 -- Texts and the bytes that they take.
-use Rattle.std.proofs.Common.{◌≡◌, ◌≤◌, ◌+◌, ℕ, Bool, true, false, cond, eqb, List, [], ◌∷◌, length, take, Ok, Err, ap, sym, refl, subst, ◌∙◌, arith}
+use Rattle.std.proofs.Common.{◌≡◌, ◌≤◌, ◌+◌, ℕ, Bool, true, false, cond, eqb, List, [], ◌∷◌, length, take, Ok, Err}
+use Rattle.std.proofs.Common.{ap, sym, refl, subst, ◌∙◌, arith}
 use Rattle.std.specs.Char.{is_ascii_control}
 use Rattle.ent_text.specs.declared.fault.TextFault.{TextFault}
 use Rattle.ent_text.specs.declared.fault.TextFault.TheVariants.{BadChar, OpenText}
@@ -13,13 +14,15 @@ Fits bytes text =
     (1 + length text.0 + length text.1 ≤ length bytes)
     × (1 + length text.0 + length text.1 ≡ length bytes → take (length text.0) bytes ≡ text.0)
 
-nothing_inside : (b : ℕ) (bytes : List ℕ) (x : List ℕ × List ℕ) → (let r : Body = Ok ([], bytes) in r) ≡ Ok x → Fits (b ∷ bytes) x
+nothing_inside : (b : ℕ) (bytes : List ℕ) (x : List ℕ × List ℕ) → (let r : Body = Ok ([], bytes) in r) ≡ Ok x
+    → Fits (b ∷ bytes) x
 nothing_inside b bytes x e = let same : ([], bytes) ≡ x = cc in subst (Fits (b ∷ bytes)) same (omega arith, λ h. refl)
 
 none : {A : Type 0} (f : TextFault) (x : List ℕ × List ℕ) → (let r : Body = Err f in r) ≡ Ok x → A
 none f x e = absurd cc
 
-read_before : (b : ℕ) (read : Body) (x : List ℕ × List ℕ) → with_byte b read ≡ Ok x → (y : List ℕ × List ℕ) × (read ≡ Ok y) × ((b ∷ y.0, y.1) ≡ x)
+read_before : (b : ℕ) (read : Body) (x : List ℕ × List ℕ) → with_byte b read ≡ Ok x
+    → (y : List ℕ × List ℕ) × (read ≡ Ok y) × ((b ∷ y.0, y.1) ≡ x)
 read_before b (Ok y) x e = (y, refl, cc)
 read_before b (Err f) x e = absurd cc
 
@@ -34,17 +37,21 @@ unfolding quoted_at
 fits [] quote place x e = absurd cc
 fits (b ∷ []) quote place x e = on (eqb b 39) (is_ascii_control b) e
   where
-    on : (t u : Bool) → cond t (let r : Body = Ok ([], []) in r) (cond u (Err (BadChar place)) (Err (OpenText quote))) ≡ Ok x → Fits (b ∷ []) x
+    on : (t u : Bool)
+        → cond t (let r : Body = Ok ([], []) in r) (cond u (Err (BadChar place)) (Err (OpenText quote))) ≡ Ok x
+        → Fits (b ∷ []) x
     on true u e = nothing_inside b [] x e
     on false true e = none (BadChar place) x e
     on false false e = none (OpenText quote) x e
 fits (b ∷ c ∷ bytes) quote place x e =
-    on (eqb b 39) (eqb c 39) (is_ascii_control b) (λ y h. fits bytes quote (place + 2) y h) (λ y h. fits (c ∷ bytes) quote (place + 1) y h) e
+    on (eqb b 39) (eqb c 39) (is_ascii_control b) (λ y h. fits bytes quote (place + 2) y h)
+    (λ y h. fits (c ∷ bytes) quote (place + 1) y h) e
   where
     on : (t u v : Bool)
         → ((y : List ℕ × List ℕ) → quoted_at quote (place + 2) bytes ≡ Ok y → Fits bytes y)
         → ((y : List ℕ × List ℕ) → quoted_at quote (place + 1) (c ∷ bytes) ≡ Ok y → Fits (c ∷ bytes) y)
-        → cond t (cond u (with_byte 39 (quoted_at quote (place + 2) bytes)) (Ok ([], c ∷ bytes))) (cond v (Err (BadChar place)) (with_byte b (quoted_at quote (place + 1) (c ∷ bytes)))) ≡ Ok x
+        → cond t (cond u (with_byte 39 (quoted_at quote (place + 2) bytes)) (Ok ([], c ∷ bytes)))
+        (cond v (Err (BadChar place)) (with_byte b (quoted_at quote (place + 1) (c ∷ bytes)))) ≡ Ok x
         → Fits (b ∷ c ∷ bytes) x
     on true true v far near e =
         let before = read_before 39 (quoted_at quote (place + 2) bytes) x e in
@@ -60,6 +67,8 @@ pub all_but_left : (behind : List ℕ) (len left : ℕ) → Encloses behind len 
 all_but_left behind len left (text, e, long, few) = omega (arith, (fits behind 0 0 text e).0, long, few)
 
 -- a text that takes no more bytes than its content and a quote stands as it is
-pub stands_there : (behind front : List ℕ) (len left : ℕ) → Encloses behind len left → front ≡ take len behind → 1 + len + left ≡ length behind → front ≡ content behind
+pub stands_there : (behind front : List ℕ) (len left : ℕ) → Encloses behind len left → front ≡ take len behind
+    → 1 + len + left ≡ length behind → front ≡ content behind
 stands_there behind front len left (text, e, long, few) is whole =
-    is ∙ ap (λ (k : ℕ). take k behind) (sym long) ∙ (fits behind 0 0 text e).1 (omega (arith, long, few, whole)) ∙ sym (ap content_of e)
+    is ∙ ap (λ (k : ℕ). take k behind) (sym long) ∙ (fits behind 0 0 text e).1 (omega (arith, long, few, whole))
+    ∙ sym (ap content_of e)

@@ -15,6 +15,7 @@ pub mod OneReading
 pub mod Moved
 pub mod ReadOn
 pub mod UpTo
+pub mod FirstFault
 pub mod Measured
 pub mod Enclosed
 pub mod Verbatim

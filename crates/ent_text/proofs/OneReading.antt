@@ -373,7 +373,7 @@ fault_reads place bytes (TextTooLong at) (e, (kind, (front, behind, is, spelled,
 begun : (bytes front behind : List ℕ) (kind : TokenKind) → bytes ≡ front ++ behind → Spells front kind → 0 < length bytes
 begun bytes front behind kind is spelled = omega (arith, ap length is, length-append front behind, piece_has_byte front (Some kind) spelled)
 
-fault_has_byte : (place : ℕ) (bytes : List ℕ) (f : TextFault) → IsFaulty place bytes f → 0 < length bytes
+pub fault_has_byte : (place : ℕ) (bytes : List ℕ) (f : TextFault) → IsFaulty place bytes f → 0 < length bytes
 fault_has_byte place bytes (BadChar at) (inl (e, (c, others, is, ne, none))) = omega (arith, ap length is)
 fault_has_byte place bytes (BadChar at) (inr (far, e, (front, behind, c, is, plain, control, f))) = omega (arith, ap length is)
 fault_has_byte place bytes (OpenText at) (e, (content, is, plain)) = omega (arith, ap length is)
@@ -382,7 +382,7 @@ fault_has_byte place bytes (TextTooLong at) (e, (kind, (front, behind, is, spell
 
 -- ---- all tokens
 
-piece_reads : (place : ℕ) (word rest : List ℕ) (piece : Option TokenKind) → IsPiece word piece → IsLongest word rest → IsPieceWithin piece → piece_at place (word ++ rest) ≡ Ok (piece, rest)
+pub piece_reads : (place : ℕ) (word rest : List ℕ) (piece : Option TokenKind) → IsPiece word piece → IsLongest word rest → IsPieceWithin piece → piece_at place (word ++ rest) ≡ Ok (piece, rest)
 piece_reads place word rest piece spelled longest within = reads_as place word rest piece spelled longest ∙ within_is_read place piece rest within
 
 -- what is left behind a piece

@@ -1,5 +1,5 @@
 -- The tokens of what is left of a text.
-use Rattle.std.specs.Prelude.{◌≡◌, ◌<◌, ◌+◌, ◌-◌, ◌^◌, ◌||◌, ℕ, zero, suc, Bool, true, false, List, [], ◌∷◌, length}
+use Rattle.std.specs.Prelude.{◌≡◌, ◌<◌, ◌+◌, ◌-◌, ◌^◌, ℕ, zero, suc, List, [], ◌∷◌, ◌++◌, length}
 use Rattle.std.specs.Prelude.{Option, Some, None, Result, Ok, Err, ⊤}
 use Rattle.ent_text.specs.declared.fault.TextFault.{TextFault}
 use Rattle.ent_text.specs.declared.token.Token.{Token}
@@ -7,6 +7,7 @@ use Rattle.ent_text.specs.declared.token.TokenKind.{TokenKind}
 use Rattle.ent_text.specs.declared.view.TokenView.{TokenView}
 use Rattle.ent_text.specs.declared.token.TokenKind.TheVariants.{Fault}
 use Rattle.ent_text.specs.Lexing.{Piece, piece_at, with_token}
+use Rattle.ent_text.specs.Reading.{Reads, IsFaulty}
 use Rattle.ent_text.specs.View.{kind_seen, CanBeMadeIfSeen}
 
 -- the token that the piece at the front is, and those behind it; or the fault that stands there, with all behind it
@@ -25,15 +26,15 @@ tokens_up_to (suc n) place (b ∷ bytes) =
 abbrev pub tokens_left : ℕ → List ℕ → List Token
 tokens_left place bytes = tokens_up_to (length bytes) place bytes
 
--- the token is a fault
-abbrev pub is_fault : TokenKind → Bool
-is_fault (Fault fault) = true
-is_fault other = false
+-- the fault that a token of this kind is, else this one, if there is one
+abbrev pub fault_or : TokenKind → Option TextFault → Option TextFault
+fault_or (Fault fault) other = Some fault
+fault_or kind other = other
 
--- one of the tokens is a fault
-abbrev pub tell_fault : List Token → Bool
-tell_fault [] = false
-tell_fault (t ∷ ts) = is_fault t.kind || tell_fault ts
+-- the fault that the first of these tokens is that is one
+abbrev pub fault_among : List Token → Option TextFault
+fault_among [] = None
+fault_among (t ∷ ts) = fault_or t.kind (fault_among ts)
 
 -- the token that is seen, if there is one, and those behind it
 abbrev pub tokens_seen : Option TokenView → ℕ → ℕ → List ℕ → List Token
@@ -66,3 +67,21 @@ start_of_first none (t ∷ ts) = t.start
 abbrev pub end_of_first : ℕ → List Token → ℕ
 end_of_first none [] = none
 end_of_first none (t ∷ ts) = t.end
+
+-- A token stands at this place, or the text's tokens end there, and no token before it is a fault.
+pub record IsFaultlessBefore (text : List ℕ) (place : ℕ) : Type 0 where
+  pub before : List Token
+  pub back : List Token
+  pub whole : tokens_left 0 text ≡ before ++ back
+  pub faultless : fault_among before ≡ None
+  pub stands : place ≡ start_of_first (length text) back
+
+-- The text is gaps and tokens up to some place, and what stands there has this fault. The text's tokens up to its first
+-- fault are these, and the fault, from its place to the end of the text.
+pub record EndsInFault (text : List ℕ) (fault : TextFault) : Type 0 where
+  pub tokens : List Token
+  pub place : ℕ
+  pub rest : List ℕ
+  pub reads : Reads 0 text tokens place rest
+  pub faulty : IsFaulty place rest fault
+  pub whole : tokens_left 0 text ≡ tokens ++ record { kind = Fault fault; start = place; end = length text } ∷ []

@@ -15,3 +15,10 @@ pub(crate) fn tail(bytes: &[u8], len: usize) -> &[u8]
 {
     bytes.split_at(len).1
 }
+
+/// The bytes from an index on; none, where there are fewer.
+pub(crate) fn from(bytes: &[u8], index: usize) -> &[u8]
+    ensures { result.now ≡ drop index bytes.now }
+{
+    bytes.get(index..).unwrap_or(&[])
+}

@@ -1,16 +1,17 @@
 //! What is left of a text, as its tokens.
-ghost use Rattle.std.specs.Prelude.{◌≡◌, ◌<◌, ◌+◌, ◌^◌, MatchOption, Ok, Err, drop, false, length, slice_index, true};
+ghost use Rattle.std.specs.Prelude.{◌≡◌, ◌<◌, ◌+◌, ◌^◌, Ok, Err, drop, false, length, slice_index, true};
 ghost use Rattle.std.specs.Prelude.{[], ◌∷◌, IfNone, IfSome, List, ℕ};
 ghost use Rattle.std.specs.Char.{is_ascii_alphabetic};
-ghost use Rattle.ent_text.specs.Left.{tokens_left, tell_fault};
+ghost use Rattle.ent_text.specs.Left.{tokens_left, fault_among, IsFaultlessBefore, EndsInFault};
 ghost use Rattle.ent_text.specs.Left.{kind_of_first, start_of_first, end_of_first};
 ghost use Rattle.ent_text.specs.Lexing.{tokens_of};
+ghost use Rattle.ent_text.specs.Reading.{AreTokens, HasFault};
 ghost use Rattle.ent_text.specs.Spelling.{is_blank};
 ghost use Rattle.ent_text.specs.declared.fault.TextFault.{TextFault};
 ghost use Rattle.ent_text.specs.declared.token.Token.{Token};
 ghost use Rattle.ent_text.specs.declared.token.TokenKind.TheVariants.{Fault};
 
-use crate::bytes::tail;
+use crate::bytes::{from, tail};
 use crate::fault::TextFault;
 use crate::piece::{behind_piece, is_blank, other_piece};
 use crate::view::TokenView;
@@ -40,22 +41,23 @@ impl<'a> Model for Tokens<'a> {
     ghost invariant = { λ t. IsReadOn t.front t.end t.behind.now };
 }
 
-/// The first fault of a text, if it has one. A blank is passed over at once: of a text's pieces many are blanks.
-fn first_fault(bytes: &[u8]) -> Option<TextFault>
-    ensures { MatchOption result (tokens_of bytes.now ≡ Ok (tokens_left 0 bytes.now))
-        (λ fault. tokens_of bytes.now ≡ Err fault) }
+/// The first fault of the bytes from a place on, if they have one. A blank is passed over at once: of a text's pieces
+/// many are blanks.
+fn first_fault(place: usize, bytes: &[u8]) -> Option<TextFault>
+    requires { place + length bytes.now < 2 ^ 64 }
+    ensures { result ≡ fault_among (tokens_left place bytes.now) }
 {
     let mut rest = bytes;
-    let mut place = 0;
+    let mut at = place;
     while rest.len() > 0 {
         if is_blank(rest[0]) {
             rest = tail(rest, 1);
-            place += 1;
+            at += 1;
             continue;
         }
-        match behind_piece(place, rest) {
+        match behind_piece(at, rest) {
             Ok(behind) => {
-                place += rest.len() - behind.len();
+                at += rest.len() - behind.len();
                 rest = behind;
             }
             Err(fault) => return Some(fault),
@@ -69,7 +71,17 @@ pub fn fault_in(text: &str) -> Option<TextFault>
     ensures none { IfNone result (tokens_of text.now ≡ Ok (tokens_left 0 text.now)) }
     ensures some { IfSome result (λ fault. tokens_of text.now ≡ Err fault) }
 {
-    first_fault(text.as_bytes())
+    first_fault(0, text.as_bytes())
+}
+
+/// The first fault of a text, if it has one, where it is known that none stands before a place at which a token stands,
+/// or which is the text's end. What stands before isn't gone through.
+pub fn fault_from(text: &str, place: usize) -> Option<TextFault>
+    requires { IsFaultlessBefore text.now place }
+    ensures none { IfNone result (tokens_of text.now ≡ Ok (tokens_left 0 text.now)) }
+    ensures some { IfSome result (λ fault. tokens_of text.now ≡ Err fault) }
+{
+    first_fault(place, from(text.as_bytes(), place))
 }
 
 /// The fault at a place, and nothing behind it: so many bytes are left there.
@@ -194,9 +206,9 @@ impl<'a> Tokens<'a> {
     }
 }
 
-/// The tokens up to the first fault are all tokens of a text without a fault, and else one of them is a fault.
+/// The tokens up to the first fault are all tokens of a text without a fault. Of one with a fault they are those before
+/// it, and the fault is the last.
 pub fn fault_ends_tokens()
-    ensures faultless { (text : List ℕ) (tokens : List Token) → tokens_of text ≡ Ok tokens → tokens_left 0 text ≡ tokens }
-    ensures faulty { (text : List ℕ) (fault : TextFault)
-        → tokens_of text ≡ Err fault → tell_fault (tokens_left 0 text) ≡ true }
+    ensures faultless { (text : List ℕ) (tokens : List Token) → AreTokens text tokens → tokens_left 0 text ≡ tokens }
+    ensures faulty { (text : List ℕ) (fault : TextFault) → HasFault text fault → EndsInFault text fault }
 {}

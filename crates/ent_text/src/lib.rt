@@ -24,7 +24,7 @@ mod word;
 pub use fault::TextFault;
 pub use keyword::Keyword;
 pub use laws::{line_end_parts_texts, one_reading, pieces_end, reader_is_exact};
-pub use left::{Tokens, fault_ends_tokens, fault_in};
+pub use left::{Tokens, fault_ends_tokens, fault_from, fault_in};
 pub use numeral::Numeral;
 pub use quoted::text_of;
 pub use symbol::Symbol;

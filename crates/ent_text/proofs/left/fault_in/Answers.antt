@@ -1,0 +1,14 @@
+use Rattle.std.proofs.Common.{ℕ, List, ◌∙◌, ap}
+use Rattle.ent_text.specs.Left.{tokens_left, fault_among}
+use Rattle.ent_text.proofs.FirstFault.{none_is_left, some_is_left}
+use Rattle.ent_text.proofs.left.fault_in.Goals as goal
+
+pub returns-clause-none : goal.returns-clause-none
+returns-clause-none c =
+    none_is_left c.args.text.now c.first_fault.result
+    (c.first_fault.ensures ∙ ap (λ (bytes : List ℕ). fault_among (tokens_left 0 bytes)) c.as_bytes.ensures.value)
+
+pub returns-clause-some : goal.returns-clause-some
+returns-clause-some c =
+    some_is_left c.args.text.now c.first_fault.result
+    (c.first_fault.ensures ∙ ap (λ (bytes : List ℕ). fault_among (tokens_left 0 bytes)) c.as_bytes.ensures.value)
