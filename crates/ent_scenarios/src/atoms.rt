@@ -1,7 +1,7 @@
 //! Atoms of members' statements: `== atoms`. An atom is one word, as `0:R(?0,'a,1)`: the member's number, the relation,
 //! and terms, of which `?0` is the member's variable of that number.
 use crate::classes::put_classes;
-use crate::reply::{put, yes_or_no};
+use crate::reply::{Out, put, put_number, yes_or_no};
 use crate::words::{first_word, index, kinds, name, value};
 use anyhow::{Context, Result, bail};
 use ent_closed::{Atom, Term};
@@ -9,7 +9,6 @@ use ent_tree::MOST_PARTS;
 use ent_unify::{MemberAtom, unifies, unify};
 use ent_value::{Kind, Limited, Value};
 use std::alloc::Global;
-use std::io::Write;
 
 /// The kinds of each member's variables.
 #[derive(Drop)]
@@ -18,10 +17,19 @@ pub(crate) struct Sides {
 }
 
 /// An atom, and whose it is.
-#[derive(Drop)]
 struct Owned {
     member: usize,
     atom: Atom<Value>,
+}
+
+/// Written out, so that it is proved once.
+impl Drop for Owned {
+    fn drop(self) {
+        let Owned {
+            member: _member,
+            atom: _atom,
+        } = self;
+    }
 }
 
 fn read_term(alloc: Global, word: &str) -> Result<Term<Value>> {
@@ -79,7 +87,7 @@ impl Sides {
         }
     }
 
-    pub(crate) fn reply(&mut self, alloc: Global, line: &str, out: &mut Vec<u8>) -> Result<()> {
+    pub(crate) fn reply(&mut self, alloc: Global, line: &str, out: &mut Out) -> Result<()> {
         let (call, rest) = first_word(line);
         match call {
             "kinds" => self.declare(alloc, rest, out),
@@ -90,42 +98,53 @@ impl Sides {
     }
 
     /// The kinds of the members' variables, a word a member.
-    fn declare(&mut self, alloc: Global, line: &str, out: &mut Vec<u8>) -> Result<()> {
+    fn declare(&mut self, alloc: Global, line: &str, out: &mut Out) -> Result<()> {
         let mut found = Vec::new(alloc);
         for word in line.split(' ') {
             found.push(kinds(alloc, word)?)?;
         }
-        write!(out, "{}", found.len())?;
+        put_number(out, found.len());
         self.kinds = found;
         Ok(())
     }
 
-    fn kinds_of(&self, member: usize) -> &[Kind] {
-        match self.kinds.get(member) {
-            Some(kinds) => kinds.as_slice(),
-            None => &[],
-        }
-    }
-
-    fn put_whether(&self, alloc: Global, line: &str, out: &mut Vec<u8>) -> Result<()> {
+    fn put_whether(&self, alloc: Global, line: &str, out: &mut Out) -> Result<()> {
         let (left, right) = read_pair(alloc, line)?;
+        let kinds = self.kinds.as_slice();
         let holds = unifies(
             &left.atom,
-            self.kinds_of(left.member),
+            kinds_of(kinds, left.member),
             &right.atom,
-            self.kinds_of(right.member),
+            kinds_of(kinds, right.member),
         );
-        put(out, yes_or_no(holds))
+        drop(left);
+        drop(right);
+        put(out, yes_or_no(holds));
+        Ok(())
     }
 
-    fn put_unifier(&self, alloc: Global, line: &str, out: &mut Vec<u8>) -> Result<()> {
+    fn put_unifier(&self, alloc: Global, line: &str, out: &mut Out) -> Result<()> {
         let pairs = read_pairs(alloc, line)?;
-        let kinds: Vec<&[Kind]> = self
-            .kinds
-            .iter()
-            .map(|kinds| kinds.as_slice())
-            .collect(alloc)?;
-        put_unified(alloc, kinds.as_slice(), pairs.as_slice(), out)
+        let shown = self.put_unifier_of(alloc, pairs.as_slice(), out);
+        drop(pairs);
+        shown
+    }
+
+    fn put_unifier_of(&self, alloc: Global, pairs: &[(Owned, Owned)], out: &mut Out) -> Result<()> {
+        let mut kinds = Vec::new(alloc);
+        for of_member in self.kinds.as_slice() {
+            kinds.push(of_member.as_slice())?;
+        }
+        put_unified(alloc, kinds.as_slice(), pairs, out)
+    }
+}
+
+/// The kinds of a member's variables, none where there is no such member.
+fn kinds_of(kinds: &[Vec<Kind>], member: usize) -> &[Kind] {
+    if member < kinds.len() {
+        kinds[member].as_slice()
+    } else {
+        &[]
     }
 }
 
@@ -134,16 +153,19 @@ fn put_unified(
     alloc: Global,
     kinds: &[&[Kind]],
     pairs: &[(Owned, Owned)],
-    out: &mut Vec<u8>,
+    out: &mut Out,
 ) -> Result<()> {
-    let pairs = pairs
-        .iter()
-        .map(|pair| (lent(&pair.0), lent(&pair.1)))
-        .collect::<Vec<_>>(alloc)?;
-    match unify(alloc, kinds, pairs.as_slice())? {
-        Some(unifier) => put_classes(alloc, &unifier, kinds, out),
+    let mut lent_pairs = Vec::new(alloc);
+    for pair in pairs {
+        lent_pairs.push((lent(&pair.0), lent(&pair.1)))?;
+    }
+    let unified = unify(alloc, kinds, lent_pairs.as_slice());
+    drop(lent_pairs);
+    match unified? {
+        Some(unifier) => put_classes(alloc, &unifier, kinds, out)?,
         None => put(out, "none"),
     }
+    Ok(())
 }
 
 fn lent(owned: &Owned) -> MemberAtom<'_> {

@@ -1,18 +1,17 @@
 //! Books and their reports: `== book`.
-use crate::reply::{put, put_number};
+use crate::reply::{Out, put, put_number};
+use crate::statement::read_input;
 use crate::streams::{SlowWriter, put_marks, put_taken, read_manner};
+use crate::table::shared_table;
 use crate::values::read_rows;
 use crate::words::{kinds, name, number, row, rows_of, unescaped, value};
 use anyhow::{Context, Result, bail};
 use ent_book::{NamedTable, write_report, write_report_2};
-use ent_rel::Table;
 use ent_semantics::{Answer, Book, Entry, Fact, Failure, Fate, Fated, JointAnswer, Member};
-use ent_sql::parse_input;
 use ent_tree::Opening;
-use ent_value::{Limited, Sequence, Watched};
+use ent_value::{Limited, Sequence, Value, Watched};
 use std::alloc::Global;
 use std::mem;
-use std::sync::Arc;
 
 /// A book that is written, the answers that the next entry takes, and the members that the next joint answer takes.
 #[derive(Drop)]
@@ -42,12 +41,7 @@ impl Draft {
     }
 }
 
-pub(crate) fn reply(
-    alloc: Global,
-    draft: &mut Draft,
-    call: &[&str],
-    out: &mut Vec<u8>,
-) -> Result<()> {
+pub(crate) fn reply(alloc: Global, draft: &mut Draft, call: &[&str], out: &mut Out) -> Result<()> {
     match call {
         ["report", words @ ..] => put_report(alloc, &draft.book, words, out),
         ["report_2", words @ ..] => put_report_2(alloc, &draft.book, words, out),
@@ -55,12 +49,21 @@ pub(crate) fn reply(
         ["table", table, word, rows @ ..] => {
             take_table(alloc, &mut draft.book.database, table, word, rows, out)
         }
-        ["count" | "set" | "rows" | "heads", ..] => take_answer(alloc, draft, call, out),
-        ["entry", tx] => take_answers(alloc, draft, tx, out),
+        ["count" | "set" | "rows" | "heads", ..] => {
+            take_answer(alloc, &mut draft.answers, call, out)
+        }
+        ["entry", tx] => {
+            take_answers(alloc, &mut draft.answers, &mut draft.book.journal, tx, out)
+        }
         ["member", tx, place, values @ ..] => {
             take_member(alloc, &mut draft.members, tx, place, values, out)
         }
-        ["joint"] => take_members(alloc, draft, out),
+        ["joint"] => take_members(
+            alloc,
+            &mut draft.members,
+            &mut draft.book.joint_answers,
+            out,
+        ),
         _ => take_fate(&mut draft.book.fates, call, out),
     }
 }
@@ -71,16 +74,23 @@ fn take_table(
     table: &str,
     word: &str,
     rows: &[&str],
-    out: &mut Vec<u8>,
+    out: &mut Out,
 ) -> Result<()> {
     database.push(table_of(alloc, table, word, rows)?)?;
-    put_number(out, database.len())
+    put_number(out, database.len());
+    Ok(())
 }
 
 /// An answer that the next entry takes.
-fn take_answer(alloc: Global, draft: &mut Draft, call: &[&str], out: &mut Vec<u8>) -> Result<()> {
-    draft.answers.push(answer(alloc, call)?)?;
-    put_number(out, draft.answers.len())
+fn take_answer(
+    alloc: Global,
+    answers: &mut Sequence<Answer>,
+    call: &[&str],
+    out: &mut Out,
+) -> Result<()> {
+    answers.push(answer(alloc, call)?)?;
+    put_number(out, answers.len());
+    Ok(())
 }
 
 /// A member that the next joint answer takes.
@@ -90,25 +100,33 @@ fn take_member(
     tx: &str,
     place: &str,
     values: &[&str],
-    out: &mut Vec<u8>,
+    out: &mut Out,
 ) -> Result<()> {
     members.push(member(alloc, tx, place, values)?)?;
-    put_number(out, members.len())
+    put_number(out, members.len());
+    Ok(())
 }
 
 /// The next joint answer takes the members that were told.
-fn take_members(alloc: Global, draft: &mut Draft, out: &mut Vec<u8>) -> Result<()> {
-    let members = mem::replace(&mut draft.members, Sequence::new(alloc));
-    draft.book.joint_answers.push(JointAnswer { members })?;
-    put_number(out, draft.book.joint_answers.len())
+fn take_members(
+    alloc: Global,
+    members: &mut Sequence<Member>,
+    joint_answers: &mut Sequence<JointAnswer>,
+    out: &mut Out,
+) -> Result<()> {
+    let members = mem::replace(members, Sequence::new(alloc));
+    joint_answers.push(JointAnswer { members })?;
+    put_number(out, joint_answers.len());
+    Ok(())
 }
 
 /// The fate of the next transaction.
-fn take_fate(fates: &mut Sequence<Fated>, call: &[&str], out: &mut Vec<u8>) -> Result<()> {
+fn take_fate(fates: &mut Sequence<Fated>, call: &[&str], out: &mut Out) -> Result<()> {
     let fate = fate(call)?;
     let tx = (fates.len() as u64).saturating_add(1);
     fates.push(Fated { tx, fate })?;
-    put_number(out, fates.len())
+    put_number(out, fates.len());
+    Ok(())
 }
 
 /// The opening and the scripts are those of an input.
@@ -116,25 +134,25 @@ fn take_input(
     alloc: Global,
     book: &mut Book<Sequence<NamedTable>>,
     text: &str,
-    out: &mut Vec<u8>,
+    out: &mut Out,
 ) -> Result<()> {
     let text = unescaped(alloc, text)?;
-    let input = parse_input(alloc, text.as_str())
-        .ok()
-        .context("this is no input")?;
+    let input = read_input(alloc, text.as_str());
+    drop(text);
+    let input = input?;
     book.opening = input.opening;
     book.scripts = Sequence::from_vec(input.scripts.into_vec());
-    put_number(out, book.scripts.len())
+    put_number(out, book.scripts.len());
+    Ok(())
 }
 
 fn table_of(alloc: Global, table: &str, word: &str, rows: &[&str]) -> Result<NamedTable> {
-    let name = name(alloc, table)?;
     let kinds = kinds(alloc, word)?;
     let rows = rows_of(alloc, rows, kinds.as_slice())?;
-    let table = Table::load(alloc, kinds, rows).ok().context("no table")?;
+    let loaded = shared_table(alloc, kinds, rows)?;
     Ok(NamedTable {
-        name,
-        table: Arc::new(alloc, table)?,
+        name: name(alloc, table)?,
+        table: loaded,
     })
 }
 
@@ -155,34 +173,52 @@ fn answer(alloc: Global, call: &[&str]) -> Result<Answer> {
 fn facts(alloc: Global, words: &[&str]) -> Result<Sequence<Fact>> {
     let mut facts = Sequence::new(alloc);
     for word in words {
-        let (relation, rest) = word.split_once('(').context("a fact is written R(1)")?;
-        let values = format!(in alloc; "({rest}")?;
-        facts.push(Fact {
-            relation: name(alloc, relation)?,
-            values: row(alloc, values.as_str())?,
-        })?;
+        facts.push(fact(alloc, word)?)?;
     }
     Ok(facts)
 }
 
+fn fact(alloc: Global, word: &str) -> Result<Fact> {
+    let (relation, rest) = word.split_once('(').context("a fact is written R(1)")?;
+    let written = format!(in alloc; "({rest}")?;
+    let values = row(alloc, written.as_str());
+    drop(written);
+    let values = values?;
+    Ok(Fact {
+        relation: name(alloc, relation)?,
+        values,
+    })
+}
+
 /// The journal's next entry takes the answers that were told.
-fn take_answers(alloc: Global, draft: &mut Draft, tx: &str, out: &mut Vec<u8>) -> Result<()> {
+fn take_answers(
+    alloc: Global,
+    answers: &mut Sequence<Answer>,
+    journal: &mut Sequence<Entry>,
+    tx: &str,
+    out: &mut Out,
+) -> Result<()> {
     let tx = number(tx)?;
-    let answers = mem::replace(&mut draft.answers, Sequence::new(alloc));
-    draft.book.journal.push(Entry { tx, answers })?;
-    put_number(out, draft.book.journal.len())
+    let answers = mem::replace(answers, Sequence::new(alloc));
+    journal.push(Entry { tx, answers })?;
+    put_number(out, journal.len());
+    Ok(())
 }
 
 fn member(alloc: Global, tx: &str, place: &str, values: &[&str]) -> Result<Member> {
-    let mut grounding = Sequence::new(alloc);
-    for word in values {
-        grounding.push(value(alloc, word)?)?;
-    }
     Ok(Member {
         tx: number(tx)?,
         place: number(place)?,
-        grounding,
+        grounding: values_of(alloc, values)?,
     })
+}
+
+fn values_of(alloc: Global, words: &[&str]) -> Result<Sequence<Value>> {
+    let mut values = Sequence::new(alloc);
+    for word in words {
+        values.push(value(alloc, word)?)?;
+    }
+    Ok(values)
 }
 
 /// What became of a transaction.
@@ -215,11 +251,12 @@ fn put_report(
     alloc: Global,
     book: &Book<Sequence<NamedTable>>,
     words: &[&str],
-    out: &mut Vec<u8>,
+    out: &mut Out,
 ) -> Result<()> {
     let mut writer = Watched::new(SlowWriter::new(alloc, read_manner(words)?));
     let is_written = write_report(alloc, book, &mut writer).is_ok();
-    put_written(&writer, is_written, out)
+    put_written(&writer, is_written, out);
+    Ok(())
 }
 
 /// The same for the report of version 2.
@@ -227,14 +264,15 @@ fn put_report_2(
     alloc: Global,
     book: &Book<Sequence<NamedTable>>,
     words: &[&str],
-    out: &mut Vec<u8>,
+    out: &mut Out,
 ) -> Result<()> {
     let mut writer = Watched::new(SlowWriter::new(alloc, read_manner(words)?));
     let is_written = write_report_2(alloc, book, &mut writer).is_ok();
-    put_written(&writer, is_written, out)
+    put_written(&writer, is_written, out);
+    Ok(())
 }
 
-fn put_written(writer: &Watched<SlowWriter>, is_written: bool, out: &mut Vec<u8>) -> Result<()> {
+fn put_written(writer: &Watched<SlowWriter>, is_written: bool, out: &mut Out) {
     put(
         out,
         if is_written {
@@ -242,8 +280,8 @@ fn put_written(writer: &Watched<SlowWriter>, is_written: bool, out: &mut Vec<u8>
         } else {
             "not written, "
         },
-    )?;
-    put_marks(writer, out)?;
-    put(out, ": ")?;
-    put_taken(out, writer.get().taken())
+    );
+    put_marks(writer, out);
+    put(out, ": ");
+    put_taken(out, writer.get().taken());
 }

@@ -6,7 +6,7 @@ ghost use Rattle.ent_closed.specs.declared.entangled.Atom.{Atom as HeadAtom};
 ghost use Rattle.ent_plan.specs.Ranged.{AreRanged, IsRanged, is_variable, stands_in};
 ghost use Rattle.ent_plan.specs.Plan.{HasDistinctHeads, HaveDistinctHeads};
 
-use crate::reply::put;
+use crate::reply::{Out, Show, put, put_number, put_shown};
 use anyhow::{Context, Result, bail};
 use ent_closed::{Atom, Entangled, Membership, Term};
 use ent_group::Tx;
@@ -14,9 +14,8 @@ use ent_join::first_with;
 use ent_match::{Member, Pool};
 use ent_plan::{JoinPlan, combine};
 use ent_rel::Table;
-use ent_value::{Sequence, Ticks, Value, print_value};
+use ent_value::{Sequence, Ticks, Value};
 use std::alloc::Global;
-use std::io::Write;
 use std::sync::Arc;
 
 fn is_variable(term: &Term<Value>, number: usize) -> bool
@@ -112,16 +111,19 @@ fn plan(alloc: Global, pool: &Pool, txs: &[Tx]) -> Result<Option<JoinPlan>> {
 }
 
 /// The tables that the plan of some statements wants.
-pub(crate) fn put_plan(alloc: Global, pool: &Pool, txs: &[Tx], out: &mut Vec<u8>) -> Result<()> {
+pub(crate) fn put_plan(alloc: Global, pool: &Pool, txs: &[Tx], out: &mut Out) -> Result<()> {
     match plan(alloc, pool, txs)? {
         None => put(out, "no plan"),
-        Some(plan) => {
-            put(out, "tables")?;
-            for number in plan.tables() {
-                write!(out, " {number}")?;
-            }
-            Ok(())
-        }
+        Some(plan) => put_tables(&plan, out),
+    }
+    Ok(())
+}
+
+fn put_tables(plan: &JoinPlan, out: &mut Out) {
+    put(out, "tables");
+    for number in plan.tables() {
+        put(out, " ");
+        put_number(out, *number);
     }
 }
 
@@ -135,34 +137,30 @@ fn shared(alloc: Global, tables: &[Arc<Table>], numbers: &[usize]) -> Result<Vec
     Ok(found)
 }
 
-fn put_grounding(
-    alloc: Global,
-    tx: Tx,
-    grounding: &Sequence<Value>,
-    out: &mut Vec<u8>,
-) -> Result<()> {
-    write!(out, "{tx}(")?;
+fn put_grounding(alloc: Global, tx: Tx, grounding: &Sequence<Value>, out: &mut Out) {
+    put_shown(out, &tx);
+    put(out, "(");
     for (number, value) in grounding.as_slice().iter().enumerate() {
         if number > 0 {
-            put(out, ",")?;
+            put(out, ",");
         }
-        print_value(alloc, out, value)?;
+        value.show(alloc, out);
     }
-    put(out, ")")
+    put(out, ")");
 }
 
 fn put_groundings(
     alloc: Global,
     members: &[Member],
     groundings: &[Sequence<Value>],
-    out: &mut Vec<u8>,
+    out: &mut Out,
 ) -> Result<()> {
     for (number, grounding) in groundings.iter().enumerate() {
         if number > 0 {
-            put(out, " ")?;
+            put(out, " ");
         }
         let member = members.get(number).context("there is no such member")?;
-        put_grounding(alloc, member.tx(), grounding, out)?;
+        put_grounding(alloc, member.tx(), grounding, out);
     }
     Ok(())
 }
@@ -172,16 +170,22 @@ fn put_found(
     alloc: Global,
     plan: &JoinPlan,
     tables: &[Arc<Table>],
-    out: &mut Vec<u8>,
+    out: &mut Out,
 ) -> Result<Ticks> {
     if !are_ranged(plan.members()) {
         bail!("a variable stands in no tuple of a sub-select");
     }
     let tables = shared(alloc, tables, plan.tables())?;
     let mut ticks = Ticks::new();
-    match first_with(alloc, plan, tables.as_slice(), &mut ticks)? {
-        None => put(out, "none")?,
-        Some(groundings) => put_groundings(alloc, plan.members(), groundings.as_slice(), out)?,
+    let found = first_with(alloc, plan, tables.as_slice(), &mut ticks);
+    drop(tables);
+    match found? {
+        None => put(out, "none"),
+        Some(groundings) => {
+            let shown = put_groundings(alloc, plan.members(), groundings.as_slice(), out);
+            drop(groundings);
+            shown?;
+        }
     }
     Ok(ticks)
 }
@@ -194,14 +198,21 @@ pub(crate) fn put_choice(
     tables: &[Arc<Table>],
     txs: &[Tx],
     with_ticks: bool,
-    out: &mut Vec<u8>,
+    out: &mut Out,
 ) -> Result<()> {
     let Some(plan) = plan(alloc, pool, txs)? else {
-        return put(out, "no plan");
+        put(out, "no plan");
+        return Ok(());
     };
-    let ticks = put_found(alloc, &plan, tables, out)?;
-    if with_ticks {
-        write!(out, ", ticks {}", ticks.count())?;
-    }
+    let ticks = put_found(alloc, &plan, tables, out);
+    drop(plan);
+    put_ticks(ticks?, with_ticks, out);
     Ok(())
+}
+
+fn put_ticks(ticks: Ticks, with_ticks: bool, out: &mut Out) {
+    if with_ticks {
+        put(out, ", ticks ");
+        put_shown(out, &ticks.count());
+    }
 }

@@ -1,10 +1,9 @@
 //! The classes of a unifier, as a reply shows them.
-use crate::reply::put;
+use crate::reply::{Out, Show, put, put_number};
 use anyhow::Result;
 use ent_unify::{Representative, Unifier, Variable};
-use ent_value::{Kind, print_value};
+use ent_value::Kind;
 use std::alloc::Global;
-use std::io::Write;
 
 /// Whether the same stands for two variables.
 fn are_one_class(unifier: &Unifier, one: Variable, other: Variable) -> bool {
@@ -45,20 +44,22 @@ fn put_class(
     unifier: &Unifier,
     variables: &[Variable],
     first: Variable,
-    out: &mut Vec<u8>,
-) -> Result<()> {
+    out: &mut Out,
+) {
     let mut before = "";
     for variable in variables {
         if are_one_class(unifier, first, *variable) {
-            write!(out, "{before}{}.{}", variable.member, variable.index)?;
+            put(out, before);
+            put_number(out, variable.member);
+            put(out, ".");
+            put_number(out, variable.index);
             before = " ";
         }
     }
     if let Some(value) = unifier.constant_of(first) {
-        put(out, "=")?;
-        print_value(alloc, out, value)?;
+        put(out, "=");
+        value.show(alloc, out);
     }
-    Ok(())
 }
 
 /// Whether a variable is the first of its class.
@@ -76,19 +77,23 @@ pub(crate) fn put_classes(
     alloc: Global,
     unifier: &Unifier,
     kinds: &[&[Kind]],
-    out: &mut Vec<u8>,
+    out: &mut Out,
 ) -> Result<()> {
     let variables = variables_of(alloc, kinds)?;
+    put_each_class(alloc, unifier, variables.as_slice(), out);
+    Ok(())
+}
+
+fn put_each_class(alloc: Global, unifier: &Unifier, variables: &[Variable], out: &mut Out) {
     let mut before = "classes ";
-    for variable in variables.as_slice() {
-        if is_first(unifier, variables.as_slice(), *variable) {
-            put(out, before)?;
-            put_class(alloc, unifier, variables.as_slice(), *variable, out)?;
+    for variable in variables {
+        if is_first(unifier, variables, *variable) {
+            put(out, before);
+            put_class(alloc, unifier, variables, *variable, out);
             before = "; ";
         }
     }
     if variables.is_empty() {
-        put(out, "equal")?;
+        put(out, "equal");
     }
-    Ok(())
 }

@@ -1,12 +1,11 @@
 //! The trees of entangled statements, for `== trees`.
-use crate::reply::{Show, put, put_list};
+use crate::reply::{Out, Show, put, put_list};
 use crate::trees::{put_place, put_where};
-use anyhow::Result;
 use ent_tree::{Condition, Entangled, EntangledItem, Term, Tuple};
 use std::alloc::Global;
 
 impl Show for Term {
-    fn show(&self, alloc: Global, out: &mut Vec<u8>) -> Result<()> {
+    fn show(&self, alloc: Global, out: &mut Out) {
         match self {
             Term::Value(value) => value.show(alloc, out),
             Term::Variable(variable) => variable.show(alloc, out),
@@ -15,38 +14,37 @@ impl Show for Term {
 }
 
 impl Show for EntangledItem {
-    fn show(&self, alloc: Global, out: &mut Vec<u8>) -> Result<()> {
-        self.term.show(alloc, out)?;
+    fn show(&self, alloc: Global, out: &mut Out) {
+        self.term.show(alloc, out);
         if let Some(variable) = &self.binds {
-            put(out, " as :")?;
-            variable.show(alloc, out)?;
+            put(out, " as :");
+            variable.show(alloc, out);
         }
-        Ok(())
     }
 }
 
 impl Show for Tuple {
-    fn show(&self, alloc: Global, out: &mut Vec<u8>) -> Result<()> {
-        put(out, "(")?;
-        put_place(out, self.place)?;
-        put(out, " ")?;
-        put_list(alloc, out, self.terms.as_slice(), ", ")?;
-        put(out, ")")
+    fn show(&self, alloc: Global, out: &mut Out) {
+        put(out, "(");
+        put_place(out, self.place);
+        put(out, " ");
+        put_list(alloc, out, self.terms.as_slice(), ", ");
+        put(out, ")");
     }
 }
 
 impl Show for Condition {
-    fn show(&self, alloc: Global, out: &mut Vec<u8>) -> Result<()> {
+    fn show(&self, alloc: Global, out: &mut Out) {
         match self {
             Condition::InSelect(tuple, select) => {
-                tuple.show(alloc, out)?;
-                put(out, " in (")?;
-                select.show(alloc, out)?;
+                tuple.show(alloc, out);
+                put(out, " in (");
+                select.show(alloc, out);
                 put(out, ")")
             }
             Condition::InAnswer(tuple, relation) => {
-                tuple.show(alloc, out)?;
-                put(out, " in answer ")?;
+                tuple.show(alloc, out);
+                put(out, " in answer ");
                 relation.show(alloc, out)
             }
             Condition::Test(test) => test.show(alloc, out),
@@ -55,13 +53,13 @@ impl Show for Condition {
 }
 
 impl Show for Entangled {
-    fn show(&self, alloc: Global, out: &mut Vec<u8>) -> Result<()> {
-        put(out, "select ")?;
-        put_list(alloc, out, self.items.as_slice(), ", ")?;
-        put(out, " into")?;
-        put_place(out, self.place)?;
-        put(out, " answer ")?;
-        put_list(alloc, out, self.relations.as_slice(), ", ")?;
-        put_where(alloc, out, self.conditions.as_slice())
+    fn show(&self, alloc: Global, out: &mut Out) {
+        put(out, "select ");
+        put_list(alloc, out, self.items.as_slice(), ", ");
+        put(out, " into");
+        put_place(out, self.place);
+        put(out, " answer ");
+        put_list(alloc, out, self.relations.as_slice(), ", ");
+        put_where(alloc, out, self.conditions.as_slice());
     }
 }

@@ -1,16 +1,15 @@
 //! Groups of transactions, lists of them, and cycles: `== groups`, `== members`, `== cycles`.
-use crate::reply::{put, put_list, put_number, yes_or_no};
+use crate::reply::{Out, put, put_list, put_number, put_shown, yes_or_no};
 use crate::words::{index, number};
 use anyhow::{Context, Result, bail};
 use ent_group::{Groups, MOST_MEMBERS, Members, Tx, cycle, few_pairs_name_few};
 use std::alloc::Global;
-use std::io::Write;
 
 pub(crate) fn reply_to_groups(
     alloc: Global,
     groups: &mut Groups,
     call: &[&str],
-    out: &mut Vec<u8>,
+    out: &mut Out,
 ) -> Result<()> {
     match call {
         ["add", tx] => put(out, yes_or_no(add(groups, number(tx)?))),
@@ -22,12 +21,13 @@ pub(crate) fn reply_to_groups(
             groups.remove_group(number(tx)?);
             put_number(out, groups.len())
         }
-        _ => reply_of_groups(alloc, groups, call, out),
+        _ => return reply_of_groups(alloc, groups, call, out),
     }
+    Ok(())
 }
 
 /// The reply to a call that changes nothing.
-fn reply_of_groups(alloc: Global, groups: &Groups, call: &[&str], out: &mut Vec<u8>) -> Result<()> {
+fn reply_of_groups(alloc: Global, groups: &Groups, call: &[&str], out: &mut Out) -> Result<()> {
     match call {
         ["group", tx] => put_members(alloc, out, &groups.members(number(tx)?)),
         ["same", left, right] => {
@@ -40,22 +40,20 @@ fn reply_of_groups(alloc: Global, groups: &Groups, call: &[&str], out: &mut Vec<
         ["is_empty"] => put(out, yes_or_no(groups.is_empty())),
         _ => bail!("groups know no such call"),
     }
+    Ok(())
 }
 
-fn put_all(alloc: Global, groups: &Groups, out: &mut Vec<u8>) -> Result<()> {
+fn put_all(alloc: Global, groups: &Groups, out: &mut Out) {
     let mut all = Members::new();
     for membership in groups.as_slice() {
         push(&mut all, membership.member);
     }
-    put_members(alloc, out, &all)
+    put_members(alloc, out, &all);
 }
 
-pub(crate) fn put_transaction(out: &mut Vec<u8>, tx: Option<Tx>) -> Result<()> {
+pub(crate) fn put_transaction(out: &mut Out, tx: Option<Tx>) {
     match tx {
-        Some(tx) => {
-            write!(out, "{tx}")?;
-            Ok(())
-        }
+        Some(tx) => put_shown(out, &tx),
         None => put(out, "nobody"),
     }
 }
@@ -85,18 +83,18 @@ pub(crate) fn push(members: &mut Members, tx: Tx) -> bool {
     can
 }
 
-pub(crate) fn put_members(alloc: Global, out: &mut Vec<u8>, members: &Members) -> Result<()> {
+pub(crate) fn put_members(alloc: Global, out: &mut Out, members: &Members) {
     if members.is_empty() {
         return put(out, "nobody");
     }
-    put_list(alloc, out, members.as_slice(), " ")
+    put_list(alloc, out, members.as_slice(), " ");
 }
 
 pub(crate) fn reply_to_members(
     alloc: Global,
     members: &mut Members,
     call: &[&str],
-    out: &mut Vec<u8>,
+    out: &mut Out,
 ) -> Result<()> {
     match call {
         ["of", tx] => {
@@ -108,8 +106,9 @@ pub(crate) fn reply_to_members(
             push_up_to(members, number(most)?);
             put_number(out, members.len())
         }
-        _ => reply_of_members(members, call, out),
+        _ => return reply_of_members(members, call, out),
     }
+    Ok(())
 }
 
 fn push_up_to(members: &mut Members, most: Tx) {
@@ -121,7 +120,7 @@ fn push_up_to(members: &mut Members, most: Tx) {
 }
 
 /// The reply to a call that changes nothing.
-fn reply_of_members(members: &Members, call: &[&str], out: &mut Vec<u8>) -> Result<()> {
+fn reply_of_members(members: &Members, call: &[&str], out: &mut Out) -> Result<()> {
     match call {
         ["len"] => put_number(out, members.len()),
         ["walk"] => put_number(out, members.iter().count()),
@@ -133,10 +132,11 @@ fn reply_of_members(members: &Members, call: &[&str], out: &mut Vec<u8>) -> Resu
         ["is_list_of", tx] => put(out, yes_or_no(Members::of(number(tx)?) == *members)),
         _ => bail!("lists of members know no such call"),
     }
+    Ok(())
 }
 
 /// The cycle of pairs, as `1>2 2>1`.
-pub(crate) fn reply_to_cycles(alloc: Global, line: &str, out: &mut Vec<u8>) -> Result<()> {
+pub(crate) fn reply_to_cycles(alloc: Global, line: &str, out: &mut Out) -> Result<()> {
     let mut pairs = Vec::new(alloc);
     for word in line.split_whitespace() {
         let (waiter, awaited) = word.split_once('>').context("a pair is written 1>2")?;
@@ -146,7 +146,7 @@ pub(crate) fn reply_to_cycles(alloc: Global, line: &str, out: &mut Vec<u8>) -> R
 }
 
 /// Shows the cycle of at most 32 pairs, which name at most 64 transactions.
-fn put_cycle(alloc: Global, out: &mut Vec<u8>, pairs: &[(Tx, Tx)]) -> Result<()> {
+fn put_cycle(alloc: Global, out: &mut Out, pairs: &[(Tx, Tx)]) -> Result<()> {
     if pairs.len() > 32 {
         bail!("these pairs are too many");
     }
@@ -155,4 +155,5 @@ fn put_cycle(alloc: Global, out: &mut Vec<u8>, pairs: &[(Tx, Tx)]) -> Result<()>
         Some(members) => put_members(alloc, out, &members),
         None => put(out, "no cycle"),
     }
+    Ok(())
 }

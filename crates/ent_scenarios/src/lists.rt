@@ -1,10 +1,9 @@
 //! Lists: `== lists`. Numbers are pushed to a sequence, and to a list of at most two as long as there is room in it.
-use crate::reply::{put, put_list, put_number, yes_or_no};
+use crate::reply::{Out, put, put_list, put_number, put_shown, yes_or_no};
 use crate::words::{index, number};
 use anyhow::{Result, bail};
 use ent_value::{Limited, Sequence};
 use std::alloc::Global;
-use std::io::Write;
 use std::mem::replace;
 
 /// A sequence, and a list of at most two.
@@ -22,15 +21,22 @@ impl Lists {
         }
     }
 
-    pub(crate) fn reply(&mut self, alloc: Global, call: &[&str], out: &mut Vec<u8>) -> Result<()> {
+    pub(crate) fn reply(&mut self, alloc: Global, call: &[&str], out: &mut Out) -> Result<()> {
         match call {
             ["push", word] => self.push(number(word)?)?,
             ["rebuild"] => self.rebuild(alloc),
-            ["get", place] => return self.put_at(index(place)?, out),
-            ["count"] => return self.put_counts(out),
+            ["get", place] => {
+                self.put_at(index(place)?, out);
+                return Ok(());
+            }
+            ["count"] => {
+                self.put_counts(out);
+                return Ok(());
+            }
             _ => bail!("lists know no such call"),
         }
-        self.put(alloc, out)
+        self.put(alloc, out);
+        Ok(())
     }
 
     fn push(&mut self, number: u64) -> Result<()> {
@@ -48,32 +54,37 @@ impl Lists {
     }
 
     /// Both lists, as they are lent.
-    fn put(&self, alloc: Global, out: &mut Vec<u8>) -> Result<()> {
-        put_list(alloc, out, self.sequence.as_slice(), " ")?;
-        put(out, "; ")?;
-        put_list(alloc, out, self.pair.as_slice(), " ")
+    fn put(&self, alloc: Global, out: &mut Out) {
+        put_list(alloc, out, self.sequence.as_slice(), " ");
+        put(out, "; ");
+        put_list(alloc, out, self.pair.as_slice(), " ");
     }
 
-    fn put_at(&self, place: usize, out: &mut Vec<u8>) -> Result<()> {
-        put_found(self.sequence.get(place), out)?;
-        put(out, "; ")?;
-        put_found(self.pair.get(place), out)
+    fn put_at(&self, place: usize, out: &mut Out) {
+        put_found(self.sequence.get(place), out);
+        put(out, "; ");
+        put_found(self.pair.get(place), out);
     }
 
     /// How many there are, as it is told and as they are walked through, and whether there are none.
-    fn put_counts(&self, out: &mut Vec<u8>) -> Result<()> {
-        put_number(out, self.sequence.len())?;
-        write!(out, " {} ", self.sequence.iter().count())?;
-        put(out, yes_or_no(self.sequence.is_empty()))?;
-        write!(out, "; {} {} ", self.pair.len(), self.pair.iter().count())?;
-        put(out, yes_or_no(self.pair.is_empty()))
+    fn put_counts(&self, out: &mut Out) {
+        put_number(out, self.sequence.len());
+        put(out, " ");
+        put_number(out, self.sequence.iter().count());
+        put(out, " ");
+        put(out, yes_or_no(self.sequence.is_empty()));
+        put(out, "; ");
+        put_number(out, self.pair.len());
+        put(out, " ");
+        put_number(out, self.pair.iter().count());
+        put(out, " ");
+        put(out, yes_or_no(self.pair.is_empty()));
     }
 }
 
-fn put_found(found: Option<&u64>, out: &mut Vec<u8>) -> Result<()> {
+fn put_found(found: Option<&u64>, out: &mut Out) {
     match found {
-        Some(number) => write!(out, "{number}")?,
-        None => put(out, "none")?,
+        Some(number) => put_shown(out, number),
+        None => put(out, "none"),
     }
-    Ok(())
 }

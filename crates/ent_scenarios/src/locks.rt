@@ -1,6 +1,6 @@
 //! Locks on tables: `== locks`. A use is written `T:shared` or `T:exclusive`.
-use crate::groups::{push, put_members, put_transaction};
-use crate::reply::{put, put_list, put_number, yes_or_no};
+use crate::groups::{push, put_transaction};
+use crate::reply::{Out, Show, put, put_number, yes_or_no};
 use crate::words::{name, number};
 use anyhow::{Context, Result, bail};
 use ent_group::{Members, Tx};
@@ -45,13 +45,14 @@ pub(crate) fn reply(
     alloc: Global,
     locks: &mut LockTable,
     call: &[&str],
-    out: &mut Vec<u8>,
+    out: &mut Out,
 ) -> Result<()> {
     match call {
         ["ask", tx, words @ ..] => ask(alloc, locks, number(tx)?, words, out),
         ["drop", words @ ..] => {
             locks.drop_group(&read_members(words)?);
-            put(out, "dropped")
+            put(out, "dropped");
+            Ok(())
         }
         _ => reply_of(alloc, locks, call, out),
     }
@@ -65,32 +66,30 @@ fn read_members(words: &[&str]) -> Result<Members> {
     Ok(members)
 }
 
-fn ask(
-    alloc: Global,
-    locks: &mut LockTable,
-    tx: Tx,
-    words: &[&str],
-    out: &mut Vec<u8>,
-) -> Result<()> {
+fn ask(alloc: Global, locks: &mut LockTable, tx: Tx, words: &[&str], out: &mut Out) -> Result<()> {
     let asked = read_asked(alloc, words)?;
-    match locks.ask(tx, asked.uses.as_slice(), &asked.pass)? {
+    let answer = locks.ask(tx, asked.uses.as_slice(), &asked.pass);
+    drop(asked);
+    match answer? {
         Answer::Granted => put(out, "granted"),
         Answer::Blocked(holder) => {
-            put(out, "blocked ")?;
+            put(out, "blocked ");
             put_transaction(out, Some(holder))
         }
     }
+    Ok(())
 }
 
 /// The reply to a call that changes nothing.
-fn reply_of(alloc: Global, locks: &LockTable, call: &[&str], out: &mut Vec<u8>) -> Result<()> {
+fn reply_of(alloc: Global, locks: &LockTable, call: &[&str], out: &mut Out) -> Result<()> {
     match call {
         ["blocker", tx, words @ ..] => put_blocker(alloc, locks, number(tx)?, words, out),
         ["in_conflict", tx, words @ ..] => put_conflict(alloc, locks, number(tx)?, words, out),
         ["holds", tx, word] => put_holds(alloc, locks, number(tx)?, word, out),
         ["holders", table] => {
             let table = name(alloc, table)?;
-            put_number(out, locks.holders(&table).len())
+            put_number(out, locks.holders(&table).len());
+            Ok(())
         }
         ["uses", tx] => put_uses(alloc, locks, number(tx)?, out),
         _ => bail!("locks know no such call"),
@@ -102,10 +101,13 @@ fn put_blocker(
     locks: &LockTable,
     tx: Tx,
     words: &[&str],
-    out: &mut Vec<u8>,
+    out: &mut Out,
 ) -> Result<()> {
     let asked = read_asked(alloc, words)?;
-    put_transaction(out, locks.blocker(tx, asked.uses.as_slice(), &asked.pass))
+    let blocker = locks.blocker(tx, asked.uses.as_slice(), &asked.pass);
+    drop(asked);
+    put_transaction(out, blocker);
+    Ok(())
 }
 
 fn put_conflict(
@@ -113,40 +115,42 @@ fn put_conflict(
     locks: &LockTable,
     tx: Tx,
     words: &[&str],
-    out: &mut Vec<u8>,
+    out: &mut Out,
 ) -> Result<()> {
     let asked = read_asked(alloc, words)?;
-    put(out, yes_or_no(locks.in_conflict(tx, asked.uses.as_slice())))
+    let is_so = locks.in_conflict(tx, asked.uses.as_slice());
+    drop(asked);
+    put(out, yes_or_no(is_so));
+    Ok(())
 }
 
-fn put_holds(
-    alloc: Global,
-    locks: &LockTable,
-    tx: Tx,
-    word: &str,
-    out: &mut Vec<u8>,
-) -> Result<()> {
+fn put_holds(alloc: Global, locks: &LockTable, tx: Tx, word: &str, out: &mut Out) -> Result<()> {
     let (table, mode) = read_use(alloc, word)?;
-    put(out, yes_or_no(locks.holds(tx, &table, mode)))
+    put(out, yes_or_no(locks.holds(tx, &table, mode)));
+    Ok(())
 }
 
-fn put_uses(alloc: Global, locks: &LockTable, tx: Tx, out: &mut Vec<u8>) -> Result<()> {
+fn put_uses(alloc: Global, locks: &LockTable, tx: Tx, out: &mut Out) -> Result<()> {
     let uses = locks.uses(alloc, tx)?;
+    put_each_use(alloc, uses.as_slice(), out);
+    Ok(())
+}
+
+fn put_each_use(alloc: Global, uses: &[(Name, Mode)], out: &mut Out) {
     if uses.is_empty() {
-        return put_members(alloc, out, &Members::new());
+        return put(out, "nobody");
     }
     let mut before = "";
-    for (table, mode) in uses.as_slice() {
-        put(out, before)?;
-        put_list(alloc, out, &[table], "")?;
+    for (table, mode) in uses {
+        put(out, before);
+        table.show(alloc, out);
         put(
             out,
             match mode {
                 Mode::Shared => ":shared",
                 Mode::Exclusive => ":exclusive",
             },
-        )?;
+        );
         before = " ";
     }
-    Ok(())
 }

@@ -1,6 +1,5 @@
 //! Plays scenarios: a line a call, the answer that is expected. Without a word it goes over the stored ones and stops
-//! at the first reply that differs; with the word `play` it reads one from standard input and writes the replies. With
-//! the word `times` it says how long calls on large tables take.
+//! at the first reply that differs; with the word `play` it reads one from standard input and writes the replies.
 #![tactic(auto)]
 
 mod atoms;
@@ -22,8 +21,6 @@ mod stage;
 mod statement;
 mod streams;
 mod table;
-mod timed_rows;
-mod times;
 mod tokens;
 mod trees;
 mod undo;
@@ -35,11 +32,8 @@ use anyhow::{Context, Result, ensure};
 use std::{env, fs, io};
 
 fn main(rt: HostRuntime) -> Result<()> {
-    let Some(word) = env::args(&rt)?.nth(1) else {
+    if env::args(&rt)?.nth(1).is_none() {
         return check_all(&rt);
-    };
-    if word.as_str() == "times" {
-        return Ok(times::show_all(&rt)?);
     }
     play(&rt)
 }

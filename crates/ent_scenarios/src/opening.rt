@@ -2,8 +2,9 @@
 ghost use Rattle.std.specs.Prelude.{◌≡◌, ◌<◌, All, IfOk, length};
 ghost use Rattle.ent_value.specs.Value.{kinds_of};
 
+use crate::table::shared_table;
 use crate::words::{are_same, kinds_of};
-use anyhow::{Context, Result, bail};
+use anyhow::{Result, bail};
 use ent_form::{Catalogue, TableSchema, opening_rows};
 use ent_rel::Table;
 use ent_tree::Opening;
@@ -27,12 +28,11 @@ fn rows_of_kinds(alloc: Global, rows: Vec<Row>, kinds: &[Kind]) -> Result<Vec<Ro
 }
 
 fn column_kinds(alloc: Global, schema: &TableSchema) -> Result<Vec<Kind>, AllocError> {
-    schema
-        .columns
-        .as_slice()
-        .iter()
-        .map(|column| column.kind)
-        .collect(alloc)
+    let mut kinds = Vec::new(alloc);
+    for column in schema.columns.as_slice() {
+        kinds.push(column.kind)?;
+    }
+    Ok(kinds)
 }
 
 /// A table with its opening rows.
@@ -48,8 +48,7 @@ fn table(
     let kinds = column_kinds(alloc, schema)?;
     let rows = opening_rows(alloc, catalogue, number, opening)?;
     let rows = rows_of_kinds(alloc, rows, kinds.as_slice())?;
-    let table = Table::load(alloc, kinds, rows).ok().context("no table")?;
-    Ok(Arc::new(alloc, table)?)
+    shared_table(alloc, kinds, rows)
 }
 
 /// The tables that an opening declares.

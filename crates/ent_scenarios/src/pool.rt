@@ -4,7 +4,7 @@ ghost use Rattle.std.specs.Prelude.{IsTrue};
 ghost use Rattle.ent_match.specs.Posting.{HasNone};
 
 use crate::choice::{put_choice, put_plan};
-use crate::reply::{put, put_list};
+use crate::reply::{Out, put, put_list, put_number, put_shown};
 use crate::statement::{entangled, opening_tables};
 use crate::words::{first_word, number, numbers_in};
 use anyhow::{Result, bail};
@@ -12,7 +12,6 @@ use ent_group::Tx;
 use ent_match::{Member, Pool, PostFault};
 use ent_rel::Table;
 use std::alloc::Global;
-use std::io::Write;
 use std::sync::Arc;
 
 /// A pool, and the tables that its statements are over, with their declarations.
@@ -32,47 +31,49 @@ impl Posted {
         }
     }
 
-    pub(crate) fn reply(&mut self, alloc: Global, line: &str, out: &mut Vec<u8>) -> Result<()> {
+    pub(crate) fn reply(&mut self, alloc: Global, line: &str, out: &mut Out) -> Result<()> {
         let (call, rest) = first_word(line);
         match call {
-            "tables" => self.declare(alloc, rest, out),
-            "post" => self.post(alloc, rest, out),
+            "tables" => self.declare(alloc, rest, out)?,
+            "post" => self.post(alloc, rest, out)?,
             "withdraw" => {
                 self.pool.withdraw(number(rest)?);
-                put_members(alloc, &self.pool, out)
+                put_members(&self.pool, out);
             }
-            "members" => put_members(alloc, &self.pool, out),
-            "components" => put_components(alloc, &self.pool, out),
-            "plan" => put_plan(alloc, &self.pool, numbers_in(alloc, rest)?.as_slice(), out),
-            "first" => self.put_first(alloc, rest, false, out),
-            "first_with" => self.put_first(alloc, rest, true, out),
+            "members" => put_members(&self.pool, out),
+            "components" => put_components(alloc, &self.pool, out)?,
+            "plan" => self.show_plan(alloc, rest, out)?,
+            "first" => self.put_first(alloc, rest, false, out)?,
+            "first_with" => self.put_first(alloc, rest, true, out)?,
             _ => bail!("pools know no such call"),
         }
-    }
-
-    fn declare(&mut self, alloc: Global, text: &str, out: &mut Vec<u8>) -> Result<()> {
-        self.tables = opening_tables(alloc, text)?;
-        self.opening = text.to_string(alloc)?;
-        write!(out, "{}", self.tables.len())?;
         Ok(())
     }
 
-    fn put_first(
-        &self,
-        alloc: Global,
-        rest: &str,
-        with_ticks: bool,
-        out: &mut Vec<u8>,
-    ) -> Result<()> {
+    fn declare(&mut self, alloc: Global, text: &str, out: &mut Out) -> Result<()> {
+        self.tables = opening_tables(alloc, text)?;
+        self.opening = text.to_string(alloc)?;
+        put_number(out, self.tables.len());
+        Ok(())
+    }
+
+    fn show_plan(&self, alloc: Global, rest: &str, out: &mut Out) -> Result<()> {
+        let txs = numbers_in(alloc, rest)?;
+        put_plan(alloc, &self.pool, txs.as_slice(), out)
+    }
+
+    fn put_first(&self, alloc: Global, rest: &str, with_ticks: bool, out: &mut Out) -> Result<()> {
         let txs = numbers_in(alloc, rest)?;
         let tables = self.tables.as_slice();
         put_choice(alloc, &self.pool, tables, txs.as_slice(), with_ticks, out)
     }
 
-    fn post(&mut self, alloc: Global, rest: &str, out: &mut Vec<u8>) -> Result<()> {
+    fn post(&mut self, alloc: Global, rest: &str, out: &mut Out) -> Result<()> {
         let (tx, text) = first_word(rest);
-        let statement = Arc::new(alloc, entangled(alloc, self.opening.as_str(), text)?)?;
-        post_to(&mut self.pool, Member::new(number(tx)?, statement), out)
+        let tx = number(tx)?;
+        let statement = entangled(alloc, self.opening.as_str(), text)?;
+        let statement = Arc::new(alloc, statement)?;
+        post_to(&mut self.pool, Member::new(tx, statement), out)
     }
 }
 
@@ -88,52 +89,69 @@ fn has_none(members: &[Member], member: &Member) -> bool
     true
 }
 
-fn post_to(pool: &mut Pool, member: Member, out: &mut Vec<u8>) -> Result<()> {
+fn post_to(pool: &mut Pool, member: Member, out: &mut Out) -> Result<()> {
     if !has_none(pool.members(), &member) {
-        return put(out, "there already");
+        put(out, "there already");
+        return Ok(());
     }
     match pool.post(member) {
-        Ok(()) => put(out, "posted"),
-        Err((member, why)) => put_fault(why, member.tx(), out),
+        Ok(()) => {
+            put(out, "posted");
+            Ok(())
+        }
+        Err((member, why)) => {
+            let tx = member.tx();
+            drop(member);
+            put_fault(why, tx, out)
+        }
     }
 }
 
 /// The post and its two least heads, and whose statement comes back.
-fn put_fault(why: PostFault, back: Tx, out: &mut Vec<u8>) -> Result<()> {
+fn put_fault(why: PostFault, back: Tx, out: &mut Out) -> Result<()> {
     let PostFault::Unsafe(fault) = why else {
         bail!("no memory");
     };
-    let (post, asker) = (fault.post(), fault.asker());
-    let (first, second) = (fault.first(), fault.second());
-    write!(
-        out,
-        "unsafe: post {post} of {asker}, heads of {first} and {second}; {back} comes back"
-    )?;
+    put(out, "unsafe: post ");
+    put_shown(out, &fault.post());
+    put(out, " of ");
+    put_shown(out, &fault.asker());
+    put(out, ", heads of ");
+    put_shown(out, &fault.first());
+    put(out, " and ");
+    put_shown(out, &fault.second());
+    put(out, "; ");
+    put_shown(out, &back);
+    put(out, " comes back");
     Ok(())
 }
 
-fn put_members(alloc: Global, pool: &Pool, out: &mut Vec<u8>) -> Result<()> {
-    let members: Vec<Tx> = pool
-        .members()
-        .iter()
-        .map(|member| member.tx())
-        .collect(alloc)?;
-    if members.is_empty() {
+fn put_members(pool: &Pool, out: &mut Out) {
+    if pool.members().is_empty() {
         return put(out, "nobody");
     }
-    put_list(alloc, out, members.as_slice(), " ")
+    let mut before = "";
+    for member in pool.members() {
+        put(out, before);
+        put_shown(out, &member.tx());
+        before = " ";
+    }
 }
 
-fn put_components(alloc: Global, pool: &Pool, out: &mut Vec<u8>) -> Result<()> {
+fn put_components(alloc: Global, pool: &Pool, out: &mut Out) -> Result<()> {
     let components = pool.components(alloc)?;
+    put_each_component(alloc, components.as_slice(), out);
+    Ok(())
+}
+
+fn put_each_component(alloc: Global, components: &[Vec<Tx>], out: &mut Out) {
     if components.is_empty() {
         return put(out, "none");
     }
     let mut before = "";
-    for component in components.as_slice() {
-        put(out, before)?;
-        put_list(alloc, out, component.as_slice(), " ")?;
+    for component in components {
+        put(out, before);
+        put_list(alloc, out, component.as_slice(), " ");
         before = "; ";
     }
-    Ok(())
 }

@@ -1,35 +1,60 @@
 //! Scripts as text: `== prints`, then an input a line. Its scripts are printed, and what is printed is read again.
 //! Copies of scripts: `== copies`, then an input a line.
-use crate::reply::{put, yes_or_no};
+use crate::reply::{Out, put, yes_or_no};
+use crate::statement::input_of;
 use crate::streams::put_taken;
 use crate::trees::put_input;
 use crate::words::unescaped;
 use anyhow::{Context, Result};
 use ent_print::print_script;
-use ent_sql::parse_input;
 use ent_tree::{Duplicate, Input, Same, Script};
 use std::alloc::Global;
 
-pub(crate) fn reply(alloc: Global, line: &str, out: &mut Vec<u8>) -> Result<()> {
+pub(crate) fn reply(alloc: Global, line: &str, out: &mut Out) -> Result<()> {
     let text = unescaped(alloc, line)?;
-    match parse_input(alloc, text.as_str()) {
-        Ok(input) => put_printed(alloc, text.as_str(), &input, out),
-        Err(_) => put(out, "no sentence"),
+    match input_of(alloc, text.as_str()) {
+        Some(input) => put_printed(alloc, text.as_str(), &input, out),
+        None => {
+            put(out, "no sentence");
+            Ok(())
+        }
     }
 }
 
 /// The printed scripts of an input, behind what is said of reading them after the same opening.
-fn put_printed(alloc: Global, text: &str, input: &Input, out: &mut Vec<u8>) -> Result<()> {
+fn put_printed(alloc: Global, text: &str, input: &Input, out: &mut Out) -> Result<()> {
     let printed = printed(alloc, input.scripts.as_slice())?;
+    put_again(alloc, text, printed.as_slice(), input, out)?;
+    put_taken(out, printed.as_slice());
+    Ok(())
+}
+
+/// Reads the printed scripts after the opening of a text, and says how they compare with those of its input.
+fn put_again(
+    alloc: Global,
+    text: &str,
+    printed: &[u8],
+    input: &Input,
+    out: &mut Out,
+) -> Result<()> {
+    let again = text_again(alloc, text, printed)?;
+    let read = input_of(alloc, again.as_str());
+    drop(again);
+    match read {
+        Some(read) => put_comparison(alloc, input, &read, out),
+        None => {
+            put(out, "no sentence: ");
+            Ok(())
+        }
+    }
+}
+
+/// Printed scripts after the opening of a text.
+fn text_again(alloc: Global, text: &str, printed: &[u8]) -> Result<String> {
     let mut again = Vec::new(alloc);
     again.extend_from_slice(opening_of(text).as_bytes())?;
-    again.extend_from_slice(printed.as_slice())?;
-    let again = String::from_utf8(again).context("the printed scripts aren't UTF-8")?;
-    match parse_input(alloc, again.as_str()) {
-        Ok(read) => put_comparison(alloc, input, &read, out)?,
-        Err(_) => put(out, "no sentence: ")?,
-    }
-    put_taken(out, printed.as_slice())
+    again.extend_from_slice(printed)?;
+    String::from_utf8(again).context("the printed scripts aren't UTF-8")
 }
 
 /// The text before the first script, whose words are in capitals.
@@ -49,7 +74,7 @@ fn printed(alloc: Global, scripts: &[Script]) -> Result<Vec<u8>> {
     Ok(text)
 }
 
-fn put_comparison(alloc: Global, one: &Input, other: &Input, out: &mut Vec<u8>) -> Result<()> {
+fn put_comparison(alloc: Global, one: &Input, other: &Input, out: &mut Out) -> Result<()> {
     let one = places_aside(alloc, one)?;
     let other = places_aside(alloc, other)?;
     put(
@@ -59,13 +84,15 @@ fn put_comparison(alloc: Global, one: &Input, other: &Input, out: &mut Vec<u8>) 
         } else {
             "another: "
         },
-    )
+    );
+    Ok(())
 }
 
 /// The tree of an input without the places, which are digits behind an `@`.
 fn places_aside(alloc: Global, input: &Input) -> Result<Vec<u8>> {
-    let mut shown = Vec::new(alloc);
-    put_input(alloc, input, &mut shown)?;
+    let mut shown = Out::new(alloc);
+    put_input(alloc, input, &mut shown);
+    let shown = shown.into_bytes()?;
     let mut kept = Vec::new(alloc);
     let mut is_place = false;
     for byte in shown.as_slice() {
@@ -78,25 +105,35 @@ fn places_aside(alloc: Global, input: &Input) -> Result<Vec<u8>> {
 }
 
 /// Replies to `== copies`.
-pub(crate) fn reply_to_copies(alloc: Global, line: &str, out: &mut Vec<u8>) -> Result<()> {
+pub(crate) fn reply_to_copies(alloc: Global, line: &str, out: &mut Out) -> Result<()> {
     let text = unescaped(alloc, line)?;
-    match parse_input(alloc, text.as_str()) {
-        Ok(input) => put_sameness(alloc, input.scripts.as_slice(), out),
-        Err(_) => put(out, "no sentence"),
+    let read = input_of(alloc, text.as_str());
+    drop(text);
+    match read {
+        Some(input) => put_sameness(alloc, input.scripts.as_slice(), out),
+        None => {
+            put(out, "no sentence");
+            Ok(())
+        }
     }
 }
 
 /// Whether a copy of the first script is the same as each script, places included.
-fn put_sameness(alloc: Global, scripts: &[Script], out: &mut Vec<u8>) -> Result<()> {
+fn put_sameness(alloc: Global, scripts: &[Script], out: &mut Out) -> Result<()> {
     let [first, ..] = scripts else {
-        return put(out, "no script");
+        put(out, "no script");
+        return Ok(());
     };
     let copy = first.copy(alloc)?;
+    put_each_sameness(&copy, scripts, out);
+    Ok(())
+}
+
+fn put_each_sameness(copy: &Script, scripts: &[Script], out: &mut Out) {
     let mut before = "";
     for script in scripts {
-        put(out, before)?;
-        put(out, yes_or_no(copy.is_same(script)))?;
+        put(out, before);
+        put(out, yes_or_no(copy.is_same(script)));
         before = " ";
     }
-    Ok(())
 }

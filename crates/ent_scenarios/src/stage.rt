@@ -4,6 +4,7 @@ use crate::book::Draft;
 use crate::groups::{reply_to_cycles, reply_to_groups, reply_to_members};
 use crate::lists::Lists;
 use crate::pool::Posted;
+use crate::reply::{Out, put};
 use crate::streams::Streams;
 use crate::undo::Tables;
 use crate::{book, counts, forms, locks, prints, streams, table, tokens, trees, undo, values};
@@ -61,9 +62,21 @@ fn set_stage(alloc: Global, name: &str) -> Result<Stage> {
     })
 }
 
-fn reply(alloc: Global, stage: &mut Stage, line: &str, out: &mut Vec<u8>) -> Result<()> {
+fn reply(alloc: Global, stage: &mut Stage, line: &str, out: &mut Out) -> Result<()> {
     let words: Vec<&str> = line.split(' ').collect(alloc)?;
-    let call = words.as_slice();
+    let replied = reply_to(alloc, stage, line, words.as_slice(), out);
+    drop(words);
+    replied
+}
+
+/// The reply to a line, and to the same line as the words of a call.
+fn reply_to(
+    alloc: Global,
+    stage: &mut Stage,
+    line: &str,
+    call: &[&str],
+    out: &mut Out,
+) -> Result<()> {
     match stage {
         Stage::Tokens => tokens::reply(alloc, line, out),
         Stage::Trees => trees::reply(alloc, line, out),
@@ -87,17 +100,17 @@ fn reply(alloc: Global, stage: &mut Stage, line: &str, out: &mut Vec<u8>) -> Res
 }
 
 /// Puts the reply to a line at the end, or begins what the line names.
-fn put_reply(alloc: Global, now: &mut Stage, line: &str, out: &mut Vec<u8>) -> Result<()> {
+fn put_reply(alloc: Global, now: &mut Stage, line: &str, out: &mut Out) -> Result<()> {
     let Some(name) = line.strip_prefix("== ") else {
         reply(alloc, now, line, out).context(format_args!("{line}"))?;
-        out.push(b'\n')?;
+        put(out, "\n");
         return Ok(());
     };
     drop(replace(now, set_stage(alloc, name)?));
     Ok(())
 }
 
-fn put_replies(alloc: Global, now: &mut Stage, text: &str, out: &mut Vec<u8>) -> Result<()> {
+fn put_replies(alloc: Global, now: &mut Stage, text: &str, out: &mut Out) -> Result<()> {
     for line in text.lines() {
         put_reply(alloc, now, line, out)?;
     }
@@ -106,10 +119,10 @@ fn put_replies(alloc: Global, now: &mut Stage, text: &str, out: &mut Vec<u8>) ->
 
 /// The replies to a scenario's calls, a line each.
 pub(crate) fn replies(alloc: Global, text: &str) -> Result<String> {
-    let mut out = Vec::new(alloc);
+    let mut out = Out::new(alloc);
     let mut now = Stage::Tokens;
     let played = put_replies(alloc, &mut now, text, &mut out);
     drop(now);
     played?;
-    String::from_utf8(out).context("the replies aren't UTF-8")
+    out.into_text()
 }

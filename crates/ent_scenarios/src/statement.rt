@@ -6,44 +6,52 @@ use ent_closing::{Environment, closed};
 use ent_form::{Catalogue, Plain, resolve};
 use ent_rel::Table;
 use ent_sql::parse_input;
-use ent_tree::Input;
+use ent_tree::{Input, Opening};
 use ent_value::Value;
 use std::alloc::Global;
 use std::sync::Arc;
 
-fn read(alloc: Global, text: &str) -> Result<Input> {
-    match parse_input(alloc, text) {
-        Ok(input) => Ok(input),
-        Err(_) => bail!("this is no sentence"),
-    }
+/// The input that a text is, where it is one.
+pub(crate) fn input_of(alloc: Global, text: &str) -> Option<Input> {
+    parse_input(alloc, text).ok()
 }
 
-fn catalogue_of(alloc: Global, input: &Input) -> Result<Catalogue> {
-    match Catalogue::of(alloc, &input.opening) {
-        Ok(catalogue) => Ok(catalogue),
-        Err(_) => bail!("these tables have a fault"),
-    }
+pub(crate) fn read_input(alloc: Global, text: &str) -> Result<Input> {
+    input_of(alloc, text).context("this is no input")
+}
+
+fn catalogue_of(alloc: Global, opening: &Opening) -> Result<Catalogue> {
+    Catalogue::of(alloc, opening)
+        .ok()
+        .context("these tables have a fault")
 }
 
 /// The tables that an opening declares, with its rows.
 pub(crate) fn opening_tables(alloc: Global, opening: &str) -> Result<Vec<Arc<Table>>> {
-    let input = read(alloc, opening)?;
-    let catalogue = catalogue_of(alloc, &input)?;
-    tables(alloc, &catalogue, &input.opening)
+    let input = read_input(alloc, opening)?;
+    let found = tables_of(alloc, &input.opening);
+    drop(input);
+    found
+}
+
+fn tables_of(alloc: Global, opening: &Opening) -> Result<Vec<Arc<Table>>> {
+    let catalogue = catalogue_of(alloc, opening)?;
+    let found = tables(alloc, &catalogue, opening);
+    drop(catalogue);
+    found
 }
 
 /// The first script of an input, resolved.
 fn first_form(alloc: Global, input: &Input) -> Result<Plain> {
-    let catalogue = catalogue_of(alloc, input)?;
     let script = input
         .scripts
         .as_slice()
         .first()
         .context("there is no script")?;
-    match resolve(alloc, &catalogue, script) {
-        Ok(plain) => Ok(plain),
-        Err(_) => bail!("this statement has a fault"),
-    }
+    let catalogue = catalogue_of(alloc, &input.opening)?;
+    let plain = resolve(alloc, &catalogue, script);
+    drop(catalogue);
+    plain.ok().context("this statement has a fault")
 }
 
 /// The first statement of a resolved script, closed without host variables.
@@ -53,7 +61,10 @@ fn first_closed(alloc: Global, plain: &Plain) -> Result<Statement<Value>> {
         .as_slice()
         .first()
         .context("there is no statement")?;
-    Ok(closed(alloc, first, &Environment::new(alloc))?)
+    let environment = Environment::new(alloc);
+    let statement = closed(alloc, first, &environment);
+    drop(environment);
+    Ok(statement?)
 }
 
 fn only_entangled(statement: Statement<Value>) -> Result<Entangled<Value>> {
@@ -69,7 +80,9 @@ fn only_entangled(statement: Statement<Value>) -> Result<Entangled<Value>> {
 /// An entangled statement over the tables of an opening. It stands alone in its script, and uses no host variable.
 pub(crate) fn entangled(alloc: Global, opening: &str, text: &str) -> Result<Entangled<Value>> {
     let whole = format!(in alloc; "{opening} BEGIN TRANSACTION; {text} COMMIT;")?;
-    let input = read(alloc, whole.as_str())?;
+    let input = read_input(alloc, whole.as_str());
+    drop(whole);
+    let input = input?;
     let plain = first_form(alloc, &input);
     drop(input);
     let plain = plain?;

@@ -1,5 +1,5 @@
 //! Readers and writers that move few bytes, or fail at a stated call: `== streams`.
-use crate::reply::{put, put_number, yes_or_no};
+use crate::reply::{Out, put, put_number, yes_or_no};
 use crate::words::{index, unescaped};
 use anyhow::{Context, Result, bail};
 use ent_value::Watched;
@@ -131,23 +131,24 @@ pub(crate) fn reply(
     alloc: Global,
     streams: &mut Streams,
     call: &[&str],
-    out: &mut Vec<u8>,
+    out: &mut Out,
 ) -> Result<()> {
     match call {
         ["reader", text, words @ ..] => {
             streams.reader = read_reader(alloc, text, words)?;
-            put_marks(&streams.reader, out)
+            put_marks(&streams.reader, out);
         }
         ["writer", words @ ..] => {
             streams.writer = Watched::new(SlowWriter::new(alloc, read_manner(words)?));
-            put_marks(&streams.writer, out)
+            put_marks(&streams.writer, out);
         }
-        ["read", most] => put_read(alloc, &mut streams.reader, index(most)?, out),
-        ["write", text] => put_written(alloc, &mut streams.writer, text, out),
+        ["read", most] => put_read(alloc, &mut streams.reader, index(most)?, out)?,
+        ["write", text] => put_written(alloc, &mut streams.writer, text, out)?,
         ["flush"] => put_flushed(&mut streams.writer, out),
         ["taken"] => put_taken(out, streams.writer.get().taken()),
         _ => bail!("streams know no such call"),
     }
+    Ok(())
 }
 
 fn read_reader(alloc: Global, text: &str, words: &[&str]) -> Result<Watched<SlowReader>> {
@@ -159,58 +160,59 @@ fn put_read(
     alloc: Global,
     reader: &mut Watched<SlowReader>,
     most: usize,
-    out: &mut Vec<u8>,
+    out: &mut Out,
 ) -> Result<()> {
     let mut buffer = vec![in alloc; 0; most]?;
     let read = reader.read(buffer.as_mut_slice()).ok();
-    put_moved(out, read)?;
-    put_marks(reader, out)
+    put_moved(out, read);
+    put_marks(reader, out);
+    Ok(())
 }
 
 fn put_written(
     alloc: Global,
     writer: &mut Watched<SlowWriter>,
     text: &str,
-    out: &mut Vec<u8>,
+    out: &mut Out,
 ) -> Result<()> {
     let text = unescaped(alloc, text)?;
     let written = writer.write(text.as_bytes()).ok();
-    put_moved(out, written)?;
-    put_marks(writer, out)
+    put_moved(out, written);
+    put_marks(writer, out);
+    Ok(())
 }
 
-fn put_flushed(writer: &mut Watched<SlowWriter>, out: &mut Vec<u8>) -> Result<()> {
+fn put_flushed(writer: &mut Watched<SlowWriter>, out: &mut Out) {
     let moved = match writer.flush() {
         Ok(()) => Some(0),
         Err(_) => None,
     };
-    put_moved(out, moved)?;
-    put_marks(writer, out)
+    put_moved(out, moved);
+    put_marks(writer, out);
 }
 
-fn put_moved(out: &mut Vec<u8>, moved: Option<usize>) -> Result<()> {
+fn put_moved(out: &mut Out, moved: Option<usize>) {
     match moved {
-        Some(count) => put_number(out, count)?,
-        None => put(out, "failed")?,
+        Some(count) => put_number(out, count),
+        None => put(out, "failed"),
     }
-    put(out, ", ")
+    put(out, ", ");
 }
 
-pub(crate) fn put_marks<T>(watched: &Watched<T>, out: &mut Vec<u8>) -> Result<()> {
-    put(out, "failed ")?;
-    put(out, yes_or_no(watched.has_failed()))?;
-    put(out, ", stalled ")?;
-    put(out, yes_or_no(watched.has_stalled()))
+pub(crate) fn put_marks<T>(watched: &Watched<T>, out: &mut Out) {
+    put(out, "failed ");
+    put(out, yes_or_no(watched.has_failed()));
+    put(out, ", stalled ");
+    put(out, yes_or_no(watched.has_stalled()));
 }
 
 /// What was taken, with `\n` for the end of a line.
-pub(crate) fn put_taken(out: &mut Vec<u8>, taken: &[u8]) -> Result<()> {
+pub(crate) fn put_taken(out: &mut Out, taken: &[u8]) {
     for byte in taken {
         if *byte == b'\n' {
-            put(out, "\\n")?;
+            put(out, "\\n");
         } else {
-            out.push(*byte)?;
+            out.put_bytes(&[*byte]);
         }
     }
-    Ok(())
 }

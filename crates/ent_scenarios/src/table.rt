@@ -2,21 +2,20 @@
 ghost use Rattle.std.specs.Prelude.{◌≡◌, All, IfOk};
 ghost use Rattle.ent_value.specs.Value.{kinds_of};
 
-use crate::reply::{Show, put, put_list, put_number, yes_or_no};
+use crate::reply::{Out, Show, put, put_list, put_number, put_shown, yes_or_no};
 use crate::words::{index, kinds, row_of, rows_of};
 use anyhow::{Context, Result, bail};
 use ent_rel::{Delta, Table, TableFull};
 use ent_value::{Kind, Refusal, Row, Sequence, Value};
 use std::alloc::Global;
+use std::sync::Arc;
 
-pub(crate) fn reply(
-    alloc: Global,
-    table: &mut Table,
-    call: &[&str],
-    out: &mut Vec<u8>,
-) -> Result<()> {
+pub(crate) fn reply(alloc: Global, table: &mut Table, call: &[&str], out: &mut Out) -> Result<()> {
     match call {
-        ["new", word] => put_in_place(table, Table::new(alloc, kinds(alloc, word)?), out),
+        ["new", word] => {
+            put_in_place(table, Table::new(alloc, kinds(alloc, word)?), out);
+            Ok(())
+        }
         ["load", word, rows @ ..] => load(alloc, table, word, rows, out),
         ["fill", from, to] => fill(alloc, table, index(from)?, index(to)?, out),
         ["copy"] => copy(alloc, table, out),
@@ -29,58 +28,62 @@ pub(crate) fn reply(
 }
 
 /// The reply to a call that changes nothing.
-fn reply_of(alloc: Global, table: &Table, call: &[&str], out: &mut Vec<u8>) -> Result<()> {
+fn reply_of(alloc: Global, table: &Table, call: &[&str], out: &mut Out) -> Result<()> {
     match call {
-        ["rows"] => put_rows(alloc, table, out),
+        ["rows"] => put_rows(alloc, table, out)?,
         ["is_empty"] => put(out, yes_or_no(table.is_empty())),
-        ["contains", word] => put_contains(alloc, table, word, out),
+        ["contains", word] => put_contains(alloc, table, word, out)?,
         ["kinds"] => put_list(alloc, out, table.kinds(), " "),
-        ["is_table_of", rows @ ..] => put_is_table_of(alloc, table, rows, out),
+        ["is_table_of", rows @ ..] => put_is_table_of(alloc, table, rows, out)?,
         _ => bail!("tables know no such call"),
     }
+    Ok(())
 }
 
-fn put_rows(alloc: Global, table: &Table, out: &mut Vec<u8>) -> Result<()> {
-    put_list(alloc, out, table.rows(alloc)?.as_slice(), " ")
+fn put_rows(alloc: Global, table: &Table, out: &mut Out) -> Result<()> {
+    let rows = table.rows(alloc)?;
+    put_list(alloc, out, rows.as_slice(), " ");
+    Ok(())
 }
 
-fn put_contains(alloc: Global, table: &Table, word: &str, out: &mut Vec<u8>) -> Result<()> {
+fn put_contains(alloc: Global, table: &Table, word: &str, out: &mut Out) -> Result<()> {
     let row = row_of(alloc, word, table.kinds())?;
-    put(out, yes_or_no(table.contains(&row)))
+    let is_there = table.contains(&row);
+    drop(row);
+    put(out, yes_or_no(is_there));
+    Ok(())
 }
 
 /// Replies whether these are the table's rows.
-fn put_is_table_of(alloc: Global, table: &Table, rows: &[&str], out: &mut Vec<u8>) -> Result<()> {
+fn put_is_table_of(alloc: Global, table: &Table, rows: &[&str], out: &mut Out) -> Result<()> {
     let kinds = Vec::from_slice(alloc, table.kinds())?;
     let rows = rows_of(alloc, rows, kinds.as_slice())?;
-    let other = Table::load(alloc, kinds, rows).ok().context("no table")?;
-    put(out, yes_or_no(table.is_same(&other)))
+    let other = loaded(alloc, kinds, rows).ok().context("no table")?;
+    let is_same = table.is_same(&other);
+    drop(other);
+    put(out, yes_or_no(is_same));
+    Ok(())
 }
 
 /// Puts a table in another's place, and replies how many rows it has.
-fn put_in_place(table: &mut Table, other: Table, out: &mut Vec<u8>) -> Result<()> {
+fn put_in_place(table: &mut Table, other: Table, out: &mut Out) {
     *table = other;
-    put_number(out, table.len())
+    put_number(out, table.len());
 }
 
-fn copy(alloc: Global, table: &mut Table, out: &mut Vec<u8>) -> Result<()> {
+fn copy(alloc: Global, table: &mut Table, out: &mut Out) -> Result<()> {
     let copy = table.copy(alloc)?;
-    put_in_place(table, copy, out)
+    put_in_place(table, copy, out);
+    Ok(())
 }
 
-fn load(
-    alloc: Global,
-    table: &mut Table,
-    word: &str,
-    rows: &[&str],
-    out: &mut Vec<u8>,
-) -> Result<()> {
+fn load(alloc: Global, table: &mut Table, word: &str, rows: &[&str], out: &mut Out) -> Result<()> {
     let kinds = kinds(alloc, word)?;
     let rows = rows_of(alloc, rows, kinds.as_slice())?;
     put_changed(table, loaded(alloc, kinds, rows), out)
 }
 
-fn fill(alloc: Global, table: &mut Table, from: usize, to: usize, out: &mut Vec<u8>) -> Result<()> {
+fn fill(alloc: Global, table: &mut Table, from: usize, to: usize, out: &mut Out) -> Result<()> {
     put_changed(table, filled(alloc, from, to)?, out)
 }
 
@@ -88,13 +91,14 @@ fn fill(alloc: Global, table: &mut Table, from: usize, to: usize, out: &mut Vec<
 fn put_changed(
     table: &mut Table,
     changed: Result<Table, Refusal<TableFull>>,
-    out: &mut Vec<u8>,
+    out: &mut Out,
 ) -> Result<()> {
     match changed {
         Ok(changed) => put_in_place(table, changed, out),
         Err(Refusal::Fault(TableFull)) => put(out, "full"),
         Err(Refusal::Memory) => bail!("memory ran out"),
     }
+    Ok(())
 }
 
 /// Loads a table of the numbers from one up to another.
@@ -115,13 +119,23 @@ fn loaded(alloc: Global, kinds: Vec<Kind>, rows: Vec<Row>) -> Result<Table, Refu
     }
 }
 
+/// The table of some rows, as it is shared.
+pub(crate) fn shared_table(alloc: Global, kinds: Vec<Kind>, rows: Vec<Row>) -> Result<Arc<Table>>
+    requires { All (λ row. kinds_of row ≡ kinds.items) rows.items }
+{
+    let table = loaded(alloc, kinds, rows).ok().context("no table")?;
+    Ok(Arc::new(alloc, table)?)
+}
+
 fn number_rows(alloc: Global, from: usize, to: usize, kinds: &[Kind]) -> Result<Vec<Row>>
     ensures { IfOk result (λ rows. All (λ row. kinds_of row ≡ kinds.now) rows.items) }
 {
     let mut rows = Vec::new(alloc);
     for number in from..to {
         let text = format!(in alloc; "({number})")?;
-        rows.push(row_of(alloc, text.as_str(), kinds)?)?;
+        let row = row_of(alloc, text.as_str(), kinds);
+        drop(text);
+        rows.push(row?)?;
     }
     Ok(rows)
 }
@@ -140,42 +154,40 @@ fn put_count(
     table: &mut Table,
     count: u64,
     delta: &Delta,
-    out: &mut Vec<u8>,
+    out: &mut Out,
 ) -> Result<()>
     requires { All (λ row. kinds_of row ≡ table.old.kinds) delta.now.added }
 {
+    put(out, "count ");
+    put_shown(out, &count);
+    put(out, ", rows ");
     let copy = delta.copy(alloc)?;
     let changed = table.apply(alloc, &copy);
-    put(out, "count ")?;
-    put_list(alloc, out, &[count], "")?;
-    put(out, ", rows ")?;
+    drop(copy);
     put_changed(table, changed, out)
 }
 
-fn insert(alloc: Global, table: &mut Table, word: &str, out: &mut Vec<u8>) -> Result<()> {
+fn insert(alloc: Global, table: &mut Table, word: &str, out: &mut Out) -> Result<()> {
     let row = row_of(alloc, word, table.kinds())?;
-    match table.insert(alloc, &row) {
-        Ok((count, delta)) => put_count(alloc, table, count, &delta, out),
+    let inserted = table.insert(alloc, &row);
+    drop(row);
+    match inserted {
+        Ok((count, delta)) => put_count(alloc, table, count, &delta, out)?,
         Err(Refusal::Fault(TableFull)) => put(out, "full"),
         Err(Refusal::Memory) => bail!("memory ran out"),
     }
+    Ok(())
 }
 
 /// Deletes the rows that begin with a number above one.
-fn delete(alloc: Global, table: &mut Table, least: &str, out: &mut Vec<u8>) -> Result<()> {
+fn delete(alloc: Global, table: &mut Table, least: &str, out: &mut Out) -> Result<()> {
     let least = least.parse::<i64>().context("this is no number")?;
     let (count, delta) = table.delete_rows(alloc, |row| number_of(row) > least)?;
     put_count(alloc, table, count, &delta, out)
 }
 
 /// Replaces the rows that begin with a number above one, each by one row; or by none, for the word `fault`.
-fn replace(
-    alloc: Global,
-    table: &mut Table,
-    least: &str,
-    word: &str,
-    out: &mut Vec<u8>,
-) -> Result<()> {
+fn replace(alloc: Global, table: &mut Table, least: &str, word: &str, out: &mut Out) -> Result<()> {
     let least = least.parse::<i64>().context("this is no number")?;
     if word == "fault" {
         return put_fault_of_change(alloc, table, least, out);
@@ -186,11 +198,13 @@ fn replace(
         |row| number_of(row) > least,
         |_| copied(alloc, &image),
     );
+    drop(image);
     match replaced {
-        Ok((count, delta)) => put_count(alloc, table, count, &delta, out),
+        Ok((count, delta)) => put_count(alloc, table, count, &delta, out)?,
         Err(Refusal::Fault(number)) => put_fault(alloc, number, out),
         Err(Refusal::Memory) => bail!("memory ran out"),
     }
+    Ok(())
 }
 
 /// An image of a row, which has no fault.
@@ -201,21 +215,25 @@ fn copied(alloc: Global, image: &Row) -> Result<Row, Refusal<i64>>
 }
 
 /// Replies the fault of a change that finds no image for a row: that row's number.
-fn put_fault_of_change(alloc: Global, table: &Table, least: i64, out: &mut Vec<u8>) -> Result<()> {
+fn put_fault_of_change(alloc: Global, table: &Table, least: i64, out: &mut Out) -> Result<()> {
     let replaced = table.replace(
         alloc,
         |row| number_of(row) > least,
         |row| Err(Refusal::Fault(number_of(row))),
     );
     match replaced {
-        Ok((count, _)) => put_list(alloc, out, &[count], ""),
+        Ok((count, delta)) => {
+            drop(delta);
+            put_shown(out, &count);
+        }
         Err(Refusal::Fault(number)) => put_fault(alloc, number, out),
         Err(Refusal::Memory) => bail!("memory ran out"),
     }
+    Ok(())
 }
 
-fn put_fault(alloc: Global, number: i64, out: &mut Vec<u8>) -> Result<()> {
-    put(out, "fault of ")?;
+fn put_fault(alloc: Global, number: i64, out: &mut Out) {
+    put(out, "fault of ");
     Value::Int(number).show(alloc, out)
 }
 
@@ -225,13 +243,14 @@ fn change(
     table: &mut Table,
     removed: &str,
     added: &str,
-    out: &mut Vec<u8>,
+    out: &mut Out,
 ) -> Result<()> {
     let delta = Delta {
         removed: Sequence::from_vec(listed(alloc, removed, table.kinds())?),
         added: Sequence::from_vec(listed(alloc, added, table.kinds())?),
     };
     let changed = table.apply(alloc, &delta);
+    drop(delta);
     put_changed(table, changed, out)
 }
 

@@ -1,94 +1,101 @@
 //! The tree of an input: `== trees`, then an input a line. A name or a value is shown with its place behind an `@`, a
 //! host variable with a `:` before its name.
-use crate::reply::{Show, put, put_list, put_number};
+use crate::reply::{Out, Show, put, put_debugged, put_fault, put_list, put_number, put_shown};
 use crate::values::put_kind;
 use crate::words::unescaped;
 use anyhow::Result;
-use ent_sql::parse_input;
+use ent_sql::{SqlFault, parse_input};
 use ent_tree::{
     Assignment, Column, ColumnReference, Create, End, Expression, Identifier, Input, Items,
     Literal, OpeningRow, Operand, Script, Select, Source, Statement, Test, ValueSpecification,
 };
 use ent_value::Refusal;
 use std::alloc::Global;
-use std::io::Write;
 
-pub(crate) fn reply(alloc: Global, line: &str, out: &mut Vec<u8>) -> Result<()> {
+pub(crate) fn reply(alloc: Global, line: &str, out: &mut Out) -> Result<()> {
     let text = unescaped(alloc, line)?;
-    match parse_input(alloc, text.as_str()) {
-        Ok(input) => put_input(alloc, &input, out)?,
-        Err(Refusal::Fault(fault)) => write!(out, "E{} at {}", fault.code(), fault.place())?,
-        Err(Refusal::Memory) => put(out, "E900")?,
+    let read = parse_input(alloc, text.as_str());
+    drop(text);
+    match read {
+        Ok(input) => put_input(alloc, &input, out),
+        Err(refusal) => put_refusal(&refusal, out),
     }
     Ok(())
 }
 
-pub(crate) fn put_input(alloc: Global, input: &Input, out: &mut Vec<u8>) -> Result<()> {
-    put(out, "input;")?;
-    put_list(alloc, out, input.opening.tables.as_slice(), "")?;
-    put_list(alloc, out, input.opening.rows.as_slice(), "")?;
-    put_list(alloc, out, input.scripts.as_slice(), "")
-}
-
-impl Show for Identifier {
-    fn show(&self, alloc: Global, out: &mut Vec<u8>) -> Result<()> {
-        self.name.show(alloc, out)?;
-        put_place(out, self.place)
+pub(crate) fn put_refusal(refusal: &Refusal<SqlFault>, out: &mut Out) {
+    match refusal {
+        Refusal::Fault(fault) => put_fault(out, fault.code(), fault.place()),
+        Refusal::Memory => put(out, "E900"),
     }
 }
 
-pub(crate) fn put_place(out: &mut Vec<u8>, place: usize) -> Result<()> {
-    put(out, "@")?;
-    put_number(out, place)
+pub(crate) fn put_input(alloc: Global, input: &Input, out: &mut Out) {
+    put(out, "input;");
+    put_list(alloc, out, input.opening.tables.as_slice(), "");
+    put_list(alloc, out, input.opening.rows.as_slice(), "");
+    put_list(alloc, out, input.scripts.as_slice(), "");
+}
+
+impl Show for Identifier {
+    fn show(&self, alloc: Global, out: &mut Out) {
+        self.name.show(alloc, out);
+        put_place(out, self.place);
+    }
+}
+
+pub(crate) fn put_place(out: &mut Out, place: usize) {
+    put(out, "@");
+    put_number(out, place);
 }
 
 impl Show for Literal {
-    fn show(&self, alloc: Global, out: &mut Vec<u8>) -> Result<()> {
-        self.value.show(alloc, out)?;
-        put_place(out, self.place)
+    fn show(&self, alloc: Global, out: &mut Out) {
+        self.value.show(alloc, out);
+        put_place(out, self.place);
     }
 }
 
 impl Show for Column {
-    fn show(&self, alloc: Global, out: &mut Vec<u8>) -> Result<()> {
-        self.name.show(alloc, out)?;
-        put(out, " ")?;
-        put_kind(out, self.kind)
+    fn show(&self, alloc: Global, out: &mut Out) {
+        self.name.show(alloc, out);
+        put(out, " ");
+        put_kind(out, self.kind);
     }
 }
 
 impl Show for Create {
-    fn show(&self, alloc: Global, out: &mut Vec<u8>) -> Result<()> {
-        put(out, " create ")?;
-        self.name.show(alloc, out)?;
-        put(out, " (")?;
-        put_list(alloc, out, self.columns.as_slice(), ", ")?;
-        put(out, ");")
+    fn show(&self, alloc: Global, out: &mut Out) {
+        put(out, " create ");
+        self.name.show(alloc, out);
+        put(out, " (");
+        put_list(alloc, out, self.columns.as_slice(), ", ");
+        put(out, ");");
     }
 }
 
 impl Show for OpeningRow {
-    fn show(&self, alloc: Global, out: &mut Vec<u8>) -> Result<()> {
-        put(out, " row ")?;
-        self.table.show(alloc, out)?;
-        put_values(alloc, out, self.place, self.values.as_slice())
+    fn show(&self, alloc: Global, out: &mut Out) {
+        put(out, " row ");
+        self.table.show(alloc, out);
+        put_values(alloc, out, self.place, self.values.as_slice());
     }
 }
 
-fn put_values<T: Show>(alloc: Global, out: &mut Vec<u8>, place: usize, values: &[T]) -> Result<()> {
-    put(out, " (")?;
-    put_place(out, place)?;
-    put(out, " ")?;
-    put_list(alloc, out, values, ", ")?;
-    put(out, ");")
+fn put_values<T: Show>(alloc: Global, out: &mut Out, place: usize, values: &[T]) {
+    put(out, " (");
+    put_place(out, place);
+    put(out, " ");
+    put_list(alloc, out, values, ", ");
+    put(out, ");");
 }
 
 impl Show for ValueSpecification {
-    fn show(&self, alloc: Global, out: &mut Vec<u8>) -> Result<()> {
+    fn show(&self, alloc: Global, out: &mut Out) {
         match self {
             ValueSpecification::Literal(literal) => literal.show(alloc, out),
             ValueSpecification::HostVariable(variable) => {
-                put(out, ":")?;
+                put(out, ":");
                 variable.show(alloc, out)
             }
         }
@@ -96,17 +103,17 @@ impl Show for ValueSpecification {
 }
 
 impl Show for ColumnReference {
-    fn show(&self, alloc: Global, out: &mut Vec<u8>) -> Result<()> {
+    fn show(&self, alloc: Global, out: &mut Out) {
         if let Some(qualifier) = &self.qualifier {
-            qualifier.get().show(alloc, out)?;
-            put(out, ".")?;
+            qualifier.get().show(alloc, out);
+            put(out, ".");
         }
-        self.column.show(alloc, out)
+        self.column.show(alloc, out);
     }
 }
 
 impl Show for Operand {
-    fn show(&self, alloc: Global, out: &mut Vec<u8>) -> Result<()> {
+    fn show(&self, alloc: Global, out: &mut Out) {
         match self {
             Operand::Value(value) => value.show(alloc, out),
             Operand::Column(column) => column.show(alloc, out),
@@ -115,7 +122,7 @@ impl Show for Operand {
 }
 
 impl<T: Show> Show for Expression<T> {
-    fn show(&self, alloc: Global, out: &mut Vec<u8>) -> Result<()> {
+    fn show(&self, alloc: Global, out: &mut Out) {
         match self {
             Expression::Single(term) => term.show(alloc, out),
             Expression::Sum(left, right) => put_list(alloc, out, &[left, right.get()], " + "),
@@ -130,85 +137,86 @@ impl<T: Show> Show for Expression<T> {
 }
 
 impl<T: Show> Show for Test<T> {
-    fn show(&self, alloc: Global, out: &mut Vec<u8>) -> Result<()> {
-        self.left.show(alloc, out)?;
-        write!(out, " {:?} ", self.comparison)?;
-        self.right.show(alloc, out)
+    fn show(&self, alloc: Global, out: &mut Out) {
+        self.left.show(alloc, out);
+        put(out, " ");
+        put_debugged(out, &self.comparison);
+        put(out, " ");
+        self.right.show(alloc, out);
     }
 }
 
 impl Show for Assignment {
-    fn show(&self, alloc: Global, out: &mut Vec<u8>) -> Result<()> {
-        self.column.show(alloc, out)?;
-        put(out, " = ")?;
-        self.expression.show(alloc, out)
+    fn show(&self, alloc: Global, out: &mut Out) {
+        self.column.show(alloc, out);
+        put(out, " = ");
+        self.expression.show(alloc, out);
     }
 }
 
 /// The conditions of a statement.
-pub(crate) fn put_where<T: Show>(alloc: Global, out: &mut Vec<u8>, tests: &[T]) -> Result<()> {
+pub(crate) fn put_where<T: Show>(alloc: Global, out: &mut Out, tests: &[T]) {
     if tests.is_empty() {
-        return Ok(());
+        return;
     }
-    put(out, " where ")?;
-    put_list(alloc, out, tests, ", ")
+    put(out, " where ");
+    put_list(alloc, out, tests, ", ");
 }
 
 /// The conditions of a statement, and its end.
-pub(crate) fn put_tests<T: Show>(alloc: Global, out: &mut Vec<u8>, tests: &[T]) -> Result<()> {
-    put_where(alloc, out, tests)?;
-    put(out, ";")
+pub(crate) fn put_tests<T: Show>(alloc: Global, out: &mut Out, tests: &[T]) {
+    put_where(alloc, out, tests);
+    put(out, ";");
 }
 
 impl Show for Source {
-    fn show(&self, alloc: Global, out: &mut Vec<u8>) -> Result<()> {
-        self.table.show(alloc, out)?;
+    fn show(&self, alloc: Global, out: &mut Out) {
+        self.table.show(alloc, out);
         if let Some(alias) = &self.alias {
-            put(out, " as ")?;
-            alias.get().show(alloc, out)?;
+            put(out, " as ");
+            alias.get().show(alloc, out);
         }
-        Ok(())
     }
 }
 
 impl Show for Select {
-    fn show(&self, alloc: Global, out: &mut Vec<u8>) -> Result<()> {
-        put(out, "select ")?;
+    fn show(&self, alloc: Global, out: &mut Out) {
+        put(out, "select ");
         match &self.items {
-            Items::All => put(out, "*")?,
-            Items::Listed(items) => put_list(alloc, out, items.as_slice(), ", ")?,
+            Items::All => put(out, "*"),
+            Items::Listed(items) => put_list(alloc, out, items.as_slice(), ", "),
         }
-        put(out, " from ")?;
-        put_list(alloc, out, self.sources.as_slice(), ", ")?;
-        put_where(alloc, out, self.tests.as_slice())
+        put(out, " from ");
+        put_list(alloc, out, self.sources.as_slice(), ", ");
+        put_where(alloc, out, self.tests.as_slice());
     }
 }
 
 impl Show for Statement {
-    fn show(&self, alloc: Global, out: &mut Vec<u8>) -> Result<()> {
+    fn show(&self, alloc: Global, out: &mut Out) {
         match self {
             Statement::Insert(insert) => {
-                put(out, " insert ")?;
-                insert.table.show(alloc, out)?;
+                put(out, " insert ");
+                insert.table.show(alloc, out);
                 put_values(alloc, out, insert.place, insert.values.as_slice())
             }
             Statement::Delete(delete) => {
-                put(out, " delete ")?;
-                delete.table.show(alloc, out)?;
+                put(out, " delete ");
+                delete.table.show(alloc, out);
                 put_tests(alloc, out, delete.tests.as_slice())
             }
             Statement::Update(update) => {
-                put(out, " update ")?;
-                update.table.show(alloc, out)?;
-                put(out, " set ")?;
-                put_list(alloc, out, update.assignments.as_slice(), ", ")?;
+                put(out, " update ");
+                update.table.show(alloc, out);
+                put(out, " set ");
+                put_list(alloc, out, update.assignments.as_slice(), ", ");
                 put_tests(alloc, out, update.tests.as_slice())
             }
             Statement::Set(set) => {
-                put(out, " set :")?;
-                set.variable.show(alloc, out)?;
-                put(out, " = ")?;
-                set.expression.show(alloc, out)?;
+                put(out, " set :");
+                set.variable.show(alloc, out);
+                put(out, " = ");
+                set.expression.show(alloc, out);
                 put(out, ";")
             }
             Statement::Select(select) => put_statement(alloc, out, select),
@@ -217,13 +225,13 @@ impl Show for Statement {
     }
 }
 
-fn put_statement<T: Show>(alloc: Global, out: &mut Vec<u8>, statement: &T) -> Result<()> {
-    put(out, " ")?;
-    statement.show(alloc, out)?;
-    put(out, ";")
+fn put_statement<T: Show>(alloc: Global, out: &mut Out, statement: &T) {
+    put(out, " ");
+    statement.show(alloc, out);
+    put(out, ";");
 }
 
-pub(crate) fn put_end(out: &mut Vec<u8>, end: End) -> Result<()> {
+pub(crate) fn put_end(out: &mut Out, end: End) {
     put(
         out,
         match end {
@@ -234,11 +242,13 @@ pub(crate) fn put_end(out: &mut Vec<u8>, end: End) -> Result<()> {
 }
 
 impl Show for Script {
-    fn show(&self, alloc: Global, out: &mut Vec<u8>) -> Result<()> {
-        write!(out, " begin within {};", self.within.get())?;
+    fn show(&self, alloc: Global, out: &mut Out) {
+        put(out, " begin within ");
+        put_shown(out, &self.within.get());
+        put(out, ";");
         for statement in self.statements.as_slice() {
-            statement.show(alloc, out)?;
+            statement.show(alloc, out);
         }
-        put_end(out, self.end)
+        put_end(out, self.end);
     }
 }

@@ -1,10 +1,11 @@
 //! Tables of numbers and the undo log of their changes: `== undo`.
-use crate::reply::{put, put_number};
+use crate::reply::{Out, Show, put, put_number};
+use crate::table::shared_table;
 use crate::words::{index, number, numbers, rows_of};
-use anyhow::{Context, Result, bail};
+use anyhow::{Result, bail};
 use ent_rel::Table;
 use ent_undo::{UndoLog, log_tells_of_writes};
-use ent_value::{Kind, print_row};
+use ent_value::{Kind, Row};
 use std::alloc::Global;
 use std::mem;
 use std::sync::Arc;
@@ -30,18 +31,18 @@ fn table_of(alloc: Global, words: &[&str]) -> Result<Arc<Table>> {
     let mut kinds = Vec::new(alloc);
     kinds.push(Kind::Int)?;
     let rows = rows_of(alloc, words, kinds.as_slice())?;
-    let table = Table::load(alloc, kinds, rows).ok().context("no table")?;
-    Ok(Arc::new(alloc, table)?)
+    shared_table(alloc, kinds, rows)
 }
 
 pub(crate) fn reply(
     alloc: Global,
     tables: &mut Tables,
     call: &[&str],
-    out: &mut Vec<u8>,
+    out: &mut Out,
 ) -> Result<()> {
     carry_out(alloc, tables, call)?;
-    put_tables(alloc, tables.tables.as_slice(), out)
+    put_tables(alloc, tables.tables.as_slice(), out);
+    Ok(())
 }
 
 fn carry_out(alloc: Global, tables: &mut Tables, call: &[&str]) -> Result<()> {
@@ -67,6 +68,7 @@ fn roll_back(alloc: Global, tables: &mut Tables, members: &[&str]) -> Result<()>
     let members = numbers(alloc, members)?;
     let Tables { tables, log } = tables;
     log.roll_back(members.as_slice(), tables.as_mut_slice());
+    drop(members);
     Ok(())
 }
 
@@ -78,6 +80,7 @@ fn take_back(tables: &mut Tables) {
 fn forget(alloc: Global, log: &mut UndoLog, members: &[&str]) -> Result<()> {
     let members = numbers(alloc, members)?;
     log.forget(members.as_slice());
+    drop(members);
     Ok(())
 }
 
@@ -93,17 +96,27 @@ fn write(alloc: Global, tables: &mut Tables, tx: u64, at: usize, rows: &[&str]) 
 }
 
 /// Each table by its index, with its rows.
-fn put_tables(alloc: Global, tables: &[Arc<Table>], out: &mut Vec<u8>) -> Result<()> {
+fn put_tables(alloc: Global, tables: &[Arc<Table>], out: &mut Out) {
     let mut before = "";
     for (at, table) in tables.iter().enumerate() {
-        put(out, before)?;
-        put_number(out, at)?;
-        put(out, ":")?;
-        for row in table.rows(alloc)?.as_slice() {
-            put(out, " ")?;
-            print_row(alloc, out, row)?;
-        }
+        put(out, before);
+        put_number(out, at);
+        put(out, ":");
+        put_rows(alloc, table, out);
         before = "; ";
     }
-    Ok(())
+}
+
+fn put_rows(alloc: Global, table: &Table, out: &mut Out) {
+    match table.rows(alloc) {
+        Ok(rows) => put_each(alloc, rows.as_slice(), out),
+        Err(_) => out.stop(),
+    }
+}
+
+fn put_each(alloc: Global, rows: &[Row], out: &mut Out) {
+    for row in rows {
+        put(out, " ");
+        row.show(alloc, out);
+    }
 }

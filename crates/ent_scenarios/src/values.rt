@@ -1,12 +1,12 @@
 //! Values, rows and names: `== values`.
-use crate::reply::{Show, put, put_list, put_number, yes_or_no};
+use crate::reply::{Out, Show, put, put_list, put_number, yes_or_no};
 use crate::words::{name, row, unescaped, value};
 use anyhow::{Result, bail};
 use ent_value::{Kind, Row, is_word};
 use std::alloc::Global;
 use std::cmp::Ordering;
 
-pub(crate) fn reply(alloc: Global, call: &[&str], out: &mut Vec<u8>) -> Result<()> {
+pub(crate) fn reply(alloc: Global, call: &[&str], out: &mut Out) -> Result<()> {
     match call {
         ["print", word] => put_value(alloc, out, word),
         ["print_rows", words @ ..] => put_rows(alloc, out, words),
@@ -18,7 +18,7 @@ pub(crate) fn reply(alloc: Global, call: &[&str], out: &mut Vec<u8>) -> Result<(
     }
 }
 
-fn reply_of_names(alloc: Global, call: &[&str], out: &mut Vec<u8>) -> Result<()> {
+fn reply_of_names(alloc: Global, call: &[&str], out: &mut Out) -> Result<()> {
     match call {
         ["copy_name", word] => put_copied_name(alloc, out, word),
         ["compare_names", left, right] => put_comparison(alloc, out, left, right),
@@ -27,43 +27,50 @@ fn reply_of_names(alloc: Global, call: &[&str], out: &mut Vec<u8>) -> Result<()>
     }
 }
 
-fn put_value(alloc: Global, out: &mut Vec<u8>, word: &str) -> Result<()> {
+fn put_value(alloc: Global, out: &mut Out, word: &str) -> Result<()> {
     let value = value(alloc, word)?;
-    value.show(alloc, out)
+    value.show(alloc, out);
+    Ok(())
 }
 
-fn put_kind_of(alloc: Global, out: &mut Vec<u8>, word: &str) -> Result<()> {
+fn put_kind_of(alloc: Global, out: &mut Out, word: &str) -> Result<()> {
     let value = value(alloc, word)?;
-    put_kind(out, value.kind())
+    put_kind(out, value.kind());
+    Ok(())
 }
 
-fn put_copy(alloc: Global, out: &mut Vec<u8>, word: &str) -> Result<()> {
+fn put_copy(alloc: Global, out: &mut Out, word: &str) -> Result<()> {
     let value = value(alloc, word)?;
     let copy = value.copy(alloc)?;
-    copy.show(alloc, out)
+    copy.show(alloc, out);
+    Ok(())
 }
 
-fn put_copied_row(alloc: Global, out: &mut Vec<u8>, word: &str) -> Result<()> {
+fn put_copied_row(alloc: Global, out: &mut Out, word: &str) -> Result<()> {
     let row = row(alloc, word)?;
     let copy = row.copy(alloc)?;
-    copy.show(alloc, out)
+    copy.show(alloc, out);
+    Ok(())
 }
 
-fn put_copied_name(alloc: Global, out: &mut Vec<u8>, word: &str) -> Result<()> {
+fn put_copied_name(alloc: Global, out: &mut Out, word: &str) -> Result<()> {
     let name = name(alloc, word)?;
     let copy = name.copy(alloc)?;
-    copy.show(alloc, out)
+    copy.show(alloc, out);
+    Ok(())
 }
 
-fn put_comparison(alloc: Global, out: &mut Vec<u8>, left: &str, right: &str) -> Result<()> {
+fn put_comparison(alloc: Global, out: &mut Out, left: &str, right: &str) -> Result<()> {
     let left = name(alloc, left)?;
     let right = name(alloc, right)?;
-    put_ordering(out, left.cmp(&right), left == right)
+    put_ordering(out, left.cmp(&right), left == right);
+    Ok(())
 }
 
-fn put_is_word(alloc: Global, out: &mut Vec<u8>, word: &str) -> Result<()> {
+fn put_is_word(alloc: Global, out: &mut Out, word: &str) -> Result<()> {
     let text = unescaped(alloc, word)?;
-    put(out, yes_or_no(is_word(text.as_bytes())))
+    put(out, yes_or_no(is_word(text.as_bytes())));
+    Ok(())
 }
 
 /// Rows of any kinds.
@@ -75,12 +82,13 @@ pub(crate) fn read_rows(alloc: Global, words: &[&str]) -> Result<Vec<Row>> {
     Ok(rows)
 }
 
-fn put_rows(alloc: Global, out: &mut Vec<u8>, words: &[&str]) -> Result<()> {
+fn put_rows(alloc: Global, out: &mut Out, words: &[&str]) -> Result<()> {
     let rows = read_rows(alloc, words)?;
-    put_list(alloc, out, rows.as_slice(), "")
+    put_list(alloc, out, rows.as_slice(), "");
+    Ok(())
 }
 
-pub(crate) fn put_kind(out: &mut Vec<u8>, kind: Kind) -> Result<()> {
+pub(crate) fn put_kind(out: &mut Out, kind: Kind) {
     put(
         out,
         match kind {
@@ -90,7 +98,7 @@ pub(crate) fn put_kind(out: &mut Vec<u8>, kind: Kind) -> Result<()> {
     )
 }
 
-fn put_ordering(out: &mut Vec<u8>, ordering: Ordering, are_equal: bool) -> Result<()> {
+fn put_ordering(out: &mut Out, ordering: Ordering, are_equal: bool) {
     put(
         out,
         match ordering {
@@ -98,12 +106,12 @@ fn put_ordering(out: &mut Vec<u8>, ordering: Ordering, are_equal: bool) -> Resul
             Ordering::Equal => "equal",
             Ordering::Greater => "greater",
         },
-    )?;
-    put(out, if are_equal { ", the same" } else { "" })
+    );
+    put(out, if are_equal { ", the same" } else { "" });
 }
 
 /// Whether each row comes before those behind it, after those before it, and is equal to itself alone.
-fn put_order(alloc: Global, out: &mut Vec<u8>, words: &[&str]) -> Result<()> {
+fn put_order(alloc: Global, out: &mut Out, words: &[&str]) -> Result<()> {
     let rows = read_rows(alloc, words)?;
     for (place, row) in rows.iter().enumerate() {
         for (other_place, other) in rows.iter().enumerate() {
@@ -111,14 +119,16 @@ fn put_order(alloc: Global, out: &mut Vec<u8>, words: &[&str]) -> Result<()> {
                 && (row == other) == (place == other_place)
                 && (row < other) == (place < other_place);
             if !is_so {
-                return put_pair(alloc, out, row, other);
+                put_pair(alloc, out, row, other);
+                return Ok(());
             }
         }
     }
-    put_number(out, rows.len())
+    put_number(out, rows.len());
+    Ok(())
 }
 
 /// Two rows that aren't in the order that was given.
-fn put_pair(alloc: Global, out: &mut Vec<u8>, row: &Row, other: &Row) -> Result<()> {
-    put_list(alloc, out, &[row, other], " and ")
+fn put_pair(alloc: Global, out: &mut Out, row: &Row, other: &Row) {
+    put_list(alloc, out, &[row, other], " and ");
 }
