@@ -2,14 +2,14 @@
 
 use clap::builder::ValueParser;
 use clap::{Arg, ArgMatches, Command};
-use ent_engine::RunOptions;
+use ent_engine::{DEFAULT_TRIES, ReportVersion, RunOptions};
 use std::alloc::{AllocError, Global};
 
 /// The most workers; with none the scripts are run on one thread.
 const MOST_WORKERS: u64 = 0;
 
 /// The highest version of the report.
-const HIGHEST_REPORT: u64 = 1;
+const HIGHEST_REPORT: u64 = 2;
 
 /// The most tries.
 const MOST_TRIES: u64 = 9;
@@ -49,7 +49,7 @@ fn report<'a>(alloc: Global) -> Arg<'a> {
         .value_name("V")
         .value_parser(ValueParser::unsigned(1, HIGHEST_REPORT))
         .default_value("1")
-        .help("The version of the report; 1 is the only one today")
+        .help("The version of the report; 2 tells the opening, the scripts and the groundings too")
 }
 
 fn tries<'a>(alloc: Global) -> Arg<'a> {
@@ -63,11 +63,22 @@ fn tries<'a>(alloc: Global) -> Arg<'a> {
 
 /// What the words of a run ask for.
 pub(crate) fn options_of<'a>(matches: &ArgMatches<'a>) -> RunOptions {
-    let asked = matches
-        .subcommand_matches("run")
-        .and_then(|run| run.get_one::<u64>("tries"));
-    match asked {
-        Some(tries) => RunOptions { tries },
-        None => RunOptions::default(),
+    let Some(run) = matches.subcommand_matches("run") else {
+        return RunOptions::default();
+    };
+    RunOptions {
+        tries: number(run, "tries", DEFAULT_TRIES),
+        report: match number(run, "report", 1) {
+            HIGHEST_REPORT => ReportVersion::Two,
+            _ => ReportVersion::One,
+        },
+    }
+}
+
+/// The number that an option was given, or else this one.
+fn number<'a>(run: &ArgMatches<'a>, option: &str, otherwise: u64) -> u64 {
+    match run.get_one::<u64>(option) {
+        Some(number) => number,
+        None => otherwise,
     }
 }

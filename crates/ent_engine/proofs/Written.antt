@@ -3,11 +3,11 @@ use Rattle.std.proofs.Common.{◌≡◌, ℕ, List, ◌++◌, Option, Some, None
 use Rattle.std.specs.Prelude.{IfSome}
 use Rattle.std.specs.Io.KnownBytes.{Appends}
 use Rattle.ent_tree.specs.declared.script.Input.{Input}
-use Rattle.ent_book.specs.Report.{report_text}
 use Rattle.ent_semantics.specs.declared.book.Book.{Book}
 use Rattle.ent_semantics.specs.Database.{Database}
 use Rattle.ent_sched.specs.Play.{input_fault}
-use Rattle.ent_engine.specs.Report.{IsBookOf}
+use Rattle.ent_engine.specs.Report.{IsBookOf, text_of}
+use Rattle.ent_engine.specs.declared.options.ReportVersion.{ReportVersion}
 use Rattle.ent_engine.specs.Reading.{IsInput, IsRead}
 use Rattle.ent_engine.specs.Io.{WritesBeginning, WritesReport}
 use Rattle.ent_engine.specs.declared.fault.RunFault.TheVariants.{WriteFault}
@@ -18,19 +18,20 @@ read_all : (all bytes slice : List ℕ) (input : Input) → bytes ≡ all → sl
 read_all all bytes slice input whole is reads formed =
     record { read = subst (λ (bs : List ℕ). IsRead bs input) (is ∙ whole) reads; formed = formed }
 
-pub wrote_report : (remaining old new : Option (List ℕ)) (bytes slice : List ℕ) (book : Book Database) (input : Input)
+pub wrote_report : (version : ReportVersion) (remaining old new : Option (List ℕ)) (bytes slice : List ℕ)
+    (book : Book Database) (input : Input)
     → IfSome remaining (λ all. bytes ≡ all) → slice ≡ bytes → IsRead slice input
-    → input_fault input.opening input.scripts ≡ None → IsBookOf input book → Appends old new (report_text book)
-    → IfSome remaining (λ bytes. WritesReport bytes old new)
-wrote_report None old new bytes slice book input whole is reads formed of out = tt
-wrote_report (Some all) old new bytes slice book input whole is reads formed of out =
+    → input_fault input.opening input.scripts ≡ None → IsBookOf input book → Appends old new (text_of version book)
+    → IfSome remaining (λ bytes. WritesReport version bytes old new)
+wrote_report version None old new bytes slice book input whole is reads formed of out = tt
+wrote_report version (Some all) old new bytes slice book input whole is reads formed of out =
     (input, book, read_all all bytes slice input whole is reads formed, of, out)
 
-pub wrote_beginning : (remaining old new : Option (List ℕ)) (bytes slice : List ℕ) (book : Book Database)
-    (input : Input) → IfSome remaining (λ all. bytes ≡ all) → slice ≡ bytes → IsRead slice input
+pub wrote_beginning : (version : ReportVersion) (remaining old new : Option (List ℕ)) (bytes slice : List ℕ)
+    (book : Book Database) (input : Input) → IfSome remaining (λ all. bytes ≡ all) → slice ≡ bytes → IsRead slice input
     → input_fault input.opening input.scripts ≡ None → IsBookOf input book
-    → (front rest : List ℕ) × (report_text book ≡ front ++ rest) × Appends old new front
-    → IfSome remaining (λ bytes. WritesBeginning bytes old new WriteFault)
-wrote_beginning None old new bytes slice book input whole is reads formed of out = tt
-wrote_beginning (Some all) old new bytes slice book input whole is reads formed of out =
+    → (front rest : List ℕ) × (text_of version book ≡ front ++ rest) × Appends old new front
+    → IfSome remaining (λ bytes. WritesBeginning version bytes old new WriteFault)
+wrote_beginning version None old new bytes slice book input whole is reads formed of out = tt
+wrote_beginning version (Some all) old new bytes slice book input whole is reads formed of out =
     (input, book, read_all all bytes slice input whole is reads formed, of, out)

@@ -8,8 +8,8 @@ use Rattle.ent_engine.specs.declared.fault.RunFault.TheVariants.{ReadFault, Writ
 use Rattle.ent_tree.specs.declared.script.Input.{Input}
 use Rattle.ent_semantics.specs.declared.book.Book.{Book}
 use Rattle.ent_semantics.specs.Database.{Database}
-use Rattle.ent_book.specs.Report.{report_text}
-use Rattle.ent_engine.specs.Report.{IsBookOf}
+use Rattle.ent_engine.specs.declared.options.ReportVersion.{ReportVersion}
+use Rattle.ent_engine.specs.Report.{IsBookOf, text_of}
 use Rattle.ent_engine.specs.declared.reader.TheConstants.{MOST_BYTES}
 use Rattle.ent_engine.specs.Reading.{IsInput}
 
@@ -63,21 +63,21 @@ IsSilent old new (Sql fault) = Keeps old new
 IsSilent old new (Form fault) = Keeps old new
 IsSilent old new Memory = Keeps old new
 
--- what was written is the report of a book of the input that these bytes are
-abbrev pub WritesReport : List ℕ → Option (List ℕ) → Option (List ℕ) → Type 0
-WritesReport bytes old new =
+-- what was written is the report, of this version, of a book of the input that these bytes are
+abbrev pub WritesReport : ReportVersion → List ℕ → Option (List ℕ) → Option (List ℕ) → Type 0
+WritesReport version bytes old new =
     (input : Input) × (book : Book Database)
-    × IsInput bytes input × IsBookOf input book × Appends old new (report_text book)
+    × IsInput bytes input × IsBookOf input book × Appends old new (text_of version book)
 
 -- where the writer failed, what it took is a beginning of such a report
-abbrev pub WritesBeginning : List ℕ → Option (List ℕ) → Option (List ℕ) → RunFault → Type 0
-WritesBeginning bytes old new WriteFault =
+abbrev pub WritesBeginning : ReportVersion → List ℕ → Option (List ℕ) → Option (List ℕ) → RunFault → Type 0
+WritesBeginning version bytes old new WriteFault =
     (input : Input) × (book : Book Database)
     × IsInput bytes input × IsBookOf input book
-    × ((front rest : List ℕ) × (report_text book ≡ front ++ rest) × Appends old new front)
-WritesBeginning bytes old new ReadFault = Unit {0}
-WritesBeginning bytes old new (NotUtf8 place) = Unit {0}
-WritesBeginning bytes old new TooLong = Unit {0}
-WritesBeginning bytes old new (Sql fault) = Unit {0}
-WritesBeginning bytes old new (Form fault) = Unit {0}
-WritesBeginning bytes old new Memory = Unit {0}
+    × ((front rest : List ℕ) × (text_of version book ≡ front ++ rest) × Appends old new front)
+WritesBeginning version bytes old new ReadFault = Unit {0}
+WritesBeginning version bytes old new (NotUtf8 place) = Unit {0}
+WritesBeginning version bytes old new TooLong = Unit {0}
+WritesBeginning version bytes old new (Sql fault) = Unit {0}
+WritesBeginning version bytes old new (Form fault) = Unit {0}
+WritesBeginning version bytes old new Memory = Unit {0}

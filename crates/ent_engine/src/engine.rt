@@ -1,23 +1,29 @@
 //! A whole run: bytes in, report out.
-ghost use Rattle.std.specs.Prelude.{OnOk, IfErr, IfSome};
+ghost use Rattle.std.specs.Prelude.{◌≡◌, Err, IfErr, IfSome, OnErr, OnOk};
+ghost use Rattle.std.specs.Io.KnownBytes.{Appends};
+ghost use Rattle.ent_book.specs.Tables.{book_seen};
+ghost use Rattle.ent_book.specs.Write.{AppendsBeginning, is_fault, is_marked};
 ghost use Rattle.ent_value.specs.Watched.{IsUnmarked};
+ghost use Rattle.ent_value.specs.declared.refusal.Refusal.TheVariants.{Memory};
+ghost use Rattle.ent_engine.specs.Report.{text_of};
 ghost use Rattle.ent_engine.specs.Reading.{IsRefused};
 ghost use Rattle.ent_engine.specs.Io.{IsReaderMarkedBy, IsWriterMarkedBy, IsSilent, WritesReport, WritesBeginning};
 
 use crate::fault::RunFault;
-use crate::options::RunOptions;
+use crate::options::{ReportVersion, RunOptions};
 use crate::parse::parse;
 use crate::reader::read_whole;
 use crate::runs::{run_out, submit_all};
-use ent_book::{WriteFault, write_report};
-use ent_value::{Refusal, Watched};
+use ent_book::{NamedTable, WriteFault, write_report, write_report_2};
+use ent_semantics::Book;
+use ent_value::{Refusal, Sequence, Watched};
 use std::alloc::Global;
 use std::io::{Read, Write};
 
 /// Reads an input whole, submits its scripts in order, runs them until each has its fate, and writes their report.
 ///
 /// Reader and writer are handed in unmarked, as [`Watched::new`] makes them, so that their marks tell of this call.
-/// What is written is the report of the input that the reader had, for a reader that tells what it has and a writer
+/// What is written is the report, of the version that is asked for, of the input that the reader had, for a reader that tells what it has and a writer
 /// that tells what it holds. Where the input is refused, nothing is written, and the fault is the input's first.
 pub fn run<R: Read, W: Write>(
     alloc: Global,
@@ -28,7 +34,7 @@ pub fn run<R: Read, W: Write>(
     requires reader_unmarked { IsUnmarked reader.old }
     requires writer_unmarked { IsUnmarked writer.old }
     ensures report { OnOk result (IfSome (R.remaining reader.old.inner) (λ bytes.
-        WritesReport bytes (W.contents writer.old.inner) (W.contents writer.new.inner))) }
+        WritesReport options.report bytes (W.contents writer.old.inner) (W.contents writer.new.inner))) }
     ensures refused { IfErr result (λ fault. IfSome (R.remaining reader.old.inner) (λ bytes. IsRefused bytes fault)) }
     // A fault of the reader is answered exactly where that one failed; one of the writer exactly where that one failed
     // or took no byte.
@@ -38,16 +44,37 @@ pub fn run<R: Read, W: Write>(
     ensures silent { IfErr result (λ fault.
         IsSilent (W.contents writer.old.inner) (W.contents writer.new.inner) fault) }
     ensures beginning { IfErr result (λ fault. IfSome (R.remaining reader.old.inner) (λ bytes.
-        WritesBeginning bytes (W.contents writer.old.inner) (W.contents writer.new.inner) fault)) }
+        WritesBeginning options.report bytes (W.contents writer.old.inner) (W.contents writer.new.inner) fault)) }
 {
     let bytes = read_whole(alloc, reader)?;
     let input = parse(alloc, bytes.as_slice())?;
     drop(bytes);
     let core = submit_all(alloc, input)?;
     let book = run_out(alloc, core, options.tries)?;
-    match write_report(alloc, &book, writer) {
+    match write_book(alloc, &book, options.report, writer) {
         Ok(()) => Ok(()),
         Err(Refusal::Memory) => Err(RunFault::Memory),
         Err(Refusal::Fault(WriteFault)) => Err(RunFault::WriteFault),
+    }
+}
+
+/// Writes the report of a book, of this version. Its promises are those of [`write_report`].
+fn write_book<W: Write>(
+    alloc: Global,
+    book: &Book<Sequence<NamedTable>>,
+    version: ReportVersion,
+    writer: &mut Watched<W>,
+) -> Result<(), Refusal<WriteFault>>
+    requires unmarked { IsUnmarked writer.old }
+    ensures written { OnOk result
+        (Appends (W.contents writer.old.inner) (W.contents writer.new.inner) (text_of version (book_seen book.now))) }
+    ensures untouched { result ≡ Err Memory → writer.new ≡ writer.old }
+    ensures beginning { OnErr result (AppendsBeginning (W.contents writer.old.inner) (W.contents writer.new.inner)
+        (text_of version (book_seen book.now))) }
+    ensures marks { is_marked writer.new ≡ is_fault result }
+{
+    match version {
+        ReportVersion::One => write_report(alloc, book, writer),
+        ReportVersion::Two => write_report_2(alloc, book, writer),
     }
 }

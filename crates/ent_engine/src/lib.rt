@@ -14,5 +14,5 @@ mod runs;
 
 pub use engine::run;
 pub use fault::{FaultLine, RunFault, status_of};
-pub use options::RunOptions;
+pub use options::{DEFAULT_TRIES, ReportVersion, RunOptions};
 pub use reader::MOST_BYTES;

@@ -9,8 +9,10 @@ use std::alloc::Global;
 use std::fs;
 
 /// The examples, each an input and its report.
-const EXAMPLES: [&str; 10] = [
+const EXAMPLES: [&str; 13] = [
+    "auction",
     "concert",
+    "doubleclick",
     "first",
     "flights",
     "friends",
@@ -20,6 +22,7 @@ const EXAMPLES: [&str; 10] = [
     "theatre",
     "trains",
     "transfers",
+    "waitinglist",
 ];
 
 /// Checks the rows, the examples and the longest input, and says how many there are.
