@@ -8,7 +8,7 @@ use ent_value::{Sequence, Value};
 pub enum Fate {
     /// It committed as the number-th, counted from 1.
     Committed { number: u64, runs: u64 },
-    /// It found no partner in the runs that its script asks for; it left nothing.
+    /// It took part in as many runs as its script asks for, and committed in none of them; it left nothing.
     GaveUp { runs: u64 },
     /// Its script ended with ROLLBACK; it left nothing.
     RolledBack { runs: u64 },
