@@ -1,5 +1,5 @@
 //! Limits of constants and of the protocol. Nothing here does anything; what holds is in the contracts.
-ghost use Rattle.std.specs.Prelude.{◌≡◌, ◌≢◌, ◌<◌, ◌≤◌, ℕ, length};
+ghost use Rattle.std.specs.Prelude.{◌≡◌, ◌≢◌, ◌<◌, ◌≤◌, length};
 ghost use Rattle.ent_value.specs.declared.limits.TheConstants.{MOST_ROWS};
 ghost use Rattle.ent_value.specs.declared.name.TheConstants.{LONGEST_NAME};
 ghost use Rattle.ent_value.specs.declared.text.TheConstants.{LONGEST_TEXT};

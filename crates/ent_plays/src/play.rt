@@ -1,5 +1,5 @@
 //! Plays. Nothing here has a body; what holds is in the contracts.
-ghost use Rattle.std.specs.Prelude.{◌≡◌, ◌∷◌, ◌++◌, ℕ, [], None, Some, codes, false, map};
+ghost use Rattle.std.specs.Prelude.{◌≡◌, ◌∷◌, ◌++◌, [], None, Some, codes, false, map};
 ghost use Rattle.ent_tree.specs.declared.script.End.TheVariants.{Commit, Rollback};
 ghost use Rattle.ent_semantics.specs.declared.book.Fate.TheVariants.{Committed, Failed, GaveUp, RolledBack};
 ghost use Rattle.ent_semantics.specs.declared.answer.Failure.TheVariants.{Overflow};
