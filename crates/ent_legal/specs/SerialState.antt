@@ -1,5 +1,5 @@
 -- The present tables are always a serial state.
-use Rattle.std.specs.Prelude.{◌≡◌, ◌↔◌, suc, List, [], ◌++◌, map, length, take, Some, Contains}
+use Rattle.std.specs.Prelude.{◌≡◌, ◌≢◌, ◌↔◌, suc, List, [], ◌++◌, map, length, take, Some, Contains, AllPairs}
 use Rattle.std.specs.List.{AllByRecursion}
 use Rattle.ent_tree.specs.declared.script.End.TheVariants.{Commit}
 use Rattle.ent_tree.specs.declared.script.Statement.TheVariants as statements
@@ -38,7 +38,7 @@ pub record IsWhole (all : List Submitted) (history : History) : Type 0 where
   pub oracled : AllByRecursion IsOracled history.deeds
 
 -- The committed transactions in journal order give the settled database; from there the prepared members, and then the
--- others in some order, give the present tables.
+-- others in some order, give the present tables. Each of these runs is of another member, so nobody runs twice.
 pub record IsSerialState (s : State) : Type 0 where
   pub committed : List History
   pub prepared : List History
@@ -47,6 +47,7 @@ pub record IsSerialState (s : State) : Type 0 where
   pub of_prepared : map (λ history. history.member) prepared ≡ s.prepared
   pub of_others : (member : Member) → Contains (map (λ history. history.member) others) member
       ↔ Contains s.active member
+  pub distinct : AllPairs (λ (one other : History). one.member.tx ≢ other.member.tx) (prepared ++ others)
   pub settles : AreSerial s.opening.tables committed (opening_database s.opening)
       (database_of s.opening.tables (settled s))
   pub stands : AreSerial s.opening.tables (prepared ++ others) (database_of s.opening.tables (settled s))

@@ -20,7 +20,8 @@ use ent_protocol::commits_are_numbered;
 use ent_semantics::{runs_go_on, statements_keep_to_their_uses};
 
 /// Every state that is reached is a serial state: the committed transactions, run alone in the order of their commits,
-/// give the settled database, and the members of the run, one after the other from there, give the present tables.
+/// give the settled database, and the members of the run, each once, one after the other from there, give the present
+/// tables.
 pub fn reached_states_are_serial<F>()
     ensures { (forms : Forms F) (s : State)
         → AreFaithful forms s.opening

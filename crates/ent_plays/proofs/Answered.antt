@@ -78,12 +78,12 @@ module _ (s : State) (friends : List Friend) (asked : askings s ≡ map asking f
         → CanBePicked s others → first.tx ≤ first_tx others
     least h others can = first_at_least first.tx h others can.component
 
-    abbrev lent : Reply ℕ
+    abbrev lent : {F : Type 0} → Reply F
     lent = replies.Lent (joint_job s (map asking members))
 
-    pub lends : s.tried ≡ [] → (IsOut s (map asking members) → ⊥)
+    pub lends : {F : Type 0} → s.tried ≡ [] → (IsOut s (map asking members) → ⊥)
         → list_all (λ friend. nat_le first.tx friend.tx) friends ≡ true
-        → Lends s lent (record s { lent = s.lent ++ joint_job s (map asking members) ∷ [] })
+        → Lends {F = F} s lent (record s { lent = s.lent ++ joint_job s (map asking members) ∷ [] })
     lends tried_is not_out h =
         record {
           asked = map asking members;
@@ -97,11 +97,11 @@ module _ (s : State) (friends : List Friend) (asked : askings s ≡ map asking f
           is = refl;
         }
 
-    abbrev answered : Reply ℕ
+    abbrev answered : {F : Type 0} → Reply F
     answered = replies.Answered
 
-    pub joins : have_partners members ≡ true → (left : List Job) → IsTaken (wishes.joint_job members) s.lent left
-        → Joins s (joint_done members) answered
+    pub joins : {F : Type 0} → have_partners members ≡ true → (left : List Job) → IsTaken (wishes.joint_job members) s.lent left
+        → Joins {F = F} s (joint_done members) answered
         (joining (record s { lent = left }) (map asking members) (taken members))
     joins h left is_taken =
         record {

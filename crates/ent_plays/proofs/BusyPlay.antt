@@ -33,7 +33,7 @@ no_mover s wait tx can = false_true _ _ (each_passes _ s.active can.member wait 
 is_none : (holder : ℕ) → ◌≡◌ {A = Option ℕ} (Some holder) None → ⊥
 is_none holder e = cc
 
-module _ {resolved : Forms ℕ} (one : ScriptOf resolved 8 (asks_form mickey ∷ deletes_form ∷ []) Commit)
+module _ {F : Type 0} {resolved : Forms F} (one : ScriptOf resolved 8 (asks_form mickey ∷ deletes_form ∷ []) Commit)
     (two : ScriptOf resolved 8 (asks_form minnie ∷ deletes_form ∷ []) Commit) where
   abbrev one_in : State
   one_in = submitting (opened partners_opening) (script one) (asks_form mickey ∷ deletes_form ∷ [])
@@ -91,7 +91,7 @@ module _ {resolved : Forms ℕ} (one : ScriptOf resolved 8 (asks_form mickey ∷
         own = refl;
       })
 
-  lends_both : Lends {F = ℕ} two_posted (replies.Lent (joint_job two_friends)) picked
+  lends_both : Lends {F = F} two_posted (replies.Lent (joint_job two_friends)) picked
   lends_both = lends two_posted two_friends refl everyone _ _ together refl (nothing_out two_posted _ refl) refl
 
   busy : Plays resolved (opened partners_opening) (is_busy one two) joined

@@ -1,5 +1,5 @@
 -- A job that outlives its attempt, event by event.
-use Rattle.std.proofs.Common.{inl, inr, ℕ, [], ◌∷◌, ◌++◌, map, refl}
+use Rattle.std.proofs.Common.{inl, inr, [], ◌∷◌, ◌++◌, map, refl}
 use Rattle.std.specs.Prelude.{codes}
 use Rattle.ent_tree.specs.declared.script.End.TheVariants.{Commit, Rollback}
 use Rattle.ent_protocol.specs.Begin.{lending, posting}
@@ -27,7 +27,7 @@ use Rattle.ent_plays.proofs.Waiting.{quiet}
 abbrev A_again : Friend
 A_again = record { tx = 1; attempt = 2; place = 1; wish = A_for_B }
 
-module _ {resolved : Forms ℕ} (one : ScriptOf resolved 8 (asks_form A_for_B ∷ books_form (codes "A") ∷ []) Commit)
+module _ {F : Type 0} {resolved : Forms F} (one : ScriptOf resolved 8 (asks_form A_for_B ∷ books_form (codes "A") ∷ []) Commit)
     (two : ScriptOf resolved 8 (asks_form B_for_A ∷ []) Rollback) where
   abbrev one_in : State
   one_in = submitting (opened partners_opening) (script one) (asks_form A_for_B ∷ books_form (codes "A") ∷ [])

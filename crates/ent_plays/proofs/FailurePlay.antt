@@ -1,5 +1,5 @@
 -- A failure, event by event.
-use Rattle.std.proofs.Common.{inl, ℕ, [], ◌∷◌, ◌++◌, map, refl}
+use Rattle.std.proofs.Common.{inl, [], ◌∷◌, ◌++◌, map, refl}
 use Rattle.ent_tree.specs.declared.script.End.TheVariants.{Commit}
 use Rattle.ent_closed.specs.declared.operand.Known.TheVariants as known
 use Rattle.ent_semantics.specs.declared.answer.Failure.TheVariants.{Overflow}
@@ -33,7 +33,7 @@ evaluated = refl
 abbrev again : Friend
 again = record { tx = 2; attempt = 2; place = 1; wish = minnie }
 
-module _ {resolved : Forms ℕ} (one : ScriptOf resolved 8 (asks_form mickey ∷ sets_too_much known.Constant ∷ []) Commit)
+module _ {F : Type 0} {resolved : Forms F} (one : ScriptOf resolved 8 (asks_form mickey ∷ sets_too_much known.Constant ∷ []) Commit)
     (two : ScriptOf resolved 2 (asks_form minnie ∷ []) Commit) where
   abbrev one_in : State
   one_in = submitting (opened partners_opening) (script one) (asks_form mickey ∷ sets_too_much known.Constant ∷ [])

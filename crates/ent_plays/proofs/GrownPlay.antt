@@ -1,5 +1,5 @@
 -- The component that grows, event by event.
-use Rattle.std.proofs.Common.{◌≡◌, inl, inr, ℕ, [], ◌∷◌, ◌++◌, map, refl, arith, ap, sym, ◌∙◌}
+use Rattle.std.proofs.Common.{◌≡◌, inl, inr, [], ◌∷◌, ◌++◌, map, refl, arith, ap, sym, ◌∙◌}
 use Rattle.ent_tree.specs.declared.script.End.TheVariants.{Commit}
 use Rattle.ent_protocol.specs.Begin.{posting}
 use Rattle.ent_protocol.specs.Commit.{preparing, committing}
@@ -33,7 +33,7 @@ three_together = record { are = refl; served = refl; closed = refl; star = refl;
 two_of_three : (x y z w v : Asking) → Joint (x ∷ y ∷ []) ≡ Joint (z ∷ w ∷ v ∷ []) → ⊥
 two_of_three x y z w v e = cc
 
-module _ {resolved : Forms ℕ} (one : ScriptOf resolved 8 (asks_form A_for_B ∷ []) Commit)
+module _ {F : Type 0} {resolved : Forms F} (one : ScriptOf resolved 8 (asks_form A_for_B ∷ []) Commit)
     (two : ScriptOf resolved 8 (asks_form B_for_A ∷ []) Commit)
     (three : ScriptOf resolved 8 (asks_form C_for_A ∷ []) Commit) where
   abbrev one_in : State

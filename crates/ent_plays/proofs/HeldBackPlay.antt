@@ -1,5 +1,5 @@
 -- The third who is held back, event by event.
-use Rattle.std.proofs.Common.{inl, inr, ℕ, List, [], ◌∷◌, ◌++◌, map, refl, arith}
+use Rattle.std.proofs.Common.{inl, inr, List, [], ◌∷◌, ◌++◌, map, refl, arith}
 use Rattle.ent_protocol.specs.Begin.{posting}
 use Rattle.ent_protocol.specs.Commit.{preparing, committing}
 use Rattle.ent_protocol.specs.Partners.{partners_opening}
@@ -27,7 +27,7 @@ three_friends = first_asks 1 mickey ∷ first_asks 2 minnie ∷ first_asks 3 min
 pub together : AreTogether two_friends everyone (first_asks 1 mickey) (first_asks 2 minnie ∷ [])
 together = record { are = refl; served = refl; closed = refl; star = refl; by_number = refl }
 
-module _ {resolved : Forms ℕ} (one : ScriptOf resolved 8 (asks_form mickey ∷ []) Commit)
+module _ {F : Type 0} {resolved : Forms F} (one : ScriptOf resolved 8 (asks_form mickey ∷ []) Commit)
     (two : ScriptOf resolved 8 (asks_form minnie ∷ []) Commit)
     (third : ScriptOf resolved 1 (asks_form minnie ∷ []) Commit) where
   abbrev one_in : State
@@ -54,7 +54,7 @@ module _ {resolved : Forms ℕ} (one : ScriptOf resolved 8 (asks_form mickey ∷
   abbrev joined : State
   joined = joining two_posted (map asking two_friends) (taken two_friends)
 
-  lends_both : Lends {F = ℕ} two_posted (replies.Lent (joint_job two_friends)) picked
+  lends_both : Lends {F = F} two_posted (replies.Lent (joint_job two_friends)) picked
   lends_both = lends two_posted two_friends refl everyone _ _ together refl (nothing_out two_posted _ refl) refl
 
   held : Plays resolved (opened partners_opening) (holds_back one two third) joined

@@ -17,3 +17,4 @@ pub mod ShrunkPlay
 pub mod EarlierPlay
 pub mod TwicePlay
 pub mod LinkedPlay
+pub mod RingPlay

@@ -1,5 +1,5 @@
 -- The component that shrinks back, event by event.
-use Rattle.std.proofs.Common.{inl, inr, ℕ, List, [], ◌∷◌, ◌++◌, map, refl, arith}
+use Rattle.std.proofs.Common.{inl, inr, List, [], ◌∷◌, ◌++◌, map, refl, arith}
 use Rattle.ent_tree.specs.declared.script.End.TheVariants.{Commit, Rollback}
 use Rattle.ent_protocol.specs.Begin.{posting}
 use Rattle.ent_protocol.specs.Commit.{preparing, committing}
@@ -34,7 +34,7 @@ C_again = record { tx = 3; attempt = 1; place = 2; wish = C_for_A }
 abbrev with_C : List Friend
 with_C = first_asks 1 A_for_B ∷ first_asks 2 B_for_A ∷ C_again ∷ []
 
-module _ {resolved : Forms ℕ} (one : ScriptOf resolved 8 (asks_form A_for_B ∷ []) Commit)
+module _ {F : Type 0} {resolved : Forms F} (one : ScriptOf resolved 8 (asks_form A_for_B ∷ []) Commit)
     (two : ScriptOf resolved 8 (asks_form B_for_A ∷ []) Commit)
     (three : ScriptOf resolved 8 (asks_form C_for_D ∷ asks_form C_for_A ∷ []) Commit)
     (four : ScriptOf resolved 8 (asks_form D_for_C ∷ []) Rollback) where
@@ -65,10 +65,10 @@ module _ {resolved : Forms ℕ} (one : ScriptOf resolved 8 (asks_form A_for_B �
   abbrev group_formed : State
   group_formed = joining D_posted (map asking C_and_D) (taken C_and_D)
 
-  first_lent : Lends {F = ℕ} D_posted (replies.Lent (joint_job C_and_D)) C_and_D_picked
+  first_lent : Lends {F = F} D_posted (replies.Lent (joint_job C_and_D)) C_and_D_picked
   first_lent = lends D_posted C_and_D refl everyone _ _ C_and_D_together refl (nothing_out D_posted _ refl) refl
 
-  first_joined : Joins {F = ℕ} C_and_D_picked (joint_done C_and_D) replies.Answered group_formed
+  first_joined : Joins {F = F} C_and_D_picked (joint_done C_and_D) replies.Answered group_formed
   first_joined = joins C_and_D_picked C_and_D refl everyone _ _ C_and_D_together refl [] (alone _)
 
   forms : Plays resolved (opened partners_opening) (group_forms one two three four) group_formed

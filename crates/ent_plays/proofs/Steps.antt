@@ -13,14 +13,14 @@ use Rattle.ent_protocol.specs.State.{State}
 use Rattle.ent_protocol.specs.Step.{Step}
 use Rattle.ent_plays.specs.Scripts.{ScriptOf, script}
 
-module _ (resolved : Forms ℕ) where
+module _ {F : Type 0} (resolved : Forms F) where
   -- one part after another
-  pub plays_on : (xs ys : List (Event × Reply ℕ)) (s mid last : State) → Plays resolved s xs mid
+  pub plays_on : (xs ys : List (Event × Reply F)) (s mid last : State) → Plays resolved s xs mid
       → Plays resolved mid ys last → Plays resolved s (xs ++ ys) last
   plays_on [] ys s mid last one two = subst (λ from. Plays resolved from ys last) one two
   plays_on (x ∷ xs) ys s mid last one two = (one.0, one.1, plays_on xs ys one.0 mid last one.2 two)
 
-  abbrev accepted : ℕ → Reply ℕ
+  abbrev accepted : ℕ → Reply F
   accepted tx = Submitted tx
 
   pub submits : {within : ℕ} {form : List (Statement Known)} {end : End} (known : ScriptOf resolved within form end)

@@ -1,5 +1,5 @@
 -- Results that come twice, event by event.
-use Rattle.std.proofs.Common.{◌≡◌, inl, inr, ℕ, List, [], ◌∷◌, ◌++◌, map, refl, ap}
+use Rattle.std.proofs.Common.{◌≡◌, inl, inr, List, [], ◌∷◌, ◌++◌, map, refl, ap}
 use Rattle.std.specs.Prelude.{codes}
 use Rattle.ent_set.specs.Laws.{without-nothing}
 use Rattle.ent_set.specs.Sets as set
@@ -44,7 +44,7 @@ two_evaluated =
     inserted 1 (tables_of (booking_job 2 Minnie first_booked).tables) (Mickeys ∷ []) booked_is (λ other. refl)
     (Minnie ∷ flight_122 ∷ []) refl (one_row Mickeys) refl
 
-module _ {resolved : Forms ℕ}
+module _ {F : Type 0} {resolved : Forms F}
     (one : ScriptOf resolved 8 (asks_form mickey ∷ books_form (codes "Mickey") ∷ []) Commit)
     (two : ScriptOf resolved 8 (asks_form minnie ∷ books_form (codes "Minnie") ∷ []) Commit) where
   abbrev one_in : State

@@ -1,5 +1,5 @@
 -- A run can't end while something can happen: each reason that it is refused for.
-use Rattle.std.specs.Prelude.{ℕ, List, [], ◌∷◌, codes}
+use Rattle.std.specs.Prelude.{List, [], ◌∷◌, codes}
 use Rattle.ent_tree.specs.declared.operand.Comparison.TheVariants.{Equal}
 use Rattle.ent_tree.specs.declared.script.End.TheVariants.{Commit}
 use Rattle.ent_closed.specs.declared.operand.Known.{Known}
@@ -23,10 +23,10 @@ deletes_form =
       right = operands.Known (known.HostVariable (codes "f"));
     } ∷ [])
 
-module _ {resolved : Forms ℕ} (one : ScriptOf resolved 8 (asks_form mickey ∷ deletes_form ∷ []) Commit)
+module _ {F : Type 0} {resolved : Forms F} (one : ScriptOf resolved 8 (asks_form mickey ∷ deletes_form ∷ []) Commit)
     (two : ScriptOf resolved 8 (asks_form minnie ∷ deletes_form ∷ []) Commit) where
   -- nobody began yet; both are posted; their job is out
-  abbrev pub is_busy : List (Event × Reply ℕ)
+  abbrev pub is_busy : List (Event × Reply F)
   is_busy =
       (events.Submit (script one), events.Submitted 1)
       ∷ (events.Submit (script two), events.Submitted 2)
@@ -43,7 +43,7 @@ module _ {resolved : Forms ℕ} (one : ScriptOf resolved 8 (asks_form mickey ∷
       ∷ []
 
 -- each waits for the other, whose entangled statement has read what it would delete
-abbrev pub cycle_stands : List (Event × Reply ℕ)
+abbrev pub cycle_stands : {F : Type 0} → List (Event × Reply F)
 cycle_stands =
     (events.Begin 1, events.Blocked 2)
     ∷ (events.Begin 2, events.Blocked 1)

@@ -1,5 +1,5 @@
 -- A job of one statement outlives the attempt that it is of.
-use Rattle.std.specs.Prelude.{ℕ, List, [], ◌∷◌, codes}
+use Rattle.std.specs.Prelude.{List, [], ◌∷◌, codes}
 use Rattle.ent_set.specs.Sets as set
 use Rattle.ent_value.specs.declared.value.Value.TheVariants.{Text}
 use Rattle.ent_tree.specs.declared.script.End.TheVariants.{Commit, Rollback}
@@ -19,10 +19,10 @@ first_books = booking_job 1 (Text (codes "A")) set.empty
 abbrev pub first_booked : Done
 first_booked = booking_done 1 (Text (codes "A")) set.empty
 
-module _ {resolved : Forms ℕ} (one : ScriptOf resolved 8 (asks_form A_for_B ∷ books_form (codes "A") ∷ []) Commit)
+module _ {F : Type 0} {resolved : Forms F} (one : ScriptOf resolved 8 (asks_form A_for_B ∷ books_form (codes "A") ∷ []) Commit)
     (two : ScriptOf resolved 8 (asks_form B_for_A ∷ []) Rollback) where
   -- the second rolls both back while the first one's job is out
-  abbrev pub job_outlives : List (Event × Reply ℕ)
+  abbrev pub job_outlives : List (Event × Reply F)
   job_outlives =
       (events.Submit (script one), events.Submitted 1)
       ∷ (events.Submit (script two), events.Submitted 2)
@@ -38,7 +38,7 @@ module _ {resolved : Forms ℕ} (one : ScriptOf resolved 8 (asks_form A_for_B �
       ∷ []
 
 -- in the next run, during the first one's second attempt, the result is as stale
-abbrev pub next_attempt : List (Event × Reply ℕ)
+abbrev pub next_attempt : {F : Type 0} → List (Event × Reply F)
 next_attempt =
     (events.EndRun, events.Ended [])
     ∷ (events.StartRun, events.Started (1 ∷ []))

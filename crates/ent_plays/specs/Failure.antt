@@ -1,5 +1,5 @@
 -- A statement of one fails, and its group goes with it: the partner, prepared already, has another run.
-use Rattle.std.specs.Prelude.{ℕ, pos, List, [], ◌∷◌, codes}
+use Rattle.std.specs.Prelude.{pos, List, [], ◌∷◌, codes}
 use Rattle.ent_value.specs.declared.value.Value.{Value}
 use Rattle.ent_value.specs.declared.value.Value.TheVariants.{Int}
 use Rattle.ent_tree.specs.declared.operand.Expression.TheVariants.{Sum}
@@ -30,10 +30,10 @@ set_job =
 abbrev pub set_done : Done
 set_done = record { job = set_job; outcome = Fault Overflow }
 
-module _ {resolved : Forms ℕ} (one : ScriptOf resolved 8 (asks_form mickey ∷ sets_too_much known.Constant ∷ []) Commit)
+module _ {F : Type 0} {resolved : Forms F} (one : ScriptOf resolved 8 (asks_form mickey ∷ sets_too_much known.Constant ∷ []) Commit)
     (two : ScriptOf resolved 2 (asks_form minnie ∷ []) Commit) where
   -- the two are answered, and the first one's SET fails
-  abbrev pub set_fails : List (Event × Reply ℕ)
+  abbrev pub set_fails : List (Event × Reply F)
   set_fails =
       (events.Submit (script one), events.Submitted 1)
       ∷ (events.Submit (script two), events.Submitted 2)
@@ -48,7 +48,7 @@ module _ {resolved : Forms ℕ} (one : ScriptOf resolved 8 (asks_form mickey ∷
       ∷ []
 
 -- the second has one run more, in which nobody answers it
-abbrev pub partner_gives_up : List (Event × Reply ℕ)
+abbrev pub partner_gives_up : {F : Type 0} → List (Event × Reply F)
 partner_gives_up =
     (events.EndRun, events.Ended [])
     ∷ (events.StartRun, events.Started (2 ∷ []))

@@ -1,5 +1,5 @@
 -- A component grows while its job is out: the result of the old job is stale, and the new component is answered.
-use Rattle.std.specs.Prelude.{ℕ, List, [], ◌∷◌, codes}
+use Rattle.std.specs.Prelude.{List, [], ◌∷◌, codes}
 use Rattle.ent_tree.specs.declared.script.End.TheVariants.{Commit}
 use Rattle.ent_protocol.specs.Event.{Event, Reply}
 use Rattle.ent_protocol.specs.Event as events
@@ -23,11 +23,11 @@ A_and_B = first_asks 1 A_for_B ∷ first_asks 2 B_for_A ∷ []
 abbrev pub A_B_and_C : List Friend
 A_B_and_C = first_asks 1 A_for_B ∷ first_asks 2 B_for_A ∷ first_asks 3 C_for_A ∷ []
 
-module _ {resolved : Forms ℕ} (one : ScriptOf resolved 8 (asks_form A_for_B ∷ []) Commit)
+module _ {F : Type 0} {resolved : Forms F} (one : ScriptOf resolved 8 (asks_form A_for_B ∷ []) Commit)
     (two : ScriptOf resolved 8 (asks_form B_for_A ∷ []) Commit)
     (three : ScriptOf resolved 8 (asks_form C_for_A ∷ []) Commit) where
   -- the job of the first two is lent when the third posts
-  abbrev pub job_is_late : List (Event × Reply ℕ)
+  abbrev pub job_is_late : List (Event × Reply F)
   job_is_late =
       (events.Submit (script one), events.Submitted 1)
       ∷ (events.Submit (script two), events.Submitted 2)
@@ -41,7 +41,7 @@ module _ {resolved : Forms ℕ} (one : ScriptOf resolved 8 (asks_form A_for_B �
       ∷ []
 
 -- all three are answered and commit; the old job, still lent, is no reason to go on
-abbrev pub all_are_answered : List (Event × Reply ℕ)
+abbrev pub all_are_answered : {F : Type 0} → List (Event × Reply F)
 all_are_answered =
     (events.Pick, events.Lent (joint_job A_B_and_C))
     ∷ (events.JoinAnswer (joint_done A_B_and_C), events.Answered)

@@ -1,5 +1,5 @@
 -- A third who offers what the second does is held back until both have committed, and then waits alone.
-use Rattle.std.specs.Prelude.{ℕ, List, [], ◌∷◌, codes}
+use Rattle.std.specs.Prelude.{List, [], ◌∷◌, codes}
 use Rattle.ent_tree.specs.declared.script.End.TheVariants.{Commit}
 use Rattle.ent_protocol.specs.Event.{Event, Reply}
 use Rattle.ent_protocol.specs.Event as events
@@ -16,11 +16,11 @@ minnie = in_R (codes "Minnie") (codes "Mickey")
 abbrev pub two_friends : List Friend
 two_friends = first_asks 1 mickey ∷ first_asks 2 minnie ∷ []
 
-module _ {resolved : Forms ℕ} (one : ScriptOf resolved 8 (asks_form mickey ∷ []) Commit)
+module _ {F : Type 0} {resolved : Forms F} (one : ScriptOf resolved 8 (asks_form mickey ∷ []) Commit)
     (two : ScriptOf resolved 8 (asks_form minnie ∷ []) Commit)
     (third : ScriptOf resolved 1 (asks_form minnie ∷ []) Commit) where
   -- the post of the first one would unify with the heads of the second and the third
-  abbrev pub holds_back : List (Event × Reply ℕ)
+  abbrev pub holds_back : List (Event × Reply F)
   holds_back =
       (events.Submit (script one), events.Submitted 1)
       ∷ (events.Submit (script two), events.Submitted 2)
@@ -34,7 +34,7 @@ module _ {resolved : Forms ℕ} (one : ScriptOf resolved 8 (asks_form mickey ∷
       ∷ []
 
 -- the two commit, and the third is posted; nobody answers it, and its only run ends
-abbrev pub posts_later : List (Event × Reply ℕ)
+abbrev pub posts_later : {F : Type 0} → List (Event × Reply F)
 posts_later =
     (events.Begin 1, events.Prepared)
     ∷ (events.Begin 2, events.Committed ((1, 1) ∷ (2, 2) ∷ []))

@@ -8,3 +8,4 @@ pub mod Shrunk
 pub mod Earlier
 pub mod Twice
 pub mod Linked
+pub mod Ring

@@ -1,5 +1,5 @@
 -- Three are linked by two joint answers, and one of them rolls all three back.
-use Rattle.std.specs.Prelude.{ℕ, pos, List, [], ◌∷◌, codes}
+use Rattle.std.specs.Prelude.{pos, List, [], ◌∷◌, codes}
 use Rattle.ent_set.specs.Sets as set
 use Rattle.ent_value.specs.declared.value.Kind.TheVariants as kinds
 use Rattle.ent_value.specs.declared.value.Value.{Value}
@@ -66,11 +66,11 @@ update_done =
       outcome = Changed 1 ((A ∷ flight_122 ∷ []) ∷ []) ((A ∷ Int (pos 136) ∷ []) ∷ []);
     }
 
-module _ {resolved : Forms ℕ} (one : ScriptOf resolved 2 (asks_form A_for_B ∷ books_form (codes "A") ∷ []) Commit)
+module _ {F : Type 0} {resolved : Forms F} (one : ScriptOf resolved 2 (asks_form A_for_B ∷ books_form (codes "A") ∷ []) Commit)
     (two : ScriptOf resolved 2 (asks_form B_for_A ∷ asks_form B_for_C ∷ []) Commit)
     (three : ScriptOf resolved 8 (asks_form C_for_B ∷ updates_form ∷ []) Rollback) where
   -- A and B are answered, and A books
-  abbrev pub first_link : List (Event × Reply ℕ)
+  abbrev pub first_link : List (Event × Reply F)
   first_link =
       (events.Submit (script one), events.Submitted 1)
       ∷ (events.Submit (script two), events.Submitted 2)
@@ -86,7 +86,7 @@ module _ {resolved : Forms ℕ} (one : ScriptOf resolved 2 (asks_form A_for_B �
       ∷ []
 
 -- B and C are answered; C passes the lock of A, which is prepared, changes its row, and rolls back
-abbrev pub second_link : List (Event × Reply ℕ)
+abbrev pub second_link : {F : Type 0} → List (Event × Reply F)
 second_link =
     (events.Begin 2, events.Posted)
     ∷ (events.Pick, events.Lent (joint_job B_and_C))

@@ -1,5 +1,5 @@
 -- A component grows while its job is out and shrinks back by a rollback: the job is lent no more, and lent again.
-use Rattle.std.specs.Prelude.{ℕ, List, [], ◌∷◌, codes}
+use Rattle.std.specs.Prelude.{List, [], ◌∷◌, codes}
 use Rattle.ent_tree.specs.declared.script.End.TheVariants.{Commit, Rollback}
 use Rattle.ent_protocol.specs.Event.{Event, Reply}
 use Rattle.ent_protocol.specs.Event as events
@@ -18,12 +18,12 @@ D_for_C = in_S (codes "D") (codes "C")
 abbrev pub C_and_D : List Friend
 C_and_D = first_asks 3 C_for_D ∷ first_asks 4 D_for_C ∷ []
 
-module _ {resolved : Forms ℕ} (one : ScriptOf resolved 8 (asks_form A_for_B ∷ []) Commit)
+module _ {F : Type 0} {resolved : Forms F} (one : ScriptOf resolved 8 (asks_form A_for_B ∷ []) Commit)
     (two : ScriptOf resolved 8 (asks_form B_for_A ∷ []) Commit)
     (three : ScriptOf resolved 8 (asks_form C_for_D ∷ asks_form C_for_A ∷ []) Commit)
     (four : ScriptOf resolved 8 (asks_form D_for_C ∷ []) Rollback) where
   -- C and D are answered, and are of one group from here
-  abbrev pub group_forms : List (Event × Reply ℕ)
+  abbrev pub group_forms : List (Event × Reply F)
   group_forms =
       (events.Submit (script one), events.Submitted 1)
       ∷ (events.Submit (script two), events.Submitted 2)
@@ -37,7 +37,7 @@ module _ {resolved : Forms ℕ} (one : ScriptOf resolved 8 (asks_form A_for_B �
       ∷ []
 
 -- the job of A and B is lent; C comes to them by its next statement, and goes with D's group
-abbrev pub comes_and_goes : List (Event × Reply ℕ)
+abbrev pub comes_and_goes : {F : Type 0} → List (Event × Reply F)
 comes_and_goes =
     (events.Begin 1, events.Posted)
     ∷ (events.Begin 2, events.Posted)
@@ -49,7 +49,7 @@ comes_and_goes =
     ∷ []
 
 -- the same job is lent again, and now its result is taken
-abbrev pub is_picked_again : List (Event × Reply ℕ)
+abbrev pub is_picked_again : {F : Type 0} → List (Event × Reply F)
 is_picked_again =
     (events.Pick, events.Lent (joint_job A_and_B))
     ∷ (events.JoinAnswer (joint_done A_and_B), events.Answered)

@@ -1,5 +1,5 @@
 -- Results come twice, and to the wrong event: each is stale but the one that is outstanding.
-use Rattle.std.specs.Prelude.{ℕ, List, [], ◌∷◌, codes}
+use Rattle.std.specs.Prelude.{List, [], ◌∷◌, codes}
 use Rattle.ent_set.specs.Sets as set
 use Rattle.ent_tree.specs.declared.script.End.TheVariants.{Commit}
 use Rattle.ent_protocol.specs.Event.{Event, Reply}
@@ -17,11 +17,11 @@ Mickey_booked = booking_done 1 Mickey set.empty
 abbrev pub Minnie_booked : Done
 Minnie_booked = booking_done 2 Minnie first_booked
 
-module _ {resolved : Forms ℕ}
+module _ {F : Type 0} {resolved : Forms F}
     (one : ScriptOf resolved 8 (asks_form mickey ∷ books_form (codes "Mickey") ∷ []) Commit)
     (two : ScriptOf resolved 8 (asks_form minnie ∷ books_form (codes "Minnie") ∷ []) Commit) where
   -- the joint result is none of a statement, and is taken once
-  abbrev pub joint_comes_twice : List (Event × Reply ℕ)
+  abbrev pub joint_comes_twice : List (Event × Reply F)
   joint_comes_twice =
       (events.Submit (script one), events.Submitted 1)
       ∷ (events.Submit (script two), events.Submitted 2)
@@ -35,7 +35,7 @@ module _ {resolved : Forms ℕ}
       ∷ []
 
 -- the result of a statement is no joint one, and is taken once; a recall doesn't touch what was taken
-abbrev pub single_comes_twice : List (Event × Reply ℕ)
+abbrev pub single_comes_twice : {F : Type 0} → List (Event × Reply F)
 single_comes_twice =
     (events.Begin 1, events.Lent (booking_job 1 Mickey set.empty))
     ∷ (events.JoinAnswer Mickey_booked, events.Stale Mickey_booked)

@@ -8,6 +8,6 @@ mod play;
 
 pub use play::{
     component_grows, component_shrinks_back, failure_takes_the_group_back,
-    job_outlives_its_attempt, linked_roll_back_together, results_are_taken_once, run_is_busy,
-    third_is_held_back,
+    job_outlives_its_attempt, linked_roll_back_together, results_are_taken_once,
+    ring_commits_together, run_is_busy, third_is_held_back,
 };

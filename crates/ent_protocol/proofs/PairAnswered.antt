@@ -48,11 +48,11 @@ module _ (s : State) (one two : ℕ) (before : one < two) (asked : askings s ≡
       (h.component.component.in_remainder, (zero, refl))))
   least (a ∷ more) h = at_least a (h.component.present zero a (omega arith))
 
-  abbrev lent : Reply ℕ
+  abbrev lent : {F : Type 0} → Reply F
   lent = events.Lent (joint_job s (pair one two))
 
-  pub lends_pair : s.tried ≡ [] → s.lent ≡ []
-      → Lends s lent (record s { lent = s.lent ++ joint_job s (pair one two) ∷ [] })
+  pub lends_pair : {F : Type 0} → s.tried ≡ [] → s.lent ≡ []
+      → Lends {F = F} s lent (record s { lent = s.lent ++ joint_job s (pair one two) ∷ [] })
   lends_pair tried_is lent_is =
       record {
         asked = pair one two;
@@ -66,11 +66,11 @@ module _ (s : State) (one two : ℕ) (before : one < two) (asked : askings s ≡
         is = refl;
       }
 
-  abbrev answered : Reply ℕ
+  abbrev answered : {F : Type 0} → Reply F
   answered = events.Answered
 
-  pub joins_pair : s.lent ≡ pair_job one two ∷ []
-      → Joins s (pair_done one two) answered (joining (record s { lent = [] }) (pair one two) taken)
+  pub joins_pair : {F : Type 0} → s.lent ≡ pair_job one two ∷ []
+      → Joins {F = F} s (pair_done one two) answered (joining (record s { lent = [] }) (pair one two) taken)
   joins_pair lent_is =
       record {
         meant = least_taken one two;

@@ -21,7 +21,7 @@ use Rattle.ent_protocol.proofs.WritersPlay.{fresh}
 abbrev answered_in : ℕ → ℕ → Value → Member
 answered_in group tx own = record (answered tx own) { group = group }
 
-module _ {resolved : Forms ℕ} (askers : Askers resolved) where
+module _ {F : Type 0} {resolved : Forms F} (askers : Askers resolved) where
   abbrev with_first : State → State
   with_first s = submitting s (committing_script askers.first) (asks_form Mickey Minnie)
 

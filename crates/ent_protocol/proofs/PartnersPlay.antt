@@ -113,7 +113,7 @@ lent_alone job = record { before = []; behind = []; is_there = refl; others = re
 
 -- ---- states
 
-module _ {resolved : Forms ℕ} (partners : Partners resolved) where
+module _ {F : Type 0} {resolved : Forms F} (partners : Partners resolved) where
   abbrev one_in : State
   one_in = submitting (opened partners_opening) (committing_script partners.first) (flies_form Mickey Minnie)
 

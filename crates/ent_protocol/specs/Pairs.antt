@@ -1,5 +1,5 @@
 -- Two pairs of partners, the second of which commits first, event by event.
-use Rattle.std.specs.Prelude.{◌≡◌, ℕ, List, [], ◌∷◌, Ok}
+use Rattle.std.specs.Prelude.{◌≡◌, List, [], ◌∷◌, Ok}
 use Rattle.ent_value.specs.declared.value.Value.{Value}
 use Rattle.ent_tree.specs.declared.script.Statement.{Statement}
 use Rattle.ent_closed.specs.declared.operand.Known.{Known}
@@ -16,14 +16,14 @@ abbrev pub asks_form : Value → Value → List (FormStatement Known)
 asks_form own partner = forms.Entangled (asks own partner) ∷ []
 
 -- some scripts that resolve to it
-pub record Askers (resolved : Forms ℕ) : Type 0 where
+pub record Askers {F : Type 0} (resolved : Forms F) : Type 0 where
   pub first : List Statement
   pub first_is : resolved.resolve partners_opening (committing_script first) ≡ Ok (asks_form Mickey Minnie)
   pub second : List Statement
   pub second_is : resolved.resolve partners_opening (committing_script second) ≡ Ok (asks_form Minnie Mickey)
 
 -- The first pair is answered, then the second one; the second pair commits, and then the first one.
-abbrev pub pairs_commit : {resolved : Forms ℕ} → Askers resolved → List (Event × Reply ℕ)
+abbrev pub pairs_commit : {F : Type 0} {resolved : Forms F} → Askers resolved → List (Event × Reply F)
 pairs_commit askers =
     (events.Submit (committing_script askers.first), events.Submitted 1)
     ∷ (events.Submit (committing_script askers.second), events.Submitted 2)

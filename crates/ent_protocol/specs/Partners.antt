@@ -115,7 +115,7 @@ reads_form =
     forms.Select (record { sources = 1 ∷ []; items = operands.Column 0 ∷ operands.Column 1 ∷ []; tests = [] }) ∷ []
 
 -- some scripts that resolve to these statements
-pub record Partners (resolved : Forms ℕ) : Type 0 where
+pub record Partners {F : Type 0} (resolved : Forms F) : Type 0 where
   pub first : List Statement
   pub first_is : resolved.resolve partners_opening (committing_script first) ≡ Ok (flies_form Mickey Minnie)
   pub second : List Statement
@@ -170,12 +170,12 @@ booking_done tx own rows =
 abbrev pub first_booked : Rows
 first_booked = applied [] ((Mickey ∷ flight_122 ∷ []) ∷ []) set.empty
 
-abbrev pub counts_1 : Reply ℕ
+abbrev pub counts_1 : {F : Type 0} → Reply F
 counts_1 = events.Stepped (answers.Count 1)
 
 -- The partners are answered together; the first books and asks to commit; the reader is blocked by it, and the second
 -- one passes it, since they are of one group; then both commit.
-abbrev pub partners_pass : {resolved : Forms ℕ} → Partners resolved → List (Event × Reply ℕ)
+abbrev pub partners_pass : {F : Type 0} {resolved : Forms F} → Partners resolved → List (Event × Reply F)
 partners_pass partners =
     (events.Submit (committing_script partners.first), events.Submitted 1)
     ∷ (events.Submit (committing_script partners.second), events.Submitted 2)

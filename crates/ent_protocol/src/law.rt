@@ -86,8 +86,8 @@ pub fn two_writers_deadlock()
 
 /// Two partners are answered together; one prepares, and the other passes its lock, which blocks a reader; both commit
 /// in one event, and their joint answer is kept. So there are states that are reached in which a pair has committed.
-pub fn partner_passes_a_prepared_lock()
-    ensures { (resolved : Forms ℕ) (partners : Partners resolved)
+pub fn partner_passes_a_prepared_lock<F>()
+    ensures { (resolved : Forms F) (partners : Partners resolved)
         → (last : State)
         × Plays resolved (opened partners_opening) (partners_pass partners) last
         × IsReached resolved last
@@ -102,8 +102,8 @@ pub fn partner_passes_a_prepared_lock()
 
 /// Two pairs are answered one after the other, and the second one commits first: the journal has the pairs in the order
 /// of their commits, and the joint answers stand in the order in which they were made.
-pub fn joint_answers_stand_as_made()
-    ensures { (resolved : Forms ℕ) (askers : Askers resolved)
+pub fn joint_answers_stand_as_made<F>()
+    ensures { (resolved : Forms F) (askers : Askers resolved)
         → (last : State)
         × Plays resolved (opened partners_opening) (pairs_commit askers) last
         × (map (λ entry. entry.tx) (book_of last).journal ≡ 3 ∷ 4 ∷ 1 ∷ 2 ∷ [])

@@ -39,7 +39,8 @@ use ent_protocol::plays_lead_on;
 use ent_standing::lent_jobs_stand_once;
 
 /// Every state that is reached is a serial state: the committed transactions, run alone in the order of their commits,
-/// give the settled database, and the members of the run, one after the other from there, give the present tables.
+/// give the settled database, and the members of the run, each once, one after the other from there, give the present
+/// tables.
 pub fn resolved_runs_are_serial()
     ensures { (s : State) → opening_fault s.opening ≡ None → IsReached resolved_forms s → IsSerialState s }
 {

@@ -10,3 +10,4 @@ pub mod Members
 pub mod Together
 pub mod Journals
 pub mod Ended
+pub mod SettledTables

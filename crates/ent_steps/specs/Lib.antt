@@ -2,3 +2,4 @@ pub mod Alike
 pub mod Restored
 pub mod Whole
 pub mod Last
+pub mod Settled

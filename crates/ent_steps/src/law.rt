@@ -3,7 +3,7 @@ ghost use Rattle.std.specs.Prelude.{◌≡◌, ◌≢◌, ◌⊎◌, ◌<◌, �
 ghost use Rattle.ent_semantics.specs.Serial.{numbered};
 ghost use Rattle.ent_semantics.specs.declared.book.Fate.{Fate};
 ghost use Rattle.ent_protocol.specs.Event.{EndRun, Ended, Event, Reply};
-ghost use Rattle.ent_protocol.specs.Reached.{IsReached};
+ghost use Rattle.ent_protocol.specs.Reached.{IsReached, settled};
 ghost use Rattle.ent_protocol.specs.Rollback.{Cause, own_fate, rolled_back};
 ghost use Rattle.ent_protocol.specs.Run.{Forms};
 ghost use Rattle.ent_protocol.specs.State.{Change, Member, State, Submitted, members};
@@ -12,6 +12,7 @@ ghost use Rattle.ent_protocol.specs.Tidy.{is_member};
 ghost use Rattle.ent_steps.specs.Alike.{AreAlike};
 ghost use Rattle.ent_steps.specs.Last.{HasGivenUp, WaitsAgain};
 ghost use Rattle.ent_steps.specs.Restored.{HasNotChanged, IsFirstChange, IsNoted, rolls_back, rows_at};
+ghost use Rattle.ent_steps.specs.Settled.{tables_before_changes};
 ghost use Rattle.ent_steps.specs.Whole.{CommitsWhole};
 
 use ent_coordination::components_are_classes;
@@ -54,6 +55,15 @@ pub fn rollbacks_restore_tables<F>()
         → rolls_back reply ≡ false
         → IsNoted s new table }
 {}
+
+/// In every state that is reached the settled database has each table as it stood before the first change of it by a
+/// member without a fate, and as it stands where there was no such change.
+pub fn settled_tables_precede_changes<F>()
+    ensures { (forms : Forms F) (s : State) → IsReached forms s → settled s ≡ tables_before_changes s }
+{
+    reached_states_are_tidy::<F>();
+    transactions_stand_once::<F>();
+}
 
 /// An event keeps the journal, or a group commits: a member prepares, all others of its group being prepared, and the
 /// journal goes on with the entries of them all, in the order in which they prepared.

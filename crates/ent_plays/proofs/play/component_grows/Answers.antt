@@ -3,4 +3,4 @@ use Rattle.ent_plays.proofs.GrownPlay.{last, played}
 use Rattle.ent_plays.proofs.play.component_grows.Goals as goal
 
 pub returns : goal.returns
-returns c resolved one two three = (last one two three, played one two three, refl, refl, refl)
+returns g c resolved one two three = (last one two three, played one two three, refl, refl, refl)

@@ -3,4 +3,4 @@ use Rattle.ent_plays.proofs.ShrunkPlay.{last, played}
 use Rattle.ent_plays.proofs.play.component_shrinks_back.Goals as goal
 
 pub returns : goal.returns
-returns c resolved one two three four = (last one two three four, played one two three four, refl, refl, refl)
+returns g c resolved one two three four = (last one two three four, played one two three four, refl, refl, refl)

@@ -3,4 +3,4 @@ use Rattle.ent_plays.proofs.FailurePlay.{last, played}
 use Rattle.ent_plays.proofs.play.failure_takes_the_group_back.Goals as goal
 
 pub returns : goal.returns
-returns c resolved one two = (last one two, played one two, refl, refl)
+returns g c resolved one two = (last one two, played one two, refl, refl)

@@ -3,4 +3,4 @@ use Rattle.ent_plays.proofs.TwicePlay.{last, played}
 use Rattle.ent_plays.proofs.play.results_are_taken_once.Goals as goal
 
 pub returns : goal.returns
-returns c resolved one two = (last one two, played one two, refl, refl)
+returns g c resolved one two = (last one two, played one two, refl, refl)

@@ -3,4 +3,4 @@ use Rattle.ent_plays.proofs.BusyPlay.{last, played}
 use Rattle.ent_plays.proofs.play.run_is_busy.Goals as goal
 
 pub returns : goal.returns
-returns c resolved one two = (last one two, played one two, refl, refl, refl, refl)
+returns g c resolved one two = (last one two, played one two, refl, refl, refl, refl)

@@ -3,4 +3,4 @@ use Rattle.ent_plays.proofs.HeldBackPlay.{last, played}
 use Rattle.ent_plays.proofs.play.third_is_held_back.Goals as goal
 
 pub returns : goal.returns
-returns c resolved one two third = (last one two third, played one two third, refl, refl)
+returns g c resolved one two third = (last one two third, played one two third, refl, refl)

@@ -5,7 +5,7 @@ use Rattle.ent_protocol.proofs.law.partner_passes_a_prepared_lock.Goals as goal
 use Rattle.ent_protocol.specs.Partners.{partners_opening, partners_pass}
 
 pub returns : goal.returns
-returns c resolved partners = (
+returns g c resolved partners = (
   last partners,
   played partners,
   plays_lead resolved partners_opening (partners_pass partners) (last partners) (played partners),

@@ -1,0 +1,16 @@
+//! The limits of the product, as numbers.
+//!
+//! The other crates name their limits. Here each of them stands as the number that a user reads: once of its constant,
+//! and once of what it limits, a type of the tree, a table, a list of members, the scripts of a core. So neither a
+//! constant nor what it limits can change unseen.
+#![tactic(auto)]
+
+mod law;
+mod within;
+
+pub use law::{limits_are_numbers, members_are_64_at_most, scripts_are_10_000_at_most};
+pub use within::{
+    create_is_within, delete_is_within, entangled_is_within, input_is_within, insert_is_within,
+    items_are_within, members_are_within, name_is_within, opening_row_is_within, script_is_within,
+    select_is_within, table_is_within, text_is_within, tuple_is_within, update_is_within,
+};
