@@ -5,14 +5,13 @@ use Rattle.ent_protocol.specs.State.{State, members}
 use Rattle.ent_bounds.specs.Within.{IsBelow, IsWithin}
 use Rattle.ent_sched.specs.Onward.{TicksOn, events_of_round}
 use Rattle.ent_sched.specs.Bounds.{events_of_rounds, events_of_run, most_progress, run_start}
+use Rattle.ent_sched.specs.Tally.{Tally}
 
 -- events and their ticks add up
 pub record AddUp {F : Type 0} (forms : Forms F) : Type 0 where
-  pub joined : (n m : ℕ) (first middle last : State) (start between end : ℕ)
-      → TicksOn forms n first middle start between → TicksOn forms m middle last between end
-      → TicksOn forms (n + m) first last start end
-  pub widened : (n m : ℕ) (first last : State) (start end : ℕ) → n ≤ m → TicksOn forms n first last start end
-      → TicksOn forms m first last start end
+  pub joined : (n m : ℕ) (first middle last : Tally) → TicksOn forms n first middle → TicksOn forms m middle last
+      → TicksOn forms (n + m) first last
+  pub widened : (n m : ℕ) (first last : Tally) → n ≤ m → TicksOn forms n first last → TicksOn forms m first last
 
 -- ---- steps of progress
 
@@ -55,45 +54,42 @@ no_longer : (first middle : State) → length (members middle) ≤ length (membe
     → events_of_round middle ≤ events_of_round first
 no_longer first middle few = omega (arith, few)
 
-module _ {F : Type 0} (forms : Forms F) (adds : AddUp forms) (first middle last : State) (start between end : ℕ) where
-  pub round_made : (made more left : ℕ) → more ≡ made + 1 → IsWithin (length (members first)) left middle
-      → TicksOn forms (made * events_of_round first) first middle start between
-      → TicksOn forms (events_of_round middle) middle last between end
-      → TicksOn forms (more * events_of_round first) first last start end
+module _ {F : Type 0} (forms : Forms F) (adds : AddUp forms) (first middle last : Tally) where
+  pub round_made : (made more left : ℕ) → more ≡ made + 1 → IsWithin (length (members first.core)) left middle.core
+      → TicksOn forms (made * events_of_round first.core) first middle
+      → TicksOn forms (events_of_round middle.core) middle last
+      → TicksOn forms (more * events_of_round first.core) first last
   round_made made more left is within before behind =
-      let this = no_longer first middle within.few in
-      let low = one_more made more (events_of_round first) (events_of_round middle) is this in
-      adds.widened (made * events_of_round first + events_of_round middle) (more * events_of_round first) first last
-      start end low
-      (adds.joined (made * events_of_round first) (events_of_round middle) first middle last start between end before
-      behind)
+      let per = events_of_round first.core in
+      let this = no_longer first.core middle.core within.few in
+      let low = one_more made more per (events_of_round middle.core) is this in
+      adds.widened (made * per + events_of_round middle.core) (more * per) first last low
+      (adds.joined (made * per) (events_of_round middle.core) first middle last before behind)
 
-  pub last_round_made : (made left : ℕ) → made ≤ most_progress first → IsWithin (length (members first)) left middle
-      → TicksOn forms (made * events_of_round first) first middle start between
-      → TicksOn forms (events_of_round middle) middle last between end
-      → TicksOn forms (events_of_rounds first) first last start end
+  pub last_round_made : (made left : ℕ) → made ≤ most_progress first.core
+      → IsWithin (length (members first.core)) left middle.core
+      → TicksOn forms (made * events_of_round first.core) first middle
+      → TicksOn forms (events_of_round middle.core) middle last
+      → TicksOn forms (events_of_rounds first.core) first last
   last_round_made made left few within before behind =
-      let this = no_longer first middle within.few in
-      let low = one_behind made (most_progress first) (events_of_round first) (events_of_round middle) few this in
-      adds.widened (made * events_of_round first + events_of_round middle) (events_of_rounds first) first last
-      start end low
-      (adds.joined (made * events_of_round first) (events_of_round middle) first middle last start between end before
-      behind)
+      let per = events_of_round first.core in
+      let this = no_longer first.core middle.core within.few in
+      let low = one_behind made (most_progress first.core) per (events_of_round middle.core) few this in
+      adds.widened (made * per + events_of_round middle.core) (events_of_rounds first.core) first last low
+      (adds.joined (made * per) (events_of_round middle.core) first middle last before behind)
 
   -- a run is started, and its rounds are made
-  pub rounds_made : middle ≡ run_start first → TicksOn forms 1 first middle start between
-      → TicksOn forms (events_of_rounds middle) middle last between end
-      → TicksOn forms (events_of_rounds (run_start first) + 1) first last start end
+  pub rounds_made : middle.core ≡ run_start first.core → TicksOn forms 1 first middle
+      → TicksOn forms (events_of_rounds middle.core) middle last
+      → TicksOn forms (events_of_rounds (run_start first.core) + 1) first last
   rounds_made is before behind =
       let e = ap events_of_rounds is in
-      adds.widened (1 + events_of_rounds middle) (events_of_rounds (run_start first) + 1) first last start end
-      (omega (arith, e)) (adds.joined 1 (events_of_rounds middle) first middle last start between end before behind)
+      adds.widened (1 + events_of_rounds middle.core) (events_of_rounds (run_start first.core) + 1) first last
+      (omega (arith, e)) (adds.joined 1 (events_of_rounds middle.core) first middle last before behind)
 
   -- and it is ended
-  pub run_made : TicksOn forms (events_of_rounds (run_start first) + 1) first middle start between
-      → TicksOn forms 1 middle last between end
-      → TicksOn forms (events_of_run first) first last start end
+  pub run_made : TicksOn forms (events_of_rounds (run_start first.core) + 1) first middle → TicksOn forms 1 middle last
+      → TicksOn forms (events_of_run first.core) first last
   run_made before behind =
-      adds.widened (events_of_rounds (run_start first) + 1 + 1) (events_of_run first) first last start end
-      (omega arith)
-      (adds.joined (events_of_rounds (run_start first) + 1) 1 first middle last start between end before behind)
+      adds.widened (events_of_rounds (run_start first.core) + 1 + 1) (events_of_run first.core) first last
+      (omega arith) (adds.joined (events_of_rounds (run_start first.core) + 1) 1 first middle last before behind)

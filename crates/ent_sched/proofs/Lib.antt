@@ -1,6 +1,7 @@
 pub mod Adding
 pub mod Counting
 pub mod Moving
+pub mod Running
 pub mod Spent
 pub mod Started
 pub mod Staying

@@ -1,13 +1,12 @@
 -- Runs that start and end, and calls that end well.
 use Rattle.std.proofs.Common.{◌≡◌, ◌⊎◌, ◌∙◌, inl, inr, Bool, true, false, List, [], ◌∷◌, Result, Ok, Err, OnOk, ap, sym}
-use Rattle.std.proofs.Common.{◌+◌, ℕ, if◌then◌else◌, refl, subst}
+use Rattle.std.proofs.Common.{if◌then◌else◌, refl}
 use Rattle.ent_protocol.specs.Event.{Reply}
 use Rattle.ent_protocol.specs.Event as events
-use Rattle.ent_protocol.specs.Reached.{CanClose, LeadsTo}
+use Rattle.ent_protocol.specs.Reached.{CanClose}
 use Rattle.ent_protocol.specs.Run.{EndsWhileRunning, Forms, Starts, StartsWith, ending, starting}
 use Rattle.ent_protocol.specs.State.{State, Dormant}
 use Rattle.ent_protocol.specs.Step.{Step}
-use Rattle.ent_sched.specs.Onward.{LeadsOn}
 use Rattle.ent_sched.specs.Bounds.{run_start}
 use Rattle.ent_sched.proofs.Staying.{clash}
 
@@ -57,20 +56,3 @@ run_over forms s reply new step ends none = by s.running refl step
 pub on_ok : {T E : Type 0} {P Q : Type 0} (result : Result T E) → (P → Q) → OnOk result P → OnOk result Q
 on_ok (Ok x) f h = f h
 on_ok (Err e) f h = h
-
--- events that lead on from a state, and others from the same one
-pub led_further : {F : Type 0} (forms : Forms F)
-    → ((n m : ℕ) (first middle last : State) → LeadsTo forms n first middle → LeadsTo forms m middle last
-    → LeadsTo forms (n + m) first last)
-    → (first middle same last : State) → ((n : ℕ) × LeadsOn forms n first middle) → same ≡ middle
-    → (m : ℕ) → LeadsOn forms m same last
-    → (k : ℕ) × LeadsOn forms k first last
-led_further forms joined first middle same last before is m behind =
-    let rest = subst (λ (s : State). LeadsOn forms m s last) is behind in (
-      before.0 + m,
-      record {
-        leads = joined before.0 m first middle last before.1.leads rest.leads;
-        opening = rest.opening ∙ before.1.opening;
-        submitted = rest.submitted ∙ before.1.submitted;
-      },
-    )

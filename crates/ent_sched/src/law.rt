@@ -6,11 +6,10 @@ ghost use Rattle.ent_protocol.specs.Event.{Event, Reply};
 ghost use Rattle.ent_protocol.specs.Reached.{IsReached};
 ghost use Rattle.ent_protocol.specs.Run.{Forms};
 ghost use Rattle.ent_protocol.specs.State.{State};
-ghost use Rattle.ent_protocol.specs.Step.{Step};
 ghost use Rattle.ent_sched.specs.Onward.{LeadsOn, TicksOn};
+ghost use Rattle.ent_sched.specs.Tally.{MakesEvent, Tally};
 ghost use Rattle.ent_sched.specs.Tries.{UsesTries};
 ghost use Rattle.ent_standing.specs.Attempts.{AsksForRun};
-ghost use Rattle.ent_value.specs.Ticks.{ticked};
 
 use ent_endings::{ended_runs_use_up_tries, events_keep_the_input, events_lead_on};
 use ent_standing::steps_go_on;
@@ -18,19 +17,19 @@ use ent_standing::steps_go_on;
 /// Events and their ticks add up: none leaves all as it was, one that adds no script is one, behind some come others,
 /// and at most so many are at most more.
 pub fn events_add_up<F>()
-    ensures none { (forms : Forms F) (s : State) (ticks : ℕ) → ticks < 2 ^ 64 → TicksOn forms 0 s s ticks ticks }
-    ensures one { (forms : Forms F) (s : State) (event : Event) (reply : Reply F) (new : State) (ticks : ℕ)
-        → Step forms s event reply new
+    ensures none { (forms : Forms F) (tally : Tally) → tally.ticks < 2 ^ 64 → TicksOn forms 0 tally tally }
+    ensures one { (forms : Forms F) (event : Event) (reply : Reply F) (old new : Tally)
+        → MakesEvent forms event reply old new
         → adds_script event reply ≡ false
-        → TicksOn forms 1 s new ticks (ticked 1 ticks) }
-    ensures joined { (forms : Forms F) (n m : ℕ) (first middle last : State) (start between end : ℕ)
-        → TicksOn forms n first middle start between
-        → TicksOn forms m middle last between end
-        → TicksOn forms (n + m) first last start end }
-    ensures widened { (forms : Forms F) (n m : ℕ) (first last : State) (start end : ℕ)
+        → TicksOn forms 1 old new }
+    ensures joined { (forms : Forms F) (n m : ℕ) (first middle last : Tally)
+        → TicksOn forms n first middle
+        → TicksOn forms m middle last
+        → TicksOn forms (n + m) first last }
+    ensures widened { (forms : Forms F) (n m : ℕ) (first last : Tally)
         → n ≤ m
-        → TicksOn forms n first last start end
-        → TicksOn forms m first last start end }
+        → TicksOn forms n first last
+        → TicksOn forms m first last }
 {
     events_lead_on::<F>();
     events_keep_the_input::<F>();

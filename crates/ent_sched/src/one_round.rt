@@ -5,35 +5,34 @@ ghost use Rattle.ent_endings.specs.Idle.{IsIdleRound};
 ghost use Rattle.ent_resolved.specs.Resolved.{resolved_forms};
 ghost use Rattle.ent_sched.specs.Onward.{TicksOn, events_of_round};
 
+use crate::counted::Counted;
 use crate::deadlock::break_deadlock;
 use crate::joint::answer_component;
 use crate::law::events_add_up;
 use crate::turn::take_turns;
-use ent_core::Core;
 use ent_endings::members_come_by_number;
 use ent_form::FormFault;
-use ent_value::Ticks;
 use std::alloc::{AllocError, Global};
 
 /// One round: each member that is ready at its turn, by number, begins its next statement, and a job that is lent is
 /// evaluated and its result taken at once; then a component is picked, evaluated and answered; then a deadlock is
 /// broken. It answers whether anything moved. Where memory runs out the events that were made stand, and a job may be
 /// lent still.
-pub fn round(alloc: Global, core: &mut Core, ticks: &mut Ticks) -> Result<bool, AllocError>
-    requires none_lent { core.old.lent ≡ [] }
-    ensures events { TicksOn resolved_forms (events_of_round core.old) core.old core.new ticks.old ticks.new }
-    ensures none_lent { OnOk result (core.new.lent ≡ []) }
+pub fn round(alloc: Global, counted: &mut Counted) -> Result<bool, AllocError>
+    requires none_lent { counted.old.core.lent ≡ [] }
+    ensures events { TicksOn resolved_forms (events_of_round counted.old.core) counted.old counted.new }
+    ensures none_lent { OnOk result (counted.new.core.lent ≡ []) }
     ensures progress { IfOk result (λ moved. moved ≡ true
         → (most left : ℕ)
-        → IsWithin most left core.old
-        → IsBelow most left core.new) }
+        → IsWithin most left counted.old.core
+        → IsBelow most left counted.new.core) }
     ensures idle { IfOk result (λ moved. moved ≡ false
-        → (core.new ≡ core.old) × IsIdleRound resolved_forms core.old) }
+        → (counted.new.core ≡ counted.old.core) × IsIdleRound resolved_forms counted.old.core) }
 {
     events_add_up::<FormFault>();
     members_come_by_number::<FormFault>();
-    let turned = take_turns(alloc, core, ticks)?;
-    let answered = answer_component(alloc, core, ticks)?;
-    let broken = break_deadlock(core, ticks);
+    let turned = take_turns(alloc, counted)?;
+    let answered = answer_component(alloc, counted)?;
+    let broken = break_deadlock(counted);
     Ok(turned || answered || broken)
 }

@@ -5,12 +5,11 @@ ghost use Rattle.ent_resolved.specs.Resolved.{resolved_forms};
 ghost use Rattle.ent_sched.specs.Onward.{TicksOn};
 ghost use Rattle.ent_sched.specs.Bounds.{events_of_rounds};
 
+use crate::counted::Counted;
 use crate::law::events_add_up;
 use crate::one_round::round;
 use ent_bounds::runs_are_within;
-use ent_core::Core;
 use ent_form::FormFault;
-use ent_value::Ticks;
 use std::alloc::{AllocError, Global};
 use std::marker::Brand;
 use std::sync::ledger::{Blank, Ledger};
@@ -19,32 +18,31 @@ use std::sync::ledger::{Blank, Ledger};
 /// are no more than steps of progress at the start.
 fn counted_rounds<L: Ledger>(
     alloc: Global,
-    core: &mut Core,
-    ticks: &mut Ticks,
+    counted: &mut Counted,
     ledger: Blank,
 ) -> Result<(), AllocError>
     requires name { ledger.name ≡ L.name }
     requires parts { ledger.parts ≡ L.parts }
     requires whole { ledger.parts ≡ 1 }
-    requires none_lent { core.old.lent ≡ [] }
-    ensures events { TicksOn resolved_forms (events_of_rounds core.old) core.old core.new ticks.old ticks.new }
-    ensures idle { OnOk result (IsIdleRound resolved_forms core.new) }
+    requires none_lent { counted.old.core.lent ≡ [] }
+    ensures events { TicksOn resolved_forms (events_of_rounds counted.old.core) counted.old counted.new }
+    ensures idle { OnOk result (IsIdleRound resolved_forms counted.new.core) }
 {
     runs_are_within();
     events_add_up::<FormFault>();
-    let _count = ticks.count();
+    counted.is_reached();
     let (mut progress, mut share) = ledger.open::<L>();
-    'rounds: while round(alloc, core, ticks)? {
+    'rounds: while round(alloc, counted)? {
         progress.add(&mut share, 1);
     }
     Ok(())
 }
 
 /// Rounds, until nothing moves in one. Where memory runs out the events that were made stand.
-pub(crate) fn rounds(alloc: Global, core: &mut Core, ticks: &mut Ticks) -> Result<(), AllocError>
-    requires none_lent { core.old.lent ≡ [] }
-    ensures events { TicksOn resolved_forms (events_of_rounds core.old) core.old core.new ticks.old ticks.new }
-    ensures idle { OnOk result (IsIdleRound resolved_forms core.new) }
+pub(crate) fn rounds(alloc: Global, counted: &mut Counted) -> Result<(), AllocError>
+    requires none_lent { counted.old.core.lent ≡ [] }
+    ensures events { TicksOn resolved_forms (events_of_rounds counted.old.core) counted.old counted.new }
+    ensures idle { OnOk result (IsIdleRound resolved_forms counted.new.core) }
 {
-    counted_rounds::<Brand>(alloc, core, ticks, Blank::new(1))
+    counted_rounds::<Brand>(alloc, counted, Blank::new(1))
 }

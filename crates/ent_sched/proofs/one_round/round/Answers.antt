@@ -10,47 +10,41 @@ use Rattle.ent_sched.proofs.one_round.round.Goals as goal
 
 pub returns-then-answered-clause-events : goal.returns-then-answered-clause-events
 returns-then-answered-clause-events c =
-    let s = c.args.core.now in
-    let n = length (running_members s) in
-    let start = c.args.ticks.now in
-    let last = c.break_deadlock-broken.new.core in
-    let end = c.break_deadlock-broken.new.ticks in
-    let same = c.members_come_by_number.ensures.counted s in
-    let few : 2 * n + 2 + 1 ≤ events_of_round s = omega (arith, same) in
-    let two = c.events_add_up.ensures.joined resolved_forms (2 * n) 2 s c.take_turns.new.core
-    c.answer_component.new.core start c.take_turns.new.ticks c.answer_component.new.ticks
-    c.in_ok-turned.ensures.events c.in_ok-answered.ensures.events in
-    c.events_add_up.ensures.widened resolved_forms (2 * n + 2 + 1) (events_of_round s) s last start end few
-    (c.events_add_up.ensures.joined resolved_forms (2 * n + 2) 1 s c.answer_component.new.core last start
-    c.answer_component.new.ticks end two c.break_deadlock-broken.ensures.events)
+    let first = c.args.counted.now in
+    let last = c.break_deadlock-broken.new.counted in
+    let n = length (running_members first.core) in
+    let same = c.members_come_by_number.ensures.counted first.core in
+    let few : 2 * n + 2 + 1 ≤ events_of_round first.core = omega (arith, same) in
+    let two = c.events_add_up.ensures.joined resolved_forms (2 * n) 2 first c.take_turns.new.counted
+    c.answer_component.new.counted c.in_ok-turned.ensures.events c.in_ok-answered.ensures.events in
+    c.events_add_up.ensures.widened resolved_forms (2 * n + 2 + 1) (events_of_round first.core) first last few
+    (c.events_add_up.ensures.joined resolved_forms (2 * n + 2) 1 first c.answer_component.new.counted last two
+    c.break_deadlock-broken.ensures.events)
 
 pub returns-then-answered-clause-progress : goal.returns-then-answered-clause-progress
 returns-then-answered-clause-progress c = λ moved.
     let turned = c.in_ok-turned.ensures in
     let answered = c.in_ok-answered.ensures in
     let broken = c.break_deadlock-broken.ensures in
-    let one = one_moved c.in_ok-turned.turned c.in_ok-answered.answered c.args.core.now c.take_turns.new.core
-    c.answer_component.new.core (turned.progress, (λ still. (turned.idle still).0))
-    (answered.progress, (λ still. (answered.idle still).0))
+    let one = one_moved c.in_ok-turned.turned c.in_ok-answered.answered c.args.counted.now.core
+    c.take_turns.new.counted.core c.answer_component.new.counted.core
+    (turned.progress, (λ still. (turned.idle still).0)) (answered.progress, (λ still. (answered.idle still).0))
     (elim c.if-answered.either [ inl e ↦ inl e | inr e ↦ inr e.1 ]) in
-    moved_then c.break_deadlock-broken.result c.args.core.now c.answer_component.new.core
-    c.break_deadlock-broken.new.core one (broken.progress, (λ still. (broken.idle still).0))
+    moved_then c.break_deadlock-broken.result c.args.counted.now.core c.answer_component.new.counted.core
+    c.break_deadlock-broken.new.counted.core one (broken.progress, (λ still. (broken.idle still).0))
 
 pub returns-else-answered-clause-events : goal.returns-else-answered-clause-events
 returns-else-answered-clause-events c =
-    let s = c.args.core.now in
-    let n = length (running_members s) in
-    let start = c.args.ticks.now in
-    let last = c.break_deadlock-broken.new.core in
-    let end = c.break_deadlock-broken.new.ticks in
-    let same = c.members_come_by_number.ensures.counted s in
-    let few : 2 * n + 2 + 1 ≤ events_of_round s = omega (arith, same) in
-    let two = c.events_add_up.ensures.joined resolved_forms (2 * n) 2 s c.take_turns.new.core
-    c.answer_component.new.core start c.take_turns.new.ticks c.answer_component.new.ticks
-    c.in_ok-turned.ensures.events c.in_ok-answered.ensures.events in
-    c.events_add_up.ensures.widened resolved_forms (2 * n + 2 + 1) (events_of_round s) s last start end few
-    (c.events_add_up.ensures.joined resolved_forms (2 * n + 2) 1 s c.answer_component.new.core last start
-    c.answer_component.new.ticks end two c.break_deadlock-broken.ensures.events)
+    let first = c.args.counted.now in
+    let last = c.break_deadlock-broken.new.counted in
+    let n = length (running_members first.core) in
+    let same = c.members_come_by_number.ensures.counted first.core in
+    let few : 2 * n + 2 + 1 ≤ events_of_round first.core = omega (arith, same) in
+    let two = c.events_add_up.ensures.joined resolved_forms (2 * n) 2 first c.take_turns.new.counted
+    c.answer_component.new.counted c.in_ok-turned.ensures.events c.in_ok-answered.ensures.events in
+    c.events_add_up.ensures.widened resolved_forms (2 * n + 2 + 1) (events_of_round first.core) first last few
+    (c.events_add_up.ensures.joined resolved_forms (2 * n + 2) 1 first c.answer_component.new.counted last two
+    c.break_deadlock-broken.ensures.events)
 
 pub returns-else-answered-clause-idle : goal.returns-else-answered-clause-idle
 returns-else-answered-clause-idle c = λ still.

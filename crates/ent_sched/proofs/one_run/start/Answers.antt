@@ -1,40 +1,35 @@
-use Rattle.std.proofs.Common.{◌∙◌, ℕ, refl, subst, sym}
+use Rattle.std.proofs.Common.{◌∙◌, refl, sym}
 use Rattle.ent_core.specs.Reply.{reply_seen}
 use Rattle.ent_protocol.specs.Event.{StartRun}
 use Rattle.ent_resolved.specs.Resolved.{resolved_forms}
-use Rattle.ent_sched.specs.Onward.{TicksOn}
 use Rattle.ent_sched.proofs.Started.{lent_of, off_of, on_of, started}
 use Rattle.ent_sched.proofs.one_run.start.Goals as goal
 
 pub returns-clause-events : goal.returns-clause-events
 returns-clause-events c =
-    let s = c.args.core.now in
-    let new = c.start_run.new.self in
-    let before = c.args.ticks.now in
-    subst (λ (t : ℕ). TicksOn resolved_forms 1 s new before t) (sym c.add.ensures)
-    (c.events_add_up.ensures.one resolved_forms s StartRun (reply_seen c.in_ok-start_run.field-0) new before
-    c.in_ok-start_run.ensures.ok refl)
+    c.events_add_up.ensures.one resolved_forms StartRun (reply_seen c.in_ok-start_run.field-0) c.args.counted.now
+    c.start_run.new.self c.in_ok-start_run.ensures.ok refl
 
 pub returns-clause-none_lent : goal.returns-clause-none_lent
 returns-clause-none_lent c =
-    let s = c.args.core.now in
-    let new = c.start_run.new.self in
+    let s = c.args.counted.now.core in
+    let new = c.start_run.new.self.core in
     let off = sym c.running.ensures ∙ c.if-running.false in
     lent_of s new off
-    (started s (reply_seen c.in_ok-start_run.field-0) new off c.in_ok-start_run.ensures.ok) c.requires.none_lent
+    (started s (reply_seen c.in_ok-start_run.field-0) new off c.in_ok-start_run.ensures.ok.step) c.requires.none_lent
 
 pub returns-clause-on : goal.returns-clause-on
 returns-clause-on c on =
-    let s = c.args.core.now in
-    let new = c.start_run.new.self in
+    let s = c.args.counted.now.core in
+    let new = c.start_run.new.self.core in
     let off = sym c.running.ensures ∙ c.if-running.false in
-    on_of s new off (started s (reply_seen c.in_ok-start_run.field-0) new off c.in_ok-start_run.ensures.ok)
+    on_of s new off (started s (reply_seen c.in_ok-start_run.field-0) new off c.in_ok-start_run.ensures.ok.step)
     (sym c.running-2.ensures ∙ on)
 
 pub returns-clause-off : goal.returns-clause-off
 returns-clause-off c none =
-    let s = c.args.core.now in
-    let new = c.start_run.new.self in
+    let s = c.args.counted.now.core in
+    let new = c.start_run.new.self.core in
     let off = sym c.running.ensures ∙ c.if-running.false in
-    off_of s new off (started s (reply_seen c.in_ok-start_run.field-0) new off c.in_ok-start_run.ensures.ok)
+    off_of s new off (started s (reply_seen c.in_ok-start_run.field-0) new off c.in_ok-start_run.ensures.ok.step)
     (sym c.running-2.ensures ∙ none)

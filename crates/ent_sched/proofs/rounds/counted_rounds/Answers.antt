@@ -13,30 +13,28 @@ returns-in_err-round-clause-events g c =
       joined = c.events_add_up.ensures.joined resolved_forms;
       widened = c.events_add_up.ensures.widened resolved_forms;
     } in
-    last_round_made resolved_forms adds c.args.core.now now.core c.round.new.core c.args.ticks.now now.ticks
-    c.round.new.ticks now.progress.total _ now.invariant.few now.invariant.within now.invariant.events
-    c.round.ensures.events
+    last_round_made resolved_forms adds c.args.counted.now now.counted c.round.new.counted now.progress.total _
+    now.invariant.few now.invariant.within now.invariant.events c.round.ensures.events
 
 pub rounds-preserved : goal.rounds-preserved
 rounds-preserved g c =
     let now = c.rounds in
-    let first = c.args.core.now in
+    let first = c.args.counted.now in
     let adds : AddUp resolved_forms = record {
       joined = c.events_add_up.ensures.joined resolved_forms;
       widened = c.events_add_up.ensures.widened resolved_forms;
     } in
-    let below = c.in_ok-round.ensures.progress c.if-branch.true (length (members first))
-    (most_progress first - now.progress.total) now.invariant.within in
-    let made = one_made (length (members first)) (most_progress first) now.progress.total c.add.new.self.total
-    c.round.new.core c.add.ensures.total below in
+    let below = c.in_ok-round.ensures.progress c.if-branch.true (length (members first.core))
+    (most_progress first.core - now.progress.total) now.invariant.within in
+    let made = one_made (length (members first.core)) (most_progress first.core) now.progress.total
+    c.add.new.self.total c.round.new.counted.core c.add.ensures.total below in
     record {
       whole = c.add.ensures.parts ∙ now.invariant.whole;
       none_lent = c.in_ok-round.ensures.none_lent;
       few = made.0;
       within = made.1;
-      events = round_made resolved_forms adds first now.core c.round.new.core c.args.ticks.now now.ticks
-          c.round.new.ticks now.progress.total c.add.new.self.total _ c.add.ensures.total now.invariant.within
-          now.invariant.events c.round.ensures.events;
+      events = round_made resolved_forms adds first now.counted c.round.new.counted now.progress.total
+          c.add.new.self.total _ c.add.ensures.total now.invariant.within now.invariant.events c.round.ensures.events;
     }
 
 pub returns-clause-events : goal.returns-clause-events
@@ -46,9 +44,8 @@ returns-clause-events g c =
       joined = c.events_add_up.ensures.joined resolved_forms;
       widened = c.events_add_up.ensures.widened resolved_forms;
     } in
-    last_round_made resolved_forms adds c.args.core.now now.core c.round.new.core c.args.ticks.now now.ticks
-    c.round.new.ticks now.progress.total _ now.invariant.few now.invariant.within now.invariant.events
-    c.round.ensures.events
+    last_round_made resolved_forms adds c.args.counted.now now.counted c.round.new.counted now.progress.total _
+    now.invariant.few now.invariant.within now.invariant.events c.round.ensures.events
 
 pub returns-clause-idle : goal.returns-clause-idle
 returns-clause-idle g c =

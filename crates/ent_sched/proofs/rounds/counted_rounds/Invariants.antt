@@ -8,13 +8,14 @@ use Rattle.ent_sched.proofs.rounds.counted_rounds.Given as goal
 
 -- so many rounds made progress, and as many steps of it are gone
 abbrev pub invariant-rounds : goal.invariant-rounds
-invariant-rounds g l = record {
-  whole : l.share.parts ≡ 1;
-  none_lent : l.core.lent ≡ [];
-  few : l.progress.total ≤ most_progress l.fn.core;
-  within : IsWithin (length (members l.fn.core)) (most_progress l.fn.core - l.progress.total) l.core;
-  events : TicksOn resolved_forms (l.progress.total * events_of_round l.fn.core) l.fn.core l.core l.fn.ticks l.ticks;
-}
+invariant-rounds g l =
+    let first = l.fn.counted.core in record {
+      whole : l.share.parts ≡ 1;
+      none_lent : l.counted.core.lent ≡ [];
+      few : l.progress.total ≤ most_progress first;
+      within : IsWithin (length (members first)) (most_progress first - l.progress.total) l.counted.core;
+      events : TicksOn resolved_forms (l.progress.total * events_of_round first) l.fn.counted l.counted;
+    }
 
 abbrev pub decreases-rounds : goal.decreases-rounds
-decreases-rounds g l = most_progress l.fn.core - l.progress.total
+decreases-rounds g l = most_progress l.fn.counted.core - l.progress.total

@@ -1,49 +1,45 @@
-use Rattle.std.proofs.Common.{◌≡◌, sym, subst, ap, refl, ◌∙◌, arith}
+use Rattle.std.proofs.Common.{◌≡◌, sym, ap, refl, ◌∙◌, arith}
 use Rattle.ent_bounds.specs.Progress.{brings_work, is_progress}
 use Rattle.ent_core.specs.Reply.{reply_seen}
 use Rattle.ent_protocol.specs.Event.{Begin}
 use Rattle.ent_resolved.specs.Resolved.{resolved_forms}
-use Rattle.ent_sched.specs.Onward.{TicksOn}
 use Rattle.ent_sched.proofs.Moving.{held_up, none_lent}
 use Rattle.ent_sched.proofs.Told.{lends_none}
 use Rattle.ent_sched.proofs.turn.begin.Goals as goal
 
 pub returns-in_err-carry_out-in-Lent-clause-events : goal.returns-in_err-carry_out-in-Lent-clause-events
 returns-in_err-carry_out-in-Lent-clause-events c =
-    let s = c.args.core.now in
+    let first = c.args.counted.now in
     let middle = c.begin.new.self in
-    let before = c.args.ticks.now in
-    let one = c.events_add_up.ensures.one resolved_forms s (Begin c.args.tx) (reply_seen c.in_ok-reply.reply) middle
-    before c.in_ok-reply.ensures.ok refl in
-    let begun = subst (λ after. TicksOn resolved_forms 1 s middle before after) (sym c.add.ensures) one in
-    c.events_add_up.ensures.joined resolved_forms 1 1 s middle c.carry_out.new.core before c.add.new.self
-    c.carry_out.new.ticks begun c.in_err-carry_out-in-Lent.ensures.events
+    let begun = c.events_add_up.ensures.one resolved_forms (Begin c.args.tx) (reply_seen c.in_ok-reply.reply) first
+    middle c.in_ok-reply.ensures.ok refl in
+    c.events_add_up.ensures.joined resolved_forms 1 1 first middle c.carry_out.new.counted begun
+    c.in_err-carry_out-in-Lent.ensures.events
 
 pub returns-in_ok-carry_out-in-Lent-clause-events : goal.returns-in_ok-carry_out-in-Lent-clause-events
 returns-in_ok-carry_out-in-Lent-clause-events c =
-    let s = c.args.core.now in
+    let first = c.args.counted.now in
     let middle = c.begin.new.self in
-    let before = c.args.ticks.now in
-    let one = c.events_add_up.ensures.one resolved_forms s (Begin c.args.tx) (reply_seen c.in_ok-reply.reply) middle
-    before c.in_ok-reply.ensures.ok refl in
-    let begun = subst (λ after. TicksOn resolved_forms 1 s middle before after) (sym c.add.ensures) one in
-    c.events_add_up.ensures.joined resolved_forms 1 1 s middle c.carry_out.new.core before c.add.new.self
-    c.carry_out.new.ticks begun c.in_ok-carry_out-in-Lent.ensures.events
+    let begun = c.events_add_up.ensures.one resolved_forms (Begin c.args.tx) (reply_seen c.in_ok-reply.reply) first
+    middle c.in_ok-reply.ensures.ok refl in
+    c.events_add_up.ensures.joined resolved_forms 1 1 first middle c.carry_out.new.counted begun
+    c.in_ok-carry_out-in-Lent.ensures.events
 
 pub returns-in_ok-carry_out-in-Lent-clause-progress : goal.returns-in_ok-carry_out-in-Lent-clause-progress
 returns-in_ok-carry_out-in-Lent-clause-progress c = λ moved most left within.
     c.in_ok-carry_out-in-Lent.ensures.progress most left
-    (c.steps_stay_within.ensures resolved_forms c.args.core.now (Begin c.args.tx) (reply_seen c.in_ok-reply.reply)
-    c.begin.new.self most left c.is_reached.ensures.reached c.in_ok-reply.ensures.ok
-    (ap (λ reply. brings_work (reply_seen reply)) c.in-Lent.is) within)
+    (c.steps_stay_within.ensures resolved_forms c.args.counted.now.core (Begin c.args.tx)
+    (reply_seen c.in_ok-reply.reply) c.begin.new.self.core most left c.is_reached.ensures.reached
+    c.in_ok-reply.ensures.ok.step (ap (λ reply. brings_work (reply_seen reply)) c.in-Lent.is) within)
 
 pub returns-in_default : goal.returns-in_default
 returns-in_default c =
-    let s = c.args.core.now in
+    let first = c.args.counted.now in
+    let last = c.begin.new.self in
+    let s = first.core in
+    let new = last.core in
     let tx = c.args.tx in
-    let new = c.begin.new.self in
-    let before = c.args.ticks.now in
-    let step = c.in_ok-reply.ensures.ok in
+    let step = c.in_ok-reply.ensures.ok.step in
     let reply = reply_seen c.in_ok-reply.reply in
     let lends = lends_none c.in_ok-reply.reply c.in_default.not-Lent in
     let same = c.in_default.other-is in
@@ -51,10 +47,9 @@ returns-in_default c =
     let told : c.told_of_progress.result ≡ is_progress (reply_seen c.in_ok-reply.reply) = cc in
     let taken = c.ready_members_are_answered.ensures resolved_forms s tx c.requires.ready.0 reply new
     c.requires.ready.1 step in
-    let one = c.events_add_up.ensures.one resolved_forms s (Begin tx) reply new before step refl in
     record {
-      events = c.events_add_up.ensures.widened resolved_forms 1 2 s new before c.add.new.self (omega arith)
-          (subst (λ after. TicksOn resolved_forms 1 s new before after) (sym c.add.ensures) one);
+      events = c.events_add_up.ensures.widened resolved_forms 1 2 first last (omega arith)
+          (c.events_add_up.ensures.one resolved_forms (Begin tx) reply first last c.in_ok-reply.ensures.ok refl);
       none_lent =
           c.jobs_are_lent_by_replies.ensures.lent resolved_forms s (Begin tx) reply new c.requires.none_lent step
           ∙ none_lent reply lends;

@@ -1,9 +1,8 @@
-use Rattle.std.proofs.Common.{sym, subst, refl}
+use Rattle.std.proofs.Common.{refl}
 use Rattle.ent_core.specs.Reply.{reply_seen}
 use Rattle.ent_endings.specs.Lending.{IsLentAlone}
 use Rattle.ent_protocol.specs.Event.{Begin, Finish, Lent}
 use Rattle.ent_resolved.specs.Resolved.{resolved_forms}
-use Rattle.ent_sched.specs.Onward.{TicksOn}
 use Rattle.ent_sched.proofs.Moving.{single_progress}
 use Rattle.ent_sched.proofs.turn.hand_in.Goals as goal
 
@@ -11,37 +10,33 @@ pub finish_at_once-requires : goal.finish_at_once-requires
 finish_at_once-requires c =
     let tx = c.requires.lent.0 in
     let lent = c.requires.lent.1 in
-    c.jobs_are_lent_by_replies.ensures.lent resolved_forms lent.before (Begin tx) (Lent c.args.done.job) c.args.core.now
-    lent.none_lent lent.lends
+    c.jobs_are_lent_by_replies.ensures.lent resolved_forms lent.before (Begin tx) (Lent c.args.done.job)
+    c.args.counted.now.core lent.none_lent lent.lends
 
 pub returns-in-Ok-clause-events : goal.returns-in-Ok-clause-events
 returns-in-Ok-clause-events c =
-    let s = c.args.core.now in
-    let new = c.finish_at_once.new.self in
-    let before = c.args.ticks.now in
-    let one = c.events_add_up.ensures.one resolved_forms s (Finish c.args.done) (reply_seen c.in-Ok.reply) new before
-    c.in-Ok.ensures.ok refl in
-    subst (λ after. TicksOn resolved_forms 1 s new before after) (sym c.add.ensures) one
+    c.events_add_up.ensures.one resolved_forms (Finish c.args.done) (reply_seen c.in-Ok.reply) c.args.counted.now
+    c.finish_at_once.new.self c.in-Ok.ensures.ok refl
 
 pub returns-in-Ok-clause-none_lent : goal.returns-in-Ok-clause-none_lent
 returns-in-Ok-clause-none_lent c =
     let tx = c.requires.lent.0 in
     let lent = c.requires.lent.1 in
-    let alone : IsLentAlone resolved_forms lent.before (Begin tx) c.args.done c.args.core.now =
+    let alone : IsLentAlone resolved_forms lent.before (Begin tx) c.args.done c.args.counted.now.core =
     record { none_lent = lent.none_lent; lends = lent.lends } in
-    c.results_are_taken_at_once.ensures.single_returned resolved_forms lent.before tx c.args.done c.args.core.now
-    (reply_seen c.in-Ok.reply) c.finish_at_once.new.self alone c.in-Ok.ensures.ok
+    c.results_are_taken_at_once.ensures.single_returned resolved_forms lent.before tx c.args.done
+    c.args.counted.now.core (reply_seen c.in-Ok.reply) c.finish_at_once.new.self.core alone c.in-Ok.ensures.ok.step
 
 pub returns-in-Ok-clause-progress : goal.returns-in-Ok-clause-progress
 returns-in-Ok-clause-progress c = λ most left within.
     let tx = c.requires.lent.0 in
     let lent = c.requires.lent.1 in
-    let s = c.args.core.now in
-    let new = c.finish_at_once.new.self in
+    let s = c.args.counted.now.core in
+    let new = c.finish_at_once.new.self.core in
     let reply = reply_seen c.in-Ok.reply in
     let alone : IsLentAlone resolved_forms lent.before (Begin tx) c.args.done s =
     record { none_lent = lent.none_lent; lends = lent.lends } in
     let taken = c.results_are_taken_at_once.ensures.single_taken resolved_forms lent.before tx c.args.done s reply new
-    alone c.in-Ok.ensures.ok in
+    alone c.in-Ok.ensures.ok.step in
     c.progress_uses_up.ensures resolved_forms s (Finish c.args.done) reply new most left c.is_reached.ensures.reached
-    c.in-Ok.ensures.ok (single_progress reply taken) within
+    c.in-Ok.ensures.ok.step (single_progress reply taken) within

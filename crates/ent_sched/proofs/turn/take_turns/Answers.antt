@@ -10,37 +10,33 @@ use Rattle.ent_sched.proofs.turn.take_turns.Goals as goal
 
 pub returns-in_err-turn-clause-events : goal.returns-in_err-turn-clause-events
 returns-in_err-turn-clause-events c =
-    let s = c.args.core.now in
+    let first = c.args.counted.now in
+    let last = c.turn.new.counted in
     let i = c.loop-tx.tx-index in
-    let last = c.turn.new.core in
-    let start = c.args.ticks.now in
-    let end = c.turn.new.ticks in
     let same = ap length (c.as_slice-tx-items.ensures.list ∙ c.members-members.ensures) in
     let within = c.loop-tx-test.true in
-    let few : 2 * i + 2 ≤ 2 * length (running_members s) = omega (arith, same, within) in
-    c.events_add_up.ensures.widened resolved_forms (2 * i + 2) (2 * length (running_members s)) s last start end few
-    (c.events_add_up.ensures.joined resolved_forms (2 * i) 2 s c.loop-tx.core last start c.loop-tx.ticks end
-    c.loop-tx.invariant.events c.in_err-turn.ensures.events)
+    let few : 2 * i + 2 ≤ 2 * length (running_members first.core) = omega (arith, same, within) in
+    c.events_add_up.ensures.widened resolved_forms (2 * i + 2) (2 * length (running_members first.core)) first last few
+    (c.events_add_up.ensures.joined resolved_forms (2 * i) 2 first c.loop-tx.counted last c.loop-tx.invariant.events
+    c.in_err-turn.ensures.events)
 
 pub loop-tx-preserved : goal.loop-tx-preserved
 loop-tx-preserved c =
-    let s = c.args.core.now in
+    let first = c.args.counted.now in
+    let middle = c.loop-tx.counted in
+    let last = c.turn.new.counted in
+    let s = first.core in
     let i = c.loop-tx.tx-index in
-    let middle = c.loop-tx.core in
-    let last = c.turn.new.core in
-    let start = c.args.ticks.now in
-    let end = c.turn.new.ticks in
     let now = c.loop-tx.invariant in
     let turned = c.in_ok-turn.ensures in
     let few : 2 * i + 2 ≤ 2 * (i + 1) = omega arith in
     let items = c.as_slice-tx-items.result.now in
     record {
-      events = c.events_add_up.ensures.widened resolved_forms (2 * i + 2) (2 * (i + 1)) s last start end few
-          (c.events_add_up.ensures.joined resolved_forms (2 * i) 2 s middle last start c.loop-tx.ticks end now.events
-          turned.events);
+      events = c.events_add_up.ensures.widened resolved_forms (2 * i + 2) (2 * (i + 1)) first last few
+          (c.events_add_up.ensures.joined resolved_forms (2 * i) 2 first middle last now.events turned.events);
       none_lent = turned.none_lent;
       progress = λ moved.
-          one_moved c.loop-tx.moved c.in_ok-turn.field-0 s middle last
+          one_moved c.loop-tx.moved c.in_ok-turn.field-0 s middle.core last.core
           (now.progress, (λ still. (now.idle still).0)) (turned.progress, (λ still. (turned.idle still).0))
           (elim c.if-branch.branch [
             | then-branch w ↦ inr w.if-branch.true

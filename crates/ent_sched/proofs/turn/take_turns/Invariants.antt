@@ -9,10 +9,10 @@ use Rattle.ent_sched.proofs.turn.take_turns.Given as goal
 -- the members so far had their turns: one of them moved, or all of them are held up where the round began
 abbrev pub invariant-loop-tx : goal.invariant-loop-tx
 invariant-loop-tx l = record {
-  events : TicksOn resolved_forms (2 * l.tx-index) l.fn.core l.core l.fn.ticks l.ticks;
-  none_lent : l.core.lent ≡ [];
-  progress : l.moved ≡ true → UsesUp l.fn.core l.core;
+  events : TicksOn resolved_forms (2 * l.tx-index) l.fn.counted l.counted;
+  none_lent : l.counted.core.lent ≡ [];
+  progress : l.moved ≡ true → UsesUp l.fn.counted.core l.counted.core;
   idle : l.moved ≡ false
-      → (l.core ≡ l.fn.core)
-      × AllByRecursion (IsHeldUp resolved_forms l.fn.core) (take l.tx-index l.tx-items);
+      → (l.counted.core ≡ l.fn.counted.core)
+      × AllByRecursion (IsHeldUp resolved_forms l.fn.counted.core) (take l.tx-index l.tx-items);
 }

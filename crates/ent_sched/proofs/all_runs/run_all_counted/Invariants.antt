@@ -1,0 +1,15 @@
+use Rattle.std.proofs.Common.{◌≡◌, []}
+use Rattle.ent_endings.specs.Tries.{tries_left}
+use Rattle.ent_resolved.specs.Resolved.{resolved_forms}
+use Rattle.ent_sched.proofs.Running.{HasRun}
+use Rattle.ent_sched.proofs.all_runs.run_all_counted.Given as goal
+
+-- a recall and runs led on from the core that was given
+abbrev pub invariant-runs : goal.invariant-runs
+invariant-runs l = record {
+  none_lent : l.counted.core.lent ≡ [];
+  ran : HasRun resolved_forms l.fn.counted l.counted;
+}
+
+abbrev pub decreases-runs : goal.decreases-runs
+decreases-runs l = tries_left l.counted.core
