@@ -1,5 +1,5 @@
 -- Where nothing is asked of others, each written variable is of a class of its own.
-use Rattle.std.proofs.Common.{◌≡◌, ◌↔◌, ℕ, zero, suc, ◌+◌, ◌<◌, List, [], ◌∷◌, ◌++◌, length, map, get_or, pos}
+use Rattle.std.proofs.Common.{◌≡◌, ℕ, zero, suc, ◌+◌, ◌<◌, List, [], ◌∷◌, ◌++◌, length, map, get_or, pos}
 use Rattle.std.proofs.Common.{refl, sym, ap, subst, ◌∙◌, arith, inl, inr}
 use Rattle.std.specs.Prelude.{Contains}
 use Rattle.std.specs.List.{flat_map}
@@ -14,7 +14,7 @@ use Rattle.ent_semantics.specs.declared.answer.Fact.{Fact}
 use Rattle.ent_semantics.specs.Term.{no_value}
 use Rattle.ent_closed.specs.Form.{atom_fact}
 use Rattle.ent_closed.specs.declared.entangled.Atom.{Atom}
-use Rattle.ent_coordination.specs.Choice.{all_heads, all_posts}
+use Rattle.ent_coordination.specs.Choice.{all_posts}
 use Rattle.ent_coordination.specs.Pool.{Posted}
 use Rattle.ent_plan.specs.Plan.{AreNumbered, IsPlan, Plan, slot_kind, slot_value}
 use Rattle.ent_plan.specs.declared.slot.Slot.{Slot}

@@ -2,6 +2,7 @@ pub mod Walked
 pub mod Steps
 pub mod Begun
 pub mod Guiding
+pub mod Read
 pub mod Between
 pub mod Deduped
 pub mod Keys

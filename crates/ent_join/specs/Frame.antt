@@ -34,6 +34,11 @@ is_kind kinds.Int kinds.Text = false
 is_kind kinds.Text kinds.Int = false
 is_kind kinds.Text kinds.Text = true
 
+-- a value is of a kind, where there is one
+abbrev pub fits : Value → Option Kind → Bool
+fits value None = false
+fits value (Some kind) = is_kind (kind_of value) kind
+
 -- values are of the first of some kinds
 abbrev pub are_of_kinds : List Kind → List Value → Bool
 are_of_kinds others [] = true

@@ -1,6 +1,8 @@
 pub mod Plans
 pub mod Cursor
+pub mod Reason
 pub mod Search
+pub mod Slots
 pub mod Going
 pub mod Index
 pub mod Frame

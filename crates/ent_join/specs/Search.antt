@@ -4,6 +4,7 @@ use Rattle.std.specs.declared.cmp.Ordering.TheVariants.{Less}
 use Rattle.ent_value.specs.Value.{row_cmp}
 use Rattle.ent_value.specs.declared.value.Value.{Value}
 use Rattle.ent_join.specs.Cursor.{IsAmong, IsAscending}
+use Rattle.ent_join.specs.Reason.{Refutes}
 
 -- of the lists of a number of values that pass, one is the least
 pub record IsLeast (count : ℕ) (passes : List Value → Bool) (values : List Value) : Type 0 where
@@ -32,11 +33,11 @@ NoDeadEnds count candidates passes =
     → (rest : List Value) × (length beginning + (1 + length rest) ≡ count)
     × (passes (beginning ++ value ∷ rest) ≡ true)
 
--- a beginning goes on as the least list that passes, or stays as it is where none does
-abbrev pub IsSearched : (List Value → Bool) → ℕ → List Value → List Value → Bool → Type 0
-IsSearched passes left old new true =
+-- A beginning goes on as the least list that passes, or stays as it is: then marked places of it are why none does.
+abbrev pub IsSearched : (List Value → Bool) → ℕ → List Value → List Value → List Bool → Bool → Type 0
+IsSearched passes left old new marks true =
     (rest : List Value) × (new ≡ old ++ rest) × IsLeast left (λ values. passes (old ++ values)) rest
-IsSearched passes left old new false = (new ≡ old) × NonePasses left (λ values. passes (old ++ values))
+IsSearched passes left old new marks false = (new ≡ old) × Refutes (length old + left) passes old marks
 
 -- one tick for each value where there is a list that passes, and else none
 abbrev pub AreTicks : ℕ → ℕ → ℕ → Bool → Type 0

@@ -1,5 +1,5 @@
 //! The least coordinating choice.
-ghost use Rattle.std.specs.Prelude.{◌≡◌, [], ◌∷◌, IfOk, List, is_some, length, map};
+ghost use Rattle.std.specs.Prelude.{◌≡◌, ◌+◌, ◌<◌, ◌^◌, [], ◌∷◌, IfOk, List, OnErr, is_some, length, map};
 ghost use Rattle.std.specs.Arc.{arc_value};
 ghost use Rattle.ent_closed.specs.Form.{Tables};
 ghost use Rattle.ent_coordination.specs.Choice.{IsLeastChoiceIfAny};
@@ -73,8 +73,43 @@ pub fn first(
 }
 
 /// What [`first`] answers. Each value that the search was given is one tick: where the plan is of one statement that
-/// asks for a row and nothing else, an answer takes one for each of its written variables, and none takes none.
+/// asks for a row and nothing else, an answer takes one for each of its written variables, and none takes none. Where
+/// memory runs out the ticks are as they were.
 pub fn first_with(
+    alloc: Global,
+    plan: &JoinPlan,
+    tables: &[Arc<Table>],
+    ticks: &mut Ticks,
+) -> Result<Option<Sequence<Sequence<Value>>>, AllocError>
+    requires { AreRanged plan.now.members }
+    ensures choice { IfOk result (λ choice. (laid : Tables)
+        → AreLaid plan.now.members (map arc_value tables.now) laid
+        → IsLeastChoiceIfAny laid plan.now.members choice) }
+    ensures ticks { IfOk result (λ choice. (laid : Tables) (member : Posted)
+        → AreLaid plan.now.members (map arc_value tables.now) laid
+        → plan.now.members ≡ member ∷ []
+        → AsksForARow laid member.statement
+        → AreTicks (length member.statement.variables) ticks.old ticks.new (is_some choice)) }
+    ensures kept { OnErr result (ticks.new ≡ ticks.old) }
+{
+    let mut counted = Ticks::new();
+    let choice = counted_choice(alloc, plan, tables, &mut counted)?;
+    add_ticks(ticks, &counted);
+    Ok(choice)
+}
+
+/// Adds the ticks of another count.
+fn add_ticks(ticks: &mut Ticks, more: &Ticks)
+    ensures sum { ticks.old + more.now < 2 ^ 64 → ticks.new ≡ ticks.old + more.now }
+    ensures none { more.now ≡ 0 → ticks.new ≡ ticks.old }
+{
+    for _step in 0..more.count() {
+        ticks.add();
+    }
+}
+
+/// The least coordinating choice, and how many values the search was given.
+fn counted_choice(
     alloc: Global,
     plan: &JoinPlan,
     tables: &[Arc<Table>],

@@ -6,8 +6,10 @@ ghost use Rattle.std.specs.Ordering.{is_le, is_lt};
 ghost use Rattle.ent_value.specs.Value.{row_cmp};
 ghost use Rattle.ent_join.specs.Cursor.{column_values};
 ghost use Rattle.ent_join.specs.Index.{IsIndexed, begun_cmp, begins_so, column_of, goes_on, rows_after};
+ghost use Rattle.ent_join.specs.Reason.{AreMarkedIn, IsMarked};
 
 use crate::cursor::Cursor;
+use crate::reason::mark_each;
 use ent_value::{Row, Sequence, Value};
 use std::alloc::{AllocError, Global};
 use std::cmp::Ordering;
@@ -76,6 +78,14 @@ impl Index {
         ensures { result ≡ goes_on beginning.now self.now }
     {
         !self.rows_after(beginning).is_empty()
+    }
+
+    /// Marks the classes of the index.
+    pub(crate) fn mark_classes(&self, marks: &mut [bool])
+        ensures kept { AreMarkedIn marks.old marks.new }
+        ensures marked { AllByRecursion (λ class. class < length marks.old → IsMarked marks.new class) self.now.classes }
+    {
+        mark_each(marks, self.classes.as_slice());
     }
 
     /// The rows with the values that their classes have in a beginning.

@@ -90,7 +90,8 @@ fn value_under<'a>(number: usize, columns: &[Slot], row: &'a [Value]) -> Option<
     None
 }
 
-fn is_class(slot: &Slot, number: usize) -> bool
+/// Whether a slot is a class.
+pub(crate) fn is_class(slot: &Slot, number: usize) -> bool
     ensures { result ≡ is_class number slot.now }
 {
     match slot {

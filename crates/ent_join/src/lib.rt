@@ -3,8 +3,8 @@
 //! A caller may rely on [`first`]: over any tables in which the statements' tables stand, it is the least choice of the
 //! plan's statements, or there is none. [`first_with`] answers the same and counts the values that the search was given
 //! in `Ticks`. The search gives values to the plan's classes one after the other, the least first, and leaves a
-//! beginning as soon as a sub-select's result, a test or a kind refuses it. Plans and their members are passed on by
-//! their names.
+//! beginning as soon as a sub-select's result, a test or a kind refuses it. Where all values of a class fail it goes back
+//! to the last class that had to do with it. Plans and their members are passed on by their names.
 #![tactic(auto)]
 
 mod asked;
@@ -14,6 +14,7 @@ mod frame;
 mod index;
 mod keyed;
 mod made;
+mod reason;
 mod search;
 
 pub use choice::{first, first_with};

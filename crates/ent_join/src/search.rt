@@ -1,52 +1,80 @@
-//! A search for the least list of values, one value after the other, the least first.
-ghost use Rattle.std.specs.Prelude.{◌≡◌, ◌+◌, Bool, List, IfOk, MatchOption, length, is_some};
+//! A search for the least list of values, one value after the other, the least first. Where all values of a place fail,
+//! it goes back to the last place that had to do with it.
+ghost use Rattle.std.specs.Prelude.{◌≡◌, ◌≤◌, ◌+◌, Bool, false, List, IfOk, MatchOption, OnOk, length, is_some};
 ghost use Rattle.ent_value.specs.declared.value.Value.{Value as Held};
+ghost use Rattle.ent_join.specs.Reason.{IsBegun, IsFollowedFor, IsRefusedFor};
 ghost use Rattle.ent_join.specs.Search.{IsGuide, IsLeast, IsSearched, NoDeadEnds, NonePasses, AreTicks};
 
 use crate::cursor::Cursor;
+use crate::reason::{Rooms, add_all, clear, set_all};
 use ent_value::{Row, Ticks, Value};
 use std::alloc::{AllocError, Global};
 
-/// A test of lists of values and of their beginnings, and what may come next behind a beginning.
+/// A test of lists of values and of their beginnings, and what may come next behind a beginning. Each answer marks the
+/// places of the list for which it stands.
 pub(crate) trait Guide {
     ghost passes: { Self → List Held → Bool };
 
     ghost candidates: { Self → List Held → List Held };
 
-    fn may_pass(&self, values: &[Value]) -> bool
-        ensures { result ≡ passes self.now values.now };
+    /// Whether a list passes. What comes before its last value does.
+    fn may_pass(&self, values: &[Value], reason: &mut [bool]) -> bool
+        requires begun { IsBegun (passes self.now) values.now }
+        requires places { length values.now ≤ length reason.old }
+        ensures passes { result ≡ passes self.now values.now }
+        ensures refused { result ≡ false → IsRefusedFor (passes self.now) values.now reason.new };
 
-    fn candidates_after(&self, beginning: &[Value]) -> Cursor<'_>
-        ensures { result ≡ candidates self.now beginning.now };
+    fn candidates_after(&self, beginning: &[Value], reason: &mut [bool]) -> Cursor<'_>
+        requires places { length beginning.now ≤ length reason.old }
+        ensures candidates { result ≡ candidates self.now beginning.now }
+        ensures followed { IsFollowedFor (candidates self.now) beginning.now reason.new };
 }
 
-/// Looks for the least list that passes and goes on with `left` more values, and leaves it where there is one.
+/// Looks for the least list that passes and goes on with `left` more values, and leaves it where there is one. Where
+/// there is none, `reason` marks the places for which there is none.
 fn search<G: Guide>(
     alloc: Global,
     guide: &G,
     left: usize,
     values: &mut Vec<Value>,
+    reason: &mut [bool],
+    rooms: &mut Rooms,
     ticks: &mut Ticks,
 ) -> Result<bool, AllocError>
-    requires { IsGuide (length values.old.items + left) (G.candidates guide.now) (G.passes guide.now) }
-    ensures found { IfOk result (IsSearched (G.passes guide.now) left values.old.items values.new.items) }
+    requires guide { IsGuide (length values.old.items + left) (G.candidates guide.now) (G.passes guide.now) }
+    requires begun { IsBegun (G.passes guide.now) values.old.items }
+    requires places { length reason.old ≡ length values.old.items + left }
+    requires rooms { rooms.old ≡ length values.old.items + left }
+    ensures found { IfOk result
+        (IsSearched (G.passes guide.now) left values.old.items values.new.items reason.new) }
+    ensures rooms { rooms.new ≡ rooms.old }
     ensures ticks { NoDeadEnds (length values.old.items + left) (G.candidates guide.now) (G.passes guide.now)
         → IfOk result (AreTicks left ticks.old ticks.new) }
 {
-    if !guide.may_pass(values.as_slice()) {
+    clear(reason);
+    if !guide.may_pass(values.as_slice(), reason) {
         return Ok(false);
     }
     if left == 0 {
         return Ok(true);
     }
-    let mut cursor = guide.candidates_after(values.as_slice());
+    let place = values.len();
+    let mut gathered = rooms.take(alloc)?;
+    let mut cursor = guide.candidates_after(values.as_slice(), gathered.as_mut_slice());
     while let Some(value) = cursor.next_value(ticks) {
         values.push(value.copy(alloc)?)?;
-        if search(alloc, guide, left - 1, values, ticks)? {
+        if search(alloc, guide, left - 1, values, reason, rooms, ticks)? {
             return Ok(true);
         }
         let _ = values.pop();
+        if !reason[place] {
+            rooms.give_back(gathered)?;
+            return Ok(false);
+        }
+        add_all(gathered.as_mut_slice(), reason);
     }
+    set_all(reason, gathered.as_slice());
+    rooms.give_back(gathered)?;
     Ok(false)
 }
 
@@ -64,7 +92,17 @@ pub(crate) fn least<G: Guide>(
         → IfOk result (λ found. AreTicks count ticks.old ticks.new (is_some found)) }
 {
     let mut values = Vec::new(alloc);
-    if search(alloc, guide, count, &mut values, ticks)? {
+    let mut rooms = Rooms::new(alloc, count);
+    let mut reason = rooms.take(alloc)?;
+    if search(
+        alloc,
+        guide,
+        count,
+        &mut values,
+        reason.as_mut_slice(),
+        &mut rooms,
+        ticks,
+    )? {
         Ok(Some(Row::from_vec(values)))
     } else {
         Ok(None)

@@ -1,4 +1,4 @@
-use Rattle.std.proofs.Common.{◌+◌, length}
+use Rattle.std.proofs.Common.{◌≡◌, ◌+◌, length}
 use Rattle.ent_join.specs.Going.{IsGoing}
 use Rattle.ent_join.proofs.search.+search.Given as goal
 
@@ -7,9 +7,11 @@ abbrev pub decreases-search : goal.decreases-search
 decreases-search g l = l.left
 
 abbrev pub invariant-loop-value : goal.invariant-loop-value
-invariant-loop-value g l =
-    IsGoing (g.G.Guide.passes l.guide) (g.G.Guide.candidates l.guide) (length l.fn.values.items + l.left)
-    l.fn.values.items l.values.items l.cursor l.fn.ticks l.ticks
+invariant-loop-value g l = record {
+  going : IsGoing (g.G.Guide.passes l.guide) (g.G.Guide.candidates l.guide) (length l.fn.values.items + l.left)
+      l.fn.values.items l.values.items l.gathered.items l.cursor l.fn.ticks l.ticks;
+  rooms : l.rooms ≡ l.fn.rooms;
+}
 
 abbrev pub decreases-loop-value : goal.decreases-loop-value
 decreases-loop-value g l = length l.cursor

@@ -1,0 +1,99 @@
+use Rattle.std.proofs.Common.{◌≡◌, ◌∙◌, true, false, length, map, ap, subst, sym}
+use Rattle.std.specs.Prelude.{is_some}
+use Rattle.std.specs.Arc.{arc_value}
+use Rattle.ent_coordination.specs.Choice.{IsLeastChoice}
+use Rattle.ent_plan.specs.Plan.{slot_value, spread}
+use Rattle.ent_plan.specs.Tables.{tables_named}
+use Rattle.ent_join.specs.Asked.{all_indexes, all_tests}
+use Rattle.ent_join.specs.Frame.{candidates_of, lets_through}
+use Rattle.ent_join.specs.Search.{AreTicks, IsGuide}
+use Rattle.ent_join.proofs.Chosen.{chosen, guides, least_found, none_chosen, none_found}
+use Rattle.ent_join.proofs.Ticking.{row_ticks}
+use Rattle.ent_join.proofs.choice.counted_choice.Goals as goal
+
+pub least-requires : goal.least-requires
+least-requires c =
+    let plan = c.args.plan.now in
+    let tables = map arc_value c.args.tables.now in
+    let frame = c.in_ok-frame.frame in
+    let indexes : frame.indexes ≡ all_indexes (tables_named plan.members) tables plan.members plan.slots =
+    c.in_ok-frame.ensures.indexes
+    ∙ (λ i. all_indexes (c.tables.ensures i) tables (c.members-members.ensures.members i) (c.slots.ensures.slots i)) in
+    let tests : frame.tests ≡ all_tests plan.members plan.slots =
+    c.in_ok-frame.ensures.tests ∙ (λ i. all_tests (c.members-members.ensures.members i) (c.slots.ensures.slots i)) in
+    subst (λ n. IsGuide n (candidates_of frame) (lets_through frame)) (sym (ap length c.kinds-2.ensures.kinds))
+    (guides plan c.members-members.ensures.plan tables frame indexes tests
+    (c.in_ok-frame.ensures.kinds ∙ c.kinds.ensures.kinds) c.requires)
+
+pub returns-in-None-clause-choice : goal.returns-in-None-clause-choice
+returns-in-None-clause-choice c = λ laid e.
+    let plan = c.args.plan.now in
+    let is = c.members-members.ensures.plan in
+    let tables = map arc_value c.args.tables.now in
+    let frame = c.in_ok-frame.frame in
+    let indexes : frame.indexes ≡ all_indexes (tables_named plan.members) tables plan.members plan.slots =
+    c.in_ok-frame.ensures.indexes
+    ∙ (λ i. all_indexes (c.tables.ensures i) tables (c.members-members.ensures.members i) (c.slots.ensures.slots i)) in
+    let tests : frame.tests ≡ all_tests plan.members plan.slots =
+    c.in_ok-frame.ensures.tests ∙ (λ i. all_tests (c.members-members.ensures.members i) (c.slots.ensures.slots i)) in
+    none_chosen plan is tables frame indexes tests (c.in_ok-frame.ensures.kinds ∙ c.kinds.ensures.kinds) laid e
+    (λ groundings. c.plan_has_the_choices.ensures laid plan groundings is)
+    (λ others values w v. c.plan_keeps_the_order.ensures plan others values is w v)
+    (none_found (length c.kinds-2.result.now) (length plan.kinds) (lets_through frame) c.in_ok-least.field-0
+    (ap length c.kinds-2.ensures.kinds) c.in-None.is c.in_ok-least.ensures.least)
+
+pub returns-clause-choice : goal.returns-clause-choice
+returns-clause-choice c = λ laid e.
+    let plan = c.args.plan.now in
+    let is = c.members-members.ensures.plan in
+    let tables = map arc_value c.args.tables.now in
+    let frame = c.in_ok-frame.frame in
+    let indexes : frame.indexes ≡ all_indexes (tables_named plan.members) tables plan.members plan.slots =
+    c.in_ok-frame.ensures.indexes
+    ∙ (λ i. all_indexes (c.tables.ensures i) tables (c.members-members.ensures.members i) (c.slots.ensures.slots i)) in
+    let tests : frame.tests ≡ all_tests plan.members plan.slots =
+    c.in_ok-frame.ensures.tests ∙ (λ i. all_tests (c.members-members.ensures.members i) (c.slots.ensures.slots i)) in
+    let values = c.in-Some.values in
+    let made : c.in_ok-valuations-in-Some.field-0 ≡ spread plan values =
+    c.in_ok-valuations-in-Some.ensures
+    ∙ (λ i. map (map (slot_value (c.values.ensures i))) (c.slots-in-Some.ensures.slots i)) in
+    subst (IsLeastChoice laid plan.members) (sym made)
+    (chosen plan is tables frame indexes tests (c.in_ok-frame.ensures.kinds ∙ c.kinds.ensures.kinds) laid e
+    (λ groundings. c.plan_has_the_choices.ensures laid plan groundings is)
+    (λ others values w v. c.plan_keeps_the_order.ensures plan others values is w v) values
+    (least_found (length c.kinds-2.result.now) (length plan.kinds) (lets_through frame) c.in_ok-least.field-0 values
+    (ap length c.kinds-2.ensures.kinds) c.in-Some.is c.in_ok-least.ensures.least))
+
+pub returns-in-None-clause-ticks : goal.returns-in-None-clause-ticks
+returns-in-None-clause-ticks c = λ laid member e alone asks.
+    let plan = c.args.plan.now in
+    let is = c.members-members.ensures.plan in
+    let tables = map arc_value c.args.tables.now in
+    let frame = c.in_ok-frame.frame in
+    let indexes : frame.indexes ≡ all_indexes (tables_named plan.members) tables plan.members plan.slots =
+    c.in_ok-frame.ensures.indexes
+    ∙ (λ i. all_indexes (c.tables.ensures i) tables (c.members-members.ensures.members i) (c.slots.ensures.slots i)) in
+    let tests : frame.tests ≡ all_tests plan.members plan.slots =
+    c.in_ok-frame.ensures.tests ∙ (λ i. all_tests (c.members-members.ensures.members i) (c.slots.ensures.slots i)) in
+    row_ticks plan is tables frame indexes tests (c.in_ok-frame.ensures.kinds ∙ c.kinds.ensures.kinds) laid e c.requires
+    member alone asks (length c.kinds-2.result.now) c.args.ticks.now c.least.new.ticks false
+    (ap length c.kinds-2.ensures.kinds)
+    (λ ends. subst (λ found. AreTicks (length c.kinds-2.result.now) c.args.ticks.now c.least.new.ticks (is_some found))
+    c.in-None.is (c.in_ok-least.ensures.ticks ends))
+
+pub returns-clause-ticks : goal.returns-clause-ticks
+returns-clause-ticks c = λ laid member e alone asks.
+    let plan = c.args.plan.now in
+    let is = c.members-members.ensures.plan in
+    let tables = map arc_value c.args.tables.now in
+    let frame = c.in_ok-frame.frame in
+    let indexes : frame.indexes ≡ all_indexes (tables_named plan.members) tables plan.members plan.slots =
+    c.in_ok-frame.ensures.indexes
+    ∙ (λ i. all_indexes (c.tables.ensures i) tables (c.members-members.ensures.members i) (c.slots.ensures.slots i)) in
+    let tests : frame.tests ≡ all_tests plan.members plan.slots =
+    c.in_ok-frame.ensures.tests ∙ (λ i. all_tests (c.members-members.ensures.members i) (c.slots.ensures.slots i)) in
+    row_ticks plan is tables frame indexes tests (c.in_ok-frame.ensures.kinds ∙ c.kinds.ensures.kinds) laid e c.requires
+    member alone asks (length c.kinds-2.result.now) c.args.ticks.now c.least.new.ticks true
+    (ap length c.kinds-2.ensures.kinds)
+    (λ ends. subst (λ found. AreTicks (length c.kinds-2.result.now) c.args.ticks.now c.least.new.ticks (is_some found))
+    c.in-Some.is (c.in_ok-least.ensures.ticks ends))
