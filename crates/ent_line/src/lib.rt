@@ -1,0 +1,14 @@
+//! The parts of a report's lines, read from the left: numbers, values, rows.
+//!
+//! Each call gives a thing and the bytes behind it, or says that nothing of its sort stands in front. A caller may rely
+//! on it that what is read is written just so, and that what is written so is read.
+#![tactic(auto)]
+
+mod fault;
+mod number;
+mod text;
+mod value;
+
+pub use fault::LineFault;
+pub use number::number;
+pub use value::value;
