@@ -6,5 +6,7 @@
 #![tactic(auto)]
 
 mod history;
+mod laws;
 
 pub use history::{History, Shown, Told, ToldJoint, ToldMember};
+pub use laws::reports_tell_of_books;

@@ -43,7 +43,7 @@ pub record TxStands (draft : Draft) (text : List ℕ) (next : Draft) : Type 0 wh
   pub is_fate : IsFate fate
   pub next_is : next ≡ record {
     told = record draft.told {
-      transactions = draft.told.transactions ++ record { fate = fate; answers = [] } ∷ []
+      transactions = draft.told.transactions ++ record { fate = fate; answers = [] } ∷ [];
     };
     due = Free;
   }

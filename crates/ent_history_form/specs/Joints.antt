@@ -54,7 +54,7 @@ pub record JointStands (draft : Draft) (text : List ℕ) (next : Draft) : Type 0
   pub rise : PlacesRise places
   pub next_is : next ≡ record {
     told = record draft.told {
-      joint_answers = draft.told.joint_answers ++ record { members = [] } ∷ []
+      joint_answers = draft.told.joint_answers ++ record { members = [] } ∷ [];
     };
     due = members_due places;
   }
@@ -109,7 +109,7 @@ pub record MemberStands (draft : Draft) (text : List ℕ) (next : Draft) : Type 
   pub binds : BindsRight (member_binds draft.told tx place) variables values
   pub next_is : next ≡ record {
     told = record draft.told {
-      joint_answers = on_last (with_member (member_told tx place variables values)) draft.told.joint_answers
+      joint_answers = on_last (with_member (member_told tx place variables values)) draft.told.joint_answers;
     };
     due = members_due more;
   }

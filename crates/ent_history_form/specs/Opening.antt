@@ -53,7 +53,7 @@ pub record OpeningStands (draft : Draft) (text : List ℕ) (next : Draft) : Type
   pub few_rows : length draft.told.opening.rows + count ≤ MOST_OPENING_ROWS
   pub next_is : next ≡ record {
     told = record draft.told {
-      opening = record draft.told.opening { tables = draft.told.opening.tables ++ create ∷ [] }
+      opening = record draft.told.opening { tables = draft.told.opening.tables ++ create ∷ [] };
     };
     due = rows_due OpeningRows count;
   }
@@ -72,8 +72,8 @@ pub record OpeningRowStands (draft : Draft) (text : List ℕ) (next : Draft) : T
   pub next_is : next ≡ record {
     told = record draft.told {
       opening = record draft.told.opening {
-        rows = draft.told.opening.rows ++ opening_row create.name.name row ∷ []
-      }
+        rows = draft.told.opening.rows ++ opening_row create.name.name row ∷ [];
+      };
     };
     due = rows_due OpeningRows more;
   }

@@ -29,7 +29,7 @@ pub record TableStands (draft : Draft) (text : List ℕ) (next : Draft) : Type 0
   pub few : count ≤ MOST_ROWS
   pub next_is : next ≡ record {
     told = record draft.told {
-      tables = draft.told.tables ++ record { name = create.name.name; rows = [] } ∷ []
+      tables = draft.told.tables ++ record { name = create.name.name; rows = [] } ∷ [];
     };
     due = rows_due TableRows count;
   }

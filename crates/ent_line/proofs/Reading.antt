@@ -27,13 +27,13 @@ content-doubled bytes = refl
 pub content-other : (b : ℕ) (bytes : List ℕ) → eqb b 39 ≡ false → is_ascii_control b ≡ false
     → content_at (b ∷ bytes) ≡ with_byte b (content_at bytes)
 unfolding content_at
-content-other b [] e f = rw (e, f) refl
+content-other b [] e f = rw e refl
 content-other b (c ∷ bytes) e f = rw (e, f) refl
 
 pub content-control : (b : ℕ) (bytes : List ℕ) → eqb b 39 ≡ false → is_ascii_control b ≡ true
     → content_at (b ∷ bytes) ≡ Err Misfit
 unfolding content_at
-content-control b [] e f = rw (e, f) refl
+content-control b [] e f = rw e refl
 content-control b (c ∷ bytes) e f = rw (e, f) refl
 
 -- what goes on above the limit ends above it

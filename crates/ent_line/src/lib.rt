@@ -5,10 +5,10 @@
 #![tactic(auto)]
 
 mod fault;
-mod number;
-mod text;
-mod value;
+mod numeral;
+mod printed;
+mod quoted;
 
 pub use fault::LineFault;
-pub use number::number;
-pub use value::value;
+pub use numeral::number;
+pub use printed::value;

@@ -56,7 +56,8 @@ fn is_plain(digits: &[u8]) -> bool
 #[tactic(auto, unfolding(crate::specs::Pieces::number_to))]
 pub(crate) fn number_to(most: u64, bytes: &[u8]) -> Result<(u64, &[u8]), Refusal<LineFault>>
     requires { most ≤ 9223372036854775808 }
-    ensures { Gives (λ x. (x.0, x.1.now)) result (number_to most bytes.now) }
+    ensures value { Gives (λ x. (x.0, x.1.now)) result (number_to most bytes.now) }
+    ensures small { IfOk result (λ x. x.0 ≤ most) }
 {
     let (digits, rest) = bytes.split_at(digits_len(bytes));
     if !is_plain(digits) {
@@ -70,7 +71,8 @@ pub(crate) fn number_to(most: u64, bytes: &[u8]) -> Result<(u64, &[u8]), Refusal
 
 /// A number at the front, 0 to 9223372036854775807, and the bytes behind it.
 pub fn number(bytes: &[u8]) -> Result<(u64, &[u8]), Refusal<LineFault>>
-    ensures { Gives (λ x. (x.0, x.1.now)) result (number_at bytes.now) }
+    ensures value { Gives (λ x. (x.0, x.1.now)) result (number_at bytes.now) }
+    ensures small { IfOk result (λ x. x.0 ≤ 9223372036854775807) }
 {
     number_to(MOST, bytes)
 }

@@ -1,6 +1,6 @@
 use Rattle.std.proofs.Common.{◌∙◌, sym, refl, arith}
 use Rattle.ent_line.proofs.Reading.{on_other, on_doubled}
-use Rattle.ent_line.proofs.text.content.Goals as goal
+use Rattle.ent_line.proofs.quoted.content.Goals as goal
 
 pub loop-rest-preserved : goal.loop-rest-preserved
 loop-rest-preserved c =

@@ -1,6 +1,6 @@
 use Rattle.std.proofs.Common.{◌≡◌, ◌≤◌, drop}
 use Rattle.ent_line.specs.Pieces.{value_from}
-use Rattle.ent_line.proofs.number.value_of.Given as goal
+use Rattle.ent_line.proofs.numeral.value_of.Given as goal
 
 -- the value so far goes on to that of all digits
 abbrev pub invariant-loop-digit : goal.invariant-loop-digit

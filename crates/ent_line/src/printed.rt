@@ -4,8 +4,8 @@ ghost use Rattle.ent_value.specs.Refusal.{Gives};
 ghost use Rattle.ent_line.specs.Pieces.{negative_at, positive_at, text_at, value_at};
 
 use crate::fault::LineFault;
-use crate::number::{number, number_to};
-use crate::text::{content, tail};
+use crate::numeral::{number, number_to};
+use crate::quoted::{content, tail};
 use ent_value::{LONGEST_TEXT, Refusal, Text, Value};
 use std::alloc::Global;
 

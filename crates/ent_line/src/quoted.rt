@@ -17,10 +17,7 @@ pub(crate) fn tail(bytes: &[u8], len: usize) -> &[u8]
 
 /// What stands in quotes, behind the opening one, and the bytes behind the closing one.
 #[tactic(auto, unfolding(crate::specs::Pieces::content_at))]
-pub(crate) fn content(
-    alloc: Global,
-    bytes: &[u8],
-) -> Result<(Vec<u8>, &[u8]), Refusal<LineFault>>
+pub(crate) fn content(alloc: Global, bytes: &[u8]) -> Result<(Vec<u8>, &[u8]), Refusal<LineFault>>
     ensures { Gives (λ x. (x.0.items, x.1.now)) result (content_at bytes.now) }
 {
     let mut content = Vec::new(alloc);

@@ -1,7 +1,7 @@
 use Rattle.std.proofs.Common.{◌≡◌, length}
 use Rattle.ent_line.specs.Pieces.{content_at}
 use Rattle.ent_line.proofs.Reading.{with_front}
-use Rattle.ent_line.proofs.text.content.Given as goal
+use Rattle.ent_line.proofs.quoted.content.Given as goal
 
 -- what was read and what is left are all
 abbrev pub invariant-loop-rest : goal.invariant-loop-rest
