@@ -1,5 +1,5 @@
 -- The lines of the transactions, and of their answers.
-use Rattle.std.specs.Prelude.{◌≡◌, ◌≢◌, ◌×◌, ◌≤◌, ◌<◌, ◌+◌, ⊤, ℕ, zero, suc, List, [], ◌∷◌, ◌++◌, length, map, Some, None, codes}
+use Rattle.std.specs.Prelude.{◌≡◌, ◌≢◌, ◌≤◌, ◌<◌, ◌+◌, ⊤, ℕ, zero, suc, List, [], ◌∷◌, ◌++◌, length, map, Some, None, codes}
 use Rattle.std.specs.List.{AllByRecursion}
 use Rattle.std.specs.Fmt.{decimal}
 use Rattle.ent_value.specs.declared.value.Value.{Value}

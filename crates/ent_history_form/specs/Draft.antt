@@ -1,5 +1,5 @@
 -- A report that stands as far as it was read: what it tells so far, and what is due next.
-use Rattle.std.specs.Prelude.{◌≡◌, ◌×◌, ℕ, zero, suc, List, [], ◌∷◌, length, Option, Some, None, slice_get, if◌then◌else◌}
+use Rattle.std.specs.Prelude.{◌≡◌, ℕ, zero, suc, List, [], ◌∷◌, length, Option, Some, None, slice_get, if◌then◌else◌}
 use Rattle.ent_tree.specs.declared.script.Script.{Script}
 use Rattle.ent_tree.specs.declared.script.Statement.{Statement}
 use Rattle.ent_history.specs.declared.history.History.{History}

@@ -1,6 +1,6 @@
 -- The line at which a text isn't the report that its lines above begin: the first that can't stand there, or the one
 -- that is missing.
-use Rattle.std.specs.Prelude.{◌≡◌, ◌≢◌, ◌×◌, ◌⊎◌, ◌+◌, ℕ, List, [], ◌∷◌, ◌++◌}
+use Rattle.std.specs.Prelude.{◌≡◌, ◌≢◌, ◌⊎◌, ◌+◌, ℕ, List, [], ◌∷◌, ◌++◌}
 use Rattle.ent_book.specs.Report2.{line_count}
 use Rattle.ent_history_form.specs.Draft.{Draft, Ended, blank}
 use Rattle.ent_history_form.specs.Scripts.{ScriptBreaksOff}

@@ -5,10 +5,12 @@
 #![tactic(auto)]
 
 mod fault;
+mod laws;
 mod numeral;
 mod printed;
 mod quoted;
 
 pub use fault::LineFault;
+pub use laws::{numbers_are_read_as_written, values_are_read_as_written};
 pub use numeral::number;
 pub use printed::value;
