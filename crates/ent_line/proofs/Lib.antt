@@ -1,0 +1,5 @@
+mod Reading
+mod Fronts
+mod Numbers
+mod Texts
+mod Values

@@ -1,0 +1,88 @@
+-- How the parts of a line are read from the left: a thing and the bytes behind it, or nothing of the sort.
+use Rattle.std.specs.Prelude.{◌≡◌, ℕ, zero, suc, ℤ, pos, negsuc, ◌+◌, ◌-◌, ◌*◌, Bool, true, false, not, ◌&&◌, List, [], ◌∷◌, length}
+use Rattle.std.specs.Prelude.{Option, Some, None, Result, Ok, Err, nat_le, ◌==◌, if◌then◌else◌, slice_index, drop}
+use Rattle.std.specs.List.{take_while, prefix_len}
+use Rattle.std.specs.Char.{is_ascii_digit, is_ascii_control}
+use Rattle.ent_value.specs.Refusal.{◌>>=◌}
+use Rattle.ent_value.specs.declared.text.TheConstants.{LONGEST_TEXT}
+use Rattle.ent_value.specs.declared.value.Value.{Value}
+use Rattle.ent_value.specs.declared.value.Value.TheVariants.{Int, Text}
+use Rattle.ent_line.specs.declared.fault.LineFault.{LineFault}
+use Rattle.ent_line.specs.declared.fault.LineFault.TheVariants.{Misfit}
+
+abbrev pub Read : Type 0 → Type 0
+Read A = Result (A × List ℕ) LineFault
+
+abbrev pub wanted : {A : Type 0} → Bool → A → Result A LineFault
+wanted test x = if test then Ok x else Err Misfit
+
+-- what stands behind the longest front of such bytes
+abbrev pub after : (ℕ → Bool) → List ℕ → List ℕ
+after test bytes = drop (prefix_len test bytes) bytes
+
+-- what stands behind these bytes, where they stand in front
+unfoldable pub behind : List ℕ → List ℕ → Result (List ℕ) LineFault
+behind [] bytes = Ok bytes
+behind (c ∷ word) [] = Err Misfit
+behind (c ∷ word) (b ∷ bytes) = if b == c then behind word bytes else Err Misfit
+
+-- ---- numbers
+
+-- the number that digits go on to
+abbrev pub value_from : ℕ → List ℕ → ℕ
+value_from value [] = value
+value_from value (d ∷ ds) = value_from (value * 10 + (d - 48)) ds
+
+-- a digit at least, and no zero before others
+abbrev pub is_plain : List ℕ → Bool
+is_plain [] = false
+is_plain (d ∷ []) = true
+is_plain (d ∷ e ∷ more) = not (d == 48)
+
+-- a number up to a limit
+unfoldable pub number_to : ℕ → List ℕ → Read ℕ
+number_to most bytes =
+    let digits = take_while is_ascii_digit bytes in
+    if is_plain digits then
+    (if nat_le (value_from 0 digits) most then Ok (value_from 0 digits, after is_ascii_digit bytes) else Err Misfit)
+    else Err Misfit
+
+abbrev pub number_at : List ℕ → Read ℕ
+number_at bytes = number_to 9223372036854775807 bytes
+
+-- ---- values
+
+-- a number behind its minus sign; none is 0
+abbrev pub negative : ℕ → List ℕ → Read Value
+negative zero rest = Err Misfit
+negative (suc n) rest = Ok (Int (negsuc n), rest)
+
+abbrev pub with_byte : ℕ → Read (List ℕ) → Read (List ℕ)
+with_byte b read = read >>= λ x. Ok (b ∷ x.0, x.1)
+
+-- what stands in quotes, behind the opening one, and the bytes behind the closing one
+unfoldable pub content_at : List ℕ → Read (List ℕ)
+content_at [] = Err Misfit
+content_at (b ∷ []) = if b == 39 then Ok ([], []) else Err Misfit
+content_at (b ∷ c ∷ bytes) =
+    if b == 39 then (if c == 39 then with_byte 39 (content_at bytes) else Ok ([], c ∷ bytes))
+    else (if is_ascii_control b then Err Misfit else with_byte b (content_at (c ∷ bytes)))
+
+-- at most 255 bytes
+abbrev pub short_text : List ℕ → List ℕ → Read Value
+short_text content rest = wanted (nat_le (length content) LONGEST_TEXT) (Text content, rest)
+
+unfoldable pub text_at : List ℕ → Read Value
+text_at bytes = content_at bytes >>= λ content. short_text content.0 content.1
+
+unfoldable pub negative_at : List ℕ → Read Value
+negative_at bytes = number_to 9223372036854775808 bytes >>= λ found. negative found.0 found.1
+
+unfoldable pub positive_at : List ℕ → Read Value
+positive_at bytes = number_at bytes >>= λ found. Ok (Int (pos found.0), found.1)
+
+-- a text in quotes, a number, or one behind a minus sign
+unfoldable pub value_at : List ℕ → Read Value
+value_at bytes =
+    if slice_index bytes 0 == 39 then text_at (drop 1 bytes)
+    else (if slice_index bytes 0 == 45 then negative_at (drop 1 bytes) else positive_at bytes)

@@ -1,0 +1,39 @@
+-- What can be written in a line, and what can stand behind it.
+use Rattle.std.specs.Prelude.{◌≡◌, ◌≢◌, ◌≤◌, ◌==◌, ◌||◌, ℕ, Bool, false, List, [], ◌∷◌, length, FitsSigned, IsFalse}
+use Rattle.std.specs.List.{list_any, AllByRecursion}
+use Rattle.std.specs.Int.{w64}
+use Rattle.std.specs.Char.{is_ascii_control}
+use Rattle.ent_value.specs.Name.{is_word_byte}
+use Rattle.ent_value.specs.declared.text.TheConstants.{LONGEST_TEXT}
+use Rattle.ent_value.specs.declared.value.Value.{Value}
+use Rattle.ent_value.specs.declared.value.Value.TheVariants.{Int, Text}
+
+-- no byte that passes stands first
+abbrev pub Stops : (ℕ → Bool) → List ℕ → Type 0
+Stops test [] = Unit {0}
+Stops test (c ∷ others) = test c ≡ false
+
+-- a byte that would go on a number, a name or a text
+abbrev pub goes_on : ℕ → Bool
+goes_on b = is_word_byte b || (b == 39)
+
+-- none stands first
+abbrev pub IsOver : List ℕ → Type 0
+IsOver = Stops goes_on
+
+-- 0 to 9223372036854775807
+abbrev pub IsNumber : ℕ → Type 0
+IsNumber n = n ≤ 9223372036854775807
+
+-- at most 255 bytes, without control characters
+abbrev pub IsText : List ℕ → Type 0
+IsText content = IsFalse (list_any is_ascii_control content) × (length content ≤ LONGEST_TEXT)
+
+-- a number of 64 bits, -9223372036854775808 too, or a text
+abbrev pub IsValue : Value → Type 0
+IsValue (Int number) = FitsSigned w64 number
+IsValue (Text content) = IsText content
+
+-- a value at least
+abbrev pub IsRow : List Value → Type 0
+IsRow values = (values ≢ []) × AllByRecursion IsValue values
