@@ -1,0 +1,13 @@
+pub mod Lists
+pub mod Alike
+pub mod Found
+pub mod Accounts
+pub mod Commits
+pub mod Bridge
+pub mod Journals
+pub mod Deeds
+pub mod Replays
+pub mod Joints
+pub mod Tables
+pub mod Legal
+pub mod Sound

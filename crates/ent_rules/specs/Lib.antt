@@ -1,0 +1,11 @@
+pub mod Account
+pub mod Placed
+pub mod Alike
+pub mod Journal
+pub mod Joint
+pub mod Replay
+pub mod Post
+pub mod Table
+pub mod Findings
+pub mod Formed
+pub mod Verdict
