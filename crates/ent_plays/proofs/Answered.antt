@@ -100,7 +100,8 @@ module _ (s : State) (friends : List Friend) (asked : askings s ≡ map asking f
     abbrev answered : {F : Type 0} → Reply F
     answered = replies.Answered
 
-    pub joins : {F : Type 0} → have_partners members ≡ true → (left : List Job) → IsTaken (wishes.joint_job members) s.lent left
+    pub joins : {F : Type 0} → have_partners members ≡ true → (left : List Job)
+        → IsTaken (wishes.joint_job members) s.lent left
         → Joins {F = F} s (joint_done members) answered
         (joining (record s { lent = left }) (map asking members) (taken members))
     joins h left is_taken =

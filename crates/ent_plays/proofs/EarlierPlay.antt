@@ -27,7 +27,8 @@ use Rattle.ent_plays.proofs.Waiting.{quiet}
 abbrev A_again : Friend
 A_again = record { tx = 1; attempt = 2; place = 1; wish = A_for_B }
 
-module _ {F : Type 0} {resolved : Forms F} (one : ScriptOf resolved 8 (asks_form A_for_B ∷ books_form (codes "A") ∷ []) Commit)
+module _ {F : Type 0} {resolved : Forms F}
+    (one : ScriptOf resolved 8 (asks_form A_for_B ∷ books_form (codes "A") ∷ []) Commit)
     (two : ScriptOf resolved 8 (asks_form B_for_A ∷ []) Rollback) where
   abbrev one_in : State
   one_in = submitting (opened partners_opening) (script one) (asks_form A_for_B ∷ books_form (codes "A") ∷ [])

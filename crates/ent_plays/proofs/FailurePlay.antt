@@ -33,7 +33,8 @@ evaluated = refl
 abbrev again : Friend
 again = record { tx = 2; attempt = 2; place = 1; wish = minnie }
 
-module _ {F : Type 0} {resolved : Forms F} (one : ScriptOf resolved 8 (asks_form mickey ∷ sets_too_much known.Constant ∷ []) Commit)
+module _ {F : Type 0} {resolved : Forms F}
+    (one : ScriptOf resolved 8 (asks_form mickey ∷ sets_too_much known.Constant ∷ []) Commit)
     (two : ScriptOf resolved 2 (asks_form minnie ∷ []) Commit) where
   abbrev one_in : State
   one_in = submitting (opened partners_opening) (script one) (asks_form mickey ∷ sets_too_much known.Constant ∷ [])

@@ -64,7 +64,8 @@ update_evaluated =
     updated 1 (tables_of update_job.tables) booking (A ∷ Int (pos 136) ∷ []) (sets_136 (λ value. value))
     (ap (λ rows. set.insert rows booking) (without-nothing rows_total exact_rows set.empty)) (λ other. refl) refl
 
-module _ {F : Type 0} {resolved : Forms F} (one : ScriptOf resolved 2 (asks_form A_for_B ∷ books_form (codes "A") ∷ []) Commit)
+module _ {F : Type 0} {resolved : Forms F}
+    (one : ScriptOf resolved 2 (asks_form A_for_B ∷ books_form (codes "A") ∷ []) Commit)
     (two : ScriptOf resolved 2 (asks_form B_for_A ∷ asks_form B_for_C ∷ []) Commit)
     (three : ScriptOf resolved 8 (asks_form C_for_B ∷ updates_form ∷ []) Rollback) where
   abbrev one_in : State

@@ -19,7 +19,8 @@ first_books = booking_job 1 (Text (codes "A")) set.empty
 abbrev pub first_booked : Done
 first_booked = booking_done 1 (Text (codes "A")) set.empty
 
-module _ {F : Type 0} {resolved : Forms F} (one : ScriptOf resolved 8 (asks_form A_for_B ∷ books_form (codes "A") ∷ []) Commit)
+module _ {F : Type 0} {resolved : Forms F}
+    (one : ScriptOf resolved 8 (asks_form A_for_B ∷ books_form (codes "A") ∷ []) Commit)
     (two : ScriptOf resolved 8 (asks_form B_for_A ∷ []) Rollback) where
   -- the second rolls both back while the first one's job is out
   abbrev pub job_outlives : List (Event × Reply F)

@@ -30,7 +30,8 @@ set_job =
 abbrev pub set_done : Done
 set_done = record { job = set_job; outcome = Fault Overflow }
 
-module _ {F : Type 0} {resolved : Forms F} (one : ScriptOf resolved 8 (asks_form mickey ∷ sets_too_much known.Constant ∷ []) Commit)
+module _ {F : Type 0} {resolved : Forms F}
+    (one : ScriptOf resolved 8 (asks_form mickey ∷ sets_too_much known.Constant ∷ []) Commit)
     (two : ScriptOf resolved 2 (asks_form minnie ∷ []) Commit) where
   -- the two are answered, and the first one's SET fails
   abbrev pub set_fails : List (Event × Reply F)

@@ -66,7 +66,8 @@ update_done =
       outcome = Changed 1 ((A ∷ flight_122 ∷ []) ∷ []) ((A ∷ Int (pos 136) ∷ []) ∷ []);
     }
 
-module _ {F : Type 0} {resolved : Forms F} (one : ScriptOf resolved 2 (asks_form A_for_B ∷ books_form (codes "A") ∷ []) Commit)
+module _ {F : Type 0} {resolved : Forms F}
+    (one : ScriptOf resolved 2 (asks_form A_for_B ∷ books_form (codes "A") ∷ []) Commit)
     (two : ScriptOf resolved 2 (asks_form B_for_A ∷ asks_form B_for_C ∷ []) Commit)
     (three : ScriptOf resolved 8 (asks_form C_for_B ∷ updates_form ∷ []) Rollback) where
   -- A and B are answered, and A books

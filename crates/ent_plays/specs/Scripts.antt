@@ -14,7 +14,8 @@ use Rattle.ent_protocol.specs.Run.{Forms}
 use Rattle.ent_plays.specs.Wish.{Wish, asks}
 
 -- a script for so many runs, with this end, that is resolved to these statements over the partners' opening
-pub record ScriptOf {F : Type 0} (resolved : Forms F) (within : ℕ) (form : List (FormStatement Known)) (end : End) : Type 0 where
+pub record ScriptOf {F : Type 0} (resolved : Forms F) (within : ℕ) (form : List (FormStatement Known)) (end : End)
+    : Type 0 where
   pub statements : List Statement
   pub resolves : resolved.resolve partners_opening
       (record { within = within; statements = statements; end = end }) ≡ Ok form
