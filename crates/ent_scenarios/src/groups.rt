@@ -83,6 +83,15 @@ pub(crate) fn push(members: &mut Members, tx: Tx) -> bool {
     can
 }
 
+/// The transactions of these numbers.
+pub(crate) fn read_members(words: &[&str]) -> Result<Members> {
+    let mut members = Members::new();
+    for word in words {
+        push(&mut members, number(word)?);
+    }
+    Ok(members)
+}
+
 pub(crate) fn put_members(alloc: Global, out: &mut Out, members: &Members) {
     if members.is_empty() {
         return put(out, "nobody");

@@ -1,5 +1,5 @@
 //! Locks on tables: `== locks`. A use is written `T:shared` or `T:exclusive`.
-use crate::groups::{push, put_transaction};
+use crate::groups::{push, put_transaction, read_members};
 use crate::reply::{Out, Show, put, put_number, yes_or_no};
 use crate::words::{name, number};
 use anyhow::{Context, Result, bail};
@@ -56,14 +56,6 @@ pub(crate) fn reply(
         }
         _ => reply_of(alloc, locks, call, out),
     }
-}
-
-fn read_members(words: &[&str]) -> Result<Members> {
-    let mut members = Members::new();
-    for word in words {
-        push(&mut members, number(word)?);
-    }
-    Ok(members)
 }
 
 fn ask(alloc: Global, locks: &mut LockTable, tx: Tx, words: &[&str], out: &mut Out) -> Result<()> {

@@ -1,7 +1,8 @@
 //! Tables of numbers and the undo log of their changes: `== undo`.
+use crate::groups::read_members;
 use crate::reply::{Out, Show, put, put_number};
 use crate::table::shared_table;
-use crate::words::{index, number, numbers, rows_of};
+use crate::words::{index, number, rows_of};
 use anyhow::{Result, bail};
 use ent_rel::Table;
 use ent_undo::{UndoLog, log_tells_of_writes};
@@ -49,12 +50,12 @@ fn carry_out(alloc: Global, tables: &mut Tables, call: &[&str]) -> Result<()> {
     match call {
         ["table", rows @ ..] => add(alloc, tables, rows),
         ["write", tx, at, rows @ ..] => write(alloc, tables, number(tx)?, index(at)?, rows),
-        ["roll_back", members @ ..] => roll_back(alloc, tables, members),
+        ["roll_back", members @ ..] => roll_back(tables, members),
         ["take_back"] => {
             take_back(tables);
             Ok(())
         }
-        ["forget", members @ ..] => forget(alloc, &mut tables.log, members),
+        ["forget", members @ ..] => forget(&mut tables.log, members),
         _ => bail!("the undo log knows no such call"),
     }
 }
@@ -64,11 +65,10 @@ fn add(alloc: Global, tables: &mut Tables, rows: &[&str]) -> Result<()> {
     Ok(())
 }
 
-fn roll_back(alloc: Global, tables: &mut Tables, members: &[&str]) -> Result<()> {
-    let members = numbers(alloc, members)?;
+fn roll_back(tables: &mut Tables, members: &[&str]) -> Result<()> {
+    let members = read_members(members)?;
     let Tables { tables, log } = tables;
-    log.roll_back(members.as_slice(), tables.as_mut_slice());
-    drop(members);
+    log.roll_back(&members, tables.as_mut_slice());
     Ok(())
 }
 
@@ -77,10 +77,9 @@ fn take_back(tables: &mut Tables) {
     log.take_back(tables.as_mut_slice());
 }
 
-fn forget(alloc: Global, log: &mut UndoLog, members: &[&str]) -> Result<()> {
-    let members = numbers(alloc, members)?;
-    log.forget(members.as_slice());
-    drop(members);
+fn forget(log: &mut UndoLog, members: &[&str]) -> Result<()> {
+    let members = read_members(members)?;
+    log.forget(&members);
     Ok(())
 }
 

@@ -51,18 +51,13 @@ pub(crate) fn index(word: &str) -> Result<usize> {
     word.parse::<usize>().context("this is no index")
 }
 
-pub(crate) fn numbers(alloc: Global, words: &[&str]) -> Result<Vec<u64>> {
+/// The numbers of a line, a blank between two.
+pub(crate) fn numbers_in(alloc: Global, line: &str) -> Result<Vec<u64>> {
     let mut found = Vec::new(alloc);
-    for word in words {
+    for word in line.split(' ') {
         found.push(number(word)?)?;
     }
     Ok(found)
-}
-
-/// The numbers of a line, a blank between two.
-pub(crate) fn numbers_in(alloc: Global, line: &str) -> Result<Vec<u64>> {
-    let words: Vec<&str> = line.split(' ').collect(alloc)?;
-    numbers(alloc, words.as_slice())
 }
 
 pub(crate) fn name(alloc: Global, word: &str) -> Result<Name> {

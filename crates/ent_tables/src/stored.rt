@@ -145,8 +145,7 @@ impl StoredTables {
     {
         // A law: a rollback puts the changes back one after the other.
         rollback_goes_newest_first();
-        self.log
-            .roll_back(gone.as_slice(), self.tables.as_mut_slice());
+        self.log.roll_back(gone, self.tables.as_mut_slice());
     }
 
     /// What these transactions changed stays, and can't be taken back any more. It takes no memory.
@@ -155,6 +154,6 @@ impl StoredTables {
         ensures members { (members : List Member) → gone.now ≡ map (λ member. member.tx) members
             → self.new ≡ settled_with members self.old }
     {
-        self.log.forget(gone.as_slice());
+        self.log.forget(gone);
     }
 }

@@ -4,6 +4,7 @@ ghost use Rattle.std.specs.Arc.{arc_value};
 ghost use Rattle.ent_undo.specs.Change.{Change, of_others, rolled_back};
 ghost use Rattle.ent_undo.specs.Records.{changes_in, is_record_of_others};
 
+use ent_group::{Members, Tx};
 use ent_rel::Table;
 use std::alloc::{AllocFailed, Global};
 use std::marker::Model;
@@ -13,7 +14,7 @@ use std::sync::Arc;
 /// A table as it stood before a transaction changed it.
 #[derive(Drop)]
 struct UndoRecord {
-    tx: u64,
+    tx: Tx,
     table: usize,
     before: Arc<Table>,
 }
@@ -31,23 +32,23 @@ fn exchange(undo: &mut UndoRecord, tables: &mut [Arc<Table>])
 
 /// Puts the tables of these transactions' records back, newest first. What stood in their places goes into the
 /// records.
-fn put_back(records: &mut [UndoRecord], members: &[u64], tables: &mut [Arc<Table>])
+fn put_back(records: &mut [UndoRecord], members: &Members, tables: &mut [Arc<Table>])
     ensures tables { map arc_value tables.new
         ≡ rolled_back members.now (changes_in records.old) (map arc_value tables.old) }
     ensures others { of_others members.now (changes_in records.new) ≡ of_others members.now (changes_in records.old) }
 {
     for index in (0..records.len()).rev() {
-        if members.contains(&records[index].tx) {
+        if members.contains(records[index].tx) {
             exchange(&mut records[index], tables);
         }
     }
 }
 
 /// Takes these transactions' records out.
-fn remove_records(records: &mut Vec<UndoRecord>, members: &[u64])
+fn remove_records(records: &mut Vec<UndoRecord>, members: &Members)
     ensures { records.new.items ≡ filter (is_record_of_others members.now) records.old.items }
 {
-    records.retain(|record| !members.contains(&record.tx));
+    records.retain(|record| !members.contains(record.tx));
 }
 
 /// Tables as they stood before transactions changed them, for changes that may still be taken back. Contracts see
@@ -88,7 +89,7 @@ impl UndoLog {
     /// nothing is noted, and the table comes back.
     pub fn note(
         &mut self,
-        tx: u64,
+        tx: Tx,
         table: usize,
         before: Arc<Table>,
     ) -> Result<(), AllocFailed<Arc<Table>>>
@@ -110,7 +111,7 @@ impl UndoLog {
     /// it was noted first, every other one as it is, and the records of these transactions are gone. What others
     /// changed in such a table since is lost, so nobody else may have. It takes no memory. A record whose index is not
     /// below the number of tables puts nothing back.
-    pub fn roll_back(&mut self, members: &[u64], tables: &mut [Arc<Table>])
+    pub fn roll_back(&mut self, members: &Members, tables: &mut [Arc<Table>])
         ensures tables { map arc_value tables.new ≡ rolled_back members.now self.old (map arc_value tables.old) }
         ensures log { self.new ≡ of_others members.now self.old }
     {
@@ -134,7 +135,7 @@ impl UndoLog {
     }
 
     /// Takes the records of some transactions out, whose changes are to stay. It takes no memory.
-    pub fn forget(&mut self, members: &[u64])
+    pub fn forget(&mut self, members: &Members)
         ensures { self.new ≡ of_others members.now self.old }
     {
         remove_records(&mut self.records, members);
