@@ -7,3 +7,4 @@ pub mod RowByRow
 pub mod Walks
 pub mod Fronts
 pub mod Found
+pub mod Flattened

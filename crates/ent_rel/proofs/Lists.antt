@@ -1,6 +1,6 @@
 -- Lists of rows: what a loop over them has made, and what they have in common with the set of their rows.
 use Rattle.std.proofs.Common.{◌≡◌, ℕ, zero, suc, ◌+◌, ◌<◌, Bool, true, false, cond, List, [], ◌∷◌, ◌++◌, length, refl}
-use Rattle.std.proofs.Common.{sym, ap, subst, ◌∙◌, arith, get_or, take, drop, append-nil}
+use Rattle.std.proofs.Common.{inl, inr, sym, ap, subst, ◌∙◌, arith, get_or, take, drop, append-nil}
 use Rattle.std.specs.Prelude.{Result, Ok, Err, IsTrue, All, ◌||◌}
 use Rattle.std.specs.List.{filter, list_any, Contains}
 use Rattle.std.specs.Ordering.{eq_by_cmp}
@@ -17,12 +17,10 @@ use Rattle.ent_value.specs.declared.value.Kind.{Kind}
 use Rattle.ent_value.specs.Value.{row_cmp, kinds_of}
 use Rattle.ent_value.specs.Order.{rows_total, exact_rows, rows_equal}
 use Rattle.ent_rel.specs.Relation.{RowSet, HaveKinds}
-use Rattle.ent_value.specs.Refusal.{◌>>=◌, Refuses}
-use Rattle.ent_value.specs.declared.refusal.Refusal.{Refusal}
-use Rattle.ent_value.specs.declared.refusal.Refusal.TheVariants.{Memory, Fault}
+use Rattle.ent_value.specs.Refusal.{◌>>=◌}
 use Rattle.ent_rel.specs.Change.{images_of}
 use Rattle.ent_rel.specs.Part.{IsPart}
-use Rattle.ent_rel.specs.Closure.{Computes, Changes, KeepsKinds}
+use Rattle.ent_rel.specs.Closure.{Answers, Computes, KeepsKinds, Tells}
 use Rattle.ent_rel.proofs.Parts.{part_all}
 
 kept_or_not : {X : Type 0} (b : Bool) (kept : List X) (x : X)
@@ -76,12 +74,13 @@ images_fault {E} image (x ∷ rows) images (suc i) row fault lt is one so = by (
     by (Ok y) (Err other) e f h later = absurd cc
     by (Err other) others e f h later = absurd cc
 
-pub images_refused : {E : Type 0} (image : List Value → Result (List Value) E) (rows images : List (List Value))
-    (i : ℕ) (row : List Value) (refusal : Refusal E) → i < length rows → row ≡ get_or rows i row
-    → Refuses refusal (image row) → images_of image (take i rows) ≡ Ok images → Refuses refusal (images_of image rows)
-images_refused image rows images i row Memory lt is told so = tt
-images_refused image rows images i row (Fault fault) lt is told so = images_fault image rows images i row fault lt is
-    told so
+pub images_refused : {E : Type 0} (excused : E → Bool) (image : List Value → Result (List Value) E)
+    (rows images : List (List Value)) (i : ℕ) (row : List Value) (error : E) → i < length rows → row ≡ get_or rows i row
+    → Tells excused error (image row) → images_of image (take i rows) ≡ Ok images
+    → Tells excused error (images_of image rows)
+images_refused excused image rows images i row error lt is (inl excuse) so = inl excuse
+images_refused excused image rows images i row error lt is (inr told) so =
+    inr (images_fault image rows images i row error lt is told so)
 
 -- one more row with its image
 pub images_step : {E : Type 0} (image : List Value → Result (List Value) E) (rows images : List (List Value)) (i : ℕ)
@@ -127,16 +126,16 @@ taken_there rows taken row all here = there rows row (All-contains (Contains row
     (from_there taken row here))
 
 -- what a closure does on the rows of a set, it does on those of a list that was taken from it
-module _ {F E : Type 0} (calls : Shared F (Bor (List Value) × Unit {0}) (Result (List Value) (Refusal E)))
-    (closure : F) (rows taken : List (List Value)) (s : RowSet) (view : set.from_list rows ≡ s) (all : All
+module _ {F E : Type 0} (calls : Shared F (Bor (List Value) × Unit {0}) (Result (List Value) E)) (closure : F)
+    (rows taken : List (List Value)) (s : RowSet) (view : set.from_list rows ≡ s) (all : All
     (Contains rows) taken) where
   found : (row : List Value) → IsTrue (set.contains (set.from_list {R = row_cmp} taken) row)
       → IsTrue (set.contains s row)
   found row here = ap (λ t. set.contains t row) (sym view) ∙ taken_there rows taken row all here
 
-  pub taken_changes : (image : List Value → Result (List Value) E) → Changes calls closure s image
-      → Changes calls closure (set.from_list taken) image
-  taken_changes image changes row answer here says = changes row answer (found row here) says
+  pub taken_answers : (excused : E → Bool) (image : List Value → Result (List Value) E)
+      → Answers calls closure s excused image → Answers calls closure (set.from_list taken) excused image
+  taken_answers excused image answers row answer here says = answers row answer (found row here) says
 
   pub taken_kinds : (kinds : List Kind) → KeepsKinds calls closure s kinds
       → KeepsKinds calls closure (set.from_list taken) kinds

@@ -1,6 +1,6 @@
 -- What the calls on a table mean, case by case.
 use Rattle.std.proofs.Common.{◌≡◌, ℕ, ◌+◌, ◌≤◌, ◌<◌, Bool, true, false, cond, not, List, [], ◌∷◌, length, refl, sym}
-use Rattle.std.proofs.Common.{ap, subst, ◌∙◌, arith, ◌++◌, take}
+use Rattle.std.proofs.Common.{ap, subst, inl, inr, ◌∙◌, arith, ◌++◌, take}
 use Rattle.std.specs.Prelude.{Result, Ok, Err, IfOk, IsOk, nat_le}
 use Rattle.std.specs.Result.{is_ok}
 use Rattle.std.specs.List.{filter, IsDistinct}
@@ -23,6 +23,7 @@ use Rattle.ent_value.specs.Value.{row_cmp}
 use Rattle.ent_value.specs.Order.{rows_total, exact_rows}
 use Rattle.ent_rel.specs.Relation.{RowSet, Relation, full, bounded}
 use Rattle.ent_rel.specs.Part.{IsPart}
+use Rattle.ent_rel.specs.Closure.{RefusesUnless}
 use Rattle.ent_rel.specs.Change.{insertion, deletion, application, changed_rows, replacement, images_of}
 use Rattle.ent_rel.specs.declared.fault.TableFull.{TableFull}
 use Rattle.ent_value.specs.declared.limits.TheConstants.{MOST_ROWS}
@@ -148,6 +149,16 @@ pub not_replaced : {E : Type 0} (s : RowSet) (removed : List (List Value)) (imag
 not_replaced s removed image meant Memory e h = tt
 not_replaced s removed image meant (Fault fault) e h = e ∙ ap (λ r. r >>= λ new. Ok
     (length removed, changed_rows s removed new)) h
+
+pub not_replaced_unless : {E : Type 0} (excused : E → Bool) (s : RowSet) (removed : List (List Value))
+    (image : List Value → Result (List Value) E) (meant : Result (ℕ × RowSet) E) (refusal : Refusal E)
+    → meant ≡ (images_of image removed >>= λ new. Ok (length removed, changed_rows s removed new))
+    → RefusesUnless excused refusal (images_of image removed)
+    → RefusesUnless excused refusal meant
+not_replaced_unless excused s removed image meant Memory e h = tt
+not_replaced_unless excused s removed image meant (Fault error) e (inl excuse) = inl excuse
+not_replaced_unless excused s removed image meant (Fault error) e (inr told) =
+    inr (e ∙ ap (λ r. r >>= λ new. Ok (length removed, changed_rows s removed new)) told)
 
 both_ok : {X Y : Type 0} (b : Bool) (x t : X) (y : Y) → cond b (Ok x) (Err full) ≡ Ok t
     → cond b (Ok y) (Err full) ≡ Ok y

@@ -1,11 +1,10 @@
 //! Copies and images of the rows of a list.
 ghost use Rattle.std.specs.Prelude.{◌≡◌, Bool, List, Result, IfOk, filter, All, length};
 ghost use Rattle.ent_set.specs.Sets as set;
-ghost use Rattle.ent_value.specs.Refusal.{Gives};
 ghost use Rattle.ent_value.specs.Value.{row_cmp, kinds_of};
 ghost use Rattle.ent_value.specs.declared.value.Value.{Value as Cell};
 ghost use Rattle.ent_value.specs.declared.value.Kind.{Kind};
-ghost use Rattle.ent_rel.specs.Closure.{Computes, Changes, KeepsKinds};
+ghost use Rattle.ent_rel.specs.Closure.{Answers, Computes, GivesUnless, KeepsKinds, flat};
 ghost use Rattle.ent_rel.specs.Change.{images_of};
 ghost use Rattle.ent_rel.specs.Part.{IsPart};
 
@@ -44,16 +43,16 @@ pub(crate) fn copies_where<F: Fn(&Row) -> bool>(
     Ok(copies)
 }
 
-/// The images of rows, or the fault of the first row that has none.
-pub(crate) fn images<E: Drop, G: Fn(&Row) -> Result<Row, Refusal<E>>>(
+/// The images of rows, or the closure's error on the first row that has none.
+pub(crate) fn images<E: Drop, G: Fn(&Row) -> Result<Row, E>>(
     alloc: Global,
     rows: &[Row],
     change: G,
 ) -> Result<Vec<Row>, Refusal<E>>
     requires { G.IsAlwaysCallable change }
-    ensures images { (image : List Cell → Result (List Cell) E)
-        → Changes G.Fn change (set.from_list {R = row_cmp} rows.now) image
-        → Gives (λ images. images.items) result (images_of image rows.now) }
+    ensures images { (excused : E → Bool) (image : List Cell → Result (List Cell) E)
+        → Answers G.Fn change (set.from_list {R = row_cmp} rows.now) excused image
+        → GivesUnless excused (λ images. images.items) result (images_of image rows.now) }
     ensures count { IfOk result (λ images. length images.items ≡ length rows.now) }
     ensures kinds { (kinds : List Kind)
         → KeepsKinds G.Fn change (set.from_list {R = row_cmp} rows.now) kinds
@@ -61,8 +60,24 @@ pub(crate) fn images<E: Drop, G: Fn(&Row) -> Result<Row, Refusal<E>>>(
 {
     let mut images = Vec::with_capacity(alloc, rows.len())?;
     for row in rows {
-        let image = change(row)?;
-        images.push(image)?;
+        match change(row) {
+            Ok(image) => images.push(image)?,
+            Err(error) => return Err(Refusal::Fault(error)),
+        }
     }
     Ok(images)
+}
+
+/// The result, of two refusals within each other as one: memory ran out, in the call or in the closure, or the fault of
+/// the closure.
+pub(crate) fn flattened<T: Drop, E: Drop>(
+    nested: Result<T, Refusal<Refusal<E>>>,
+) -> Result<T, Refusal<E>>
+    ensures { result ≡ flat nested }
+{
+    match nested {
+        Ok(value) => Ok(value),
+        Err(Refusal::Memory) => Err(Refusal::Memory),
+        Err(Refusal::Fault(refusal)) => Err(refusal),
+    }
 }

@@ -7,12 +7,12 @@ ghost use Rattle.ent_value.specs.Value.{row_cmp, kinds_of};
 ghost use Rattle.ent_value.specs.declared.value.Value.{Value as Cell};
 ghost use Rattle.ent_rel.specs.Relation.{HaveKinds, bounded};
 ghost use Rattle.ent_rel.specs.Change.{changed_rows, insertion, deletion, replacement, application};
-ghost use Rattle.ent_rel.specs.Closure.{Computes, Changes, KeepsKinds};
+ghost use Rattle.ent_rel.specs.Closure.{Answers, Changes, Computes, GivesUnless, KeepsKinds};
 ghost use Rattle.ent_rel.specs.First.{has_first};
 ghost use Rattle.ent_rel.specs.Part.{IsPart};
 
 use crate::change::Delta;
-use crate::copies::{copies_where, images};
+use crate::copies::{copies_where, flattened, images};
 use crate::fault::{LoadRefused, TableFull};
 use crate::keys::{keys_changed, keys_loaded};
 use crate::kinds::{are_same_kinds, have_kinds};
@@ -198,9 +198,10 @@ impl Table {
         ))
     }
 
-    /// What putting its image in the place of each row that passes a test would change, or the fault of the first
-    /// row, in ascending order, that passes and has no image. No more rows stand then than before, so the change fits.
-    pub fn replace<E: Drop, F: Fn(&Row) -> bool, G: Fn(&Row) -> Result<Row, Refusal<E>>>(
+    /// What putting its image in the place of each row that passes a test would change, or the closure's error on the
+    /// first row, in ascending order, that passes and has no image. No more rows stand then than before, so the change
+    /// fits. An error that the closure excuses, as one that tells of memory, may come on any row that passes.
+    pub fn replace<E: Drop, F: Fn(&Row) -> bool, G: Fn(&Row) -> Result<Row, E>>(
         &self,
         alloc: Global,
         test: F,
@@ -209,10 +210,11 @@ impl Table {
         requires test { F.IsAlwaysCallable test }
         requires change { G.IsAlwaysCallable change }
         requires kinds { KeepsKinds G.Fn change self.now.rows self.now.kinds }
-        ensures change { (passes : List Cell → Bool) (image : List Cell → Result (List Cell) E)
+        ensures change { (passes : List Cell → Bool) (excused : E → Bool)
+            (image : List Cell → Result (List Cell) E)
             → Computes F.Fn test self.now.rows passes
-            → Changes G.Fn change self.now.rows image
-            → Gives (λ r. (r.0, changed_rows self.now.rows r.1.removed r.1.added))
+            → Answers G.Fn change self.now.rows excused image
+            → GivesUnless excused (λ r. (r.0, changed_rows self.now.rows r.1.removed r.1.added))
             result (replacement self.now.rows passes image) }
         ensures kinds { IfOk result (λ r. All (λ row. kinds_of row ≡ self.now.kinds) r.1.added) }
         ensures fits { IfOk result (λ r. IsOk (application self.now.rows r.1.removed r.1.added)) }
@@ -303,7 +305,7 @@ impl Table {
         ensures fits { IfOk result (λ r. IsOk (application self.now.rows r.1.removed r.1.added)) }
     {
         let matched = self.matches(alloc, values, test)?;
-        let added = images(alloc, matched.as_slice(), change)?;
+        let added = flattened(images(alloc, matched.as_slice(), change))?;
         let count = matched.len() as u64;
         Ok((
             count,

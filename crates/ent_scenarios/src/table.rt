@@ -193,25 +193,13 @@ fn replace(alloc: Global, table: &mut Table, least: &str, word: &str, out: &mut 
         return put_fault_of_change(alloc, table, least, out);
     }
     let image = row_of(alloc, word, table.kinds())?;
-    let replaced = table.replace(
-        alloc,
-        |row| number_of(row) > least,
-        |_| copied(alloc, &image),
-    );
+    let replaced = table.replace(alloc, |row| number_of(row) > least, |_| image.copy(alloc));
     drop(image);
     match replaced {
         Ok((count, delta)) => put_count(alloc, table, count, &delta, out)?,
-        Err(Refusal::Fault(number)) => put_fault(alloc, number, out),
-        Err(Refusal::Memory) => bail!("memory ran out"),
+        Err(_) => bail!("memory ran out"),
     }
     Ok(())
-}
-
-/// An image of a row, which has no fault.
-fn copied(alloc: Global, image: &Row) -> Result<Row, Refusal<i64>>
-    ensures { IfOk result (λ copy. copy ≡ image.now) }
-{
-    Ok(image.copy(alloc)?)
 }
 
 /// Replies the fault of a change that finds no image for a row: that row's number.
@@ -219,7 +207,7 @@ fn put_fault_of_change(alloc: Global, table: &Table, least: i64, out: &mut Out) 
     let replaced = table.replace(
         alloc,
         |row| number_of(row) > least,
-        |row| Err(Refusal::Fault(number_of(row))),
+        |row| Err(number_of(row)),
     );
     match replaced {
         Ok((count, delta)) => {

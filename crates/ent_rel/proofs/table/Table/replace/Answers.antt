@@ -10,13 +10,13 @@ use Rattle.ent_value.specs.Value.{row_cmp}
 use Rattle.ent_value.specs.Order.{rows_total, exact_rows}
 use Rattle.ent_rel.specs.Relation.{RowSet}
 use Rattle.ent_rel.specs.Change.{replacement}
-use Rattle.ent_rel.proofs.Lists.{computes_listed, taken_from, part_there, taken_changes, taken_kinds}
-use Rattle.ent_rel.proofs.Meanings.{replaced, replaced_so, not_replaced, fits_part}
+use Rattle.ent_rel.proofs.Lists.{computes_listed, taken_from, part_there, taken_answers, taken_kinds}
+use Rattle.ent_rel.proofs.Meanings.{replaced, replaced_so, not_replaced_unless, fits_part}
 use Rattle.ent_rel.proofs.Keyed.{rows_ascend}
 use Rattle.ent_rel.proofs.table.Table.replace.Goals as goal
 
 pub returns-in_err-added-clause-change : goal.returns-in_err-added-clause-change
-returns-in_err-added-clause-change g c = λ passes image computes changes.
+returns-in_err-added-clause-change g c = λ passes excused image computes answers.
     let items = c.in_ok-rows.rows.items in
     let s : RowSet = c.args.self.now.rows in
     let matched = c.as_slice-2.result.now in
@@ -28,12 +28,12 @@ returns-in_err-added-clause-change g c = λ passes image computes changes.
     ∙ c.in_ok-removed.ensures.passing passes listed ∙ ap (filter passes) c.as_slice.ensures.value in
     let part = taken_from items c.as_slice.result.now c.in_ok-removed.removed.items matched c.as_slice.ensures.value
     c.as_slice-2.ensures.value c.in_ok-removed.ensures.part in
-    let here = taken_changes g.G.Fn c.args.change items matched s view (part_there items matched part) image changes in
+    let here = taken_answers g.G.Fn c.args.change items matched s view (part_there items matched part) excused image answers in
     let found = err_from_is_err_and c.from_residual-in_err-added.result c.from_residual-in_err-added.ensures.1 in
-    rw (found.1, found.2) (not_replaced s matched image (replacement s passes image) c.in_err-added.field-0.0
+    rw (found.1, found.2) (not_replaced_unless excused s matched image (replacement s passes image) c.in_err-added.field-0.0
     (replaced s items matched passes image view (subst (IsStrictlySortedBy row_cmp)
     (sym c.in_ok-rows.ensures.rows) (rows_ascend c.args.self.now.rows)) removed)
-    (c.in_err-added.ensures.images image here))
+    (c.in_err-added.ensures.images excused image here))
 
 pub returns-clause-kinds : goal.returns-clause-kinds
 returns-clause-kinds g c =
@@ -67,7 +67,7 @@ returns-clause-fits g c =
     ))
 
 pub returns-clause-change : goal.returns-clause-change
-returns-clause-change g c = λ passes image computes changes.
+returns-clause-change g c = λ passes excused image computes answers.
     let items = c.in_ok-rows.rows.items in
     let s : RowSet = c.args.self.now.rows in
     let matched = c.as_slice-2.result.now in
@@ -77,13 +77,13 @@ returns-clause-change g c = λ passes image computes changes.
     computes in
     let part = taken_from items c.as_slice.result.now c.in_ok-removed.removed.items matched c.as_slice.ensures.value
     c.as_slice-2.ensures.value c.in_ok-removed.ensures.part in
-    let here = taken_changes g.G.Fn c.args.change items matched s view (part_there items matched part) image changes in
+    let here = taken_answers g.G.Fn c.args.change items matched s view (part_there items matched part) excused image answers in
     let removed : c.from_vec.result ≡ filter passes items = c.from_vec.ensures
     ∙ c.in_ok-removed.ensures.passing passes listed ∙ ap (filter passes) c.as_slice.ensures.value in
     let same : matched ≡ c.from_vec.result = c.as_slice-2.ensures.value ∙ sym c.from_vec.ensures in
     let count : length c.from_vec.result ≡ c.len-count.result = ap length c.from_vec.ensures
     ∙ sym c.in_ok-removed.removed.ok.0 ∙ sym c.len-count.ensures in
-    let made = rw same at (c.in_ok-added.ensures.images image here) in
+    let made = rw same at (c.in_ok-added.ensures.images excused image here) in
     replaced_so s c.from_vec.result c.from_vec-2.result c.len-count.result image (replacement s passes image)
     (replaced s items c.from_vec.result passes image view (subst (IsStrictlySortedBy row_cmp)
     (sym c.in_ok-rows.ensures.rows) (rows_ascend c.args.self.now.rows)) removed)
