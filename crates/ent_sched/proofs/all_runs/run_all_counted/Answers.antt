@@ -4,6 +4,8 @@ use Rattle.ent_core.specs.Reply.{reply_seen}
 use Rattle.ent_protocol.specs.Reached.{CanClose, IsFinished}
 use Rattle.ent_protocol.specs.State.{State}
 use Rattle.ent_resolved.specs.Resolved.{resolved_forms}
+use Rattle.ent_sched.specs.Bounds.{events_of_run}
+use Rattle.ent_sched.specs.Onward.{TicksOn}
 use Rattle.ent_sched.proofs.Adding.{unmoved}
 use Rattle.ent_sched.proofs.Running.{HasRun, finished_so, has_run_into, has_run_more, has_run_out, is_run_out}
 use Rattle.ent_sched.proofs.Running.{just_recalled}
@@ -43,6 +45,15 @@ pub returns-in-Ok-clause-finished : goal.returns-in-Ok-clause-finished
 returns-in-Ok-clause-finished c =
     finished_so resolved_forms c.args.counted c.runs.counted (book_seen c.in-Ok.made.book) c.runs.invariant.ran
     c.in-Ok.ensures.finished
+
+pub returns-in-Memory-clause-handed_back : goal.returns-in-Memory-clause-handed_back
+returns-in-Memory-clause-handed_back c =
+    let middle = c.runs.counted in
+    let none : TicksOn resolved_forms (events_of_run middle.core) middle c.in-Err.refused.counted =
+    unmoved resolved_forms (events_of_run middle.core) middle c.in-Err.refused.counted c.is_reached.ensures.bound
+    c.in-Err.ensures.returned in
+    has_run_into resolved_forms (c.events_lead_on.ensures.joined resolved_forms) c.args.counted middle
+    c.in-Err.refused.counted c.runs.invariant.ran none
 
 pub returns-then-is_err-clause-handed_back : goal.returns-then-is_err-clause-handed_back
 returns-then-is_err-clause-handed_back c =
