@@ -1,5 +1,5 @@
 -- The line of a member of a joint answer is read as it is written.
-use Rattle.std.proofs.Common.{◌≡◌, ℕ, ◌+◌, ◌<◌, ◌≤◌, Bool, true, false, cond, eqb, List, [], ◌∷◌, ◌++◌, length, drop, Ok, Err, Result, refl, ap, sym, ◌∙◌, subst, arith, append_assoc}
+use Rattle.std.proofs.Common.{◌≡◌, ℕ, eqb, List, [], ◌∷◌, ◌++◌, length, Ok, Err, Result, refl, ap, sym, ◌∙◌, subst, arith, append_assoc}
 use Rattle.std.specs.Prelude.{codes}
 use Rattle.std.specs.List.{AllByRecursion}
 use Rattle.std.specs.Char.{is_ascii_digit}
@@ -10,7 +10,6 @@ use Rattle.ent_value.specs.declared.value.Value.{Value}
 use Rattle.ent_semantics.specs.Database.{Name}
 use Rattle.ent_book.specs.Report2.{bindings_text}
 use Rattle.ent_line.specs.declared.fault.LineFault.{LineFault}
-use Rattle.ent_line.specs.declared.fault.LineFault.TheVariants.{Misfit}
 use Rattle.ent_line.specs.Pieces.{behind, number_at, value_at}
 use Rattle.ent_line.specs.Written.{Stops, IsNumber, IsOver, IsValue}
 use Rattle.ent_report_lines.specs.Bindings.{binding_at, with_first, bindings_at, member_at, member_line}

@@ -1,5 +1,5 @@
 -- How the line of a transaction is read, and which lines there are.
-use Rattle.std.specs.Prelude.{◌≡◌, ◌≤◌, ◌==◌, ℕ, List, ◌++◌, length, Result, Ok, Err, nat_le, slice_index, codes, if◌then◌else◌}
+use Rattle.std.specs.Prelude.{◌≤◌, ◌==◌, ℕ, List, ◌++◌, length, Result, Ok, Err, nat_le, slice_index, codes, if◌then◌else◌}
 use Rattle.std.specs.Fmt.{decimal}
 use Rattle.ent_value.specs.Refusal.{◌>>=◌}
 use Rattle.ent_tree.specs.declared.limits.TheConstants.{MOST_RUNS}

@@ -1,4 +1,3 @@
-use Rattle.ent_report_lines.proofs.Steps.{Parts}
 use Rattle.ent_report_lines.proofs.Bindings.{member_found, member_again}
 use Rattle.ent_report_lines.proofs.laws.members_are_read_as_written.Goals as goal
 

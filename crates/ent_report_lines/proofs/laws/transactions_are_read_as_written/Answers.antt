@@ -1,4 +1,3 @@
-use Rattle.ent_report_lines.proofs.Steps.{Parts}
 use Rattle.ent_report_lines.proofs.Fates.{transaction_found, transaction_again}
 use Rattle.ent_report_lines.proofs.laws.transactions_are_read_as_written.Goals as goal
 
