@@ -5,9 +5,13 @@
 #![tactic(auto)]
 
 mod binding;
+mod count;
 mod fate;
 mod laws;
 
 pub use binding::member;
+pub use count::{placed, set, table};
 pub use fate::transaction;
-pub use laws::{members_are_read_as_written, transactions_are_read_as_written};
+pub use laws::{
+    counts_are_read_as_written, members_are_read_as_written, transactions_are_read_as_written,
+};
