@@ -1,6 +1,6 @@
 -- At which line of its report each thing that a history tells stands, counted from 1: behind the lines of all that
 -- stands above it.
-use Rattle.std.specs.Prelude.{ℕ, ◌+◌, List, length, take, sum_by}
+use Rattle.std.specs.Prelude.{ℕ, ◌+◌, length, take, sum_by}
 use Rattle.ent_tree.specs.declared.declaration.Opening.{Opening}
 use Rattle.ent_tree.specs.declared.script.Script.{Script}
 use Rattle.ent_semantics.specs.declared.answer.Answer.{Answer}

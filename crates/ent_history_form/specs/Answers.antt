@@ -1,5 +1,5 @@
 -- The lines of the transactions, and of their answers.
-use Rattle.std.specs.Prelude.{◌≡◌, ◌≢◌, ◌≤◌, ◌<◌, ◌+◌, ⊤, ℕ, zero, suc, List, [], ◌∷◌, ◌++◌, length, map, Some, None, codes}
+use Rattle.std.specs.Prelude.{◌≡◌, ◌≢◌, ◌≤◌, ◌<◌, ◌+◌, ⊤, ℕ, List, [], ◌∷◌, ◌++◌, length, Some, None, codes}
 use Rattle.std.specs.List.{AllByRecursion}
 use Rattle.std.specs.Fmt.{decimal}
 use Rattle.ent_value.specs.declared.value.Value.{Value}
@@ -12,7 +12,6 @@ use Rattle.ent_semantics.specs.declared.answer.Fact.{Fact}
 use Rattle.ent_semantics.specs.declared.book.Fate.{Fate}
 use Rattle.ent_semantics.specs.declared.book.Fate.TheVariants as fates
 use Rattle.ent_book.specs.Report.{line, row_line, answer_text}
-use Rattle.ent_history.specs.declared.history.History.{History}
 use Rattle.ent_history.specs.declared.history.Told.{Told}
 use Rattle.ent_history.specs.Text.{tx_text}
 use Rattle.ent_history_form.specs.Parts.{IsName, IsNumber, IsRow, IsValue, Ascends}

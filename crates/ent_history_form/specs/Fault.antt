@@ -1,6 +1,7 @@
 -- The line at which a text isn't the report that its lines above begin: the first that can't stand there, or the one
 -- that is missing.
-use Rattle.std.specs.Prelude.{◌≡◌, ◌≢◌, ◌⊎◌, ◌+◌, ℕ, List, [], ◌∷◌, ◌++◌}
+use Rattle.std.specs.Prelude.{◌≡◌, ◌≢◌, ◌⊎◌, ◌+◌, ℕ, List, [], ◌++◌, take}
+use Rattle.std.specs.Str.{IsUtf8, IsValidUpTo}
 use Rattle.ent_book.specs.Report2.{line_count}
 use Rattle.ent_history_form.specs.Draft.{Draft, Ended, blank}
 use Rattle.ent_history_form.specs.Scripts.{ScriptBreaksOff}
@@ -35,3 +36,15 @@ FaultAt text stops number =
 -- the line of the first fault of form, in a text of whole characters
 abbrev pub HasFormFault : List ℕ → ℕ → Type 0
 HasFormFault text number = (stops : Stops text) × FaultAt text stops number
+
+-- the text isn't UTF-8, and this is the line of its first bad byte
+pub record HasBadByte (text : List ℕ) (number : ℕ) : Type 0 where
+  pub bad : ¬ (IsUtf8 text)
+  pub place : ℕ
+  pub up_to : IsValidUpTo text place
+  pub line_is : number ≡ line_count (take place text) + 1
+
+-- The line at which a text isn't a report: that of its first bad byte, whatever stands above it, else that of its first
+-- fault of form.
+abbrev pub IsNoReport : List ℕ → ℕ → Type 0
+IsNoReport text number = HasBadByte text number ⊎ (IsUtf8 text × HasFormFault text number)

@@ -1,5 +1,5 @@
 -- The lines of the joint answers, and of their members.
-use Rattle.std.specs.Prelude.{◌≡◌, ◌≢◌, ◌<◌, ◌+◌, ℕ, List, [], ◌∷◌, ◌++◌, length, map, Option, Some, None, Result, Ok, Err, codes}
+use Rattle.std.specs.Prelude.{◌≡◌, ◌≢◌, ◌<◌, ◌+◌, ℕ, List, [], ◌∷◌, ◌++◌, length, Option, Some, None, Result, Ok, Err, codes}
 use Rattle.std.specs.List.{AllByRecursion, flat_map}
 use Rattle.std.specs.Fmt.{decimal}
 use Rattle.ent_value.specs.Value.{kinds_of}
@@ -16,12 +16,10 @@ use Rattle.ent_form.specs.declared.fault.FormFault.{FormFault}
 use Rattle.ent_form.specs.declared.script.Plain.{Plain}
 use Rattle.ent_form.specs.Catalogue.{schemas_of}
 use Rattle.ent_form.specs.Form.{script_in}
-use Rattle.ent_semantics.specs.declared.book.Member.{Member}
 use Rattle.ent_semantics.specs.Database.{Name}
 use Rattle.ent_semantics.specs.Entangled.{written_variables}
 use Rattle.ent_semantics.specs.Serial.{numbered}
-use Rattle.ent_book.specs.Report.{line, member_place}
-use Rattle.ent_book.specs.Report2.{bindings_text}
+use Rattle.ent_book.specs.Report.{line}
 use Rattle.ent_history.specs.declared.history.History.{History}
 use Rattle.ent_history.specs.declared.history.ToldJoint.{ToldJoint}
 use Rattle.ent_history.specs.declared.history.ToldMember.{ToldMember}

@@ -1,5 +1,5 @@
 -- The lines of the opening.
-use Rattle.std.specs.Prelude.{◌≡◌, ◌≤◌, ◌<◌, ◌+◌, ℕ, suc, List, [], ◌∷◌, ◌++◌, length, map, Some, codes, AllPairs, ◌≢◌}
+use Rattle.std.specs.Prelude.{◌≡◌, ◌≤◌, ◌<◌, ◌+◌, ℕ, List, [], ◌∷◌, ◌++◌, length, map, Some, codes, AllPairs, ◌≢◌}
 use Rattle.std.specs.List.{AllByRecursion}
 use Rattle.std.specs.Cmp.Lexicographic.{slice_cmp}
 use Rattle.std.specs.Ordering.{nat_cmp}
@@ -11,7 +11,6 @@ use Rattle.ent_tree.specs.declared.declaration.Create.{Create}
 use Rattle.ent_tree.specs.declared.limits.TheConstants.{MOST_TABLES, MOST_PARTS, MOST_OPENING_ROWS}
 use Rattle.ent_book.specs.Report.{line, row_line}
 use Rattle.ent_book.specs.Report2.{opening_line}
-use Rattle.ent_history.specs.declared.history.History.{History}
 use Rattle.ent_history.specs.Text.{rows_under}
 use Rattle.ent_history.specs.Told.{opening_row}
 use Rattle.ent_history_form.specs.Parts.{IsName, IsRow, Ascends}

@@ -1,5 +1,5 @@
 -- The lines of the tables at the end, and the last line.
-use Rattle.std.specs.Prelude.{◌≡◌, ◌≤◌, ◌<◌, ◌+◌, ℕ, List, [], ◌∷◌, ◌++◌, length, map, Some, slice_get, codes}
+use Rattle.std.specs.Prelude.{◌≡◌, ◌≤◌, ℕ, List, [], ◌∷◌, ◌++◌, length, map, Some, slice_get, codes}
 use Rattle.std.specs.Fmt.{decimal}
 use Rattle.ent_value.specs.Value.{kinds_of}
 use Rattle.ent_value.specs.declared.limits.TheConstants.{MOST_ROWS}
@@ -8,7 +8,6 @@ use Rattle.ent_tree.specs.declared.declaration.Create.{Create}
 use Rattle.ent_semantics.specs.Database.{Name}
 use Rattle.ent_semantics.specs.Serial.{numbered}
 use Rattle.ent_book.specs.Report.{line, row_line}
-use Rattle.ent_history.specs.declared.history.History.{History}
 use Rattle.ent_history.specs.declared.history.Shown.{Shown}
 use Rattle.ent_history_form.specs.Parts.{IsRow, Ascends}
 use Rattle.ent_history_form.specs.Draft.{Draft, Free, TableRows, Ended, rows_due, on_last, last_of, TransactionsAreTold}

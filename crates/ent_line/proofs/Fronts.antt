@@ -1,5 +1,5 @@
 -- Fronts of lists whose bytes pass a test.
-use Rattle.std.proofs.Common.{◌≡◌, ℕ, suc, ◌+◌, Bool, true, false, cond, subst, drop, List, [], ◌∷◌, ◌++◌, length, refl, sym, ◌∙◌, arith}
+use Rattle.std.proofs.Common.{◌≡◌, ℕ, suc, ◌+◌, Bool, true, false, cond, subst, drop, List, [], ◌∷◌, ◌++◌, length, refl, sym, arith}
 use Rattle.std.specs.List.{list_all, prefix_len, take_while}
 use Rattle.std.proofs.lemmas.Bool.{and_parts}
 use Rattle.std.proofs.lemmas.List.{take-append-drop, take_at, drop_at}

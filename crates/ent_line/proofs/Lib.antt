@@ -3,3 +3,4 @@ mod Fronts
 mod Numbers
 mod Texts
 mod Values
+mod Rows

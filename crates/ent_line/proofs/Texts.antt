@@ -1,14 +1,13 @@
 -- Texts are read as they are written.
-use Rattle.std.proofs.Common.{◌≡◌, ℕ, Bool, true, false, cond, eqb, List, [], ◌∷◌, ◌++◌, length, Ok, Err, Result, refl, ap, sym, ◌∙◌, subst, arith}
+use Rattle.std.proofs.Common.{◌≡◌, ℕ, Bool, true, false, cond, eqb, List, [], ◌∷◌, ◌++◌, Ok, Err, refl, ap, sym, ◌∙◌, subst}
 use Rattle.std.specs.Prelude.{◌||◌, IsFalse}
-use Rattle.std.proofs.lemmas.Bool.{eqb-true, eqb-false, or_from}
+use Rattle.std.proofs.lemmas.Bool.{eqb-true, or_from}
 use Rattle.std.specs.List.{list_any}
 use Rattle.std.specs.Char.{is_ascii_control}
 use Rattle.ent_value.specs.Print.{doubled}
-use Rattle.ent_line.specs.declared.fault.LineFault.{LineFault}
 use Rattle.ent_line.specs.Pieces.{Read, with_byte, content_at}
 use Rattle.ent_line.specs.Written.{Stops}
-use Rattle.ent_line.proofs.Numbers.{read_of, is_first, is_rest}
+use Rattle.ent_line.proofs.Numbers.{read_of}
 use Rattle.ent_line.proofs.Reading.{content-doubled, content-other}
 
 abbrev pub is_quote : ℕ → Bool

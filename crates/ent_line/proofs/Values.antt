@@ -1,22 +1,21 @@
 -- Values are read as they are written.
-use Rattle.std.proofs.Common.{◌≡◌, ℕ, zero, suc, pos, negsuc, ◌<◌, ◌≤◌, Bool, true, false, leb, List, [], ◌∷◌, ◌++◌, length, drop, get_or, cond, Ok, Err, Result, refl, ap, sym, ◌∙◌, subst, arith, eqb, append_assoc}
-use Rattle.std.specs.Prelude.{not, ◌||◌, ◌&&◌, slice_index, FitsSigned}
-use Rattle.std.specs.Int.{w64}
+use Rattle.std.proofs.Common.{◌≡◌, ℕ, zero, suc, pos, negsuc, ◌<◌, ◌≤◌, Bool, true, false, leb, List, [], ◌∷◌, ◌++◌, length, cond, Ok, Err, Result, refl, ap, sym, ◌∙◌, subst, arith, eqb, append_assoc}
+use Rattle.std.specs.Prelude.{◌||◌, ◌&&◌}
 use Rattle.std.specs.List.{list_all}
 use Rattle.std.specs.Char.{is_ascii_digit}
 use Rattle.std.specs.Fmt.{decimal}
-use Rattle.std.proofs.lemmas.Bool.{le-leb, leb-true, eqb-true, eqb-false, ne_eqb}
+use Rattle.std.proofs.lemmas.Bool.{le-leb, leb-true, eqb-true, ne_eqb}
 use Rattle.std.proofs.lemmas.Fmt.{decimal_nonempty}
 use Rattle.ent_value.specs.Refusal.{◌>>=◌}
 use Rattle.ent_value.specs.Name.{is_word_byte}
-use Rattle.ent_value.specs.Print.{value_text, quoted, doubled}
+use Rattle.ent_value.specs.Print.{value_text, doubled}
 use Rattle.ent_value.specs.declared.text.TheConstants.{LONGEST_TEXT}
 use Rattle.ent_value.specs.declared.value.Value.{Value}
 use Rattle.ent_value.specs.declared.value.Value.TheVariants.{Int, Text}
 use Rattle.ent_line.specs.declared.fault.LineFault.{LineFault}
-use Rattle.ent_line.specs.Pieces.{Read, content_at, number_to, number_at, short_text, text_at, negative, negative_at}
+use Rattle.ent_line.specs.Pieces.{content_at, number_to, number_at, short_text, text_at, negative, negative_at}
 use Rattle.ent_line.specs.Pieces.{positive_at, value_at}
-use Rattle.ent_line.specs.Written.{Stops, goes_on, IsOver, IsText, IsValue}
+use Rattle.ent_line.specs.Written.{Stops, IsOver, IsText, IsValue}
 use Rattle.ent_line.proofs.Numbers.{chosen, read_of, is_first, is_rest, number_found, number_again, digits_of}
 use Rattle.ent_line.proofs.Texts.{is_quote, content_found, content_again}
 

@@ -1,8 +1,9 @@
 -- How the parts of a line are read from the left: a thing and the bytes behind it, or nothing of the sort.
-use Rattle.std.specs.Prelude.{◌≡◌, ℕ, zero, suc, ℤ, pos, negsuc, ◌+◌, ◌-◌, ◌*◌, Bool, true, false, not, ◌&&◌, List, [], ◌∷◌, length}
-use Rattle.std.specs.Prelude.{Option, Some, None, Result, Ok, Err, nat_le, ◌==◌, if◌then◌else◌, slice_index, drop}
+use Rattle.std.specs.Prelude.{ℕ, zero, suc, pos, negsuc, ◌+◌, ◌-◌, ◌*◌, Bool, true, false, not, List, [], ◌∷◌, length}
+use Rattle.std.specs.Prelude.{Result, Ok, Err, nat_le, ◌==◌, if◌then◌else◌, slice_index, take, drop, codes}
 use Rattle.std.specs.List.{take_while, prefix_len}
 use Rattle.std.specs.Char.{is_ascii_digit, is_ascii_control}
+use Rattle.std.specs.Cmp.Lexicographic.{pointwise}
 use Rattle.ent_value.specs.Refusal.{◌>>=◌}
 use Rattle.ent_value.specs.declared.text.TheConstants.{LONGEST_TEXT}
 use Rattle.ent_value.specs.declared.value.Value.{Value}
@@ -22,9 +23,7 @@ after test bytes = drop (prefix_len test bytes) bytes
 
 -- what stands behind these bytes, where they stand in front
 unfoldable pub behind : List ℕ → List ℕ → Result (List ℕ) LineFault
-behind [] bytes = Ok bytes
-behind (c ∷ word) [] = Err Misfit
-behind (c ∷ word) (b ∷ bytes) = if b == c then behind word bytes else Err Misfit
+behind word bytes = wanted (pointwise ◌==◌ (take (length word) bytes) word) (drop (length word) bytes)
 
 -- ---- numbers
 
@@ -86,3 +85,27 @@ unfoldable pub value_at : List ℕ → Read Value
 value_at bytes =
     if slice_index bytes 0 == 39 then text_at (drop 1 bytes)
     else (if slice_index bytes 0 == 45 then negative_at (drop 1 bytes) else positive_at bytes)
+
+-- ---- rows
+
+abbrev pub with_value : Value → Read (List Value) → Read (List Value)
+with_value value read = read >>= λ more. Ok (value ∷ more.0, more.1)
+
+-- a value behind a comma and a space
+unfoldable pub divided_at : List ℕ → Read Value
+divided_at bytes = behind (codes ", ") bytes >>= λ rest. value_at rest
+
+-- Values up to a closing parenthesis, each behind a comma and a space, and the bytes behind it. There are no more of them
+-- than bytes.
+unfoldable pub more_at : ℕ → List ℕ → Read (List Value)
+more_at zero bytes = Err Misfit
+more_at (suc n) [] = Err Misfit
+more_at (suc n) (b ∷ bytes) =
+    if b == 41 then Ok ([], bytes)
+    else (divided_at (b ∷ bytes) >>= λ value. with_value value.0 (more_at n value.1))
+
+-- values in parentheses, one at least
+unfoldable pub row_at : List ℕ → Read (List Value)
+row_at bytes =
+    behind (codes "(") bytes >>= λ inner.
+    value_at inner >>= λ first. with_value first.0 (more_at (length first.1) first.1)

@@ -2,10 +2,10 @@
 ghost use Rattle.std.specs.Prelude.{◌≡◌, ◌≤◌, ◌<◌, ◌^◌, ◌++◌, ℕ, List, Ok};
 ghost use Rattle.std.specs.Fmt.{decimal};
 ghost use Rattle.std.specs.Char.{is_ascii_digit};
-ghost use Rattle.ent_value.specs.Print.{value_text};
+ghost use Rattle.ent_value.specs.Print.{row_text, value_text};
 ghost use Rattle.ent_value.specs.declared.value.Value.{Value};
-ghost use Rattle.ent_line.specs.Pieces.{number_to, value_at};
-ghost use Rattle.ent_line.specs.Written.{Stops, IsOver, IsValue};
+ghost use Rattle.ent_line.specs.Pieces.{behind, number_to, row_at, value_at};
+ghost use Rattle.ent_line.specs.Written.{Stops, IsOver, IsRow, IsValue};
 
 /// A number is read just where it is written, up to a limit, and no digit stands behind it.
 #[tactic(auto, using(crate::proofs::Numbers::number_found, crate::proofs::Numbers::number_again))]
@@ -23,4 +23,20 @@ pub fn values_are_read_as_written()
         → (bytes ≡ value_text value ++ rest) × IsValue value }
     ensures only { (value : Value) (rest : List ℕ) → IsValue value → IsOver rest
         → value_at (value_text value ++ rest) ≡ Ok (value, rest) }
+{}
+
+/// A row is read just where it is written, whatever stands behind it.
+#[tactic(auto, using(crate::proofs::Rows::row_found, crate::proofs::Rows::row_again))]
+pub fn rows_are_read_as_written()
+    ensures found { (bytes rest : List ℕ) (values : List Value) → row_at bytes ≡ Ok (values, rest)
+        → (bytes ≡ row_text values ++ rest) × IsRow values }
+    ensures only { (values : List Value) (rest : List ℕ) → IsRow values
+        → row_at (row_text values ++ rest) ≡ Ok (values, rest) }
+{}
+
+/// Bytes are found in front just where they stand there.
+#[tactic(auto, using(crate::proofs::Rows::behind_found, crate::proofs::Rows::behind_again))]
+pub fn words_stand_in_front()
+    ensures found { (word bytes rest : List ℕ) → behind word bytes ≡ Ok rest → bytes ≡ word ++ rest }
+    ensures only { (word rest : List ℕ) → behind word (word ++ rest) ≡ Ok rest }
 {}

@@ -6,11 +6,16 @@
 
 mod fault;
 mod laws;
+mod listed;
 mod numeral;
 mod printed;
 mod quoted;
 
 pub use fault::LineFault;
-pub use laws::{numbers_are_read_as_written, values_are_read_as_written};
+pub use laws::{
+    numbers_are_read_as_written, rows_are_read_as_written, values_are_read_as_written,
+    words_stand_in_front,
+};
+pub use listed::{behind, row};
 pub use numeral::number;
 pub use printed::value;

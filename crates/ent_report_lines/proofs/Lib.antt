@@ -1,0 +1,4 @@
+mod Steps
+mod Fates
+mod Bindings
+mod Counts
