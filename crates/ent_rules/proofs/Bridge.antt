@@ -1,6 +1,6 @@
 -- The book of a history, transaction by transaction.
 use Rattle.std.proofs.Common.{◌≡◌, ℕ, zero, suc, ◌+◌, ◌==◌, Bool, true, false, cond, List, [], ◌∷◌, ◌++◌, map, length}
-use Rattle.std.proofs.Common.{refl, sym, ap, ◌∙◌, arith, add-one, is_some, flat_map}
+use Rattle.std.proofs.Common.{refl, sym, ap, ◌∙◌, arith, is_some, flat_map}
 use Rattle.std.specs.List.{filter, range_with_len}
 use Rattle.ent_tree.specs.declared.script.Script.{Script}
 use Rattle.ent_semantics.specs.declared.answer.Answer.{Answer}

@@ -1,8 +1,8 @@
 -- Members of joint answers, and the statements that they are.
-use Rattle.std.proofs.Common.{◌≡◌, ℕ, zero, suc, ◌+◌, ◌==◌, ◌<◌, Bool, true, false, cond, not, ◌||◌, ◌&&◌, List, [], ◌∷◌}
+use Rattle.std.proofs.Common.{◌≡◌, ℕ, zero, suc, ◌+◌, ◌==◌, Bool, true, false, not, ◌||◌, ◌&&◌, List, [], ◌∷◌}
 use Rattle.std.proofs.Common.{◌++◌, map, refl, sym, ap, subst, ◌∙◌, inl, inr, arith, Option, Some, None, flat_map}
 use Rattle.std.proofs.Common.{slice_get, append_assoc}
-use Rattle.std.specs.List.{AllByRecursion, find, list_all, list_any}
+use Rattle.std.specs.List.{list_all, list_any}
 use Rattle.ent_tree.specs.declared.declaration.Create.{Create}
 use Rattle.ent_tree.specs.declared.script.Statement.{Statement}
 use Rattle.ent_semantics.specs.declared.book.JointAnswer.{JointAnswer}
@@ -18,10 +18,10 @@ use Rattle.ent_rules.specs.declared.finding.Rule.TheVariants as rule
 use Rattle.ent_rules.specs.declared.finding.Thing.TheVariants as thing
 use Rattle.ent_rules.proofs.Deeds.{AllStand, Stands}
 use Rattle.ent_rules.proofs.Found.{unless_holds, holds_unless}
-use Rattle.ent_rules.proofs.Lists.{In, Pairs, of_all, to_all, of_map, to_map, any_none, any_some, any_in, and_both, both_and}
+use Rattle.ent_rules.proofs.Lists.{In, Pairs, to_map, any_none, any_some, any_in, and_both, both_and}
 use Rattle.ent_rules.proofs.Lists.{turned, back, clash, not_so, same_number, number_itself, every, of_every, found_in, found}
 use Rattle.ent_rules.proofs.Lists.{in_first, in_second, in_either, pairs_at, pairs_joined, pairs_across, none_first}
-use Rattle.ent_rules.proofs.Lists.{none_second, both_none, or_second, map_joined, in_flat, to_flat}
+use Rattle.ent_rules.proofs.Lists.{none_second, both_none, or_second, map_joined}
 
 -- ---- a member at a place
 

@@ -1,7 +1,7 @@
 -- Elements of lists, and what holds of each two of them.
-use Rattle.std.proofs.Common.{◌≡◌, ◌⊎◌, ℕ, zero, suc, ◌==◌, ◌<◌, ◌≤◌, ◌+◌, Bool, true, false, cond, not, ◌||◌, ◌&&◌, List}
-use Rattle.std.proofs.Common.{[], ◌∷◌, ◌++◌, map, length, refl, sym, ap, subst, ◌∙◌, inl, inr, arith, rules, Option, Some}
-use Rattle.std.proofs.Common.{None, All, AllPairs, Contains, slice_index_or, slice_get, flat_map}
+use Rattle.std.proofs.Common.{◌≡◌, ◌⊎◌, ℕ, zero, suc, ◌==◌, ◌<◌, Bool, true, false, cond, not, ◌||◌, ◌&&◌, List}
+use Rattle.std.proofs.Common.{[], ◌∷◌, ◌++◌, map, length, refl, sym, ap, subst, ◌∙◌, inl, inr, arith, rules, Some}
+use Rattle.std.proofs.Common.{AllPairs, Contains, slice_index_or, slice_get, flat_map}
 use Rattle.std.specs.List.{AllByRecursion, filter, list_any, list_all, find}
 
 -- ---- truth values
