@@ -1,7 +1,6 @@
 -- Scripts and opening rows that resolving lets through keep to declared tables.
 use Rattle.std.proofs.Common.{◌≡◌, ℕ, suc, Bool, true, false, cond, ◌||◌, ◌==◌, List, [], ◌∷◌, ◌++◌, length, map, refl, sym, ap}
 use Rattle.std.proofs.Common.{subst, ◌∙◌, inl, inr, Option, Some, None, Result, Ok, Err, Contains}
-use Rattle.std.specs.List.{filter, list_any}
 use Rattle.ent_set.specs.Sets as set
 use Rattle.ent_value.specs.Refusal.{◌>>=◌}
 use Rattle.ent_value.specs.Value.{row_cmp}
