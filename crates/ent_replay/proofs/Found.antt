@@ -1,6 +1,6 @@
 -- What is found first, on the way through lists.
-use Rattle.std.proofs.Common.{◌≡◌, ℕ, zero, suc, ◌+◌, ◌<◌, ◌==◌, Bool, true, false, cond, not, ◌||◌, ◌&&◌, List, [], ◌∷◌}
-use Rattle.std.proofs.Common.{◌++◌, map, length, take, drop, refl, sym, ap, subst, ◌∙◌, arith, rules, Option, Some, None}
+use Rattle.std.proofs.Common.{◌≡◌, ℕ, zero, suc, ◌+◌, ◌<◌, Bool, true, false, cond, List, [], ◌∷◌}
+use Rattle.std.proofs.Common.{◌++◌, length, drop, refl, sym, ap, subst, ◌∙◌, arith, Some, None}
 use Rattle.std.proofs.Common.{slice_index_or}
 use Rattle.ent_set.specs.Sets as set
 use Rattle.ent_tree.specs.declared.declaration.Create.{Create}

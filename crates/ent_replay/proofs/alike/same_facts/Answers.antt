@@ -1,4 +1,4 @@
-use Rattle.std.proofs.Common.{◌≡◌, ◌<◌, true, false, length, sym, subst, ◌∙◌, arith, rules}
+use Rattle.std.proofs.Common.{◌≡◌, ◌<◌, true, false, length, subst, arith, rules}
 use Rattle.ent_rules.specs.Alike.{same_fact}
 use Rattle.ent_replay.proofs.Places.{AlikeBefore, alike_off, alike_on, alike_whole}
 use Rattle.ent_replay.proofs.alike.same_facts.Goals as goal
