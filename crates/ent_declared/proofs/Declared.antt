@@ -1,5 +1,6 @@
 -- Scripts and opening rows that resolving lets through keep to declared tables.
-use Rattle.std.proofs.Common.{◌≡◌, ℕ, suc, Bool, true, false, cond, ◌||◌, ◌==◌, List, [], ◌∷◌, ◌++◌, length, map, refl, sym, ap}
+use Rattle.std.proofs.Common.{◌≡◌, ℕ, suc, Bool, true, false, cond, ◌||◌, ◌==◌, List, [], ◌∷◌, ◌++◌, length, map, refl}
+use Rattle.std.proofs.Common.{sym, ap}
 use Rattle.std.proofs.Common.{subst, ◌∙◌, inl, inr, Option, Some, None, Result, Ok, Err, Contains}
 use Rattle.ent_set.specs.Sets as set
 use Rattle.ent_value.specs.Refusal.{◌>>=◌}
@@ -20,7 +21,8 @@ use Rattle.ent_semantics.specs.Uses.{changes}
 use Rattle.ent_form.specs.Catalogue.{schemas_of, table_from, table_named, table_schema}
 use Rattle.ent_form.specs.Form.{statement_in, statements_from, script_in}
 use Rattle.ent_form.specs.Kinds.{Bound, none_bound}
-use Rattle.ent_form.specs.OpeningFault.{◌before◌, declarations_fault, first_of, opening_fault, opening_row_fault, row_fault}
+use Rattle.ent_form.specs.OpeningFault.{◌before◌, declarations_fault, first_of, opening_fault, opening_row_fault}
+use Rattle.ent_form.specs.OpeningFault.{row_fault}
 use Rattle.ent_form.specs.OpeningFault.{where_there}
 use Rattle.ent_form.specs.Ordinary.{delete_in, image_in, insert_in, row_from, tests_in, update_in}
 use Rattle.ent_form.specs.Scope.{table_in, table_scope}

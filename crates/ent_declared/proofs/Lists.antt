@@ -1,5 +1,6 @@
 -- Elements of lists, and truth values.
-use Rattle.std.proofs.Common.{◌≡◌, ◌⊎◌, ℕ, zero, suc, ◌<◌, Bool, true, false, cond, List, [], ◌∷◌, length, refl, sym, ap, ◌∙◌}
+use Rattle.std.proofs.Common.{◌≡◌, ◌⊎◌, ℕ, zero, suc, ◌<◌, Bool, true, false, cond, List, [], ◌∷◌, length, refl, sym}
+use Rattle.std.proofs.Common.{ap, ◌∙◌}
 use Rattle.std.proofs.Common.{inl, inr, arith, Contains, slice_index_or}
 use Rattle.std.specs.List.{filter}
 

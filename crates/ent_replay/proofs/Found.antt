@@ -82,7 +82,8 @@ module _ (database : Database) where
   rows_right shown = same_rows shown.rows (set.ascending (database shown.name))
 
   abbrev pub ShownBehind : List Shown → ℕ → Type 0
-  ShownBehind shown i = first_of (tables_findings 1 database shown) ≡ first_of (tables_findings (1 + i) database (drop i shown))
+  ShownBehind shown i =
+      first_of (tables_findings 1 database shown) ≡ first_of (tables_findings (1 + i) database (drop i shown))
 
   here_shown : (shown : List Shown) (number i : ℕ) (d : Shown) → i < length shown
       → tables_findings number database (drop i shown)

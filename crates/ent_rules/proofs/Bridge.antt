@@ -112,7 +112,8 @@ module _ (history : History) (told : length history.transactions ≡ length hist
   journal_is =
       (λ i. flat_map (λ number. entries_of number 1 history.transactions)
       (range_with_len 1 (count_same 1 history.scripts history.transactions told i)))
-      ∙ ap (flat_map (λ number. entries_of number 1 history.transactions)) (numbers_same 1 (commit_count (accounts history)))
+      ∙ ap (flat_map (λ number. entries_of number 1 history.transactions))
+      (numbers_same 1 (commit_count (accounts history)))
       ∙ flat_same (λ number. entries_of number 1 history.transactions)
       (λ number. filter (committed_as number) (accounts history)) (numbers_from 1 (commit_count (accounts history)))
       (λ n. entries_same n 1 history.scripts history.transactions told)

@@ -1,5 +1,6 @@
 -- Where the rule of the journal holds, commits are numbered from 1 on, each once.
-use Rattle.std.proofs.Common.{◌≡◌, ℕ, zero, suc, ◌+◌, ◌<◌, ◌≤◌, ◌==◌, Bool, true, false, cond, not, ◌||◌, ◌&&◌, List, []}
+use Rattle.std.proofs.Common.{◌≡◌, ℕ, zero, suc, ◌+◌, ◌<◌, ◌≤◌, ◌==◌, Bool, true, false, cond, not, ◌||◌, ◌&&◌, List}
+use Rattle.std.proofs.Common.{[]}
 use Rattle.std.proofs.Common.{◌∷◌, ◌++◌, length, refl, sym, ap, subst, ◌∙◌, inl, inr, arith, rules, Option, Some, None}
 use Rattle.std.proofs.Common.{slice_get, nat_lt, nat_le, eqb, is_some, flat_map, filter_map}
 use Rattle.std.specs.List.{cons_option, filter, list_any, IsDistinct}
@@ -12,7 +13,8 @@ use Rattle.ent_rules.specs.declared.finding.Rule.TheVariants as rule
 use Rattle.ent_rules.specs.declared.finding.Thing.TheVariants as thing
 use Rattle.ent_rules.proofs.Accounts.{Other, one_account}
 use Rattle.ent_rules.proofs.Found.{unless_holds, holds_unless}
-use Rattle.ent_rules.proofs.Lists.{In, Pairs, of_all, to_all, and_both, both_and, turned, back, clash, neither, any_some}
+use Rattle.ent_rules.proofs.Lists.{In, Pairs, of_all, to_all, and_both, both_and, turned, back, clash, neither}
+use Rattle.ent_rules.proofs.Lists.{any_some}
 use Rattle.ent_rules.proofs.Lists.{any_none, not_so, same_number, number_itself, other_number, in_flat}
 use Rattle.ent_rules.proofs.Lists.{to_flat, of_filter, to_filter, filter_empty, pairs_filtered, pairs_joined}
 use Rattle.ent_rules.proofs.Lists.{none_first, none_second, both_none, got_in, pairs_by}

@@ -289,7 +289,10 @@ module _ (history : History) (formed : IsFormed history) (keeps : Keeps) (none :
           let one = one_member joints once m.0 (member_of p) (in_members joints joint m.0 jt m.1) (answered_in p pt)
           both.0 both.1 in (
             p,
-            (from_seen p pt, in_contains joint.members (member_of p) (subst (λ (x : Member). In x joint.members) one m.1)),
+            (
+              from_seen p pt,
+              in_contains joint.members (member_of p) (subst (λ (x : Member). In x joint.members) one m.1),
+            ),
             in_contains (sight_heads p) post (subst (λ (x : Fact). In x (sight_heads p)) (sym same) at),
           )
 
@@ -299,7 +302,8 @@ module _ (history : History) (formed : IsFormed history) (keeps : Keeps) (none :
       record {
         some = formed.some joint (in_contains joints joint jt);
         distinct = pairs_index (λ (first second : Member). first.tx ≢ second.tx) joint.members
-            (pairs_by (λ (first second : Member). first.tx < second.tx) (λ (first second : Member). first.tx ≢ second.tx)
+            (pairs_by (λ (first second : Member). first.tx < second.tx)
+            (λ (first second : Member). first.tx ≢ second.tx)
             joint.members (λ x y low own. omega (arith, low, own))
             (index_pairs (λ (first second : Member). first.tx < second.tx) joint.members
             (formed.rising joint (in_contains joints joint jt))));

@@ -373,7 +373,8 @@ nth_in [] k d low = absurd (omega (arith, low))
 nth_in (x ∷ xs) zero d low = inl refl
 nth_in (x ∷ xs) (suc k) d low = inr (nth_in xs k d (omega (arith, low)))
 
-all_of_index : {X : Type 0} (P : X → Type 0) (xs : List X) → ((k : ℕ) (d : X) → k < length xs → P (slice_index_or xs k d))
+all_of_index : {X : Type 0} (P : X → Type 0) (xs : List X)
+    → ((k : ℕ) (d : X) → k < length xs → P (slice_index_or xs k d))
     → AllByRecursion P xs
 all_of_index P [] h = tt
 all_of_index P (x ∷ xs) h =

@@ -38,7 +38,8 @@ use Rattle.ent_rules.proofs.Joints.{IsStatement, all_so, among, at_member, none_
 use Rattle.ent_rules.proofs.Joints.{stands_there}
 use Rattle.ent_rules.proofs.Journals.{book, numbered_if_journal}
 use Rattle.ent_rules.proofs.Legal.{in_members, map_map}
-use Rattle.ent_rules.proofs.Lists.{In, Pairs, of_all, to_all, of_filter, to_filter, in_flat, to_flat, of_every, any_some}
+use Rattle.ent_rules.proofs.Lists.{In, Pairs, of_all, to_all, of_filter, to_filter, in_flat, to_flat, of_every}
+use Rattle.ent_rules.proofs.Lists.{any_some}
 use Rattle.ent_rules.proofs.Lists.{any_in, contains_in, in_contains, index_pairs, both_none}
 use Rattle.ent_rules.proofs.Replays.{IsTold, OwnScripts, account_sight, sight_account, told}
 use Rattle.ent_rules.proofs.Tables.{none_shown, shown_own}
@@ -111,7 +112,8 @@ module _ (history : History) (formed : IsFormed history) (legal : IsLegal (book 
 
   is_numbered : IsNumbered all
   is_numbered =
-      numbered_if_journal history legal.journal (λ a at. of_all (λ (x : Account). commits x.script.end ≡ true) order a run.commit at)
+      numbered_if_journal history legal.journal (λ a at.
+      of_all (λ (x : Account). commits x.script.end ≡ true) order a run.commit at)
 
   -- ---- members
 

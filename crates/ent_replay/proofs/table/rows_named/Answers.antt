@@ -11,7 +11,8 @@ pub returns-then-named : goal.returns-then-named
 returns-then-named c =
     let tables = rows_in (map arc_value c.args.tables.now) in
     let low : c.loop-index.index < length c.args.creates.now = grind (arith, rules) in
-    let same : length tables ≡ length c.args.creates.now = rows_many (map arc_value c.args.tables.now) ∙ mapped_many arc_value c.args.tables.now ∙ c.requires in
+    let same : length tables ≡ length c.args.creates.now =
+    rows_many (map arc_value c.args.tables.now) ∙ mapped_many arc_value c.args.tables.now ∙ c.requires in
     let is : same_name c.index-creates-index.result.name.name c.args.name.now ≡ true = grind (arith, rules) in
     let named = named_here c.args.creates.now tables c.args.name.now c.loop-index.index c.index-creates-index.result
     set.empty low same c.index-creates-index.is is c.loop-index.invariant in
@@ -22,7 +23,8 @@ pub loop-index-preserved : goal.loop-index-preserved
 loop-index-preserved c =
     let tables = rows_in (map arc_value c.args.tables.now) in
     let low : c.loop-index.index < length c.args.creates.now = grind (arith, rules) in
-    let same : length tables ≡ length c.args.creates.now = rows_many (map arc_value c.args.tables.now) ∙ mapped_many arc_value c.args.tables.now ∙ c.requires in
+    let same : length tables ≡ length c.args.creates.now =
+    rows_many (map arc_value c.args.tables.now) ∙ mapped_many arc_value c.args.tables.now ∙ c.requires in
     let is : same_name c.index-creates-index.result.name.name c.args.name.now ≡ false = grind (arith, rules) in
     named_later c.args.creates.now tables c.args.name.now c.loop-index.index c.index-creates-index.result low same
     c.index-creates-index.is is c.loop-index.invariant

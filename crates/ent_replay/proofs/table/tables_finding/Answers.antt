@@ -10,7 +10,8 @@ returns-then-not-alike c =
     let database = database_of c.args.creates.now (rows_in (map arc_value c.args.tables.now)) in
     let low : c.loop-index.index < length c.args.shown.now = grind (arith, rules) in
     let is : rows_right database c.index-shown-index.result ≡ false = grind (arith, rules) in
-    sym (shown_wrong database c.args.shown.now c.loop-index.index c.index-shown-index.result low c.index-shown-index.is is
+    sym (shown_wrong database c.args.shown.now c.loop-index.index c.index-shown-index.result low
+    c.index-shown-index.is is
     c.loop-index.invariant)
 
 pub loop-index-preserved : goal.loop-index-preserved
