@@ -1,12 +1,12 @@
 -- The transactions of a history: each has its own number and its own script.
-use Rattle.std.proofs.Common.{◌≡◌, ℕ, zero, suc, ◌+◌, ◌<◌, ◌≤◌, List, [], ◌∷◌, refl, sym, ap, ◌∙◌, inl, inr, arith, Some}
+use Rattle.std.proofs.Common.{◌≡◌, ℕ, suc, ◌+◌, ◌≤◌, List, [], ◌∷◌, sym, ap, ◌∙◌, inl, inr, arith, Some}
 use Rattle.std.proofs.Common.{slice_get}
 use Rattle.ent_tree.specs.declared.script.Script.{Script}
 use Rattle.ent_semantics.specs.Serial.{numbered}
 use Rattle.ent_history.specs.declared.history.History.{History}
 use Rattle.ent_history.specs.declared.history.Told.{Told}
 use Rattle.ent_rules.specs.Account.{Account, accounts_from, accounts}
-use Rattle.ent_rules.proofs.Lists.{In, Pairs, to_all, pairs_by, pairs_at, got_in}
+use Rattle.ent_rules.proofs.Lists.{In, Pairs, to_all, pairs_at, got_in}
 
 abbrev pub Other : Account → Account → Type 0
 Other first second = first.tx ≡ second.tx → ⊥

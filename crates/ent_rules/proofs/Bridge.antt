@@ -1,6 +1,6 @@
 -- The book of a history, transaction by transaction.
 use Rattle.std.proofs.Common.{◌≡◌, ℕ, zero, suc, ◌+◌, ◌==◌, Bool, true, false, cond, List, [], ◌∷◌, ◌++◌, map, length}
-use Rattle.std.proofs.Common.{refl, sym, ap, ◌∙◌, arith, add-one, is_some, flat_map}
+use Rattle.std.proofs.Common.{refl, sym, ap, ◌∙◌, arith, is_some, flat_map}
 use Rattle.std.specs.List.{filter, range_with_len}
 use Rattle.ent_tree.specs.declared.script.Script.{Script}
 use Rattle.ent_semantics.specs.declared.answer.Answer.{Answer}
@@ -112,7 +112,8 @@ module _ (history : History) (told : length history.transactions ≡ length hist
   journal_is =
       (λ i. flat_map (λ number. entries_of number 1 history.transactions)
       (range_with_len 1 (count_same 1 history.scripts history.transactions told i)))
-      ∙ ap (flat_map (λ number. entries_of number 1 history.transactions)) (numbers_same 1 (commit_count (accounts history)))
+      ∙ ap (flat_map (λ number. entries_of number 1 history.transactions))
+      (numbers_same 1 (commit_count (accounts history)))
       ∙ flat_same (λ number. entries_of number 1 history.transactions)
       (λ number. filter (committed_as number) (accounts history)) (numbers_from 1 (commit_count (accounts history)))
       (λ n. entries_same n 1 history.scripts history.transactions told)

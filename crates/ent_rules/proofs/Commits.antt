@@ -1,23 +1,23 @@
 -- Where the rule of the journal holds, commits are numbered from 1 on, each once.
-use Rattle.std.proofs.Common.{◌≡◌, ℕ, zero, suc, ◌+◌, ◌<◌, ◌≤◌, ◌==◌, Bool, true, false, cond, not, ◌||◌, ◌&&◌, List, []}
+use Rattle.std.proofs.Common.{◌≡◌, ℕ, zero, suc, ◌+◌, ◌<◌, ◌≤◌, ◌==◌, Bool, true, false, cond, not, ◌||◌, ◌&&◌, List}
+use Rattle.std.proofs.Common.{[]}
 use Rattle.std.proofs.Common.{◌∷◌, ◌++◌, length, refl, sym, ap, subst, ◌∙◌, inl, inr, arith, rules, Option, Some, None}
-use Rattle.std.proofs.Common.{slice_get, nat_lt, nat_le, nat_eq, eqb, is_some, flat_map, filter_map}
-use Rattle.std.specs.List.{cons_option, filter, list_any, AllByRecursion, IsDistinct}
+use Rattle.std.proofs.Common.{slice_get, nat_lt, nat_le, eqb, is_some, flat_map, filter_map}
+use Rattle.std.specs.List.{cons_option, filter, list_any, IsDistinct}
 use Rattle.std.proofs.lemmas.Map.Steps.{length-le_from_distinct_below}
 use Rattle.ent_tree.specs.declared.script.End.{End}
-use Rattle.ent_semantics.specs.declared.book.Fate.{Fate}
 use Rattle.ent_rules.specs.Account.{Account, commit_number, has_committed, is_number, committed_as, numbers_from}
 use Rattle.ent_rules.specs.Account.{commit_count, in_commit_order}
-use Rattle.ent_rules.specs.Journal.{unless, commits, is_next, number_finding, journal_from, journal_findings}
-use Rattle.ent_rules.specs.declared.finding.Finding.{Finding}
+use Rattle.ent_rules.specs.Journal.{commits, is_next, number_finding, journal_from, journal_findings}
 use Rattle.ent_rules.specs.declared.finding.Rule.TheVariants as rule
 use Rattle.ent_rules.specs.declared.finding.Thing.TheVariants as thing
 use Rattle.ent_rules.proofs.Accounts.{Other, one_account}
 use Rattle.ent_rules.proofs.Found.{unless_holds, holds_unless}
-use Rattle.ent_rules.proofs.Lists.{In, Pairs, of_all, to_all, and_both, both_and, turned, back, clash, neither, any_some}
-use Rattle.ent_rules.proofs.Lists.{any_in, any_none, not_so, same_number, number_itself, differ, other_number, in_flat}
-use Rattle.ent_rules.proofs.Lists.{to_flat, of_filter, to_filter, filter_empty, pairs_filtered, pairs_joined, in_either}
-use Rattle.ent_rules.proofs.Lists.{in_first, in_second, none_first, none_second, both_none, got_in, pairs_by}
+use Rattle.ent_rules.proofs.Lists.{In, Pairs, of_all, to_all, and_both, both_and, turned, back, clash, neither}
+use Rattle.ent_rules.proofs.Lists.{any_some}
+use Rattle.ent_rules.proofs.Lists.{any_none, not_so, same_number, number_itself, other_number, in_flat}
+use Rattle.ent_rules.proofs.Lists.{to_flat, of_filter, to_filter, filter_empty, pairs_filtered, pairs_joined}
+use Rattle.ent_rules.proofs.Lists.{none_first, none_second, both_none, got_in, pairs_by}
 
 -- two transactions committed with one number
 abbrev pub NotSame : Account → Account → Type 0

@@ -1,5 +1,5 @@
 -- Statements run one after the other, each entangled one with the grounding that is told.
-use Rattle.std.proofs.Common.{◌≡◌, ◌⊎◌, ℕ, zero, suc, ◌+◌, Bool, true, false, cond, List, [], ◌∷◌, ◌++◌, length, refl, sym}
+use Rattle.std.proofs.Common.{◌≡◌, ℕ, zero, suc, ◌+◌, Bool, true, false, cond, List, [], ◌∷◌, ◌++◌, length, refl, sym}
 use Rattle.std.proofs.Common.{ap, subst, ◌∙◌, inl, inr, arith, Option, Some, None, Result, Ok, Err, flat_map, slice_get}
 use Rattle.std.specs.List.{AllByRecursion}
 use Rattle.std.specs.Option.{option_map, option_and_then}
@@ -13,19 +13,17 @@ use Rattle.ent_semantics.specs.Database.{Database, Environment}
 use Rattle.ent_semantics.specs.Effect.{Effect}
 use Rattle.ent_semantics.specs.Entangled.{Valuation, is_grounding}
 use Rattle.ent_semantics.specs.Joint.{IsGrounded}
-use Rattle.ent_semantics.specs.Serial.{Deed, Run, Sight, is_entangled, deed_first, deeds_of, with_answer, answered_first}
+use Rattle.ent_semantics.specs.Serial.{Deed, Run, Sight, is_entangled, deed_first, deeds_of, answered_first}
 use Rattle.ent_semantics.specs.Serial.{after, run, seen, seen_after, sights}
 use Rattle.ent_semantics.specs.Statement.{statement_meaning}
-use Rattle.ent_rules.specs.Alike.{same_answer}
 use Rattle.ent_rules.specs.Journal.{unless}
 use Rattle.ent_rules.specs.Placed.{Placed, grounding_of, member_at, told_deeds}
 use Rattle.ent_rules.specs.Replay.{is_answered, later, found_after, ground_finding, ungrounded, deeds_findings}
-use Rattle.ent_rules.specs.declared.finding.Finding.{Finding}
 use Rattle.ent_rules.specs.declared.finding.Rule.TheVariants as rule
 use Rattle.ent_rules.specs.declared.finding.Thing.TheVariants as thing
 use Rattle.ent_rules.proofs.Alike.{equal_answers, answer_itself}
 use Rattle.ent_rules.proofs.Found.{unless_holds, holds_unless}
-use Rattle.ent_rules.proofs.Lists.{In, of_all, all_joined, in_first, in_second, in_either, none_first, none_second}
+use Rattle.ent_rules.proofs.Lists.{In, all_joined, in_first, in_second, in_either, none_first, none_second}
 use Rattle.ent_rules.proofs.Lists.{both_none, clash}
 
 -- ---- options

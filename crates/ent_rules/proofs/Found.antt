@@ -1,5 +1,5 @@
 -- Nothing is found where all holds.
-use Rattle.std.proofs.Common.{◌≡◌, Bool, true, false, List, [], ◌∷◌, refl}
+use Rattle.std.proofs.Common.{◌≡◌, Bool, true, false, [], ◌∷◌, refl}
 use Rattle.ent_rules.specs.Journal.{unless}
 use Rattle.ent_rules.specs.declared.finding.Finding.{Finding}
 use Rattle.ent_rules.specs.declared.finding.Rule.{Rule}

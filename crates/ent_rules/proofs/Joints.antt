@@ -1,8 +1,8 @@
 -- Members of joint answers, and the statements that they are.
-use Rattle.std.proofs.Common.{◌≡◌, ℕ, zero, suc, ◌+◌, ◌==◌, ◌<◌, Bool, true, false, cond, not, ◌||◌, ◌&&◌, List, [], ◌∷◌}
+use Rattle.std.proofs.Common.{◌≡◌, ℕ, zero, suc, ◌+◌, ◌==◌, Bool, true, false, not, ◌||◌, ◌&&◌, List, [], ◌∷◌}
 use Rattle.std.proofs.Common.{◌++◌, map, refl, sym, ap, subst, ◌∙◌, inl, inr, arith, Option, Some, None, flat_map}
 use Rattle.std.proofs.Common.{slice_get, append_assoc}
-use Rattle.std.specs.List.{AllByRecursion, find, list_all, list_any}
+use Rattle.std.specs.List.{list_all, list_any}
 use Rattle.ent_tree.specs.declared.declaration.Create.{Create}
 use Rattle.ent_tree.specs.declared.script.Statement.{Statement}
 use Rattle.ent_semantics.specs.declared.book.JointAnswer.{JointAnswer}
@@ -18,10 +18,11 @@ use Rattle.ent_rules.specs.declared.finding.Rule.TheVariants as rule
 use Rattle.ent_rules.specs.declared.finding.Thing.TheVariants as thing
 use Rattle.ent_rules.proofs.Deeds.{AllStand, Stands}
 use Rattle.ent_rules.proofs.Found.{unless_holds, holds_unless}
-use Rattle.ent_rules.proofs.Lists.{In, Pairs, of_all, to_all, of_map, to_map, any_none, any_some, any_in, and_both, both_and}
-use Rattle.ent_rules.proofs.Lists.{turned, back, clash, not_so, same_number, number_itself, every, of_every, found_in, found}
+use Rattle.ent_rules.proofs.Lists.{In, Pairs, to_map, any_none, any_some, any_in, and_both, both_and}
+use Rattle.ent_rules.proofs.Lists.{turned, back, clash, not_so, same_number, number_itself, every, of_every, found_in}
+use Rattle.ent_rules.proofs.Lists.{found}
 use Rattle.ent_rules.proofs.Lists.{in_first, in_second, in_either, pairs_at, pairs_joined, pairs_across, none_first}
-use Rattle.ent_rules.proofs.Lists.{none_second, both_none, or_second, map_joined, in_flat, to_flat}
+use Rattle.ent_rules.proofs.Lists.{none_second, both_none, or_second, map_joined}
 
 -- ---- a member at a place
 
@@ -183,7 +184,8 @@ module _ (all : List Account) where
       elim (in_either joint.members (all_members more) m at) [
         | inl here ↦ statement_of m (right_parts before m (head_right number before joint more none m here)).0
         | inr there ↦
-            each_statement (suc number) (before ++ joint.members) more (tail_right number before joint more none) m there
+            each_statement (suc number) (before ++ joint.members) more (tail_right number before joint more none) m
+            there
       ]
 
   behind : (before : List Member) (m x : Member) → stands_among x.tx x.place before ≡ false → In m before → AreApart m x
@@ -275,7 +277,8 @@ module _ (declared : List Create) (joints : List JointAnswer) where
       let n : place + suc k ≡ suc place + k = omega arith in
       subst (λ p. stands_among tx p (all_members joints) ≡ true) n (each (suc k) x at is)))
     where
-      now : (b : Bool) → is_entangled st ≡ b → (not (is_entangled st) || stands_among tx place (all_members joints)) ≡ true
+      now : (b : Bool) → is_entangled st ≡ b
+          → (not (is_entangled st) || stands_among tx place (all_members joints)) ≡ true
       now true is =
           let n : place + 0 ≡ place = omega arith in
           or_second (not (is_entangled st)) (stands_among tx place (all_members joints))
@@ -294,7 +297,8 @@ module _ (declared : List Create) (joints : List JointAnswer) where
       ∙ unless_holds holds rule.Joint (thing.Transaction x.tx)
       (none_first (left_out (all_members joints) x) (flat_map (left_out (all_members joints)) xs) none))
   left_none (x ∷ xs) none a (inr at) committed =
-      left_none xs (none_second (left_out (all_members joints) x) (flat_map (left_out (all_members joints)) xs) none) a at
+      left_none xs (none_second (left_out (all_members joints) x) (flat_map (left_out (all_members joints)) xs) none) a
+      at
       committed
 
   pub none_left : (xs : List Account) → ((a : Account) → In a xs → has_committed a ≡ true

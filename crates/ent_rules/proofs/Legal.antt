@@ -1,23 +1,19 @@
 -- Where nothing is found, the book of a history is legal.
-use Rattle.std.proofs.Common.{◌≡◌, ◌≢◌, ℕ, zero, suc, ◌+◌, ◌<◌, Bool, true, false, List, [], ◌∷◌, ◌++◌, map, length, refl}
-use Rattle.std.proofs.Common.{sym, ap, subst, ◌∙◌, inl, inr, arith, Option, Some, None, flat_map, Contains, slice_get, is_some}
-use Rattle.std.specs.List.{AllByRecursion, list_all, list_any, filter}
+use Rattle.std.proofs.Common.{◌≡◌, ◌≢◌, ℕ, suc, ◌+◌, ◌<◌, Bool, true, false, List, [], ◌∷◌, ◌++◌, map, refl}
+use Rattle.std.proofs.Common.{sym, ap, subst, ◌∙◌, inl, inr, arith, Option, Some, None, flat_map, Contains, is_some}
 use Rattle.ent_set.specs.Sets as set
 use Rattle.ent_tree.specs.declared.declaration.Create.{Create}
-use Rattle.ent_tree.specs.declared.script.Statement.{Statement}
 use Rattle.ent_tree.specs.declared.script.Statement.TheVariants as statements
 use Rattle.ent_semantics.specs.declared.answer.Fact.{Fact}
-use Rattle.ent_semantics.specs.declared.book.Book.{Book}
 use Rattle.ent_semantics.specs.declared.book.Entry.{Entry}
 use Rattle.ent_semantics.specs.declared.book.JointAnswer.{JointAnswer}
 use Rattle.ent_semantics.specs.declared.book.Member.{Member}
 use Rattle.ent_semantics.specs.Book.{IsLegal, RunGivesBook, AreApart, all_members, book_sights}
 use Rattle.ent_semantics.specs.Database.{Name, Database, opening_database}
 use Rattle.ent_semantics.specs.Joint.{IsGood, IsGrounded, IsOffered, StandsIn, member_of, sight_heads, sight_posts}
-use Rattle.ent_semantics.specs.Serial.{Runs, Sight, Turn, is_entangled, numbered, scripts_run}
+use Rattle.ent_semantics.specs.Serial.{Sight, Turn, numbered}
 use Rattle.ent_semantics.specs.Uses.{changes}
 use Rattle.ent_history.specs.declared.history.History.{History}
-use Rattle.ent_history.specs.declared.history.Shown.{Shown}
 use Rattle.ent_history.specs.Told.{joint_answer_of, shown_database}
 use Rattle.ent_rules.specs.Account.{Account, accounts, has_committed, in_commit_order, commit_number}
 use Rattle.ent_rules.specs.Alike.{same_fact}
@@ -36,13 +32,12 @@ use Rattle.ent_rules.proofs.Accounts.{own_script, script_in}
 use Rattle.ent_rules.proofs.Alike.{equal_facts}
 use Rattle.ent_rules.proofs.Bridge.{entry_of}
 use Rattle.ent_rules.proofs.Commits.{IsNumbered, numbered_if_none, in_order, in_order_committed}
-use Rattle.ent_rules.proofs.Deeds.{SeenTold}
 use Rattle.ent_rules.proofs.Found.{unless_holds}
-use Rattle.ent_rules.proofs.Joints.{IsStatement, among, at_place, each_statement, left_none, members_once, one_member}
+use Rattle.ent_rules.proofs.Joints.{among, at_place, each_statement, left_none, members_once, one_member}
 use Rattle.ent_rules.proofs.Joints.{stand_all, stands_so, stands_there}
 use Rattle.ent_rules.proofs.Journals.{book, journal_if_numbered}
-use Rattle.ent_rules.proofs.Lists.{In, Pairs, of_all, to_map, of_map, of_filter, to_filter, in_flat, to_flat, every, any_some}
-use Rattle.ent_rules.proofs.Lists.{any_in, clash, not_so, contains_in, in_contains, index_pairs, pairs_index, pairs_by}
+use Rattle.ent_rules.proofs.Lists.{In, Pairs, of_all, of_map, of_filter, to_filter, in_flat, to_flat, every, any_some}
+use Rattle.ent_rules.proofs.Lists.{clash, not_so, contains_in, in_contains, index_pairs, pairs_index, pairs_by}
 use Rattle.ent_rules.proofs.Lists.{none_first, none_second}
 use Rattle.ent_rules.proofs.Replays.{IsReady, IsReplayed, replayed, account_sight, sight_account, turn_told}
 use Rattle.ent_rules.proofs.Tables.{Keeps, kept_end, not_shown, shown_is, shown_left}
@@ -294,7 +289,10 @@ module _ (history : History) (formed : IsFormed history) (keeps : Keeps) (none :
           let one = one_member joints once m.0 (member_of p) (in_members joints joint m.0 jt m.1) (answered_in p pt)
           both.0 both.1 in (
             p,
-            (from_seen p pt, in_contains joint.members (member_of p) (subst (λ (x : Member). In x joint.members) one m.1)),
+            (
+              from_seen p pt,
+              in_contains joint.members (member_of p) (subst (λ (x : Member). In x joint.members) one m.1),
+            ),
             in_contains (sight_heads p) post (subst (λ (x : Fact). In x (sight_heads p)) (sym same) at),
           )
 
@@ -304,7 +302,8 @@ module _ (history : History) (formed : IsFormed history) (keeps : Keeps) (none :
       record {
         some = formed.some joint (in_contains joints joint jt);
         distinct = pairs_index (λ (first second : Member). first.tx ≢ second.tx) joint.members
-            (pairs_by (λ (first second : Member). first.tx < second.tx) (λ (first second : Member). first.tx ≢ second.tx)
+            (pairs_by (λ (first second : Member). first.tx < second.tx)
+            (λ (first second : Member). first.tx ≢ second.tx)
             joint.members (λ x y low own. omega (arith, low, own))
             (index_pairs (λ (first second : Member). first.tx < second.tx) joint.members
             (formed.rising joint (in_contains joints joint jt))));

@@ -1,7 +1,7 @@
 -- Elements of lists, and what holds of each two of them.
-use Rattle.std.proofs.Common.{◌≡◌, ◌⊎◌, ℕ, zero, suc, ◌==◌, ◌<◌, ◌≤◌, ◌+◌, Bool, true, false, cond, not, ◌||◌, ◌&&◌, List}
-use Rattle.std.proofs.Common.{[], ◌∷◌, ◌++◌, map, length, refl, sym, ap, subst, ◌∙◌, inl, inr, arith, rules, Option, Some}
-use Rattle.std.proofs.Common.{None, All, AllPairs, Contains, slice_index_or, slice_get, flat_map}
+use Rattle.std.proofs.Common.{◌≡◌, ◌⊎◌, ℕ, zero, suc, ◌==◌, ◌<◌, Bool, true, false, cond, not, ◌||◌, ◌&&◌, List}
+use Rattle.std.proofs.Common.{[], ◌∷◌, ◌++◌, map, length, refl, sym, ap, subst, ◌∙◌, inl, inr, arith, rules, Some}
+use Rattle.std.proofs.Common.{AllPairs, Contains, slice_index_or, slice_get, flat_map}
 use Rattle.std.specs.List.{AllByRecursion, filter, list_any, list_all, find}
 
 -- ---- truth values
@@ -373,7 +373,8 @@ nth_in [] k d low = absurd (omega (arith, low))
 nth_in (x ∷ xs) zero d low = inl refl
 nth_in (x ∷ xs) (suc k) d low = inr (nth_in xs k d (omega (arith, low)))
 
-all_of_index : {X : Type 0} (P : X → Type 0) (xs : List X) → ((k : ℕ) (d : X) → k < length xs → P (slice_index_or xs k d))
+all_of_index : {X : Type 0} (P : X → Type 0) (xs : List X)
+    → ((k : ℕ) (d : X) → k < length xs → P (slice_index_or xs k d))
     → AllByRecursion P xs
 all_of_index P [] h = tt
 all_of_index P (x ∷ xs) h =

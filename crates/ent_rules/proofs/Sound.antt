@@ -1,34 +1,31 @@
 -- Of a legal book nothing is found.
-use Rattle.std.proofs.Common.{◌≡◌, ◌≢◌, ℕ, zero, suc, ◌+◌, ◌<◌, Bool, true, false, not, ◌||◌, List, [], ◌∷◌, ◌++◌, map, length}
-use Rattle.std.proofs.Common.{refl, sym, ap, subst, ◌∙◌, inl, inr, arith, Option, Some, None, flat_map, Contains, slice_get}
-use Rattle.std.specs.List.{AllByRecursion, list_all, list_any, filter}
+use Rattle.std.proofs.Common.{◌≡◌, ℕ, suc, ◌+◌, true, List, [], ◌∷◌, ◌++◌, map}
+use Rattle.std.proofs.Common.{refl, sym, ap, subst, ◌∙◌, inl, inr, arith, Some, flat_map, Contains}
 use Rattle.ent_set.specs.Sets as set
-use Rattle.ent_value.specs.Value.{row_cmp}
 use Rattle.ent_tree.specs.declared.declaration.Create.{Create}
 use Rattle.ent_tree.specs.declared.script.Script.{Script}
-use Rattle.ent_tree.specs.declared.script.Statement.{Statement}
 use Rattle.ent_tree.specs.declared.script.Statement.TheVariants as statements
 use Rattle.ent_semantics.specs.declared.answer.Fact.{Fact}
 use Rattle.ent_semantics.specs.declared.book.Entry.{Entry}
 use Rattle.ent_semantics.specs.declared.book.JointAnswer.{JointAnswer}
 use Rattle.ent_semantics.specs.declared.book.Member.{Member}
 use Rattle.ent_semantics.specs.Book.{IsLegal, AreApart, all_members, book_sights}
-use Rattle.ent_semantics.specs.Database.{Name, Database, opening_database}
-use Rattle.ent_semantics.specs.Joint.{IsGood, IsGrounded, IsOffered, StandsIn, member_of, sight_heads, sight_posts}
-use Rattle.ent_semantics.specs.Serial.{Runs, Sight, Turn, is_entangled, numbered}
+use Rattle.ent_semantics.specs.Database.{Database, opening_database}
+use Rattle.ent_semantics.specs.Joint.{IsGrounded, IsOffered, member_of, sight_heads, sight_posts}
+use Rattle.ent_semantics.specs.Serial.{Runs, Sight, numbered}
 use Rattle.ent_history.specs.declared.history.History.{History}
 use Rattle.ent_history.specs.declared.history.Shown.{Shown}
 use Rattle.ent_history.specs.Told.{joint_answer_of, shown_database}
-use Rattle.ent_rules.specs.Account.{Account, accounts, has_committed, in_commit_order}
+use Rattle.ent_rules.specs.Account.{Account, accounts, in_commit_order}
 use Rattle.ent_rules.specs.Alike.{same_fact}
 use Rattle.ent_rules.specs.Findings.{findings}
 use Rattle.ent_rules.specs.Formed.{IsFormed}
-use Rattle.ent_rules.specs.Joint.{left_out, left_out_findings, members_findings, stands_among}
+use Rattle.ent_rules.specs.Joint.{left_out_findings, members_findings, stands_among}
 use Rattle.ent_rules.specs.Journal.{commits, journal_findings, unless}
-use Rattle.ent_rules.specs.Placed.{Placed, grounding_of, member_at, placed, stands_at}
+use Rattle.ent_rules.specs.Placed.{Placed, grounding_of, placed, stands_at}
 use Rattle.ent_rules.specs.Post.{are_met, is_offered, post_findings, sights_of}
 use Rattle.ent_rules.specs.Replay.{replay_findings, told_sights, told_end}
-use Rattle.ent_rules.specs.Table.{end_findings, tables_findings}
+use Rattle.ent_rules.specs.Table.{end_findings}
 use Rattle.ent_rules.specs.declared.finding.Rule.TheVariants as rule
 use Rattle.ent_rules.specs.declared.finding.Thing.TheVariants as thing
 use Rattle.ent_rules.proofs.Accounts.{own_script}
@@ -41,7 +38,8 @@ use Rattle.ent_rules.proofs.Joints.{IsStatement, all_so, among, at_member, none_
 use Rattle.ent_rules.proofs.Joints.{stands_there}
 use Rattle.ent_rules.proofs.Journals.{book, numbered_if_journal}
 use Rattle.ent_rules.proofs.Legal.{in_members, map_map}
-use Rattle.ent_rules.proofs.Lists.{In, Pairs, of_all, to_all, of_filter, to_filter, in_flat, to_flat, of_every, any_some}
+use Rattle.ent_rules.proofs.Lists.{In, Pairs, of_all, to_all, of_filter, to_filter, in_flat, to_flat, of_every}
+use Rattle.ent_rules.proofs.Lists.{any_some}
 use Rattle.ent_rules.proofs.Lists.{any_in, contains_in, in_contains, index_pairs, both_none}
 use Rattle.ent_rules.proofs.Replays.{IsTold, OwnScripts, account_sight, sight_account, told}
 use Rattle.ent_rules.proofs.Tables.{none_shown, shown_own}
@@ -114,7 +112,8 @@ module _ (history : History) (formed : IsFormed history) (legal : IsLegal (book 
 
   is_numbered : IsNumbered all
   is_numbered =
-      numbered_if_journal history legal.journal (λ a at. of_all (λ (x : Account). commits x.script.end ≡ true) order a run.commit at)
+      numbered_if_journal history legal.journal (λ a at.
+      of_all (λ (x : Account). commits x.script.end ≡ true) order a run.commit at)
 
   -- ---- members
 

@@ -1,7 +1,6 @@
 -- Tables that are shown, and tables that no script changes.
-use Rattle.std.proofs.Common.{◌≡◌, ℕ, zero, suc, Bool, true, false, cond, ◌||◌, List, [], ◌∷◌, refl, sym, ap, subst, ◌∙◌}
-use Rattle.std.proofs.Common.{inl, inr, Option, Some, None, Result, Ok, Err}
-use Rattle.std.specs.Option.{option_and_then}
+use Rattle.std.proofs.Common.{◌≡◌, ℕ, suc, Bool, true, false, cond, ◌||◌, List, [], ◌∷◌, refl, sym, ap, subst, ◌∙◌}
+use Rattle.std.proofs.Common.{inl, inr, Some, Result, Ok}
 use Rattle.ent_set.specs.Laws.{from_list-ascending}
 use Rattle.ent_set.specs.Sets as set
 use Rattle.ent_value.specs.Order.{rows_total, exact_rows}
@@ -28,9 +27,9 @@ use Rattle.ent_rules.specs.Table.{tables_findings}
 use Rattle.ent_rules.specs.declared.finding.Rule.TheVariants as rule
 use Rattle.ent_rules.specs.declared.finding.Thing.TheVariants as thing
 use Rattle.ent_rules.proofs.Alike.{equal_lists, list_itself}
-use Rattle.ent_rules.proofs.Deeds.{GoesOn, goes_on, then_some}
+use Rattle.ent_rules.proofs.Deeds.{goes_on, then_some}
 use Rattle.ent_rules.proofs.Found.{unless_holds, holds_unless}
-use Rattle.ent_rules.proofs.Lists.{In, Pairs, of_all, both_none, clash, none_first, none_second}
+use Rattle.ent_rules.proofs.Lists.{In, Pairs, of_all, both_none, none_first, none_second}
 
 -- ---- tables that are shown
 

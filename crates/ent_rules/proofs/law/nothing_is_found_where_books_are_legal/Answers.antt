@@ -1,7 +1,5 @@
 use Rattle.std.proofs.Common.{◌≡◌, sym, subst}
-use Rattle.ent_semantics.specs.declared.book.Book.{Book}
 use Rattle.ent_semantics.specs.Book.{IsLegal}
-use Rattle.ent_semantics.specs.Database.{Database}
 use Rattle.ent_history.specs.declared.history.History.{History}
 use Rattle.ent_history.specs.Told.{book_of}
 use Rattle.ent_rules.specs.Formed.{IsFormed}

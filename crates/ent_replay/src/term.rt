@@ -1,0 +1,67 @@
+//! What terms are worth under a grounding.
+ghost use Rattle.std.specs.Prelude.{◌≡◌, IfOk, map};
+ghost use Rattle.ent_closed.specs.Form.{term_worth};
+ghost use Rattle.ent_select.specs.Worth.{itself};
+ghost use Rattle.ent_semantics.specs.Selection.{compares, holds};
+ghost use Rattle.ent_semantics.specs.Term.{no_value};
+
+use ent_closed::Term;
+use ent_tree::{Comparison, MOST_PARTS, Test};
+use ent_value::{Limited, Row, Value};
+use std::alloc::{AllocError, Global};
+use std::cmp::Ordering;
+
+/// The value of a term under a grounding; a variable that has none stands for `none`.
+pub(crate) fn term_value<'a>(
+    grounding: &'a [Value],
+    term: &'a Term<Value>,
+    none: &'a Value,
+) -> &'a Value
+    requires { none.now ≡ no_value }
+    ensures { result.now ≡ term_worth itself grounding.now term.now }
+{
+    match term {
+        Term::Known(value) => value,
+        Term::Variable(number) => grounding.get(*number).unwrap_or(none),
+    }
+}
+
+/// The values of terms under a grounding, as a row.
+pub(crate) fn terms_row(
+    alloc: Global,
+    grounding: &[Value],
+    terms: &Limited<Term<Value>, MOST_PARTS>,
+) -> Result<Row, AllocError>
+    ensures { IfOk result (λ row. row ≡ map (term_worth itself grounding.now) terms.now) }
+{
+    let none = Value::Int(0);
+    let mut values = Vec::with_capacity(alloc, terms.len())?;
+    for term in terms.as_slice() {
+        values.push(term_value(grounding, term, &none).copy(alloc)?)?;
+    }
+    Ok(Row::from_vec(values))
+}
+
+/// Whether two values in this order compare so.
+fn compares(comparison: Comparison, order: Ordering) -> bool
+    ensures { result ≡ compares comparison order }
+{
+    match comparison {
+        Comparison::Equal => order.is_eq(),
+        Comparison::NotEqual => order.is_ne(),
+        Comparison::Less => order.is_lt(),
+        Comparison::LessOrEqual => order.is_le(),
+        Comparison::Greater => order.is_gt(),
+        Comparison::GreaterOrEqual => order.is_ge(),
+    }
+}
+
+/// Whether a test between terms is true under a grounding.
+pub(crate) fn test_holds(grounding: &[Value], test: &Test<Term<Value>>) -> bool
+    ensures { result ≡ holds (term_worth itself grounding.now) test.now }
+{
+    let none = Value::Int(0);
+    let left = term_value(grounding, &test.left, &none);
+    let right = term_value(grounding, &test.right, &none);
+    compares(test.comparison, left.cmp(right))
+}
