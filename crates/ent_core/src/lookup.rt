@@ -4,13 +4,16 @@ ghost use Rattle.std.specs.Option.{option_copied, option_map};
 ghost use Rattle.ent_core.specs.Kinds.{kinds_of_table};
 ghost use Rattle.ent_protocol.specs.Lookup.{answers_of, dormant_at, entry_at, group_of, present_rows};
 ghost use Rattle.ent_protocol.specs.Lookup.{running_members};
+ghost use Rattle.ent_protocol.specs.Reached.{scripts_of};
 ghost use Rattle.ent_semantics.specs.Serial.{numbered};
 
 use crate::store::Store;
 use ent_group::{Members, Tx};
 use ent_members::Entrant;
+use ent_next::script_of;
 use ent_rel::Table;
 use ent_semantics::{Answer, Entry};
+use ent_tree::Script;
 use ent_value::Name;
 
 /// The element of a number, from 1.
@@ -35,6 +38,16 @@ pub(crate) fn entry(store: &Store, number: usize) -> Option<&Entry>
     ensures { option_copied result ≡ entry_at store.now number }
 {
     numbered(store.journal.as_slice(), number)
+}
+
+/// The script of a transaction, as it was submitted.
+pub(crate) fn script(store: &Store, tx: Tx) -> Option<&Script>
+    ensures { option_copied result ≡ numbered (scripts_of store.now) tx }
+{
+    match script_of(store.submitted.as_slice(), tx) {
+        Some(own) => Some(own.script()),
+        None => None,
+    }
 }
 
 /// The table of a name as it stands, where one is declared.

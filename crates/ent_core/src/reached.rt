@@ -1,5 +1,5 @@
 //! The core whose type keeps that its state is reached.
-ghost use Rattle.std.specs.Prelude.{IfErr, IfOk, IsOk, None, OnErr, OnOk, Some, true, ℕ, ◌≡◌, ◌∷◌, []};
+ghost use Rattle.std.specs.Prelude.{IfErr, IfOk, IsOk, None, OnErr, OnOk, Some, true, ℕ, ◌≡◌, ◌∷◌, [], length};
 ghost use Rattle.std.specs.List.{AllByRecursion};
 ghost use Rattle.std.specs.Option.{option_copied, option_map};
 ghost use Rattle.ent_book.specs.Tables.{book_seen};
@@ -20,6 +20,7 @@ ghost use Rattle.ent_protocol.specs.Reached.{CanClose, IsFinishedBook, IsReached
 ghost use Rattle.ent_protocol.specs.Step.{Step};
 ghost use Rattle.ent_resolved.specs.Resolved.{resolved_forms};
 ghost use Rattle.ent_semantics.specs.Book.{IsLegal};
+ghost use Rattle.ent_semantics.specs.Serial.{numbered};
 ghost use Rattle.ent_standing.specs.Attempts.{AsksForRun};
 ghost use Rattle.ent_value.specs.Refusal.{Gives};
 ghost use Rattle.ent_value.specs.declared.refusal.Refusal.TheVariants.{Fault};
@@ -336,6 +337,34 @@ impl Core {
         ensures { option_copied result ≡ entry_at self.now number }
     {
         lookup::entry(&self.store, number)
+    }
+
+    /// The journal, in order of the commits.
+    pub fn journal(&self) -> &[Entry]
+        ensures { result.now ≡ self.now.journal }
+    {
+        self.store.journal.as_slice()
+    }
+
+    /// The opening.
+    pub fn opening(&self) -> &Opening
+        ensures { result.now ≡ self.now.opening }
+    {
+        &self.store.opening
+    }
+
+    /// How many scripts were submitted.
+    pub fn submitted(&self) -> usize
+        ensures { result ≡ length self.now.submitted }
+    {
+        self.store.submitted.len()
+    }
+
+    /// The script of a transaction, as it was submitted.
+    pub fn script(&self, tx: Tx) -> Option<&Script>
+        ensures { option_copied result ≡ numbered (scripts_of self.now) tx }
+    {
+        lookup::script(&self.store, tx)
     }
 
     /// The table of a name as it stands, where one is declared.
