@@ -1,0 +1,9 @@
+pub mod Counting
+pub mod Keeping
+pub mod Exactness
+pub mod Fates
+pub mod Closed
+pub mod Submitted
+pub mod Opened
+pub mod Accounting
+pub mod Receiving

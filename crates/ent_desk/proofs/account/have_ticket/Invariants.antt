@@ -1,0 +1,4 @@
+use Rattle.ent_desk.proofs.account.have_ticket.Given as goal
+
+abbrev pub invariant-loop-session : goal.invariant-loop-session
+invariant-loop-session g l = Unit {0}

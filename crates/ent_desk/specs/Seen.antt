@@ -1,0 +1,43 @@
+-- What contracts see of a session and of the desk behind the lock.
+use Rattle.std.specs.Prelude.{◌≡◌, ℕ, List, [], ◌∷◌, ◌++◌, Option, Some, None, suc}
+use Rattle.ent_tree.specs.declared.script.Script.{Script}
+use Rattle.ent_protocol.specs.Reached.{LeadsTo}
+use Rattle.ent_protocol.specs.State.{State}
+use Rattle.ent_resolved.specs.Resolved.{resolved_forms}
+use Rattle.ent_desk.specs.declared.ticket.First.{First}
+use Rattle.ent_desk.specs.declared.ticket.Receipt.{Receipt}
+use Rattle.ent_desk.specs.declared.ticket.Ticket.{Ticket}
+
+-- what a session got, in the order in which it got it; and of the first one, what the manager was opened over
+pub record SessionState : Type 0 where
+  pub tickets : List Ticket
+  pub receipts : List Receipt
+  pub first : Option First
+
+-- the core, and how many scripts the manager was opened over
+pub record DeskState : Type 0 where
+  pub core : State
+  pub count : ℕ
+
+abbrev pub ticket : ℕ → Script → Ticket
+ticket tx script = record { tx = tx; script = script }
+
+-- what was got before is a beginning
+abbrev pub Begins : {A : Type 0} → List A → List A → Type 0
+Begins {A} before after = (more : List A) × (after ≡ before ++ more)
+
+-- the tickets and the first are as before, and receipts may have come
+pub record GetsReceipts (before after : SessionState) : Type 0 where
+  pub tickets : after.tickets ≡ before.tickets
+  pub first : after.first ≡ before.first
+  pub receipts : Begins before.receipts after.receipts
+
+-- one ticket more, and nothing else
+abbrev pub with_ticket : SessionState → ℕ → Script → SessionState
+with_ticket session tx script = record session { tickets = session.tickets ++ ticket tx script ∷ [] }
+
+-- events lead the core on, and the number stays
+pub record LeadsOn (before after : DeskState) : Type 0 where
+  pub events : ℕ
+  pub leads : LeadsTo resolved_forms events before.core after.core
+  pub count : after.count ≡ before.count

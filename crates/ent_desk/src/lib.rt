@@ -1,0 +1,26 @@
+//! What stands behind the lock of a manager of several clients, and what each client's session holds.
+//!
+//! A [`Desk`] has a core and counts what sessions get of it: its type keeps that the core is gathered, and that as many
+//! tickets and receipts were given out as the core has scripts and journal entries. A [`Session`] keeps its tickets and
+//! its receipts. A caller may rely on it that each call of a desk makes events of its core alone, and that
+//! [`Desk::close`] gives a finished, legal book whose scripts and journal are exactly what the sessions hold. Nothing
+//! here waits or starts a thread; the lock is in the crate above.
+#![tactic(auto)]
+
+mod account;
+mod alike;
+mod audit;
+mod closing;
+mod desk;
+mod draft;
+mod naming;
+mod opening;
+mod session;
+mod ticket;
+
+pub use closing::{CloseFault, NotClosed};
+pub use desk::{Advance, Desk, NotSubmitted, SubmitFault};
+pub use naming::{Blanks, Both, Naming, Seats};
+pub use opening::{core_over, open};
+pub use session::{Session, Stopped};
+pub use ticket::{First, Receipt, Ticket};
