@@ -8,7 +8,7 @@ returns-in-Ok-clause-report g c =
     let input = c.in_ok-input.input in
     let core = c.in_ok-core.core in
     let book = book_seen c.in_ok-book.book in
-    wrote_report c.options.report _ _ _ c.in_ok-bytes.bytes.items c.as_slice.result.now book input
+    wrote_report c.args.options.report _ _ _ c.in_ok-bytes.bytes.items c.as_slice.result.now book input
     c.in_ok-bytes.ensures.whole
     c.as_slice.ensures.value c.in_ok-input.ensures.input c.in_ok-core.ensures.formed
     (book_of_input input core book c.in_ok-core.ensures.submitted c.in_ok-book.ensures.book c.in_ok-book.ensures.fates
@@ -20,7 +20,7 @@ returns-clause-beginning g c =
     let input = c.in_ok-input.input in
     let core = c.in_ok-core.core in
     let book = book_seen c.in_ok-book.book in
-    wrote_beginning c.options.report _ _ _ c.in_ok-bytes.bytes.items c.as_slice.result.now book input
+    wrote_beginning c.args.options.report _ _ _ c.in_ok-bytes.bytes.items c.as_slice.result.now book input
     c.in_ok-bytes.ensures.whole
     c.as_slice.ensures.value c.in_ok-input.ensures.input c.in_ok-core.ensures.formed
     (book_of_input input core book c.in_ok-core.ensures.submitted c.in_ok-book.ensures.book c.in_ok-book.ensures.fates
