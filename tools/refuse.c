@@ -13,7 +13,7 @@
 extern void *__libc_malloc(size_t size);
 extern void *__libc_realloc(void *old, size_t size);
 
-static long allocations, reads, writes;
+static _Atomic long allocations, reads, writes;
 
 static int is_chosen(const char *variable, long number) {
     const char *chosen = getenv(variable);

@@ -1,20 +1,27 @@
 //! What the program does: it reads its command line, and runs what that asks for.
 use crate::ending::Ending;
-use crate::words::{command, options_of};
+use crate::words::{Asked, asked_of, command};
 use clap::Error;
 use clap::error::ErrorKind;
-use ent_engine::{FaultLine, RunFault, RunOptions};
+use ent_engine::{FaultLine, RunFault, run_workers};
 use ent_value::Watched;
 use std::alloc::Global;
 use std::env::Env;
+use std::sync::Wait;
+use std::thread::Threads;
 use std::{env, io};
 
-/// The program: reads its command line, and runs the scripts of standard input where it asks for that. A fault is one
-/// line on standard error. How it ended says what `main` ends with.
-pub fn entangle<R: Env + AllocGlobal + Input + Print + Eprint>(rt: &R) -> Ending {
+/// The program: reads its command line, and runs the scripts of standard input where it asks for that; where it asks
+/// for workers, in threads that `threads` starts. A fault is one line on standard error. How it ended says what `main`
+/// ends with.
+pub fn entangle<R, T>(rt: &R, threads: &T) -> Ending
+where
+    R: Env + AllocGlobal + Input + Print + Eprint,
+    T: Threads + Wait + Sync,
+{
     let ending = match words_of(rt) {
         Ok(words) => match read_command_line(rt.alloc(), words.as_slice()) {
-            Ok(options) => Ending::from(run(rt, options)),
+            Ok(asked) => Ending::from(run(rt, threads, asked)),
             Err(fault) => show_command_line(rt, &fault),
         },
         Err(ending) => ending,
@@ -38,9 +45,9 @@ fn words_of<R: Env + AllocGlobal + Eprint>(rt: &R) -> Result<Vec<String>, Ending
 }
 
 /// What the command line asks of a run; else its fault, or the help that it asks for.
-fn read_command_line<'a>(alloc: Global, words: &'a [String]) -> Result<RunOptions, Error> {
+fn read_command_line<'a>(alloc: Global, words: &'a [String]) -> Result<Asked, Error> {
     let matches = command(alloc)?.try_get_matches_from(words)?;
-    Ok(options_of(&matches))
+    Ok(asked_of(&matches))
 }
 
 /// Shows what is wrong with the command line, or the help that it asks for; where the help can't be written, that is a
@@ -60,8 +67,23 @@ fn show_command_line<R: Print + Eprint>(rt: &R, fault: &Error) -> Ending {
 }
 
 /// Runs the scripts of standard input.
-fn run<R: AllocGlobal + Input + Print>(rt: &R, options: RunOptions) -> Result<(), RunFault> {
+fn run<R: AllocGlobal + Input + Print, T: Threads + Wait + Sync>(
+    rt: &R,
+    threads: &T,
+    asked: Asked,
+) -> Result<(), RunFault> {
+    let Asked { workers, options } = asked;
     let mut reader = Watched::new(rt.reader());
     let mut writer = Watched::new(io::writer(rt));
-    ent_engine::run(rt.alloc(), &mut reader, &mut writer, options)
+    if workers == 0 {
+        return ent_engine::run(rt.alloc(), &mut reader, &mut writer, options);
+    }
+    run_workers(
+        threads,
+        rt.alloc(),
+        &mut reader,
+        &mut writer,
+        workers,
+        options.report,
+    )
 }

@@ -6,7 +6,7 @@ use ent_engine::{DEFAULT_TRIES, ReportVersion, RunOptions};
 use std::alloc::{AllocError, Global};
 
 /// The most workers; with none the scripts are run on one thread.
-const MOST_WORKERS: u64 = 0;
+const MOST_WORKERS: u64 = 64;
 
 /// The highest version of the report.
 const HIGHEST_REPORT: u64 = 2;
@@ -40,7 +40,9 @@ fn workers<'a>(alloc: Global) -> Arg<'a> {
         .value_name("N")
         .value_parser(ValueParser::unsigned(0, MOST_WORKERS))
         .default_value("0")
-        .help("How many threads run the scripts; 0, the only number today, runs them without any")
+        .help(
+            "How many threads run the scripts, 0 to 64; 0 runs them on one thread. More pay where single statements take long, as joins of large tables do",
+        )
 }
 
 fn report<'a>(alloc: Global) -> Arg<'a> {
@@ -58,19 +60,34 @@ fn tries<'a>(alloc: Global) -> Arg<'a> {
         .value_name("N")
         .value_parser(ValueParser::unsigned(1, MOST_TRIES))
         .default_value("1")
-        .help("How many times in all the scripts are run on where memory runs out, 1 to 9")
+        .help(
+            "How many times in all the scripts are run on where memory runs out, 1 to 9; without effect on workers",
+        )
 }
 
 /// What the words of a run ask for.
-pub(crate) fn options_of<'a>(matches: &ArgMatches<'a>) -> RunOptions {
+pub(crate) struct Asked {
+    /// How many threads run the scripts; with 0 they run on one thread.
+    pub(crate) workers: usize,
+    pub(crate) options: RunOptions,
+}
+
+/// What the words ask for.
+pub(crate) fn asked_of<'a>(matches: &ArgMatches<'a>) -> Asked {
     let Some(run) = matches.subcommand_matches("run") else {
-        return RunOptions::default();
+        return Asked {
+            workers: 0,
+            options: RunOptions::default(),
+        };
     };
-    RunOptions {
-        tries: number(run, "tries", DEFAULT_TRIES),
-        report: match number(run, "report", 1) {
-            HIGHEST_REPORT => ReportVersion::Two,
-            _ => ReportVersion::One,
+    Asked {
+        workers: number(run, "workers", 0) as usize,
+        options: RunOptions {
+            tries: number(run, "tries", DEFAULT_TRIES),
+            report: match number(run, "report", 1) {
+                HIGHEST_REPORT => ReportVersion::Two,
+                _ => ReportVersion::One,
+            },
         },
     }
 }

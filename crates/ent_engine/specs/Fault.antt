@@ -4,7 +4,7 @@ use Rattle.std.specs.Fmt.{decimal}
 use Rattle.ent_sql.specs.Fault.{code_of as sql_code_of, place_of as sql_place_of}
 use Rattle.ent_form.specs.Fault.{code_of as form_code_of, place_of as form_place_of}
 use Rattle.ent_engine.specs.declared.fault.RunFault.{RunFault}
-use Rattle.ent_engine.specs.declared.fault.RunFault.TheVariants.{NotUtf8, TooLong, Sql, Form}
+use Rattle.ent_engine.specs.declared.fault.RunFault.TheVariants.{NotUtf8, TooLong, Sql, Form, Differs}
 use Rattle.ent_engine.specs.declared.fault.RunFault.TheVariants.{ReadFault, WriteFault, Memory}
 
 abbrev pub code_of : RunFault → ℕ
@@ -12,6 +12,7 @@ code_of (NotUtf8 place) = 100
 code_of TooLong = 105
 code_of (Sql fault) = sql_code_of fault
 code_of (Form fault) = form_code_of fault
+code_of Differs = 502
 code_of ReadFault = 601
 code_of WriteFault = 602
 code_of Memory = 900
@@ -21,16 +22,18 @@ place_of (NotUtf8 place) = Some place
 place_of TooLong = None
 place_of (Sql fault) = Some (sql_place_of fault)
 place_of (Form fault) = Some (form_place_of fault)
+place_of Differs = None
 place_of ReadFault = None
 place_of WriteFault = None
 place_of Memory = None
 
--- 1: the input is refused; 3: no memory; 4: the reader or the writer failed
+-- 1: the input is refused; 3: no memory, or sessions and core differ; 4: the reader or the writer failed
 abbrev pub status : RunFault → ℕ
 status (NotUtf8 place) = 1
 status TooLong = 1
 status (Sql fault) = 1
 status (Form fault) = 1
+status Differs = 3
 status ReadFault = 4
 status WriteFault = 4
 status Memory = 3

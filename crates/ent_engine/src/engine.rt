@@ -1,22 +1,17 @@
 //! A whole run: bytes in, report out.
-ghost use Rattle.std.specs.Prelude.{◌≡◌, Err, IfErr, IfSome, OnErr, OnOk};
-ghost use Rattle.std.specs.Io.KnownBytes.{Appends};
-ghost use Rattle.ent_book.specs.Tables.{book_seen};
-ghost use Rattle.ent_book.specs.Write.{AppendsBeginning, is_fault, is_marked};
+ghost use Rattle.std.specs.Prelude.{IfErr, IfSome, OnOk};
 ghost use Rattle.ent_value.specs.Watched.{IsUnmarked};
-ghost use Rattle.ent_value.specs.declared.refusal.Refusal.TheVariants.{Memory};
-ghost use Rattle.ent_engine.specs.Report.{text_of};
 ghost use Rattle.ent_engine.specs.Reading.{IsRefused};
 ghost use Rattle.ent_engine.specs.Io.{IsReaderMarkedBy, IsWriterMarkedBy, IsSilent, WritesReport, WritesBeginning};
 
 use crate::fault::RunFault;
-use crate::options::{ReportVersion, RunOptions};
+use crate::options::RunOptions;
 use crate::parse::parse;
 use crate::reader::read_whole;
 use crate::runs::{run_out, submit_all};
-use ent_book::{NamedTable, WriteFault, write_report, write_report_2};
-use ent_semantics::Book;
-use ent_value::{Refusal, Sequence, Watched};
+use crate::writer::write_book;
+use ent_book::WriteFault;
+use ent_value::{Refusal, Watched};
 use std::alloc::Global;
 use std::io::{Read, Write};
 
@@ -56,26 +51,5 @@ pub fn run<R: Read, W: Write>(
         Ok(()) => Ok(()),
         Err(Refusal::Memory) => Err(RunFault::Memory),
         Err(Refusal::Fault(WriteFault)) => Err(RunFault::WriteFault),
-    }
-}
-
-/// Writes the report of a book, of this version. Its promises are those of [`write_report`].
-fn write_book<W: Write>(
-    alloc: Global,
-    book: &Book<Sequence<NamedTable>>,
-    version: ReportVersion,
-    writer: &mut Watched<W>,
-) -> Result<(), Refusal<WriteFault>>
-    requires unmarked { IsUnmarked writer.old }
-    ensures written { OnOk result
-        (Appends (W.contents writer.old.inner) (W.contents writer.new.inner) (text_of version (book_seen book.now))) }
-    ensures untouched { result ≡ Err Memory → writer.new ≡ writer.old }
-    ensures beginning { OnErr result (AppendsBeginning (W.contents writer.old.inner) (W.contents writer.new.inner)
-        (text_of version (book_seen book.now))) }
-    ensures marks { is_marked writer.new ≡ is_fault result }
-{
-    match version {
-        ReportVersion::One => write_report(alloc, book, writer),
-        ReportVersion::Two => write_report_2(alloc, book, writer),
     }
 }

@@ -24,6 +24,9 @@ pub enum RunFault {
     /// The input's names, numbers of values or kinds have a fault.
     #[error("{0}")]
     Form(FormFault),
+    /// Sessions and core of a run with workers differ.
+    #[error("E502: what the sessions hold isn't what the core has")]
+    Differs,
     /// The reader failed.
     #[error("E601: the input can't be read")]
     ReadFault,
@@ -61,6 +64,7 @@ impl RunFault {
             RunFault::TooLong => 105,
             RunFault::Sql(fault) => fault.code(),
             RunFault::Form(fault) => fault.code(),
+            RunFault::Differs => 502,
             RunFault::ReadFault => 601,
             RunFault::WriteFault => 602,
             RunFault::Memory => 900,
@@ -75,21 +79,23 @@ impl RunFault {
             RunFault::NotUtf8(place) => Some(place),
             RunFault::Sql(fault) => Some(fault.place()),
             RunFault::Form(fault) => Some(fault.place()),
-            RunFault::TooLong | RunFault::ReadFault | RunFault::WriteFault | RunFault::Memory => {
-                None
-            }
+            RunFault::TooLong
+            | RunFault::Differs
+            | RunFault::ReadFault
+            | RunFault::WriteFault
+            | RunFault::Memory => None,
         }
     }
 }
 
-/// The program's exit status after a fault: 1 where the input is refused, 3 where memory ran out, 4 where the
-/// reader or the writer failed.
+/// The program's exit status after a fault: 1 where the input is refused, 3 where memory ran out, or sessions and core
+/// differ, 4 where the reader or the writer failed.
 pub fn status_of(fault: &RunFault) -> u8
     ensures { result ≡ status fault.now }
 {
     match fault {
         RunFault::NotUtf8(_) | RunFault::TooLong | RunFault::Sql(_) | RunFault::Form(_) => 1,
-        RunFault::Memory => 3,
+        RunFault::Memory | RunFault::Differs => 3,
         RunFault::ReadFault | RunFault::WriteFault => 4,
     }
 }

@@ -11,8 +11,12 @@ mod options;
 mod parse;
 mod reader;
 mod runs;
+mod threads;
+mod workers;
+mod writer;
 
 pub use engine::run;
 pub use fault::{FaultLine, RunFault, status_of};
 pub use options::{DEFAULT_TRIES, ReportVersion, RunOptions};
 pub use reader::MOST_BYTES;
+pub use workers::run_workers;

@@ -10,6 +10,6 @@ mod streams;
 use anyhow::Result;
 
 fn main(rt: HostRuntime) -> Result<()> {
-    rows::check_all(&rt)?;
-    streams::check_all(&rt)
+    rows::check_all(&rt, &rt)?;
+    streams::check_all(&rt, &rt)
 }

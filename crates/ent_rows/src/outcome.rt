@@ -3,6 +3,8 @@ use crate::machine::{Machine, Manner};
 use anyhow::{Result, ensure};
 use ent_command::entangle;
 use std::alloc::Global;
+use std::sync::Wait;
+use std::thread::Threads;
 
 /// What a run of the command gave: its exit status, and what it wrote to standard output and to standard error.
 #[derive(Drop)]
@@ -13,9 +15,11 @@ pub(crate) struct Outcome {
 }
 
 impl Outcome {
-    /// Runs the command with these words behind its name, on an input that is read so, where output is written so.
-    pub(crate) fn of(
+    /// Runs the command with these words behind its name, on an input that is read so, where output is written so. Only
+    /// threads are the real machine's.
+    pub(crate) fn of<T: Threads + Wait + Sync>(
         alloc: Global,
+        threads: &T,
         words: &str,
         input: &[u8],
         reads: Manner,
@@ -26,7 +30,7 @@ impl Outcome {
             given.push(word)?;
         }
         let machine = Machine::new(alloc, given.as_slice(), input, reads, writes);
-        let status = entangle(&machine).status();
+        let status = entangle(&machine, threads).status();
         let (output, errors) = machine.into_written();
         Ok(Outcome {
             status,

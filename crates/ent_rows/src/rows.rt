@@ -7,6 +7,8 @@ use crate::outcome::Outcome;
 use anyhow::{Context, Result, bail, ensure};
 use std::alloc::Global;
 use std::fs;
+use std::sync::Wait;
+use std::thread::Threads;
 
 /// The examples, each an input and its report.
 const EXAMPLES: [&str; 13] = [
@@ -26,24 +28,29 @@ const EXAMPLES: [&str; 13] = [
 ];
 
 /// Checks the rows, the examples and the longest input, and says how many there are.
-pub(crate) fn check_all(rt: &HostRuntime) -> Result<()> {
-    let rows = check_rows(rt)?;
+pub(crate) fn check_all<T: Threads + Wait + Sync>(rt: &HostRuntime, threads: &T) -> Result<()> {
+    let rows = check_rows(rt, threads)?;
     println!(rt; "{rows} rows")?;
     for name in EXAMPLES {
-        check_example(rt, name)?;
+        check_example(rt, threads, name)?;
     }
     println!(rt; "{} examples", EXAMPLES.len())?;
-    check_longest(rt.alloc())?;
+    check_longest(rt.alloc(), threads)?;
     println!(rt; "the longest input, and one byte more")?;
     Ok(())
 }
 
-fn run_over(alloc: Global, words: &str, input: &[u8]) -> Result<Outcome> {
-    Outcome::of(alloc, words, input, Manner::FREE, Manner::FREE)
+fn run_over<T: Threads + Wait + Sync>(
+    alloc: Global,
+    threads: &T,
+    words: &str,
+    input: &[u8],
+) -> Result<Outcome> {
+    Outcome::of(alloc, threads, words, input, Manner::FREE, Manner::FREE)
 }
 
 /// Checks the rows, and answers how many they are.
-fn check_rows(rt: &HostRuntime) -> Result<usize> {
+fn check_rows<T: Threads + Wait + Sync>(rt: &HostRuntime, threads: &T) -> Result<usize> {
     let index = fs::read_to_string(rt, "rows/INDEX.tsv")?;
     let mut count = 0usize;
     for line in index.lines().skip(1) {
@@ -51,26 +58,37 @@ fn check_rows(rt: &HostRuntime) -> Result<usize> {
         let [name, words, status, told, _] = fields.as_slice() else {
             bail!("the index has a line of another form: {line}");
         };
-        check_row(rt, name, words, status, told).context(format_args!("row {name}"))?;
+        check_row(rt, threads, name, words, status, told).context(format_args!("row {name}"))?;
         count = count.saturating_add(1);
     }
     Ok(count)
 }
 
-fn check_row(rt: &HostRuntime, name: &str, words: &str, status: &str, line: &str) -> Result<()> {
+fn check_row<T: Threads + Wait + Sync>(
+    rt: &HostRuntime,
+    threads: &T,
+    name: &str,
+    words: &str,
+    status: &str,
+    line: &str,
+) -> Result<()> {
     let alloc = rt.alloc();
     let input = fs::read(rt, format!(in alloc; "rows/{name}.in")?)?;
     let wanted = fs::read(rt, format!(in alloc; "rows/{name}.out")?)?;
-    let ran = run_over(alloc, words, input.as_slice())?;
+    let ran = run_over(alloc, threads, words, input.as_slice())?;
     ensure!(ran.output() == wanted.as_slice(), "another report");
     ran.check_end(alloc, status, line)
 }
 
-fn check_example(rt: &HostRuntime, name: &str) -> Result<()> {
+fn check_example<T: Threads + Wait + Sync>(
+    rt: &HostRuntime,
+    threads: &T,
+    name: &str,
+) -> Result<()> {
     let alloc = rt.alloc();
     let input = fs::read(rt, format!(in alloc; "examples/{name}.sql")?)?;
     let wanted = fs::read(rt, format!(in alloc; "examples/{name}.report")?)?;
-    let ran = run_over(alloc, "run", input.as_slice())?;
+    let ran = run_over(alloc, threads, "run", input.as_slice())?;
     ensure!(
         ran.output() == wanted.as_slice(),
         "example {name} gives another report"
@@ -79,16 +97,16 @@ fn check_example(rt: &HostRuntime, name: &str) -> Result<()> {
 }
 
 /// The longest input, of white space alone, and one byte more.
-fn check_longest(alloc: Global) -> Result<()> {
+fn check_longest<T: Threads + Wait + Sync>(alloc: Global, threads: &T) -> Result<()> {
     let mut spaces = vec![in alloc; b' '; 16_777_216]?;
-    let longest = run_over(alloc, "run", spaces.as_slice())?;
+    let longest = run_over(alloc, threads, "run", spaces.as_slice())?;
     ensure!(
         longest.output() == b"report 1\nend\n".as_slice(),
         "the longest input"
     );
     longest.check_end(alloc, "0", "")?;
     spaces.push(b' ')?;
-    let longer = run_over(alloc, "run", spaces.as_slice())?;
+    let longer = run_over(alloc, threads, "run", spaces.as_slice())?;
     ensure!(longer.output().is_empty(), "a longer input is answered");
     longer.check_end(alloc, "1", "E105")
 }

@@ -7,21 +7,23 @@ use crate::machine::Manner;
 use crate::outcome::Outcome;
 use anyhow::{Context, Result, bail, ensure};
 use std::fs;
+use std::sync::Wait;
+use std::thread::Threads;
 
 /// Checks the streams, and says how many there are.
-pub(crate) fn check_all(rt: &HostRuntime) -> Result<()> {
+pub(crate) fn check_all<T: Threads + Wait + Sync>(rt: &HostRuntime, threads: &T) -> Result<()> {
     let index = fs::read_to_string(rt, "rows/STREAMS.tsv")?;
     let mut count = 0usize;
     for line in index.lines().skip(1) {
         let fields: Vec<&str> = line.split('\t').collect(rt.alloc())?;
-        check(rt, fields.as_slice()).context(format_args!("streams {line}"))?;
+        check(rt, threads, fields.as_slice()).context(format_args!("streams {line}"))?;
         count = count.saturating_add(1);
     }
     println!(rt; "{count} streams")?;
     Ok(())
 }
 
-fn check(rt: &HostRuntime, fields: &[&str]) -> Result<()> {
+fn check<T: Threads + Wait + Sync>(rt: &HostRuntime, threads: &T, fields: &[&str]) -> Result<()> {
     let alloc = rt.alloc();
     let [
         name,
@@ -40,7 +42,7 @@ fn check(rt: &HostRuntime, fields: &[&str]) -> Result<()> {
     let input = fs::read(rt, format!(in alloc; "rows/{name}.in")?)?;
     let report = fs::read(rt, format!(in alloc; "rows/{name}.out")?)?;
     let (reads, writes) = (manner(read, failing_read)?, manner(written, failing_write)?);
-    let ran = Outcome::of(alloc, "run", input.as_slice(), reads, writes)?;
+    let ran = Outcome::of(alloc, threads, "run", input.as_slice(), reads, writes)?;
     let length = number(length)?;
     ensure!(
         Some(ran.output()) == report.as_slice().get(..length),

@@ -5,5 +5,5 @@
 use std::process::ExitCode;
 
 fn main(rt: HostRuntime) -> ExitCode {
-    ent_command::entangle(&rt).exit_code()
+    ent_command::entangle(&rt, &rt).exit_code()
 }

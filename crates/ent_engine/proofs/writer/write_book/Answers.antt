@@ -4,7 +4,7 @@ use Rattle.ent_book.specs.Tables.{book_seen}
 use Rattle.ent_book.specs.Write.{AppendsBeginning}
 use Rattle.ent_engine.specs.Report.{text_of}
 use Rattle.ent_engine.specs.declared.options.ReportVersion.{ReportVersion}
-use Rattle.ent_engine.proofs.engine.write_book.Goals as goal
+use Rattle.ent_engine.proofs.writer.write_book.Goals as goal
 
 pub returns-in-Two-clause-beginning : goal.returns-in-Two-clause-beginning
 returns-in-Two-clause-beginning g c =
