@@ -19,15 +19,19 @@ use ent_form::FormFault;
 use ent_resolved::resolved_runs_are_legal;
 use ent_semantics::Book;
 use ent_value::{Refusal, Sequence};
+use thiserror::Error;
 
 /// Why a manager isn't closed.
-#[derive(Clone, Copy, Debug, PartialEq, Eq)]
+#[derive(Clone, Copy, Debug, PartialEq, Eq, Error)]
 pub enum CloseFault {
-    /// E501: not all sessions are given, or more.
+    /// Not all sessions are given, or more than there are.
+    #[error("E501: not all sessions are given, or more than there are")]
     SessionsOut,
-    /// E405: a run is on, or a transaction waits for one.
+    /// A run is on, or a transaction waits for one.
+    #[error("E405: a run is on, or a transaction waits for one")]
     NotDone,
-    /// E502: what the sessions hold isn't what the core has.
+    /// What the sessions hold isn't what the core has.
+    #[error("E502: what the sessions hold isn't what the core has")]
     Differs,
 }
 

@@ -29,13 +29,16 @@ use ent_value::Refusal;
 use std::alloc::{AllocError, AllocFailed, Global};
 use std::marker::Model;
 use std::sync::ledger::Book;
+use thiserror::Error;
 
 /// Why a script isn't taken.
-#[derive(Clone, Copy, Debug, PartialEq, Eq)]
+#[derive(Clone, Copy, Debug, PartialEq, Eq, Error)]
 pub enum SubmitFault {
-    /// E406: as many scripts as there may be were submitted before.
+    /// As many scripts as there may be were submitted before.
+    #[error("E406: 10,000 scripts were submitted")]
     Full,
     /// The script's first fault of form.
+    #[error("{0}")]
     Form(FormFault),
 }
 
