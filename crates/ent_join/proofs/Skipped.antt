@@ -50,7 +50,8 @@ pub dead_learnt : (count less place : ℕ) (passes : List Value → Bool) (marks
     → AreDead (length pushed + less) passes before
     → HasLearnt before after place value marks
     → AreDead count passes after
-dead_learnt count less place passes marks old pushed value before after push c is refuted are learnt other another among =
+dead_learnt count less place passes marks old pushed value before after push c is refuted are learnt other another
+    among =
     elim (learnt other another among) [
       | inl kept ↦ dead_on (length pushed + less) count passes before c are other another kept
       | inr new ↦
@@ -94,15 +95,16 @@ none_dead candidates passes count old remaining after value is next dead ends =
 
 -- one value further, where that value is dead
 pub skipping : (candidates : List Value → List Value) (passes : List Value → Bool) (count : ℕ)
-    (old now remaining after : List Value) (marks : List Bool) (value : Value) (old_ticks ticks new_ticks : ℕ)
+    (old now remaining after : List Value) (marks : List Bool) (value : Value) (begun ticks more : ℕ)
     → IsNext remaining after value
     → IsDead count passes (length old) value
-    → IsGoing passes candidates count old now marks remaining old_ticks ticks
-    → IsGoing passes candidates count old now marks after old_ticks new_ticks
-skipping candidates passes count old now remaining after marks value old_ticks ticks new_ticks next dead going = record {
+    → IsGoing passes candidates count old now marks remaining begun ticks
+    → IsGoing passes candidates count old now marks after begun more
+skipping candidates passes count old now remaining after marks value begun ticks more next dead going = record {
   unchanged = going.unchanged;
   width = going.width;
   ascending = ascending_after remaining after value going.ascending next;
   complete = left_skipped passes count old remaining after marks value next dead going.complete;
-  first = λ ends. absurd (none_dead candidates passes count old remaining after value (going.first ends).0 next dead ends);
+  first = λ ends.
+      absurd (none_dead candidates passes count old remaining after value (going.first ends).0 next dead ends);
 }

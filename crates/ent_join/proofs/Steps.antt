@@ -303,7 +303,8 @@ written items new len e =
 
 -- ---- ticks
 
-pub first_among : (remaining after : List Value) (value : Value) → IsNext remaining after value → IsAmong value remaining
+pub first_among : (remaining after : List Value) (value : Value) → IsNext remaining after value
+    → IsAmong value remaining
 first_among remaining after value next = subst (IsAmong value) (sym next.are) (inl refl)
 
 -- where each value leads to a list that passes, the first does

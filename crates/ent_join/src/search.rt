@@ -1,5 +1,6 @@
 //! A search for the least list of values, one value after the other, the least first. Where all values of a place fail,
-//! it goes back to the last place that had to do with it. A value that fails whatever comes before it isn't tried again.
+//! it goes back to the last place that had to do with it. A value that fails whatever comes before it isn't tried
+//! again.
 ghost use Rattle.std.specs.Prelude.{◌≡◌, ◌≤◌, ◌+◌, Bool, false, List, IfOk, MatchOption, OnOk, length, is_some};
 ghost use Rattle.ent_value.specs.declared.value.Value.{Value as Held};
 ghost use Rattle.ent_join.specs.Reason.{IsBegun, IsFollowedFor, IsRefusedFor};

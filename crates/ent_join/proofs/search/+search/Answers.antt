@@ -127,7 +127,8 @@ loop-value-preserved-then-has g t c =
           c.next_value.new.self c.loop-value.gathered.items value c.args.ticks.now c.loop-value.ticks
           c.next_value.new.ticks c.in-Some.ensures.value
           (subst (λ p. IsDead (length old + left) passes p value) place
-          (c.loop-value.invariant.dead c.len-place.result value (c.has.ensures c.if-has.true))) c.loop-value.invariant.going;
+          (c.loop-value.invariant.dead c.len-place.result value (c.has.ensures c.if-has.true)))
+          c.loop-value.invariant.going;
       rooms = c.loop-value.invariant.rooms;
       dead = c.loop-value.invariant.dead;
     }
