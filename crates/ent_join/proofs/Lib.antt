@@ -1,5 +1,7 @@
 pub mod Walked
 pub mod Steps
+pub mod Skipped
+pub mod Learnt
 pub mod Begun
 pub mod Guiding
 pub mod Read

@@ -154,7 +154,7 @@ get_seam [] ys x n e = ap (slice_get (x ∷ ys)) e
 get_seam (z ∷ xs) ys x zero e = absurd (omega arith)
 get_seam (z ∷ xs) ys x (suc n) e = get_seam xs ys x n (omega arith)
 
-agrees_pushed : (marks : List Bool) (old pushed front : List Value) (value next : Value)
+pub agrees_pushed : (marks : List Bool) (old pushed front : List Value) (value next : Value)
     → pushed ≡ old ++ value ∷ [] → length front ≡ length old
     → Agrees marks old front
     → (IsMarked marks (length old) → next ≡ value)
@@ -303,7 +303,8 @@ written items new len e =
 
 -- ---- ticks
 
-first_among : (remaining after : List Value) (value : Value) → IsNext remaining after value → IsAmong value remaining
+pub first_among : (remaining after : List Value) (value : Value) → IsNext remaining after value
+    → IsAmong value remaining
 first_among remaining after value next = subst (IsAmong value) (sym next.are) (inl refl)
 
 -- where each value leads to a list that passes, the first does

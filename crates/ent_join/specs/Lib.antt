@@ -1,6 +1,7 @@
 pub mod Plans
 pub mod Cursor
 pub mod Reason
+pub mod Dead
 pub mod Search
 pub mod Slots
 pub mod Going

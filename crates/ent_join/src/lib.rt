@@ -4,12 +4,14 @@
 //! plan's statements, or there is none. [`first_with`] answers the same and counts the values that the search was given
 //! in `Ticks`. The search gives values to the plan's classes one after the other, the least first, and leaves a
 //! beginning as soon as a sub-select's result, a test or a kind refuses it. Where all values of a class fail it goes back
-//! to the last class that had to do with it. Plans and their members are passed on by their names.
+//! to the last class that had to do with it; a value that fails whatever the classes before have isn't tried again.
+//! Plans and their members are passed on by their names.
 #![tactic(auto)]
 
 mod asked;
 mod choice;
 mod cursor;
+mod dead;
 mod frame;
 mod index;
 mod keyed;

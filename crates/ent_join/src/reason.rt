@@ -1,7 +1,8 @@
 //! Marks of places, and room for them.
-ghost use Rattle.std.specs.Prelude.{◌≡◌, ◌<◌, IfOk, List, Bool, OnOk, length};
+ghost use Rattle.std.specs.Prelude.{◌≡◌, ◌<◌, ◌≤◌, true, IfOk, List, Bool, OnOk, length};
 ghost use Rattle.std.specs.List.{AllByRecursion};
 ghost use Rattle.ent_join.specs.Reason.{AreMarkedIn, IsMarked};
+ghost use Rattle.ent_join.specs.Dead.{IsNoneBefore};
 
 use std::alloc::{AllocError, Global};
 use std::marker::Model;
@@ -48,6 +49,19 @@ pub(crate) fn set_all(marks: &mut [bool], from: &[bool])
     for place in 0..marks.len() {
         marks[place] = from[place];
     }
+}
+
+/// Whether no place before one is marked.
+pub(crate) fn is_none_before(marks: &[bool], place: usize) -> bool
+    requires { place ≤ length marks.now }
+    ensures { result ≡ true → IsNoneBefore marks.now place }
+{
+    for before in 0..place {
+        if marks[before] {
+            return false;
+        }
+    }
+    true
 }
 
 /// Takes all marks away.

@@ -1,11 +1,14 @@
 //! A search for the least list of values, one value after the other, the least first. Where all values of a place fail,
-//! it goes back to the last place that had to do with it.
+//! it goes back to the last place that had to do with it. A value that fails whatever comes before it isn't tried
+//! again.
 ghost use Rattle.std.specs.Prelude.{◌≡◌, ◌≤◌, ◌+◌, Bool, false, List, IfOk, MatchOption, OnOk, length, is_some};
 ghost use Rattle.ent_value.specs.declared.value.Value.{Value as Held};
 ghost use Rattle.ent_join.specs.Reason.{IsBegun, IsFollowedFor, IsRefusedFor};
+ghost use Rattle.ent_join.specs.Dead.{AreDead};
 ghost use Rattle.ent_join.specs.Search.{IsGuide, IsLeast, IsSearched, NoDeadEnds, NonePasses, AreTicks};
 
 use crate::cursor::Cursor;
+use crate::dead::Dead;
 use crate::reason::{Rooms, add_all, clear, set_all};
 use ent_value::{Row, Ticks, Value};
 use std::alloc::{AllocError, Global};
@@ -31,7 +34,7 @@ pub(crate) trait Guide {
 }
 
 /// Looks for the least list that passes and goes on with `left` more values, and leaves it where there is one. Where
-/// there is none, `reason` marks the places for which there is none.
+/// there is none, `reason` marks the places for which there is none. Values that are found dead are kept in `dead`.
 fn search<G: Guide>(
     alloc: Global,
     guide: &G,
@@ -39,15 +42,18 @@ fn search<G: Guide>(
     values: &mut Vec<Value>,
     reason: &mut [bool],
     rooms: &mut Rooms,
+    dead: &mut Dead,
     ticks: &mut Ticks,
 ) -> Result<bool, AllocError>
     requires guide { IsGuide (length values.old.items + left) (G.candidates guide.now) (G.passes guide.now) }
     requires begun { IsBegun (G.passes guide.now) values.old.items }
     requires places { length reason.old ≡ length values.old.items + left }
     requires rooms { rooms.old ≡ length values.old.items + left }
+    requires dead { AreDead (length values.old.items + left) (G.passes guide.now) dead.old }
     ensures found { IfOk result
         (IsSearched (G.passes guide.now) left values.old.items values.new.items reason.new) }
     ensures rooms { rooms.new ≡ rooms.old }
+    ensures dead { OnOk result (AreDead (length values.old.items + left) (G.passes guide.now) dead.new) }
     ensures ticks { NoDeadEnds (length values.old.items + left) (G.candidates guide.now) (G.passes guide.now)
         → IfOk result (AreTicks left ticks.old ticks.new) }
 {
@@ -62,8 +68,11 @@ fn search<G: Guide>(
     let mut gathered = rooms.take(alloc)?;
     let mut cursor = guide.candidates_after(values.as_slice(), gathered.as_mut_slice());
     while let Some(value) = cursor.next_value(ticks) {
+        if dead.has(place, value) {
+            continue;
+        }
         values.push(value.copy(alloc)?)?;
-        if search(alloc, guide, left - 1, values, reason, rooms, ticks)? {
+        if search(alloc, guide, left - 1, values, reason, rooms, dead, ticks)? {
             return Ok(true);
         }
         let _ = values.pop();
@@ -71,6 +80,7 @@ fn search<G: Guide>(
             rooms.give_back(gathered)?;
             return Ok(false);
         }
+        dead.learn(alloc, place, value, reason)?;
         add_all(gathered.as_mut_slice(), reason);
     }
     set_all(reason, gathered.as_slice());
@@ -94,6 +104,7 @@ pub(crate) fn least<G: Guide>(
     let mut values = Vec::new(alloc);
     let mut rooms = Rooms::new(alloc, count);
     let mut reason = rooms.take(alloc)?;
+    let mut dead = Dead::new(alloc, count)?;
     if search(
         alloc,
         guide,
@@ -101,6 +112,7 @@ pub(crate) fn least<G: Guide>(
         &mut values,
         reason.as_mut_slice(),
         &mut rooms,
+        &mut dead,
         ticks,
     )? {
         Ok(Some(Row::from_vec(values)))

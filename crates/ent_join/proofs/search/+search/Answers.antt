@@ -1,9 +1,11 @@
 use Rattle.std.proofs.Common.{◌≡◌, ◌+◌, ◌-◌, ◌∷◌, ◌++◌, true, false, [], refl, ap, subst, sym, ◌∙◌, arith, length}
 use Rattle.std.specs.Prelude.{vec_len, slice_index_or}
+use Rattle.ent_join.specs.Dead.{IsDead}
 use Rattle.ent_join.specs.Reason.{AreMarkedIn}
 use Rattle.ent_join.proofs.Steps.{searched_with, searched_none, exhausted, pushed_is}
 use Rattle.ent_join.proofs.Steps.{popped, no_dead_end, ends_on, search_ends, ticked_with, ticked_one, jumped, guide_on, begun_on}
 use Rattle.ent_join.proofs.Steps.{pushed_count, going_on}
+use Rattle.ent_join.proofs.Skipped.{dead_on, dead_learnt, skipping}
 use Rattle.ent_value.specs.Ticks.{ticked}
 use Rattle.ent_join.proofs.search.+search.Goals as goal
 
@@ -38,7 +40,11 @@ search-requires g t c = λ κs lives.
             (
               c.loop-value.auto.reason
                   ∙ (c.may_pass.auto.reason ∙ (c.clear.auto.marks ∙ (c.requires.places ∙ count))),
-              c.loop-value.invariant.rooms ∙ (c.requires.rooms ∙ count),
+              (
+                c.loop-value.invariant.rooms ∙ (c.requires.rooms ∙ count),
+                dead_on (length old + left) (length c.push.new.self.items + (left - 1)) passes c.loop-value.dead count
+                    c.loop-value.invariant.dead,
+              ),
             ),
           ),
         ),
@@ -108,6 +114,25 @@ returns-then-not-reason-place-clause-ticks g t c = λ ends.
     c.loop-value.cursor c.next_value.new.self c.search.new.reason value (omega arith) refl push (now.first ends).0
     c.in-Some.ensures.value none.1 ends)
 
+pub loop-value-preserved-then-has : goal.loop-value-preserved-then-has
+loop-value-preserved-then-has g t c =
+    let passes = g.G.Guide.passes c.args.guide.now in
+    let candidates = g.G.Guide.candidates c.args.guide.now in
+    let old = c.args.values.now.items in
+    let left = c.args.left in
+    let value = c.in-Some.value.now in
+    let place : c.len-place.result ≡ length old = c.len-place.ensures ∙ c.args.values.now.ok.0 in
+    record {
+      going = skipping candidates passes (length old + left) old c.loop-value.values.items c.loop-value.cursor
+          c.next_value.new.self c.loop-value.gathered.items value c.args.ticks.now c.loop-value.ticks
+          c.next_value.new.ticks c.in-Some.ensures.value
+          (subst (λ p. IsDead (length old + left) passes p value) place
+          (c.loop-value.invariant.dead c.len-place.result value (c.has.ensures c.if-has.true)))
+          c.loop-value.invariant.going;
+      rooms = c.loop-value.invariant.rooms;
+      dead = c.loop-value.invariant.dead;
+    }
+
 pub loop-value-preserved : goal.loop-value-preserved
 loop-value-preserved g t c =
     let passes = g.G.Guide.passes c.args.guide.now in
@@ -131,6 +156,10 @@ loop-value-preserved g t c =
           c.as_mut_slice-in-Some.ensures.value c.add_all.auto.marks c.loop-value.gathered.ok.0
           c.add_all.ensures.kept c.add_all.ensures.more c.in-Some.ensures.value none.1 now;
       rooms = c.in_ok-search.ensures.rooms ∙ c.loop-value.invariant.rooms;
+      dead = dead_learnt (length old + left) (left - 1) c.len-place.result passes c.search.new.reason old
+          c.push.new.self.items value c.search.new.dead c.learn.new.self push
+          (sym (pushed_count left (left - 1) old c.push.new.self.items value (omega arith) push))
+          (c.len-place.ensures ∙ c.args.values.now.ok.0) none.1 c.in_ok-search.ensures.dead c.in_ok-learn.ensures;
     }
 
 pub returns-clause-found : goal.returns-clause-found
