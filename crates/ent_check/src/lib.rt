@@ -1,0 +1,9 @@
+//! The rules of a report, checked over what it tells.
+//!
+//! A caller may rely on it that each rule names exactly what the definitions of ent_rules find first, and that only
+//! want of memory keeps it from that.
+#![tactic(auto)]
+
+mod journal;
+
+pub use journal::journal_finding;
