@@ -12,7 +12,7 @@ use ent_tree::{End, Script};
 use std::alloc::{AllocError, Global};
 
 /// The number that a transaction committed with.
-fn commit_number(told: &Told) -> Option<u64>
+pub(crate) fn commit_number(told: &Told) -> Option<u64>
     ensures { result ≡ commit_number told.now.fate }
 {
     match told.fate {

@@ -5,5 +5,9 @@
 #![tactic(auto)]
 
 mod journal;
+mod member;
+mod post;
 
 pub use journal::journal_finding;
+pub use member::is_entangled_statement;
+pub use post::are_offered;
