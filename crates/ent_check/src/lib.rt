@@ -7,7 +7,9 @@
 mod journal;
 mod member;
 mod post;
+mod seat;
 
 pub use journal::journal_finding;
 pub use member::is_entangled_statement;
 pub use post::are_offered;
+pub use seat::{Seats, take_seat};

@@ -1,4 +1,4 @@
-use Rattle.std.proofs.Common.{◌≡◌, ◌<◌, ◌≤◌, ◌+◌, true, false, length, sym, ap, subst, ◌∙◌, arith, rules, is_some, min}
+use Rattle.std.proofs.Common.{◌≡◌, ◌<◌, ◌≤◌, ◌+◌, length, sym, ap, subst, ◌∙◌, arith, rules, is_some, min}
 use Rattle.ent_rules.specs.Account.{commit_number}
 use Rattle.ent_check.proofs.Numbers.{CountedBefore, counted_all, counted_off, counted_on}
 use Rattle.ent_check.proofs.journal.commit_count.Goals as goal

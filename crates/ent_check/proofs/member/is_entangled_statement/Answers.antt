@@ -26,6 +26,8 @@ returns c =
     let low : i < length scripts = grind (arith, rules) in
     let low_told : i < length told = grind (arith, rules) in
     let is : member.tx ≡ 1 + i = grind (arith, rules) in
+    let s = c.index-scripts-index.result in
+    let t = c.index-transactions-index.result in
     c.has_entangled.ensures
-    ∙ sym (decided_here member i scripts told c.index-scripts-index.result c.index-transactions-index.result low low_told
-    is c.index-scripts-index.is c.index-transactions-index.is)
+    ∙ sym (decided_here member i scripts told s t low low_told is c.index-scripts-index.is
+    c.index-transactions-index.is)
