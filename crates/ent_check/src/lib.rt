@@ -1,7 +1,7 @@
-//! The rules of a report, checked over what it tells.
+//! Parts of a check of what a report tells, against the definitions of ent_rules.
 //!
-//! A caller may rely on it that each rule names exactly what the definitions of ent_rules find first, and that only
-//! want of memory keeps it from that.
+//! The rule of the journal is checked whole. Of the rules of joint answers and of postconditions there are the parts
+//! that a check will call; no call here answers for a whole report yet.
 #![tactic(auto)]
 
 mod journal;
