@@ -1,0 +1,4 @@
+pub mod Accounts
+pub mod Members
+pub mod Numbers
+pub mod Seats
