@@ -1,0 +1,239 @@
+//! The manager.
+ghost use Rattle.std.specs.Prelude.{◌≡◌, ◌≢◌, ◌-◌, ◌<◌, ◌≤◌, ◌==◌, ◌∷◌};
+ghost use Rattle.std.specs.Prelude.{◌↔◌, None, Some, IfErr, IfOk, IfSome, OnErr, OnOk};
+ghost use Rattle.std.specs.Prelude.{find, length, replicate, vec_len};
+ghost use Rattle.ent_book.specs.Tables.{book_seen};
+ghost use Rattle.ent_core.specs.Play.{input_fault};
+ghost use Rattle.ent_desk.specs.Closed.{IsClosedBook};
+ghost use Rattle.ent_desk.specs.Opened.{first_session, other_session};
+ghost use Rattle.ent_desk.specs.Seen.{GetsReceipts, with_ticket};
+ghost use Rattle.ent_desk.specs.Told.{fate_of};
+ghost use Rattle.ent_desk.specs.declared.closing.CloseFault.TheVariants.{SessionsOut};
+ghost use Rattle.ent_form.specs.declared.fault.FormFault.{FormFault};
+ghost use Rattle.ent_value.specs.declared.refusal.Refusal.TheVariants.{Fault};
+
+use crate::gate::Gate;
+use ent_book::NamedTable;
+use ent_desk::{
+    Advance, Blanks, CloseFault, Desk, Naming, NotSubmitted, Seats, Session, Stopped, open,
+};
+use ent_eval::{Done, Job, evaluate};
+use ent_form::FormFault;
+use ent_group::Tx;
+use ent_semantics::{Book, Fate};
+use ent_tree::{Duplicate, Input, Script};
+use ent_value::{Refusal, Sequence};
+use std::alloc::{AllocError, Global};
+use std::sync::{Mutex, Wait};
+
+/// How far a call of [`Manager::work`] came.
+#[derive(Clone, Copy, Debug, PartialEq, Eq)]
+pub enum Turn {
+    /// Something moved.
+    Moved,
+    /// Another session's job must come first.
+    Idle,
+    /// Every transaction has its fate.
+    Done,
+}
+
+/// One lock over a core, for several clients, each with a session of its own. `sessions` counts them.
+#[derive(Drop)]
+pub struct Manager<L: Naming, G: Gate> {
+    alloc: Global,
+    desk: Mutex<Desk<L>>,
+    gate: G,
+    pub sessions: usize,
+    ghost some: { 0 < sessions },
+    ghost scripts: { sessions ≡ L.Scripts.seats },
+    ghost entries: { sessions ≡ L.Entries.seats },
+}
+
+/// A manager that isn't closed, with its sessions, as they were, and why.
+#[derive(Drop)]
+pub struct NotClosed<L: Naming, G: Gate> {
+    pub manager: Manager<L, G>,
+    pub sessions: Vec<Session<L>>,
+    pub refusal: Refusal<CloseFault>,
+}
+
+impl<L: Naming, G: Gate> Manager<L, G> {
+    /// A manager over an input, whose scripts are submitted, in order, and so many sessions, the first of which has
+    /// their tickets; else the input's first fault of form. Each ledger of `blank` has a part for each session. It
+    /// waits for nobody.
+    pub fn open(
+        alloc: Global,
+        blank: Blanks,
+        input: Input,
+        gate: G,
+        sessions: usize,
+    ) -> Result<(Self, Vec<Session<L>>), Refusal<FormFault>>
+        requires some { 0 < sessions }
+        requires names { (blank.scripts.name ≡ L.Scripts.name) × (blank.entries.name ≡ L.Entries.name) }
+        requires blank { (blank.scripts.parts ≡ sessions) × (blank.entries.parts ≡ sessions) }
+        requires scripts { (L.Scripts.seats ≡ sessions) × (L.Scripts.parts ≡ sessions) }
+        requires entries { (L.Entries.seats ≡ sessions) × (L.Entries.parts ≡ sessions) }
+        ensures manager { IfOk result (λ opened. opened.0.sessions ≡ sessions) }
+        ensures sessions { IfOk result (λ opened. opened.1.items
+            ≡ first_session input.opening input.scripts ∷ replicate (sessions - 1) other_session) }
+        ensures formed { OnOk result (input_fault input.opening input.scripts ≡ None) }
+        ensures fault { IfErr result (λ refusal. (fault : FormFault)
+            → refusal ≡ Fault fault
+            → input_fault input.opening input.scripts ≡ Some fault) }
+    {
+        let (desk, seated) = open::<L>(alloc, blank, input, sessions)?;
+        let manager = Manager {
+            alloc,
+            desk: Mutex::new(desk),
+            gate,
+            sessions,
+        };
+        Ok((manager, seated))
+    }
+
+    /// Submits a script: the number of its transaction, of which the session keeps the ticket. At a refusal the session
+    /// is as it was, and the script comes back.
+    pub fn submit<R: Wait>(
+        &self,
+        rt: &R,
+        session: &mut Session<L>,
+        script: Script,
+    ) -> Result<Tx, NotSubmitted>
+        ensures ok { IfOk result (λ tx. session.new ≡ with_ticket session.old tx script) }
+        ensures err { OnErr result (session.new ≡ session.old) }
+        ensures returned { IfErr result (λ refused. refused.script ≡ script) }
+    {
+        match script.copy(self.alloc) {
+            Ok(copy) => self.desk.lock(rt).submit(session, script, copy),
+            Err(AllocError) => Err(NotSubmitted {
+                script,
+                refusal: Refusal::Memory,
+            }),
+        }
+    }
+
+    /// Goes on with what is to be done, whoever submitted it: with what memory stopped, else with the first event that
+    /// moves. A job that is lent is done with no lock held, behind the gate. The session keeps the receipts of all
+    /// members of a group that its step committed. Where memory runs out, what was stopped is kept, and the next call
+    /// goes on with it.
+    pub fn work<R: Wait>(&self, rt: &R, session: &mut Session<L>) -> Result<Turn, AllocError>
+        ensures { GetsReceipts session.old session.new }
+    {
+        match session.take_stopped() {
+            Some(Stopped::Job(job)) => self.carry_out(rt, session, job),
+            Some(Stopped::Done(done)) => self.hand_in(rt, session, done),
+            None => self.advance(rt, session),
+        }
+    }
+
+    /// The first event that moves, and where it lends a job, that job.
+    fn advance<R: Wait>(&self, rt: &R, session: &mut Session<L>) -> Result<Turn, AllocError>
+        ensures { GetsReceipts session.old session.new }
+    {
+        let advance = self.desk.lock(rt).advance(self.alloc, session)?;
+        match advance {
+            Advance::Lent(job) => self.carry_out(rt, session, job),
+            Advance::Moved => Ok(Turn::Moved),
+            Advance::Idle => Ok(Turn::Idle),
+            Advance::Done => Ok(Turn::Done),
+        }
+    }
+
+    /// Does a job, behind the gate, with no lock held, and hands its result in.
+    fn carry_out<R: Wait>(
+        &self,
+        rt: &R,
+        session: &mut Session<L>,
+        job: Job,
+    ) -> Result<Turn, AllocError>
+        ensures { session.new ≡ session.old }
+    {
+        self.gate.before(&job);
+        match evaluate(self.alloc, job) {
+            Ok(done) => self.hand_in(rt, session, done),
+            Err(refused) => {
+                session.keep_stopped(Stopped::Job(refused.job));
+                Err(AllocError)
+            }
+        }
+    }
+
+    /// Hands in a result. One that isn't outstanding is dropped.
+    fn hand_in<R: Wait>(
+        &self,
+        rt: &R,
+        session: &mut Session<L>,
+        done: Done,
+    ) -> Result<Turn, AllocError>
+        ensures { session.new ≡ session.old }
+    {
+        let handed = self.desk.lock(rt).hand_in(done);
+        match handed {
+            Ok(()) => Ok(Turn::Moved),
+            Err(refused) => {
+                session.keep_stopped(Stopped::Done(refused.value));
+                Err(AllocError)
+            }
+        }
+    }
+
+    /// What became of a transaction: Committed, as the session's receipt of it says, where it holds one; else the fate
+    /// that it has by now, None where it has none yet.
+    pub fn fate<R: Wait>(&self, rt: &R, session: &Session<L>, tx: Tx) -> Option<Fate>
+        ensures { IfSome (find (λ receipt. receipt.tx == tx) session.now.receipts) (λ receipt.
+            result ≡ Some (fate_of receipt)) }
+    {
+        match session.fate(tx) {
+            Some(fate) => Some(fate),
+            None => self.desk.lock(rt).fate(tx),
+        }
+    }
+
+    /// The book of all, where all sessions are given and every transaction has its fate; the sessions come back. Else
+    /// the manager and the sessions come back, with the reason. It waits for nobody.
+    pub fn close(
+        self,
+        mut sessions: Vec<Session<L>>,
+    ) -> Result<(Book<Sequence<NamedTable>>, Vec<Session<L>>), NotClosed<L, G>>
+        requires { (L.Scripts.seats ≡ L.Scripts.parts) × (L.Entries.seats ≡ L.Entries.parts) }
+        ensures book { IfOk result (λ closed. IsClosedBook (book_seen closed.0) sessions.items) }
+        ensures same { IfOk result (λ closed. closed.1.items ≡ sessions.items) }
+        ensures all_given { OnOk result (vec_len sessions ≡ self.sessions) }
+        ensures returned { IfErr result (λ refused. refused.sessions.items ≡ sessions.items) }
+        ensures manager { IfErr result (λ refused. refused.manager.sessions ≡ self.sessions) }
+        ensures sessions_out { IfErr result (λ refused.
+            (refused.refusal ≡ Fault SessionsOut) ↔ (vec_len sessions ≢ self.sessions)) }
+    {
+        let Manager {
+            alloc,
+            desk,
+            gate,
+            sessions: count,
+        } = self;
+        if sessions.len() != count {
+            return Err(NotClosed {
+                manager: Manager {
+                    alloc,
+                    desk,
+                    gate,
+                    sessions: count,
+                },
+                sessions,
+                refusal: Refusal::Fault(CloseFault::SessionsOut),
+            });
+        }
+        match desk.into_inner().close(sessions.as_mut_slice()) {
+            Ok(book) => Ok((book, sessions)),
+            Err(refused) => Err(NotClosed {
+                manager: Manager {
+                    alloc,
+                    desk: Mutex::new(refused.desk),
+                    gate,
+                    sessions: count,
+                },
+                sessions,
+                refusal: refused.refusal,
+            }),
+        }
+    }
+}
