@@ -1,0 +1,64 @@
+//! What the service begins with, and what each client wants.
+
+/// The tables, and the rows that stand in them at first.
+pub(crate) const OPENING: &str = "CREATE TABLE Flights (fno INT, dest TEXT);
+CREATE TABLE Bookings (who TEXT, fno INT);
+CREATE TABLE Seats (seat TEXT, who TEXT);
+CREATE TABLE Changes (who TEXT, seat TEXT);
+CREATE TABLE Sales (who TEXT, fno INT);
+INSERT INTO Flights VALUES (122, 'LA');
+INSERT INTO Flights VALUES (123, 'LA');
+INSERT INTO Flights VALUES (136, 'Paris');
+INSERT INTO Seats VALUES ('12A', 'Ann');
+INSERT INTO Seats VALUES ('14C', 'Bob');
+INSERT INTO Seats VALUES ('20F', 'Cleo');
+";
+
+/// Two friends who want one flight to LA, whichever it is.
+pub(crate) const FRIENDS: &str = "BEGIN TRANSACTION;
+SELECT 'Mickey', fno AS @f INTO ANSWER Flying
+  WHERE fno IN (SELECT fno FROM Flights WHERE dest = 'LA') AND ('Minnie', fno) IN ANSWER Flying CHOOSE 1;
+INSERT INTO Bookings VALUES ('Mickey', @f);
+COMMIT;
+BEGIN TRANSACTION;
+SELECT 'Minnie', fno AS @f INTO ANSWER Flying
+  WHERE fno IN (SELECT fno FROM Flights WHERE dest = 'LA') AND ('Mickey', fno) IN ANSWER Flying CHOOSE 1;
+INSERT INTO Bookings VALUES ('Minnie', @f);
+COMMIT;
+";
+
+/// Three who trade seats in a ring: each moves only if another one takes the seat that is left.
+pub(crate) const TRADERS: &str = "BEGIN TRANSACTION;
+SELECT 'Ann', seat AS @seat INTO ANSWER Moves
+  WHERE seat IN (SELECT seat FROM Seats WHERE who = 'Bob') AND own IN (SELECT seat FROM Seats WHERE who = 'Ann')
+    AND ('Cleo', own) IN ANSWER Moves CHOOSE 1;
+INSERT INTO Changes VALUES ('Ann', @seat);
+COMMIT;
+BEGIN TRANSACTION;
+SELECT 'Bob', seat AS @seat INTO ANSWER Moves
+  WHERE seat IN (SELECT seat FROM Seats WHERE who = 'Cleo') AND own IN (SELECT seat FROM Seats WHERE who = 'Bob')
+    AND ('Ann', own) IN ANSWER Moves CHOOSE 1;
+INSERT INTO Changes VALUES ('Bob', @seat);
+COMMIT;
+BEGIN TRANSACTION;
+SELECT 'Cleo', seat AS @seat INTO ANSWER Moves
+  WHERE seat IN (SELECT seat FROM Seats WHERE who = 'Ann') AND own IN (SELECT seat FROM Seats WHERE who = 'Cleo')
+    AND ('Bob', own) IN ANSWER Moves CHOOSE 1;
+INSERT INTO Changes VALUES ('Cleo', @seat);
+COMMIT;
+";
+
+/// One whose partner never comes.
+pub(crate) const LONER: &str = "BEGIN TRANSACTION WITHIN 3 RUNS;
+SELECT 'Donald', fno AS @f INTO ANSWER Flying
+  WHERE fno IN (SELECT fno FROM Flights WHERE dest = 'Paris') AND ('Daisy', fno) IN ANSWER Flying CHOOSE 1;
+INSERT INTO Bookings VALUES ('Donald', @f);
+COMMIT;
+";
+
+/// An ordinary buyer.
+pub(crate) const BUYER: &str = "BEGIN TRANSACTION;
+INSERT INTO Sales VALUES ('Goofy', 136);
+SELECT fno FROM Sales WHERE who = 'Goofy';
+COMMIT;
+";

@@ -1,0 +1,132 @@
+//! A reader of one table is held at the gate until a writer of another has committed.
+ghost use Rattle.std.specs.Prelude.{◌≡◌};
+
+use crate::gates::{Flags, Hold};
+use anyhow::{Context, Result, ensure};
+use ent_semantics::Fate;
+use ent_serve::{Blanks, Both, Manager, Naming, Seats, Session, Turn};
+use ent_sql::parse_input;
+use std::alloc::{AllocError, Global};
+use std::marker::Brand;
+use std::sync::Wait;
+use std::sync::ledger::Blank;
+use std::thread;
+use std::thread::Threads;
+
+const OPENING: &str = "CREATE TABLE A (x INT); CREATE TABLE B (x INT); INSERT INTO A VALUES (1);";
+
+const SCRIPTS: &str = "BEGIN TRANSACTION; SELECT * FROM A; COMMIT;
+BEGIN TRANSACTION; INSERT INTO B VALUES (7); COMMIT;";
+
+/// Works until nothing is left, and releases the first transaction once the session has the second one's receipt.
+fn work_on<'a, L: Naming, R: Wait>(
+    rt: &R,
+    manager: &Manager<L, Hold<'a>>,
+    flags: &Flags,
+    mut session: Session<L>,
+) -> Session<L> {
+    for _ in rt.forever() {
+        match manager.work(rt, &mut session) {
+            Ok(Turn::Done) => break,
+            Ok(Turn::Idle) => thread::yield_now(),
+            Ok(Turn::Moved) => {}
+            Err(AllocError) => break,
+        }
+        if session.fate(2).is_some() {
+            flags.release();
+        }
+    }
+    session
+}
+
+/// Whether both fates are told to a session as they are.
+fn are_told<'a, L: Naming, R: Wait>(
+    rt: &R,
+    manager: &Manager<L, Hold<'a>>,
+    session: &Session<L>,
+) -> bool {
+    manager.fate(rt, session, 1) == Some(Fate::Committed { number: 2, runs: 1 })
+        && manager.fate(rt, session, 2) == Some(Fate::Committed { number: 1, runs: 1 })
+}
+
+/// Submits both scripts by the first session.
+fn submit_both<'a, L: Naming, R: Wait>(
+    rt: &R,
+    alloc: Global,
+    manager: &Manager<L, Hold<'a>>,
+    session: &mut Session<L>,
+) -> Result<()> {
+    let input = parse_input(alloc, SCRIPTS)
+        .ok()
+        .context("the scripts can't be read")?;
+    for script in input.scripts.into_vec() {
+        manager
+            .submit(rt, session, script)
+            .ok()
+            .context("a script isn't taken")?;
+    }
+    Ok(())
+}
+
+fn check_of<L: Naming + Send + Sync, R: Threads + Wait + Sync>(
+    rt: &R,
+    alloc: Global,
+    blank: Blanks,
+) -> Result<()>
+    requires names { (blank.scripts.name ≡ L.Scripts.name) × (blank.entries.name ≡ L.Entries.name) }
+    requires blank { (blank.scripts.parts ≡ 2) × (blank.entries.parts ≡ 2) }
+    requires scripts { (L.Scripts.seats ≡ 2) × (L.Scripts.parts ≡ 2) }
+    requires entries { (L.Entries.seats ≡ 2) × (L.Entries.parts ≡ 2) }
+{
+    let flags = Flags::new();
+    let lent = &flags;
+    let input = parse_input(alloc, OPENING)
+        .ok()
+        .context("the opening can't be read")?;
+    let opened = Manager::<L, Hold>::open(alloc, blank, input, Hold { flags: lent }, 2).ok();
+    let (manager, mut sessions) = opened.context("the manager can't be opened")?;
+    if let Some(first) = sessions.first_mut() {
+        submit_both(rt, alloc, &manager, first)?;
+    }
+    let shared = &manager;
+    let work = |session: Session<L>| -> Session<L> { work_on(rt, shared, lent, session) };
+    let sessions = thread::map_vec(rt, sessions, &work)?;
+    ensure!(!flags.gave_up(), "the gate waited for nothing");
+    for session in &sessions {
+        ensure!(are_told(rt, &manager, session), "a fate is another");
+    }
+    let (book, _) = manager
+        .close(sessions)
+        .ok()
+        .context("the manager can't be closed")?;
+    let journal = book.journal.as_slice();
+    ensure!(
+        journal.len() == 2 && journal[0].tx == 2 && journal[1].tx == 1,
+        "another journal"
+    );
+    Ok(())
+}
+
+fn check_by<S: Seats + Send + Sync, E: Seats + Send + Sync, R: Threads + Wait + Sync>(
+    rt: &R,
+    alloc: Global,
+    blank: Blanks,
+) -> Result<()>
+    requires names { (blank.scripts.name ≡ S.name) × (blank.entries.name ≡ E.name) }
+    requires blank { (blank.scripts.parts ≡ 2) × (blank.entries.parts ≡ 2) }
+    requires scripts { (S.seats ≡ 2) × (S.parts ≡ 2) }
+    requires entries { (E.seats ≡ 2) × (E.parts ≡ 2) }
+{
+    check_of::<Both<S, E>, R>(rt, alloc, blank)
+}
+
+pub(crate) fn check<R: Threads + Wait + Sync>(rt: &R, alloc: Global) -> Result<()> {
+    check_by::<Brand, Brand, R>(
+        rt,
+        alloc,
+        Blanks {
+            scripts: Blank::new(2),
+            entries: Blank::new(2),
+        },
+    )
+}
