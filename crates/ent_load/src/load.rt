@@ -30,12 +30,12 @@ pub(crate) struct Load {
     pub(crate) longest: Duration,
 }
 
-/// So many scripts of one client: each looks an item up, and orders it.
+/// So many scripts of one client: each looks at the stock, and orders an item.
 fn scripts_of(alloc: Global, client: usize, count: usize) -> Result<Vec<Script>> {
     let mut scripts = Vec::new(alloc);
     for item in 0..count {
         let text = format!(in alloc;
-            "BEGIN TRANSACTION; SELECT pieces FROM Stock WHERE item = 1; INSERT INTO Orders VALUES ({client}, {item}); COMMIT;"
+            "BEGIN TRANSACTION; SELECT pieces FROM Stock; INSERT INTO Orders VALUES ({client}, {item}); COMMIT;"
         )?;
         let input = parse_input(alloc, text.as_str()).ok();
         for script in input.context("a script can't be read")?.scripts.into_vec() {

@@ -1,6 +1,6 @@
-//! An ordinary service's load: eight sessions in threads, each of which submits as many scripts as the command line says
-//! while all work. What it prints is the same whatever the schedule; how long it took, and how long a submit waited at
-//! most, goes to standard error.
+//! An ordinary service's load: eight sessions in threads, each of which submits as many scripts as the command line
+//! says while all work. What it prints is the same whatever the schedule; how long it took, and how long a submit waited
+//! at most, goes to standard error.
 #![tactic(auto)]
 
 mod client;
