@@ -41,7 +41,7 @@ fn workers<'a>(alloc: Global) -> Arg<'a> {
         .value_parser(ValueParser::unsigned(0, MOST_WORKERS))
         .default_value("0")
         .help(
-            "How many threads run the scripts, 0 to 64; 0 runs them on one thread. More pay where single statements take long, as joins of large tables do",
+            "How many threads run the scripts, 0 to 64; 0 takes the main one. More pay where single joins take long",
         )
 }
 

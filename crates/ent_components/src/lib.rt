@@ -1,4 +1,5 @@
-//! Which component of a run's posted statements is picked, which statements are one, and whether one more may be posted.
+//! Which component of a run's posted statements is picked, which statements are one, and whether one more may be
+//! posted.
 //!
 //! A caller may rely on it that each call tells what holds of every state in which just these statements are posted: of
 //! the components that can be picked the one with the least first member, whether some statements are a component, and

@@ -35,7 +35,7 @@ pub use closing::{NotClosed, NotDone};
 pub use copies::{answer_copy, answers_copy};
 pub use ent_quiet::Reason;
 pub use event::Event;
-pub use play::Played;
+pub use play::{PlayFault, Played};
 pub use reached::Core;
 pub use reply::Reply;
 pub use standing::Standing;

@@ -19,6 +19,9 @@ use ent_tree::{Input, MOST_SCRIPTS, Script};
 use ent_value::{Limited, Refusal, Sequence};
 use std::alloc::{AllocError, Global};
 
+/// Why an input isn't played, nor a manager opened over it: its first fault of form, or want of memory.
+pub type PlayFault = Refusal<FormFault>;
+
 /// A core, and what it replied to the events that it was given.
 #[derive(Drop)]
 pub struct Played {
@@ -85,7 +88,7 @@ impl Core {
         alloc: Global,
         input: Input,
         events: Sequence<Event>,
-    ) -> Result<Played, Refusal<FormFault>>
+    ) -> Result<Played, PlayFault>
         ensures played { IfOk result (λ played. IsPlayed resolved_forms input.opening input.scripts
             (map event_seen events) (map reply_seen played.replies) played.core) }
         ensures fault { IfErr result (λ refusal. (fault : FormFault)

@@ -19,8 +19,8 @@ use std::io::{Read, Write};
 ///
 /// Reader and writer are handed in unmarked, as [`Watched::new`] makes them, so that their marks tell of this call.
 /// What is written is the report, of the version that is asked for, of the input that the reader had, for a reader that
-/// tells what it has and a writer that tells what it holds. Where the input is refused, nothing is written, and the fault
-/// is the input's first.
+/// tells what it has and a writer that tells what it holds. Where the input is refused, nothing is written, and the
+/// fault is the input's first.
 pub fn run<R: Read, W: Write>(
     alloc: Global,
     reader: &mut Watched<R>,

@@ -17,9 +17,9 @@ use std::io::{Read, Write};
 use std::sync::Wait;
 use std::thread::Threads;
 
-/// As [`crate::run`], where so many workers, each in a thread of its own, run the scripts; there is one at least. It waits for
-/// them, and promises what it does where it returns. Where memory runs out in any of them nothing is written; no further
-/// try is made. Which order of commits the report shows may differ from one call to the next.
+/// As [`crate::run`], where so many workers, each in a thread of its own, run the scripts; there is one at least. It
+/// waits for them, and promises what it does where it returns. Where memory runs out in any of them nothing is written;
+/// no further try is made. Which order of commits the report shows may differ from one call to the next.
 pub fn run_workers<T: Threads + Wait + Sync, R: Read, W: Write>(
     rt: &T,
     alloc: Global,

@@ -15,6 +15,7 @@ mod gate;
 mod manager;
 mod workers;
 
+pub use ent_core::PlayFault;
 pub use ent_desk::{
     Blanks, Both, CloseFault, First, Naming, NotSubmitted, Receipt, Seats, Session, SubmitFault,
     Ticket,

@@ -14,11 +14,11 @@ ghost use Rattle.ent_value.specs.declared.refusal.Refusal.TheVariants.{Fault};
 
 use crate::gate::Gate;
 use ent_book::NamedTable;
+use ent_core::PlayFault;
 use ent_desk::{
     Advance, Blanks, CloseFault, Desk, Naming, NotSubmitted, Seats, Session, Stopped, open,
 };
 use ent_eval::{Done, Job, evaluate};
-use ent_form::FormFault;
 use ent_group::Tx;
 use ent_semantics::{Book, Fate};
 use ent_tree::{Duplicate, Input, Script};
@@ -67,7 +67,7 @@ impl<L: Naming, G: Gate> Manager<L, G> {
         input: Input,
         gate: G,
         sessions: usize,
-    ) -> Result<(Self, Vec<Session<L>>), Refusal<FormFault>>
+    ) -> Result<(Self, Vec<Session<L>>), PlayFault>
         requires some { 0 < sessions }
         requires names { (blank.scripts.name ≡ L.Scripts.name) × (blank.entries.name ≡ L.Entries.name) }
         requires blank { (blank.scripts.parts ≡ sessions) × (blank.entries.parts ≡ sessions) }
