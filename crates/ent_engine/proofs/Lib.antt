@@ -1,4 +1,3 @@
-pub mod Pieces
 pub mod Submitted
 pub mod Ran
 pub mod Written

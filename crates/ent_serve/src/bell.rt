@@ -26,8 +26,16 @@ impl Bell {
         }
     }
 
-    /// Tells of a turn.
+    /// Tells of a turn, and wakes one who waits for it. That is enough: whoever made the turn goes on, and whoever is
+    /// woken and finds something to do wakes the next one.
     pub(crate) fn ring<R: Wait>(&self, rt: &R) {
+        let mut turns = self.turns.lock(rt);
+        turns.count = turns.count.wrapping_add(1);
+        self.rang.notify_one();
+    }
+
+    /// Tells of the last turn, and wakes all.
+    pub(crate) fn ring_out<R: Wait>(&self, rt: &R) {
         let mut turns = self.turns.lock(rt);
         turns.count = turns.count.wrapping_add(1);
         self.rang.notify_all();

@@ -44,7 +44,7 @@ fn work_on<L: Naming, G: Gate, R: Wait>(
         match manager.work(rt, &mut session) {
             Ok(Turn::Moved) => bell.ring(rt),
             Ok(Turn::Done) => {
-                bell.ring(rt);
+                bell.ring_out(rt);
                 break;
             }
             Ok(Turn::Idle) => bell.wait_past(rt, seen),
