@@ -1,0 +1,10 @@
+pub mod InLine
+pub mod Staying
+pub mod Lines
+pub mod Cut
+pub mod Filled
+pub mod Begun
+pub mod BreaksOff
+pub mod Twice
+pub mod Kept
+pub mod Alone

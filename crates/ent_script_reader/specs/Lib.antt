@@ -1,0 +1,4 @@
+pub mod Begins
+pub mod Filling
+pub mod Only
+pub mod Read
