@@ -30,8 +30,8 @@ pub(crate) fn table_at(tables: &[Arc<Table>], number: usize) -> Result<Arc<Table
     Ok(table)
 }
 
-/// The tables of these numbers, shared.
-fn tables_of(
+/// The tables of these numbers, in order, shared.
+pub fn tables_of(
     alloc: Global,
     tables: &[Arc<Table>],
     numbers: &[usize],

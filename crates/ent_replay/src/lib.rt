@@ -12,5 +12,5 @@ mod term;
 
 pub use alike::{same_answer, same_fact, same_rows};
 pub use facts::{bindings_of, facts_of};
-pub use ground::is_grounding;
+pub use ground::{is_grounding, tables_of};
 pub use table::tables_finding;

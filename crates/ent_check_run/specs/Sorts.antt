@@ -1,0 +1,24 @@
+-- Sorts of statements.
+use Rattle.std.specs.Prelude.{List}
+use Rattle.ent_value.specs.declared.value.Kind.{Kind}
+use Rattle.ent_value.specs.declared.value.Value.{Value}
+use Rattle.ent_closed.specs.Kinds.{Fits}
+use Rattle.ent_closed.specs.declared.statement.Statement.{Statement}
+use Rattle.ent_closed.specs.declared.statement.Statement.TheVariants as statements
+
+abbrev pub IsOrdinary : Statement Value → Type 0
+IsOrdinary (statements.Entangled entangled) = ⊥
+IsOrdinary other = Unit {0}
+
+abbrev pub IsSet : Statement Value → Type 0
+IsSet (statements.Set variable expression) = Unit {0}
+IsSet other = ⊥
+
+-- an ordinary statement fits the kinds of the tables that it names; an entangled one puts nothing into them
+abbrev pub CanRun : List (List Kind) → Statement Value → Type 0
+CanRun kinds (statements.Entangled entangled) = Unit {0}
+CanRun kinds (statements.Select select) = Fits kinds (statements.Select select)
+CanRun kinds (statements.Insert table values) = Fits kinds (statements.Insert table values)
+CanRun kinds (statements.Delete table tests) = Fits kinds (statements.Delete table tests)
+CanRun kinds (statements.Update table image tests) = Fits kinds (statements.Update table image tests)
+CanRun kinds (statements.Set variable expression) = Fits kinds (statements.Set variable expression)
