@@ -1,0 +1,9 @@
+mod Ends
+mod Steps
+mod LinesRead
+mod AnswerLines
+mod FrameLines
+mod OpeningSteps
+mod TableLines
+mod TransactionLines
+mod Which

@@ -1,0 +1,134 @@
+//! What is due next.
+ghost use Rattle.std.specs.Prelude.{◌≡◌, ◌↔◌, ℕ, IsTrue, IfSome, IfNone};
+ghost use Rattle.ent_history_form.specs.Draft.{AnswerRows, Free, Heading, OpeningRows, TableRows, rows_due};
+ghost use Rattle.ent_report_draft.specs.View.{HasRoom, due_of};
+
+/// What has to stand next below the lines that stand. `more` says how many rows are due behind the next one.
+pub(crate) enum Due {
+    /// The first line.
+    Heading,
+    /// Nothing of what stands above: the next thing.
+    Free,
+    /// A row of the last table of the opening.
+    OpeningRows {
+        more: u64,
+    },
+    /// A row of the last answer.
+    AnswerRows {
+        more: u64,
+    },
+    /// The line of a member of the last joint answer, by transaction and place, and then those of these, from the last
+    /// to the first.
+    Members {
+        tx: u64,
+        place: u64,
+        more: Vec<(u64, u64)>,
+    },
+    /// A row of the last table at the end.
+    TableRows {
+        more: u64,
+    },
+    /// Nothing: the last line stands.
+    Ended,
+}
+
+/// Written out, so that the crates above call it, and none makes and compiles it anew.
+impl Drop for Due {
+    fn drop(self) {
+        match self {
+            Due::Heading => {}
+            Due::Free => {}
+            Due::OpeningRows { more: _more } => {}
+            Due::AnswerRows { more: _more } => {}
+            Due::Members {
+                tx: _tx,
+                place: _place,
+                more: _more,
+            } => {}
+            Due::TableRows { more: _more } => {}
+            Due::Ended => {}
+        }
+    }
+}
+
+impl Due {
+    pub(crate) fn is_heading(&self) -> bool
+        ensures { IsTrue result ↔ (due_of self.now ≡ Heading) }
+    {
+        matches!(self, Due::Heading)
+    }
+
+    pub(crate) fn is_free(&self) -> bool
+        ensures { IsTrue result ↔ (due_of self.now ≡ Free) }
+    {
+        matches!(self, Due::Free)
+    }
+
+    /// Where a row of the opening is due, how many behind it.
+    pub(crate) fn opening_rows(&self) -> Option<u64>
+        ensures some { IfSome result (λ more. due_of self.now ≡ OpeningRows more) }
+        ensures none { IfNone result ((more : ℕ) → due_of self.now ≡ OpeningRows more → ⊥) }
+    {
+        match self {
+            Due::OpeningRows { more } => Some(*more),
+            _ => None,
+        }
+    }
+
+    /// Where a row of an answer is due, how many behind it.
+    pub(crate) fn answer_rows(&self) -> Option<u64>
+        ensures some { IfSome result (λ more. due_of self.now ≡ AnswerRows more) }
+        ensures none { IfNone result ((more : ℕ) → due_of self.now ≡ AnswerRows more → ⊥) }
+    {
+        match self {
+            Due::AnswerRows { more } => Some(*more),
+            _ => None,
+        }
+    }
+
+    /// Where a row of a table at the end is due, how many behind it.
+    pub(crate) fn table_rows(&self) -> Option<u64>
+        ensures some { IfSome result (λ more. due_of self.now ≡ TableRows more) }
+        ensures none { IfNone result ((more : ℕ) → due_of self.now ≡ TableRows more → ⊥) }
+    {
+        match self {
+            Due::TableRows { more } => Some(*more),
+            _ => None,
+        }
+    }
+
+    /// So many rows of the opening.
+    pub(crate) fn of_opening_rows(count: u64) -> Due
+        ensures { due_of result ≡ rows_due OpeningRows count }
+    {
+        if count == 0 {
+            Due::Free
+        } else {
+            Due::OpeningRows { more: count - 1 }
+        }
+    }
+
+    /// So many rows of an answer.
+    pub(crate) fn of_answer_rows(count: u64) -> Due
+        ensures room { (rows : ℕ) → HasRoom (due_of result) rows }
+        ensures due { due_of result ≡ rows_due AnswerRows count }
+    {
+        if count == 0 {
+            Due::Free
+        } else {
+            Due::AnswerRows { more: count - 1 }
+        }
+    }
+
+    /// So many rows of a table at the end.
+    pub(crate) fn of_table_rows(count: u64) -> Due
+        ensures room { (rows : ℕ) → HasRoom (due_of result) rows }
+        ensures due { due_of result ≡ rows_due TableRows count }
+    {
+        if count == 0 {
+            Due::Free
+        } else {
+            Due::TableRows { more: count - 1 }
+        }
+    }
+}

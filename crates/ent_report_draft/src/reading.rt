@@ -1,0 +1,70 @@
+//! Lines as they are read: what stands in them, or that nothing of the sort does.
+ghost use Rattle.std.specs.Prelude.{◌≡◌, ◌++◌, ℕ};
+ghost use Rattle.std.specs.Char.{is_ascii_digit};
+ghost use Rattle.std.specs.Fmt.{decimal};
+ghost use Rattle.ent_value.specs.Refusal.{Gives};
+ghost use Rattle.ent_line.specs.Written.{Stops};
+ghost use Rattle.ent_report_draft.specs.Reading.{IsPlacedLine, IsRowLine, IsSetLine, IsTableLine, IsTxLine, Reads};
+ghost use Rattle.ent_report_draft.specs.Reading.{whole_row_at};
+
+use ent_line::{LineFault, row, rows_are_read_as_written};
+use ent_report_lines::{
+    counts_are_read_as_written, placed, set, table, transaction, transactions_are_read_as_written,
+};
+use ent_semantics::Fate;
+use ent_value::{Name, Refusal, Row, Value};
+use std::alloc::Global;
+
+/// The line of a transaction: its number and its fate.
+pub(crate) fn tx_line(text: &[u8]) -> Result<(u64, Fate), Refusal<LineFault>>
+    ensures { Reads (IsTxLine text.now) result }
+{
+    transactions_are_read_as_written();
+    transaction(text)
+}
+
+/// The line of this table at the end: how many rows follow.
+pub(crate) fn table_line(name: &Name, text: &[u8]) -> Result<u64, Refusal<LineFault>>
+    ensures { Reads (IsTableLine name.now text.now) result }
+{
+    counts_are_read_as_written();
+    table(name, text)
+}
+
+/// The line of an answer that is a number behind a word that no digit begins: the statement's place, and the number.
+pub(crate) fn placed_line(word: &[u8], text: &[u8]) -> Result<(u64, u64), Refusal<LineFault>>
+    requires { (n : ℕ) → Stops is_ascii_digit (word.now ++ decimal n) }
+    ensures { Reads (IsPlacedLine word.now text.now) result }
+{
+    counts_are_read_as_written();
+    placed(word, text)
+}
+
+/// The line of the answer of a SET: its place, and the value.
+pub(crate) fn set_line(alloc: Global, text: &[u8]) -> Result<(u64, Value), Refusal<LineFault>>
+    ensures { Reads (IsSetLine text.now) result }
+{
+    counts_are_read_as_written();
+    set(alloc, text)
+}
+
+/// A row up to the end of the line.
+#[tactic(auto, unfolding(crate::specs::Reading::whole_row_at))]
+fn whole_row(alloc: Global, text: &[u8]) -> Result<Row, Refusal<LineFault>>
+    ensures { Gives (λ row. row) result (whole_row_at text.now) }
+{
+    let (row, end) = row(alloc, text)?;
+    if !end.is_empty() {
+        drop(row);
+        return Err(Refusal::Fault(LineFault::Misfit));
+    }
+    Ok(row)
+}
+
+/// The row of a line.
+pub(crate) fn row_line(alloc: Global, text: &[u8]) -> Result<Row, Refusal<LineFault>>
+    ensures { Reads (IsRowLine text.now) result }
+{
+    rows_are_read_as_written();
+    whole_row(alloc, text)
+}
