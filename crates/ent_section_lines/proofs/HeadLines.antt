@@ -1,7 +1,7 @@
 -- The line of an answer of heads is read as it is written.
-use Rattle.std.proofs.Common.{◌≡◌, ◌≢◌, ℕ, ◌<◌, ◌≤◌, Bool, true, false, not, eqb, List, [], ◌∷◌, ◌++◌, length, Ok, Err, Result, refl, ap, sym, ◌∙◌, subst, arith, append_assoc, length-append}
+use Rattle.std.proofs.Common.{◌≡◌, ◌≢◌, ℕ, ◌<◌, Bool, not, eqb, List, [], ◌++◌, length, Ok, Result, refl, ap, sym, ◌∙◌, subst, arith, append_assoc, length-append}
 use Rattle.std.specs.Prelude.{codes, slice_index, ◌&&◌}
-use Rattle.std.specs.List.{AllByRecursion, flat_map}
+use Rattle.std.specs.List.{AllByRecursion}
 use Rattle.std.specs.Fmt.{decimal}
 use Rattle.std.proofs.lemmas.Bool.{and_parts}
 use Rattle.std.proofs.lemmas.List.{append-nil}
@@ -13,7 +13,7 @@ use Rattle.ent_semantics.specs.declared.answer.Fact.{Fact}
 use Rattle.ent_book.specs.Report.{fact_text, facts_text}
 use Rattle.ent_line.specs.declared.fault.LineFault.{LineFault}
 use Rattle.ent_line.specs.Pieces.{behind, number_at, row_at, wanted}
-use Rattle.ent_line.specs.Written.{IsNumber, IsRow}
+use Rattle.ent_line.specs.Written.{IsNumber}
 use Rattle.ent_line.proofs.Numbers.{chosen, read_of, is_first, is_rest, number_found, number_again}
 use Rattle.ent_line.proofs.Values.{bind_ok}
 use Rattle.ent_line.proofs.Rows.{behind_found, behind_again, row_found, row_again}
@@ -22,7 +22,7 @@ use Rattle.ent_section_lines.specs.Heads.{IsFact, fact_of, fact_at, facts_at, he
 use Rattle.ent_section_lines.specs.Listing.{listed_at}
 use Rattle.ent_section_lines.specs.Names.{name_at}
 use Rattle.ent_section_lines.proofs.Listing.{listed_found, listed_again, shorter_than_text, nonempty, is_nonempty}
-use Rattle.ent_section_lines.proofs.Names.{both, name_found, name_again}
+use Rattle.ent_section_lines.proofs.Names.{name_found, name_again}
 
 -- ---- a head
 

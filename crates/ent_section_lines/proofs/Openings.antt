@@ -1,5 +1,5 @@
 -- The line of a table of the opening is read as it is written.
-use Rattle.std.proofs.Common.{◌≡◌, ℕ, Bool, true, eqb, List, [], ◌∷◌, ◌++◌, length, Ok, Err, Result, refl, ap, sym, ◌∙◌, subst, arith, append_assoc}
+use Rattle.std.proofs.Common.{◌≡◌, ℕ, Bool, eqb, List, [], ◌++◌, length, Ok, Result, refl, ap, sym, ◌∙◌, subst, arith}
 use Rattle.std.specs.Prelude.{codes, slice_index, ◌&&◌}
 use Rattle.std.specs.Fmt.{decimal}
 use Rattle.std.proofs.lemmas.Bool.{and_parts}
@@ -18,7 +18,7 @@ use Rattle.ent_line.specs.Written.{IsNumber}
 use Rattle.ent_section_lines.specs.Names.{name_at}
 use Rattle.ent_section_lines.specs.Openings.{IsDeclared, are_distinct, columns_at, create_of, opening_at, opening_text}
 use Rattle.ent_section_lines.proofs.Columns.{columns_found, columns_again, distinct_found, distinct_again}
-use Rattle.ent_section_lines.proofs.Names.{both, name_found, name_again}
+use Rattle.ent_section_lines.proofs.Names.{name_found, name_again}
 
 abbrev whole_line : List ℕ → List Column → ℕ × List ℕ → Result (Create × ℕ) LineFault
 whole_line name columns count = wanted (eqb (length count.1) 0 && are_distinct columns) (create_of name columns, count.0)

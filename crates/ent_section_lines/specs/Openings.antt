@@ -1,5 +1,5 @@
 -- How the line of a table of the opening is read, and which lines there are.
-use Rattle.std.specs.Prelude.{◌≡◌, ◌≢◌, ◌≤◌, ◌==◌, ◌&&◌, ℕ, Bool, true, not, List, [], ◌∷◌, ◌++◌, length, Result, Ok, Err, codes}
+use Rattle.std.specs.Prelude.{◌≡◌, ◌≢◌, ◌≤◌, ◌==◌, ◌&&◌, ℕ, Bool, true, not, List, [], ◌∷◌, ◌++◌, length, Result, Ok, codes}
 use Rattle.std.specs.Prelude.{slice_index, AllPairs, if◌then◌else◌}
 use Rattle.std.specs.List.{list_any, AllByRecursion}
 use Rattle.std.specs.Fmt.{decimal}
@@ -12,7 +12,6 @@ use Rattle.ent_tree.specs.declared.limits.TheConstants.{MOST_PARTS}
 use Rattle.ent_semantics.specs.Database.{Name, same_name}
 use Rattle.ent_book.specs.Report2.{columns_text}
 use Rattle.ent_line.specs.declared.fault.LineFault.{LineFault}
-use Rattle.ent_line.specs.declared.fault.LineFault.TheVariants.{Misfit}
 use Rattle.ent_line.specs.Pieces.{Read, behind, number_at, wanted}
 use Rattle.ent_section_lines.specs.Listing.{listed_at, with_one}
 use Rattle.ent_section_lines.specs.Names.{IsName, name_at}

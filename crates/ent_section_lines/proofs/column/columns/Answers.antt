@@ -1,5 +1,4 @@
-use Rattle.std.proofs.Common.{◌≡◌, ◌∙◌, ◌<◌, sym, arith, length}
-use Rattle.std.specs.Prelude.{slice_index}
+use Rattle.std.proofs.Common.{◌∙◌, sym, arith}
 use Rattle.ent_section_lines.specs.Openings.{columns_at}
 use Rattle.ent_section_lines.proofs.Columns.{left_first, left_end, left_fault, left_one}
 use Rattle.ent_section_lines.proofs.column.columns.Goals as goal
