@@ -1,6 +1,6 @@
-mod Reading
-mod Fronts
-mod Numbers
-mod Texts
-mod Values
-mod Rows
+pub mod Reading
+pub mod Fronts
+pub mod Numbers
+pub mod Texts
+pub mod Values
+pub mod Rows

@@ -1,4 +1,4 @@
-mod Steps
+pub mod Steps
 mod Fates
 mod Bindings
 mod Counts

@@ -1,0 +1,7 @@
+mod Listing
+mod Names
+mod Columns
+mod Openings
+mod Scripts
+mod HeadLines
+mod Joints
