@@ -1,11 +1,10 @@
 -- What is found of a statement is what is found of its form, closed; and that keeps kinds.
-use Rattle.std.proofs.Common.{◌≡◌, ℕ, zero, suc, ◌==◌, ◌&&◌, Bool, true, false, cond, List, [], ◌∷◌, ◌++◌, map, length}
-use Rattle.std.proofs.Common.{refl, sym, ap, ◌∙◌, subst, arith, Option, Some, None, Result, Ok, Err, is_some, append-nil}
+use Rattle.std.proofs.Common.{◌≡◌, ℕ, ◌&&◌, Bool, true, false, cond, List, [], ◌∷◌, ◌++◌, map, length}
+use Rattle.std.proofs.Common.{refl, sym, ap, ◌∙◌, subst, Option, Some, None, Result, Ok, Err, is_some}
 use Rattle.std.specs.Prelude.{slice_get}
 use Rattle.std.specs.List.{flat_map}
 use Rattle.std.proofs.lemmas.Bool.{eqb-true}
 use Rattle.ent_value.specs.Refusal.{◌>>=◌}
-use Rattle.ent_value.specs.Value.{kinds_of}
 use Rattle.ent_value.specs.declared.value.Kind.{Kind}
 use Rattle.ent_value.specs.declared.value.Value.{Value}
 use Rattle.ent_tree.specs.declared.declaration.Create.{Create}
@@ -16,11 +15,11 @@ use Rattle.ent_semantics.specs.declared.answer.Answer.{Answer}
 use Rattle.ent_semantics.specs.declared.answer.Failure.{Failure}
 use Rattle.ent_semantics.specs.Database.{Database, Environment}
 use Rattle.ent_semantics.specs.Effect.{Effect}
-use Rattle.ent_semantics.specs.Entangled.{Valuation, is_grounding, heads, posts, written_variables}
-use Rattle.ent_semantics.specs.Serial.{Deed, Sight, is_entangled, seen}
+use Rattle.ent_semantics.specs.Entangled.{Valuation, is_grounding, written_variables}
+use Rattle.ent_semantics.specs.Serial.{Sight, is_entangled, seen}
 use Rattle.ent_semantics.specs.Statement.{statement_meaning}
 use Rattle.ent_closed.specs.Closing.{closed, closed_entangled}
-use Rattle.ent_closed.specs.Form.{Tables, closed_worth, form_heads, form_meaning, form_posts, is_form_grounding}
+use Rattle.ent_closed.specs.Form.{Tables, closed_worth, form_meaning, is_form_grounding}
 use Rattle.ent_closed.specs.Form.{known_worth}
 use Rattle.ent_closed.specs.Kinds.{Fits}
 use Rattle.ent_closed.specs.declared.entangled.Entangled.{Entangled}
@@ -34,7 +33,6 @@ use Rattle.ent_form.specs.Kinds.{Bound}
 use Rattle.ent_form.specs.declared.fault.FormFault.{FormFault}
 use Rattle.ent_kinded.specs.Kinds.{AreKinded, AnswersInKind, HasKinds}
 use Rattle.ent_meant.specs.Tables.{database_of, effect_of, Answers, HaveDistinctColumns}
-use Rattle.ent_rules.specs.Journal.{unless}
 use Rattle.ent_rules.specs.Placed.{Placed, grounding_of, member_at}
 use Rattle.ent_rules.specs.Replay.{ground_finding, is_answered, ungrounded}
 use Rattle.ent_rules.specs.Verdict.{first_of}
@@ -42,13 +40,12 @@ use Rattle.ent_rules.specs.declared.finding.Finding.{Finding}
 use Rattle.ent_rules.specs.declared.finding.Rule.TheVariants as rules
 use Rattle.ent_rules.specs.declared.finding.Thing.TheVariants as things
 use Rattle.ent_select.specs.Worth.{itself}
-use Rattle.ent_check_run.specs.Closed.{IsSeated, Leaves, answer_in, closed_findings, closed_offers, grounding_in, is_told}
+use Rattle.ent_check_run.specs.Closed.{IsSeated, Leaves, answer_in, closed_offers, grounding_in, is_told}
 use Rattle.ent_check_run.specs.Closed.{seat_findings}
-use Rattle.ent_check_run.specs.Alike.{IsAlike, answer_unless, deed_of, found_closed, told_valuation, tree_findings}
-use Rattle.ent_check_run.specs.Alike.{tree_meaning, tree_offers}
+use Rattle.ent_check_run.specs.Alike.{IsAlike, answer_unless, found_closed, told_valuation, tree_findings}
+use Rattle.ent_check_run.specs.Alike.{tree_offers}
 use Rattle.ent_check_run.specs.Laws.{Laws}
 use Rattle.ent_check.specs.Offers.{offer_of}
-use Rattle.ent_check.specs.declared.offer.Offer.{Offer}
 
 abbrev SameResult : {A E : Type 0} → Result A E → Result A E → Type 0
 SameResult x y = x ≡ y
