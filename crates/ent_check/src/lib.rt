@@ -6,10 +6,12 @@
 
 mod journal;
 mod member;
+mod offer;
 mod post;
 mod seat;
 
 pub use journal::journal_finding;
 pub use member::is_entangled_statement;
+pub use offer::Offer;
 pub use post::are_offered;
 pub use seat::{Seats, take_seat};

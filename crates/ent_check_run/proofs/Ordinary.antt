@@ -1,6 +1,6 @@
 -- An ordinary statement over the tables that it names, and what it makes of all tables.
 use Rattle.std.proofs.Common.{◌≡◌, ◌<◌, ℕ, zero, suc, List, [], ◌∷◌, ◌++◌, map, length, refl, sym, ap, Result, Ok, Err}
-use Rattle.std.proofs.Common.{◌∙◌, subst, arith, Bool, true, false, cond, Option, Some, None}
+use Rattle.std.proofs.Common.{◌∙◌, subst, arith, true, false, cond, Option, Some, None}
 use Rattle.std.specs.Prelude.{nat_le, slice_get, slice_index_or, slice_set}
 use Rattle.std.specs.List.{AllByRecursion}
 use Rattle.std.proofs.lemmas.List.{map-set}

@@ -1,1 +1,4 @@
 pub mod Sorts
+pub mod Closed
+pub mod Alike
+pub mod Laws

@@ -1,0 +1,24 @@
+//! What the entangled statements of a run offer and demand.
+use ent_semantics::Fact;
+use ent_value::Sequence;
+
+/// What an entangled statement offers under its grounding, its heads, and what it demands, its postconditions.
+pub struct Offer {
+    pub tx: u64,
+    /// Its place in the script, counted from 1.
+    pub place: u64,
+    pub heads: Sequence<Fact>,
+    pub posts: Sequence<Fact>,
+}
+
+/// Written out, so that the crates above call it, and none makes and compiles it anew.
+impl Drop for Offer {
+    fn drop(self) {
+        let Offer {
+            tx: _tx,
+            place: _place,
+            heads: _heads,
+            posts: _posts,
+        } = self;
+    }
+}
