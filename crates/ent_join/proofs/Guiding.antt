@@ -30,7 +30,7 @@ both false b h = cc
 -- ---- one index
 
 -- a test is true of a row of a list where it is true of one, and where it is, one that follows from it is
-any_kept : (p q : List Value → Bool) → ((row : List Value) → p row ≡ true → q row ≡ true)
+pub any_kept : (p q : List Value → Bool) → ((row : List Value) → p row ≡ true → q row ≡ true)
     → (rows : List (List Value)) → list_any p rows ≡ true → list_any q rows ≡ true
 any_kept p q h [] e = cc
 any_kept p q h (row ∷ rows) e = by (λ k. any_kept p q h rows k) (p row) refl e
@@ -158,7 +158,7 @@ candidates_have beginning next rest (index ∷ indexes) all held h =
 
 -- ---- tests
 
-may_compare_kept : (comparison : Comparison) (left right early late : Option Value)
+pub may_compare_kept : (comparison : Comparison) (left right early late : Option Value)
     → ((v : Value) → early ≡ Some v → left ≡ Some v) → ((v : Value) → late ≡ Some v → right ≡ Some v)
     → may_compare comparison left right ≡ true → may_compare comparison early late ≡ true
 may_compare_kept comparison left right None late h k e = none late
@@ -186,7 +186,7 @@ may_hold_kept beginning rest test h =
 
 -- ---- together
 
-all_kept : {X : Type 0} (p q : X → Bool) → ((x : X) → p x ≡ true → q x ≡ true) → (xs : List X)
+pub all_kept : {X : Type 0} (p q : X → Bool) → ((x : X) → p x ≡ true → q x ≡ true) → (xs : List X)
     → list_all p xs ≡ true → list_all q xs ≡ true
 all_kept p q h [] e = refl
 all_kept p q h (x ∷ xs) e =

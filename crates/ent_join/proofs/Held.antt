@@ -12,6 +12,7 @@ use Rattle.ent_set.specs.Sets as set
 use Rattle.ent_set.specs.Laws.{any_same_set, from_list-ascending}
 use Rattle.ent_value.specs.declared.value.Kind.{Kind}
 use Rattle.ent_value.specs.declared.value.Value.{Value}
+use Rattle.ent_tree.specs.declared.operand.Test.{Test}
 use Rattle.ent_rel.specs.Relation.{Relation}
 use Rattle.ent_semantics.specs.Term.{no_value}
 use Rattle.ent_closed.specs.declared.entangled.Membership.{Membership}
@@ -22,7 +23,7 @@ use Rattle.ent_plan.specs.Plan.{AreNumbered, slot_kind}
 use Rattle.ent_plan.specs.Tables.{sources_of, tables_named}
 use Rattle.ent_plan.specs.declared.slot.Slot.{Slot}
 use Rattle.ent_plan.specs.declared.slot.Slot.TheVariants.{Fixed, Class}
-use Rattle.ent_join.specs.Asked.{all_indexes, membership_index, select_rows}
+use Rattle.ent_join.specs.Asked.{all_indexes, left_rows, membership_index}
 use Rattle.ent_join.specs.Frame.{has_class}
 use Rattle.ent_join.specs.Index.{Indexed, IsIndexed, column_of}
 use Rattle.ent_join.specs.Keyed.{class_numbers, is_class, term_slot}
@@ -173,18 +174,19 @@ slots_width : (class_kinds : List Kind) (slots : List Slot) → length (map (slo
 slots_width class_kinds [] = refl
 slots_width class_kinds (slot ∷ slots) = ap suc (slots_width class_kinds slots)
 
-module _ (numbers : List ℕ) (tables : List Relation) (class_kinds : List Kind) (class : ℕ) where
+module _ (numbers : List ℕ) (tables : List Relation) (tests : List (Test Slot)) (class_kinds : List Kind)
+    (class : ℕ) where
   held_in : (members : List Posted) (slots : List (List Slot))
       → map (map (slot_kind class_kinds)) slots ≡ map (λ (member : Posted). member.statement.variables) members
       → AreRanged members
       → list_any (is_class class) (flat_map (λ ss. ss) slots) ≡ true
-      → list_any (has_class class) (all_indexes numbers tables members slots) ≡ true
+      → list_any (has_class class) (all_indexes numbers tables tests members slots) ≡ true
   held_in [] [] kinded ranged h = cc
   held_in [] (ss ∷ slots) kinded ranged h = cc
   held_in (member ∷ members) [] kinded ranged h = cc
   held_in (member ∷ members) (ss ∷ slots) kinded ranged h =
-      list_any-append (has_class class) (map (membership_index numbers tables ss) member.statement.atoms)
-      (all_indexes numbers tables members slots)
+      list_any-append (has_class class) (map (membership_index numbers tables tests ss) member.statement.atoms)
+      (all_indexes numbers tables tests members slots)
       ∙ by (list_any (is_class class) ss) refl (λ k. held_in members slots rest ranged.1 k)
       (sym (list_any-append (is_class class) ss (flat_map (λ ss. ss) slots)) ∙ h)
     where
@@ -195,26 +197,28 @@ module _ (numbers : List ℕ) (tables : List Relation) (class_kinds : List Kind)
       rest = cc
 
       here : list_any (is_class class) ss ≡ true
-          → list_any (has_class class) (map (membership_index numbers tables ss) member.statement.atoms) ≡ true
+          → list_any (has_class class) (map (membership_index numbers tables tests ss) member.statement.atoms) ≡ true
       here e =
           let k = slot_with class ss e in
           let l : k.0 < length ss = k.1 in
           let w : length ss ≡ length member.statement.variables = sym (slots_width class_kinds ss) ∙ ap length first in
-          any_through (stands_in k.0) (has_class class) (membership_index numbers tables ss)
+          any_through (stands_in k.0) (has_class class) (membership_index numbers tables tests ss)
           (λ membership stands.
-          column_any class (membership_index numbers tables ss membership).classes
+          column_any class (membership_index numbers tables tests ss membership).classes
           ∙ (index_is (map (term_slot ss) membership.terms)
-          (set.ascending (select_rows numbers tables membership.select))).classes (λ n. n == class)
+          (left_rows numbers tables tests membership.select (map (term_slot ss) membership.terms))).classes
+          (λ n. n == class)
           ∙ tuple_class ss class k.0 k.2 membership.terms stands)
           member.statement.atoms (ranged.0 k.0 (omega arith))
 
       by : (b : Bool) → list_any (is_class class) ss ≡ b
           → (list_any (is_class class) (flat_map (λ ss. ss) slots) ≡ true
-          → list_any (has_class class) (all_indexes numbers tables members slots) ≡ true)
+          → list_any (has_class class) (all_indexes numbers tables tests members slots) ≡ true)
           → (b || list_any (is_class class) (flat_map (λ ss. ss) slots)) ≡ true
-          → (list_any (has_class class) (map (membership_index numbers tables ss) member.statement.atoms)
-          || list_any (has_class class) (all_indexes numbers tables members slots)) ≡ true
-      by true e more h = ap (λ b. b || list_any (has_class class) (all_indexes numbers tables members slots)) (here e)
+          → (list_any (has_class class) (map (membership_index numbers tables tests ss) member.statement.atoms)
+          || list_any (has_class class) (all_indexes numbers tables tests members slots)) ≡ true
+      by true e more h =
+          ap (λ b. b || list_any (has_class class) (all_indexes numbers tables tests members slots)) (here e)
       by false e more h = or_true _ _ (more h)
 
   -- each class of a plan is one of an index
@@ -222,25 +226,26 @@ module _ (numbers : List ℕ) (tables : List Relation) (class_kinds : List Kind)
       → map (map (slot_kind class_kinds)) slots ≡ map (λ (member : Posted). member.statement.variables) members
       → AreRanged members
       → AreNumbered 0 (flat_map (λ ss. ss) slots) (length class_kinds) → class < length class_kinds
-      → list_any (has_class class) (all_indexes numbers tables members slots) ≡ true
+      → list_any (has_class class) (all_indexes numbers tables tests members slots) ≡ true
   held members slots kinded ranged numbered less =
       held_in members slots kinded ranged
       (numbered_has 0 (flat_map (λ ss. ss) slots) (length class_kinds) class numbered (omega arith) less)
 
-indexed_map : (numbers : List ℕ) (tables : List Relation) (ss : List Slot) (memberships : List (Membership Value))
-    (more : List Indexed) → AllByRecursion IsIndexed more
-    → AllByRecursion IsIndexed (map (membership_index numbers tables ss) memberships ++ more)
-indexed_map numbers tables ss [] more h = h
-indexed_map numbers tables ss (membership ∷ memberships) more h = (
+indexed_map : (numbers : List ℕ) (tables : List Relation) (tests : List (Test Slot)) (ss : List Slot)
+    (memberships : List (Membership Value)) (more : List Indexed) → AllByRecursion IsIndexed more
+    → AllByRecursion IsIndexed (map (membership_index numbers tables tests ss) memberships ++ more)
+indexed_map numbers tables tests ss [] more h = h
+indexed_map numbers tables tests ss (membership ∷ memberships) more h = (
   (index_is (map (term_slot ss) membership.terms)
-      (set.ascending (select_rows numbers tables membership.select))).indexed,
-  indexed_map numbers tables ss memberships more h,
+      (left_rows numbers tables tests membership.select (map (term_slot ss) membership.terms))).indexed,
+  indexed_map numbers tables tests ss memberships more h,
 )
 
-pub all_indexed : (numbers : List ℕ) (tables : List Relation) (members : List Posted) (slots : List (List Slot))
-    → AllByRecursion IsIndexed (all_indexes numbers tables members slots)
-all_indexed numbers tables [] slots = tt
-all_indexed numbers tables (member ∷ members) [] = tt
-all_indexed numbers tables (member ∷ members) (ss ∷ slots) =
-    indexed_map numbers tables ss member.statement.atoms (all_indexes numbers tables members slots)
-    (all_indexed numbers tables members slots)
+pub all_indexed : (numbers : List ℕ) (tables : List Relation) (tests : List (Test Slot)) (members : List Posted)
+    (slots : List (List Slot))
+    → AllByRecursion IsIndexed (all_indexes numbers tables tests members slots)
+all_indexed numbers tables tests [] slots = tt
+all_indexed numbers tables tests (member ∷ members) [] = tt
+all_indexed numbers tables tests (member ∷ members) (ss ∷ slots) =
+    indexed_map numbers tables tests ss member.statement.atoms (all_indexes numbers tables tests members slots)
+    (all_indexed numbers tables tests members slots)

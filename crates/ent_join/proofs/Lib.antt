@@ -8,8 +8,10 @@ pub mod Read
 pub mod Between
 pub mod Deduped
 pub mod Keys
+pub mod Left
 pub mod Tied
 pub mod Held
+pub mod Empty
 pub mod Chosen
 pub mod EachClass
 pub mod NoDeadEnd

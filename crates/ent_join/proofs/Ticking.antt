@@ -4,6 +4,7 @@ use Rattle.std.proofs.Common.{refl, sym, ap, subst, ◌∙◌, arith}
 use Rattle.std.specs.Prelude.{◌==◌, ◌||◌, is_some}
 use Rattle.std.specs.List.{AllByRecursion, flat_map, list_any}
 use Rattle.ent_set.specs.Sets as set
+use Rattle.ent_value.specs.Value.{kinds_of}
 use Rattle.ent_value.specs.declared.value.Kind.{Kind}
 use Rattle.ent_value.specs.declared.value.Value.{Value}
 use Rattle.ent_tree.specs.declared.operand.Test.{Test}
@@ -19,7 +20,8 @@ use Rattle.ent_plan.specs.Plan.{IsPlan, Plan, slot_kind}
 use Rattle.ent_plan.specs.Tables.{sources_of, tables_named}
 use Rattle.ent_plan.specs.declared.slot.Slot.{Slot}
 use Rattle.ent_select.specs.Tables.{rows_in}
-use Rattle.ent_join.specs.Asked.{all_indexes, all_tests, membership_index, select_rows, slot_test}
+use Rattle.ent_join.specs.Alone.{is_left}
+use Rattle.ent_join.specs.Asked.{all_indexes, all_tests, left_rows, membership_index, select_rows, slot_test}
 use Rattle.ent_join.specs.Frame.{are_of_kinds, candidates_of, has_class, lets_through}
 use Rattle.ent_join.specs.Index.{Indexed, column_of}
 use Rattle.ent_join.specs.Keyed.{IsIndexOf, is_class, keys_under, term_slot}
@@ -27,6 +29,7 @@ use Rattle.ent_plan.specs.Ranged.{AreRanged}
 use Rattle.ent_join.specs.Row.{AsksForARow}
 use Rattle.ent_join.specs.Search.{AreTicks, NoDeadEnds}
 use Rattle.ent_join.specs.declared.frame.Frame.{Frame}
+use Rattle.ent_join.proofs.Left.{all_of_filter}
 use Rattle.ent_join.proofs.Deduped.{all_alike, all_map, all_members}
 use Rattle.ent_join.proofs.EachClass.{classes_are_variables, kinded, one_list}
 use Rattle.ent_join.proofs.Held.{all_parts, column_any, held, numbered_below, sources_are_named}
@@ -49,7 +52,8 @@ or_none true h = refl
 or_none false h = h
 
 module _ (plan : Plan) (is : IsPlan plan) (tables : List Relation) (frame : Frame)
-    (indexes : frame.indexes ≡ all_indexes (tables_named plan.members) tables plan.members plan.slots)
+    (indexes : frame.indexes ≡ all_indexes (tables_named plan.members) tables (all_tests plan.members plan.slots)
+    plan.members plan.slots)
     (tests : frame.tests ≡ all_tests plan.members plan.slots)
     (of_kinds : frame.kinds ≡ plan.kinds)
     (laid : Tables) (e : rows_of_laid laid (tables_named plan.members) ≡ rows_in tables)
@@ -69,30 +73,37 @@ module _ (plan : Plan) (is : IsPlan plan) (tables : List Relation) (frame : Fram
   columns = map (term_slot one.0) asks.membership.terms
 
   abbrev index : Indexed
-  index = membership_index names tables one.0 asks.membership
+  index = membership_index names tables [] one.0 asks.membership
 
   abbrev given : Rows
   given = select_rows names tables asks.membership.select
 
-  the_index : all_indexes names tables plan.members plan.slots ≡ index ∷ []
-  the_index =
-      (λ i. all_indexes names tables (alone i) (one.1 i))
-      ∙ ap (λ (atoms : List (Membership Value)). map (membership_index names tables one.0) atoms ++ []) asks.only
-
-  no_test : frame.tests ≡ []
-  no_test =
-      tests ∙ (λ i. all_tests (alone i) (one.1 i))
+  none_asked : all_tests plan.members plan.slots ≡ []
+  none_asked =
+      (λ i. all_tests (alone i) (one.1 i))
       ∙ ap (λ (all : List (Test (Term Value))). map (slot_test one.0) all ++ []) asks.no_tests
 
-  indexed : IsIndexOf columns (set.ascending given) index
-  indexed = index_is columns (set.ascending given)
+  the_index : all_indexes names tables (all_tests plan.members plan.slots) plan.members plan.slots ≡ index ∷ []
+  the_index =
+      (λ i. all_indexes names tables (none_asked i) (alone i) (one.1 i))
+      ∙ ap (λ (atoms : List (Membership Value)). map (membership_index names tables [] one.0) atoms ++ []) asks.only
+
+  no_test : frame.tests ≡ []
+  no_test = tests ∙ none_asked
+
+  abbrev left : List (List Value)
+  left = left_rows names tables [] asks.membership.select columns
+
+  indexed : IsIndexOf columns left index
+  indexed = index_is columns left
 
   has_each : (class : ℕ) → class < length ks → list_any (λ n. n == class) index.classes ≡ true
   has_each class less =
       sym (column_any class index.classes)
       ∙ or_none (is_some (column_of class index.classes))
       (ap (list_any (has_class class)) (sym the_index)
-      ∙ held names tables ks class plan.members plan.slots is.kinded ranged is.numbered less)
+      ∙ held names tables (all_tests plan.members plan.slots) ks class plan.members plan.slots is.kinded ranged
+      is.numbered less)
 
   slots_below : AllByRecursion (SlotBelow (length ks)) one.0
   slots_below =
@@ -135,10 +146,11 @@ module _ (plan : Plan) (is : IsPlan plan) (tables : List Relation) (frame : Fram
 
   fit : AllByRecursion (λ key. are_of_kinds ks key ≡ true) index.rows
   fit =
-      all_alike index.rows (keys_under columns index.classes (set.ascending given))
-      (keys_alike (keys_under columns index.classes (set.ascending given))) (λ key. are_of_kinds ks key)
-      (keys_fit ks columns index.classes numbered there (set.ascending given)
-      (rows_of_kinds (map (slot_kind ks) columns) given given_kinds))
+      all_alike index.rows (keys_under columns index.classes left)
+      (keys_alike (keys_under columns index.classes left)) (λ key. are_of_kinds ks key)
+      (keys_fit ks columns index.classes numbered there left
+      (all_of_filter (λ row. kinds_of row ≡ map (slot_kind ks) columns) (is_left [] columns) (set.ascending given)
+      (rows_of_kinds (map (slot_kind ks) columns) given given_kinds)))
 
   -- the search has one tick for each written variable of an answer, and none where there is none
   pub row_ticks : (count old new : ℕ) (found : Bool) → count ≡ length plan.kinds

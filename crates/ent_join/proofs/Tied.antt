@@ -3,12 +3,14 @@ use Rattle.std.proofs.Common.{◌≡◌, ℕ, zero, suc, ◌<◌, Bool, true, fa
 use Rattle.std.proofs.Common.{Some, refl, sym, ap, ◌∙◌}
 use Rattle.std.specs.Prelude.{◌==◌, ◌&&◌, ◌||◌, slice_index_or}
 use Rattle.std.specs.List.{AllByRecursion, cons_option, flat_map, list_all, list_any}
+use Rattle.std.specs.Ordering.{eq_by_cmp}
 use Rattle.std.proofs.lemmas.Bool.{eq-eqb, eqb-true}
 use Rattle.std.proofs.lemmas.List.Folds.{list_all-append}
+use Rattle.std.proofs.lemmas.Map.Views.{any-filter_same}
 use Rattle.std.proofs.lemmas.Option.{slice_get-get_or}
 use Rattle.ent_set.specs.Sets as set
 use Rattle.ent_set.specs.Laws.{contains-ascending}
-use Rattle.ent_value.specs.Value.{kind_of, kinds_of}
+use Rattle.ent_value.specs.Value.{kind_of, kinds_of, row_cmp}
 use Rattle.ent_value.specs.declared.value.Kind.TheVariants as kinds
 use Rattle.ent_value.specs.declared.value.Value.{Value}
 use Rattle.ent_tree.specs.declared.operand.Test.{Test}
@@ -29,10 +31,13 @@ use Rattle.ent_plan.specs.declared.slot.Slot.{Slot}
 use Rattle.ent_plan.specs.declared.slot.Slot.TheVariants.{Fixed, Class}
 use Rattle.ent_select.specs.Tables.{rows_in}
 use Rattle.ent_select.specs.Worth.{value_in}
-use Rattle.ent_join.specs.Asked.{table_at, tables_at, select_rows, membership_index, all_indexes, slot_test, all_tests}
+use Rattle.ent_join.specs.Alone.{is_left}
+use Rattle.ent_join.specs.Asked.{table_at, tables_at, left_rows, select_rows, membership_index, all_indexes}
+use Rattle.ent_join.specs.Asked.{slot_test, all_tests}
 use Rattle.ent_join.specs.Frame.{may_compare, may_hold, slot_there}
 use Rattle.ent_join.specs.Index.{goes_on}
 use Rattle.ent_join.specs.Keyed.{class_numbers, term_slot}
+use Rattle.ent_join.proofs.Left.{tuple_left}
 use Rattle.ent_join.proofs.Keys.{IsBelow, index_is}
 
 both : (a b : Bool) → (a && b) ≡ true → (a ≡ true) × (b ≡ true)
@@ -157,33 +162,6 @@ module _ (laid : Tables) (numbers : List ℕ) (tables : List Relation)
       ap (selection (meets value_in select.tests) (λ row. map (value_in row) select.items))
       (sources_are laid numbers tables e select.sources named)
 
-  membership_is : (slots : List Slot) (membership : Membership Value)
-      → AllByRecursion (SlotBelow (length values)) slots
-      → AllByRecursion (Named numbers) membership.select.sources
-      → goes_on values (membership_index numbers tables slots membership)
-      ≡ membership_holds (λ value. value) laid (valuation slots) membership
-  membership_is slots membership below named =
-      let columns = map (term_slot slots) membership.terms in
-      let rows = select_rows numbers tables membership.select in
-      let tuple = map (slot_value values) columns in
-      (index_is columns (set.ascending rows)).has values (columns_below values slots membership.terms below)
-      ∙ sym (contains-ascending rows tuple)
-      ∙ ap (set.contains rows) (terms_are values slots membership.terms)
-      ∙ ap (λ r. set.contains r (map (term_worth (λ value. value) (valuation slots)) membership.terms))
-      (rows_are membership.select named)
-
-  memberships_are : (slots : List Slot) (memberships : List (Membership Value))
-      → AllByRecursion (SlotBelow (length values)) slots
-      → AllByRecursion (Named numbers) (flat_map (λ membership. membership.select.sources) memberships)
-      → list_all (goes_on values) (map (membership_index numbers tables slots) memberships)
-      ≡ list_all (membership_holds (λ value. value) laid (valuation slots)) memberships
-  memberships_are slots [] below named = refl
-  memberships_are slots (membership ∷ memberships) below named =
-      let more = flat_map (λ (m : Membership Value). m.select.sources) memberships in
-      (λ i. membership_is slots membership below
-      (all_left (Named numbers) membership.select.sources more named) i
-      && memberships_are slots memberships below (all_right (Named numbers) membership.select.sources more named) i)
-
   test_is : (slots : List Slot) (test : Test (Term Value)) → AllByRecursion (SlotBelow (length values)) slots
       → may_hold values (slot_test slots test) ≡ holds (term_worth (λ value. value) (valuation slots)) test
   test_is slots test below =
@@ -204,11 +182,6 @@ module _ (laid : Tables) (numbers : List ℕ) (tables : List Relation)
 
   abbrev Sources : List Posted → List ℕ
   Sources members = flat_map (λ (member : Posted). sources_of member.statement) members
-
-  abbrev pub passes : List Posted → List (List Slot) → Bool
-  passes members slots =
-      list_all (goes_on values) (all_indexes numbers tables members slots)
-      && list_all (may_hold values) (all_tests members slots)
 
   kind_at : (vs : List Value) (number : ℕ)
       → kind_of (slice_index_or vs number no_value) ≡ slice_index_or (kinds_of vs) number kinds.Int
@@ -231,25 +204,6 @@ module _ (laid : Tables) (numbers : List ℕ) (tables : List Relation)
   and_same true false false d = refl
   and_same false b c d = refl
 
-  -- the tests of one statement and those of the others
-  split : (member : Posted) (members : List Posted) (slots : List Slot) (others : List (List Slot))
-      → AllByRecursion (SlotBelow (length values)) slots
-      → AllByRecursion (Named numbers) (sources_of member.statement)
-      → passes (member ∷ members) (slots ∷ others)
-      ≡ ((list_all (membership_holds (λ value. value) laid (valuation slots)) member.statement.atoms
-      && list_all (holds (term_worth (λ value. value) (valuation slots))) member.statement.tests)
-      && passes members others)
-  split member members slots others below named =
-      (λ i. list_all-append (goes_on values) (map (membership_index numbers tables slots) member.statement.atoms)
-      (all_indexes numbers tables members others) i
-      && list_all-append (may_hold values) (map (slot_test slots) member.statement.tests) (all_tests members others) i)
-      ∙ and_same (list_all (goes_on values) (map (membership_index numbers tables slots) member.statement.atoms))
-      (list_all (goes_on values) (all_indexes numbers tables members others))
-      (list_all (may_hold values) (map (slot_test slots) member.statement.tests))
-      (list_all (may_hold values) (all_tests members others))
-      ∙ (λ i. (memberships_are slots member.statement.atoms below named i
-      && tests_are slots member.statement.tests below i) && passes members others)
-
   abbrev Kinded : List Posted → List (List Slot) → Type 0
   Kinded members slots =
       map (map (slot_kind (kinds_of values))) slots ≡ map (λ (member : Posted). member.statement.variables) members
@@ -257,39 +211,113 @@ module _ (laid : Tables) (numbers : List ℕ) (tables : List Relation)
   abbrev Below : List (List Slot) → Type 0
   Below slots = AllByRecursion (AllByRecursion (SlotBelow (length values))) slots
 
-  pub groundings_from : (members : List Posted) (slots : List (List Slot)) → Kinded members slots → Below slots
-      → AllByRecursion (Named numbers) (Sources members) → passes members slots ≡ true
+  -- of groundings the tests hold
+  pub tests_to : (members : List Posted) (slots : List (List Slot)) → Below slots
       → AreGroundings laid members (map (map (slot_value values)) slots)
-  groundings_from [] [] kinded below named h = tt
-  groundings_from [] (slots ∷ others) kinded below named h = cc
-  groundings_from (member ∷ members) [] kinded below named h = cc
-  groundings_from (member ∷ members) (slots ∷ others) kinded below named h =
-      let first : map (slot_kind (kinds_of values)) slots ≡ member.statement.variables = cc in
-      let rest : Kinded members others = cc in
-      let k = both _ _ (sym (split member members slots others below.0
-      (all_left (Named numbers) (sources_of member.statement) (Sources members) named)) ∙ h) in
-      let of_kinds : kinds_of (valuation slots) ≡ member.statement.variables = slot_kinds slots ∙ first in
-      let wide : (length (valuation slots) == length member.statement.variables) ≡ true =
-      eq-eqb _ _ (sym (kinds_width (valuation slots)) ∙ ap length of_kinds) in (
-        record {
-          kinds = of_kinds;
-          grounds = ap (λ b. b
-              && (list_all (membership_holds (λ value. value) laid (valuation slots)) member.statement.atoms
-              && list_all (holds (term_worth (λ value. value) (valuation slots))) member.statement.tests)) wide ∙ k.0;
-        },
-        groundings_from members others rest below.1
-            (all_right (Named numbers) (sources_of member.statement) (Sources members) named) k.1,
-      )
+      → list_all (may_hold values) (all_tests members slots) ≡ true
+  tests_to [] slots below h = refl
+  tests_to (member ∷ members) [] below h = absurd h
+  tests_to (member ∷ members) (slots ∷ others) below h =
+      let k = both _ _ (both _ _ h.0.grounds).1 in
+      list_all-append (may_hold values) (map (slot_test slots) member.statement.tests) (all_tests members others)
+      ∙ (λ i. tests_are slots member.statement.tests below.0 i && list_all (may_hold values) (all_tests members others))
+      ∙ (λ i. k.1 i && list_all (may_hold values) (all_tests members others))
+      ∙ tests_to members others below.1 h.1
 
-  pub groundings_to : (members : List Posted) (slots : List (List Slot)) → Below slots
-      → AllByRecursion (Named numbers) (Sources members)
-      → AreGroundings laid members (map (map (slot_value values)) slots) → passes members slots ≡ true
-  groundings_to [] slots below named h = refl
-  groundings_to (member ∷ members) [] below named h = absurd h
-  groundings_to (member ∷ members) (slots ∷ others) below named h =
-      let k = both _ _ h.0.grounds in
-      split member members slots others below.0
-      (all_left (Named numbers) (sources_of member.statement) (Sources members) named)
-      ∙ (λ i. k.1 i && passes members others)
-      ∙ groundings_to members others below.1
-      (all_right (Named numbers) (sources_of member.statement) (Sources members) named) h.1
+  -- ---- over indexes without the rows that some tests refuse, which hold
+
+  module _ (checks : List (Test Slot)) (hold : list_all (may_hold values) checks ≡ true) where
+    membership_is : (slots : List Slot) (membership : Membership Value)
+        → AllByRecursion (SlotBelow (length values)) slots
+        → AllByRecursion (Named numbers) membership.select.sources
+        → goes_on values (membership_index numbers tables checks slots membership)
+        ≡ membership_holds (λ value. value) laid (valuation slots) membership
+    membership_is slots membership below named =
+        let columns = map (term_slot slots) membership.terms in
+        let rows = select_rows numbers tables membership.select in
+        let tuple = map (slot_value values) columns in
+        let under : AllByRecursion (IsBelow values) (class_numbers columns) =
+        columns_below values slots membership.terms below in
+        (index_is columns (left_rows numbers tables checks membership.select columns)).has values under
+        ∙ any-filter_same (eq_by_cmp row_cmp tuple) (is_left checks columns) true
+        (λ row is. tuple_left values checks columns under hold row is) (set.ascending rows)
+        ∙ sym (contains-ascending rows tuple)
+        ∙ ap (set.contains rows) (terms_are values slots membership.terms)
+        ∙ ap (λ r. set.contains r (map (term_worth (λ value. value) (valuation slots)) membership.terms))
+        (rows_are membership.select named)
+
+    memberships_are : (slots : List Slot) (memberships : List (Membership Value))
+        → AllByRecursion (SlotBelow (length values)) slots
+        → AllByRecursion (Named numbers) (flat_map (λ membership. membership.select.sources) memberships)
+        → list_all (goes_on values) (map (membership_index numbers tables checks slots) memberships)
+        ≡ list_all (membership_holds (λ value. value) laid (valuation slots)) memberships
+    memberships_are slots [] below named = refl
+    memberships_are slots (membership ∷ memberships) below named =
+        let more = flat_map (λ (m : Membership Value). m.select.sources) memberships in
+        (λ i. membership_is slots membership below
+        (all_left (Named numbers) membership.select.sources more named) i
+        && memberships_are slots memberships below (all_right (Named numbers) membership.select.sources more named) i)
+
+    abbrev pub passes : List Posted → List (List Slot) → Bool
+    passes members slots =
+        list_all (goes_on values) (all_indexes numbers tables checks members slots)
+        && list_all (may_hold values) (all_tests members slots)
+
+    -- the tests of one statement and those of the others
+    split : (member : Posted) (members : List Posted) (slots : List Slot) (others : List (List Slot))
+        → AllByRecursion (SlotBelow (length values)) slots
+        → AllByRecursion (Named numbers) (sources_of member.statement)
+        → passes (member ∷ members) (slots ∷ others)
+        ≡ ((list_all (membership_holds (λ value. value) laid (valuation slots)) member.statement.atoms
+        && list_all (holds (term_worth (λ value. value) (valuation slots))) member.statement.tests)
+        && passes members others)
+    split member members slots others below named =
+        (λ i. list_all-append (goes_on values)
+        (map (membership_index numbers tables checks slots) member.statement.atoms)
+        (all_indexes numbers tables checks members others) i
+        && list_all-append (may_hold values) (map (slot_test slots) member.statement.tests)
+        (all_tests members others) i)
+        ∙ and_same
+        (list_all (goes_on values) (map (membership_index numbers tables checks slots) member.statement.atoms))
+        (list_all (goes_on values) (all_indexes numbers tables checks members others))
+        (list_all (may_hold values) (map (slot_test slots) member.statement.tests))
+        (list_all (may_hold values) (all_tests members others))
+        ∙ (λ i. (memberships_are slots member.statement.atoms below named i
+        && tests_are slots member.statement.tests below i) && passes members others)
+
+    pub groundings_from : (members : List Posted) (slots : List (List Slot)) → Kinded members slots → Below slots
+        → AllByRecursion (Named numbers) (Sources members) → passes members slots ≡ true
+        → AreGroundings laid members (map (map (slot_value values)) slots)
+    groundings_from [] [] kinded below named h = tt
+    groundings_from [] (slots ∷ others) kinded below named h = cc
+    groundings_from (member ∷ members) [] kinded below named h = cc
+    groundings_from (member ∷ members) (slots ∷ others) kinded below named h =
+        let first : map (slot_kind (kinds_of values)) slots ≡ member.statement.variables = cc in
+        let rest : Kinded members others = cc in
+        let k = both _ _ (sym (split member members slots others below.0
+        (all_left (Named numbers) (sources_of member.statement) (Sources members) named)) ∙ h) in
+        let of_kinds : kinds_of (valuation slots) ≡ member.statement.variables = slot_kinds slots ∙ first in
+        let wide : (length (valuation slots) == length member.statement.variables) ≡ true =
+        eq-eqb _ _ (sym (kinds_width (valuation slots)) ∙ ap length of_kinds) in (
+          record {
+            kinds = of_kinds;
+            grounds = ap (λ b. b
+                && (list_all (membership_holds (λ value. value) laid (valuation slots)) member.statement.atoms
+                && list_all (holds (term_worth (λ value. value) (valuation slots))) member.statement.tests)) wide ∙ k.0;
+          },
+          groundings_from members others rest below.1
+              (all_right (Named numbers) (sources_of member.statement) (Sources members) named) k.1,
+        )
+
+    pub groundings_to : (members : List Posted) (slots : List (List Slot)) → Below slots
+        → AllByRecursion (Named numbers) (Sources members)
+        → AreGroundings laid members (map (map (slot_value values)) slots) → passes members slots ≡ true
+    groundings_to [] slots below named h = refl
+    groundings_to (member ∷ members) [] below named h = absurd h
+    groundings_to (member ∷ members) (slots ∷ others) below named h =
+        let k = both _ _ h.0.grounds in
+        split member members slots others below.0
+        (all_left (Named numbers) (sources_of member.statement) (Sources members) named)
+        ∙ (λ i. k.1 i && passes members others)
+        ∙ groundings_to members others below.1
+        (all_right (Named numbers) (sources_of member.statement) (Sources members) named) h.1

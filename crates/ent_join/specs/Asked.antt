@@ -1,6 +1,6 @@
 -- What the statements of a plan ask of the values of its classes.
 use Rattle.std.specs.Prelude.{◌≡◌, ◌==◌, ℕ, List, [], ◌∷◌, ◌++◌, map, Option, Some, None, if◌then◌else◌}
-use Rattle.std.specs.List.{cons_option}
+use Rattle.std.specs.List.{cons_option, filter}
 use Rattle.ent_set.specs.Sets as set
 use Rattle.ent_value.specs.declared.value.Value.{Value}
 use Rattle.ent_tree.specs.declared.operand.Test.{Test}
@@ -14,6 +14,7 @@ use Rattle.ent_coordination.specs.Pool.{Posted}
 use Rattle.ent_plan.specs.declared.slot.Slot.{Slot}
 use Rattle.ent_select.specs.Tables.{rows_in}
 use Rattle.ent_select.specs.Worth.{value_in}
+use Rattle.ent_join.specs.Alone.{is_left}
 use Rattle.ent_join.specs.Index.{Indexed}
 use Rattle.ent_join.specs.declared.made.Made.{Made}
 use Rattle.ent_join.specs.Keyed.{index_under, term_slot}
@@ -37,24 +38,30 @@ select_rows numbers tables select =
     selection (meets value_in select.tests) (λ row. map (value_in row) select.items)
     (rows_in (tables_at numbers tables select.sources))
 
--- the index of columns over a sub-select's result
-abbrev pub select_index : List ℕ → List Relation → Select Value → List Slot → Indexed
-select_index numbers tables select columns = index_under columns (set.ascending (select_rows numbers tables select))
+-- those of them, in order, that no test refuses which reads nothing but the columns of a tuple
+abbrev pub left_rows : List ℕ → List Relation → List (Test Slot) → Select Value → List Slot → List (List Value)
+left_rows numbers tables tests select columns =
+    filter (is_left tests columns) (set.ascending (select_rows numbers tables select))
+
+-- the index of columns over them
+abbrev pub select_index : List ℕ → List Relation → List (Test Slot) → Select Value → List Slot → Indexed
+select_index numbers tables tests select columns = index_under columns (left_rows numbers tables tests select columns)
 
 -- an index is the one of its sub-select and columns
-abbrev pub IsMade : List ℕ → List Relation → Made → Type 0
-IsMade numbers tables made = made.index ≡ select_index numbers tables made.select.now made.columns
+abbrev pub IsMade : List ℕ → List Relation → List (Test Slot) → Made → Type 0
+IsMade numbers tables tests made = made.index ≡ select_index numbers tables tests made.select.now made.columns
 
-abbrev pub membership_index : List ℕ → List Relation → List Slot → Membership Value → Indexed
-membership_index numbers tables slots membership =
-    select_index numbers tables membership.select (map (term_slot slots) membership.terms)
+abbrev pub membership_index : List ℕ → List Relation → List (Test Slot) → List Slot → Membership Value → Indexed
+membership_index numbers tables tests slots membership =
+    select_index numbers tables tests membership.select (map (term_slot slots) membership.terms)
 
 -- an index for each tuple of the statements
-abbrev pub all_indexes : List ℕ → List Relation → List Posted → List (List Slot) → List Indexed
-all_indexes numbers tables [] slots = []
-all_indexes numbers tables (member ∷ members) [] = []
-all_indexes numbers tables (member ∷ members) (slots ∷ others) =
-    map (membership_index numbers tables slots) member.statement.atoms ++ all_indexes numbers tables members others
+abbrev pub all_indexes : List ℕ → List Relation → List (Test Slot) → List Posted → List (List Slot) → List Indexed
+all_indexes numbers tables tests [] slots = []
+all_indexes numbers tables tests (member ∷ members) [] = []
+all_indexes numbers tables tests (member ∷ members) (slots ∷ others) =
+    map (membership_index numbers tables tests slots) member.statement.atoms
+    ++ all_indexes numbers tables tests members others
 
 abbrev pub slot_test : List Slot → Test (Term Value) → Test Slot
 slot_test slots test =

@@ -8,6 +8,8 @@ pub mod Going
 pub mod Index
 pub mod Frame
 pub mod Keyed
+pub mod Alone
+pub mod Domain
 pub mod Asked
 pub mod Laid
 pub mod Row

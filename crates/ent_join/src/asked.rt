@@ -21,17 +21,27 @@ fn membership_index<'a>(
     alloc: Global,
     numbers: &[usize],
     tables: &[Arc<Table>],
+    tests: &[Test<Slot>],
     made: &mut Vec<Made<'a>>,
     slots: &[Slot],
     membership: &'a Membership<Value>,
 ) -> Result<Index, AllocError>
-    requires { AllByRecursion (IsMade numbers.now (map arc_value tables.now)) made.old.items }
+    requires { AllByRecursion (IsMade numbers.now (map arc_value tables.now) tests.now) made.old.items }
     ensures index { IfOk result (λ index. index
-        ≡ membership_index numbers.now (map arc_value tables.now) slots.now membership.now) }
-    ensures made { OnOk result (AllByRecursion (IsMade numbers.now (map arc_value tables.now)) made.new.items) }
+        ≡ membership_index numbers.now (map arc_value tables.now) tests.now slots.now membership.now) }
+    ensures made { OnOk result
+        (AllByRecursion (IsMade numbers.now (map arc_value tables.now) tests.now) made.new.items) }
 {
     let columns = columns_of(alloc, slots, membership.terms.as_slice())?;
-    index_for(alloc, numbers, tables, made, &membership.select, columns)
+    index_for(
+        alloc,
+        numbers,
+        tables,
+        tests,
+        made,
+        &membership.select,
+        columns,
+    )
 }
 
 /// Puts the indexes of a statement's tuples behind others.
@@ -39,19 +49,22 @@ fn push_indexes<'a>(
     alloc: Global,
     numbers: &[usize],
     tables: &[Arc<Table>],
+    tests: &[Test<Slot>],
     made: &mut Vec<Made<'a>>,
     slots: &[Slot],
     memberships: &'a [Membership<Value>],
     indexes: &mut Vec<Index>,
 ) -> Result<(), AllocError>
-    requires { AllByRecursion (IsMade numbers.now (map arc_value tables.now)) made.old.items }
+    requires { AllByRecursion (IsMade numbers.now (map arc_value tables.now) tests.now) made.old.items }
     ensures indexes { OnOk result (indexes.new.items
         ≡ indexes.old.items
-        ++ map (membership_index numbers.now (map arc_value tables.now) slots.now) memberships.now) }
-    ensures made { OnOk result (AllByRecursion (IsMade numbers.now (map arc_value tables.now)) made.new.items) }
+        ++ map (membership_index numbers.now (map arc_value tables.now) tests.now slots.now) memberships.now) }
+    ensures made { OnOk result
+        (AllByRecursion (IsMade numbers.now (map arc_value tables.now) tests.now) made.new.items) }
 {
     for membership in memberships {
-        indexes.push(membership_index(alloc, numbers, tables, made, slots, membership)?)?;
+        let index = membership_index(alloc, numbers, tables, tests, made, slots, membership)?;
+        indexes.push(index)?;
     }
     Ok(())
 }
@@ -61,14 +74,15 @@ fn push_all_indexes<'a>(
     alloc: Global,
     numbers: &[usize],
     tables: &[Arc<Table>],
+    tests: &[Test<Slot>],
     made: &mut Vec<Made<'a>>,
     members: &'a [Member],
     slots: &[Sequence<Slot>],
     indexes: &mut Vec<Index>,
 ) -> Result<(), AllocError>
-    requires { AllByRecursion (IsMade numbers.now (map arc_value tables.now)) made.old.items }
+    requires { AllByRecursion (IsMade numbers.now (map arc_value tables.now) tests.now) made.old.items }
     ensures { OnOk result (indexes.new.items
-        ≡ indexes.old.items ++ all_indexes numbers.now (map arc_value tables.now) members.now slots.now) }
+        ≡ indexes.old.items ++ all_indexes numbers.now (map arc_value tables.now) tests.now members.now slots.now) }
 {
     if let [member, members @ ..] = members {
         if let [first, slots @ ..] = slots {
@@ -77,12 +91,13 @@ fn push_all_indexes<'a>(
                 alloc,
                 numbers,
                 tables,
+                tests,
                 made,
                 first.as_slice(),
                 memberships,
                 indexes,
             )?;
-            return push_all_indexes(alloc, numbers, tables, made, members, slots, indexes);
+            return push_all_indexes(alloc, numbers, tables, tests, made, members, slots, indexes);
         }
     }
     Ok(())
@@ -156,23 +171,24 @@ pub(crate) fn frame_of(
     kinds: &[Kind],
 ) -> Result<Frame, AllocError>
     ensures indexes { IfOk result (λ frame. frame.indexes
-        ≡ all_indexes numbers.now (map arc_value tables.now) members.now slots.now) }
+        ≡ all_indexes numbers.now (map arc_value tables.now) (all_tests members.now slots.now) members.now slots.now) }
     ensures tests { IfOk result (λ frame. frame.tests ≡ all_tests members.now slots.now) }
     ensures kinds { IfOk result (λ frame. frame.kinds ≡ kinds.now) }
 {
+    let mut tests = Vec::new(alloc);
+    push_all_tests(alloc, members, slots, &mut tests)?;
     let mut made = Vec::new(alloc);
     let mut indexes = Vec::new(alloc);
     push_all_indexes(
         alloc,
         numbers,
         tables,
+        tests.as_slice(),
         &mut made,
         members,
         slots,
         &mut indexes,
     )?;
-    let mut tests = Vec::new(alloc);
-    push_all_tests(alloc, members, slots, &mut tests)?;
     Ok(Frame {
         indexes: Sequence::from_vec(indexes),
         tests: Sequence::from_vec(tests),

@@ -136,6 +136,9 @@ fn counted_choice(
         plan.slots(),
         plan.kinds(),
     )?;
+    if frame.has_empty_domain() {
+        return Ok(None);
+    }
     match least(alloc, &frame, plan.kinds().len(), ticks)? {
         None => Ok(None),
         Some(values) => Ok(Some(valuations(alloc, values.values(), plan.slots())?)),

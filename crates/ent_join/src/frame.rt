@@ -195,7 +195,8 @@ fn slot_there<'a>(beginning: &'a [Value], slot: &'a Slot) -> Option<&'a Value>
     }
 }
 
-fn compares(comparison: Comparison, order: Ordering) -> bool
+/// Whether values in this order compare so.
+pub(crate) fn compares(comparison: Comparison, order: Ordering) -> bool
     ensures { result ≡ compares comparison order }
 {
     match comparison {

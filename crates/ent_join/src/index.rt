@@ -4,6 +4,7 @@ ghost use Rattle.std.specs.List.{AllByRecursion, filter};
 ghost use Rattle.std.specs.List.Sorted.{IsPartitionPoint, IsStrictlySortedBy};
 ghost use Rattle.std.specs.Ordering.{is_le, is_lt};
 ghost use Rattle.ent_value.specs.Value.{row_cmp};
+ghost use Rattle.ent_join.specs.Domain.{is_alone, may_have};
 ghost use Rattle.ent_join.specs.Cursor.{column_values};
 ghost use Rattle.ent_join.specs.Index.{IsIndexed, begun_cmp, begins_so, column_of, goes_on, rows_after};
 ghost use Rattle.ent_join.specs.Reason.{AreMarkedIn, IsMarked};
@@ -78,6 +79,33 @@ impl Index {
         ensures { result ≡ goes_on beginning.now self.now }
     {
         !self.rows_after(beginning).is_empty()
+    }
+
+    /// Whether the index has a class and no other.
+    pub(crate) fn is_alone(&self, class: usize) -> bool
+        ensures { result ≡ is_alone class self.now.classes }
+    {
+        match self.classes.as_slice() {
+            [only] => *only == class,
+            _ => false,
+        }
+    }
+
+    /// Whether the index has the value of a key of one value, where it has a class and no other.
+    pub(crate) fn may_have(&self, class: usize, key: &[Value]) -> bool
+        ensures { result ≡ may_have class key.now self.now }
+    {
+        if self.is_alone(class) {
+            return !rows_between(key, &[0], self.rows.as_slice()).is_empty();
+        }
+        true
+    }
+
+    /// The rows.
+    pub(crate) fn rows(&self) -> &[Row]
+        ensures { result.now ≡ self.now.rows }
+    {
+        self.rows.as_slice()
     }
 
     /// Marks the classes of the index.

@@ -1,14 +1,18 @@
 //! Indexes of sub-selects' results: each row that agrees with the columns, by the values of their classes.
 ghost use Rattle.std.specs.Prelude.{◌≡◌, IfOk, map};
+ghost use Rattle.std.specs.List.{filter, list_all};
 ghost use Rattle.std.specs.Option.{option_copied};
 ghost use Rattle.ent_set.specs.Sets as set;
 ghost use Rattle.ent_value.specs.Value.{row_cmp};
+ghost use Rattle.ent_join.specs.Alone.{is_left, may_hold_in};
 ghost use Rattle.ent_join.specs.Keyed.{agree, ascending_classes, class_numbers, index_under, is_class, is_wanted};
 ghost use Rattle.ent_join.specs.Keyed.{key_under, keys_under, term_slot, value_under};
 
+use crate::alone::{all_may_hold_in, tests_of};
 use crate::index::Index;
 use ent_closed::Term;
 use ent_plan::Slot;
+use ent_tree::Test;
 use ent_value::{Row, Sequence, Value};
 use std::alloc::{AllocError, Global};
 
@@ -29,7 +33,7 @@ pub(crate) fn term_slot(
     }
 }
 
-fn slot_copy(alloc: Global, slot: &Slot) -> Result<Slot, AllocError>
+pub(crate) fn slot_copy(alloc: Global, slot: &Slot) -> Result<Slot, AllocError>
     ensures { IfOk result (λ copy. copy ≡ slot.now) }
 {
     match slot {
@@ -76,7 +80,11 @@ fn class_numbers(alloc: Global, columns: &[Slot]) -> Result<Vec<usize>, AllocErr
 }
 
 /// The value of a row in the first column of a class.
-fn value_under<'a>(number: usize, columns: &[Slot], row: &'a [Value]) -> Option<&'a Value>
+pub(crate) fn value_under<'a>(
+    number: usize,
+    columns: &[Slot],
+    row: &'a [Value],
+) -> Option<&'a Value>
     ensures { option_copied result ≡ value_under number columns.now row.now }
 {
     if let [slot, columns @ ..] = columns {
@@ -147,18 +155,22 @@ fn key_under(
     Ok(Row::from_vec(key))
 }
 
-/// The keys of the rows that agree with the columns.
+/// The keys of the rows that agree with the columns and that none of these tests of them refuses.
 fn keys_under(
     alloc: Global,
+    tests: &[Test<Slot>],
     columns: &[Slot],
     classes: &[usize],
     rows: &[Row],
 ) -> Result<Vec<Row>, AllocError>
-    ensures { IfOk result (λ keys. keys.items ≡ keys_under columns.now classes.now rows.now) }
+    ensures { IfOk result (λ keys. keys.items ≡ keys_under columns.now classes.now
+        (filter (λ row. list_all (may_hold_in columns.now row) tests.now) rows.now)) }
 {
     let mut keys = Vec::new(alloc);
     for row in rows {
-        if agree(columns, row.values(), columns, row.values()) {
+        if all_may_hold_in(tests, columns, row.values())
+            && agree(columns, row.values(), columns, row.values())
+        {
             keys.push(key_under(alloc, columns, row.values(), classes)?)?;
         }
     }
@@ -174,12 +186,20 @@ fn ordered(mut rows: Vec<Row>) -> Result<Vec<Row>, AllocError>
     Ok(rows)
 }
 
-/// The index of the rows of a sub-select's result that agree with the columns of a tuple.
-pub(crate) fn index_of(alloc: Global, columns: &[Slot], rows: &[Row]) -> Result<Index, AllocError>
-    ensures { IfOk result (λ index. index ≡ index_under columns.now rows.now) }
+/// The index of the rows of a sub-select's result that agree with the columns of a tuple. Rows that a test refuses
+/// which reads nothing but these columns are left out.
+pub(crate) fn index_of(
+    alloc: Global,
+    tests: &[Test<Slot>],
+    columns: &[Slot],
+    rows: &[Row],
+) -> Result<Index, AllocError>
+    ensures { IfOk result (λ index. index
+        ≡ index_under columns.now (filter (is_left tests.now columns.now) rows.now)) }
 {
+    let own = tests_of(alloc, tests, columns)?;
     let classes = classes_of(alloc, columns)?;
-    let keys = ordered(keys_under(alloc, columns, classes.as_slice(), rows)?)?;
+    let keys = ordered(keys_under(alloc, own.as_slice(), columns, classes.as_slice(), rows)?)?;
     let index = Index::new(alloc, Sequence::from_vec(classes), Sequence::from_vec(keys))?;
     Ok(index)
 }

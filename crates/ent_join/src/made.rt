@@ -3,7 +3,9 @@ ghost use Rattle.std.specs.Prelude.{◌≡◌, ◌++◌, [], ℕ, IfOk, IfSome, 
 ghost use Rattle.std.specs.Arc.{arc_value};
 ghost use Rattle.std.specs.List.{AllByRecursion};
 ghost use Rattle.std.specs.Option.{option_copied, option_map};
+ghost use Rattle.ent_tree.specs.declared.operand.Test.{Test as Tested};
 ghost use Rattle.ent_rel.specs.Relation.{Relation};
+ghost use Rattle.ent_plan.specs.declared.slot.Slot.{Slot as Slotted};
 ghost use Rattle.ent_join.specs.Asked.{IsMade, select_index, table_at, tables_at};
 
 use crate::index::Index;
@@ -12,7 +14,7 @@ use ent_closed::Select;
 use ent_plan::Slot;
 use ent_rel::Table;
 use ent_select::all;
-use ent_tree::Same;
+use ent_tree::{Same, Test};
 use ent_value::{Sequence, Value};
 use std::alloc::{AllocError, Global};
 use std::sync::Arc;
@@ -99,9 +101,9 @@ impl<'a> Made<'a> {
 
 /// The index that was made of a sub-select and columns, where there is one.
 fn made_of<'m>(made: &'m [Made<'_>], select: &Select<Value>, columns: &[Slot]) -> Option<&'m Index>
-    ensures { (numbers : List ℕ) (tables : List Relation)
-        → AllByRecursion (IsMade numbers tables) made.now
-        → IfSome result (λ index. index.now ≡ select_index numbers tables select.now columns.now) }
+    ensures { (numbers : List ℕ) (tables : List Relation) (tests : List (Tested Slotted))
+        → AllByRecursion (IsMade numbers tables tests) made.now
+        → IfSome result (λ index. index.now ≡ select_index numbers tables tests select.now columns.now) }
 {
     if let [first, made @ ..] = made {
         if first.is_of(select, columns) {
@@ -112,20 +114,21 @@ fn made_of<'m>(made: &'m [Made<'_>], select: &Select<Value>, columns: &[Slot]) -
     None
 }
 
-/// The index of columns over the result of a sub-select.
+/// The index of columns over the result of a sub-select, without the rows that tests of these columns refuse.
 fn select_index(
     alloc: Global,
     numbers: &[usize],
     tables: &[Arc<Table>],
+    tests: &[Test<Slot>],
     select: &Select<Value>,
     columns: &[Slot],
 ) -> Result<Index, AllocError>
     ensures { IfOk result (λ index. index
-        ≡ select_index numbers.now (map arc_value tables.now) select.now columns.now) }
+        ≡ select_index numbers.now (map arc_value tables.now) tests.now select.now columns.now) }
 {
     let sources = tables_at(alloc, numbers, tables, select.sources.as_slice())?;
     let rows = all(alloc, select, sources.as_slice())?;
-    index_of(alloc, columns, rows.as_slice())
+    index_of(alloc, tests, columns, rows.as_slice())
 }
 
 /// The index of columns over the result of a sub-select. It is looked for among those that were made, else it is made
@@ -134,19 +137,22 @@ pub(crate) fn index_for<'a>(
     alloc: Global,
     numbers: &[usize],
     tables: &[Arc<Table>],
+    tests: &[Test<Slot>],
     made: &mut Vec<Made<'a>>,
     select: &'a Select<Value>,
     columns: Sequence<Slot>,
 ) -> Result<Index, AllocError>
-    requires { AllByRecursion (IsMade numbers.now (map arc_value tables.now)) made.old.items }
+    requires { AllByRecursion (IsMade numbers.now (map arc_value tables.now) tests.now) made.old.items }
     ensures index { IfOk result (λ index. index
-        ≡ select_index numbers.now (map arc_value tables.now) select.now columns) }
-    ensures made { OnOk result (AllByRecursion (IsMade numbers.now (map arc_value tables.now)) made.new.items) }
+        ≡ select_index numbers.now (map arc_value tables.now) tests.now select.now columns) }
+    ensures made { OnOk result
+        (AllByRecursion (IsMade numbers.now (map arc_value tables.now) tests.now) made.new.items) }
 {
     if let Some(index) = made_of(made.as_slice(), select, columns.as_slice()) {
-        return index.shared(alloc);
+        let shared = index.shared(alloc)?;
+        return Ok(shared);
     }
-    let index = select_index(alloc, numbers, tables, select, columns.as_slice())?;
+    let index = select_index(alloc, numbers, tables, tests, select, columns.as_slice())?;
     let shared = index.shared(alloc)?;
     made.push(Made {
         select,

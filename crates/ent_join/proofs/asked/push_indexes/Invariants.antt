@@ -8,6 +8,7 @@ abbrev pub invariant-loop-membership : goal.invariant-loop-membership
 invariant-loop-membership l =
     record {
       indexes : l.indexes.items ≡ l.fn.indexes.items
-          ++ map (membership_index l.numbers (map arc_value l.tables) l.slots) (take l.membership-index l.memberships);
-      made : AllByRecursion (IsMade l.numbers (map arc_value l.tables)) l.made.items;
+          ++ map (membership_index l.numbers (map arc_value l.tables) l.tests l.slots)
+          (take l.membership-index l.memberships);
+      made : AllByRecursion (IsMade l.numbers (map arc_value l.tables) l.tests) l.made.items;
     }

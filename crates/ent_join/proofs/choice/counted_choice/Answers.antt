@@ -1,4 +1,4 @@
-use Rattle.std.proofs.Common.{◌≡◌, ◌∙◌, true, false, length, map, ap, subst, sym}
+use Rattle.std.proofs.Common.{◌≡◌, ◌<◌, ◌∙◌, true, false, length, map, ap, subst, sym}
 use Rattle.std.specs.Prelude.{is_some}
 use Rattle.std.specs.Arc.{arc_value}
 use Rattle.ent_coordination.specs.Choice.{IsLeastChoice}
@@ -7,6 +7,7 @@ use Rattle.ent_plan.specs.Tables.{tables_named}
 use Rattle.ent_join.specs.Asked.{all_indexes, all_tests}
 use Rattle.ent_join.specs.Frame.{candidates_of, lets_through}
 use Rattle.ent_join.specs.Search.{AreTicks, IsGuide}
+use Rattle.ent_join.proofs.Empty.{none_passes}
 use Rattle.ent_join.proofs.Chosen.{chosen, guides, least_found, none_chosen, none_found}
 use Rattle.ent_join.proofs.Ticking.{row_ticks}
 use Rattle.ent_join.proofs.choice.counted_choice.Goals as goal
@@ -16,14 +17,38 @@ least-requires c =
     let plan = c.args.plan.now in
     let tables = map arc_value c.args.tables.now in
     let frame = c.in_ok-frame.frame in
-    let indexes : frame.indexes ≡ all_indexes (tables_named plan.members) tables plan.members plan.slots =
+    let indexes : frame.indexes ≡ all_indexes (tables_named plan.members) tables
+    (all_tests plan.members plan.slots) plan.members plan.slots =
     c.in_ok-frame.ensures.indexes
-    ∙ (λ i. all_indexes (c.tables.ensures i) tables (c.members-members.ensures.members i) (c.slots.ensures.slots i)) in
+    ∙ (λ i. all_indexes (c.tables.ensures i) tables
+    (all_tests (c.members-members.ensures.members i) (c.slots.ensures.slots i))
+    (c.members-members.ensures.members i) (c.slots.ensures.slots i)) in
     let tests : frame.tests ≡ all_tests plan.members plan.slots =
     c.in_ok-frame.ensures.tests ∙ (λ i. all_tests (c.members-members.ensures.members i) (c.slots.ensures.slots i)) in
     subst (λ n. IsGuide n (candidates_of frame) (lets_through frame)) (sym (ap length c.kinds-2.ensures.kinds))
     (guides plan c.members-members.ensures.plan tables frame indexes tests
     (c.in_ok-frame.ensures.kinds ∙ c.kinds.ensures.kinds) c.requires)
+
+pub returns-then-has_empty_domain-clause-choice : goal.returns-then-has_empty_domain-clause-choice
+returns-then-has_empty_domain-clause-choice c = λ laid e.
+    let plan = c.args.plan.now in
+    let is = c.members-members.ensures.plan in
+    let tables = map arc_value c.args.tables.now in
+    let frame = c.in_ok-frame.frame in
+    let indexes : frame.indexes ≡ all_indexes (tables_named plan.members) tables
+    (all_tests plan.members plan.slots) plan.members plan.slots =
+    c.in_ok-frame.ensures.indexes
+    ∙ (λ i. all_indexes (c.tables.ensures i) tables
+    (all_tests (c.members-members.ensures.members i) (c.slots.ensures.slots i))
+    (c.members-members.ensures.members i) (c.slots.ensures.slots i)) in
+    let tests : frame.tests ≡ all_tests plan.members plan.slots =
+    c.in_ok-frame.ensures.tests ∙ (λ i. all_tests (c.members-members.ensures.members i) (c.slots.ensures.slots i)) in
+    let of_kinds : frame.kinds ≡ plan.kinds = c.in_ok-frame.ensures.kinds ∙ c.kinds.ensures.kinds in
+    let empty = c.has_empty_domain.ensures c.if-has_empty_domain.true in
+    none_chosen plan is tables frame indexes tests of_kinds laid e
+    (λ groundings. c.plan_has_the_choices.ensures laid plan groundings is)
+    (λ others values w v. c.plan_keeps_the_order.ensures plan others values is w v)
+    (none_passes (length plan.kinds) empty.0 frame (subst (λ n. empty.0 < n) (ap length of_kinds) empty.1) empty.2)
 
 pub returns-in-None-clause-choice : goal.returns-in-None-clause-choice
 returns-in-None-clause-choice c = λ laid e.
@@ -31,9 +56,12 @@ returns-in-None-clause-choice c = λ laid e.
     let is = c.members-members.ensures.plan in
     let tables = map arc_value c.args.tables.now in
     let frame = c.in_ok-frame.frame in
-    let indexes : frame.indexes ≡ all_indexes (tables_named plan.members) tables plan.members plan.slots =
+    let indexes : frame.indexes ≡ all_indexes (tables_named plan.members) tables
+    (all_tests plan.members plan.slots) plan.members plan.slots =
     c.in_ok-frame.ensures.indexes
-    ∙ (λ i. all_indexes (c.tables.ensures i) tables (c.members-members.ensures.members i) (c.slots.ensures.slots i)) in
+    ∙ (λ i. all_indexes (c.tables.ensures i) tables
+    (all_tests (c.members-members.ensures.members i) (c.slots.ensures.slots i))
+    (c.members-members.ensures.members i) (c.slots.ensures.slots i)) in
     let tests : frame.tests ≡ all_tests plan.members plan.slots =
     c.in_ok-frame.ensures.tests ∙ (λ i. all_tests (c.members-members.ensures.members i) (c.slots.ensures.slots i)) in
     none_chosen plan is tables frame indexes tests (c.in_ok-frame.ensures.kinds ∙ c.kinds.ensures.kinds) laid e
@@ -48,9 +76,12 @@ returns-clause-choice c = λ laid e.
     let is = c.members-members.ensures.plan in
     let tables = map arc_value c.args.tables.now in
     let frame = c.in_ok-frame.frame in
-    let indexes : frame.indexes ≡ all_indexes (tables_named plan.members) tables plan.members plan.slots =
+    let indexes : frame.indexes ≡ all_indexes (tables_named plan.members) tables
+    (all_tests plan.members plan.slots) plan.members plan.slots =
     c.in_ok-frame.ensures.indexes
-    ∙ (λ i. all_indexes (c.tables.ensures i) tables (c.members-members.ensures.members i) (c.slots.ensures.slots i)) in
+    ∙ (λ i. all_indexes (c.tables.ensures i) tables
+    (all_tests (c.members-members.ensures.members i) (c.slots.ensures.slots i))
+    (c.members-members.ensures.members i) (c.slots.ensures.slots i)) in
     let tests : frame.tests ≡ all_tests plan.members plan.slots =
     c.in_ok-frame.ensures.tests ∙ (λ i. all_tests (c.members-members.ensures.members i) (c.slots.ensures.slots i)) in
     let values = c.in-Some.values in
@@ -70,9 +101,12 @@ returns-in-None-clause-ticks c = λ laid member e alone asks.
     let is = c.members-members.ensures.plan in
     let tables = map arc_value c.args.tables.now in
     let frame = c.in_ok-frame.frame in
-    let indexes : frame.indexes ≡ all_indexes (tables_named plan.members) tables plan.members plan.slots =
+    let indexes : frame.indexes ≡ all_indexes (tables_named plan.members) tables
+    (all_tests plan.members plan.slots) plan.members plan.slots =
     c.in_ok-frame.ensures.indexes
-    ∙ (λ i. all_indexes (c.tables.ensures i) tables (c.members-members.ensures.members i) (c.slots.ensures.slots i)) in
+    ∙ (λ i. all_indexes (c.tables.ensures i) tables
+    (all_tests (c.members-members.ensures.members i) (c.slots.ensures.slots i))
+    (c.members-members.ensures.members i) (c.slots.ensures.slots i)) in
     let tests : frame.tests ≡ all_tests plan.members plan.slots =
     c.in_ok-frame.ensures.tests ∙ (λ i. all_tests (c.members-members.ensures.members i) (c.slots.ensures.slots i)) in
     row_ticks plan is tables frame indexes tests (c.in_ok-frame.ensures.kinds ∙ c.kinds.ensures.kinds) laid e c.requires
@@ -87,9 +121,12 @@ returns-clause-ticks c = λ laid member e alone asks.
     let is = c.members-members.ensures.plan in
     let tables = map arc_value c.args.tables.now in
     let frame = c.in_ok-frame.frame in
-    let indexes : frame.indexes ≡ all_indexes (tables_named plan.members) tables plan.members plan.slots =
+    let indexes : frame.indexes ≡ all_indexes (tables_named plan.members) tables
+    (all_tests plan.members plan.slots) plan.members plan.slots =
     c.in_ok-frame.ensures.indexes
-    ∙ (λ i. all_indexes (c.tables.ensures i) tables (c.members-members.ensures.members i) (c.slots.ensures.slots i)) in
+    ∙ (λ i. all_indexes (c.tables.ensures i) tables
+    (all_tests (c.members-members.ensures.members i) (c.slots.ensures.slots i))
+    (c.members-members.ensures.members i) (c.slots.ensures.slots i)) in
     let tests : frame.tests ≡ all_tests plan.members plan.slots =
     c.in_ok-frame.ensures.tests ∙ (λ i. all_tests (c.members-members.ensures.members i) (c.slots.ensures.slots i)) in
     row_ticks plan is tables frame indexes tests (c.in_ok-frame.ensures.kinds ∙ c.kinds.ensures.kinds) laid e c.requires

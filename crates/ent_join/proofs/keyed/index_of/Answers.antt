@@ -1,6 +1,8 @@
 use Rattle.std.proofs.Common.{◌≡◌, ◌∙◌, ap, sym, subst}
+use Rattle.std.specs.List.{filter, list_all}
 use Rattle.ent_set.specs.Sets as set
 use Rattle.ent_value.specs.Value.{row_cmp}
+use Rattle.ent_join.specs.Alone.{is_left, may_hold_in}
 use Rattle.ent_join.specs.Index.{IsIndexed}
 use Rattle.ent_join.specs.Keyed.{ascending_classes, index_under, keys_under}
 use Rattle.ent_join.proofs.Keys.{index_is}
@@ -9,13 +11,15 @@ use Rattle.ent_join.proofs.keyed.index_of.Goals as goal
 pub new-requires : goal.new-requires
 new-requires c =
     let columns = c.args.columns.now in
-    let rows = c.args.rows.now in
+    let rows = filter (is_left c.args.tests.now columns) c.args.rows.now in
     let classes : c.from_vec.result ≡ ascending_classes columns = c.from_vec.ensures ∙ c.in_ok-classes.ensures in
     let keys : c.from_vec-2.result ≡ (index_under columns rows).rows =
     c.from_vec-2.ensures ∙ c.in_ok-keys.ensures
     ∙ ap (λ ks. set.ascending (set.from_list {R = row_cmp} ks))
     (c.in_ok-keys_under.ensures
-    ∙ ap (λ cs. keys_under columns cs rows) (c.as_slice.ensures.value ∙ c.in_ok-classes.ensures)) in
+    ∙ (λ i. keys_under columns ((c.as_slice-2.ensures.value ∙ c.in_ok-classes.ensures) i)
+    (filter (λ row. list_all (may_hold_in columns row) ((c.as_slice.ensures.value ∙ c.in_ok-own.ensures) i))
+    c.args.rows.now))) in
     let same : record { classes = c.from_vec.result; rows = c.from_vec-2.result } ≡ index_under columns rows =
     λ i. record { classes = classes i; rows = keys i } in
     subst IsIndexed (sym same) (index_is columns rows).indexed
@@ -23,11 +27,13 @@ new-requires c =
 pub returns : goal.returns
 returns c =
     let columns = c.args.columns.now in
-    let rows = c.args.rows.now in
+    let rows = filter (is_left c.args.tests.now columns) c.args.rows.now in
     let classes : c.from_vec.result ≡ ascending_classes columns = c.from_vec.ensures ∙ c.in_ok-classes.ensures in
     let keys : c.from_vec-2.result ≡ (index_under columns rows).rows =
     c.from_vec-2.ensures ∙ c.in_ok-keys.ensures
     ∙ ap (λ ks. set.ascending (set.from_list {R = row_cmp} ks))
     (c.in_ok-keys_under.ensures
-    ∙ ap (λ cs. keys_under columns cs rows) (c.as_slice.ensures.value ∙ c.in_ok-classes.ensures)) in
+    ∙ (λ i. keys_under columns ((c.as_slice-2.ensures.value ∙ c.in_ok-classes.ensures) i)
+    (filter (λ row. list_all (may_hold_in columns row) ((c.as_slice.ensures.value ∙ c.in_ok-own.ensures) i))
+    c.args.rows.now))) in
     c.in_ok-index.ensures ∙ (λ i. record { classes = classes i; rows = keys i })
