@@ -84,11 +84,7 @@ impl Core {
     /// Opens a core over an input's opening, submits its scripts, in order, and makes these events, in order: the core
     /// that they lead to, and the replies to the events. Else the input's first fault of form. An event that is refused
     /// has its reply too; memory that runs out ends the play, and everything is dropped.
-    pub fn play(
-        alloc: Global,
-        input: Input,
-        events: Sequence<Event>,
-    ) -> Result<Played, PlayFault>
+    pub fn play(alloc: Global, input: Input, events: Sequence<Event>) -> Result<Played, PlayFault>
         ensures played { IfOk result (λ played. IsPlayed resolved_forms input.opening input.scripts
             (map event_seen events) (map reply_seen played.replies) played.core) }
         ensures fault { IfErr result (λ refusal. (fault : FormFault)
