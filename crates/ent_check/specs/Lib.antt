@@ -1,2 +1,3 @@
+pub mod Above
 pub mod Offers
 pub mod Seats
