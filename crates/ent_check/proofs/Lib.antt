@@ -1,4 +1,5 @@
 pub mod Accounts
+pub mod Commits
 pub mod Joints
 pub mod LeftOut
 pub mod Lists
