@@ -8,4 +8,5 @@ pub mod Members
 pub mod Numbers
 pub mod Posts
 pub mod Seats
+pub mod Sums
 pub mod Taken

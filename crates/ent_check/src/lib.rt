@@ -1,11 +1,12 @@
 //! Parts of a check of what a report tells, against the definitions of ent_rules.
 //!
 //! The rules of the journal, of joint answers and of postconditions are checked whole, and the commits are put in order.
-//! No call here answers for a whole report yet.
+//! What is found has a line. No call here answers for a whole report yet.
 #![tactic(auto)]
 
 mod joint;
 mod journal;
+mod line;
 mod member;
 mod offer;
 mod order;
@@ -15,6 +16,7 @@ mod seating;
 
 pub use joint::joint_finding;
 pub use journal::journal_finding;
+pub use line::line_of;
 pub use member::is_entangled_statement;
 pub use offer::Offer;
 pub use order::commit_order;
