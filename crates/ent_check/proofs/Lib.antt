@@ -1,4 +1,12 @@
 pub mod Accounts
+pub mod Commits
+pub mod Demands
+pub mod Joints
+pub mod LeftOut
+pub mod Lists
 pub mod Members
 pub mod Numbers
+pub mod Posts
 pub mod Seats
+pub mod Sums
+pub mod Taken

@@ -1,2 +1,4 @@
+pub mod Above
 pub mod Offers
+pub mod Order
 pub mod Seats

@@ -25,7 +25,7 @@ pub(crate) fn commit_number(told: &Told) -> Option<u64>
 }
 
 /// How many transactions have committed.
-fn commit_count(scripts: &[Script], transactions: &[Told]) -> u64
+pub(crate) fn commit_count(scripts: &[Script], transactions: &[Told]) -> u64
     ensures { result ≡ commit_count (accounts_from 1 scripts.now transactions.now) }
 {
     let all = scripts.len().min(transactions.len());
