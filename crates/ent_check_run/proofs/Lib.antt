@@ -1,2 +1,3 @@
 pub mod Ordinary
+pub mod Compared
 pub mod Step

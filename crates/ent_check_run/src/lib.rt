@@ -4,8 +4,11 @@
 //! found of a closed form is what is found of the statement whose form it is.
 #![tactic(auto)]
 
+mod deed;
 mod law;
+mod offer;
 mod statement;
 
+pub use deed::{Place, Stage, deed_finding};
 pub use law::statements_are_found_as_their_forms;
 pub use statement::carry_out;
