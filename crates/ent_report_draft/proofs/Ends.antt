@@ -1,16 +1,19 @@
 -- Lists from their end.
-use Rattle.std.proofs.Common.{◌≡◌, ℕ, suc, Bool, true, ◌+◌, ◌-◌, List, [], ◌∷◌, ◌++◌, length, Some, None, Option, refl, sym, ap, subst, ◌∙◌, arith}
+use Rattle.std.proofs.Common.{◌≡◌, suc, Bool, true, ◌+◌, ◌-◌, List, [], ◌∷◌, ◌++◌, length, Some, None, Option, refl, sym, ap, subst, ◌∙◌, arith}
 use Rattle.std.specs.Prelude.{slice_get}
 use Rattle.std.proofs.lemmas.Option.{same_Some}
-use Rattle.std.specs.Ordering.{is_lt}
+use Rattle.std.specs.Cmp.Lexicographic.{slice_cmp}
+use Rattle.std.specs.Ordering.{is_lt, nat_cmp}
 use Rattle.std.specs.declared.cmp.Ordering.{Ordering}
 use Rattle.std.specs.declared.cmp.Ordering.TheVariants.{Less, Equal, Greater}
 use Rattle.std.proofs.lemmas.List.{append-nil}
 use Rattle.ent_value.specs.Value.{row_cmp}
 use Rattle.ent_value.specs.declared.value.Value.{Value}
+use Rattle.ent_tree.specs.declared.declaration.Create.{Create}
 use Rattle.ent_tree.specs.declared.script.Script.{Script}
 use Rattle.ent_tree.specs.declared.script.Statement.{Statement}
 use Rattle.ent_history.specs.declared.history.Told.{Told}
+use Rattle.ent_history_form.specs.Opening.{NamesAscend}
 use Rattle.ent_history_form.specs.Parts.{Ascends}
 use Rattle.ent_history_form.specs.Draft.{answer_due, last_of, on_last, unanswered}
 use Rattle.ent_semantics.specs.declared.answer.Answer.{Answer}
@@ -85,6 +88,22 @@ is_behind_if rows row last o test there compared tested = (
   λ t. ascends_behind rows row last (sym there) (sym compared ∙ less_if o (sym tested ∙ t)),
   λ a. tested ∙ if_less o (compared ∙ is_behind_last rows row last (sym there) a),
 )
+
+-- the test says whether the name comes behind that of the last table
+pub comes_behind_if : (tables : List Create) (create last : Create) (o : Ordering) (test : Bool)
+    → Some last ≡ last_of tables → o ≡ slice_cmp nat_cmp last.name.name create.name.name → test ≡ is_lt o
+    → (test ≡ true → NamesAscend tables create) × (NamesAscend tables create → test ≡ true)
+comes_behind_if tables create last o test there compared tested = (
+  λ t front own e.
+      let same : last ≡ own = same_Some last own (there ∙ ap last_of e ∙ last_of-push front own) in
+      subst (λ (c : Create). slice_cmp nat_cmp c.name.name create.name.name ≡ Less) same
+      (sym compared ∙ less_if o (sym tested ∙ t)),
+  λ a. let s = last_split tables last (sym there) in tested ∙ if_less o (compared ∙ a s.0 last s.1),
+)
+
+pub nothing_before : (tables : List Create) (create : Create) → last_of tables ≡ None → NamesAscend tables create
+nothing_before tables create e front own h =
+    let both : Some own ≡ None = sym (last_of-push front own) ∙ sym (ap last_of h) ∙ e in cc
 
 pub nothing_above : (row : List Value) → Ascends [] row
 nothing_above row = ascends_first [] row refl

@@ -3,6 +3,8 @@ mod Steps
 mod LinesRead
 mod AnswerLines
 mod FrameLines
+mod OpeningLines
+mod OpeningRows
 mod OpeningSteps
 mod TableLines
 mod TransactionLines

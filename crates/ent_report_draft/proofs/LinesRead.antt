@@ -3,7 +3,6 @@ use Rattle.std.proofs.Common.{◌≡◌, ℕ, Bool, true, false, cond, eqb, List
 use Rattle.std.proofs.lemmas.Bool.{eqb-true}
 use Rattle.std.proofs.lemmas.List.{append-nil}
 use Rattle.std.specs.List.{AllByRecursion}
-use Rattle.ent_text.specs.declared.token.TokenKind.TheVariants.{Literal}
 use Rattle.ent_value.specs.Print.{quoted, row_text}
 use Rattle.ent_value.specs.Refusal.{Gives, ◌>>=◌}
 use Rattle.ent_value.specs.declared.refusal.Refusal.{Refusal}
@@ -14,6 +13,9 @@ use Rattle.ent_line.specs.declared.fault.LineFault.{LineFault}
 use Rattle.ent_line.specs.declared.fault.LineFault.TheVariants.{Misfit}
 use Rattle.ent_line.specs.Pieces.{Read, row_at}
 use Rattle.ent_line.specs.Written as written
+use Rattle.ent_tree.specs.declared.declaration.Create.{Create}
+use Rattle.ent_section_lines.specs.Openings.{IsDeclared}
+use Rattle.ent_history_form.specs.Opening.{IsDeclaration}
 use Rattle.ent_history_form.specs.Parts as parts
 use Rattle.ent_report_draft.specs.Reading.{Reads, IsRowLine, whole_row_at}
 
@@ -57,6 +59,28 @@ to_row values h = (h.0, to_values values h.1)
 
 pub from_row : (values : List Value) → parts.IsRow values → written.IsRow values
 from_row values h = (h.0, from_values values h.1)
+
+-- ---- tables of the opening
+
+pub to_declaration : (create : Create) → IsDeclared create → IsDeclaration create
+to_declaration create h = record {
+  name = h.name;
+  unplaced = h.unplaced;
+  some = h.some;
+  few = h.few;
+  columns = h.columns;
+  distinct = h.distinct;
+}
+
+pub from_declaration : (create : Create) → IsDeclaration create → IsDeclared create
+from_declaration create h = record {
+  name = h.name;
+  unplaced = h.unplaced;
+  some = h.some;
+  few = h.few;
+  columns = h.columns;
+  distinct = h.distinct;
+}
 
 -- ---- rows
 

@@ -1,11 +1,9 @@
 -- The opening as it grows.
-use Rattle.std.proofs.Common.{◌≡◌, ◌⊎◌, ℕ, ◌-◌, ◌<◌, ◌≤◌, Bool, true, false, cond, List, [], ◌∷◌, ◌++◌, map, length, Some, None, Option, refl, sym, ap, subst, ◌∙◌, inl, inr, arith}
+use Rattle.std.proofs.Common.{◌≡◌, ℕ, ◌-◌, ◌<◌, ◌≤◌, Bool, true, false, List, [], ◌∷◌, ◌++◌, map, length, Some, None, Option, refl, sym, ap, subst, ◌∙◌, inl, inr, arith}
 use Rattle.std.specs.List.{filter, AllByRecursion}
-use Rattle.std.specs.Cmp.{IsTotalOrder}
 use Rattle.std.specs.Cmp.Lexicographic.{slice_cmp, same_text, nat_list_eq_equiv}
 use Rattle.std.specs.Ordering.{nat_cmp, ordering_reverse}
-use Rattle.std.specs.declared.cmp.Ordering.{Ordering}
-use Rattle.std.specs.declared.cmp.Ordering.TheVariants.{Less, Equal, Greater}
+use Rattle.std.specs.declared.cmp.Ordering.TheVariants.{Less, Greater}
 use Rattle.std.proofs.lemmas.Cmp.{nat_list_cmp_total}
 use Rattle.std.proofs.lemmas.List.{length-map, map-append}
 use Rattle.std.proofs.lemmas.List.Elements.{filter-append}
@@ -17,8 +15,7 @@ use Rattle.ent_semantics.specs.Serial.{numbered}
 use Rattle.ent_history.specs.declared.history.History.{History}
 use Rattle.ent_history.specs.declared.history.Shown.{Shown}
 use Rattle.ent_report_draft.specs.Due.{TableTakes}
-use Rattle.ent_value.specs.Print.{row_text}
-use Rattle.ent_value.specs.Value.{kinds_of, kind_of, row_cmp}
+use Rattle.ent_value.specs.Value.{kinds_of, kind_of}
 use Rattle.ent_value.specs.declared.value.Value.{Value}
 use Rattle.ent_tree.specs.declared.declaration.Column.{Column}
 use Rattle.ent_tree.specs.declared.declaration.Create.{Create}
@@ -31,7 +28,7 @@ use Rattle.ent_history.specs.Told.{opening_row}
 use Rattle.ent_history_form.specs.Parts.{Ascends}
 use Rattle.ent_history_form.specs.Opening.{NamesAscend}
 use Rattle.ent_history_form.specs.Draft.{last_of}
-use Rattle.ent_report_draft.specs.Opened.{EndsBelow, IsInOrder, IsUpTo, OpeningTakes, literals_of, with_row, with_table}
+use Rattle.ent_report_draft.specs.Opened.{EndsBelow, IsInOrder, IsUpTo, OpeningTakes, with_row}
 use Rattle.ent_report_draft.proofs.Ends.{ascends_if, ends_below_if, last_of-push, last_split}
 
 -- ---- names

@@ -1,5 +1,5 @@
 -- What a step says, from what was read and what can stand.
-use Rattle.std.proofs.Common.{◌≡◌, ℕ, zero, suc, ◌-◌, ◌<◌, List, [], ◌∷◌, ◌++◌, Ok, Err, Result, refl, ap, arith}
+use Rattle.std.proofs.Common.{◌≡◌, ℕ, zero, suc, ◌-◌, ◌<◌, List, [], ◌∷◌, Err, Result, refl, ap, arith}
 use Rattle.std.proofs.lemmas.List.{append_cancel_right}
 use Rattle.ent_value.specs.declared.refusal.Refusal.{Refusal}
 use Rattle.ent_value.specs.declared.refusal.Refusal.TheVariants.{Memory, Fault}

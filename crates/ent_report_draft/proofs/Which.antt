@@ -1,11 +1,10 @@
 -- Which sort of line can stand, by what is due.
 use Rattle.std.proofs.Common.{◌≡◌, ℕ, List, sym, ◌∙◌}
-use Rattle.ent_history_form.specs.Draft.{Draft, Due, Heading, Free, OpeningRows, AnswerRows, Members, TableRows, Ended}
-use Rattle.ent_history_form.specs.Opening.{HeadingStands, OpeningStands, OpeningRowStands}
-use Rattle.ent_history_form.specs.Scripts.{ScriptStands}
-use Rattle.ent_history_form.specs.Answers.{TxStands, AnswerStands, AnswerRowStands}
-use Rattle.ent_history_form.specs.Joints.{JointStands, MemberStands}
-use Rattle.ent_history_form.specs.Tables.{TableStands, TableRowStands, EndStands}
+use Rattle.ent_history_form.specs.Draft.{Draft, Heading, Free, OpeningRows, AnswerRows, Members, TableRows, Ended}
+use Rattle.ent_history_form.specs.Opening.{HeadingStands, OpeningRowStands}
+use Rattle.ent_history_form.specs.Answers.{AnswerRowStands}
+use Rattle.ent_history_form.specs.Joints.{MemberStands}
+use Rattle.ent_history_form.specs.Tables.{TableRowStands}
 use Rattle.ent_history_form.specs.Stands.{Stands}
 use Rattle.ent_history_form.specs.Stands as stands
 

@@ -3,14 +3,22 @@ use Rattle.std.specs.Prelude.{◌≡◌, ◌<◌, List, [], length, map, None, S
 use Rattle.ent_value.specs.Value.{kinds_of}
 use Rattle.ent_value.specs.declared.value.Value.{Value}
 use Rattle.ent_tree.specs.declared.declaration.Create.{Create}
+use Rattle.ent_tree.specs.declared.limits.TheConstants.{MOST_TABLES}
 use Rattle.ent_semantics.specs.Serial.{numbered}
 use Rattle.ent_semantics.specs.declared.answer.Answer.{Answer}
 use Rattle.ent_history.specs.declared.history.History.{History}
 use Rattle.ent_history.specs.declared.history.Shown.{Shown}
 use Rattle.ent_history.specs.declared.history.Told.{Told}
 use Rattle.ent_history_form.specs.Parts.{Ascends}
-use Rattle.ent_history_form.specs.Draft.{Draft, Free, NothingBelowTransactions, TransactionsAreTold, answer_due, last_of}
+use Rattle.ent_history_form.specs.Draft.{Draft, Free, NothingBelowScripts, NothingBelowTransactions, TransactionsAreTold, answer_due, last_of}
 use Rattle.ent_history_form.specs.Answers.{rows_of}
+
+-- the line of a table of the opening, which one aside
+pub record OpeningIsNext (draft : Draft) : Type 0 where
+  pub free : draft.due ≡ Free
+  pub no_scripts : draft.told.scripts ≡ []
+  pub nothing_below : NothingBelowScripts draft.told
+  pub few_tables : length draft.told.opening.tables < MOST_TABLES
 
 -- the line of a transaction
 pub record TxIsNext (draft : Draft) : Type 0 where

@@ -1,5 +1,5 @@
 -- The opening as far as it is told, and the last row of its last table.
-use Rattle.std.specs.Prelude.{◌≡◌, ◌⊎◌, List, [], ◌∷◌, ◌++◌, map, Option, Some, None}
+use Rattle.std.specs.Prelude.{◌≡◌, ◌≤◌, ◌+◌, ℕ, length, ◌⊎◌, List, [], ◌∷◌, ◌++◌, map, Option, Some, None}
 use Rattle.std.specs.List.{AllByRecursion}
 use Rattle.std.specs.Cmp.Lexicographic.{slice_cmp}
 use Rattle.std.specs.Ordering.{nat_cmp}
@@ -9,10 +9,12 @@ use Rattle.ent_value.specs.declared.value.Value.{Value}
 use Rattle.ent_tree.specs.declared.declaration.Create.{Create}
 use Rattle.ent_tree.specs.declared.declaration.Opening.{Opening}
 use Rattle.ent_tree.specs.declared.declaration.OpeningRow.{OpeningRow}
+use Rattle.ent_tree.specs.declared.limits.TheConstants.{MOST_OPENING_ROWS}
 use Rattle.ent_tree.specs.declared.operand.Literal.{Literal}
 use Rattle.ent_semantics.specs.Database.{Name}
 use Rattle.ent_history.specs.Text.{rows_under}
 use Rattle.ent_history.specs.Told.{opening_row}
+use Rattle.ent_history_form.specs.Opening.{NamesAscend}
 use Rattle.ent_history_form.specs.Parts.{Ascends}
 use Rattle.ent_history_form.specs.Draft.{last_of}
 
@@ -39,6 +41,11 @@ pub record OpeningTakes (opening : Opening) (row : List Value) : Type 0 where
   pub last : last_of opening.tables ≡ Some create
   pub kinds : kinds_of row ≡ map (λ column. column.kind) create.columns
   pub ascends : Ascends (rows_under opening create.name.name) row
+
+-- a table with so many rows that can stand below those above
+pub record Opens (opening : Opening) (create : Create) (count : ℕ) : Type 0 where
+  pub ascends : NamesAscend opening.tables create
+  pub few_rows : length opening.rows + count ≤ MOST_OPENING_ROWS
 
 abbrev pub literals_of : List Value → List Literal
 literals_of row = map (λ value. record { value = value; place = 0 }) row

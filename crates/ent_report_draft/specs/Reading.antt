@@ -1,10 +1,11 @@
 -- What is read of a line, without its end.
-use Rattle.std.specs.Prelude.{◌≡◌, ◌==◌, ℕ, List, [], length, Result, Ok, Err, if◌then◌else◌}
+use Rattle.std.specs.Prelude.{◌≡◌, ◌==◌, ℕ, List, length, Result, Ok, Err, if◌then◌else◌}
 use Rattle.ent_value.specs.Print.{row_text}
 use Rattle.ent_value.specs.Refusal.{◌>>=◌}
 use Rattle.ent_value.specs.declared.refusal.Refusal.{Refusal}
 use Rattle.ent_value.specs.declared.refusal.Refusal.TheVariants.{Memory, Fault}
 use Rattle.ent_value.specs.declared.value.Value.{Value}
+use Rattle.ent_tree.specs.declared.declaration.Create.{Create}
 use Rattle.ent_tree.specs.declared.script.Statement.{Statement}
 use Rattle.ent_semantics.specs.declared.answer.Answer.{Answer}
 use Rattle.ent_semantics.specs.declared.book.Fate.{Fate}
@@ -15,6 +16,8 @@ use Rattle.ent_line.specs.declared.fault.LineFault.TheVariants.{Misfit}
 use Rattle.ent_line.specs.Pieces.{row_at}
 use Rattle.ent_report_lines.specs.Counts.{placed_line, set_line, table_line}
 use Rattle.ent_report_lines.specs.Fates.{transaction_text}
+use Rattle.ent_section_lines.specs.Openings.{opening_text}
+use Rattle.ent_history_form.specs.Opening.{IsDeclaration}
 use Rattle.ent_history_form.specs.Parts.{IsNumber, IsRow, IsValue}
 use Rattle.ent_history_form.specs.Answers.{HasSoMany, IsAnswer, IsFate, IsOfSort, answer_line_text}
 
@@ -23,6 +26,10 @@ abbrev pub Reads : {A : Type 0} → (A → Type 0) → Result A (Refusal LineFau
 Reads {A = A} is (Ok x) = is x × ((y : A) → is y → y ≡ x)
 Reads is (Err Memory) = Unit {0}
 Reads {A = A} is (Err (Fault fault)) = (x : A) → is x → ⊥
+
+-- a table of the opening, and how many rows it has
+abbrev pub IsOpeningLine : List ℕ → Create × ℕ → Type 0
+IsOpeningLine text x = (text ≡ opening_text x.0 x.1) × IsDeclaration x.0 × IsNumber x.1
 
 -- a transaction's number and its fate
 abbrev pub IsTxLine : List ℕ → ℕ × Fate → Type 0

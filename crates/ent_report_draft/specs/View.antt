@@ -1,5 +1,5 @@
 -- What is due, as the definition has it.
-use Rattle.std.specs.Prelude.{ℕ, ◌+◌, ◌<◌, List, reverse}
+use Rattle.std.specs.Prelude.{ℕ, ◌+◌, ◌<◌, reverse}
 use Rattle.ent_tree.specs.declared.limits.TheConstants.{MOST_OPENING_ROWS}
 use Rattle.ent_report_draft.specs.declared.due.Due.{Due as Held}
 use Rattle.ent_report_draft.specs.declared.due.Due.TheVariants as held

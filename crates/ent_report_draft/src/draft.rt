@@ -53,6 +53,8 @@ impl Model for Draft {
       };
       due = due_of d.due;
     } };
+
+    ghost invariant = { λ d. HasRoom (due_of d.due) (length d.opening.rows) };
 }
 
 impl Draft {

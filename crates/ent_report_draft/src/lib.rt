@@ -11,6 +11,7 @@ mod frame;
 mod kinds;
 mod lists;
 mod opened;
+mod opening;
 mod reading;
 mod tables;
 mod told;

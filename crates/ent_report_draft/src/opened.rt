@@ -6,7 +6,7 @@ ghost use Rattle.ent_tree.specs.declared.limits.TheConstants.{MOST_OPENING_ROWS,
 ghost use Rattle.ent_history_form.specs.Opening.{NamesAscend};
 ghost use Rattle.ent_history.specs.Told.{opening_row};
 ghost use Rattle.ent_history_form.specs.Draft.{last_of};
-ghost use Rattle.ent_report_draft.specs.Opened.{EndsBelow, OpeningTakes, literals_of, with_row, with_table};
+ghost use Rattle.ent_report_draft.specs.Opened.{EndsBelow, OpeningTakes, Opens, literals_of, with_row, with_table};
 
 use crate::kinds::is_of_kinds;
 use crate::lists::last;
@@ -87,6 +87,16 @@ fn is_behind(last_row: &Option<Row>, row: &Row) -> bool
     }
 }
 
+/// Whether a table's name comes behind that of the last table, where there is one.
+fn comes_behind(tables: &[Create], create: &Create) -> bool
+    ensures { IsTrue result ↔ NamesAscend tables.now create.now }
+{
+    match last(tables) {
+        Some(last) => last.name.name.cmp(&create.name.name).is_lt(),
+        None => true,
+    }
+}
+
 impl Opened {
     /// No table yet.
     pub(crate) fn new(alloc: Global) -> Self
@@ -155,6 +165,14 @@ impl Opened {
         self.rows.push(opened)?;
         self.last_row = Some(row);
         Ok(())
+    }
+
+    /// Whether a table with so many rows can stand below those above.
+    pub(crate) fn opens(&self, create: &Create, count: u64) -> bool
+        ensures { IsTrue result ↔ Opens self.now create.now count }
+    {
+        let room = MOST_OPENING_ROWS - self.rows.len();
+        comes_behind(self.tables.as_slice(), create) && count <= room as u64
     }
 
     /// Opens a table whose name comes behind those above.

@@ -4,16 +4,26 @@ ghost use Rattle.std.specs.Char.{is_ascii_digit};
 ghost use Rattle.std.specs.Fmt.{decimal};
 ghost use Rattle.ent_value.specs.Refusal.{Gives};
 ghost use Rattle.ent_line.specs.Written.{Stops};
-ghost use Rattle.ent_report_draft.specs.Reading.{IsPlacedLine, IsRowLine, IsSetLine, IsTableLine, IsTxLine, Reads};
+ghost use Rattle.ent_report_draft.specs.Reading.{IsOpeningLine, IsPlacedLine, IsRowLine, IsSetLine, IsTableLine, IsTxLine, Reads};
 ghost use Rattle.ent_report_draft.specs.Reading.{whole_row_at};
 
 use ent_line::{LineFault, row, rows_are_read_as_written};
 use ent_report_lines::{
     counts_are_read_as_written, placed, set, table, transaction, transactions_are_read_as_written,
 };
+use ent_section_lines::{opening, openings_are_read_as_written};
 use ent_semantics::Fate;
+use ent_tree::Create;
 use ent_value::{Name, Refusal, Row, Value};
 use std::alloc::Global;
+
+/// The line of a table of the opening: the table, and how many rows follow.
+pub(crate) fn opening_line(alloc: Global, text: &[u8]) -> Result<(Create, u64), Refusal<LineFault>>
+    ensures { Reads (IsOpeningLine text.now) result }
+{
+    openings_are_read_as_written();
+    opening(alloc, text)
+}
 
 /// The line of a transaction: its number and its fate.
 pub(crate) fn tx_line(text: &[u8]) -> Result<(u64, Fate), Refusal<LineFault>>

@@ -1,4 +1,4 @@
-use Rattle.std.proofs.Common.{◌≡◌, ◌∙◌, ap, sym, true, false}
+use Rattle.std.proofs.Common.{◌∙◌, ap, sym, true, false}
 use Rattle.ent_tree.specs.declared.declaration.Column.{Column}
 use Rattle.ent_report_draft.proofs.OpeningSteps.{kinds_at, never}
 use Rattle.ent_report_draft.proofs.kinds.is_of_kinds.Goals as goal

@@ -1,4 +1,4 @@
-use Rattle.std.proofs.Common.{◌≡◌, ◌-◌, ◌∙◌, ap, map, refl, subst, sym, true, length}
+use Rattle.std.proofs.Common.{◌≡◌, ◌-◌, ◌∙◌, ap, map, refl, subst, sym, true}
 use Rattle.std.specs.Prelude.{slice_get}
 use Rattle.ent_value.specs.Value.{kinds_of}
 use Rattle.ent_tree.specs.declared.declaration.Column.{Column}
