@@ -13,8 +13,9 @@ use Rattle.ent_protocol.specs.PoolEvents.{in_joined_group, joining}
 use Rattle.ent_protocol.specs.State.{State, Member}
 use Rattle.ent_bounds.proofs.Askings.{AreAsked, AsksAs, asking_tx, next_same, of_askings, to_askings, pool_distinct}
 use Rattle.ent_bounds.proofs.Askings.{present_in_all}
-use Rattle.ent_bounds.proofs.Lists.{In, Pairs, Below, any_in, any_some, clash, contains_in, in_contains, number_itself}
-use Rattle.ent_bounds.proofs.Lists.{of_map, same_number, to_map, turned}
+use Rattle.ent_lists.specs.Elements.{In, Pairs, any_in, any_some, clash, contains_in, in_contains, number_itself}
+use Rattle.ent_lists.specs.Elements.{of_map, same_number, to_map, turned}
+use Rattle.ent_bounds.proofs.Lists.{Below}
 use Rattle.ent_bounds.proofs.Pools.{joined_in, swapped}
 
 -- a number is that of one of these statements

@@ -14,8 +14,9 @@ use Rattle.ent_protocol.specs.Member.{Next, Ordinary, Asks, Commits, RollsBack, 
 use Rattle.ent_protocol.specs.Member.{next_in, next_of, pool, statement_next}
 use Rattle.ent_protocol.specs.PoolEvents.{IsPresentComponent}
 use Rattle.ent_protocol.specs.State.{State, Submitted, Member}
-use Rattle.ent_bounds.proofs.Lists.{In, Pairs, of_map, to_map, of_flat, to_flat, contains_in}
-use Rattle.ent_bounds.proofs.Lists.{in_contains, nth_in, pairs_of, pairs_unmapped, one_of, same_lists, Below}
+use Rattle.ent_lists.specs.Elements.{In, Pairs, of_map, to_map, in_flat, to_flat, contains_in, in_contains, nth_in}
+use Rattle.ent_lists.specs.Elements.{index_pairs, pairs_unmapped}
+use Rattle.ent_bounds.proofs.Lists.{one_of, same_lists, Below}
 use Rattle.ent_bounds.proofs.Pools.{IsPart, component_of_all, component_of_part}
 
 -- ---- what stands next depends on the place and on what is bound
@@ -98,7 +99,7 @@ pub record IsAsker (s : State) (a : Asking) : Type 0 where
 
 pub of_askings : (s : State) (a : Asking) → In a (askings s) → IsAsker s a
 of_askings s a at =
-    let r = of_flat (asking_of s) s.active a at in
+    let r = in_flat (asking_of s) s.active a at in
     let asks = of_asking s r.0 a r.2 in
     record { member = r.0; at = r.1; asks = asks; own = ap asking_tx asks.is }
 
@@ -129,7 +130,7 @@ module _ (classes : (pool members others : List Posted) (shared member : Posted)
   in_order : (asked : List Asking) → IsPresentComponent s asked → Pairs (Below asking_tx) asked
   in_order asked component =
       pairs_unmapped posted_of (λ (x y : Posted). x.tx < y.tx) asked
-      (pairs_of (λ (x y : Posted). x.tx < y.tx) (map posted_of asked) component.component.ascending)
+      (index_pairs (λ (x y : Posted). x.tx < y.tx) (map posted_of asked) component.component.ascending)
 
   in_other : (one other : List Asking) → IsPresentComponent s one → IsPresentComponent s other
       → ((member : Posted) → Contains (map posted_of one) member → Contains (map posted_of other) member)

@@ -33,7 +33,7 @@ use Rattle.ent_protocol.specs.State.{State, Member, Change, Dormant, first_of}
 use Rattle.ent_protocol.specs.Step.{Step}
 use Rattle.ent_protocol.specs.Uses.{statement_uses, entangled_uses, blocker}
 use Rattle.ent_bounds.specs.Progress.{brings_work, is_progress}
-use Rattle.ent_bounds.proofs.Lists.{In, of_filter, neither, same_number}
+use Rattle.ent_lists.specs.Elements.{In, of_filter, neither, same_number}
 
 -- a member that isn't prepared, and whose statement isn't posted
 pub record IsIdle (s : State) (member : Member) : Type 0 where

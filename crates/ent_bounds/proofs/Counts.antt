@@ -17,9 +17,10 @@ use Rattle.ent_protocol.specs.State.{State, Submitted, Member, members, inserted
 use Rattle.std.proofs.Common.{nat_lt}
 use Rattle.ent_bounds.specs.Within.{begun, statements_behind, statements_in_run, unbegun, unbegun_of}
 use Rattle.ent_bounds.proofs.LentJobs.{IsPlaced}
-use Rattle.ent_bounds.proofs.Lists.{In, Pairs, Below, to_filter, any_in, in_second, one_of}
-use Rattle.ent_bounds.proofs.Lists.{shorter, shorter_without, sum_filtered, sum_without, sum_mapped_less}
-use Rattle.ent_bounds.proofs.Lists.{sum_below, same_number, number_itself, clash}
+use Rattle.ent_lists.specs.Elements.{In, Pairs, to_filter, any_in, in_second, shorter, same_number, number_itself}
+use Rattle.ent_lists.specs.Elements.{clash}
+use Rattle.ent_bounds.proofs.Lists.{Below, one_of, shorter_without, sum_filtered, sum_without, sum_mapped_less}
+use Rattle.ent_bounds.proofs.Lists.{sum_below}
 use Rattle.ent_bounds.proofs.ReachedStates.{member_tx}
 
 -- ---- statements behind others

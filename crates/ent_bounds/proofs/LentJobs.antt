@@ -19,8 +19,9 @@ use Rattle.ent_standing.specs.Lent.{AreOther, LentStandOnce}
 use Rattle.ent_bounds.proofs.Changes.{Act, Stays, Submits, Starts, Lends, Posts, Prepares, Steps, Fails, Picks, Answers}
 use Rattle.ent_bounds.proofs.Changes.{Tries, Ends, Recalls, after}
 use Rattle.ent_bounds.proofs.Changes as acts
-use Rattle.ent_bounds.proofs.Lists.{In, Pairs, in_first, in_second, in_either, of_filter, contains_in, in_contains}
-use Rattle.ent_bounds.proofs.Lists.{pairs_of, pairs_around}
+use Rattle.ent_lists.specs.Elements.{In, Pairs, in_first, in_second, in_either, of_filter, contains_in, in_contains}
+use Rattle.ent_lists.specs.Elements.{index_pairs}
+use Rattle.ent_bounds.proofs.Lists.{pairs_around}
 
 -- ---- places where a statement stands
 
@@ -194,7 +195,7 @@ tries s asked left job taken work once h =
     pairs : Pairs (λ (one other : Job). AreOther one.work other.work) (taken.before ++ job ∷ taken.behind)
     pairs =
         subst (Pairs (λ (one other : Job). AreOther one.work other.work)) taken.is_there
-        (pairs_of (λ (one other : Job). AreOther one.work other.work) s.lent once.once)
+        (index_pairs (λ (one other : Job). AreOther one.work other.work) s.lent once.once)
 
     apart : (other : Job) (more : List Asking) → In other left → other.work ≡ Joint more → more ≡ asked → ⊥
     apart other more at is same =

@@ -8,8 +8,8 @@ use Rattle.ent_closed.specs.declared.entangled.Atom.{Atom}
 use Rattle.ent_coordination.specs.Component.{SetOfTransactions, IsIn, IsSupported, IsInRemainder, AreJoined}
 use Rattle.ent_coordination.specs.Component.{AreLinkedIn, IsComponent}
 use Rattle.ent_coordination.specs.Pool.{Posted, CanMeet}
-use Rattle.ent_bounds.proofs.Lists.{both, and_true, same_number, number_itself, any_some, any_in}
-use Rattle.ent_bounds.proofs.Lists.{contains_in, in_contains}
+use Rattle.ent_lists.specs.Elements.{and_both, both_and, same_number, number_itself, any_some, any_in, contains_in}
+use Rattle.ent_lists.specs.Elements.{in_contains}
 
 pub swapped : (first second : Posted) → AreJoined first second → AreJoined second first
 swapped first second joined = (joined.0, turned joined.1)
@@ -52,13 +52,13 @@ module _ (keep : SetOfTransactions) (all part : List Posted) (kept : IsPart keep
       record {
         among = λ n. h.among n && keep n;
         supported = λ asker index post is_in is_post.
-            let two = both (h.among asker.tx) (keep asker.tx) is_in.1 in
+            let two = and_both (h.among asker.tx) (keep asker.tx) is_in.1 in
             let met = h.supported asker index post (kept.up asker is_in.0 two.1, two.0) is_post in
             let there = kept.down met.0 met.1.0 in
-            (met.0, (there.0, and_true (h.among met.0.tx) (keep met.0.tx) met.1.1 there.1), met.2);
+            (met.0, (there.0, both_and (h.among met.0.tx) (keep met.0.tx) met.1.1 there.1), met.2);
         is_in =
             let there = kept.down member h.is_in.0 in
-            (there.0, and_true (h.among member.tx) (keep member.tx) h.is_in.1 there.1);
+            (there.0, both_and (h.among member.tx) (keep member.tx) h.is_in.1 there.1);
       }
 
   linked_all : (n : ℕ) (first last : Posted) → AreLinkedIn n part first last → AreLinkedIn n all first last

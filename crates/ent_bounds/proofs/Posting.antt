@@ -8,8 +8,8 @@ use Rattle.ent_protocol.specs.Member.{askings, is_tx, next_in}
 use Rattle.ent_protocol.specs.State.{State, Submitted, Member}
 use Rattle.ent_semantics.specs.Serial.{numbered}
 use Rattle.ent_bounds.proofs.Askings.{AreAsked, AsksAs, AskTheSame, of_askings, to_askings}
-use Rattle.ent_bounds.proofs.Lists.{In, Pairs, Below, clash, number_itself, of_filter, of_map, one_of, same_number}
-use Rattle.ent_bounds.proofs.Lists.{to_filter, to_map}
+use Rattle.ent_lists.specs.Elements.{In, Pairs, clash, number_itself, of_filter, of_map, same_number, to_filter, to_map}
+use Rattle.ent_bounds.proofs.Lists.{Below, one_of}
 use Rattle.ent_bounds.proofs.ReachedStates.{member_tx}
 
 -- what a member asks depends on the scripts alone

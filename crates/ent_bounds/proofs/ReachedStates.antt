@@ -13,7 +13,8 @@ use Rattle.ent_standing.specs.Standing.{GoesOn}
 use Rattle.ent_bounds.proofs.Askings.{asking_tx}
 use Rattle.ent_bounds.proofs.Changes.{act_of}
 use Rattle.ent_bounds.proofs.LentJobs.{LentRight, kept_right}
-use Rattle.ent_bounds.proofs.Lists.{Pairs, Below, pairs_of}
+use Rattle.ent_lists.specs.Elements.{Pairs, index_pairs}
+use Rattle.ent_bounds.proofs.Lists.{Below}
 
 abbrev pub member_tx : Member → ℕ
 member_tx member = member.tx
@@ -66,8 +67,8 @@ module _ {F : Type 0} (forms : Forms F) (laws : Laws forms) where
   known s reached =
       let stand = laws.by_number s reached in
       record {
-        active = pairs_of (Below member_tx) s.active stand.active;
-        asked = pairs_of (Below asking_tx) (askings s) stand.asked;
+        active = index_pairs (Below member_tx) s.active stand.active;
+        asked = index_pairs (Below asking_tx) (askings s) stand.asked;
         once = laws.once s reached;
         lent = lent_right reached.0 s.opening s reached.1;
       }

@@ -14,8 +14,9 @@ use Rattle.ent_bounds.specs.Within.{HasOneOf, HitUntried, IsWithin, unbegun}
 use Rattle.ent_bounds.proofs.Askings.{AreAsked, AskTheSame, asked_there, asking_tx, of_askings, present_in_other}
 use Rattle.ent_bounds.proofs.Askings.{present_in_part, some_asked}
 use Rattle.ent_bounds.proofs.Counts.{members_counted}
-use Rattle.ent_bounds.proofs.Lists.{In, Pairs, Below, any_in, any_some, clash, contains_in, in_contains, number_itself}
-use Rattle.ent_bounds.proofs.Lists.{same_number, shorter_without, to_filter, to_map}
+use Rattle.ent_lists.specs.Elements.{In, Pairs, any_in, any_some, clash, contains_in, in_contains, number_itself}
+use Rattle.ent_lists.specs.Elements.{same_number, to_filter, to_map}
+use Rattle.ent_bounds.proofs.Lists.{Below, shorter_without}
 use Rattle.ent_bounds.proofs.Posting.{part_asked}
 use Rattle.ent_bounds.proofs.ReachedStates.{member_tx}
 

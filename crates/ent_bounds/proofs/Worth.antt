@@ -28,8 +28,9 @@ use Rattle.ent_bounds.proofs.Changes as acts
 use Rattle.ent_bounds.proofs.Counts.{answered_begun, begun_unposted, behind_placed, committed_begun, committed_counted}
 use Rattle.ent_bounds.proofs.Counts.{gone_begun, group_leaves, one_begins, prepared_begun, prepared_counted}
 use Rattle.ent_bounds.proofs.LentJobs.{IsPlaced, placed_next, taken_there}
-use Rattle.ent_bounds.proofs.Lists.{In, any_in, clash, contains_in, in_contains, number_itself, one_of}
-use Rattle.ent_bounds.proofs.Lists.{any_in, filter_none, in_first, in_second, sum_mapped, turned}
+use Rattle.ent_lists.specs.Elements.{In, any_in, clash, contains_in, in_contains, number_itself, any_in, filter_empty}
+use Rattle.ent_lists.specs.Elements.{in_first, in_second, turned}
+use Rattle.ent_bounds.proofs.Lists.{one_of, sum_mapped}
 use Rattle.ent_bounds.proofs.Posting.{prepared_asks, same_asked, same_members}
 use Rattle.ent_bounds.proofs.ReachedStates.{IsKnown, member_tx}
 use Rattle.ent_bounds.proofs.UsedUp.{IsUsed, kept, leaving, posted, settled}
@@ -236,7 +237,7 @@ module _ (classes : (pool members others : List Posted) (shared member : Posted)
   used s (Tries asked jobs back) most left known then new w = tries most left s asked jobs back known w
   used s Ends most left known then new w =
       ends most left s _
-      (filter_none _ s.prepared (none_left s s.prepared (λ m at. in_first s.prepared s.active m at)))
-      (filter_none _ s.active (none_left s s.active (λ m at. in_second s.prepared s.active m at))) w
+      (filter_empty _ s.prepared (none_left s s.prepared (λ m at. in_first s.prepared s.active m at)))
+      (filter_empty _ s.active (none_left s s.active (λ m at. in_second s.prepared s.active m at))) w
   used s Recalls most left known then new w =
       kept 0 most left s _ (same_members s _ refl refl) refl (itself (length (members s))) (nothing (unbegun s)) w

@@ -12,9 +12,9 @@ use Rattle.ent_protocol.specs.State.{State, Dormant, by_number, members}
 use Rattle.ent_protocol.specs.Tidy.{IsTidy}
 use Rattle.ent_standing.specs.Standing.{StandOnce, standing}
 use Rattle.ent_endings.specs.Fates.{HasOneFate, HaveFates}
-use Rattle.ent_endings.proofs.Lists.{In, Pairs, Apart, of_all, index_pairs, keys_apart, one_passes, of_map}
-use Rattle.ent_endings.proofs.Lists.{to_map, contains_in, in_contains, from_by_number, to_by_number}
-use Rattle.ent_endings.proofs.Lists.{by_number_ascends, keys_ascend}
+use Rattle.ent_lists.specs.Elements.{In, Pairs, of_all, index_pairs, of_map, to_map, contains_in, in_contains}
+use Rattle.ent_standing.specs.Numbered.{Apart, keys_apart, one_passes, from_by_number, to_by_number, by_number_ascends}
+use Rattle.ent_standing.specs.Numbered.{keys_ascend}
 use Rattle.ent_endings.proofs.Numbers.{tx_of}
 
 abbrev fated_tx : Fated → ℕ

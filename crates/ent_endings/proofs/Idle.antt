@@ -27,10 +27,10 @@ use Rattle.ent_protocol.specs.Waits.{NoDeadlock, waits}
 use Rattle.ent_standing.specs.ByNumber.{StandByNumber}
 use Rattle.ent_standing.specs.Standing.{StandOnce}
 use Rattle.ent_endings.specs.Idle.{IsHeldUp, IsIdleRound}
-use Rattle.ent_endings.proofs.Lists.{In, Pairs, Apart, Below, of_all, in_first, in_second, clash, neither, not_so}
-use Rattle.ent_endings.proofs.Lists.{same_number, none_passes, index_pairs, pairs_between}
-use Rattle.ent_endings.proofs.Lists.{pairs_behind, below_apart, one_of, one_passes, contains_in, to_map}
-use Rattle.ent_endings.proofs.Lists.{in_flat, of_map}
+use Rattle.ent_lists.specs.Elements.{In, Pairs, of_all, in_first, in_second, clash, neither, not_so, same_number}
+use Rattle.ent_lists.specs.Elements.{filter_empty, index_pairs, pairs_across, pairs_behind, contains_in, to_map}
+use Rattle.ent_lists.specs.Elements.{in_flat, of_map}
+use Rattle.ent_standing.specs.Numbered.{Apart, Below, below_apart, one_of, one_passes}
 use Rattle.ent_endings.proofs.Numbers.{tx_of, is_running, members_apart}
 use Rattle.ent_endings.proofs.Ready.{begins_next}
 
@@ -48,7 +48,7 @@ module _ (s : State) (once : StandOnce s) (m : Member) (at : In m (members s)) w
   not_fated : (fated : Fated) → In fated s.fates → (fated.tx == m.tx) ≡ false
   not_fated fated there =
       not_so (fated.tx == m.tx) (λ e.
-      pairs_between Differ (map tx_of (members s)) _ m.tx fated.tx all_apart (to_map tx_of (members s) m at)
+      pairs_across Differ (map tx_of (members s)) _ m.tx fated.tx all_apart (to_map tx_of (members s) m at)
       (in_second (map (λ (dormant : Dormant). dormant.tx) s.dormant) (map (λ (own : Fated). own.tx) s.fates) fated.tx
       (to_map (λ (own : Fated). own.tx) s.fates fated there))
       (sym (same_number fated.tx m.tx e)))
@@ -56,7 +56,7 @@ module _ (s : State) (once : StandOnce s) (m : Member) (at : In m (members s)) w
   not_asleep : (dormant : Dormant) → In dormant s.dormant → (dormant.tx == m.tx) ≡ false
   not_asleep dormant there =
       not_so (dormant.tx == m.tx) (λ e.
-      pairs_between Differ (map tx_of (members s)) _ m.tx dormant.tx all_apart (to_map tx_of (members s) m at)
+      pairs_across Differ (map tx_of (members s)) _ m.tx dormant.tx all_apart (to_map tx_of (members s) m at)
       (in_first (map (λ (own : Dormant). own.tx) s.dormant) (map (λ (own : Fated). own.tx) s.fates) dormant.tx
       (to_map (λ (own : Dormant). own.tx) s.dormant dormant there))
       (sym (same_number dormant.tx m.tx e)))
@@ -76,8 +76,8 @@ module _ (s : State) (once : StandOnce s) (by_number : StandByNumber s) (m : Mem
 
   not_prepared : filter (is_tx m.tx) s.prepared ≡ []
   not_prepared =
-      none_passes (is_tx m.tx) s.prepared (λ other there. not_so (other.tx == m.tx) (λ e.
-      pairs_between (Apart tx_of) s.prepared s.active other m (members_apart s by_number) there at
+      filter_empty (is_tx m.tx) s.prepared (λ other there. not_so (other.tx == m.tx) (λ e.
+      pairs_across (Apart tx_of) s.prepared s.active other m (members_apart s by_number) there at
       (same_number other.tx m.tx e)))
 
   stands_active : standing s m.tx ≡ Some (active_standing s m)
@@ -86,10 +86,10 @@ module _ (s : State) (once : StandOnce s) (by_number : StandByNumber s) (m : Mem
       ++ map (λ (member : Member). lookups.Prepared) (not_prepared i) ++ map (active_standing s) (only_it i))
     where
       no_fate : filter (λ (fated : Fated). fated.tx == m.tx) s.fates ≡ []
-      no_fate = none_passes (λ (fated : Fated). fated.tx == m.tx) s.fates (not_fated s once m of_run)
+      no_fate = filter_empty (λ (fated : Fated). fated.tx == m.tx) s.fates (not_fated s once m of_run)
 
       no_sleep : filter (λ (dormant : Dormant). dormant.tx == m.tx) s.dormant ≡ []
-      no_sleep = none_passes (λ (dormant : Dormant). dormant.tx == m.tx) s.dormant (not_asleep s once m of_run)
+      no_sleep = filter_empty (λ (dormant : Dormant). dormant.tx == m.tx) s.dormant (not_asleep s once m of_run)
 
   pub stands_ready : (m.posted || is_lent s m.tx) ≡ false
       → standing s m.tx ≡ Some (lookups.Ready (turn_of (next_of s m)))

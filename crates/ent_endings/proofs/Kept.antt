@@ -10,7 +10,7 @@ use Rattle.ent_protocol.specs.State.{State, Member}
 use Rattle.ent_protocol.specs.Step.{Step}
 use Rattle.ent_endings.specs.Input.{adds_script}
 use Rattle.ent_endings.proofs.Left.{Leaves, left_behind}
-use Rattle.ent_endings.proofs.Lists.{clash}
+use Rattle.ent_lists.specs.Elements.{clash}
 
 finished_kept : (s : State) (m : Member) (c : Statement Value) (outcome : Outcome)
     → (finished s m c outcome).submitted ≡ s.submitted

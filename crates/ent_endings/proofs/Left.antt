@@ -27,7 +27,7 @@ use Rattle.ent_protocol.specs.Step.{Step}
 use Rattle.ent_protocol.specs.Uses.{statement_uses, entangled_uses, blocker}
 use Rattle.ent_endings.specs.Input.{adds_script}
 use Rattle.ent_endings.specs.Lending.{lent_by}
-use Rattle.ent_endings.proofs.Lists.{In, of_filter, same_number}
+use Rattle.ent_lists.specs.Elements.{In, of_filter, same_number}
 
 -- a job came back, and these are the others
 pub record CameBack (s : State) (left : List Job) : Type 0 where

@@ -8,10 +8,11 @@ use Rattle.ent_protocol.specs.Rollback.{is_among}
 use Rattle.ent_protocol.specs.State.{State, Member, members, by_number}
 use Rattle.ent_protocol.specs.Tidy.{is_member}
 use Rattle.ent_standing.specs.ByNumber.{StandByNumber}
-use Rattle.ent_endings.proofs.Lists.{In, Pairs, Apart, of_all, to_all, in_first, in_second, in_either, clash}
-use Rattle.ent_endings.proofs.Lists.{or_first, or_second, or_cases, number_itself, same_number, to_map, of_map}
-use Rattle.ent_endings.proofs.Lists.{from_by_number, to_by_number, by_number_ascends, by_number_long, keys_apart}
-use Rattle.ent_endings.proofs.Lists.{keys_ascend, pairs_index, contains_in, in_contains}
+use Rattle.ent_lists.specs.Elements.{In, Pairs, of_all, to_all, in_first, in_second, in_either, clash, or_first}
+use Rattle.ent_lists.specs.Elements.{or_second, or_cases, number_itself, same_number, to_map, of_map, pairs_index}
+use Rattle.ent_lists.specs.Elements.{contains_in, in_contains}
+use Rattle.ent_standing.specs.Numbered.{Apart, from_by_number, to_by_number, by_number_ascends, by_number_long}
+use Rattle.ent_standing.specs.Numbered.{keys_apart, keys_ascend}
 
 abbrev pub tx_of : Member → ℕ
 tx_of member = member.tx

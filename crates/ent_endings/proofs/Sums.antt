@@ -4,7 +4,7 @@ use Rattle.std.proofs.Common.{sym, ap, ◌∙◌, inl, inr, arith, nat_lt, Optio
 use Rattle.std.proofs.lemmas.List.Sums.{sum_by-cons}
 use Rattle.std.specs.List.{filter, filter_map, cons_option, sum_by}
 use Rattle.ent_protocol.specs.State.{inserted, by_number}
-use Rattle.ent_endings.proofs.Lists.{In, clash}
+use Rattle.ent_lists.specs.Elements.{In, clash}
 
 module _ {X : Type 0} (f : X → ℕ) where
   pub sum_inserted : (number : X → ℕ) (x : X) (xs : List X) → sum_by f (inserted number x xs) ≡ f x + sum_by f xs

@@ -27,8 +27,8 @@ use Rattle.ent_standing.specs.ByNumber.{StandByNumber}
 use Rattle.ent_endings.specs.Input.{adds_script}
 use Rattle.ent_endings.specs.Tries.{present_run, runs_beyond, tries_left}
 use Rattle.ent_endings.proofs.Left.{Leaves, left_behind}
-use Rattle.ent_endings.proofs.Lists.{In, Apart, Pairs, of_all, clash, same_number, number_itself}
-use Rattle.ent_endings.proofs.Lists.{filter_joined, one_of, pairs_second, to_by_number}
+use Rattle.ent_lists.specs.Elements.{In, Pairs, of_all, clash, same_number, number_itself, filter_joined, pairs_second}
+use Rattle.ent_standing.specs.Numbered.{Apart, one_of, to_by_number}
 use Rattle.ent_endings.proofs.Numbers.{tx_of, in_among, members_apart}
 use Rattle.ent_endings.proofs.Sums.{sum_by_number, sum_fewer, sum_filtered, sum_given, sum_lowered, sum_mapped}
 use Rattle.ent_endings.proofs.Sums.{sum_without}

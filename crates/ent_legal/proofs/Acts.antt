@@ -16,9 +16,8 @@ use Rattle.ent_protocol.specs.Rollback.{put_back}
 use Rattle.ent_protocol.specs.State.{Change, Use}
 use Rattle.ent_legal.specs.Faithful.{number_of, is_used, is_owned}
 use Rattle.ent_legal.specs.History.{History, Replays, AreSerial}
-use Rattle.ent_legal.proofs.Lists.{In, Pairs, of_all, to_all, all_second, all_map, pairs_map}
-use Rattle.ent_legal.proofs.Lists.{in_first, in_second, in_either, to_map}
-use Rattle.ent_legal.proofs.Lists.{map_joined, pairs_second}
+use Rattle.ent_lists.specs.Elements.{In, Pairs, of_all, to_all, all_second, all_map, pairs_map, in_first, in_second}
+use Rattle.ent_lists.specs.Elements.{in_either, to_map, map_joined, pairs_second}
 use Rattle.ent_legal.proofs.Frame.{Laws, IsCovered, held, unowned, serial_joined}
 use Rattle.ent_legal.proofs.Frame.{serial_parts, serial_kept}
 use Rattle.ent_legal.proofs.Sound.{Fit, AreApart, IsOwner, Sound}

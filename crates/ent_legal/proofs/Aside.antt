@@ -16,8 +16,8 @@ use Rattle.ent_legal.specs.History.{History}
 use Rattle.ent_legal.specs.Faithful.{is_used}
 use Rattle.ent_legal.proofs.Answered.{OtherAsking, IsPresent}
 use Rattle.ent_legal.proofs.Undo.{number_itself}
-use Rattle.ent_legal.proofs.Lists.{In, Pairs, of_all, to_all, all_joined, any_in, to_map, to_filter, pairs_before}
-use Rattle.ent_legal.proofs.Lists.{in_first, in_second, in_either, nobody, pairs_joined}
+use Rattle.ent_lists.specs.Elements.{In, Pairs, of_all, to_all, all_joined, any_in, to_map, to_filter, pairs_before}
+use Rattle.ent_lists.specs.Elements.{in_first, in_second, in_either, nobody, pairs_joined}
 use Rattle.ent_legal.proofs.Outcomes.{seen_same, used_first, used_second}
 use Rattle.ent_legal.proofs.Deeds.{HoldsUses}
 use Rattle.ent_legal.proofs.Locks.{used_got}

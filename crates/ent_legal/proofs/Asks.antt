@@ -25,7 +25,7 @@ use Rattle.ent_semantics.specs.Statement.{statement_meaning}
 use Rattle.ent_semantics.specs.Term.{known_value, expression_value}
 use Rattle.ent_protocol.specs.Member.{environment_of}
 use Rattle.ent_legal.specs.History.{History, Replays, AreSerial}
-use Rattle.ent_legal.proofs.Lists.{In, in_either, map_joined}
+use Rattle.ent_lists.specs.Elements.{In, in_either, map_joined}
 use Rattle.ent_legal.proofs.Frame.{some_run}
 
 -- an entangled statement that was answered

@@ -14,8 +14,8 @@ use Rattle.ent_protocol.specs.Uses.{blocker}
 use Rattle.ent_legal.specs.Faithful.{number_of, is_used, is_owned}
 use Rattle.ent_legal.specs.History.{History, Replays}
 use Rattle.ent_legal.specs.SerialState.{Follows, IsWhole}
-use Rattle.ent_legal.proofs.Lists.{In, Pairs, of_all, to_all, all_by, in_first, in_second, in_either, of_map, to_map}
-use Rattle.ent_legal.proofs.Lists.{clash, any_none, pairs_across, map_joined}
+use Rattle.ent_lists.specs.Elements.{In, Pairs, of_all, to_all, all_by, in_first, in_second, in_either, of_map, to_map}
+use Rattle.ent_lists.specs.Elements.{clash, any_none, pairs_across, map_joined}
 use Rattle.ent_legal.proofs.Frame.{Laws, IsCovered, apart_turned, WritesWithin, held}
 use Rattle.ent_legal.proofs.Undo.{same_number, other_number}
 use Rattle.ent_legal.proofs.Sound.{Fit, AreApart, fit_turned}

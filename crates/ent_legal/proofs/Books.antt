@@ -23,7 +23,7 @@ use Rattle.ent_protocol.specs.State.{State, Submitted}
 use Rattle.ent_legal.specs.Faithful.{AreFaithful}
 use Rattle.ent_legal.specs.History.{History, Replays, AreSerial}
 use Rattle.ent_legal.specs.SerialState.{IsOracled, IsWhole}
-use Rattle.ent_legal.proofs.Lists.{In, all_joined, all_first, of_all}
+use Rattle.ent_lists.specs.Elements.{In, all_joined, all_first, of_all}
 use Rattle.ent_legal.proofs.Frame.{Laws}
 use Rattle.ent_legal.proofs.Kept.{Kept, entry_from, map_map}
 use Rattle.ent_legal.proofs.Aside.{contains_in}

@@ -32,7 +32,7 @@ use Rattle.ent_protocol.specs.Uses.{exclusive, statement_uses}
 use Rattle.ent_legal.specs.Faithful.{number_of, is_used, is_owned, IsFaithful, IsFaithfulEntangled, AreAlike}
 use Rattle.ent_legal.specs.History.{History}
 use Rattle.ent_legal.specs.SerialState.{IsOracled, Follows}
-use Rattle.ent_legal.proofs.Lists.{all_joined}
+use Rattle.ent_lists.specs.Elements.{all_joined}
 use Rattle.ent_legal.proofs.Asks.{asks_at}
 use Rattle.ent_legal.proofs.Frame.{Laws, held, WritesWithin, IsCovered}
 use Rattle.ent_legal.proofs.Undo.{same_number, number_itself}

@@ -6,7 +6,7 @@ use Rattle.ent_semantics.specs.declared.book.Fated.{Fated}
 use Rattle.ent_protocol.specs.Commit.{commit_fates}
 use Rattle.ent_protocol.specs.Rollback.{Cause, fated_as, fated_by, dormant_by, fate_of}
 use Rattle.ent_protocol.specs.State.{Submitted, Member, Dormant}
-use Rattle.ent_legal.proofs.Lists.{In, Pairs, of_all, to_all, pairs_at}
+use Rattle.ent_lists.specs.Elements.{In, Pairs, of_all, to_all, pairs_at}
 use Rattle.ent_legal.proofs.Kept.{OtherMember, OtherFated, OtherDormant}
 
 -- ---- members that go to the dormant list

@@ -20,9 +20,9 @@ use Rattle.ent_protocol.specs.Uses.{statement_uses}
 use Rattle.ent_legal.specs.Faithful.{is_used, is_owned, AreFaithful}
 use Rattle.ent_legal.specs.History.{History}
 use Rattle.ent_legal.specs.SerialState.{Follows}
-use Rattle.ent_legal.proofs.Lists.{In, Same, of_all, to_all, all_joined, all_filtered, of_filter, to_filter}
-use Rattle.ent_legal.proofs.Lists.{in_either, in_first, in_second, of_map, to_map, map_joined, clash, turned}
-use Rattle.ent_legal.proofs.Lists.{pairs_at, pairs_map, pairs_by}
+use Rattle.ent_lists.specs.Elements.{In, Same, of_all, to_all, all_joined, all_filtered, of_filter, to_filter}
+use Rattle.ent_lists.specs.Elements.{in_either, in_first, in_second, of_map, to_map, map_joined, clash, turned}
+use Rattle.ent_lists.specs.Elements.{pairs_at, pairs_map, pairs_by}
 use Rattle.ent_legal.proofs.Frame.{Laws, apart_turned}
 use Rattle.ent_legal.proofs.Undo.{at_number, same_number, other_number, differ, set_elsewhere}
 use Rattle.ent_legal.proofs.Sound.{AreApart, has_tx, last}

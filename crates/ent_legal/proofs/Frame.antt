@@ -27,8 +27,8 @@ use Rattle.ent_protocol.specs.Member.{environment_of}
 use Rattle.ent_protocol.specs.State.{Member, Use}
 use Rattle.ent_legal.specs.Faithful.{number_of, is_used, is_owned}
 use Rattle.ent_legal.specs.History.{History, Replays, AreSerial}
-use Rattle.ent_legal.proofs.Lists.{In, Pairs, all_by, all_first, all_second, all_joined, all_filtered, of_all, to_all}
-use Rattle.ent_legal.proofs.Lists.{of_filter, clash, not_so, or_first, or_second, or_cases}
+use Rattle.ent_lists.specs.Elements.{In, Pairs, all_by, all_first, all_second, all_joined, all_filtered, of_all, to_all}
+use Rattle.ent_lists.specs.Elements.{of_filter, clash, not_so, or_first, or_second, or_cases}
 
 -- what a statement keeps to, as a law of a lower crate says it
 pub record Laws : Type 0 where

@@ -24,7 +24,7 @@ use Rattle.ent_legal.proofs.Joints.{JointsRight, AsksOf, OtherTx}
 use Rattle.ent_legal.proofs.Journals.{pairs_index}
 use Rattle.ent_legal.proofs.Kept.{Kept}
 use Rattle.ent_legal.proofs.Legal.{to_flat}
-use Rattle.ent_legal.proofs.Lists.{In, of_all, all_joined, of_map, to_map, map_joined}
+use Rattle.ent_lists.specs.Elements.{In, of_all, all_joined, of_map, to_map, map_joined}
 use Rattle.ent_legal.proofs.Reached.{reached_kept}
 use Rattle.ent_legal.proofs.SerialStates.{kept_serial}
 

@@ -26,8 +26,8 @@ use Rattle.ent_legal.proofs.Good.{histories_ask, histories_grounded, good_over}
 use Rattle.ent_legal.proofs.GroupRuns.{unprepared, group_runs, its_prepared, are_others}
 use Rattle.ent_legal.proofs.Joints.{JointsRight, AsksOf, right_part, of_own}
 use Rattle.ent_legal.proofs.Kept.{Kept}
-use Rattle.ent_legal.proofs.Lists.{In, all_joined, of_filter, to_filter, in_first, in_second, in_either, map_joined}
-use Rattle.ent_legal.proofs.Lists.{any_in, any_some}
+use Rattle.ent_lists.specs.Elements.{In, all_joined, of_filter, to_filter, in_first, in_second, in_either, map_joined}
+use Rattle.ent_lists.specs.Elements.{any_in, any_some}
 use Rattle.ent_legal.proofs.Reached.{reached_kept}
 use Rattle.ent_legal.proofs.Runs.{member_history, history_member}
 use Rattle.ent_legal.proofs.Undo.{same_number, number_itself}

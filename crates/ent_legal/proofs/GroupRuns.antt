@@ -18,9 +18,9 @@ use Rattle.ent_legal.proofs.Frame.{Laws, IsCovered, Apart, apart_turned, gather,
 use Rattle.ent_legal.proofs.Frame.{serial_kept, owned, unowned}
 use Rattle.ent_legal.proofs.Kept.{Kept, history_of, active_at, in_all, one_history}
 use Rattle.ent_legal.proofs.Left.{fit_at}
-use Rattle.ent_legal.proofs.Lists.{In, Pairs, of_all, all_first, all_second, all_joined, all_filtered, of_filter, to_filter}
-use Rattle.ent_legal.proofs.Lists.{in_first, in_second, in_either, pairs_of, pairs_filtered, pairs_joined, pairs_first}
-use Rattle.ent_legal.proofs.Lists.{pairs_second, pairs_across, pairs_at, map_filtered, clash, turned}
+use Rattle.ent_lists.specs.Elements.{In, Pairs, of_all, all_first, all_second, all_joined, all_filtered, of_filter}
+use Rattle.ent_lists.specs.Elements.{to_filter, in_first, in_second, in_either, pairs_of, pairs_filtered, pairs_joined}
+use Rattle.ent_lists.specs.Elements.{pairs_first, pairs_second, pairs_across, pairs_at, map_filtered, clash, turned}
 use Rattle.ent_legal.proofs.Reached.{reached_kept}
 use Rattle.ent_legal.proofs.Runs.{member_history, history_member}
 use Rattle.ent_legal.proofs.Sound.{Fit, has_tx, alone}

@@ -12,7 +12,7 @@ use Rattle.ent_protocol.specs.Job.{Job, Work, One, Joint, Single, Asking, tables
 use Rattle.ent_protocol.specs.Member.{Ordinary, next_in, statement_next, environment_of, is_single_of}
 use Rattle.ent_protocol.specs.State.{Submitted, Member, Use}
 use Rattle.ent_protocol.specs.Uses.{statement_uses, entangled_uses}
-use Rattle.ent_legal.proofs.Lists.{In, of_all, to_all}
+use Rattle.ent_lists.specs.Elements.{In, of_all, to_all}
 use Rattle.ent_legal.proofs.Undo.{number_itself}
 use Rattle.ent_legal.proofs.Outcomes.{SameAt, HasRoom}
 use Rattle.ent_legal.proofs.Deeds.{HoldsUses}

@@ -31,8 +31,8 @@ use Rattle.ent_protocol.specs.Uses.{statement_uses, entangled_uses}
 use Rattle.ent_legal.specs.Faithful.{number_of, is_used, is_owned, IsFaithful, IsFaithfulEntangled, AreFaithful}
 use Rattle.ent_legal.specs.History.{History, Replays}
 use Rattle.ent_legal.specs.SerialState.{Follows, IsWhole, IsOracled}
-use Rattle.ent_legal.proofs.Lists.{In, Pairs, of_all, in_either, of_map, to_map, pairs_across}
-use Rattle.ent_legal.proofs.Lists.{pairs_at, in_first, in_second, map_joined}
+use Rattle.ent_lists.specs.Elements.{In, Pairs, of_all, in_either, of_map, to_map, pairs_across, pairs_at, in_first}
+use Rattle.ent_lists.specs.Elements.{in_second, map_joined}
 use Rattle.ent_legal.proofs.Frame.{Laws, IsCovered, held}
 use Rattle.ent_legal.proofs.Sound.{Fit, AreApart}
 use Rattle.ent_legal.proofs.Acts.{Keeps}

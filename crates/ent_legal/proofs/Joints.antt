@@ -10,9 +10,9 @@ use Rattle.ent_semantics.specs.Database.{nothing_bound}
 use Rattle.ent_protocol.specs.Rollback.{is_among, is_joint_of}
 use Rattle.ent_protocol.specs.State.{Member}
 use Rattle.ent_legal.specs.History.{History}
-use Rattle.ent_legal.proofs.Lists.{pairs_by, In, Pairs, in_first, in_second, in_either, of_filter, to_filter}
-use Rattle.ent_legal.proofs.Lists.{pairs_joined, pairs_first, pairs_second, pairs_across, any_none, any_some, clash}
-use Rattle.ent_legal.proofs.Lists.{turned}
+use Rattle.ent_lists.specs.Elements.{pairs_by, In, Pairs, in_first, in_second, in_either, of_filter, to_filter}
+use Rattle.ent_lists.specs.Elements.{pairs_joined, pairs_first, pairs_second, pairs_across, any_none, any_some, clash}
+use Rattle.ent_lists.specs.Elements.{turned}
 use Rattle.ent_legal.proofs.Asks.{Ask, ask_member, ask_heads, ask_posts, history_asks, asks_tx}
 
 abbrev pub OtherTx : JointMember → JointMember → Type 0

@@ -15,7 +15,7 @@ use Rattle.ent_protocol.specs.Run.{Forms}
 use Rattle.ent_protocol.specs.State.{State, Submitted, by_number}
 use Rattle.ent_legal.specs.Faithful.{AreFaithful}
 use Rattle.ent_legal.specs.SerialState.{IsWhole}
-use Rattle.ent_legal.proofs.Lists.{In, Pairs, of_all, to_all, all_first, of_map}
+use Rattle.ent_lists.specs.Elements.{In, Pairs, of_all, to_all, all_first, of_map}
 use Rattle.ent_legal.proofs.Frame.{Laws}
 use Rattle.ent_legal.proofs.Locks.{by_number_same, by_number_pairs}
 use Rattle.ent_legal.proofs.Kept.{Kept, OtherFated, entry_from}

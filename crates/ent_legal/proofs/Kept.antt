@@ -21,8 +21,8 @@ use Rattle.ent_legal.specs.Faithful.{AreFaithful}
 use Rattle.ent_legal.specs.History.{History, AreSerial}
 use Rattle.ent_legal.specs.SerialState.{Follows, IsWhole}
 use Rattle.ent_legal.proofs.Joints.{JointsStand}
-use Rattle.ent_legal.proofs.Lists.{In, Pairs, Same, of_all, to_all, all_map, all_joined, all_first, all_second}
-use Rattle.ent_legal.proofs.Lists.{of_map, to_map, in_second, in_either, pairs_map}
+use Rattle.ent_lists.specs.Elements.{In, Pairs, Same, of_all, to_all, all_map, all_joined, all_first, all_second}
+use Rattle.ent_lists.specs.Elements.{of_map, to_map, in_second, in_either, pairs_map}
 use Rattle.ent_legal.proofs.Frame.{Laws}
 use Rattle.ent_legal.proofs.Sound.{Sound, Fit}
 use Rattle.ent_legal.proofs.Acts.{Keeps, sound_mapped, pairs_within}

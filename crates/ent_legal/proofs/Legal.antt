@@ -19,7 +19,7 @@ use Rattle.ent_protocol.specs.State.{State, Submitted, members}
 use Rattle.ent_legal.specs.Faithful.{AreFaithful}
 use Rattle.ent_legal.specs.History.{History, AreSerial}
 use Rattle.ent_legal.specs.SerialState.{IsWhole}
-use Rattle.ent_legal.proofs.Lists.{In, in_first, in_second, of_map, to_map, map_joined, clash}
+use Rattle.ent_lists.specs.Elements.{In, in_first, in_second, of_map, to_map, map_joined, clash}
 use Rattle.ent_legal.proofs.Frame.{Laws}
 use Rattle.ent_legal.proofs.Kept.{Kept}
 use Rattle.ent_legal.proofs.Left.{committed_stays}

@@ -1,4 +1,3 @@
-pub mod Lists
 pub mod Frame
 pub mod Undo
 pub mod Sound

@@ -9,8 +9,8 @@ use Rattle.ent_protocol.specs.Begin.{same_use, use_rank, with_uses, holding}
 use Rattle.ent_protocol.specs.State.{State, Member, Use, inserted, by_number}
 use Rattle.ent_protocol.specs.Uses.{uses_conflict, is_in_way, not_passed, in_way, least, blocker}
 use Rattle.ent_legal.specs.Faithful.{is_used, is_owned}
-use Rattle.ent_legal.proofs.Lists.{In, Pairs, Same, of_all, to_all, any_none, any_some, any_in, in_first, in_second}
-use Rattle.ent_legal.proofs.Lists.{to_filter, clash, not_so}
+use Rattle.ent_lists.specs.Elements.{In, Pairs, Same, of_all, to_all, any_none, any_some, any_in, in_first, in_second}
+use Rattle.ent_lists.specs.Elements.{to_filter, clash, not_so}
 use Rattle.ent_legal.proofs.Frame.{Apart}
 use Rattle.ent_legal.proofs.Undo.{same_number, number_itself, other_number}
 use Rattle.ent_legal.proofs.Deeds.{HoldsUses}

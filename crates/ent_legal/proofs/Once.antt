@@ -23,8 +23,8 @@ use Rattle.ent_legal.proofs.Asks.{Ask, ask_member, asks_at, asks_of, history_ask
 use Rattle.ent_legal.proofs.Frame.{Laws}
 use Rattle.ent_legal.proofs.Joints.{in_members, of_own}
 use Rattle.ent_legal.proofs.Kept.{Kept, entry_from, member_of, history_of, active_at, prepared_at}
-use Rattle.ent_legal.proofs.Lists.{In, Pairs, of_all, to_all, in_first, in_second, in_either, of_map, to_map, any_in}
-use Rattle.ent_legal.proofs.Lists.{any_some, pairs_second, pairs_across, filter_empty, not_so}
+use Rattle.ent_lists.specs.Elements.{In, Pairs, of_all, to_all, in_first, in_second, in_either, of_map, to_map, any_in}
+use Rattle.ent_lists.specs.Elements.{any_some, pairs_second, pairs_across, filter_empty, not_so}
 use Rattle.ent_legal.proofs.Reached.{reached_kept}
 use Rattle.ent_legal.proofs.Undo.{same_number, number_itself}
 

@@ -31,7 +31,7 @@ use Rattle.ent_protocol.specs.Member.{seen_now}
 use Rattle.ent_protocol.specs.State.{Use}
 use Rattle.ent_protocol.specs.Uses.{shared, exclusive, statement_uses, entangled_uses}
 use Rattle.ent_legal.specs.Faithful.{is_used}
-use Rattle.ent_legal.proofs.Lists.{or_first, or_second, or_cases}
+use Rattle.ent_lists.specs.Elements.{or_first, or_second, or_cases}
 use Rattle.ent_legal.proofs.Undo.{at_number, same_number, number_itself, differ}
 
 -- ---- what a job sees

@@ -10,7 +10,7 @@ use Rattle.ent_legal.specs.Faithful.{AreFaithful}
 use Rattle.ent_legal.specs.History.{History}
 use Rattle.ent_legal.specs.Present.{AreApart, UsesAreApart, IsPresentSingle, LentIsPresent, SameWhereUsed}
 use Rattle.ent_protocol.specs.Uses.{entangled_uses}
-use Rattle.ent_legal.proofs.Lists.{In, of_all, pairs_at}
+use Rattle.ent_lists.specs.Elements.{In, of_all, pairs_at}
 use Rattle.ent_legal.proofs.Frame.{Laws, apart_turned}
 use Rattle.ent_legal.proofs.Sound.{AreApart as ApartHistories, Fit, fit_turned}
 use Rattle.ent_legal.proofs.Jobs.{JobRight, WorkRight, SingleRight, AskingRight}

@@ -30,8 +30,8 @@ use Rattle.ent_protocol.specs.State.{State, Member, Dormant, first_of}
 use Rattle.ent_protocol.specs.Step.{Step}
 use Rattle.ent_protocol.specs.Uses.{statement_uses, entangled_uses, blocker}
 use Rattle.ent_legal.specs.Faithful.{AreFaithful}
-use Rattle.ent_legal.proofs.Lists.{In, Pairs, of_all, of_filter, in_first, in_second, in_either, neither, not_so}
-use Rattle.ent_legal.proofs.Lists.{pairs_first, pairs_second, pairs_across, pairs_joined}
+use Rattle.ent_lists.specs.Elements.{In, Pairs, of_all, of_filter, in_first, in_second, in_either, neither, not_so}
+use Rattle.ent_lists.specs.Elements.{pairs_first, pairs_second, pairs_across, pairs_joined}
 use Rattle.ent_legal.proofs.Frame.{Laws}
 use Rattle.ent_legal.proofs.Undo.{same_number}
 use Rattle.ent_legal.proofs.Deeds.{HoldsUses}

@@ -21,10 +21,10 @@ use Rattle.ent_legal.specs.Faithful.{AreFaithful}
 use Rattle.ent_legal.specs.History.{History, AreSerial}
 use Rattle.ent_legal.specs.SerialState.{Follows, IsWhole}
 use Rattle.ent_group.specs.declared.members.TheConstants.{MOST_MEMBERS}
-use Rattle.ent_legal.proofs.Lists.{In, Pairs, of_all, to_all, all_by, all_joined, all_second, all_map, in_first}
-use Rattle.ent_legal.proofs.Lists.{in_second, in_either, of_map, nobody, pairs_joined, pairs_first, pairs_second}
-use Rattle.ent_legal.proofs.Lists.{pairs_across, pairs_map, pairs_by, pairs_of, pairs_filtered, of_filter, to_filter}
-use Rattle.ent_legal.proofs.Lists.{filter_empty, clash}
+use Rattle.ent_lists.specs.Elements.{In, Pairs, of_all, to_all, all_by, all_joined, all_second, all_map, in_first}
+use Rattle.ent_lists.specs.Elements.{in_second, in_either, of_map, nobody, pairs_joined, pairs_first, pairs_second}
+use Rattle.ent_lists.specs.Elements.{pairs_across, pairs_map, pairs_by, pairs_of, pairs_filtered, of_filter, to_filter}
+use Rattle.ent_lists.specs.Elements.{filter_empty, clash}
 use Rattle.ent_legal.proofs.Frame.{Laws, IsCovered}
 use Rattle.ent_legal.proofs.Sound.{Fit, AreApart, Sound, IsOwner}
 use Rattle.ent_legal.proofs.Undo.{same_number, number_itself}

@@ -26,7 +26,7 @@ use Rattle.ent_protocol.specs.Member.{environment_of, next_in}
 use Rattle.ent_protocol.specs.State.{Submitted, Member}
 use Rattle.ent_legal.specs.Faithful.{InTurn}
 use Rattle.ent_legal.specs.History.{History, Replays}
-use Rattle.ent_legal.proofs.Lists.{all_first, all_second, all_joined}
+use Rattle.ent_lists.specs.Elements.{all_first, all_second, all_joined}
 use Rattle.ent_legal.proofs.Frame.{Laws, some_run}
 
 -- ---- what stands next

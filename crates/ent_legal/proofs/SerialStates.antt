@@ -9,7 +9,7 @@ use Rattle.ent_legal.specs.Faithful.{AreFaithful}
 use Rattle.ent_legal.specs.History.{AreSerial, History}
 use Rattle.ent_legal.specs.SerialState.{IsSerialState}
 use Rattle.ent_legal.proofs.Frame.{Laws}
-use Rattle.ent_legal.proofs.Lists.{pairs_by}
+use Rattle.ent_lists.specs.Elements.{pairs_by}
 use Rattle.ent_legal.proofs.Kept.{Kept, member_of}
 use Rattle.ent_legal.proofs.Aside.{contains_in, in_contains}
 use Rattle.ent_legal.proofs.Journals.{pairs_index}

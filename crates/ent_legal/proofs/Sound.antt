@@ -12,11 +12,11 @@ use Rattle.ent_protocol.specs.Rollback.{put_back}
 use Rattle.ent_protocol.specs.State.{Change}
 use Rattle.ent_legal.specs.Faithful.{number_of, is_used, is_owned}
 use Rattle.ent_legal.specs.History.{History, AreSerial}
-use Rattle.ent_legal.proofs.Lists.{In, Pairs, of_all, to_all, all_by, all_joined, all_filtered, of_filter, to_filter}
-use Rattle.ent_legal.proofs.Lists.{filter_empty, filter_joined, same_parted, pairs_of, pairs_filtered, pairs_joined}
-use Rattle.ent_legal.proofs.Lists.{pairs_first, pairs_second, pairs_across, pairs_parted, pairs_by}
-use Rattle.ent_legal.proofs.Lists.{in_first, in_second, in_either, all_first, all_second, any_none, any_some}
-use Rattle.ent_legal.proofs.Lists.{clash, turned, not_so}
+use Rattle.ent_lists.specs.Elements.{In, Pairs, of_all, to_all, all_by, all_joined, all_filtered, of_filter, to_filter}
+use Rattle.ent_lists.specs.Elements.{filter_empty, filter_joined, same_parted, pairs_of, pairs_filtered, pairs_joined}
+use Rattle.ent_lists.specs.Elements.{pairs_first, pairs_second, pairs_across, pairs_parted, pairs_by, in_first}
+use Rattle.ent_lists.specs.Elements.{in_second, in_either, all_first, all_second, any_none, any_some, clash, turned}
+use Rattle.ent_lists.specs.Elements.{not_so}
 use Rattle.ent_legal.proofs.Frame.{Laws, IsCovered, Apart, apart_turned, owned, owned_used, gather, serial_joined}
 use Rattle.ent_legal.proofs.Frame.{serial_parts, serial_kept}
 use Rattle.ent_legal.proofs.Undo.{number_itself, other_number, at_number, set_elsewhere, back, back_all}

@@ -21,9 +21,9 @@ use Rattle.ent_protocol.specs.Uses.{statement_uses, entangled_uses, blocker}
 use Rattle.ent_legal.specs.Faithful.{is_used, IsFaithful, AreFaithful}
 use Rattle.ent_legal.specs.History.{History}
 use Rattle.ent_legal.specs.SerialState.{Follows, IsWhole}
-use Rattle.ent_legal.proofs.Lists.{In, of_all, all_joined, all_filtered, of_filter, to_filter, in_either}
-use Rattle.ent_legal.proofs.Lists.{pairs_joined, any_none, clash, map_joined, map_filtered, same_filtered, Same}
-use Rattle.ent_legal.proofs.Lists.{pairs_filtered, in_first, in_second}
+use Rattle.ent_lists.specs.Elements.{In, of_all, all_joined, all_filtered, of_filter, to_filter, in_either}
+use Rattle.ent_lists.specs.Elements.{pairs_joined, any_none, clash, map_joined, map_filtered, same_filtered, Same}
+use Rattle.ent_lists.specs.Elements.{pairs_filtered, in_first, in_second}
 use Rattle.ent_legal.proofs.Frame.{Laws}
 use Rattle.ent_legal.proofs.Undo.{other_number, differ, same_number}
 use Rattle.ent_legal.proofs.Sound.{has_tx, first}

@@ -12,7 +12,7 @@ use Rattle.ent_meant.specs.Tables.{database_of, AreWide}
 use Rattle.ent_protocol.specs.Rollback.{put_back}
 use Rattle.ent_protocol.specs.State.{Change}
 use Rattle.ent_legal.specs.Faithful.{number_of}
-use Rattle.ent_legal.proofs.Lists.{In, clash}
+use Rattle.ent_lists.specs.Elements.{In, clash}
 
 pub same_number : (a b : ℕ) → (a == b) ≡ true → a ≡ b
 same_number a b is = grind (arith, rules)

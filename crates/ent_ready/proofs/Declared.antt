@@ -33,7 +33,8 @@ use Rattle.ent_protocol.specs.State.{State, Submitted, Member, Use, inserted}
 use Rattle.ent_protocol.specs.Uses.{entangled_uses, shared, statement_uses}
 use Rattle.ent_protocol.specs.Waits.{next_uses}
 use Rattle.ent_resolved.specs.Resolved.{resolved_forms}
-use Rattle.ent_ready.proofs.Lists.{In, contains_in, in_either, in_flat, numbered_in, of_all}
+use Rattle.ent_lists.specs.Elements.{In, contains_in, in_either, in_flat, of_all}
+use Rattle.ent_ready.proofs.Lists.{numbered_in}
 use Rattle.ent_ready.proofs.Places.{statements_given}
 use Rattle.ent_ready.proofs.Posted.{asks_of}
 use Rattle.ent_ready.proofs.Steps.{bind_given, one_answer}

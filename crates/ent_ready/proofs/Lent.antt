@@ -1,5 +1,5 @@
 -- Statements that are lent, and posted ones that are picked, with the tables that they use.
-use Rattle.std.proofs.Common.{List, [], ◌∷◌, map, refl, ap, Contains}
+use Rattle.std.proofs.Common.{List, [], ◌∷◌, map, refl, sym, ap, subst, Contains}
 use Rattle.ent_tree.specs.declared.declaration.Create.{Create}
 use Rattle.ent_closed.specs.Form.{Tables}
 use Rattle.ent_coordination.specs.Pool.{Posted}
@@ -9,7 +9,7 @@ use Rattle.ent_protocol.specs.PoolEvents.{IsPresentComponent}
 use Rattle.ent_protocol.specs.State.{State, Use}
 use Rattle.ent_job.specs.Work.{AreUsed}
 use Rattle.ent_ready.proofs.Declared.{of_index}
-use Rattle.ent_ready.proofs.Lists.{In, contains_in, in_map, to_map}
+use Rattle.ent_lists.specs.Elements.{In, contains_in, of_map, to_map}
 
 pub lent_used : (creates : List Create) (tables : Tables) (uses : List Use)
     → AreUsed uses (seen_now creates tables uses)
@@ -20,6 +20,7 @@ lent_used creates tables (own ∷ uses) = ap (λ numbers. own.table ∷ numbers)
 pub stand_in_pool : (s : State) (asked : List Asking) → IsPresentComponent s asked → (member : Posted)
     → In member (map posted_of asked) → In member (pool s)
 stand_in_pool s asked present member at =
-    let a = in_map posted_of asked member at in
-    to_map posted_of (askings s) member a.0
-    (contains_in (askings s) a.0 (of_index (Contains (askings s)) asked a.0 present.present a.1)) a.2
+    let a = of_map posted_of asked member at in
+    let there = of_index (Contains (askings s)) asked a.0 present.present a.1 in
+    subst (λ (posted : Posted). In posted (pool s)) (sym a.2)
+    (to_map posted_of (askings s) a.0 (contains_in (askings s) a.0 there))

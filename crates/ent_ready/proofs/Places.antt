@@ -21,7 +21,8 @@ use Rattle.ent_protocol.specs.Reached.{IsReached, settled}
 use Rattle.ent_protocol.specs.State.{State, Submitted, Member}
 use Rattle.ent_resolved.specs.Resolved.{resolved_forms}
 use Rattle.ent_ready.specs.Kinds.{bound_behind, HasKindsThere}
-use Rattle.ent_ready.proofs.Lists.{In, of_all, contains_in, in_contains, numbered_in, in_map}
+use Rattle.ent_lists.specs.Elements.{In, of_all, contains_in, in_contains, of_map}
+use Rattle.ent_ready.proofs.Lists.{numbered_in}
 use Rattle.ent_ready.proofs.Posted.{plain_given}
 use Rattle.ent_ready.proofs.Replayed.{Laws, Stands, run_kept, of_both}
 use Rattle.ent_ready.proofs.Steps.{bind_given, one_answer}
@@ -139,7 +140,7 @@ kinds_there laws s opens reached state member there =
     (and_both (Begins s.submitted) state.prepared state.others (begun state.prepared whole.1) others) earlier.0
     state.stands in
     let known = (of_both (IsKnown laws creates opens.apart s.submitted resolved) state.prepared state.others now.1).1 in
-    let at = in_map (λ (history : History). history.member) state.others member
+    let at = of_map (λ (history : History). history.member) state.others member
     (contains_in (map (λ (history : History). history.member) state.others) member
     ((state.of_others member).1 there)) in
     let k = of_all (IsKnown laws creates opens.apart s.submitted resolved) state.others at.0 known at.1 in

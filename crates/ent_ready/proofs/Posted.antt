@@ -25,7 +25,8 @@ use Rattle.ent_protocol.specs.Member.{pool, statement_next, end_next, environmen
 use Rattle.ent_protocol.specs.Reached.{IsReached}
 use Rattle.ent_protocol.specs.State.{State, Submitted, Member}
 use Rattle.ent_resolved.specs.Resolved.{resolved_forms}
-use Rattle.ent_ready.proofs.Lists.{In, in_contains, numbered_in, in_map, in_flat}
+use Rattle.ent_lists.specs.Elements.{In, in_contains, of_map, in_flat}
+use Rattle.ent_ready.proofs.Lists.{numbered_in}
 use Rattle.ent_ready.proofs.Steps.{one_answer}
 use Rattle.ent_ready.proofs.Submitted.{submitted_resolved}
 
@@ -120,7 +121,7 @@ plain_given (Err fault) form e = cc
 pub posted_resolved : (s : State) → IsReached resolved_forms s → (member : Posted) → In member (pool s)
     → IsResolvedPost (schemas_of s.opening.tables) member
 posted_resolved s reached member at =
-    let a = in_map posted_of (askings s) member at in
+    let a = of_map posted_of (askings s) member at in
     let m = in_flat (asking_of s) s.active a.0 a.1 in
     let q = asks_of s m.0 a.0 m.2 in
     let asked = asked_in s.submitted m.0 a.0.statement q.0 in

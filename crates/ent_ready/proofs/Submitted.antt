@@ -25,7 +25,7 @@ use Rattle.ent_protocol.specs.State.{State, Submitted, Member, Dormant}
 use Rattle.ent_protocol.specs.Step.{Step}
 use Rattle.ent_protocol.specs.Uses.{statement_uses, entangled_uses, blocker}
 use Rattle.ent_semantics.specs.Entangled.{Valuation}
-use Rattle.ent_ready.proofs.Lists.{of_all, contains_in}
+use Rattle.ent_lists.specs.Elements.{of_all, contains_in}
 
 all_put : {X : Type 0} (P : X → Type 0) (xs : List X) (x : X) → AllByRecursion P xs → P x
     → AllByRecursion P (xs ++ x ∷ [])

@@ -6,7 +6,7 @@ use Rattle.ent_semantics.specs.Serial.{numbered}
 use Rattle.ent_history.specs.declared.history.History.{History}
 use Rattle.ent_history.specs.declared.history.Told.{Told}
 use Rattle.ent_rules.specs.Account.{Account, accounts_from, accounts}
-use Rattle.ent_rules.proofs.Lists.{In, Pairs, to_all, pairs_at, got_in}
+use Rattle.ent_lists.specs.Elements.{In, Pairs, to_all, pairs_at, got_in}
 
 abbrev pub Other : Account → Account → Type 0
 Other first second = first.tx ≡ second.tx → ⊥

@@ -11,7 +11,7 @@ use Rattle.ent_semantics.specs.declared.answer.Answer.TheVariants as answers
 use Rattle.ent_semantics.specs.declared.answer.Fact.{Fact}
 use Rattle.ent_semantics.specs.Names.{equal_names, name_itself}
 use Rattle.ent_rules.specs.Alike.{same_row, same_rows, same_fact, same_answer}
-use Rattle.ent_rules.proofs.Lists.{and_both, both_and, same_number, number_itself}
+use Rattle.ent_lists.specs.Elements.{and_both, both_and, same_number, number_itself}
 
 module _ {X : Type 0} (E : X → X → Bool) where
   -- a test that tells elements apart tells lists apart

@@ -14,7 +14,7 @@ use Rattle.ent_history.specs.Told.{fates_from, entry_if, entries_of, has_committ
 use Rattle.ent_rules.specs.Account as own
 use Rattle.ent_rules.specs.Account.{Account, accounts_from, accounts, commit_number, is_number, committed_as}
 use Rattle.ent_rules.specs.Account.{numbers_from, commit_count, in_commit_order}
-use Rattle.ent_rules.proofs.Lists.{map_joined}
+use Rattle.ent_lists.specs.Elements.{map_joined}
 
 abbrev pub entry_of : Account → Entry
 entry_of account = record { tx = account.tx; answers = account.answers }

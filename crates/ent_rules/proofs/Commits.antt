@@ -13,11 +13,10 @@ use Rattle.ent_rules.specs.declared.finding.Rule.TheVariants as rule
 use Rattle.ent_rules.specs.declared.finding.Thing.TheVariants as thing
 use Rattle.ent_rules.proofs.Accounts.{Other, one_account}
 use Rattle.ent_rules.proofs.Found.{unless_holds, holds_unless}
-use Rattle.ent_rules.proofs.Lists.{In, Pairs, of_all, to_all, and_both, both_and, turned, back, clash, neither}
-use Rattle.ent_rules.proofs.Lists.{any_some}
-use Rattle.ent_rules.proofs.Lists.{any_none, not_so, same_number, number_itself, other_number, in_flat}
-use Rattle.ent_rules.proofs.Lists.{to_flat, of_filter, to_filter, filter_empty, pairs_filtered, pairs_joined}
-use Rattle.ent_rules.proofs.Lists.{none_first, none_second, both_none, got_in, pairs_by}
+use Rattle.ent_lists.specs.Elements.{In, Pairs, of_all, to_all, and_both, both_and, turned, clash, neither, any_some}
+use Rattle.ent_lists.specs.Elements.{any_none, not_so, same_number, number_itself, other_number, in_flat, to_flat}
+use Rattle.ent_lists.specs.Elements.{of_filter, to_filter, filter_empty, pairs_filtered, pairs_joined, got_in, pairs_by}
+use Rattle.ent_rules.proofs.Lists.{back, none_first, none_second, both_none}
 
 -- two transactions committed with one number
 abbrev pub NotSame : Account → Account → Type 0

@@ -23,8 +23,8 @@ use Rattle.ent_rules.specs.declared.finding.Rule.TheVariants as rule
 use Rattle.ent_rules.specs.declared.finding.Thing.TheVariants as thing
 use Rattle.ent_rules.proofs.Alike.{equal_answers, answer_itself}
 use Rattle.ent_rules.proofs.Found.{unless_holds, holds_unless}
-use Rattle.ent_rules.proofs.Lists.{In, all_joined, in_first, in_second, in_either, none_first, none_second}
-use Rattle.ent_rules.proofs.Lists.{both_none, clash}
+use Rattle.ent_lists.specs.Elements.{In, all_joined, in_first, in_second, in_either, clash}
+use Rattle.ent_rules.proofs.Lists.{none_first, none_second, both_none}
 
 -- ---- options
 

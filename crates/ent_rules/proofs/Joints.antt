@@ -18,11 +18,10 @@ use Rattle.ent_rules.specs.declared.finding.Rule.TheVariants as rule
 use Rattle.ent_rules.specs.declared.finding.Thing.TheVariants as thing
 use Rattle.ent_rules.proofs.Deeds.{AllStand, Stands}
 use Rattle.ent_rules.proofs.Found.{unless_holds, holds_unless}
-use Rattle.ent_rules.proofs.Lists.{In, Pairs, to_map, any_none, any_some, any_in, and_both, both_and}
-use Rattle.ent_rules.proofs.Lists.{turned, back, clash, not_so, same_number, number_itself, every, of_every, found_in}
-use Rattle.ent_rules.proofs.Lists.{found}
-use Rattle.ent_rules.proofs.Lists.{in_first, in_second, in_either, pairs_at, pairs_joined, pairs_across, none_first}
-use Rattle.ent_rules.proofs.Lists.{none_second, both_none, or_second, map_joined}
+use Rattle.ent_lists.specs.Elements.{In, Pairs, to_map, any_none, any_some, any_in, and_both, both_and, turned, clash}
+use Rattle.ent_lists.specs.Elements.{not_so, same_number, number_itself, in_first, in_second, in_either, pairs_at}
+use Rattle.ent_lists.specs.Elements.{pairs_joined, pairs_across, or_second, map_joined}
+use Rattle.ent_rules.proofs.Lists.{back, every, of_every, found_in, found, none_first, none_second, both_none}
 
 -- ---- a member at a place
 

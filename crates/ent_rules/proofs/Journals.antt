@@ -19,8 +19,8 @@ use Rattle.ent_rules.proofs.Accounts.{Other, accounts_apart, one_account, own_sc
 use Rattle.ent_rules.proofs.Bridge.{entry_of, fated_of}
 use Rattle.ent_rules.proofs.Commits.{IsNumbered, NotSame, at_its_number, of_its_number, in_order_committed}
 use Rattle.ent_rules.proofs.Commits.{in_order_number, order_apart}
-use Rattle.ent_rules.proofs.Lists.{In, Pairs, contains_in, in_contains, of_map, to_map, pairs_index, pairs_map, got_in}
-use Rattle.ent_rules.proofs.Lists.{of_all, to_all}
+use Rattle.ent_lists.specs.Elements.{In, Pairs, contains_in, in_contains, of_map, to_map, pairs_index, pairs_map}
+use Rattle.ent_lists.specs.Elements.{got_in, of_all, to_all}
 
 number_of_fate : (fate : Fate) (n : ℕ) → commit_number fate ≡ Some n → (runs : ℕ) × (fate ≡ fates.Committed n runs)
 number_of_fate (fates.Committed m runs) n e = (runs, ap (λ k. fates.Committed k runs) (one m n e))

@@ -36,9 +36,9 @@ use Rattle.ent_rules.proofs.Found.{unless_holds}
 use Rattle.ent_rules.proofs.Joints.{among, at_place, each_statement, left_none, members_once, one_member}
 use Rattle.ent_rules.proofs.Joints.{stand_all, stands_so, stands_there}
 use Rattle.ent_rules.proofs.Journals.{book, journal_if_numbered}
-use Rattle.ent_rules.proofs.Lists.{In, Pairs, of_all, of_map, of_filter, to_filter, in_flat, to_flat, every, any_some}
-use Rattle.ent_rules.proofs.Lists.{clash, not_so, contains_in, in_contains, index_pairs, pairs_index, pairs_by}
-use Rattle.ent_rules.proofs.Lists.{none_first, none_second}
+use Rattle.ent_lists.specs.Elements.{In, Pairs, of_all, of_map, of_filter, to_filter, in_flat, to_flat, any_some, clash}
+use Rattle.ent_lists.specs.Elements.{not_so, contains_in, in_contains, index_pairs, pairs_index, pairs_by}
+use Rattle.ent_rules.proofs.Lists.{every, none_first, none_second}
 use Rattle.ent_rules.proofs.Replays.{IsReady, IsReplayed, replayed, account_sight, sight_account, turn_told}
 use Rattle.ent_rules.proofs.Tables.{Keeps, kept_end, not_shown, shown_is, shown_left}
 

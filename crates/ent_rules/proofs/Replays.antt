@@ -18,7 +18,8 @@ use Rattle.ent_rules.specs.Placed.{Placed, told_deeds}
 use Rattle.ent_rules.specs.Replay.{deeds_findings, found_from, account_run, replay_findings, told_sights, told_end}
 use Rattle.ent_rules.proofs.Deeds.{AllStand, AreTold, SeenTold, IsClean, clean_deeds, deeds_are_told, deeds_told}
 use Rattle.ent_rules.proofs.Deeds.{mapped_some, oracle_of, right_deeds, sight_told, then_some, told_sight}
-use Rattle.ent_rules.proofs.Lists.{In, all_joined, both_none, in_first, in_second, in_either, none_first, none_second}
+use Rattle.ent_lists.specs.Elements.{In, all_joined, in_first, in_second, in_either}
+use Rattle.ent_rules.proofs.Lists.{both_none, none_first, none_second}
 
 commits_is : (end : End) → commits end ≡ true → end ≡ Commit
 commits_is Commit e = refl

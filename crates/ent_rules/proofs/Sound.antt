@@ -38,9 +38,9 @@ use Rattle.ent_rules.proofs.Joints.{IsStatement, all_so, among, at_member, none_
 use Rattle.ent_rules.proofs.Joints.{stands_there}
 use Rattle.ent_rules.proofs.Journals.{book, numbered_if_journal}
 use Rattle.ent_rules.proofs.Legal.{in_members, map_map}
-use Rattle.ent_rules.proofs.Lists.{In, Pairs, of_all, to_all, of_filter, to_filter, in_flat, to_flat, of_every}
-use Rattle.ent_rules.proofs.Lists.{any_some}
-use Rattle.ent_rules.proofs.Lists.{any_in, contains_in, in_contains, index_pairs, both_none}
+use Rattle.ent_lists.specs.Elements.{In, Pairs, of_all, to_all, of_filter, to_filter, in_flat, to_flat, any_some}
+use Rattle.ent_lists.specs.Elements.{any_in, contains_in, in_contains, index_pairs}
+use Rattle.ent_rules.proofs.Lists.{of_every, both_none}
 use Rattle.ent_rules.proofs.Replays.{IsTold, OwnScripts, account_sight, sight_account, told}
 use Rattle.ent_rules.proofs.Tables.{none_shown, shown_own}
 

@@ -29,7 +29,8 @@ use Rattle.ent_rules.specs.declared.finding.Thing.TheVariants as thing
 use Rattle.ent_rules.proofs.Alike.{equal_lists, list_itself}
 use Rattle.ent_rules.proofs.Deeds.{goes_on, then_some}
 use Rattle.ent_rules.proofs.Found.{unless_holds, holds_unless}
-use Rattle.ent_rules.proofs.Lists.{In, Pairs, of_all, both_none, none_first, none_second}
+use Rattle.ent_lists.specs.Elements.{In, Pairs, of_all}
+use Rattle.ent_rules.proofs.Lists.{both_none, none_first, none_second}
 
 -- ---- tables that are shown
 

@@ -30,7 +30,7 @@ use Rattle.ent_protocol.specs.Run.{EndsWhileRunning, ending}
 use Rattle.ent_protocol.specs.State.{State, Member, Dormant, first_of}
 use Rattle.ent_protocol.specs.Step.{Step}
 use Rattle.ent_protocol.specs.Uses.{statement_uses, entangled_uses, blocker}
-use Rattle.ent_standing.proofs.Lists.{In, of_filter, neither, same_number}
+use Rattle.ent_lists.specs.Elements.{In, of_filter, neither, same_number}
 
 -- a member that isn't prepared, has no statement in the pool, and no job of which is lent
 pub record IsIdle (s : State) (member : Member) : Type 0 where

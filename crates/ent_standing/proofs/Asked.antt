@@ -7,7 +7,7 @@ use Rattle.ent_protocol.specs.Job.{Asking}
 use Rattle.ent_protocol.specs.Member.{Next, Ordinary, Asks, Commits, RollsBack, next_in, next_of, askings, asking_of}
 use Rattle.ent_protocol.specs.PoolEvents.{IsPresentComponent}
 use Rattle.ent_protocol.specs.State.{State, Member}
-use Rattle.ent_standing.proofs.Lists.{In, of_all, in_either, contains_in, all_index}
+use Rattle.ent_lists.specs.Elements.{In, of_all, in_either, contains_in, all_index}
 
 pub posted_next : (s : State) (m : Member) → m.posted ≡ true
     → next_in (numbered s.submitted m.tx) (record m { posted = true }) ≡ next_of s m

@@ -24,8 +24,8 @@ use Rattle.ent_protocol.specs.State.{State, Submitted, Dormant, Member, members,
 use Rattle.ent_standing.specs.Attempts.{AsksForRun, AskForMost, HasRunLeft, MayTakePart, StayWithin, StayBelow}
 use Rattle.ent_standing.proofs.Acts.{AreKept, reached}
 use Rattle.ent_standing.proofs.Left.{tx_of}
-use Rattle.ent_standing.proofs.Lists.{In, of_all, to_all, of_filter, of_map, all_filtered}
-use Rattle.ent_standing.proofs.Lists.{from_by_number, number_itself, clash}
+use Rattle.ent_lists.specs.Elements.{In, of_all, to_all, of_filter, of_map, all_filtered, number_itself, clash}
+use Rattle.ent_standing.specs.Numbered.{from_by_number}
 use Rattle.ent_standing.proofs.Placed.{answered_tx}
 
 -- ---- lists

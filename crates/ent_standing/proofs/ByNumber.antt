@@ -18,8 +18,9 @@ use Rattle.ent_standing.specs.ByNumber.{StandByNumber}
 use Rattle.ent_standing.proofs.Acts.{AreKept, reached}
 use Rattle.ent_standing.proofs.Asked.{asks_of, asks_once, in_flat}
 use Rattle.ent_standing.proofs.Left.{tx_of, dormant_tx, fated_tx}
-use Rattle.ent_standing.proofs.Lists.{Pairs, of_all, to_all, to_map, from_inserted, from_by_number, pairs_filtered}
-use Rattle.ent_standing.proofs.Lists.{pairs_joined, pairs_mapped, pairs_short, pairs_index, same_number, not_so}
+use Rattle.ent_lists.specs.Elements.{Pairs, of_all, to_all, to_map, pairs_filtered, pairs_joined, pairs_mapped}
+use Rattle.ent_lists.specs.Elements.{pairs_short, pairs_index, same_number, not_so}
+use Rattle.ent_standing.specs.Numbered.{from_inserted, from_by_number}
 use Rattle.ent_standing.proofs.Placed.{places_kept, places_opened, fresh_counted, answered_tx}
 use Rattle.ent_standing.proofs.Places.{within_once, Stands, members_once, replaced_tx}
 use Rattle.ent_standing.proofs.Times.{times, once_apart, count, count_split}

@@ -5,8 +5,8 @@ use Rattle.std.specs.List.{list_any}
 use Rattle.ent_semantics.specs.declared.book.JointAnswer.{JointAnswer}
 use Rattle.ent_protocol.specs.PoolEvents.{joined_label}
 use Rattle.ent_standing.specs.Groups.{takes_part}
-use Rattle.ent_standing.proofs.Lists.{In, in_first, in_second, in_either, of_map, to_map, clash, any_in, any_some}
-use Rattle.ent_standing.proofs.Lists.{same_number, number_itself}
+use Rattle.ent_lists.specs.Elements.{In, in_first, in_second, in_either, of_map, to_map, clash, any_in, any_some}
+use Rattle.ent_lists.specs.Elements.{same_number, number_itself}
 
 -- a transaction, and the label of its group
 abbrev pub Labelled : Type 0

@@ -8,7 +8,7 @@ use Rattle.ent_protocol.specs.Run.{Forms}
 use Rattle.ent_protocol.specs.State.{State, members}
 use Rattle.ent_standing.specs.Standing.{standing}
 use Rattle.ent_standing.proofs.Left.{tx_of, dormant_tx, fated_tx}
-use Rattle.ent_standing.proofs.Lists.{same_number, number_itself}
+use Rattle.ent_lists.specs.Elements.{same_number, number_itself}
 use Rattle.ent_standing.proofs.Placed.{standing_counted, reached_stand}
 use Rattle.ent_standing.proofs.Places.{within, within_beyond, Stands}
 use Rattle.ent_standing.proofs.Times.{one_if, times, stands}

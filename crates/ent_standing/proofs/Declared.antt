@@ -17,7 +17,7 @@ use Rattle.ent_protocol.specs.State.{State, Member, Use}
 use Rattle.ent_protocol.specs.Uses.{statement_uses}
 use Rattle.ent_standing.specs.Declared.{SeesDeclared, LentIsDeclared}
 use Rattle.ent_standing.proofs.Acts.{AreKept, reached}
-use Rattle.ent_standing.proofs.Lists.{of_all, all_filtered, contains_in}
+use Rattle.ent_lists.specs.Elements.{of_all, all_filtered, contains_in}
 
 abbrev Declared : State → Type 0
 Declared s = AllByRecursion (SeesDeclared s.opening.tables) s.lent

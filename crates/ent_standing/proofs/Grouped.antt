@@ -20,9 +20,8 @@ use Rattle.ent_standing.specs.Groups.{takes_part, AreLinkedIn, GroupsAreClasses}
 use Rattle.ent_standing.proofs.Acts.{AreKept, ComesBack, reached}
 use Rattle.ent_standing.proofs.Classes.{Labelled, LinkedIn}
 use Rattle.ent_standing.proofs.Left.{dormant_tx, in_among}
-use Rattle.ent_standing.proofs.Lists.{In, of_filter, to_filter, to_map}
-use Rattle.ent_standing.proofs.Lists.{any_some, any_in, contains_in, in_contains}
-use Rattle.ent_standing.proofs.Lists.{same_number}
+use Rattle.ent_lists.specs.Elements.{In, of_filter, to_filter, to_map, any_some, any_in, contains_in, in_contains}
+use Rattle.ent_lists.specs.Elements.{same_number}
 use Rattle.ent_standing.proofs.Placed.{places_kept, places_opened}
 use Rattle.ent_standing.proofs.Times.{count, count_joined}
 use Rattle.ent_standing.proofs.Groups.{label_of, labels, GroupsRight, one_member, replaced_labels, of_labels}

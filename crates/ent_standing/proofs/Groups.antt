@@ -19,9 +19,9 @@ use Rattle.ent_standing.proofs.Classes.{Labelled, LabelsRight, labels_moved, lab
 use Rattle.ent_standing.proofs.Classes.{labels_fresh}
 use Rattle.ent_standing.proofs.Left.{tx_of, dormant_tx, fated_tx, among_passing, left_counted}
 use Rattle.ent_standing.proofs.Left.{among_counted, counted_among}
-use Rattle.ent_standing.proofs.Lists.{In, of_filter, to_filter, in_first, in_second, in_either, of_map, to_map}
-use Rattle.ent_standing.proofs.Lists.{any_some, any_in, any_none, clash, not_so, turned}
-use Rattle.ent_standing.proofs.Lists.{same_number, number_itself, from_by_number}
+use Rattle.ent_lists.specs.Elements.{In, of_filter, to_filter, in_first, in_second, in_either, of_map, to_map, any_some}
+use Rattle.ent_lists.specs.Elements.{any_in, any_none, clash, not_so, turned, same_number, number_itself}
+use Rattle.ent_standing.specs.Numbered.{from_by_number}
 use Rattle.ent_standing.proofs.Placed.{places_kept}
 use Rattle.ent_standing.proofs.Places.{Stands, members_once}
 use Rattle.ent_standing.proofs.Times.{one_of, count, count_in, in_count, count_joined, count_split, count_by_number}

@@ -7,8 +7,8 @@ use Rattle.ent_semantics.specs.declared.book.Fated.{Fated}
 use Rattle.ent_protocol.specs.Commit.{commit_fates}
 use Rattle.ent_protocol.specs.Rollback.{Cause, fate_of, fated_as, fated_by, dormant_by, is_among}
 use Rattle.ent_protocol.specs.State.{Submitted, Member, Dormant, by_number}
-use Rattle.ent_standing.proofs.Lists.{In, clash, or_cases, or_first, or_second, same_number, number_itself, not_so}
-use Rattle.ent_standing.proofs.Lists.{of_filter, to_filter}
+use Rattle.ent_lists.specs.Elements.{In, clash, or_cases, or_first, or_second, same_number, number_itself, not_so}
+use Rattle.ent_lists.specs.Elements.{of_filter, to_filter}
 use Rattle.ent_standing.proofs.Times.{one_if, count, count_in, in_count, one_of, count_by_number}
 
 abbrev pub tx_of : Member → ℕ

@@ -21,9 +21,9 @@ use Rattle.ent_standing.specs.Lent.{AreOther, LentStandOnce}
 use Rattle.ent_standing.proofs.Acts.{AreKept, IsIdle, ComesBack, reached}
 use Rattle.ent_standing.proofs.Asked.{asker_of}
 use Rattle.ent_standing.proofs.Left.{tx_of}
-use Rattle.ent_standing.proofs.Lists.{In, Pairs, of_all, to_all, in_first, in_second, in_either, of_filter, to_filter}
-use Rattle.ent_standing.proofs.Lists.{pairs_filtered, pairs_behind, pairs_without, pairs_index, any_none, contains_in}
-use Rattle.ent_standing.proofs.Lists.{in_contains, to_map, clash, not_so, same_number, number_itself}
+use Rattle.ent_lists.specs.Elements.{In, Pairs, of_all, to_all, in_first, in_second, in_either, of_filter, to_filter}
+use Rattle.ent_lists.specs.Elements.{pairs_filtered, pairs_behind, pairs_without, pairs_index, any_none, contains_in}
+use Rattle.ent_lists.specs.Elements.{in_contains, to_map, clash, not_so, same_number, number_itself}
 use Rattle.ent_standing.proofs.Placed.{places_kept, places_opened}
 use Rattle.ent_standing.proofs.Places.{Stands, members_once}
 use Rattle.ent_standing.proofs.Times.{one_of}

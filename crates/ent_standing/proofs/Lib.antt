@@ -1,4 +1,3 @@
-pub mod Lists
 pub mod Times
 pub mod Acts
 pub mod Onward

@@ -24,8 +24,8 @@ use Rattle.ent_standing.specs.Standing.{StandOnce, standing}
 use Rattle.ent_standing.proofs.Acts.{AreKept, IsIdle, reached}
 use Rattle.ent_standing.proofs.Left.{tx_of, dormant_tx, fated_tx, commits_counted, left_counted, in_among}
 use Rattle.ent_standing.proofs.Left.{among_passing}
-use Rattle.ent_standing.proofs.Lists.{In, filter_same, filter_joined, shorter, number_itself, same_number}
-use Rattle.ent_standing.proofs.Lists.{in_first, in_second, contains_in, in_contains, pairs_index}
+use Rattle.ent_lists.specs.Elements.{In, filter_same, filter_joined, shorter, number_itself, same_number, in_first}
+use Rattle.ent_lists.specs.Elements.{in_second, contains_in, in_contains, pairs_index}
 use Rattle.ent_standing.proofs.Places.{within, within_once, within_there, there_within, Stands, members_once}
 use Rattle.ent_standing.proofs.Places.{same_places, mapped_places, other_parts, one_replaced}
 use Rattle.ent_standing.proofs.Times.{one_if, times, times_joined, stands, stood, once_apart, count, count_joined}

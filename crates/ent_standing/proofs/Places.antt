@@ -6,7 +6,7 @@ use Rattle.ent_group.specs.declared.members.TheConstants.{MOST_MEMBERS}
 use Rattle.ent_protocol.specs.Begin.{replaced}
 use Rattle.ent_protocol.specs.State.{State, Member, members}
 use Rattle.ent_standing.proofs.Left.{tx_of, dormant_tx, fated_tx}
-use Rattle.ent_standing.proofs.Lists.{shorter, number_itself, same_number, clash}
+use Rattle.ent_lists.specs.Elements.{shorter, number_itself, same_number, clash}
 use Rattle.ent_standing.proofs.Times.{one_if, count, count_joined}
 use Rattle.ent_standing.proofs.Times.{count_mapped}
 

@@ -26,8 +26,8 @@ use Rattle.ent_protocol.specs.State.{State, Submitted, Member}
 use Rattle.ent_protocol.specs.Uses.{entangled_uses}
 use Rattle.ent_standing.proofs.Acts.{AreKeptSafe, safely_reached}
 use Rattle.ent_standing.proofs.Asked.{asks_of, in_flat, posted_next}
-use Rattle.ent_standing.proofs.Lists.{In, contains_in, from_by_number, in_contains, in_first}
-use Rattle.ent_standing.proofs.Lists.{in_second, of_filter, of_map, to_map}
+use Rattle.ent_lists.specs.Elements.{In, contains_in, in_contains, in_first, in_second, of_filter, of_map, to_map}
+use Rattle.ent_standing.specs.Numbered.{from_by_number}
 
 -- ---- who asks
 

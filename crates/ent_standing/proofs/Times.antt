@@ -4,7 +4,7 @@ use Rattle.std.proofs.Common.{map, take, drop, refl, sym, ap, subst, ◌∙◌, 
 use Rattle.std.specs.List.{filter}
 use Rattle.std.proofs.lemmas.List.{map-append, take-append-drop}
 use Rattle.ent_protocol.specs.State.{inserted, by_number}
-use Rattle.ent_standing.proofs.Lists.{In, Pairs, to_all, same_number, number_itself}
+use Rattle.ent_lists.specs.Elements.{In, Pairs, to_all, same_number, number_itself}
 
 -- one more where the test holds
 abbrev pub one_if : Bool → ℕ → ℕ

@@ -16,13 +16,11 @@ use Rattle.ent_standing.proofs.Asked.{asker_of}
 use Rattle.ent_standing.proofs.Classes.{Labelled, LabelsRight}
 use Rattle.ent_standing.proofs.Classes.{is_joined, relabelled, labels_joined}
 use Rattle.ent_standing.proofs.Left.{tx_of, dormant_tx, fated_tx}
-use Rattle.ent_standing.proofs.Lists.{In, of_filter, to_filter, in_second, in_either, of_map, to_map}
-use Rattle.ent_standing.proofs.Lists.{any_some, any_in}
-use Rattle.ent_standing.proofs.Lists.{same_number, number_itself}
+use Rattle.ent_lists.specs.Elements.{In, of_filter, to_filter, in_second, in_either, of_map, to_map, any_some, any_in}
+use Rattle.ent_lists.specs.Elements.{same_number, number_itself, or_cases, or_first, or_second}
 use Rattle.ent_standing.proofs.Places.{Stands, within_once}
 use Rattle.ent_standing.proofs.Times.{count, count_in}
 use Rattle.ent_standing.proofs.Groups.{label_of, labels, GroupsRight, joined_map, of_labels}
-use Rattle.ent_standing.proofs.Lists.{or_cases, or_first, or_second}
 use Rattle.ent_standing.proofs.Places.{within, there_within}
 
 answered_label : (asked : List Asking) (groundings : List Valuation) (m : Member)

@@ -4,3 +4,4 @@ pub mod Groups
 pub mod Attempts
 pub mod ByNumber
 pub mod Declared
+pub mod Numbered

@@ -26,7 +26,7 @@ use Rattle.ent_protocol.specs.Uses.{statement_uses, entangled_uses, blocker}
 use Rattle.ent_standing.specs.ByNumber.{StandByNumber}
 use Rattle.ent_standing.specs.Lent.{LentStandOnce}
 use Rattle.ent_steps.specs.Alike.{AreAlike}
-use Rattle.ent_steps.proofs.Lists.{In, neither, of_filter}
+use Rattle.ent_lists.specs.Elements.{In, neither, of_filter}
 use Rattle.ent_steps.proofs.Picked.{AreClasses, same_component}
 use Rattle.ent_steps.proofs.Places.{taken_alike}
 use Rattle.ent_steps.proofs.Pooled.{never_unsafe, one_fault, pool_apart}

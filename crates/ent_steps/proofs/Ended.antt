@@ -18,9 +18,9 @@ use Rattle.ent_protocol.specs.State.{State, Dormant, Member, Submitted, by_numbe
 use Rattle.ent_protocol.specs.Step.{Step}
 use Rattle.ent_standing.specs.Standing.{GoesOn, StandOnce}
 use Rattle.ent_steps.specs.Last.{HasGivenUp, WaitsAgain}
-use Rattle.ent_steps.proofs.Lists.{In, clash, contains_in, in_contains, in_second, index_pairs, not_so}
-use Rattle.ent_steps.proofs.Lists.{pairs_between, pairs_second, same_number, to_by_number, to_filter}
-use Rattle.ent_steps.proofs.Lists.{to_map}
+use Rattle.ent_lists.specs.Elements.{In, clash, contains_in, in_contains, in_second, index_pairs, not_so, pairs_across}
+use Rattle.ent_lists.specs.Elements.{pairs_second, same_number, to_filter, to_map}
+use Rattle.ent_standing.specs.Numbered.{to_by_number}
 use Rattle.ent_steps.proofs.Members.{number_itself, tx_of}
 
 -- ---- one of those that are left
@@ -102,7 +102,7 @@ Differ one other = one ≡ other → ⊥
 never_both : (new : State) (tx : ℕ) (fated : Fated) (dormant : Dormant) → StandOnce new → In fated new.fates
     → In dormant new.dormant → fated.tx ≡ tx → dormant.tx ≡ tx → ⊥
 never_both new tx fated dormant once of_fate of_dormant one other =
-    pairs_between Differ (map (λ (d : Dormant). d.tx) new.dormant) (map (λ (f : Fated). f.tx) new.fates) dormant.tx
+    pairs_across Differ (map (λ (d : Dormant). d.tx) new.dormant) (map (λ (f : Fated). f.tx) new.fates) dormant.tx
     fated.tx (pairs_second Differ (map tx_of (members new)) _ (index_pairs Differ _ once.distinct))
     (to_map (λ (d : Dormant). d.tx) new.dormant dormant of_dormant)
     (to_map (λ (f : Fated). f.tx) new.fates fated of_fate) (other ∙ sym one)

@@ -14,7 +14,7 @@ use Rattle.ent_protocol.specs.State.{State, Member}
 use Rattle.ent_protocol.specs.Step.{Step}
 use Rattle.ent_steps.specs.Whole.{CommitsWhole}
 use Rattle.ent_steps.proofs.Left.{Leaves, left_behind}
-use Rattle.ent_steps.proofs.Lists.{In, any_none, clash, contains_in, in_contains, same_number, to_filter, turned}
+use Rattle.ent_lists.specs.Elements.{In, any_none, clash, contains_in, in_contains, same_number, to_filter, turned}
 use Rattle.ent_steps.proofs.Members.{number_itself}
 
 abbrev StaysOrGrows : State → Bool → State → Type 0

@@ -26,7 +26,7 @@ use Rattle.ent_protocol.specs.State.{State, Member, Dormant, first_of}
 use Rattle.ent_protocol.specs.Step.{Step}
 use Rattle.ent_protocol.specs.Uses.{statement_uses, entangled_uses, blocker}
 use Rattle.ent_steps.specs.Restored.{rolls_back}
-use Rattle.ent_steps.proofs.Lists.{In, of_filter, same_number}
+use Rattle.ent_lists.specs.Elements.{In, of_filter, same_number}
 
 -- of what is left behind an event: whether somebody was rolled back, and the state
 pub record Leaves (s : State) (P : Bool → State → Type 0) : Type 0 where

@@ -1,4 +1,3 @@
-pub mod Lists
 pub mod Pooled
 pub mod Places
 pub mod Picked

@@ -6,8 +6,9 @@ use Rattle.ent_protocol.specs.Rollback.{is_among}
 use Rattle.ent_protocol.specs.State.{State, Member, members}
 use Rattle.ent_protocol.specs.Tidy.{is_member}
 use Rattle.ent_standing.specs.ByNumber.{StandByNumber}
-use Rattle.ent_steps.proofs.Lists.{In, Pairs, Apart, of_all, to_all, in_first, in_second, in_either, clash, same_number}
-use Rattle.ent_steps.proofs.Lists.{one_of, to_map}
+use Rattle.ent_lists.specs.Elements.{In, Pairs, of_all, to_all, in_first, in_second, in_either, clash, same_number}
+use Rattle.ent_lists.specs.Elements.{to_map}
+use Rattle.ent_standing.specs.Numbered.{Apart, one_of}
 
 abbrev pub tx_of : Member → ℕ
 tx_of member = member.tx

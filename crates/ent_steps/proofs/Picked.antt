@@ -8,8 +8,9 @@ use Rattle.ent_protocol.specs.Member.{askings, pool}
 use Rattle.ent_protocol.specs.PoolEvents.{IsPresentComponent, first_tx}
 use Rattle.ent_protocol.specs.State.{State}
 use Rattle.ent_standing.specs.ByNumber.{StandByNumber}
-use Rattle.ent_steps.proofs.Lists.{In, Pairs, Apart, Below, of_all, to_all, all_index, index_pairs, below_apart}
-use Rattle.ent_steps.proofs.Lists.{one_of, contains_in, in_contains, of_map, to_map}
+use Rattle.ent_lists.specs.Elements.{In, Pairs, of_all, to_all, all_index, index_pairs, contains_in, in_contains}
+use Rattle.ent_lists.specs.Elements.{of_map, to_map}
+use Rattle.ent_standing.specs.Numbered.{Apart, Below, below_apart, one_of}
 
 -- components that share a statement have the same statements
 abbrev pub AreClasses : Type 0

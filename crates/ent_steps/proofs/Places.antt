@@ -4,7 +4,7 @@ use Rattle.ent_protocol.specs.Finish.{IsTaken}
 use Rattle.ent_protocol.specs.Job.{Job, Work, One, Joint}
 use Rattle.ent_protocol.specs.State.{State}
 use Rattle.ent_standing.specs.Lent.{AreOther, LentStandOnce}
-use Rattle.ent_steps.proofs.Lists.{In, Pairs, of_all, in_second, index_pairs}
+use Rattle.ent_lists.specs.Elements.{In, Pairs, of_all, in_second, index_pairs}
 
 abbrev OtherJob : Job → Job → Type 0
 OtherJob one other = AreOther one.work other.work

@@ -13,8 +13,8 @@ use Rattle.ent_protocol.specs.Job.{Asking}
 use Rattle.ent_protocol.specs.Member.{Next, Ordinary, Asks, Commits, RollsBack, asking_of, askings, next_of, pool}
 use Rattle.ent_protocol.specs.State.{State, Member}
 use Rattle.ent_standing.specs.ByNumber.{StandByNumber}
-use Rattle.ent_steps.proofs.Lists.{In, Pairs, Apart, Below, clash, index_pairs, pairs_behind, below_apart, one_of}
-use Rattle.ent_steps.proofs.Lists.{contains_in, in_flat, of_map}
+use Rattle.ent_lists.specs.Elements.{In, Pairs, clash, index_pairs, pairs_behind, contains_in, in_flat, of_map}
+use Rattle.ent_standing.specs.Numbered.{Apart, Below, below_apart, one_of}
 
 abbrev tx_of : Member → ℕ
 tx_of member = member.tx

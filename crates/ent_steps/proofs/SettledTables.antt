@@ -14,8 +14,8 @@ use Rattle.ent_protocol.specs.State.{State, Change, Dormant, Member, members}
 use Rattle.ent_protocol.specs.Tidy.{IsTidy, is_member}
 use Rattle.ent_standing.specs.Standing.{StandOnce}
 use Rattle.ent_steps.specs.Settled.{has_fate, is_open_change, rows_before, tables_before_changes}
-use Rattle.ent_steps.proofs.Lists.{In, in_first, in_second, index_pairs, not_so, of_all, pairs_between}
-use Rattle.ent_steps.proofs.Lists.{same_number, to_map}
+use Rattle.ent_lists.specs.Elements.{In, in_first, in_second, index_pairs, not_so, of_all, pairs_across, same_number}
+use Rattle.ent_lists.specs.Elements.{to_map}
 
 -- ---- each table by its number and its rows
 
@@ -120,7 +120,7 @@ without_fate s once tx is = not_so (has_fate s tx) (λ has.
     let of_members = map (λ (member : Member). member.tx) (members s) in
     let of_dormant = map (λ (dormant : Dormant). dormant.tx) s.dormant in
     let of_fates = map (λ (fated : Fated). fated.tx) s.fates in
-    pairs_between (λ (one other : ℕ). one ≢ other) of_members (of_dormant ++ of_fates) m.0.tx f.0.tx
+    pairs_across (λ (one other : ℕ). one ≢ other) of_members (of_dormant ++ of_fates) m.0.tx f.0.tx
     (index_pairs (λ (one other : ℕ). one ≢ other) (of_members ++ (of_dormant ++ of_fates)) once.distinct)
     (to_map (λ (member : Member). member.tx) (members s) m.0 m.1)
     (in_second of_dormant of_fates f.0.tx (to_map (λ (fated : Fated). fated.tx) s.fates f.0 f.1))

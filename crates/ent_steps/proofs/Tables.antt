@@ -16,7 +16,7 @@ use Rattle.ent_protocol.specs.State.{State, Change, Member}
 use Rattle.ent_protocol.specs.Step.{Step}
 use Rattle.ent_steps.specs.Restored.{HasNotChanged, IsFirstChange, IsNoted, rolls_back, rows_at}
 use Rattle.ent_steps.proofs.Left.{Leaves, left_behind}
-use Rattle.ent_steps.proofs.Lists.{clash, neither, same_number}
+use Rattle.ent_lists.specs.Elements.{clash, neither, same_number}
 
 -- ---- one table
 

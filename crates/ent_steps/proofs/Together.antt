@@ -19,8 +19,9 @@ use Rattle.ent_protocol.specs.Step.{Step}
 use Rattle.ent_protocol.specs.Tidy.{IsTidy, is_member}
 use Rattle.ent_standing.specs.ByNumber.{StandByNumber}
 use Rattle.ent_steps.proofs.Left.{Leaves, left_behind}
-use Rattle.ent_steps.proofs.Lists.{In, clash, in_either, in_first, in_second, not_so, of_filter, same_number, to_map}
-use Rattle.ent_steps.proofs.Lists.{any_none, from_by_number, to_by_number, to_filter, turned}
+use Rattle.ent_lists.specs.Elements.{In, clash, in_either, in_first, in_second, not_so, of_filter, same_number, to_map}
+use Rattle.ent_lists.specs.Elements.{any_none, to_filter, turned}
+use Rattle.ent_standing.specs.Numbered.{from_by_number, to_by_number}
 use Rattle.ent_steps.proofs.Members.{among_in, in_among, is_in_run, number_itself, of_run, same_member, tx_of}
 
 -- where one leaves, the others of its group do

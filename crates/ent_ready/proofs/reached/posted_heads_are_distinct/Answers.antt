@@ -2,7 +2,7 @@ use Rattle.std.proofs.Common.{subst, sym}
 use Rattle.ent_plan.specs.Plan.{HasDistinctHeads}
 use Rattle.ent_protocol.specs.Member.{pool}
 use Rattle.ent_form.specs.Catalogue.{schemas_of}
-use Rattle.ent_ready.proofs.Lists.{contains_in}
+use Rattle.ent_lists.specs.Elements.{contains_in}
 use Rattle.ent_ready.proofs.Posted.{posted_resolved}
 use Rattle.ent_ready.proofs.reached.posted_heads_are_distinct.Goals as goal
 

@@ -3,7 +3,7 @@ use Rattle.ent_coordination.specs.Pool.{Posted}
 use Rattle.ent_form.specs.Catalogue.{schemas_of}
 use Rattle.ent_plan.specs.Ranged.{IsRanged}
 use Rattle.ent_protocol.specs.Member.{pool}
-use Rattle.ent_ready.proofs.Lists.{to_all}
+use Rattle.ent_lists.specs.Elements.{to_all}
 use Rattle.ent_ready.proofs.Posted.{posted_resolved}
 use Rattle.ent_ready.proofs.reached.posted_variables_are_ranged.Goals as goal
 

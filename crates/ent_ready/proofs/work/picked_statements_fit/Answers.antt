@@ -5,7 +5,7 @@ use Rattle.ent_protocol.specs.Job.{posted_of}
 use Rattle.ent_protocol.specs.Member.{pool}
 use Rattle.ent_protocol.specs.PoolEvents.{joint_uses}
 use Rattle.ent_resolved.specs.Resolved.{resolved_forms}
-use Rattle.ent_ready.proofs.Lists.{contains_in, in_contains, of_all, to_all}
+use Rattle.ent_lists.specs.Elements.{contains_in, in_contains, of_all, to_all}
 use Rattle.ent_ready.proofs.Lent.{lent_used, stand_in_pool}
 use Rattle.ent_ready.proofs.work.picked_statements_fit.Goals as goal
 

@@ -1,5 +1,5 @@
 use Rattle.ent_protocol.specs.State.{members}
-use Rattle.ent_steps.proofs.Lists.{contains_in}
+use Rattle.ent_lists.specs.Elements.{contains_in}
 use Rattle.ent_steps.proofs.Together.{all_together}
 use Rattle.ent_steps.proofs.law.groups_leave_together.Goals as goal
 

@@ -1,6 +1,6 @@
 use Rattle.ent_protocol.specs.Rollback.{group_members, rolled_back}
 use Rattle.ent_steps.proofs.Ended.{gives_up, has_own, of_group, waits}
-use Rattle.ent_steps.proofs.Lists.{in_contains}
+use Rattle.ent_lists.specs.Elements.{in_contains}
 use Rattle.ent_steps.proofs.law.rolled_back_members_give_up_at_last.Goals as goal
 
 pub returns-clause-own : goal.returns-clause-own

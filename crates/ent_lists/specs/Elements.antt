@@ -1,7 +1,7 @@
--- Elements of lists, and what holds of each two of them.
-use Rattle.std.proofs.Common.{◌≡◌, ◌⊎◌, Bool, true, false, cond, not, ◌||◌, List, [], ◌∷◌, ◌++◌, map, refl, sym, ap}
-use Rattle.std.proofs.Common.{subst}
-use Rattle.std.proofs.Common.{◌∙◌, inl, inr}
+-- Elements of lists, and what holds of each two of them: the laws that proofs of several crates cite.
+use Rattle.std.proofs.Common.{◌≡◌, ◌⊎◌, ℕ, zero, suc, ◌==◌, ◌<◌, ◌≤◌, Bool, true, false, cond, not, ◌||◌, ◌&&◌, List}
+use Rattle.std.proofs.Common.{[], ◌∷◌, ◌++◌, map, length, refl, sym, ap, subst, ◌∙◌, inl, inr, arith, rules, Some}
+use Rattle.std.proofs.Common.{All, AllPairs, Contains, slice_index_or, slice_get, flat_map}
 use Rattle.std.specs.List.{AllByRecursion, filter, list_any}
 
 -- ---- truth values
@@ -36,6 +36,28 @@ neither false b e = (refl, e)
 pub not_so : (b : Bool) → (b ≡ true → ⊥) → b ≡ false
 not_so true no_way = absurd (no_way refl)
 not_so false no_way = refl
+
+pub and_both : (a b : Bool) → (a && b) ≡ true → (a ≡ true) × (b ≡ true)
+and_both true b e = (refl, e)
+and_both false b e = cc
+
+pub both_and : (a b : Bool) → a ≡ true → b ≡ true → (a && b) ≡ true
+both_and true b e f = f
+both_and false b e f = cc
+
+-- ---- numbers
+
+pub same_number : (a b : ℕ) → (a == b) ≡ true → a ≡ b
+same_number a b is = grind (arith, rules)
+
+pub number_itself : (a : ℕ) → (a == a) ≡ true
+number_itself a = grind (arith, rules)
+
+pub other_number : (a b : ℕ) → (a ≡ b → ⊥) → (a == b) ≡ false
+other_number a b differs = grind (arith, rules)
+
+pub differ : (a b : ℕ) → (a == b) ≡ false → a ≡ b → ⊥
+differ a b is same = clash (a == b) (ap (λ (n : ℕ). n == b) same ∙ number_itself b) is
 
 -- ---- elements
 
@@ -305,3 +327,133 @@ module _ {X Y : Type 0} (f : X → Y) where
           ≡ cond b (f x ∷ map f (filter (λ x. p (f x)) xs)) (map f (filter (λ x. p (f x)) xs))
       through true = refl
       through false = refl
+
+-- ---- elements by index
+
+module _ {X : Type 0} where
+  pub contains_in : (xs : List X) (x : X) → Contains xs x → In x xs
+  contains_in xs x c = found xs c.0 c.1 c.2
+    where
+      found : (ys : List X) (k : ℕ) → k < length ys → slice_index_or ys k x ≡ x → In x ys
+      found [] k low e = absurd (omega (arith, low))
+      found (y ∷ ys) zero low e = inl (sym e)
+      found (y ∷ ys) (suc k) low e = inr (found ys k (omega (arith, low)) e)
+
+  pub in_contains : (xs : List X) (x : X) → In x xs → Contains xs x
+  in_contains [] x at = absurd at
+  in_contains (y ∷ ys) x (inl same) = (0, omega arith, sym same)
+  in_contains (y ∷ ys) x (inr at) =
+      let r = in_contains ys x at in
+      let low = r.1 in
+      (suc r.0, omega (arith, low), r.2)
+
+  pub nth_in : (xs : List X) (k : ℕ) (d : X) → k < length xs → In (slice_index_or xs k d) xs
+  nth_in [] k d low = absurd (omega (arith, low))
+  nth_in (x ∷ xs) zero d low = inl refl
+  nth_in (x ∷ xs) (suc k) d low = inr (nth_in xs k d (omega (arith, low)))
+
+  pub got_in : (xs : List X) (k : ℕ) (x : X) → slice_get xs k ≡ Some x → In x xs
+  got_in [] k x is = cc (is)
+  got_in (y ∷ ys) zero x is = inl (sym (one y x is))
+    where
+      one : (y x : X) → Some y ≡ Some x → y ≡ x
+      one y x e = cc
+  got_in (y ∷ ys) (suc k) x is = inr (got_in ys k x is)
+
+  pub all_index : (P : X → Type 0) (xs : List X) → All P xs → AllByRecursion P xs
+  all_index P [] all = tt
+  all_index P (x ∷ xs) all = (all 0 x (omega arith), all_index P xs (λ k d low. all (suc k) d (omega (arith, low))))
+
+  pub pairs_index : (R : X → X → Type 0) (xs : List X) → Pairs R xs → AllPairs R xs
+  pairs_index R [] pairs i j d before low = absurd (omega (arith, low))
+  pairs_index R (x ∷ xs) pairs zero zero d before low = absurd (omega (arith, before))
+  pairs_index R (x ∷ xs) pairs zero (suc j) d before low =
+      of_all (R x) xs (slice_index_or xs j d) pairs.0 (nth_in xs j d (omega (arith, low)))
+  pairs_index R (x ∷ xs) pairs (suc i) zero d before low = absurd (omega (arith, before))
+  pairs_index R (x ∷ xs) pairs (suc i) (suc j) d before low =
+      pairs_index R xs pairs.1 i j d (omega (arith, before)) (omega (arith, low))
+
+  pub index_pairs : (R : X → X → Type 0) (xs : List X) → AllPairs R xs → Pairs R xs
+  index_pairs R [] h = tt
+  index_pairs R (x ∷ xs) h = (
+    all_index (R x) xs (λ k d low. h 0 (suc k) d (omega arith) (omega (arith, low))),
+    index_pairs R xs (λ i j d before low. h (suc i) (suc j) d (omega (arith, before)) (omega (arith, low))),
+  )
+
+-- ---- more of pairs
+
+module _ {X : Type 0} (R : X → X → Type 0) where
+  pub pairs_behind : (xs : List X) (x : X) → Pairs R xs → ((y : X) → In y xs → R y x) → Pairs R (xs ++ x ∷ [])
+  pairs_behind [] x pairs f = (tt, tt)
+  pairs_behind (y ∷ ys) x pairs f = (
+    to_all (R y) (ys ++ x ∷ []) (λ z at. elim (in_either ys (x ∷ []) z at) [
+      | inl a ↦ of_all (R y) ys z pairs.0 a
+      | inr b ↦ elim b [ inl same ↦ subst (R y) (sym same) (f y (inl refl)) | inr bad ↦ absurd bad ]
+    ]),
+    pairs_behind ys x pairs.1 (λ z at. f z (inr at)),
+  )
+
+  -- without an element
+  pub pairs_without : (before behind : List X) (x : X) → Pairs R (before ++ x ∷ behind)
+      → Pairs R (before ++ behind)
+  pairs_without [] behind x pairs = pairs.1
+  pairs_without (y ∷ before) behind x pairs = (
+    to_all (R y) (before ++ behind) (λ z at. of_all (R y) (before ++ x ∷ behind) z pairs.0
+        (elim (in_either before behind z at) [
+          | inl a ↦ in_first before (x ∷ behind) z a
+          | inr b ↦ in_second before (x ∷ behind) z (inr b)
+        ])),
+    pairs_without before behind x pairs.1,
+  )
+
+  pub pairs_short : (xs : List X) → length xs ≤ 1 → Pairs R xs
+  pairs_short [] low = tt
+  pairs_short (x ∷ []) low = (tt, tt)
+  pairs_short (x ∷ y ∷ ys) low = absurd (omega (arith, low))
+
+module _ {X Y : Type 0} (f : X → Y) where
+  pub pairs_mapped : (R : X → X → Type 0) (S : Y → Y → Type 0) (xs : List X) → Pairs R xs
+      → ((x z : X) → R x z → S (f x) (f z)) → Pairs S (map f xs)
+  pairs_mapped R S [] pairs to = tt
+  pairs_mapped R S (x ∷ xs) pairs to = (
+    to_all (S (f x)) (map f xs) (λ y at.
+        let r = of_map xs y at in subst (S (f x)) (sym r.2) (to x r.0 (of_all (R x) xs r.0 pairs.0 r.1))),
+    pairs_mapped R S xs pairs.1 to,
+  )
+
+  pub pairs_unmapped : (R : Y → Y → Type 0) (xs : List X) → Pairs R (map f xs) → Pairs (λ x z. R (f x) (f z)) xs
+  pairs_unmapped R [] pairs = tt
+  pairs_unmapped R (x ∷ xs) pairs = (
+    to_all (λ z. R (f x) (f z)) xs (λ z at. of_all (R (f x)) (map f xs) (f z) pairs.0 (to_map xs z at)),
+    pairs_unmapped R xs pairs.1,
+  )
+
+-- ---- lists of lists
+
+pub in_flat : {X Y : Type 0} (f : X → List Y) (xs : List X) (y : Y) → In y (flat_map f xs)
+    → (x : X) × In x xs × In y (f x)
+in_flat f [] y at = absurd at
+in_flat f (x ∷ xs) y at =
+    elim (in_either (f x) (flat_map f xs) y at) [
+      | inl a ↦ (x, inl refl, a)
+      | inr b ↦ let r = in_flat f xs y b in (r.0, inr r.1, r.2)
+    ]
+
+pub to_flat : {X Y : Type 0} (f : X → List Y) (xs : List X) (x : X) (y : Y) → In x xs → In y (f x)
+    → In y (flat_map f xs)
+to_flat f [] x y at there = absurd at
+to_flat f (z ∷ xs) x y (inl same) there =
+    in_first (f z) (flat_map f xs) y (subst (λ (w : _). In y (f w)) same there)
+to_flat f (z ∷ xs) x y (inr at) there = in_second (f z) (flat_map f xs) y (to_flat f xs x y at there)
+
+-- ---- lengths
+
+module _ {X : Type 0} where
+  pub shorter : (p : X → Bool) (xs : List X) → length (filter p xs) ≤ length xs
+  shorter p [] = omega arith
+  shorter p (x ∷ xs) = by (p x) (shorter p xs)
+    where
+      by : (b : Bool) → length (filter p xs) ≤ length xs
+          → length (cond b (x ∷ filter p xs) (filter p xs)) ≤ suc (length xs)
+      by true h = omega (arith, h)
+      by false h = omega (arith, h)
