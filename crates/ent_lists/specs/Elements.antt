@@ -417,14 +417,14 @@ module _ {X Y : Type 0} (f : X → Y) where
   pairs_mapped R S [] pairs to = tt
   pairs_mapped R S (x ∷ xs) pairs to = (
     to_all (S (f x)) (map f xs) (λ y at.
-        let r = of_map xs y at in subst (S (f x)) (sym r.2) (to x r.0 (of_all (R x) xs r.0 pairs.0 r.1))),
+        let r = of_map f xs y at in subst (S (f x)) (sym r.2) (to x r.0 (of_all (R x) xs r.0 pairs.0 r.1))),
     pairs_mapped R S xs pairs.1 to,
   )
 
   pub pairs_unmapped : (R : Y → Y → Type 0) (xs : List X) → Pairs R (map f xs) → Pairs (λ x z. R (f x) (f z)) xs
   pairs_unmapped R [] pairs = tt
   pairs_unmapped R (x ∷ xs) pairs = (
-    to_all (λ z. R (f x) (f z)) xs (λ z at. of_all (R (f x)) (map f xs) (f z) pairs.0 (to_map xs z at)),
+    to_all (λ z. R (f x) (f z)) xs (λ z at. of_all (R (f x)) (map f xs) (f z) pairs.0 (to_map f xs z at)),
     pairs_unmapped R xs pairs.1,
   )
 
