@@ -1,4 +1,4 @@
-use Rattle.ent_load.proofs.load.run.Given as goal
+use Rattle.ent_sessions.proofs.load.run.Given as goal
 
 abbrev pub ghosts-load_by-S-Ledger : goal.ghosts-load_by-S-Ledger
 ghosts-load_by-S-Ledger g a = record { name = a.blank.scripts.name; parts = a.blank.scripts.parts }

@@ -1,4 +1,4 @@
-use Rattle.ent_session_memory.proofs.refused.run_once.Given as goal
+use Rattle.ent_sessions.proofs.refused.run_once.Given as goal
 
 abbrev pub ghosts-book_by-S-Ledger : goal.ghosts-book_by-S-Ledger
 ghosts-book_by-S-Ledger g a = record { name = a.blank.scripts.name; parts = a.blank.scripts.parts }

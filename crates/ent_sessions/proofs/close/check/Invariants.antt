@@ -1,4 +1,4 @@
-use Rattle.ent_session_rows.proofs.close.check.Given as goal
+use Rattle.ent_sessions.proofs.close.check.Given as goal
 
 abbrev pub ghosts-check_by-S-Ledger : goal.ghosts-check_by-S-Ledger
 ghosts-check_by-S-Ledger g a = record { name = a.blank.scripts.name; parts = a.blank.scripts.parts }

@@ -1,0 +1,96 @@
+//! Sessions of a manager, by their calls. With no word, three runs, one after the other, each of which prints the same
+//! whatever the schedule:
+//!
+//! - sessions of two threads, each held at a gate until the other has come far enough: a gate that is called with the
+//!   lock held, or jobs that are done one after the other, would run into the limit;
+//! - two friends who book through one session, in one thread, where each call for which memory runs out is made again:
+//!   once with their scripts submitted one by one, and once with a manager that is opened over them;
+//! - an ordinary service's load: eight sessions in threads, each of which submits 50 scripts while all work.
+//!
+//! `memory` runs the second alone: `./check-refusals --sessions` refuses its allocations in turn. On standard error it
+//! says which call was made again, if any was. Where memory runs out in nothing of the manager's, but while the text is
+//! read or a report is made, it ends with status 1 and writes nothing. `load COUNT` runs the third alone, with so many
+//! scripts a session; how long it took, and how long a submit waited at most, goes to standard error.
+#![tactic(auto)]
+
+mod again;
+mod client;
+mod close;
+mod gates;
+mod hold;
+mod load;
+mod meet;
+mod refused;
+
+use crate::again::Again;
+use crate::load::SESSIONS;
+use anyhow::{Context, Result, bail};
+use std::env;
+
+/// How many scripts each session submits where the command line doesn't say.
+const FEW: usize = 50;
+
+/// Sessions that gates hold, and managers that are closed too early.
+fn held(rt: &HostRuntime) -> Result<()> {
+    let alloc = rt.alloc();
+    hold::check(rt, alloc).context("one is held until the other has committed")?;
+    println!(rt; "one is held until the other has committed: ok")?;
+    meet::check(rt, alloc).context("two workers meet at the gate")?;
+    println!(rt; "two workers meet at the gate: ok")?;
+    close::check(rt, alloc).context("closed too early")?;
+    println!(rt; "closed too early: ok")?;
+    Ok(())
+}
+
+/// Two friends through one session: both reports, which are the same.
+fn memory(rt: &HostRuntime) -> Result<()> {
+    let alloc = rt.alloc();
+    let mut again = Again::default();
+    let mut out = refused::report(rt, alloc, &mut again, refused::Way::Submitted).context(
+        "submitted one by one",
+    )?;
+    let opened = refused::report(rt, alloc, &mut again, refused::Way::Opened).context(
+        "opened over all",
+    )?;
+    out.extend_from_slice(opened.as_slice())?;
+    print!(rt;
+        "{}",
+        String::from_utf8(out)
+            .context("the reports aren't UTF-8")?
+            .as_str()
+    )?;
+    if let Some(call) = again.word() {
+        eprintln!(rt; "made again: {call}")?;
+    }
+    Ok(())
+}
+
+/// So many scripts by each of eight sessions.
+fn loaded(rt: &HostRuntime, count: usize) -> Result<()> {
+    let load = load::run(rt, rt.alloc(), count).context("the load isn't carried")?;
+    println!(rt; "{SESSIONS} sessions, {} commits", load.commits)?;
+    eprintln!(rt;
+        "{} ms, longest wait of a submit {} us",
+        load.took.as_millis(),
+        load.longest.as_micros()
+    )?;
+    Ok(())
+}
+
+fn main(rt: HostRuntime) -> Result<()> {
+    let mut words = env::args(&rt)?;
+    let word = words.nth(1);
+    match word.as_ref().map(|it| it.as_str()) {
+        None => {
+            held(&rt)?;
+            memory(&rt)?;
+            loaded(&rt, FEW)
+        }
+        Some("memory") => memory(&rt),
+        Some("load") => {
+            let count = words.next().context("how many scripts?")?;
+            loaded(&rt, count.parse::<usize>().context("that is no number")?)
+        }
+        Some(_) => bail!("no word, memory, or load COUNT"),
+    }
+}
