@@ -1,5 +1,5 @@
 -- The lines of answers.
-use Rattle.std.proofs.Common.{◌≡◌, ℕ, ◌+◌, List, [], ◌∷◌, ◌++◌, Ok, refl, ap, sym, subst, ◌∙◌, append_assoc}
+use Rattle.std.proofs.Common.{◌≡◌, ℕ, ◌+◌, List, [], ◌∷◌, ◌++◌, Ok, refl, ap, sym, subst, ◌∙◌, append_assoc, arith, ◌<◌, Some}
 use Rattle.std.specs.Prelude.{codes}
 use Rattle.std.specs.Fmt.{decimal}
 use Rattle.ent_value.specs.Print.{value_text}
@@ -13,10 +13,19 @@ use Rattle.ent_semantics.specs.declared.answer.Answer.{Answer}
 use Rattle.ent_semantics.specs.declared.answer.Answer.TheVariants as answers
 use Rattle.ent_book.specs.Report.{line}
 use Rattle.ent_line.specs.declared.fault.LineFault.{LineFault}
+use Rattle.std.proofs.lemmas.Option.{same_Some}
+use Rattle.ent_tree.specs.declared.limits.TheConstants.{MOST_STATEMENTS}
+use Rattle.ent_semantics.specs.declared.answer.Fact.{Fact}
+use Rattle.ent_book.specs.Report.{facts_text}
+use Rattle.ent_section_lines.specs.Heads.{heads_line}
+use Rattle.ent_history.specs.declared.history.Told.{Told}
+use Rattle.ent_history_form.specs.Draft.{Draft, Due, AnswerRows, answer_due, on_last, rows_due}
+use Rattle.ent_history_form.specs.Answers.{AnswerStands, answers_so_far, with_answer}
+use Rattle.ent_report_draft.specs.Due.{AnswersAreNext}
 use Rattle.ent_report_lines.specs.Counts.{placed_line, set_line}
 use Rattle.ent_history_form.specs.Parts.{IsNumber}
 use Rattle.ent_history_form.specs.Answers.{HasSoMany, IsAnswer, IsOfSort, answer_line_text}
-use Rattle.ent_report_draft.specs.Reading.{IsAnswerLine, IsPlacedLine, IsSetLine, Reads}
+use Rattle.ent_report_draft.specs.Reading.{IsAnswerLine, IsHeadsLine, IsPlacedLine, IsSetLine, Reads}
 use Rattle.ent_report_draft.proofs.Steps.{refusing, same_line}
 
 -- ---- the texts
@@ -241,3 +250,126 @@ pub rows_refused : (statement : Statement) (text : List ℕ) (refusal : Refusal 
 rows_refused statement text Memory sort read = tt
 rows_refused statement text (Fault fault) sort read =
     λ y is. let c = listed statement text y sort is in read (y.0, y.2) c.is
+
+-- ---- heads
+
+heads_of : (statement : Statement) (answer : Answer) → IsOfSort statement (answers.Heads []) → IsOfSort statement answer
+    → (facts : List Fact) × (answer ≡ answers.Heads facts)
+heads_of (statements.Entangled s) (answers.Heads f) h k = (f, refl)
+heads_of (statements.Entangled s) (answers.Count n) h k = absurd k
+heads_of (statements.Entangled s) (answers.Value v) h k = absurd k
+heads_of (statements.Entangled s) (answers.Rows r) h k = absurd k
+heads_of (statements.Set s) answer h k = absurd h
+heads_of (statements.Insert s) answer h k = absurd h
+heads_of (statements.Delete s) answer h k = absurd h
+heads_of (statements.Update s) answer h k = absurd h
+heads_of (statements.Select s) answer h k = absurd h
+
+of_heads : (statement : Statement) (facts : List Fact) → IsOfSort statement (answers.Heads [])
+    → IsOfSort statement (answers.Heads facts)
+of_heads (statements.Entangled s) facts h = tt
+of_heads (statements.Set s) facts h = absurd h
+of_heads (statements.Insert s) facts h = absurd h
+of_heads (statements.Delete s) facts h = absurd h
+of_heads (statements.Update s) facts h = absurd h
+of_heads (statements.Select s) facts h = absurd h
+
+heads_text : (place count : ℕ) (facts : List Fact) → line (heads_line place facts)
+    ≡ answer_line_text place (answers.Heads facts) count
+heads_text place count facts = append_assoc (decimal place) (codes " answer" ++ facts_text facts) (10 ∷ [])
+
+record Headed (text : List ℕ) (x : ℕ × Answer × ℕ) : Type 0 where
+  facts : List Fact
+  is : IsHeadsLine text (x.0, facts)
+  same : x ≡ (x.0, answers.Heads facts, 0)
+
+headed_by : (text : List ℕ) (place count : ℕ) (facts : List Fact) (answer : Answer) → answer ≡ answers.Heads facts
+    → line text ≡ answer_line_text place answer count → IsNumber place → IsAnswer answer → HasSoMany answer count
+    → Headed text (place, answer, count)
+headed_by text place count facts answer e text_is number shape so_many =
+    let is : line text ≡ answer_line_text place (answers.Heads facts) count =
+    text_is ∙ ap (λ a. answer_line_text place a count) e in
+    let none : count ≡ 0 = subst (λ a. HasSoMany a count) e so_many in
+    let are = subst IsAnswer e shape in record {
+      facts = facts;
+      is = (same_line text (heads_line place facts) (is ∙ sym (heads_text place count facts)), number, are.0, are.1);
+      same = λ i. (place, e i, none i);
+    }
+
+headed : (statement : Statement) (text : List ℕ) (x : ℕ × Answer × ℕ) → IsOfSort statement (answers.Heads [])
+    → IsAnswerLine statement text x → Headed text x
+headed statement text x sort is =
+    let f = heads_of statement x.1 sort is.sort in
+    headed_by text x.0 x.2 f.0 x.1 f.1 is.text_is is.place is.shape is.so_many
+
+pub heads_read : (statement : Statement) (text : List ℕ) (place : ℕ) (facts : List Fact)
+    → IsOfSort statement (answers.Heads [])
+    → Reads (IsHeadsLine text) (Ok (place, facts))
+    → Reads (IsAnswerLine statement text) (Ok (place, answers.Heads facts, 0))
+heads_read statement text place facts sort read = (
+  record {
+    text_is = ap line read.0.0 ∙ heads_text place 0 facts;
+    place = read.0.1;
+    sort = of_heads statement facts sort;
+    shape = (read.0.2, read.0.3);
+    so_many = refl;
+  },
+  λ y is.
+      let c = headed statement text y sort is in
+      let e = read.1 (y.0, c.facts) c.is in
+      c.same ∙ ap (λ (z : ℕ × List Fact). let r : ℕ × Answer × ℕ = (z.0, answers.Heads z.1, 0) in r) e,
+)
+
+pub heads_refused : (statement : Statement) (text : List ℕ) (refusal : Refusal LineFault)
+    → IsOfSort statement (answers.Heads [])
+    → Reads (IsHeadsLine text) (refusing refusal)
+    → Reads (IsAnswerLine statement text) (refusing refusal)
+heads_refused statement text Memory sort read = tt
+heads_refused statement text (Fault fault) sort read =
+    λ y is. let c = headed statement text y sort is in read (y.0, c.facts) c.is
+
+-- ---- the step
+
+abbrev pub next_place : Draft → ℕ
+next_place draft = answers_so_far draft.told.transactions + 1
+
+pub answer_is_next : (old : Draft) (text : List ℕ) (next : Draft) → AnswerStands old (line text) next
+    → AnswersAreNext old
+answer_is_next old text next stands = record { free = stands.free; nothing_below = stands.nothing_below }
+
+pub answer_has : (old : Draft) (text : List ℕ) (statement : Statement)
+    → answer_due old.told.scripts old.told.transactions ≡ Some statement
+    → answers_so_far old.told.transactions < MOST_STATEMENTS → (next : Draft)
+    → (stands : AnswerStands old (line text) next)
+    → IsAnswerLine statement text (answers_so_far old.told.transactions + 1, stands.answer, stands.count)
+answer_has old text statement due few next stands = record {
+  text_is = stands.text_is;
+  place = omega (arith, few);
+  sort = subst (λ s. IsOfSort s stands.answer) (same_Some stands.statement statement (sym stands.due ∙ due)) stands.sort;
+  shape = stands.shape;
+  so_many = stands.so_many;
+}
+
+pub other_place : (place other : ℕ) (x y : Answer × ℕ)
+    → ◌≡◌ {A = ℕ × Answer × ℕ} (place, x.0, x.1) (other, y.0, y.1) → place ≡ other
+other_place place other x y e = ap (λ (x : ℕ × Answer × ℕ). x.0) e
+
+pub answer_stands : (old : Draft) (text : List ℕ) (statement : Statement) (place count : ℕ) (answer : Answer)
+    → AnswersAreNext old → answer_due old.told.scripts old.told.transactions ≡ Some statement
+    → IsAnswerLine statement text (place, answer, count) → place ≡ answers_so_far old.told.transactions + 1
+    → (transactions : List Told) → transactions ≡ on_last (with_answer answer) old.told.transactions
+    → (due : Due) → due ≡ rows_due AnswerRows count
+    → AnswerStands old (line text) (record { told = record old.told { transactions = transactions }; due = due })
+answer_stands old text statement place count answer is_next is_due is placed transactions grown due rows = record {
+  statement = statement;
+  answer = answer;
+  count = count;
+  free = is_next.free;
+  nothing_below = is_next.nothing_below;
+  due = is_due;
+  text_is = is.text_is ∙ ap (λ n. answer_line_text n answer count) placed;
+  sort = is.sort;
+  shape = is.shape;
+  so_many = is.so_many;
+  next_is = λ i. record { told = record old.told { transactions = grown i }; due = rows i };
+}

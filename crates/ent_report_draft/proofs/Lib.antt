@@ -3,6 +3,7 @@ mod Steps
 mod LinesRead
 mod AnswerLines
 mod FrameLines
+mod JointLines
 mod OpeningLines
 mod OpeningRows
 mod OpeningSteps

@@ -16,6 +16,11 @@ use Rattle.ent_line.specs.Written as written
 use Rattle.ent_tree.specs.declared.declaration.Create.{Create}
 use Rattle.ent_section_lines.specs.Openings.{IsDeclared}
 use Rattle.ent_history_form.specs.Opening.{IsDeclaration}
+use Rattle.ent_section_lines.specs.Joints as sections
+use Rattle.ent_section_lines.specs.Heads as heads
+use Rattle.ent_semantics.specs.declared.answer.Fact.{Fact}
+use Rattle.ent_history_form.specs.Answers as answers
+use Rattle.ent_history_form.specs.Joints as joints
 use Rattle.ent_history_form.specs.Parts as parts
 use Rattle.ent_report_draft.specs.Reading.{Reads, IsRowLine, whole_row_at}
 
@@ -81,6 +86,28 @@ from_declaration create h = record {
   columns = h.columns;
   distinct = h.distinct;
 }
+
+-- ---- places
+
+pub to_rise : (places : List (ℕ × ℕ)) → sections.PlacesRise places → joints.PlacesRise places
+to_rise [] h = tt
+to_rise (place ∷ []) h = h
+to_rise (place ∷ next ∷ more) h = (h.0, h.1, h.2, to_rise (next ∷ more) h.3)
+
+pub from_rise : (places : List (ℕ × ℕ)) → joints.PlacesRise places → sections.PlacesRise places
+from_rise [] h = tt
+from_rise (place ∷ []) h = h
+from_rise (place ∷ next ∷ more) h = (h.0, h.1, h.2, from_rise (next ∷ more) h.3)
+
+-- ---- heads
+
+pub to_facts : (facts : List Fact) → AllByRecursion heads.IsFact facts → AllByRecursion answers.IsFact facts
+to_facts [] h = tt
+to_facts (fact ∷ facts) h = ((h.0.0, to_row fact.values h.0.1), to_facts facts h.1)
+
+pub from_facts : (facts : List Fact) → AllByRecursion answers.IsFact facts → AllByRecursion heads.IsFact facts
+from_facts [] h = tt
+from_facts (fact ∷ facts) h = ((h.0.0, from_row fact.values h.0.1), from_facts facts h.1)
 
 -- ---- rows
 

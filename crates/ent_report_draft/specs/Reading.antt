@@ -1,5 +1,6 @@
 -- What is read of a line, without its end.
-use Rattle.std.specs.Prelude.{◌≡◌, ◌==◌, ℕ, List, length, Result, Ok, Err, if◌then◌else◌}
+use Rattle.std.specs.Prelude.{[], ◌≢◌, ◌≡◌, ◌==◌, ℕ, List, length, Result, Ok, Err, if◌then◌else◌}
+use Rattle.std.specs.List.{AllByRecursion}
 use Rattle.ent_value.specs.Print.{row_text}
 use Rattle.ent_value.specs.Refusal.{◌>>=◌}
 use Rattle.ent_value.specs.declared.refusal.Refusal.{Refusal}
@@ -8,6 +9,7 @@ use Rattle.ent_value.specs.declared.value.Value.{Value}
 use Rattle.ent_tree.specs.declared.declaration.Create.{Create}
 use Rattle.ent_tree.specs.declared.script.Statement.{Statement}
 use Rattle.ent_semantics.specs.declared.answer.Answer.{Answer}
+use Rattle.ent_semantics.specs.declared.answer.Fact.{Fact}
 use Rattle.ent_semantics.specs.declared.book.Fate.{Fate}
 use Rattle.ent_semantics.specs.Database.{Name}
 use Rattle.ent_book.specs.Report.{line}
@@ -16,10 +18,13 @@ use Rattle.ent_line.specs.declared.fault.LineFault.TheVariants.{Misfit}
 use Rattle.ent_line.specs.Pieces.{row_at}
 use Rattle.ent_report_lines.specs.Counts.{placed_line, set_line, table_line}
 use Rattle.ent_report_lines.specs.Fates.{transaction_text}
+use Rattle.ent_section_lines.specs.Heads.{heads_line}
+use Rattle.ent_section_lines.specs.Joints.{joint_text}
 use Rattle.ent_section_lines.specs.Openings.{opening_text}
 use Rattle.ent_history_form.specs.Opening.{IsDeclaration}
+use Rattle.ent_history_form.specs.Joints.{PlacesRise}
 use Rattle.ent_history_form.specs.Parts.{IsNumber, IsRow, IsValue}
-use Rattle.ent_history_form.specs.Answers.{HasSoMany, IsAnswer, IsFate, IsOfSort, answer_line_text}
+use Rattle.ent_history_form.specs.Answers.{HasSoMany, IsAnswer, IsFact, IsFate, IsOfSort, answer_line_text}
 
 -- What was read is in the line, and nothing else of its sort; or nothing of the sort is; or memory ran out.
 abbrev pub Reads : {A : Type 0} → (A → Type 0) → Result A (Refusal LineFault) → Type 0
@@ -30,6 +35,10 @@ Reads {A = A} is (Err (Fault fault)) = (x : A) → is x → ⊥
 -- a table of the opening, and how many rows it has
 abbrev pub IsOpeningLine : List ℕ → Create × ℕ → Type 0
 IsOpeningLine text x = (text ≡ opening_text x.0 x.1) × IsDeclaration x.0 × IsNumber x.1
+
+-- a joint answer's number, and the places of its members
+abbrev pub IsJointLine : List ℕ → ℕ × List (ℕ × ℕ) → Type 0
+IsJointLine text x = (text ≡ joint_text x.0 x.1) × IsNumber x.0 × (x.1 ≢ []) × PlacesRise x.1
 
 -- a transaction's number and its fate
 abbrev pub IsTxLine : List ℕ → ℕ × Fate → Type 0
@@ -46,6 +55,10 @@ IsPlacedLine word text x = (text ≡ placed_line word x.0 x.1) × IsNumber x.0 �
 -- a place, and the value of a SET
 abbrev pub IsSetLine : List ℕ → ℕ × Value → Type 0
 IsSetLine text x = (text ≡ set_line x.0 x.1) × IsNumber x.0 × IsValue x.1
+
+-- a place, and the heads of an entangled statement's answer
+abbrev pub IsHeadsLine : List ℕ → ℕ × List Fact → Type 0
+IsHeadsLine text x = (text ≡ heads_line x.0 x.1) × IsNumber x.0 × (x.1 ≢ []) × AllByRecursion IsFact x.1
 
 abbrev pub IsRowLine : List ℕ → List Value → Type 0
 IsRowLine text row = (text ≡ row_text row) × IsRow row

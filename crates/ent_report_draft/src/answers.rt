@@ -2,13 +2,14 @@
 ghost use Rattle.std.specs.Prelude.{[]};
 ghost use Rattle.ent_value.specs.declared.value.Value.{Value};
 ghost use Rattle.ent_tree.specs.declared.script.Statement.{Statement};
-ghost use Rattle.ent_semantics.specs.declared.answer.Answer.TheVariants.{Count, Rows, Value as Bound};
+ghost use Rattle.ent_semantics.specs.declared.answer.Answer.TheVariants.{Count, Heads, Rows, Value as Bound};
 ghost use Rattle.ent_history_form.specs.Answers.{IsOfSort};
 ghost use Rattle.ent_report_draft.specs.Reading.{IsAnswerLine, Reads};
 
-use crate::reading::{placed_line, set_line};
+use crate::reading::{heads_line, placed_line, set_line};
 use ent_line::LineFault;
 use ent_semantics::Answer;
+use ent_tree::Statement;
 use ent_value::{Refusal, Sequence};
 use std::alloc::Global;
 
@@ -41,4 +42,33 @@ pub(crate) fn rows_answer(
 {
     let (place, count) = placed_line(b" rows ", text)?;
     Ok((place, Answer::Rows(Sequence::new(alloc)), count))
+}
+
+/// The heads of an entangled statement: the place, the answer, and no row behind it.
+pub(crate) fn heads_answer(
+    alloc: Global,
+    text: &[u8],
+) -> Result<(u64, Answer, u64), Refusal<LineFault>>
+    ensures { (statement : Statement) → IsOfSort statement (Heads []) → Reads (IsAnswerLine statement text.now) result }
+{
+    let (place, heads) = heads_line(alloc, text)?;
+    Ok((place, Answer::Heads(heads), 0))
+}
+
+/// An answer of this statement's sort: the place, the answer, which has no row yet, and how many rows follow.
+pub(crate) fn answer_line(
+    alloc: Global,
+    statement: &Statement,
+    text: &[u8],
+) -> Result<(u64, Answer, u64), Refusal<LineFault>>
+    ensures { Reads (IsAnswerLine statement.now text.now) result }
+{
+    match statement {
+        Statement::Select(_) => rows_answer(alloc, text),
+        Statement::Entangled(_) => heads_answer(alloc, text),
+        Statement::Insert(_) => count_answer(text),
+        Statement::Delete(_) => count_answer(text),
+        Statement::Update(_) => count_answer(text),
+        Statement::Set(_) => value_answer(alloc, text),
+    }
 }

@@ -1,7 +1,9 @@
 //! What is due next.
-ghost use Rattle.std.specs.Prelude.{◌≡◌, ◌↔◌, ℕ, IsTrue, IfSome, IfNone};
-ghost use Rattle.ent_history_form.specs.Draft.{AnswerRows, Free, Heading, OpeningRows, TableRows, rows_due};
+ghost use Rattle.std.specs.Prelude.{◌≡◌, ◌↔◌, ℕ, IsTrue, IfSome, IfNone, reverse};
+ghost use Rattle.ent_history_form.specs.Draft.{AnswerRows, Free, Heading, OpeningRows, TableRows, members_due, rows_due};
 ghost use Rattle.ent_report_draft.specs.View.{HasRoom, due_of};
+
+use ent_value::Sequence;
 
 /// What has to stand next below the lines that stand. `more` says how many rows are due behind the next one.
 pub(crate) enum Due {
@@ -95,6 +97,27 @@ impl Due {
             Due::TableRows { more } => Some(*more),
             _ => None,
         }
+    }
+
+    /// The members at these places, from the last to the first.
+    fn of_members_behind(mut more: Vec<(u64, u64)>) -> Due
+        ensures room { (rows : ℕ) → HasRoom (due_of result) rows }
+        ensures due { due_of result ≡ members_due (reverse more.items) }
+    {
+        match more.pop() {
+            Some((tx, place)) => Due::Members { tx, place, more },
+            None => Due::Free,
+        }
+    }
+
+    /// The members at these places.
+    pub(crate) fn of_members(places: Sequence<(u64, u64)>) -> Due
+        ensures room { (rows : ℕ) → HasRoom (due_of result) rows }
+        ensures due { due_of result ≡ members_due places }
+    {
+        let mut more = places.into_vec();
+        more.reverse();
+        Due::of_members_behind(more)
     }
 
     /// So many rows of the opening.

@@ -8,6 +8,7 @@ mod answers;
 mod draft;
 mod due;
 mod frame;
+mod joints;
 mod kinds;
 mod lists;
 mod opened;

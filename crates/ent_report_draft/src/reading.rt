@@ -4,17 +4,20 @@ ghost use Rattle.std.specs.Char.{is_ascii_digit};
 ghost use Rattle.std.specs.Fmt.{decimal};
 ghost use Rattle.ent_value.specs.Refusal.{Gives};
 ghost use Rattle.ent_line.specs.Written.{Stops};
-ghost use Rattle.ent_report_draft.specs.Reading.{IsOpeningLine, IsPlacedLine, IsRowLine, IsSetLine, IsTableLine, IsTxLine, Reads};
+ghost use Rattle.ent_report_draft.specs.Reading.{IsHeadsLine, IsJointLine, IsOpeningLine, IsPlacedLine, IsRowLine, IsSetLine, IsTableLine, IsTxLine, Reads};
 ghost use Rattle.ent_report_draft.specs.Reading.{whole_row_at};
 
 use ent_line::{LineFault, row, rows_are_read_as_written};
 use ent_report_lines::{
     counts_are_read_as_written, placed, set, table, transaction, transactions_are_read_as_written,
 };
-use ent_section_lines::{opening, openings_are_read_as_written};
-use ent_semantics::Fate;
+use ent_section_lines::{
+    heads, heads_are_read_as_written, joint, joints_are_read_as_written, opening,
+    openings_are_read_as_written,
+};
+use ent_semantics::{Fact, Fate};
 use ent_tree::Create;
-use ent_value::{Name, Refusal, Row, Value};
+use ent_value::{Name, Refusal, Row, Sequence, Value};
 use std::alloc::Global;
 
 /// The line of a table of the opening: the table, and how many rows follow.
@@ -23,6 +26,17 @@ pub(crate) fn opening_line(alloc: Global, text: &[u8]) -> Result<(Create, u64), 
 {
     openings_are_read_as_written();
     opening(alloc, text)
+}
+
+/// The line of a joint answer: its number, and the places of its members, each a transaction and a place.
+pub(crate) fn joint_line(
+    alloc: Global,
+    text: &[u8],
+) -> Result<(u64, Sequence<(u64, u64)>), Refusal<LineFault>>
+    ensures { Reads (IsJointLine text.now) result }
+{
+    joints_are_read_as_written();
+    joint(alloc, text)
 }
 
 /// The line of a transaction: its number and its fate.
@@ -56,6 +70,17 @@ pub(crate) fn set_line(alloc: Global, text: &[u8]) -> Result<(u64, Value), Refus
 {
     counts_are_read_as_written();
     set(alloc, text)
+}
+
+/// The line of the answer of an entangled statement: its place, and its heads.
+pub(crate) fn heads_line(
+    alloc: Global,
+    text: &[u8],
+) -> Result<(u64, Sequence<Fact>), Refusal<LineFault>>
+    ensures { Reads (IsHeadsLine text.now) result }
+{
+    heads_are_read_as_written();
+    heads(alloc, text)
 }
 
 /// A row up to the end of the line.

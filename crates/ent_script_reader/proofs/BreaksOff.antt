@@ -20,7 +20,7 @@ use Rattle.ent_script_reader.proofs.Begun.{script_count}
 
 -- ---- lines
 
-same_line : (one other x y : List ℕ) → IsInLine one → IsInLine other → line one ++ x ≡ line other ++ y
+pub same_line : (one other x y : List ℕ) → IsInLine one → IsInLine other → line one ++ x ≡ line other ++ y
     → (one ≡ other) × (x ≡ y)
 same_line [] [] x y h k e = (refl, cc)
 same_line [] (b ∷ other) x y h k e = absurd (not_end b other k cc)
@@ -32,7 +32,7 @@ same_line (a ∷ one) (b ∷ other) x y h k e =
     (cc, more.1)
 
 -- a line that is ended is one more
-no_more : (front x y : List ℕ) → line_count x ≡ 0 → x ≡ line front ++ y → ⊥
+pub no_more : (front x y : List ℕ) → line_count x ≡ 0 → x ≡ line front ++ y → ⊥
 no_more front x y none e =
     let whole = ap line_count e in
     let parts = count_append (line front) y in
@@ -40,7 +40,7 @@ no_more front x y none e =
     let one : line_count (10 ∷ []) ≡ 1 = refl in
     absurd (omega arith)
 
-same_fronts : (f g x y : List ℕ) → line_count x ≡ 0 → line_count y ≡ 0 → line f ++ x ≡ line g ++ y
+pub same_fronts : (f g x y : List ℕ) → line_count x ≡ 0 → line_count y ≡ 0 → line f ++ x ≡ line g ++ y
     → line f ≡ line g
 same_fronts [] [] x y h k e = refl
 same_fronts [] (b ∷ g) x y h k e = absurd (no_more g x y h cc)
@@ -49,7 +49,7 @@ same_fronts (a ∷ f) (b ∷ g) x y h k e =
     let first : a ≡ b = cc in let more = same_fronts f g x y h k cc in cc
 
 -- whole lines in front of one that isn't ended
-same_wholes : (a b x y : List ℕ) → HasWholeLines a → HasWholeLines b → line_count x ≡ 0 → line_count y ≡ 0
+pub same_wholes : (a b x y : List ℕ) → HasWholeLines a → HasWholeLines b → line_count x ≡ 0 → line_count y ≡ 0
     → a ++ x ≡ b ++ y
     → a ≡ b
 same_wholes a b x y (inl p) (inl q) h k e = p ∙ sym q
@@ -69,25 +69,25 @@ same_wholes a b x y (inr p) (inr q) h k e =
 -- ---- the line of a script
 
 -- numbers of a report
-abbrev most : ℕ
+abbrev pub most : ℕ
 most = 9223372036854775807
 
 -- without its end
-abbrev head : ℕ → ℕ → List ℕ
+abbrev pub head : ℕ → ℕ → List ℕ
 head number count = codes "script " ++ (decimal number ++ (codes " " ++ decimal count))
 
-head_in_line : (number count : ℕ) → number ≤ most → count ≤ most → IsInLine (head number count)
+pub head_in_line : (number count : ℕ) → number ≤ most → count ≤ most → IsInLine (head number count)
 head_in_line number count h k =
     in_line_append (codes "script ") (decimal number ++ (codes " " ++ decimal count)) refl
     (in_line_append (decimal number) (codes " " ++ decimal count) (decimal_in_line number h)
     (in_line_append (codes " ") (decimal count) refl (decimal_in_line count k)))
 
-same_behind : (xs ys zs : List ℕ) → xs ++ ys ≡ xs ++ zs → ys ≡ zs
+pub same_behind : (xs ys zs : List ℕ) → xs ++ ys ≡ xs ++ zs → ys ≡ zs
 same_behind [] ys zs e = e
 same_behind (x ∷ xs) ys zs e = same_behind xs ys zs cc
 
 -- it tells how many lines there are
-same_count : (number one other : ℕ) → one ≤ most → other ≤ most → head number one ≡ head number other → one ≡ other
+pub same_count : (number one other : ℕ) → one ≤ most → other ≤ most → head number one ≡ head number other → one ≡ other
 same_count number one other h k e =
     let counts = same_behind (codes " ") (decimal one) (decimal other)
     (same_behind (decimal number) (codes " " ++ decimal one) (codes " " ++ decimal other)
@@ -98,7 +98,7 @@ same_count number one other h k e =
 
 -- ---- both ways
 
-is_numbered : (number : ℕ) (script : Script)
+pub is_numbered : (number : ℕ) (script : Script)
     → numbered_script_text number script ≡ line (head number (line_count (script_text script))) ++ script_text script
 unfolding numbered_script_text
 is_numbered number script = refl
@@ -134,7 +134,7 @@ breaks_off_begins draft count lines unended whole none few b =
     }
 
 -- a line and whole lines behind it are whole lines
-lines_behind : (first lines : List ℕ) → HasWholeLines lines → (all : List ℕ) × (line all ≡ line first ++ lines)
+pub lines_behind : (first lines : List ℕ) → HasWholeLines lines → (all : List ℕ) × (line all ≡ line first ++ lines)
 lines_behind first lines (inl none) =
     (first, sym (ap (λ (l : List ℕ). line first ++ l) none ∙ append-nil (line first)))
 lines_behind first lines (inr read) = (

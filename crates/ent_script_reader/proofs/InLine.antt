@@ -30,7 +30,7 @@ IsInLine text = list_all is_in_line text ≡ true
 
 -- ---- tests
 
-both : (p q : Bool) → p ≡ true → q ≡ true → (p && q) ≡ true
+pub both : (p q : Bool) → p ≡ true → q ≡ true → (p && q) ≡ true
 both true q h k = k
 both false q h k = absurd cc
 
@@ -64,7 +64,7 @@ in_line_append xs ys h k =
 
 -- ---- the text of a token
 
-word_in_line : (word : List ℕ) → list_all is_word_byte word ≡ true → IsInLine word
+pub word_in_line : (word : List ℕ) → list_all is_word_byte word ≡ true → IsInLine word
 word_in_line [] h = refl
 word_in_line (c ∷ cs) h =
     both (is_in_line c) (list_all is_in_line cs)
@@ -72,7 +72,7 @@ word_in_line (c ∷ cs) h =
     (left_of (is_word_byte c) (list_all is_word_byte cs) h))
     (word_in_line cs (right_of (is_word_byte c) (list_all is_word_byte cs) h))
 
-digits_in_line : (digits : List ℕ) → AllDigits 10 digits → IsInLine digits
+pub digits_in_line : (digits : List ℕ) → AllDigits 10 digits → IsInLine digits
 digits_in_line [] h = refl
 digits_in_line (c ∷ cs) h =
     both (is_in_line c) (list_all is_in_line cs)
@@ -82,7 +82,7 @@ digits_in_line (c ∷ cs) h =
 pub decimal_in_line : (n : ℕ) → n ≤ 9223372036854775807 → IsInLine (decimal n)
 decimal_in_line n h = digits_in_line (decimal n) (decimal_is_IsNumeral n (omega arith)).0.1
 
-doubled_in_line : (text : List ℕ) → list_any is_ascii_control text ≡ false → IsInLine (doubled text)
+pub doubled_in_line : (text : List ℕ) → list_any is_ascii_control text ≡ false → IsInLine (doubled text)
 doubled_in_line [] h = refl
 doubled_in_line (c ∷ cs) h =
     twice (c == 39)
@@ -137,7 +137,7 @@ symbol_in_line symbols.LessOrEqual = refl
 symbol_in_line symbols.Greater = refl
 symbol_in_line symbols.GreaterOrEqual = refl
 
-kind_in_line : (kind : TokenKind) → CanStand kind → IsInLine (kind_text kind)
+pub kind_in_line : (kind : TokenKind) → CanStand kind → IsInLine (kind_text kind)
 kind_in_line (kinds.Word keyword) h = keyword_in_line keyword
 kind_in_line (kinds.Name word) h =
     word_in_line word (subst (λ (l : List ℕ). list_all is_word_byte l ≡ true) h.0.1.1 h.0.1.0.1)

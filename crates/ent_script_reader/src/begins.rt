@@ -27,7 +27,7 @@ fn has_whole_lines(text: &[u8]) -> bool
 }
 
 /// How many lines are ended in a text.
-fn line_count(text: &[u8]) -> u64
+pub fn line_count(text: &[u8]) -> u64
     ensures { result ≡ line_count text.now }
 {
     let mut count = 0u64;

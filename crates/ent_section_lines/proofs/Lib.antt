@@ -1,5 +1,5 @@
-mod Listing
-mod Names
+pub mod Listing
+pub mod Names
 mod Columns
 mod Openings
 mod Scripts

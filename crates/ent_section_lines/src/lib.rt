@@ -19,4 +19,4 @@ pub use laws::{
     openings_are_read_as_written, scripts_are_read_as_written,
 };
 pub use place::joint;
-pub use word::name;
+pub use word::{first_byte, name};

@@ -15,7 +15,7 @@ use std::alloc::Global;
 use std::str;
 
 /// The first byte, or 0 where none is left.
-pub(crate) fn first_byte(bytes: &[u8]) -> u8
+pub fn first_byte(bytes: &[u8]) -> u8
     ensures { result ≡ slice_index bytes.now 0 }
 {
     bytes.get(0).copied().unwrap_or(0)
