@@ -18,7 +18,7 @@ use Rattle.ent_rules.specs.Journal.{journal_findings}
 use Rattle.ent_rules.specs.Verdict.{first_of}
 use Rattle.ent_rules.specs.declared.finding.Finding.{Finding}
 use Rattle.ent_rules.proofs.Commits.{NotSame, numbered_if_none}
-use Rattle.ent_rules.proofs.Lists.{In, Pairs, filter_empty, not_so, pairs_across, same_number, all_joined}
+use Rattle.ent_lists.specs.Elements.{In, Pairs, filter_empty, not_so, pairs_across, same_number, all_joined}
 use Rattle.ent_check.specs.Order.{AreBelow, AreNumbered, accounts_at}
 use Rattle.ent_check.proofs.Accounts.{account_of, accounts_behind, behind_some, nothing_behind}
 
