@@ -104,9 +104,9 @@ fn answer_finding(
     }
 }
 
-/// Runs a closed statement, an entangled one under the grounding of its seat, and finds what is wrong with it first: its
-/// grounding or its answer. Where nothing is, the tables and the environment are as it leaves them, and what it offers
-/// and demands stands behind the offers.
+/// Runs a closed statement, an entangled one under the grounding of its seat, and finds what is wrong with it first:
+/// its grounding or its answer. Where nothing is, the tables and the environment are as it leaves them, and what it
+/// offers and demands stands behind the offers.
 pub fn deed_finding(
     alloc: Global,
     groundings: &Groundings<'_>,

@@ -29,7 +29,7 @@ use ent_meant::{
 };
 
 /// What a resolved statement comes to, its statement does; and it keeps kinds.
-fn forms_run_as_statements()
+pub(crate) fn forms_run_as_statements()
     ensures { Laws }
 {
     closing_keeps_the_meaning();
