@@ -18,7 +18,8 @@ use Rattle.ent_history.specs.declared.history.Shown.{Shown}
 use Rattle.ent_history.specs.declared.history.Told.{Told}
 use Rattle.ent_history.specs.declared.history.ToldJoint.{ToldJoint}
 use Rattle.ent_history.specs.declared.history.ToldMember.{ToldMember}
-use Rattle.ent_history.specs.Text.{rows_under, opened_text, opening_text, tx_text, told_text, transactions_text, joint_text}
+use Rattle.ent_history.specs.Text.{rows_under, opened_text, opening_text, tx_text, told_text, transactions_text}
+use Rattle.ent_history.specs.Text.{joint_text}
 use Rattle.ent_history.specs.Text.{joints_text, told_member_text, shown_text, history_text}
 use Rattle.ent_history_form.specs.Answers.{answer_line_text}
 use Rattle.ent_history_form.specs.Draft.{NothingBelowScripts, NothingBelowTransactions, blank}
@@ -269,7 +270,9 @@ joints_settled told text waits =
     waits.text_is
     ∙ ap (λ places. above ++ (places_line number places ++ flat_map told_member_text waits.members))
     (append-nil (map place_of waits.members))
-    ∙ ap (λ places. above ++ (line (codes "joint " ++ (decimal number ++ places)) ++ flat_map told_member_text waits.members))
+    ∙ ap
+    (λ places. above
+    ++ (line (codes "joint " ++ (decimal number ++ places)) ++ flat_map told_member_text waits.members))
     (same_places waits.members)
     ∙ assoc5 (line (codes "report 2")) (opening_text told.opening) (scripts_text 1 told.scripts)
     (transactions_text 1 told.transactions) (joints_text 1 waits.front) (whole_joint number joint)

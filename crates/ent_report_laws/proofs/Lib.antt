@@ -1,6 +1,11 @@
 pub mod Lists
 pub mod Begun
 pub mod Opened
+pub mod Answered
+pub mod Jointly
+pub mod Shown
+pub mod Faultless
 pub mod Kept
 pub mod Steps
 pub mod Texts
+pub mod Sound

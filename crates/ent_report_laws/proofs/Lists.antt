@@ -1,9 +1,10 @@
 -- Lists that grow at their end, and texts of them.
-use Rattle.std.proofs.Common.{◌≡◌, ℕ, ◌+◌, suc, List, [], ◌∷◌, ◌++◌, map, length, refl, sym, ap, ◌∙◌, arith, Some}
+use Rattle.std.proofs.Common.{◌≡◌, ◌⊎◌, subst, ℕ, ◌+◌, suc, List, [], ◌∷◌, ◌++◌, map, length, refl, sym, ap, ◌∙◌}
+use Rattle.std.proofs.Common.{arith, Some}
 use Rattle.std.proofs.Common.{inl, inr, flat_map}
 use Rattle.std.proofs.lemmas.List.{append-nil, append_assoc, length-append}
 use Rattle.std.proofs.lemmas.List.Concat.{flat_map-append}
-use Rattle.ent_lists.specs.Elements.{In}
+use Rattle.ent_lists.specs.Elements.{In, Pairs, in_either, pairs_across}
 use Rattle.ent_history_form.specs.Draft.{on_last, last_of}
 
 -- ---- the last element
@@ -41,6 +42,34 @@ module _ {X : Type 0} where
 
   pub longer : (xs : List X) (x : X) → length (xs ++ x ∷ []) ≡ length xs + 1
   longer xs x = length-append xs (x ∷ [])
+
+-- ---- what stands before a new element
+
+snoc : {X : Type 0} (xs : List X) → (xs ≡ []) ⊎ ((front : List X) × (last : X) × (xs ≡ front ++ last ∷ []))
+snoc [] = inl refl
+snoc (x ∷ xs) =
+    elim (snoc xs) [
+      | inl e ↦ inr ([], x, ap (λ more. x ∷ more) e)
+      | inr w ↦ inr (x ∷ w.0, w.1, ap (λ more. x ∷ more) w.2)
+    ]
+
+module _ {X : Type 0} (R : X → X → Type 0) (trans : (x y z : X) → R x y → R y z → R x z) where
+  behind_last : (front : List X) (last x y : X) → Pairs R (front ++ last ∷ []) → R last x
+      → In y front ⊎ In y (last ∷ []) → R y x
+  behind_last front last x y pairs next (inl early) =
+      trans y last x (pairs_across R front (last ∷ []) y last pairs early (inl refl)) next
+  behind_last front last x y pairs next (inr (inl same)) = subst (λ (z : X). R z x) (sym same) next
+  behind_last front last x y pairs next (inr (inr none)) = absurd none
+
+  -- where the last element stands before a new one, all do
+  pub all_before : (xs : List X) (x : X) → Pairs R xs
+      → ((front : List X) (last : X) → xs ≡ front ++ last ∷ [] → R last x) → (y : X) → In y xs → R y x
+  all_before xs x pairs next y at =
+      elim (snoc xs) [
+        | inl e ↦ absurd (subst (In y) e at)
+        | inr w ↦ behind_last w.0 w.1 x y (subst (Pairs R) w.2 pairs) (next w.0 w.1 w.2)
+            (in_either w.0 (w.1 ∷ []) y (subst (In y) w.2 at))
+      ]
 
 -- ---- texts
 

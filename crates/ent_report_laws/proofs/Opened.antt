@@ -1,6 +1,6 @@
 -- The opening that a report tells: its tables by name, and rows in tables of their kinds.
-use Rattle.std.proofs.Common.{◌≡◌, ◌⊎◌, Bool, true, false, cond, List, [], ◌∷◌, ◌++◌, map, refl, sym, ap, subst, ◌∙◌}
-use Rattle.std.proofs.Common.{inl, inr, Some}
+use Rattle.std.proofs.Common.{◌≡◌, Bool, true, false, cond, List, [], ◌∷◌, ◌++◌, map, refl, sym, ap, subst, ◌∙◌}
+use Rattle.std.proofs.Common.{inl, Some}
 use Rattle.std.specs.List.{AllByRecursion, filter}
 use Rattle.std.specs.Cmp.Lexicographic.{slice_cmp, texts_ties}
 use Rattle.std.specs.Ordering.{nat_cmp, is_eq}
@@ -18,9 +18,9 @@ use Rattle.ent_history.specs.Text.{rows_under}
 use Rattle.ent_history.specs.Told.{opening_row}
 use Rattle.ent_history_form.specs.Draft.{last_of}
 use Rattle.ent_history_form.specs.Opening.{IsDeclaration, NamesAscend}
-use Rattle.ent_lists.specs.Elements.{In, Pairs, of_all, all_by, all_joined, in_first, in_second, in_either, filter_empty}
-use Rattle.ent_lists.specs.Elements.{filter_joined, map_joined, pairs_across, pairs_behind}
-use Rattle.ent_report_laws.proofs.Lists.{ends}
+use Rattle.ent_lists.specs.Elements.{In, Pairs, of_all, all_by, all_joined, in_first, in_second, filter_empty}
+use Rattle.ent_lists.specs.Elements.{filter_joined, map_joined, pairs_behind}
+use Rattle.ent_report_laws.proofs.Lists.{all_before, ends}
 
 -- a name stands before another, by bytes
 abbrev pub Before : Create → Create → Type 0
@@ -45,32 +45,11 @@ nothing_opened = record { apart = tt; declarations = tt; rows = tt }
 pub other_name : (first second : Create) → Before first second → same_name first.name.name second.name.name ≡ false
 other_name first second e = texts_ties first.name.name second.name.name ∙ ap is_eq e
 
-snoc : {X : Type 0} (xs : List X) → (xs ≡ []) ⊎ ((front : List X) × (last : X) × (xs ≡ front ++ last ∷ []))
-snoc [] = inl refl
-snoc (x ∷ xs) = by (snoc xs)
-  where
-    by : (xs ≡ []) ⊎ ((front : List _) × (last : _) × (xs ≡ front ++ last ∷ []))
-        → (x ∷ xs ≡ []) ⊎ ((front : List _) × (last : _) × (x ∷ xs ≡ front ++ last ∷ []))
-    by (inl e) = inr ([], x, ap (λ more. x ∷ more) e)
-    by (inr w) = inr (x ∷ w.0, w.1, ap (λ more. x ∷ more) w.2)
-
 -- where the last name comes before a new one, all do
-all_before : (tables : List Create) (create : Create) → Pairs Before tables → NamesAscend tables create
+before_all : (tables : List Create) (create : Create) → Pairs Before tables → NamesAscend tables create
     → (other : Create) → In other tables → Before other create
-all_before tables create apart ascend other at = by (snoc tables)
-  where
-    behind : (front : List Create) (last : Create) → tables ≡ front ++ last ∷ [] → Before last create
-        → In other front ⊎ In other (last ∷ []) → Before other create
-    behind front last e next (inl early) =
-        nat_list_cmp_total.trans other.name.name last.name.name create.name.name
-        (pairs_across Before front (last ∷ []) other last (subst (Pairs Before) e apart) early (inl refl)) next
-    behind front last e next (inr (inl same)) = subst (λ (c : Create). Before c create) (sym same) next
-    behind front last e next (inr (inr none)) = absurd none
-
-    by : (tables ≡ []) ⊎ ((front : List Create) × (last : Create) × (tables ≡ front ++ last ∷ [])) → Before other create
-    by (inl e) = absurd (subst (In other) e at)
-    by (inr w) =
-        behind w.0 w.1 w.2 (ascend w.0 w.1 w.2) (in_either w.0 (w.1 ∷ []) other (subst (In other) w.2 at))
+before_all tables create apart ascend =
+    all_before Before (λ a b c. nat_list_cmp_total.trans a.name.name b.name.name c.name.name) tables create apart ascend
 
 -- ---- rows
 
@@ -114,7 +93,7 @@ module _ (opening : Opening) where
       ap (map row_of) (filter_empty (names_it create.name.name) opening.rows (λ row at.
       let there = of_all (IsRowOf opening.tables) opening.rows row opened.rows at in
       ap (λ (n : Name). same_name n create.name.name) there.2
-      ∙ other_name there.0 create (all_before opening.tables create opened.apart ascend there.0 there.1)))
+      ∙ other_name there.0 create (before_all opening.tables create opened.apart ascend there.0 there.1)))
 
   pub under_itself : (name : Name) (row : List Value)
       → rows_under (with_row name row) name ≡ rows_under opening name ++ row ∷ []
@@ -129,7 +108,7 @@ module _ (opening : Opening) where
       → IsOpened (with_table create)
   table_opened create opened declaration ascend = record {
     apart = pairs_behind Before opening.tables create opened.apart
-        (all_before opening.tables create opened.apart ascend);
+        (before_all opening.tables create opened.apart ascend);
     declarations = all_joined IsDeclaration opening.tables (create ∷ []) opened.declarations (declaration, tt);
     rows = all_by (IsRowOf opening.tables) (IsRowOf (opening.tables ++ create ∷ [])) opening.rows
         (λ row there. (there.0, in_first opening.tables (create ∷ []) there.0 there.1, there.2, there.3)) opened.rows;

@@ -1,5 +1,6 @@
 -- Each line that stands adds its text to that of what is told so far.
-use Rattle.std.proofs.Common.{◌≡◌, ℕ, ◌+◌, zero, suc, List, [], ◌∷◌, ◌++◌, map, length, refl, sym, ap, subst, ◌∙◌, Some}
+use Rattle.std.proofs.Common.{◌≡◌, ℕ, ◌+◌, zero, suc, List, [], ◌∷◌, ◌++◌, map, length, refl, sym, ap, subst, ◌∙◌}
+use Rattle.std.proofs.Common.{Some}
 use Rattle.std.proofs.Common.{codes, flat_map, inl}
 use Rattle.std.proofs.lemmas.List.{append-nil, append_assoc, map-append}
 use Rattle.ent_value.specs.declared.value.Value.{Value}
@@ -19,8 +20,10 @@ use Rattle.ent_history.specs.declared.history.Told.{Told}
 use Rattle.ent_history.specs.declared.history.ToldMember.{ToldMember}
 use Rattle.ent_history.specs.Text.{rows_under, opened_text, opening_text, told_member_text, transactions_text, tx_text}
 use Rattle.ent_history.specs.Text.{history_text}
-use Rattle.ent_history_form.specs.Answers.{TxStands, AnswerStands, AnswerRowStands, IsAnswer, HasSoMany, answers_so_far}
-use Rattle.ent_history_form.specs.Answers.{answer_line_text, with_answer, with_answer_row, with_row as with_answered_row}
+use Rattle.ent_history_form.specs.Answers.{TxStands, AnswerStands, AnswerRowStands, IsAnswer, HasSoMany}
+use Rattle.ent_history_form.specs.Answers.{answers_so_far}
+use Rattle.ent_history_form.specs.Answers.{answer_line_text, with_answer, with_answer_row}
+use Rattle.ent_history_form.specs.Answers.{with_row as with_answered_row}
 use Rattle.ent_history_form.specs.Draft.{Draft, Due, Heading, Free, OpeningRows, AnswerRows, Members, TableRows, Ended}
 use Rattle.ent_history_form.specs.Draft.{NothingBelowTransactions, answer_due, blank, last_of}
 use Rattle.ent_history_form.specs.Draft.{members_due, on_last, rows_due}
@@ -32,11 +35,13 @@ use Rattle.ent_lists.specs.Elements.{In, Pairs, pairs_across}
 use Rattle.ent_report_laws.proofs.Begun.{begun_text, ended_text, blank_text, only_opening, to_scripts, to_transactions}
 use Rattle.ent_report_laws.proofs.Begun.{to_joints, grows, uncounted, opened_line, above_opened, OpeningWaits}
 use Rattle.ent_report_laws.proofs.Begun.{opening_settled, told_of, to_answers, transactions_behind, at_answers}
-use Rattle.ent_report_laws.proofs.Begun.{placed_answer, one_answer_more, rows_head, AnswerWaits, answers_settled, place_of}
+use Rattle.ent_report_laws.proofs.Begun.{placed_answer, one_answer_more, rows_head, AnswerWaits, answers_settled}
+use Rattle.ent_report_laws.proofs.Begun.{place_of}
 use Rattle.ent_report_laws.proofs.Begun.{places_line, to_joint, JointWaits, joints_settled, to_table, TableWaits}
 use Rattle.ent_report_laws.proofs.Begun.{tables_settled}
 use Rattle.ent_report_laws.proofs.Lists.{assoc3, assoc4, flat_behind, flat_same, behind, changed, last_is}
-use Rattle.ent_report_laws.proofs.Opened.{Before, IsOpened, none_under, other_name, under_itself, under_other, with_row}
+use Rattle.ent_report_laws.proofs.Opened.{Before, IsOpened, none_under, other_name, under_itself, under_other}
+use Rattle.ent_report_laws.proofs.Opened.{with_row}
 
 -- the text of what is told so far, with what is due
 abbrev pub IsSoFar : History → Due → List ℕ → Type 0
@@ -172,7 +177,8 @@ module _ (draft : Draft) (text piece : List ℕ) (next : Draft) (so : IsTextOf d
         no_tables = s.no_tables;
         text_is =
             ap (λ t. t ++ piece) (at Free s.free ∙ to_joints draft.told s.no_tables)
-            ∙ ap (λ p. to_joint draft.told.opening draft.told.scripts draft.told.transactions draft.told.joint_answers ++ p)
+            ∙ ap
+            (λ p. to_joint draft.told.opening draft.told.scripts draft.told.transactions draft.told.joint_answers ++ p)
             (s.text_is ∙ sym (append-nil (places_line (length draft.told.joint_answers + 1) s.places)));
       }))
     where
@@ -229,7 +235,8 @@ module _ (draft : Draft) (text piece : List ℕ) (next : Draft) (so : IsTextOf d
       tables_are = was.tables_are ∙ ap (λ (c : Create). was.front ++ c ∷ []) same
 
       text_is : text ≡ above_opened opening was.front
-          ++ (opened_line s.create (length (rows_under opening name) + suc s.more) ++ rows_text (rows_under opening name))
+          ++ (opened_line s.create (length (rows_under opening name) + suc s.more)
+          ++ rows_text (rows_under opening name))
       text_is = was.text_is ∙ ap
           (λ (c : Create). above_opened opening was.front
           ++ (opened_line c (length (rows_under opening c.name.name) + suc s.more)
@@ -243,7 +250,8 @@ module _ (draft : Draft) (text piece : List ℕ) (next : Draft) (so : IsTextOf d
           (sym (under_other opening name create.name.name s.row
           (names_turned name create.name.name
           ∙ other_name create s.create
-          (pairs_across Before was.front (s.create ∷ []) create s.create (subst (λ ts. Pairs Before ts) tables_are opened.apart)
+          (pairs_across Before was.front (s.create ∷ []) create s.create
+          (subst (λ ts. Pairs Before ts) tables_are opened.apart)
           there (inl refl)))))
 
       waits : OpeningWaits told s.more (text ++ piece)
@@ -359,8 +367,10 @@ module _ (draft : Draft) (text piece : List ℕ) (next : Draft) (so : IsTextOf d
         text_is =
             ap (λ p. text ++ p) s.text_is
             ∙ ap (λ t. t ++ told_member_text member) was.text_is
-            ∙ assoc3 above (places_line number places) (flat_map told_member_text was.members) (told_member_text member)
-            ∙ ap (λ t. above ++ (places_line number places ++ t)) (sym (flat_behind told_member_text was.members member))
+            ∙ assoc3 above (places_line number places) (flat_map told_member_text was.members)
+            (told_member_text member)
+            ∙ ap (λ t. above ++ (places_line number places ++ t))
+            (sym (flat_behind told_member_text was.members member))
             ∙ ap (λ (ps : List (ℕ × ℕ)). above
             ++ (places_line number ps ++ flat_map told_member_text (was.members ++ member ∷ []))) same_places;
       }
