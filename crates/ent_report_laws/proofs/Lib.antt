@@ -9,3 +9,6 @@ pub mod Kept
 pub mod Steps
 pub mod Texts
 pub mod Sound
+pub mod Lengths
+pub mod Things
+pub mod Bounds

@@ -1,5 +1,5 @@
 //! Laws of the form of a report. Nothing here has a body; what holds is in the contracts.
-ghost use Rattle.std.specs.Prelude.{◌≡◌, ℕ, List, [], None};
+ghost use Rattle.std.specs.Prelude.{◌≡◌, ℕ, ◌≤◌, ◌<◌, ◌^◌, List, [], length, None, Some};
 ghost use Rattle.std.specs.List.{AllByRecursion};
 ghost use Rattle.ent_form.specs.Catalogue.{schemas_of};
 ghost use Rattle.ent_form.specs.OpeningFault.{opening_fault};
@@ -8,6 +8,8 @@ ghost use Rattle.ent_history.specs.declared.history.History.{History};
 ghost use Rattle.ent_history.specs.Text.{history_text};
 ghost use Rattle.ent_history_form.specs.Stands.{Tells};
 ghost use Rattle.ent_rules.specs.Formed.{IsFormed};
+ghost use Rattle.ent_rules.specs.Verdict.{first_finding, line_of};
+ghost use Rattle.ent_rules.specs.declared.finding.Finding.{Finding};
 
 use ent_declared::resolved_scripts_keep_to_declared_tables;
 use ent_faults::first_fault_is_first;
@@ -28,3 +30,10 @@ pub fn told_histories_are_formed()
     resolved_scripts_keep_to_declared_tables();
     first_fault_is_first();
 }
+
+/// 64 bits hold the line of what breaks a rule first, in a text of at most 1,099,511,627,776 bytes.
+pub fn found_lines_fit()
+    ensures { (text : List ℕ) (history : History) (finding : Finding) → Tells text history
+        → first_finding history ≡ Some finding → length text ≤ 1099511627776
+        → line_of history finding.thing < 2 ^ 64 }
+{}
