@@ -1,0 +1,14 @@
+pub mod Lists
+pub mod Begun
+pub mod Opened
+pub mod Answered
+pub mod Jointly
+pub mod Shown
+pub mod Faultless
+pub mod Kept
+pub mod Steps
+pub mod Texts
+pub mod Sound
+pub mod Lengths
+pub mod Things
+pub mod Bounds

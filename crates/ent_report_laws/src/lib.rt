@@ -1,0 +1,8 @@
+//! What the form of a report gives: what its text is, and what is known of the history that it tells.
+//!
+//! The functions here have no body: their contracts are laws of the definitions of the form.
+#![tactic(auto)]
+
+mod law;
+
+pub use law::{found_lines_fit, told_histories_are_formed, told_texts_are_texts_of_histories};
