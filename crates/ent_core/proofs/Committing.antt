@@ -1,6 +1,7 @@
 -- A member prepares, and its group commits.
 use Rattle.std.proofs.Common.{◌≡◌, ◌≤◌, ℕ, suc, Bool, true, false, not, List, [], ◌∷◌, ◌++◌, length, map, refl}
 use Rattle.std.proofs.Common.{sym, ap, subst, ◌∙◌, arith, filter, Option, Some, None}
+use Rattle.std.specs.List.{AllByRecursion}
 use Rattle.std.proofs.lemmas.List.{length-append}
 use Rattle.std.proofs.lemmas.List.Sums.{count_by-le-length, length-filter}
 use Rattle.ent_semantics.specs.declared.book.Entry.{Entry}
@@ -12,10 +13,14 @@ use Rattle.ent_protocol.specs.Begin.{BeginsCommit}
 use Rattle.ent_protocol.specs.Commit.{commit_fates, commit_numbers, committing, committing_members, entry_of, is_ready}
 use Rattle.ent_protocol.specs.Commit.{preparing}
 use Rattle.ent_protocol.specs.Event.{Reply, Committed, Prepared}
-use Rattle.ent_protocol.specs.Member.{is_of}
+use Rattle.ent_protocol.specs.Member.{is_of, is_tx}
 use Rattle.ent_protocol.specs.Rollback.{is_among}
-use Rattle.ent_protocol.specs.State.{Change, State, Member}
+use Rattle.ent_protocol.specs.State.{Change, State, Submitted, Member, first_of}
+use Rattle.ent_roster.specs.ByNumber.{IsNumbered}
+use Rattle.ent_standing.specs.Attempts.{MayTakePart}
 use Rattle.ent_core.specs.Reply.{numbered_from}
+use Rattle.ent_core.proofs.Sorted.{all_filter}
+use Rattle.ent_core.proofs.TakenOut.{all_joined, part_numbered}
 
 -- ---- what is told
 
@@ -51,6 +56,40 @@ committed_few old mid tx group member committed there prepares is =
       length-append old.prepared old.active,
       some_there old.active tx member there,
     )
+
+-- ---- who they are
+
+first_all : (P : Member → Type 0) (ms : List Member) (m : Member) → AllByRecursion P ms → first_of ms ≡ Some m → P m
+first_all P [] m all e = let none : None ≡ Some m = e in absurd cc
+first_all P (x ∷ xs) m all e = let same : x ≡ m = cc in subst P same all.0
+
+-- what holds of all members holds of those that commit
+pub committed_all : (P : Member → Type 0) (old mid : Run) (tx group : ℕ) (member : Member) (committed : List Member)
+    → found old.active tx ≡ Some member → PreparesMember member old mid → committed ≡ filter (is_of group) mid.prepared
+    → AllByRecursion P old.prepared → AllByRecursion P old.active → AllByRecursion P committed
+committed_all P old mid tx group member committed there prepares is prepared active =
+    let own : P member =
+    first_all P (filter (is_tx tx) old.active) member (all_filter P (is_tx tx) old.active active) there in
+    let all : AllByRecursion P (old.prepared ++ member ∷ []) =
+    all_joined P old.prepared (member ∷ []) prepared (own, tt) in
+    let among : AllByRecursion P mid.prepared = subst (λ ms. AllByRecursion P ms) (sym prepares.prepared) all in
+    subst (λ ms. AllByRecursion P ms) (sym is) (all_filter P (is_of group) mid.prepared among)
+
+pub parts_numbered : (submitted : List Submitted) (known : ℕ) (ms : List Member) → known ≡ length submitted
+    → AllByRecursion (MayTakePart submitted) ms → AllByRecursion (λ (m : Member). IsNumbered known m.tx) ms
+parts_numbered submitted known [] is all = tt
+parts_numbered submitted known (m ∷ ms) is all = (
+  subst (λ n. IsNumbered n m.tx) (sym is) (part_numbered submitted m all.0),
+  parts_numbered submitted known ms is all.1,
+)
+
+pub first_part : (P : Member → Type 0) (xs ys : List Member) → AllByRecursion P (xs ++ ys) → AllByRecursion P xs
+first_part P [] ys all = tt
+first_part P (x ∷ xs) ys all = (all.0, first_part P xs ys all.1)
+
+pub last_part : (P : Member → Type 0) (xs ys : List Member) → AllByRecursion P (xs ++ ys) → AllByRecursion P ys
+last_part P [] ys all = all
+last_part P (x ∷ xs) ys all = last_part P xs ys all.1
 
 -- ---- the event
 

@@ -11,6 +11,7 @@ use Rattle.ent_members.specs.Run.{Run, tx_of}
 use Rattle.ent_protocol.specs.Job.{Job, Work, One, Joint}
 use Rattle.ent_protocol.specs.Rollback.{Cause, dormant_by, fate_of, fated_by, goes_with, is_among, is_joint_of, put_back, taken_out}
 use Rattle.ent_protocol.specs.State.{State, Submitted, Dormant, Member, Change, by_number, members}
+use Rattle.ent_roster.specs.ByNumber.{IsNumbered}
 use Rattle.ent_roster.specs.Leaving.{IsWithin, as_member}
 use Rattle.ent_roster.specs.Roster.{Roster}
 use Rattle.ent_semantics.specs.declared.book.Fate.{Fate}
@@ -72,7 +73,7 @@ arrived_waiting most submitted cause (m ∷ ms) all = by (dormant_by submitted c
     by None e rest = rest
     by (Some own) e rest = (rw (waiting_tx submitted cause m own e) all.0, rest)
 
-all_joined : {A : Type 0} (P : A → Type 0) (xs ys : List A) → AllByRecursion P xs → AllByRecursion P ys → AllByRecursion P (xs ++ ys)
+pub all_joined : {A : Type 0} (P : A → Type 0) (xs ys : List A) → AllByRecursion P xs → AllByRecursion P ys → AllByRecursion P (xs ++ ys)
 all_joined P [] ys left right = right
 all_joined P (x ∷ xs) ys left right = (left.0, all_joined P xs ys left.1 right)
 
@@ -86,10 +87,10 @@ pub as_leavers : (leavers : List Leaver) → leavers ≡ map leaver_of (map as_m
 as_leavers [] = refl
 as_leavers (leaver ∷ leavers) = ap (λ ls. leaver ∷ ls) (as_leavers leavers)
 
-as_arrived : (most : ℕ) (leavers : List Leaver) → AllByRecursion (λ (leaver : Leaver). leaver.tx ≤ most) leavers
+as_arrived : (most : ℕ) (leavers : List Leaver) → AllByRecursion (λ (leaver : Leaver). IsNumbered most leaver.tx) leavers
     → AllByRecursion (λ (m : Member). m.tx ≤ most) (map as_member leavers)
 as_arrived most [] all = tt
-as_arrived most (leaver ∷ leavers) all = (all.0, as_arrived most leavers all.1)
+as_arrived most (leaver ∷ leavers) all = (all.0.1, as_arrived most leavers all.1)
 
 abbrev behind : List Submitted → Cause → List Leaver → List Dormant
 behind submitted cause leavers = filter_map (dormant_by submitted cause) (map as_member leavers)
@@ -111,7 +112,7 @@ distinct_waiting submitted cause dormant leavers distinct =
 pub kept_taken : (schemas : List TableSchema) (opening : Opening) (submitted : List Submitted) (roster roster' : Roster)
     (running : Bool) (run run' : Run) (stored stored' : Stored) (leavers : List Leaver) (cause : Cause) (p : Member → Bool)
     → IsKept schemas opening submitted roster running run stored
-    → AllByRecursion (λ (leaver : Leaver). leaver.tx ≤ length submitted) leavers
+    → AllByRecursion (λ (leaver : Leaver). IsNumbered (length submitted) leaver.tx) leavers
     → IsDistinct nat_eq (map (λ own. own.tx) roster.dormant ++ numbers_in leavers)
     → roster'.dormant ≡ roster.dormant ++ filter_map (dormant_by submitted cause) (map as_member leavers)
     → roster'.known ≡ roster.known
@@ -212,10 +213,19 @@ below [] (suc n) own is = let e : None ≡ Some own = is in absurd (different e)
 below (first ∷ more) (suc zero) own is = omega arith
 below (first ∷ more) (suc (suc n)) own is = let rest = below more (suc n) own is in omega (arith, rest)
 
+above : (submitted : List Submitted) (tx : ℕ) (own : Submitted) → numbered submitted tx ≡ Some own → 1 ≤ tx
+above submitted zero own is = let e : None ≡ Some own = is in absurd cc
+above submitted (suc n) own is = omega arith
+
+-- who takes part in a run was submitted
+pub part_numbered : (submitted : List Submitted) (m : Member) → MayTakePart submitted m
+    → IsNumbered (length submitted) m.tx
+part_numbered submitted m part = (above submitted m.tx part.own part.is_own, below submitted m.tx part.own part.is_own)
+
 leaving_arrived : (submitted : List Submitted) (ms : List Member) → AllByRecursion (MayTakePart submitted) ms
-    → AllByRecursion (λ (leaver : Leaver). leaver.tx ≤ length submitted) (map leaver_of ms)
+    → AllByRecursion (λ (leaver : Leaver). IsNumbered (length submitted) leaver.tx) (map leaver_of ms)
 leaving_arrived submitted [] all = tt
-leaving_arrived submitted (m ∷ ms) all = (below submitted m.tx all.0.own all.0.is_own, leaving_arrived submitted ms all.1)
+leaving_arrived submitted (m ∷ ms) all = (part_numbered submitted m all.0, leaving_arrived submitted ms all.1)
 
 leaving_within : (submitted : List Submitted) (ms : List Member) → AllByRecursion (MayTakePart submitted) ms
     → AllByRecursion (IsWithin submitted) (map leaver_of ms)

@@ -258,13 +258,13 @@ fn carry_out(store: &mut Store, tx: Tx, plan: Plan) -> Result<Reply, AllocError>
     transactions_are_counted::<FormFault>();
     attempts_stay_within::<FormFault>();
     transactions_stand_once::<FormFault>();
+    store.asks_for_runs();
     match plan {
         Plan::HeldBack(fault) => Ok(Reply::HeldBack(fault)),
         Plan::Lends(job) => lend(store, tx, job),
         Plan::Posts(asking) => post(store, tx, &asking),
         Plan::Commits => commit(store, tx),
         Plan::RollsBack(group) => {
-            let _submitted = store.submitted.len();
             Ok(Reply::RolledBack(roll_back(store, group, Cause::Asked(tx))))
         }
     }

@@ -6,6 +6,7 @@ ghost use Rattle.ent_protocol.specs.Begin.{BeginsCommit};
 ghost use Rattle.ent_protocol.specs.Commit.{entry_of, is_ready, preparing};
 ghost use Rattle.ent_protocol.specs.Member.{active_member};
 ghost use Rattle.ent_protocol.specs.State.{Member as Seen, members};
+ghost use Rattle.ent_standing.specs.Attempts.{StayWithin};
 
 use crate::reply::Reply;
 use crate::store::Store;
@@ -36,6 +37,7 @@ pub(crate) fn commit(store: &mut Store, tx: Tx) -> Result<Reply, AllocError>
     requires there { IsSome (active_member store.old tx) }
     requires counted { length store.old.fates + length store.old.dormant + length (members store.old)
         ≡ length store.old.submitted }
+    requires within { StayWithin store.old }
     ensures ok { IfOk result (λ reply. (member : Seen) → active_member store.old tx ≡ Some member
         → BeginsCommit (preparing store.old member) member.group (is_ready (preparing store.old member) member.group)
         (reply_seen reply) store.new) }

@@ -1,2 +1,3 @@
 pub mod ByNumber
 pub mod Gone
+pub mod Shown

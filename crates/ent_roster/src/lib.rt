@@ -6,6 +6,7 @@
 //! becomes of the scripts that were submitted.
 #![tactic(auto)]
 
+mod by_number;
 mod cause;
 mod fates;
 mod leaving;

@@ -1,18 +1,19 @@
 //! The roster.
 ghost use Rattle.std.specs.Prelude.{◌≡◌, ◌==◌, ◌+◌, ◌<◌, ◌≤◌, ◌^◌, ◌++◌, ◌∷◌, [], List, drop, filter, length, map};
-ghost use Rattle.std.specs.Prelude.{IfOk, OnErr, OnOk};
-ghost use Rattle.std.specs.List.{AllByRecursion, filter_map};
+ghost use Rattle.std.specs.Prelude.{IfOk, OnErr, OnOk, nat_eq};
+ghost use Rattle.std.specs.List.{AllByRecursion, IsDistinct, filter_map};
 ghost use Rattle.std.specs.Option.{option_copied};
 ghost use Rattle.ent_tree.specs.declared.limits.TheConstants.{MOST_SCRIPTS};
 ghost use Rattle.ent_members.specs.Leavers.{leaver_of};
 ghost use Rattle.ent_protocol.specs.Commit.{commit_fates};
 ghost use Rattle.ent_protocol.specs.Rollback.{dormant_by, fated_by};
 ghost use Rattle.ent_protocol.specs.State.{Member as Seen, by_number, first_of};
+ghost use Rattle.ent_roster.specs.ByNumber.{IsNumbered};
 ghost use Rattle.ent_roster.specs.Cause.{cause_seen};
 ghost use Rattle.ent_roster.specs.Leaving.{IsWithin};
 
 use crate::cause::Cause;
-use crate::{fates, leaving};
+use crate::{by_number, fates, leaving};
 use ent_group::Tx;
 use ent_members::{Entrant, Leaver, Member};
 use ent_next::SubmittedScript;
@@ -26,20 +27,23 @@ use std::marker::Model;
 pub struct Roster {
     dormant: Vec<Entrant>,
     fates: Vec<Fated>,
+    /// Who waits, by number from 1.
+    waiting: Vec<Option<Entrant>>,
+    /// Who is finished, by number from 1.
+    finished: Vec<Option<Fated>>,
     known: usize,
 }
 
 impl Model for Roster {
-    ghost use Rattle.std.specs.Prelude.{length};
     ghost use Rattle.std.specs.Vec.{vec_capacity};
-    ghost use Rattle.ent_roster.specs.Roster.{HasRoom, Roster as Seen};
+    ghost use Rattle.ent_roster.specs.Roster.{IsKept, Roster as Seen};
 
     ghost Value = { Seen };
 
     ghost view = { λ r. record { dormant = r.dormant.items; fates = r.fates.items; known = r.known } };
 
     ghost invariant = { λ r.
-        HasRoom (length r.dormant.items) (length r.fates.items) r.known
+        IsKept r.dormant.items r.fates.items r.waiting.items r.finished.items r.known
         (vec_capacity r.dormant) (vec_capacity r.fates) };
 }
 
@@ -51,6 +55,8 @@ impl Roster {
         Roster {
             dormant: Vec::new(alloc),
             fates: Vec::new(alloc),
+            waiting: Vec::new(alloc),
+            finished: Vec::new(alloc),
             known: 0,
         }
     }
@@ -77,18 +83,18 @@ impl Roster {
         self.known
     }
 
-    /// The place of a transaction among those who wait.
+    /// The place of a transaction among those who wait. It takes no longer where more do.
     pub fn dormant_of(&self, tx: Tx) -> Option<&Entrant>
         ensures { option_copied result ≡ first_of (filter (λ own. own.tx == tx) self.now.dormant) }
     {
-        fates::dormant_of(self.dormant.as_slice(), tx)
+        by_number::under(self.waiting.as_slice(), tx)
     }
 
-    /// The fate of a transaction.
+    /// The fate of a transaction. It takes no longer where more are finished.
     pub fn fate_of(&self, tx: Tx) -> Option<&Fated>
         ensures { option_copied result ≡ first_of (filter (λ fated. fated.tx == tx) self.now.fates) }
     {
-        fates::fate_of(self.fates.as_slice(), tx)
+        by_number::under(self.finished.as_slice(), tx)
     }
 
     /// The fates in order of their transactions' numbers.
@@ -101,7 +107,8 @@ impl Roster {
     /// A script is submitted, under this number: its transaction waits for its first run. Where memory runs out nothing
     /// changes.
     pub fn admit(&mut self, tx: Tx) -> Result<(), AllocError>
-        requires { self.old.known < MOST_SCRIPTS }
+        requires room { self.old.known < MOST_SCRIPTS }
+        requires next { tx ≡ self.old.known + 1 }
         ensures ok { OnOk result (self.new ≡ record self.old {
           dormant = self.old.dormant ++ record { tx = tx; runs = 0 } ∷ [];
           known = self.old.known + 1;
@@ -112,16 +119,23 @@ impl Roster {
         let dormant_room = self.known + 1 - self.dormant.len();
         self.fates.reserve(fates_room)?;
         self.dormant.reserve(dormant_room)?;
-        self.dormant.push_reserved(Entrant::new(tx, 0));
+        self.waiting.reserve(1)?;
+        self.finished.reserve(1)?;
+        let own = Entrant::new(tx, 0);
+        self.dormant.push_reserved(own);
+        self.waiting.push_reserved(Some(own));
+        self.finished.push_reserved(None);
         self.known += 1;
         Ok(())
     }
 
     /// The first of those who wait, as many as are asked for, wait no more: they enter a run. It takes no memory.
     pub fn take_first(&mut self, count: usize)
-        requires { count ≤ length self.old.dormant }
+        requires count { count ≤ length self.old.dormant }
+        requires distinct { IsDistinct nat_eq (map (λ own. own.tx) self.old.dormant) }
         ensures { self.new ≡ record self.old { dormant = drop count self.old.dormant } }
     {
+        by_number::forget_first(self.waiting.as_mut_slice(), self.dormant.as_slice(), count);
         let kept = self.dormant.len() - count;
         self.dormant.rotate_left(count);
         self.dormant.truncate(kept);
@@ -131,6 +145,7 @@ impl Roster {
     /// over, else it waits for another run, behind the others. It takes no memory.
     pub fn leave(&mut self, leavers: &[Leaver], submitted: &[SubmittedScript], cause: Cause)
         requires room { length self.old.dormant + length self.old.fates + length leavers.now ≤ self.old.known }
+        requires numbers { AllByRecursion (λ leaver. IsNumbered self.old.known leaver.tx) leavers.now }
         requires within { AllByRecursion (IsWithin submitted.now) leavers.now }
         ensures dormant { (gone : List Seen) → leavers.now ≡ map leaver_of gone → self.new.dormant
             ≡ self.old.dormant ++ filter_map (dormant_by submitted.now (cause_seen cause)) gone }
@@ -138,22 +153,37 @@ impl Roster {
             ≡ self.old.fates ++ filter_map (fated_by submitted.now (cause_seen cause)) gone }
         ensures known { self.new.known ≡ self.old.known }
     {
-        leaving::leave(
-            &mut self.dormant,
-            &mut self.fates,
-            leavers,
-            submitted,
-            cause,
-        );
+        leaving::leave(self, leavers, submitted, cause);
     }
 
     /// Members commit, the first with this number and each with the one behind that of the one before. It takes no
     /// memory.
     pub fn commit(&mut self, first_number: u64, members: &[Member])
         requires room { length self.old.dormant + length self.old.fates + length members.now ≤ self.old.known }
-        requires numbers { first_number + length members.now < 2 ^ 64 }
+        requires numbers { AllByRecursion (λ member. IsNumbered self.old.known member.tx) members.now }
+        requires places { first_number + length members.now < 2 ^ 64 }
         ensures { self.new ≡ record self.old { fates = self.old.fates ++ commit_fates first_number members.now } }
     {
-        leaving::commit(&mut self.fates, first_number, members);
+        leaving::commit(self, first_number, members);
+    }
+
+    /// One that stood in neither list is finished.
+    pub(crate) fn finish(&mut self, fated: Fated)
+        requires room { length self.old.dormant + length self.old.fates < self.old.known }
+        requires number { IsNumbered self.old.known fated.tx }
+        ensures { self.new ≡ record self.old { fates = self.old.fates ++ fated ∷ [] } }
+    {
+        by_number::fill(self.finished.as_mut_slice(), fated.tx, fated);
+        self.fates.push_reserved(fated);
+    }
+
+    /// One that stood in neither list waits for another run, behind the others.
+    pub(crate) fn go_back(&mut self, own: Entrant)
+        requires room { length self.old.dormant + length self.old.fates < self.old.known }
+        requires number { IsNumbered self.old.known own.tx }
+        ensures { self.new ≡ record self.old { dormant = self.old.dormant ++ own ∷ [] } }
+    {
+        by_number::fill(self.waiting.as_mut_slice(), own.tx(), own);
+        self.dormant.push_reserved(own);
     }
 }

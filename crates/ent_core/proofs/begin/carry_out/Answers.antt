@@ -1,7 +1,4 @@
-use Rattle.std.proofs.Common.{sym, subst}
-use Rattle.std.specs.List.{AllByRecursion}
-use Rattle.ent_standing.specs.Attempts.{AsksForRun}
-use Rattle.ent_protocol.specs.State.{State}
+use Rattle.std.proofs.Common.{subst}
 use Rattle.ent_resolved.specs.Resolved.{resolved_forms}
 use Rattle.ent_core.specs.Begin.{Follows}
 use Rattle.ent_core.specs.declared.begin.Plan.{Plan}
@@ -51,9 +48,11 @@ returns-in-Commits-clause-ok c =
 
 pub roll_back-requires-clause-within : goal.roll_back-requires-clause-within
 roll_back-requires-clause-within c =
-    let A : State → Type 0 = λ x. AllByRecursion AsksForRun x.submitted in
-    c.attempts_stay_within.ensures.own resolved_forms c.args.store.now c.requires.kept.reached
-    (subst A c.store.view_is c.store.invariant.asks)
+    c.attempts_stay_within.ensures.own resolved_forms c.args.store.now c.requires.kept.reached c.asks_for_runs.ensures
+
+pub commit-requires-clause-within : goal.commit-requires-clause-within
+commit-requires-clause-within c =
+    c.attempts_stay_within.ensures.own resolved_forms c.args.store.now c.requires.kept.reached c.asks_for_runs.ensures
 
 pub roll_back-requires-clause-once : goal.roll_back-requires-clause-once
 roll_back-requires-clause-once c =

@@ -1,4 +1,5 @@
 use Rattle.std.proofs.Common.{◌≡◌, ◌+◌, ◌++◌, ◌∙◌, ℕ, suc, List, Some, ap, arith, length, map, subst, sym}
+use Rattle.std.specs.List.{AllByRecursion}
 use Rattle.ent_form.specs.declared.fault.FormFault.{FormFault}
 use Rattle.ent_members.specs.Places.{found}
 use Rattle.ent_members.specs.Run.{Run, tx_of, with_run}
@@ -9,11 +10,13 @@ use Rattle.ent_protocol.specs.Member.{active_member}
 use Rattle.ent_protocol.specs.State.{State, Member, members}
 use Rattle.ent_roster.specs.Roster.{Roster}
 use Rattle.ent_semantics.specs.declared.book.Entry.{Entry}
+use Rattle.ent_standing.specs.Attempts.{MayTakePart, StayWithin}
 use Rattle.ent_tables.specs.Stored.{Stored}
 use Rattle.ent_core.specs.Reply.{numbered_from}
 use Rattle.ent_core.specs.contracts.store.Store.{the_view}
 use Rattle.ent_core.proofs.Begun.{one_member}
-use Rattle.ent_core.proofs.Committing.{commits, committed_few, nobody_there, waits}
+use Rattle.ent_core.proofs.Committing.{commits, committed_all, committed_few, first_part, last_part, nobody_there}
+use Rattle.ent_core.proofs.Committing.{parts_numbered, waits}
 use Rattle.ent_core.proofs.commit.commit.Goals as goal
 
 pub returns-in_default-clause-ok : goal.returns-in_default-clause-ok
@@ -50,6 +53,22 @@ commit-requires-clause-room c =
     c.commit-committed.result.items there (c.in_ok-prepare.ensures.ok c.in-Some.member.now there)
     (c.commit-committed.ensures.committed s) in
     omega (arith, counted, c.store.invariant.known, few, ap length c.as_slice-2.ensures.value)
+
+pub commit-requires-clause-numbers : goal.commit-requires-clause-numbers
+commit-requires-clause-numbers c =
+    let s : State = the_view c.store.inside in
+    let run : Run = c.store.inside.run in
+    let P : Member → Type 0 = MayTakePart s.submitted in
+    let all : AllByRecursion P (run.prepared ++ run.active) =
+    (subst StayWithin (sym c.store.view_is) c.requires.within).members in
+    let there : found run.active c.args.tx ≡ Some c.in-Some.member.now = sym (c.in-Some.ensures s) in
+    let among : AllByRecursion P c.commit-committed.result.items =
+    committed_all P run c.prepare.new.self c.args.tx c.group-group.result c.in-Some.member.now
+    c.commit-committed.result.items there (c.in_ok-prepare.ensures.ok c.in-Some.member.now there)
+    (c.commit-committed.ensures.committed s) (first_part P run.prepared run.active all)
+    (last_part P run.prepared run.active all) in
+    parts_numbered s.submitted c.store.inside.roster.known c.as_slice-2.result.now c.store.invariant.known
+    (subst (λ ms. AllByRecursion P ms) (sym c.as_slice-2.ensures.value) among)
 
 pub returns-clause-ok : goal.returns-clause-ok
 returns-clause-ok c = λ member there.

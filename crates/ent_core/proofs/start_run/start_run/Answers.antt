@@ -13,6 +13,9 @@ use Rattle.ent_core.proofs.start_run.start_run.Goals as goal
 pub start-requires-clause-distinct : goal.start-requires-clause-distinct
 start-requires-clause-distinct c = rw c.dormant.ensures (distinct_taken c.min-count.result c.store.inside.roster.dormant c.store.invariant.distinct)
 
+pub take_first-requires-clause-distinct : goal.take_first-requires-clause-distinct
+take_first-requires-clause-distinct c = c.store.invariant.distinct
+
 pub invariant_of-store : goal.invariant_of-store
 invariant_of-store c =
     let inside = c.store.inside in

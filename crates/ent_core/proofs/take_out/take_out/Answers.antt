@@ -1,16 +1,27 @@
-use Rattle.std.proofs.Common.{◌≡◌, ◌∙◌, ◌++◌, List, ap, sym, subst, map}
-use Rattle.std.specs.List.{filter_map}
+use Rattle.std.proofs.Common.{◌≡◌, ◌∙◌, ◌++◌, ℕ, List, ap, length, sym, subst, map}
+use Rattle.std.specs.List.{AllByRecursion, filter_map}
 use Rattle.ent_core.proofs.TakenOut.{as_leavers, joints_left, kept_taken, numbers_leaving, taken}
 use Rattle.ent_core.specs.TakeOut.{MayLeave}
 use Rattle.ent_core.specs.contracts.store.Store.{the_view}
+use Rattle.ent_members.specs.declared.leavers.Leaver.{Leaver}
 use Rattle.ent_members.specs.Moves.{is_not_of}
 use Rattle.ent_members.specs.Run.{tx_of}
 use Rattle.ent_protocol.specs.Rollback.{dormant_by, fated_by, taken_out}
 use Rattle.ent_protocol.specs.State.{Member, State, by_number}
+use Rattle.ent_roster.specs.ByNumber.{IsNumbered}
 use Rattle.ent_roster.specs.Cause.{cause_seen}
 use Rattle.ent_roster.specs.Leaving.{as_member}
 use Rattle.ent_tables.specs.Stored.{Stored}
 use Rattle.ent_core.proofs.take_out.take_out.Goals as goal
+
+pub leave-requires-clause-numbers : goal.leave-requires-clause-numbers
+leave-requires-clause-numbers c =
+    let inside = c.store.inside in
+    let leaving : MayLeave c.args.leavers.now (the_view inside) =
+    subst (λ (s : State). MayLeave c.args.leavers.now s) (sym c.store.view_is) c.requires.leaving in
+    let N : ℕ → List Leaver → Type 0 = λ known all. AllByRecursion (λ leaver. IsNumbered known leaver.tx) all in
+    subst (λ known. N known c.as_slice.result.now) (sym c.store.invariant.known)
+    (subst (N (length inside.submitted.items)) (sym c.as_slice.ensures.list) leaving.arrived)
 
 pub invariant_of-store : goal.invariant_of-store
 invariant_of-store c =
