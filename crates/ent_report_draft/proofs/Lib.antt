@@ -10,3 +10,9 @@ mod OpeningSteps
 mod TableLines
 mod TransactionLines
 mod Which
+pub mod InLines
+mod Schemas
+mod Taking
+mod BindingLines
+mod MemberLines
+mod ScriptLines

@@ -3,3 +3,7 @@ pub mod View
 pub mod Reading
 pub mod Due
 pub mod Opened
+pub mod Scripts
+pub mod Bindings
+pub mod Members
+pub mod Taking

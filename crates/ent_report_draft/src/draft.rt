@@ -1,6 +1,6 @@
 //! What a report tells so far, and what is due next.
 ghost use Rattle.std.specs.Prelude.{◌≡◌, ◌↔◌, IsTrue};
-ghost use Rattle.ent_history_form.specs.Draft.{blank};
+ghost use Rattle.ent_history_form.specs.Draft.{Ended, blank};
 ghost use Rattle.ent_report_draft.specs.Due.{AnswersAreNext, TablesAreNext};
 
 use crate::due::Due;
@@ -91,6 +91,13 @@ impl Draft {
             joint_answers,
             tables,
         }
+    }
+
+    /// Whether the last line stands.
+    pub fn has_ended(&self) -> bool
+        ensures { IsTrue result ↔ (self.now.due ≡ Ended) }
+    {
+        self.due.is_ended()
     }
 
     /// Whether answers can stand next, whose they are aside.

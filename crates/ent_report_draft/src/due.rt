@@ -1,7 +1,9 @@
 //! What is due next.
 ghost use Rattle.std.specs.Prelude.{◌≡◌, ◌↔◌, ℕ, IsTrue, IfSome, IfNone, reverse};
-ghost use Rattle.ent_history_form.specs.Draft.{AnswerRows, Free, Heading, OpeningRows, TableRows, members_due, rows_due};
-ghost use Rattle.ent_report_draft.specs.View.{HasRoom, due_of};
+ghost use Rattle.std.specs.List.{AllByRecursion};
+ghost use Rattle.ent_history_form.specs.Draft.{AnswerRows, Ended, Free, Heading, OpeningRows, TableRows, members_due, rows_due};
+ghost use Rattle.ent_report_draft.specs.Members.{AreNumbers};
+ghost use Rattle.ent_report_draft.specs.View.{HasRoom, IsMemberAt, NoMember, due_of, members_behind};
 
 use ent_value::Sequence;
 
@@ -66,6 +68,12 @@ impl Due {
         matches!(self, Due::Free)
     }
 
+    pub(crate) fn is_ended(&self) -> bool
+        ensures { IsTrue result ↔ (due_of self.now ≡ Ended) }
+    {
+        matches!(self, Due::Ended)
+    }
+
     /// Where a row of the opening is due, how many behind it.
     pub(crate) fn opening_rows(&self) -> Option<u64>
         ensures some { IfSome result (λ more. due_of self.now ≡ OpeningRows more) }
@@ -101,6 +109,7 @@ impl Due {
 
     /// The members at these places, from the last to the first.
     fn of_members_behind(mut more: Vec<(u64, u64)>) -> Due
+        requires { AllByRecursion AreNumbers (reverse more.items) }
         ensures room { (rows : ℕ) → HasRoom (due_of result) rows }
         ensures due { due_of result ≡ members_due (reverse more.items) }
     {
@@ -112,12 +121,40 @@ impl Due {
 
     /// The members at these places.
     pub(crate) fn of_members(places: Sequence<(u64, u64)>) -> Due
+        requires { AllByRecursion AreNumbers places }
         ensures room { (rows : ℕ) → HasRoom (due_of result) rows }
         ensures due { due_of result ≡ members_due places }
     {
         let mut more = places.into_vec();
         more.reverse();
         Due::of_members_behind(more)
+    }
+
+    /// The member whose line is due: its transaction and its place.
+    pub(crate) fn member(&self) -> Option<(u64, u64)>
+        ensures some { IfSome result (λ place. IsMemberAt (due_of self.now) place) }
+        ensures none { IfNone result (NoMember (due_of self.now)) }
+    {
+        match self {
+            Due::Members { tx, place, more: _ } => Some((*tx, *place)),
+            _ => None,
+        }
+    }
+
+    /// What is due behind the line of a member.
+    pub(crate) fn behind_member(self) -> Due
+        requires { AllByRecursion AreNumbers (members_behind (due_of self)) }
+        ensures room { (rows : ℕ) → HasRoom (due_of result) rows }
+        ensures due { due_of result ≡ members_due (members_behind (due_of self)) }
+    {
+        match self {
+            Due::Members {
+                tx: _,
+                place: _,
+                more,
+            } => Due::of_members_behind(more),
+            _ => Due::Free,
+        }
     }
 
     /// So many rows of the opening.

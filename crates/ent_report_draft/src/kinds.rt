@@ -25,3 +25,18 @@ pub(crate) fn is_of_kinds(row: &[Value], columns: &[Column]) -> bool
     }
     true
 }
+
+/// Whether there is a value for each of these kinds, of it.
+pub(crate) fn are_of_kinds(values: &[Value], kinds: &[Kind]) -> bool
+    ensures { IsTrue result ↔ (kinds_of values.now ≡ kinds.now) }
+{
+    if values.len() != kinds.len() {
+        return false;
+    }
+    for index in 0..values.len() {
+        if !is_same(values[index].kind(), kinds[index]) {
+            return false;
+        }
+    }
+    true
+}

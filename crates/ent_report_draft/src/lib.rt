@@ -5,15 +5,20 @@
 #![tactic(auto)]
 
 mod answers;
+mod bindings;
 mod draft;
 mod due;
 mod frame;
 mod joints;
 mod kinds;
+mod line;
 mod lists;
+mod members;
 mod opened;
 mod opening;
 mod reading;
+mod schema;
+mod scripts;
 mod tables;
 mod told;
 mod transactions;

@@ -3,17 +3,20 @@ ghost use Rattle.std.specs.Prelude.{◌≡◌, ◌↔◌, ◌<◌, ◌≤◌, �
 ghost use Rattle.std.specs.Option.{option_copied};
 ghost use Rattle.ent_tree.specs.declared.declaration.Create.{Create};
 ghost use Rattle.ent_tree.specs.declared.limits.TheConstants.{MOST_OPENING_ROWS, MOST_PARTS, MOST_TABLES};
+ghost use Rattle.ent_form.specs.Catalogue.{schemas_of};
 ghost use Rattle.ent_history_form.specs.Opening.{NamesAscend};
 ghost use Rattle.ent_history.specs.Told.{opening_row};
 ghost use Rattle.ent_history_form.specs.Draft.{last_of};
 ghost use Rattle.ent_report_draft.specs.Opened.{EndsBelow, OpeningTakes, Opens, literals_of, with_row, with_table};
 
 use crate::kinds::is_of_kinds;
-use crate::lists::last;
+use crate::lists::{last, take_last};
+use crate::schema::table_schema;
+use ent_form::Catalogue;
 use ent_tree::{
     Create, Identifier, Literal, MOST_OPENING_ROWS, MOST_PARTS, MOST_TABLES, Opening, OpeningRow,
 };
-use ent_value::{Limited, Row};
+use ent_value::{Limited, Row, Sequence};
 use std::alloc::{AllocError, Global};
 use std::marker::Model;
 
@@ -23,6 +26,8 @@ pub(crate) struct Opened {
     rows: Limited<OpeningRow, MOST_OPENING_ROWS>,
     /// The last row of the last table, where it has one.
     last_row: Option<Row>,
+    /// The tables, as statements are resolved against them.
+    catalogue: Catalogue,
 }
 
 /// Written out, so that the crates above call it, and none makes and compiles it anew.
@@ -32,19 +37,23 @@ impl Drop for Opened {
             tables: _tables,
             rows: _rows,
             last_row: _last_row,
+            catalogue: _catalogue,
         } = self;
     }
 }
 
 impl Model for Opened {
     ghost use Rattle.ent_tree.specs.declared.declaration.Opening.{Opening as Told};
+    ghost use Rattle.std.specs.Prelude.{◌≡◌};
+    ghost use Rattle.ent_form.specs.Catalogue.{schemas_of};
     ghost use Rattle.ent_report_draft.specs.Opened.{IsInOrder};
 
     ghost Value = { Told };
 
     ghost view = { λ o. record { tables = o.tables; rows = o.rows } };
 
-    ghost invariant = { λ o. IsInOrder o.tables o.rows o.last_row };
+    ghost invariant = { λ o.
+        IsInOrder o.tables o.rows o.last_row × (o.catalogue.tables ≡ schemas_of o.tables) };
 }
 
 /// The values of a row, as they stand in an opening.
@@ -106,6 +115,9 @@ impl Opened {
             tables: Limited::new(alloc),
             rows: Limited::new(alloc),
             last_row: None,
+            catalogue: Catalogue {
+                tables: Sequence::new(alloc),
+            },
         }
     }
 
@@ -116,8 +128,16 @@ impl Opened {
             tables,
             rows,
             last_row: _last_row,
+            catalogue: _catalogue,
         } = self;
         Opening { tables, rows }
+    }
+
+    /// The tables, as statements are resolved against them.
+    pub(crate) fn catalogue(&self) -> &Catalogue
+        ensures { result.now.tables ≡ schemas_of self.now.tables }
+    {
+        &self.catalogue
     }
 
     pub(crate) fn table_count(&self) -> usize
@@ -176,14 +196,22 @@ impl Opened {
     }
 
     /// Opens a table whose name comes behind those above.
-    pub(crate) fn open(&mut self, create: Create) -> Result<(), AllocError>
+    pub(crate) fn open(&mut self, alloc: Global, create: Create) -> Result<(), AllocError>
         requires room { length self.old.tables < MOST_TABLES }
         requires ascends { NamesAscend self.old.tables create }
         ensures ok { IfOk result (λ _. self.new ≡ with_table create self.old) }
         ensures err { OnErr result (self.new ≡ self.old) }
     {
-        self.tables.push(create)?;
-        self.last_row = None;
-        Ok(())
+        self.catalogue.tables.push(table_schema(alloc, &create)?)?;
+        match self.tables.push(create) {
+            Ok(()) => {
+                self.last_row = None;
+                Ok(())
+            }
+            Err(_) => {
+                take_last(alloc, &mut self.catalogue.tables);
+                Err(AllocError)
+            }
+        }
     }
 }

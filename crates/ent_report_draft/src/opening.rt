@@ -38,7 +38,7 @@ impl Draft {
             drop(create);
             return Err(Refusal::Fault(LineFault::Misfit));
         }
-        self.opening.open(create)?;
+        self.opening.open(alloc, create)?;
         self.due = Due::of_opening_rows(count);
         Ok(())
     }

@@ -6,14 +6,18 @@ ghost use Rattle.ent_value.specs.Refusal.{Gives};
 ghost use Rattle.ent_line.specs.Written.{Stops};
 ghost use Rattle.ent_report_draft.specs.Reading.{IsHeadsLine, IsJointLine, IsOpeningLine, IsPlacedLine, IsRowLine, IsSetLine, IsTableLine, IsTxLine, Reads};
 ghost use Rattle.ent_report_draft.specs.Reading.{whole_row_at};
+ghost use Rattle.ent_report_draft.specs.Bindings.{IsAnyMember, IsKnownMember};
+ghost use Rattle.ent_report_draft.specs.Scripts.{IsNumberedLine};
 
+use crate::bindings::{Bound, any_member};
 use ent_line::{LineFault, row, rows_are_read_as_written};
 use ent_report_lines::{
-    counts_are_read_as_written, placed, set, table, transaction, transactions_are_read_as_written,
+    counts_are_read_as_written, member, members_are_read_as_written, placed, set, table,
+    transaction, transactions_are_read_as_written,
 };
 use ent_section_lines::{
     heads, heads_are_read_as_written, joint, joints_are_read_as_written, opening,
-    openings_are_read_as_written,
+    openings_are_read_as_written, script, scripts_are_read_as_written,
 };
 use ent_semantics::{Fact, Fate};
 use ent_tree::Create;
@@ -37,6 +41,14 @@ pub(crate) fn joint_line(
 {
     joints_are_read_as_written();
     joint(alloc, text)
+}
+
+/// The line above a script: the script's number, and how many lines follow.
+pub(crate) fn script_line(text: &[u8]) -> Result<(u64, u64), Refusal<LineFault>>
+    ensures { Reads (IsNumberedLine text.now) result }
+{
+    scripts_are_read_as_written();
+    script(text)
 }
 
 /// The line of a transaction: its number and its fate.
@@ -81,6 +93,28 @@ pub(crate) fn heads_line(
 {
     heads_are_read_as_written();
     heads(alloc, text)
+}
+
+/// The line of a member: its transaction, its place, and a value for each of these variables.
+pub(crate) fn known_member_line(
+    alloc: Global,
+    names: &[Name],
+    text: &[u8],
+) -> Result<(u64, u64, Sequence<Value>), Refusal<LineFault>>
+    ensures { Reads (IsKnownMember names.now text.now) result }
+{
+    members_are_read_as_written();
+    member(alloc, names, text)
+}
+
+/// The line of a member: its transaction, its place, and variables of any names with their values.
+pub(crate) fn any_member_line(
+    alloc: Global,
+    text: &[u8],
+) -> Result<(u64, u64, Sequence<Bound>), Refusal<LineFault>>
+    ensures { Reads (IsAnyMember text.now) result }
+{
+    any_member(alloc, text)
 }
 
 /// A row up to the end of the line.

@@ -1,5 +1,7 @@
 //! The lines of the tables at the end.
-ghost use Rattle.std.specs.Prelude.{◌≡◌, ◌↔◌, IsTrue, IfOk};
+ghost use Rattle.std.specs.Prelude.{◌≡◌, ◌↔◌, IsTrue, IfOk, Some, length, slice_get};
+ghost use Rattle.ent_value.specs.Name.{IsWord};
+ghost use Rattle.ent_tree.specs.declared.declaration.Create.{Create};
 ghost use Rattle.ent_book.specs.Report.{line};
 ghost use Rattle.ent_history_form.specs.Draft.{on_last};
 ghost use Rattle.ent_history_form.specs.Tables.{TableRowStands, TableStands, with_table_row};
@@ -28,6 +30,16 @@ fn put_table_row(alloc: Global, tables: &mut Sequence<Shown>, row: Row) -> Resul
 }
 
 impl Draft {
+    /// The name of the table that stands next is one word.
+    pub fn next_table_is_word(&self)
+        ensures { (create : Create) → slice_get self.now.told.opening.tables (length self.now.told.tables) ≡ Some create
+            → IsWord create.name.name }
+    {
+        if let Some(create) = self.opening.table(self.tables.len()) {
+            create.name.name.as_bytes();
+        }
+    }
+
     /// The line of a table at the end: how many rows it has.
     pub fn table(&mut self, alloc: Global, text: &[u8]) -> Result<(), Refusal<LineFault>>
         ensures { Judges (TableStands self.old (line text.now)) self.old result self.new }

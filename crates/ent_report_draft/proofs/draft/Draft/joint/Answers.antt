@@ -6,6 +6,7 @@ use Rattle.ent_history_form.specs.Joints.{JointStands}
 use Rattle.ent_report_draft.specs.Reading.{IsJointLine}
 use Rattle.ent_report_draft.proofs.Steps.{refused}
 use Rattle.ent_report_draft.proofs.JointLines.{joint_has, next_joint, other_joint}
+use Rattle.ent_report_draft.proofs.MemberLines.{are_numbers}
 use Rattle.ent_report_draft.proofs.draft.Draft.joint.Goals as goal
 
 pub returns-in_err-number : goal.returns-in_err-number
@@ -36,3 +37,6 @@ returns-then-not-is_next c =
           let both : false ≡ true = sym c.if-not-is_next.true ∙ c.is_next.ensures.1 is in cc,
       refl,
     )
+
+pub of_members-requires : goal.of_members-requires
+of_members-requires c = are_numbers c.in_ok-number.places c.in_ok-number.ensures.0.3

@@ -14,8 +14,8 @@ returns-then-is_of_kinds c =
     ∙ ap (map (λ (column : Column). column.kind)) (c.as_slice-2.ensures ∙ c.deref-2.ensures) in (
       λ t. subst (λ (o : Opening). OpeningTakes o c.args.row.now) c.self.view_is
           (takes c.self.inside.tables c.self.inside.rows c.self.inside.last_row c.in-Some.create.now c.args.row.now
-          c.self.invariant there kinds (c.is_behind.ensures.0 t)),
+          c.self.invariant.0 there kinds (c.is_behind.ensures.0 t)),
       λ can. c.is_behind.ensures.1
           (is_below c.self.inside.tables c.self.inside.rows c.self.inside.last_row c.in-Some.create.now c.args.row.now
-          c.self.invariant there (subst (λ (o : Opening). OpeningTakes o c.args.row.now) (sym c.self.view_is) can)),
+          c.self.invariant.0 there (subst (λ (o : Opening). OpeningTakes o c.args.row.now) (sym c.self.view_is) can)),
     )
