@@ -1,12 +1,11 @@
 -- A transaction on its way: what is found, left and offered from a statement on.
-use Rattle.std.proofs.Common.{◌≡◌, ℕ, zero, suc, ◌+◌, ◌<◌, Bool, true, false, cond, List, [], ◌∷◌, ◌++◌, map, length}
-use Rattle.std.proofs.Common.{refl, sym, ap, ◌∙◌, subst, arith, Option, Some, None, Result, Ok, Err, append-nil}
-use Rattle.std.proofs.Common.{append_assoc, drop, get_or, is_some}
+use Rattle.std.proofs.Common.{◌≡◌, ℕ, suc, ◌+◌, ◌<◌, true, false, List, [], ◌∷◌, ◌++◌, map, length}
+use Rattle.std.proofs.Common.{refl, sym, ap, ◌∙◌, subst, Option, Some, None, Result, Ok, Err, append-nil}
+use Rattle.std.proofs.Common.{append_assoc, drop}
 use Rattle.std.specs.Prelude.{slice_get, slice_index_or, unwrap_or}
 use Rattle.std.specs.List.{AllByRecursion, flat_map}
 use Rattle.std.specs.Option.{option_map}
 use Rattle.std.proofs.lemmas.List.{length-map, map-append}
-use Rattle.ent_value.specs.Refusal.{◌>>=◌}
 use Rattle.ent_value.specs.declared.value.Kind.{Kind}
 use Rattle.ent_value.specs.declared.value.Value.{Value}
 use Rattle.ent_tree.specs.declared.declaration.Create.{Create}
@@ -33,7 +32,7 @@ use Rattle.ent_form.specs.Kinds.{Bound, none_bound}
 use Rattle.ent_form.specs.declared.catalogue.TableSchema.{TableSchema}
 use Rattle.ent_form.specs.declared.fault.FormFault.{FormFault}
 use Rattle.ent_form.specs.declared.script.Plain.{Plain}
-use Rattle.ent_kinded.specs.Kinds.{AreDeclared, AreKinded, HasKinds, column_kinds, kinds_numbered}
+use Rattle.ent_kinded.specs.Kinds.{AreDeclared, HasKinds, column_kinds}
 use Rattle.ent_meant.specs.Tables.{database_of, HaveDistinctColumns}
 use Rattle.ent_rules.specs.Placed.{Placed, member_at, told_deeds}
 use Rattle.ent_rules.specs.Replay.{deeds_findings, found_after, is_answered, later, ungrounded}

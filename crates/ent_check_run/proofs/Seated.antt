@@ -1,6 +1,6 @@
 -- Where nothing breaks the rule of joint answers, each entangled statement of what has committed is a member.
-use Rattle.std.proofs.Common.{◌≡◌, ℕ, suc, Bool, true, false, not, ◌||◌, ◌&&◌, cond, List, [], ◌∷◌, ◌++◌, map, refl}
-use Rattle.std.proofs.Common.{sym, ap, ◌∙◌, subst, Option, Some, None, is_some, inl, inr}
+use Rattle.std.proofs.Common.{◌≡◌, ℕ, suc, Bool, true, false, not, ◌||◌, cond, List, [], ◌∷◌, ◌++◌, refl}
+use Rattle.std.proofs.Common.{sym, ap, ◌∙◌, Option, Some, None, is_some, inl, inr}
 use Rattle.std.specs.List.{AllByRecursion, filter, flat_map}
 use Rattle.ent_lists.specs.Elements.{In, and_both, in_flat, of_filter, to_all}
 use Rattle.ent_tree.specs.declared.script.Statement.{Statement}

@@ -1,10 +1,5 @@
-use Rattle.std.proofs.Common.{◌+◌, map, subst}
-use Rattle.std.specs.Arc.{arc_value}
+use Rattle.std.proofs.Common.{◌+◌, subst}
 use Rattle.std.specs.List.{AllByRecursion}
-use Rattle.ent_check.specs.Order.{accounts_at}
-use Rattle.ent_meant.specs.Tables.{database_of}
-use Rattle.ent_rules.specs.Account.{accounts_from}
-use Rattle.ent_select.specs.Tables.{rows_in}
 use Rattle.ent_check_run.specs.Alone.{IsSeatedWhole, account_at}
 use Rattle.ent_check_run.proofs.Turns.{turn_replayed, turn_there}
 use Rattle.ent_check_run.proofs.serial.turn_finding.Goals as goal

@@ -13,7 +13,8 @@ use Rattle.ent_meant.specs.Tables.{database_of}
 use Rattle.ent_select.specs.Tables.{rows_in}
 use Rattle.ent_semantics.specs.declared.answer.Answer.{Answer}
 use Rattle.ent_check_run.proofs.Along.{Midway, Resolves, midway_begun, resolved_so}
-use Rattle.ent_check_run.proofs.Next.{end_replayed, next_asks, next_on, next_there, none_there, off_replayed, told_there}
+use Rattle.ent_check_run.proofs.Next.{end_replayed, next_asks, next_on, next_there, none_there, off_replayed}
+use Rattle.ent_check_run.proofs.Next.{told_there}
 use Rattle.ent_check_run.proofs.transaction.transaction_finding.Goals as goal
 
 pub loop-index-init : goal.loop-index-init
@@ -27,12 +28,13 @@ loop-index-init c =
     let form : script_in (schemas_of creates) script ≡ Ok c.in_ok-plain.plain =
     ap (λ schemas. script_in schemas script) (sym c.catalogue.ensures.tables) ∙ c.in_ok-plain.ensures in
     let resolved = subst (Resolves (schemas_of creates) none_bound script.statements)
-    (sym (c.as_slice-forms.ensures ∙ c.deref.ensures)) (resolved_so (schemas_of creates) script c.in_ok-plain.plain form) in
+    (sym (c.as_slice-forms.ensures ∙ c.deref.ensures))
+    (resolved_so (schemas_of creates) script c.in_ok-plain.plain form) in
     subst (λ environment. Midway creates c.args.groundings.now c.args.tx script.statements c.args.told.now.answers
     database offers 1 script.statements forms c.args.told.now.answers tables environment offers)
     (sym c.new-environment.ensures.nothing)
-    (midway_begun creates c.args.groundings.now c.args.tx script.statements c.args.told.now.answers database offers forms
-    tables resolved c.requires.declared c.requires.seated refl)
+    (midway_begun creates c.args.groundings.now c.args.tx script.statements c.args.told.now.answers database offers
+    forms tables resolved c.requires.declared c.requires.seated refl)
 
 pub deed_finding-requires-clause-there : goal.deed_finding-requires-clause-there
 deed_finding-requires-clause-there c =
