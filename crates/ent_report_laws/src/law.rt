@@ -7,6 +7,7 @@ ghost use Rattle.ent_form.specs.ScriptFaults.{script_faults};
 ghost use Rattle.ent_history.specs.declared.history.History.{History};
 ghost use Rattle.ent_history.specs.Text.{history_text};
 ghost use Rattle.ent_history_form.specs.Stands.{Tells};
+ghost use Rattle.ent_report_laws.specs.Tellable.{CanBeTold};
 ghost use Rattle.ent_rules.specs.Formed.{IsFormed};
 ghost use Rattle.ent_rules.specs.Verdict.{first_finding, line_of};
 ghost use Rattle.ent_rules.specs.declared.finding.Finding.{Finding};
@@ -36,4 +37,9 @@ pub fn found_lines_fit()
     ensures { (text : List ℕ) (history : History) (finding : Finding) → Tells text history
         → first_finding history ≡ Some finding → length text ≤ 1099511627776
         → line_of history finding.thing < 2 ^ 64 }
+{}
+
+/// A history that can be told is told by its text.
+pub fn tellable_histories_are_told()
+    ensures { (history : History) → CanBeTold history → Tells (history_text history) history }
 {}

@@ -5,4 +5,7 @@
 
 mod law;
 
-pub use law::{found_lines_fit, told_histories_are_formed, told_texts_are_texts_of_histories};
+pub use law::{
+    found_lines_fit, tellable_histories_are_told, told_histories_are_formed,
+    told_texts_are_texts_of_histories,
+};
