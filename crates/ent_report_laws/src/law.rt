@@ -1,19 +1,24 @@
 //! Laws of the form of a report. Nothing here has a body; what holds is in the contracts.
-ghost use Rattle.std.specs.Prelude.{◌≡◌, ℕ, ◌≤◌, ◌<◌, ◌^◌, List, [], length, None, Some};
-ghost use Rattle.std.specs.List.{AllByRecursion};
+ghost use Rattle.std.specs.Prelude.{◌≡◌, ℕ, ◌≤◌, ◌<◌, ◌^◌, List, [], length, map, None, Some};
+ghost use Rattle.std.specs.List.{AllByRecursion, range_with_len};
+ghost use Rattle.ent_book.specs.Report2.{report_2_text};
 ghost use Rattle.ent_form.specs.Catalogue.{schemas_of};
 ghost use Rattle.ent_form.specs.OpeningFault.{opening_fault};
 ghost use Rattle.ent_form.specs.ScriptFaults.{script_faults};
 ghost use Rattle.ent_history.specs.declared.history.History.{History};
 ghost use Rattle.ent_history.specs.Text.{history_text};
+ghost use Rattle.ent_history.specs.Told.{told_by};
 ghost use Rattle.ent_history_form.specs.Stands.{Tells};
 ghost use Rattle.ent_report_laws.specs.Tellable.{CanBeTold};
 ghost use Rattle.ent_rules.specs.Formed.{IsFormed};
 ghost use Rattle.ent_rules.specs.Verdict.{first_finding, line_of};
 ghost use Rattle.ent_rules.specs.declared.finding.Finding.{Finding};
+ghost use Rattle.ent_semantics.specs.Database.{Database};
+ghost use Rattle.ent_semantics.specs.declared.book.Book.{Book};
 
 use ent_declared::resolved_scripts_keep_to_declared_tables;
 use ent_faults::first_fault_is_first;
+use ent_history::reports_tell_of_books;
 
 /// A text that tells a history is that history's.
 pub fn told_texts_are_texts_of_histories()
@@ -43,3 +48,13 @@ pub fn found_lines_fit()
 pub fn tellable_histories_are_told()
     ensures { (history : History) → CanBeTold history → Tells (history_text history) history }
 {}
+
+/// The report of a book tells what is told by it, where that can be told and its fates are those of its transactions by
+/// number, from 1 on.
+pub fn reports_of_tellable_books_are_told()
+    ensures { (book : Book Database)
+        → map (λ fated. fated.tx) book.fates ≡ range_with_len 1 (length book.fates)
+        → CanBeTold (told_by book) → Tells (report_2_text book) (told_by book) }
+{
+    reports_tell_of_books();
+}

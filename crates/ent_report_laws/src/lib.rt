@@ -6,6 +6,6 @@
 mod law;
 
 pub use law::{
-    found_lines_fit, tellable_histories_are_told, told_histories_are_formed,
-    told_texts_are_texts_of_histories,
+    found_lines_fit, reports_of_tellable_books_are_told, tellable_histories_are_told,
+    told_histories_are_formed, told_texts_are_texts_of_histories,
 };
