@@ -19,3 +19,4 @@ pub mod ToTransactions
 pub mod ToJoints
 pub mod ToTables
 pub mod ToEnd
+pub mod OfOpening

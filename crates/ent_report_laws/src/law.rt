@@ -9,7 +9,7 @@ ghost use Rattle.ent_history.specs.declared.history.History.{History};
 ghost use Rattle.ent_history.specs.Text.{history_text};
 ghost use Rattle.ent_history.specs.Told.{told_by};
 ghost use Rattle.ent_history_form.specs.Stands.{Tells};
-ghost use Rattle.ent_report_laws.specs.Tellable.{CanBeTold};
+ghost use Rattle.ent_report_laws.specs.Tellable.{CanBeTold, IsOpeningTold};
 ghost use Rattle.ent_rules.specs.Formed.{IsFormed};
 ghost use Rattle.ent_rules.specs.Verdict.{first_finding, line_of};
 ghost use Rattle.ent_rules.specs.declared.finding.Finding.{Finding};
@@ -58,3 +58,8 @@ pub fn reports_of_tellable_books_are_told()
 {
     reports_tell_of_books();
 }
+
+/// The opening that a text tells has all that one can have that is told.
+pub fn told_openings_can_be_told()
+    ensures { (text : List ℕ) (history : History) → Tells text history → IsOpeningTold history.opening }
+{}
