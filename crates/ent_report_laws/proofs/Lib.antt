@@ -20,3 +20,4 @@ pub mod ToJoints
 pub mod ToTables
 pub mod ToEnd
 pub mod OfOpening
+pub mod OfScripts

@@ -8,6 +8,7 @@ ghost use Rattle.ent_form.specs.ScriptFaults.{script_faults};
 ghost use Rattle.ent_history.specs.declared.history.History.{History};
 ghost use Rattle.ent_history.specs.Text.{history_text};
 ghost use Rattle.ent_history.specs.Told.{told_by};
+ghost use Rattle.ent_history_form.specs.Scripts.{IsScript};
 ghost use Rattle.ent_history_form.specs.Stands.{Tells};
 ghost use Rattle.ent_report_laws.specs.Tellable.{CanBeTold, IsOpeningTold};
 ghost use Rattle.ent_rules.specs.Formed.{IsFormed};
@@ -15,6 +16,7 @@ ghost use Rattle.ent_rules.specs.Verdict.{first_finding, line_of};
 ghost use Rattle.ent_rules.specs.declared.finding.Finding.{Finding};
 ghost use Rattle.ent_semantics.specs.Database.{Database};
 ghost use Rattle.ent_semantics.specs.declared.book.Book.{Book};
+ghost use Rattle.ent_tree.specs.declared.limits.TheConstants.{MOST_SCRIPTS};
 
 use ent_declared::resolved_scripts_keep_to_declared_tables;
 use ent_faults::first_fault_is_first;
@@ -62,4 +64,11 @@ pub fn reports_of_tellable_books_are_told()
 /// The opening that a text tells has all that one can have that is told.
 pub fn told_openings_can_be_told()
     ensures { (text : List ℕ) (history : History) → Tells text history → IsOpeningTold history.opening }
+{}
+
+/// The scripts that a text tells are such as a report can show, and no more than an input has.
+pub fn told_scripts_can_be_told()
+    ensures few { (text : List ℕ) (history : History) → Tells text history → length history.scripts ≤ MOST_SCRIPTS }
+    ensures each { (text : List ℕ) (history : History) → Tells text history
+        → AllByRecursion (IsScript history) history.scripts }
 {}
