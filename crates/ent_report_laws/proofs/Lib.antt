@@ -21,3 +21,4 @@ pub mod ToTables
 pub mod ToEnd
 pub mod OfOpening
 pub mod OfScripts
+pub mod OfJoints

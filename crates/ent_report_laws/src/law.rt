@@ -10,7 +10,7 @@ ghost use Rattle.ent_history.specs.Text.{history_text};
 ghost use Rattle.ent_history.specs.Told.{told_by};
 ghost use Rattle.ent_history_form.specs.Scripts.{IsScript};
 ghost use Rattle.ent_history_form.specs.Stands.{Tells};
-ghost use Rattle.ent_report_laws.specs.Tellable.{CanBeTold, IsOpeningTold};
+ghost use Rattle.ent_report_laws.specs.Tellable.{CanBeTold, IsJointTold, IsOpeningTold};
 ghost use Rattle.ent_rules.specs.Formed.{IsFormed};
 ghost use Rattle.ent_rules.specs.Verdict.{first_finding, line_of};
 ghost use Rattle.ent_rules.specs.declared.finding.Finding.{Finding};
@@ -71,4 +71,10 @@ pub fn told_scripts_can_be_told()
     ensures few { (text : List ℕ) (history : History) → Tells text history → length history.scripts ≤ MOST_SCRIPTS }
     ensures each { (text : List ℕ) (history : History) → Tells text history
         → AllByRecursion (IsScript history) history.scripts }
+{}
+
+/// The joint answers that a text tells have all that one can have that is told.
+pub fn told_joints_can_be_told()
+    ensures { (text : List ℕ) (history : History) → Tells text history
+        → AllByRecursion (IsJointTold history) history.joint_answers }
 {}
