@@ -22,3 +22,4 @@ pub mod ToEnd
 pub mod OfOpening
 pub mod OfScripts
 pub mod OfJoints
+pub mod OfTables

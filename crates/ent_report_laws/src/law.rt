@@ -10,7 +10,7 @@ ghost use Rattle.ent_history.specs.Text.{history_text};
 ghost use Rattle.ent_history.specs.Told.{told_by};
 ghost use Rattle.ent_history_form.specs.Scripts.{IsScript};
 ghost use Rattle.ent_history_form.specs.Stands.{Tells};
-ghost use Rattle.ent_report_laws.specs.Tellable.{CanBeTold, IsJointTold, IsOpeningTold};
+ghost use Rattle.ent_report_laws.specs.Tellable.{AreTablesOf, CanBeTold, IsJointTold, IsOpeningTold};
 ghost use Rattle.ent_rules.specs.Formed.{IsFormed};
 ghost use Rattle.ent_rules.specs.Verdict.{first_finding, line_of};
 ghost use Rattle.ent_rules.specs.declared.finding.Finding.{Finding};
@@ -77,4 +77,10 @@ pub fn told_scripts_can_be_told()
 pub fn told_joints_can_be_told()
     ensures { (text : List ℕ) (history : History) → Tells text history
         → AllByRecursion (IsJointTold history) history.joint_answers }
+{}
+
+/// The tables at the end that a text tells are those of its opening, each with rows that can stand in it.
+pub fn told_tables_can_be_told()
+    ensures { (text : List ℕ) (history : History) → Tells text history
+        → AreTablesOf history.opening.tables history.tables }
 {}
