@@ -23,3 +23,4 @@ pub mod OfOpening
 pub mod OfScripts
 pub mod OfJoints
 pub mod OfTables
+pub mod OfTransactions

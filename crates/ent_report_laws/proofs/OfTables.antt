@@ -83,11 +83,12 @@ row_filled creates [] create row more fit e is = cc
 row_filled [] (shown ∷ tables) create row more fit e is = absurd fit
 row_filled (first ∷ creates) (shown ∷ []) create row more fit e is = (
   omega (arith, fit.0, longer shown.rows row),
-  all_joined (λ row. IsRow row × (kinds_of row ≡ map (λ column. column.kind) first.columns)) shown.rows (row ∷ []) fit.1 (
-    subst (λ (c : Create). IsRow row × (kinds_of row ≡ map (λ column. column.kind) c.columns))
-        (sym (same_some first create e)) is,
-    tt,
-  ),
+  all_joined (λ row. IsRow row × (kinds_of row ≡ map (λ column. column.kind) first.columns)) shown.rows (row ∷ [])
+      fit.1 (
+        subst (λ (c : Create). IsRow row × (kinds_of row ≡ map (λ column. column.kind) c.columns))
+            (sym (same_some first create e)) is,
+        tt,
+      ),
 )
 row_filled (first ∷ creates) (shown ∷ next ∷ []) create row more fit e is =
     (fit.0, fit.1, row_filled creates (next ∷ []) create row more fit.2 e is)

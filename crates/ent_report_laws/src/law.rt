@@ -1,5 +1,5 @@
 //! Laws of the form of a report. Nothing here has a body; what holds is in the contracts.
-ghost use Rattle.std.specs.Prelude.{◌≡◌, ℕ, ◌≤◌, ◌<◌, ◌^◌, List, [], length, map, None, Some};
+ghost use Rattle.std.specs.Prelude.{◌≡◌, ◌↔◌, ℕ, ◌≤◌, ◌<◌, ◌^◌, List, [], length, map, None, Some};
 ghost use Rattle.std.specs.List.{AllByRecursion, range_with_len};
 ghost use Rattle.ent_book.specs.Report2.{report_2_text};
 ghost use Rattle.ent_form.specs.Catalogue.{schemas_of};
@@ -83,4 +83,10 @@ pub fn told_joints_can_be_told()
 pub fn told_tables_can_be_told()
     ensures { (text : List ℕ) (history : History) → Tells text history
         → AreTablesOf history.opening.tables history.tables }
+{}
+
+/// What a text tells can be told: a text tells a history exactly where it is its text and that can be told.
+pub fn told_histories_can_be_told()
+    ensures { (text : List ℕ) (history : History)
+        → Tells text history ↔ (text ≡ history_text history) × CanBeTold history }
 {}
