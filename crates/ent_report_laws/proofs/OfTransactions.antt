@@ -110,8 +110,11 @@ answer_more : (statements : List Statement) (given : List Given) (answer : Given
 answer_more [] given answer statement count fit e sort is = cc (e)
 answer_more (first ∷ statements) [] answer statement count fit e sort is =
     (subst (λ (s : Statement). IsOfSort s answer) (sym (same_statement first statement e)) sort, is)
-answer_more (first ∷ statements) (one ∷ []) answer statement count fit e sort is =
-    (fit.0, whole_answer one fit.1, answer_more statements [] answer statement count (no_answers statements 0) e sort is)
+answer_more (first ∷ statements) (one ∷ []) answer statement count fit e sort is = (
+  fit.0,
+  whole_answer one fit.1,
+  answer_more statements [] answer statement count (no_answers statements 0) e sort is,
+)
 answer_more (first ∷ statements) (one ∷ next ∷ given) answer statement count fit e sort is =
     (fit.0, fit.1, answer_more statements (next ∷ given) answer statement count fit.2 e sort is)
 
