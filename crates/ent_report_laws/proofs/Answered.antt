@@ -31,12 +31,12 @@ none_answered (script ∷ scripts) = tt
 
 -- ---- what is due
 
-got_none : {X : Type 0} (xs : List X) (n : ℕ) → slice_get xs n ≡ None → length xs ≤ n
+pub got_none : {X : Type 0} (xs : List X) (n : ℕ) → slice_get xs n ≡ None → length xs ≤ n
 got_none [] n e = omega arith
 got_none (x ∷ xs) zero e = cc (e)
 got_none (x ∷ xs) (suc n) e = let rest : length xs ≤ n = got_none xs n e in omega arith
 
-got_some : {X : Type 0} (xs : List X) (n : ℕ) (x : X) → slice_get xs n ≡ Some x → n < length xs
+pub got_some : {X : Type 0} (xs : List X) (n : ℕ) (x : X) → slice_get xs n ≡ Some x → n < length xs
 got_some [] n x e = cc (e)
 got_some (y ∷ xs) zero x e = omega arith
 got_some (y ∷ xs) (suc n) x e = let rest : n < length xs = got_some xs n x e in omega arith

@@ -217,7 +217,7 @@ moved : (place head count rows : List ℕ)
     → (((place ++ (head ++ count)) ++ 10 ∷ []) ++ rows) ≡ place ++ (((head ++ count) ++ 10 ∷ []) ++ rows)
 moved place head count rows = simp append_assoc
 
-rows_placed : (place : ℕ) (rows : List (List Value))
+pub rows_placed : (place : ℕ) (rows : List (List Value))
     → rows_head place (length rows) ++ rows_text rows ≡ placed_answer place (answers.Rows rows)
 rows_placed place rows = moved (decimal place) (codes " rows ") (decimal (length rows)) (rows_text rows)
 
@@ -260,7 +260,7 @@ pub record JointWaits (told : History) (places : List (ℕ × ℕ)) (text : List
 abbrev pub whole_joint : ℕ → ToldJoint → List ℕ
 whole_joint number joint = joint_text number joint ++ flat_map told_member_text joint.members
 
-same_places : (members : List ToldMember)
+pub same_places : (members : List ToldMember)
     → flat_map place_text (map place_of members) ≡ flat_map (λ told. place_text (place_of told)) members
 same_places [] = refl
 same_places (member ∷ more) = ap (λ rest. place_text (place_of member) ++ rest) (same_places more)

@@ -12,3 +12,15 @@ pub mod Sound
 pub mod Lengths
 pub mod Things
 pub mod Bounds
+pub mod Reaching
+pub mod ToOpening
+pub mod ToScripts
+pub mod ToTransactions
+pub mod ToJoints
+pub mod ToTables
+pub mod ToEnd
+pub mod OfOpening
+pub mod OfScripts
+pub mod OfJoints
+pub mod OfTables
+pub mod OfTransactions

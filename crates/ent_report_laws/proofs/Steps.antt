@@ -387,7 +387,7 @@ due_ends (script ∷ scripts) (told ∷ next ∷ more) statement e =
     let rest = due_ends scripts (next ∷ more) statement e in
     (rest.0, told ∷ rest.1, ap (λ ts. told ∷ ts) rest.2)
 
-so_far_last : (front : List Told) (last : Told) → answers_so_far (front ++ last ∷ []) ≡ length last.answers
+pub so_far_last : (front : List Told) (last : Told) → answers_so_far (front ++ last ∷ []) ≡ length last.answers
 so_far_last [] last = refl
 so_far_last (told ∷ []) last = refl
 so_far_last (told ∷ next ∷ front) last = so_far_last (next ∷ front) last

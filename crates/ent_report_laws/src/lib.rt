@@ -5,4 +5,9 @@
 
 mod law;
 
-pub use law::{found_lines_fit, told_histories_are_formed, told_texts_are_texts_of_histories};
+pub use law::{
+    found_lines_fit, reports_of_tellable_books_are_told, tellable_histories_are_told,
+    told_histories_are_formed, told_histories_can_be_told, told_joints_can_be_told,
+    told_openings_can_be_told, told_scripts_can_be_told, told_tables_can_be_told,
+    told_texts_are_texts_of_histories,
+};
