@@ -9,8 +9,8 @@
 //!
 //! `memory` runs the second alone: `./check-refusals --sessions` refuses its allocations in turn. On standard error it
 //! says which call was made again, if any was. Where memory runs out in nothing of the manager's, but while the text is
-//! read or a report is made, it ends with status 1 and writes nothing. `load COUNT` runs the third alone, with so many
-//! scripts a session; how long it took, and how long a submit waited at most, goes to standard error.
+//! read or a report is made, it ends with status 1 and writes nothing. `load [COUNT]` runs the third alone, with so many
+//! scripts a session. How long it took, and how long a submit waited at most, goes to standard error.
 #![tactic(auto)]
 
 mod again;
@@ -25,72 +25,80 @@ mod refused;
 use crate::again::Again;
 use crate::load::SESSIONS;
 use anyhow::{Context, Result, bail};
+use std::alloc::Global;
 use std::env;
+use std::sync::Wait;
+use std::thread::Threads;
 
 /// How many scripts each session submits where the command line doesn't say.
 const FEW: usize = 50;
 
+/// What is run.
+#[derive(Clone, Copy, Debug, PartialEq, Eq)]
+enum Wanted {
+    All,
+    Memory,
+    Load,
+}
+
+/// What the first word of the command line asks for.
+fn wanted(word: Option<&str>) -> Result<Wanted> {
+    match word {
+        None => Ok(Wanted::All),
+        Some("memory") => Ok(Wanted::Memory),
+        Some("load") => Ok(Wanted::Load),
+        Some(_) => bail!("no word, memory, or load [COUNT]"),
+    }
+}
+
 /// Sessions that gates hold, and managers that are closed too early.
-fn held(rt: &HostRuntime) -> Result<()> {
-    let alloc = rt.alloc();
+fn held<R: Threads + Wait + Sync>(rt: &R, alloc: Global) -> Result<()> {
     hold::check(rt, alloc).context("one is held until the other has committed")?;
-    println!(rt; "one is held until the other has committed: ok")?;
     meet::check(rt, alloc).context("two workers meet at the gate")?;
-    println!(rt; "two workers meet at the gate: ok")?;
-    close::check(rt, alloc).context("closed too early")?;
-    println!(rt; "closed too early: ok")?;
-    Ok(())
+    close::check(rt, alloc).context("closed too early")
 }
 
 /// Two friends through one session: both reports, which are the same.
-fn memory(rt: &HostRuntime) -> Result<()> {
-    let alloc = rt.alloc();
-    let mut again = Again::default();
-    let mut out = refused::report(rt, alloc, &mut again, refused::Way::Submitted).context(
+fn reports<R: Wait>(rt: &R, alloc: Global, again: &mut Again) -> Result<String> {
+    let mut out = refused::report(rt, alloc, again, refused::Way::Submitted).context(
         "submitted one by one",
     )?;
-    let opened = refused::report(rt, alloc, &mut again, refused::Way::Opened).context(
-        "opened over all",
-    )?;
+    let opened = refused::report(rt, alloc, again, refused::Way::Opened).context("opened over all")?;
     out.extend_from_slice(opened.as_slice())?;
-    print!(rt;
-        "{}",
-        String::from_utf8(out)
-            .context("the reports aren't UTF-8")?
-            .as_str()
-    )?;
-    if let Some(call) = again.word() {
-        eprintln!(rt; "made again: {call}")?;
-    }
-    Ok(())
-}
-
-/// So many scripts by each of eight sessions.
-fn loaded(rt: &HostRuntime, count: usize) -> Result<()> {
-    let load = load::run(rt, rt.alloc(), count).context("the load isn't carried")?;
-    println!(rt; "{SESSIONS} sessions, {} commits", load.commits)?;
-    eprintln!(rt;
-        "{} ms, longest wait of a submit {} us",
-        load.took.as_millis(),
-        load.longest.as_micros()
-    )?;
-    Ok(())
+    String::from_utf8(out).context("the reports aren't UTF-8")
 }
 
 fn main(rt: HostRuntime) -> Result<()> {
+    let alloc = rt.alloc();
     let mut words = env::args(&rt)?;
-    let word = words.nth(1);
-    match word.as_ref().map(|it| it.as_str()) {
-        None => {
-            held(&rt)?;
-            memory(&rt)?;
-            loaded(&rt, FEW)
-        }
-        Some("memory") => memory(&rt),
-        Some("load") => {
-            let count = words.next().context("how many scripts?")?;
-            loaded(&rt, count.parse::<usize>().context("that is no number")?)
-        }
-        Some(_) => bail!("no word, memory, or load COUNT"),
+    let first = words.nth(1);
+    let wanted = wanted(first.as_ref().map(|it| it.as_str()))?;
+    if wanted == Wanted::All {
+        held(&rt, alloc)?;
+        println!(rt; "one is held until the other has committed: ok")?;
+        println!(rt; "two workers meet at the gate: ok")?;
+        println!(rt; "closed too early: ok")?;
     }
+    if wanted != Wanted::Load {
+        let mut again = Again::default();
+        let both = reports(&rt, alloc, &mut again)?;
+        print!(rt; "{}", both.as_str())?;
+        if let Some(call) = again.word() {
+            eprintln!(rt; "made again: {call}")?;
+        }
+    }
+    if wanted != Wanted::Memory {
+        let count = match words.next() {
+            Some(word) => word.parse::<usize>().context("that is no number")?,
+            None => FEW,
+        };
+        let load = load::run(&rt, alloc, count).context("the load isn't carried")?;
+        println!(rt; "{SESSIONS} sessions, {} commits", load.commits)?;
+        eprintln!(rt;
+            "{} ms, longest wait of a submit {} us",
+            load.took.as_millis(),
+            load.longest.as_micros()
+        )?;
+    }
+    Ok(())
 }
