@@ -63,7 +63,9 @@ fn reports<R: Wait>(rt: &R, alloc: Global, again: &mut Again) -> Result<String> 
     let mut out = refused::report(rt, alloc, again, refused::Way::Submitted).context(
         "submitted one by one",
     )?;
-    let opened = refused::report(rt, alloc, again, refused::Way::Opened).context("opened over all")?;
+    let opened = refused::report(rt, alloc, again, refused::Way::Opened).context(
+        "opened over all",
+    )?;
     out.extend_from_slice(opened.as_slice())?;
     String::from_utf8(out).context("the reports aren't UTF-8")
 }
