@@ -41,13 +41,15 @@ enum Wanted {
     Load,
 }
 
-/// What the first word of the command line asks for.
-fn wanted(word: Option<&str>) -> Result<Wanted> {
-    match word {
-        None => Ok(Wanted::All),
-        Some("memory") => Ok(Wanted::Memory),
-        Some("load") => Ok(Wanted::Load),
-        Some(_) => bail!("no word, memory, or load [COUNT]"),
+impl Wanted {
+    /// What the first word of the command line asks for.
+    fn of(word: Option<&str>) -> Result<Self> {
+        match word {
+            None => Ok(Wanted::All),
+            Some("memory") => Ok(Wanted::Memory),
+            Some("load") => Ok(Wanted::Load),
+            Some(_) => bail!("no word, memory, or load [COUNT]"),
+        }
     }
 }
 
@@ -74,14 +76,14 @@ fn main(rt: HostRuntime) -> Result<()> {
     let alloc = rt.alloc();
     let mut words = env::args(&rt)?;
     let first = words.nth(1);
-    let wanted = wanted(first.as_ref().map(|it| it.as_str()))?;
-    if wanted == Wanted::All {
+    let part = Wanted::of(first.as_ref().map(|it| it.as_str()))?;
+    if part == Wanted::All {
         held(&rt, alloc)?;
         println!(rt; "one is held until the other has committed: ok")?;
         println!(rt; "two workers meet at the gate: ok")?;
         println!(rt; "closed too early: ok")?;
     }
-    if wanted != Wanted::Load {
+    if part != Wanted::Load {
         let mut again = Again::default();
         let both = reports(&rt, alloc, &mut again)?;
         print!(rt; "{}", both.as_str())?;
@@ -89,7 +91,7 @@ fn main(rt: HostRuntime) -> Result<()> {
             eprintln!(rt; "made again: {call}")?;
         }
     }
-    if wanted != Wanted::Memory {
+    if part != Wanted::Memory {
         let count = match words.next() {
             Some(word) => word.parse::<usize>().context("that is no number")?,
             None => FEW,
