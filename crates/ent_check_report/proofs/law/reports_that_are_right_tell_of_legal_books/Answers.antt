@@ -1,0 +1,40 @@
+use Rattle.std.proofs.Common.{◌≡◌, ◌↔◌, ℕ, List, [], ◌∷◌, refl, ap, inl, inr, None}
+use Rattle.ent_check_report.specs.Verdicts.{IsVerdict}
+use Rattle.ent_check_report.specs.declared.verdict.Verdict.{Verdict}
+use Rattle.ent_check_report.specs.declared.verdict.Verdict.TheVariants.{Yes, No}
+use Rattle.ent_history.specs.declared.history.History.{History}
+use Rattle.ent_history.specs.Told.{book_of}
+use Rattle.ent_history_form.specs.Stands.{Tells}
+use Rattle.ent_rules.specs.Findings.{findings}
+use Rattle.ent_rules.specs.Formed.{IsFormed}
+use Rattle.ent_rules.specs.Verdict.{first_of}
+use Rattle.ent_rules.specs.declared.finding.Finding.{Finding}
+use Rattle.ent_rules.specs.declared.finding.Rule.TheVariants.{Form}
+use Rattle.ent_semantics.specs.Book.{IsLegal}
+use Rattle.ent_check_report.proofs.law.reports_that_are_right_tell_of_legal_books.Goals as goal
+
+none_found : (found : List Finding) → first_of found ≡ None → found ≡ []
+none_found [] e = refl
+none_found (finding ∷ more) e = cc (e)
+
+yes_is_no : {A : Type 0} (line : ℕ) → Yes ≡ No line Form → A
+yes_is_no line e = cc (e)
+
+pub returns : goal.returns
+returns c text = (
+  λ yes. elim yes [
+    | inl w ↦ yes_is_no w.0 w.2
+    | inr w ↦ (
+      w.0,
+      w.1,
+      (nothing w.0 (formed text w.0 w.1)).0 (none_found (findings w.0) w.2),
+    )
+  ],
+  λ w. inr (w.0, w.1, ap first_of ((nothing w.0 (formed text w.0 w.1)).1 w.2)),
+)
+  where
+    formed : (text : List ℕ) (history : History) → Tells text history → IsFormed history
+    formed = c.told_histories_are_formed.ensures.formed
+
+    nothing : (history : History) → IsFormed history → (findings history ≡ []) ↔ IsLegal (book_of history)
+    nothing = c.nothing_is_found_where_books_are_legal.ensures

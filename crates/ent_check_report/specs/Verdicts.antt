@@ -1,0 +1,25 @@
+-- What a check of a text answers.
+use Rattle.std.specs.Prelude.{◌≡◌, ◌⊎◌, ℕ, List, Some, None}
+use Rattle.ent_history.specs.declared.history.History.{History}
+use Rattle.ent_history_form.specs.Fault.{IsNoReport}
+use Rattle.ent_history_form.specs.Stands.{Tells}
+use Rattle.ent_rules.specs.Verdict.{first_finding, line_of}
+use Rattle.ent_rules.specs.declared.finding.Finding.{Finding}
+use Rattle.ent_rules.specs.declared.finding.Rule.{Rule}
+use Rattle.ent_rules.specs.declared.finding.Rule.TheVariants.{Form}
+use Rattle.ent_check_report.specs.declared.verdict.Verdict.{Verdict}
+use Rattle.ent_check_report.specs.declared.verdict.Verdict.TheVariants.{Yes, No}
+
+-- nothing breaks a rule in what is told; else the rule that is broken first, and the line that it names
+abbrev pub IsVerdictOn : History → Verdict → Type 0
+IsVerdictOn history Yes = first_finding history ≡ None
+IsVerdictOn history (No line rule) =
+    (finding : Finding) × (first_finding history ≡ Some finding) × (line ≡ line_of history finding.thing)
+    × (rule ≡ finding.rule)
+
+-- The text is no report, and this is the line at which it isn't; or it tells a history, and this is the verdict on
+-- that.
+abbrev pub IsVerdict : List ℕ → Verdict → Type 0
+IsVerdict text verdict =
+    ((line : ℕ) × IsNoReport text line × (verdict ≡ No line Form))
+    ⊎ ((history : History) × Tells text history × IsVerdictOn history verdict)

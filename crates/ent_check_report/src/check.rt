@@ -1,0 +1,103 @@
+//! A whole check: bytes in, verdict out.
+ghost use Rattle.std.specs.Prelude.{◌≡◌, ◌≤◌, ◌<◌, ◌^◌, [], length, IfErr, IfOk, IfSome, None, Some};
+ghost use Rattle.std.specs.List.{AllByRecursion};
+ghost use Rattle.ent_check_report.specs.Fault.{is_read_fault};
+ghost use Rattle.ent_check_report.specs.Verdicts.{IsVerdict, IsVerdictOn};
+ghost use Rattle.ent_check_report.specs.declared.check.TheConstants.{MOST_REPORT_BYTES};
+ghost use Rattle.ent_check_report.specs.declared.fault.CheckFault.TheVariants.{TooLong};
+ghost use Rattle.ent_form.specs.Catalogue.{schemas_of};
+ghost use Rattle.ent_form.specs.OpeningFault.{opening_fault};
+ghost use Rattle.ent_form.specs.ScriptFaults.{script_faults};
+ghost use Rattle.ent_rules.specs.Verdict.{first_finding, line_of};
+ghost use Rattle.ent_rules.specs.declared.finding.Finding.{Finding};
+ghost use Rattle.ent_value.specs.Watched.{IsUnmarked};
+
+use crate::fault::CheckFault;
+use crate::verdict::Verdict;
+use ent_check::line_of;
+use ent_findings::first_finding;
+use ent_history::History;
+use ent_report_laws::{found_lines_fit, told_histories_are_formed};
+use ent_report_reader::read_report;
+use ent_rules::Rule;
+use ent_stream::{StreamFault, read_whole};
+use ent_value::{Refusal, Watched};
+use std::alloc::{AllocError, Global};
+use std::io::Read;
+
+/// The most bytes that a report has.
+pub const MOST_REPORT_BYTES: usize = 1_099_511_627_776;
+
+/// Reads to the end, in any pieces that the reader gives.
+fn read_text<R: Read>(alloc: Global, reader: &mut Watched<R>) -> Result<Vec<u8>, CheckFault>
+    requires unmarked { IsUnmarked reader.old }
+    ensures whole { IfOk result (λ text. IfSome (R.remaining reader.old.inner) (λ all. text.items ≡ all)) }
+    ensures short { IfOk result (λ text. length text.items ≤ MOST_REPORT_BYTES) }
+    ensures too_long { IfErr result (λ fault. fault ≡ TooLong
+        → IfSome (R.remaining reader.old.inner) (λ all. MOST_REPORT_BYTES < length all)) }
+    ensures marks { reader.new.failed ≡ is_read_fault result }
+{
+    match read_whole(alloc, reader, MOST_REPORT_BYTES) {
+        Ok(text) => Ok(text),
+        Err(Refusal::Memory) => Err(CheckFault::Memory),
+        Err(Refusal::Fault(StreamFault::TooLong)) => Err(CheckFault::TooLong),
+        Err(Refusal::Fault(StreamFault::Unreadable)) => Err(CheckFault::ReadFault),
+    }
+}
+
+/// The verdict on what is told, where the line of what is found fits 64 bits.
+fn judge_history(alloc: Global, history: &History) -> Result<Verdict, AllocError>
+    requires formed { opening_fault history.now.opening ≡ None }
+    requires resolved { AllByRecursion (λ script. script_faults (schemas_of history.now.opening.tables) script ≡ [])
+        history.now.scripts }
+    requires fits { (finding : Finding) → first_finding history.now ≡ Some finding
+        → line_of history.now finding.thing < 2 ^ 64 }
+    ensures { IfOk result (λ verdict. IsVerdictOn history.now verdict) }
+{
+    let Some(finding) = first_finding(alloc, history)? else {
+        return Ok(Verdict::Yes);
+    };
+    let Some(line) = line_of(history, finding.thing) else {
+        unreachable!()
+    };
+    Ok(Verdict::No {
+        line,
+        rule: finding.rule,
+    })
+}
+
+/// The verdict on a text.
+fn judge(alloc: Global, text: &[u8]) -> Result<Verdict, AllocError>
+    requires { length text.now ≤ MOST_REPORT_BYTES }
+    ensures { IfOk result (λ verdict. IsVerdict text.now verdict) }
+{
+    told_histories_are_formed();
+    found_lines_fit();
+    match read_report(alloc, text)? {
+        Ok(history) => judge_history(alloc, &history),
+        Err(line) => Ok(Verdict::No {
+            line,
+            rule: Rule::Form,
+        }),
+    }
+}
+
+/// Reads a report whole, and judges it: [`Verdict::Yes`] exactly where its text tells of a legal book, else the first
+/// rule that it breaks and the line that this rule names.
+///
+/// The reader is handed in unmarked, as [`Watched::new`] makes it, so that its mark tells of this call. The bytes are
+/// counted while they come, and none beyond [`MOST_REPORT_BYTES`] is kept.
+pub fn check_report<R: Read>(alloc: Global, reader: &mut Watched<R>) -> Result<Verdict, CheckFault>
+    requires unmarked { IsUnmarked reader.old }
+    ensures verdict { IfOk result (λ verdict.
+        IfSome (R.remaining reader.old.inner) (λ text. IsVerdict text verdict)) }
+    ensures short { IfOk result (λ verdict.
+        IfSome (R.remaining reader.old.inner) (λ text. length text ≤ MOST_REPORT_BYTES)) }
+    ensures too_long { IfErr result (λ fault. fault ≡ TooLong
+        → IfSome (R.remaining reader.old.inner) (λ text. MOST_REPORT_BYTES < length text)) }
+    // A fault of the reader is answered exactly where that one failed.
+    ensures marks { reader.new.failed ≡ is_read_fault result }
+{
+    let text = read_text(alloc, reader)?;
+    Ok(judge(alloc, text.as_slice())?)
+}

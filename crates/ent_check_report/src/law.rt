@@ -1,0 +1,20 @@
+//! The law of verdicts. Nothing here has a body; what holds is in the contracts.
+ghost use Rattle.std.specs.Prelude.{◌↔◌, ℕ, List};
+ghost use Rattle.ent_check_report.specs.Verdicts.{IsVerdict};
+ghost use Rattle.ent_check_report.specs.declared.verdict.Verdict.TheVariants.{Yes};
+ghost use Rattle.ent_history.specs.declared.history.History.{History};
+ghost use Rattle.ent_history.specs.Told.{book_of};
+ghost use Rattle.ent_history_form.specs.Stands.{Tells};
+ghost use Rattle.ent_semantics.specs.Book.{IsLegal};
+
+use ent_report_laws::told_histories_are_formed;
+use ent_rules::nothing_is_found_where_books_are_legal;
+
+/// The verdict on a text is `yes` exactly where it tells of a legal book.
+pub fn reports_that_are_right_tell_of_legal_books()
+    ensures { (text : List ℕ)
+        → IsVerdict text Yes ↔ ((history : History) × Tells text history × IsLegal (book_of history)) }
+{
+    told_histories_are_formed();
+    nothing_is_found_where_books_are_legal();
+}

@@ -1,0 +1,16 @@
+//! The check of a report of version 2, by its text alone.
+//!
+//! A caller may rely on it that the verdict is that of the definitions: `yes` where the text tells of a legal book, and
+//! else the first rule that is broken, and the line that it names. Nothing of what made the report is used: no lock, no
+//! group, no search.
+#![tactic(auto)]
+
+mod check;
+mod fault;
+mod law;
+mod verdict;
+
+pub use check::{MOST_REPORT_BYTES, check_report};
+pub use fault::{CheckFault, status_of};
+pub use law::reports_that_are_right_tell_of_legal_books;
+pub use verdict::Verdict;

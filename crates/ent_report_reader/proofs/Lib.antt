@@ -1,0 +1,6 @@
+mod OneLine
+mod Fronts
+mod FirstPieces
+mod ScriptSteps
+mod Whole
+mod WholeRead
