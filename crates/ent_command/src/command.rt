@@ -1,8 +1,9 @@
 //! What the program does: it reads its command line, and runs what that asks for.
 use crate::ending::Ending;
-use crate::words::{Asked, asked_of, command};
+use crate::words::{Asked, AskedRun, asked_of, command};
 use clap::Error;
 use clap::error::ErrorKind;
+use ent_check_report::check_report;
 use ent_engine::{FaultLine, RunFault, run_workers};
 use ent_value::Watched;
 use std::alloc::Global;
@@ -11,8 +12,8 @@ use std::sync::Wait;
 use std::thread::Threads;
 use std::{env, io};
 
-/// The program: reads its command line, and runs the scripts of standard input where it asks for that; where it asks
-/// for workers, in threads that `threads` starts. A fault is one line on standard error. How it ended says what `main`
+/// The program: reads its command line, and runs the scripts of standard input or checks the report of standard input,
+/// as that asks; where it asks for workers, in threads that `threads` starts. A fault is one line on standard error. How it ended says what `main`
 /// ends with.
 pub fn entangle<R, T>(rt: &R, threads: &T) -> Ending
 where
@@ -21,7 +22,8 @@ where
 {
     let ending = match words_of(rt) {
         Ok(words) => match read_command_line(rt.alloc(), words.as_slice()) {
-            Ok(asked) => Ending::from(run(rt, threads, asked)),
+            Ok(Asked::Run(asked)) => Ending::from(run(rt, threads, asked)),
+            Ok(Asked::Check) => check(rt),
             Err(fault) => show_command_line(rt, &fault),
         },
         Err(ending) => ending,
@@ -44,7 +46,7 @@ fn words_of<R: Env + AllocGlobal + Eprint>(rt: &R) -> Result<Vec<String>, Ending
     })
 }
 
-/// What the command line asks of a run; else its fault, or the help that it asks for.
+/// What the command line asks for; else its fault, or the help that it asks for.
 fn read_command_line<'a>(alloc: Global, words: &'a [String]) -> Result<Asked, Error> {
     let matches = command(alloc)?.try_get_matches_from(words)?;
     Ok(asked_of(&matches))
@@ -70,9 +72,9 @@ fn show_command_line<R: Print + Eprint>(rt: &R, fault: &Error) -> Ending {
 fn run<R: AllocGlobal + Input + Print, T: Threads + Wait + Sync>(
     rt: &R,
     threads: &T,
-    asked: Asked,
+    asked: AskedRun,
 ) -> Result<(), RunFault> {
-    let Asked { workers, options } = asked;
+    let AskedRun { workers, options } = asked;
     let mut reader = Watched::new(rt.reader());
     let mut writer = Watched::new(io::writer(rt));
     if workers == 0 {
@@ -86,4 +88,17 @@ fn run<R: AllocGlobal + Input + Print, T: Threads + Wait + Sync>(
         workers,
         options.report,
     )
+}
+
+/// Checks the report of standard input, and prints the verdict in a line.
+fn check<R: AllocGlobal + Input + Print>(rt: &R) -> Ending {
+    let mut reader = Watched::new(rt.reader());
+    let verdict = match check_report(rt.alloc(), &mut reader) {
+        Ok(verdict) => verdict,
+        Err(fault) => return Ending::Faulty(RunFault::Check(fault)),
+    };
+    match println!(rt; "{verdict}") {
+        Ok(()) => Ending::from(verdict),
+        Err(_) => Ending::Faulty(RunFault::WriteFault),
+    }
 }

@@ -3,28 +3,33 @@ ghost use Rattle.std.specs.Prelude.{◌≡◌};
 ghost use Rattle.std.specs.Process.{exit_status};
 ghost use Rattle.ent_command.specs.Ending.{status_of};
 
+use ent_check_report::Verdict;
 use ent_engine::{RunFault, status_of};
 use std::process::ExitCode;
 
 /// How a command ended.
 #[derive(Clone, Copy, Debug, PartialEq, Eq)]
 pub enum Ending {
-    /// The report was written, or the help was shown.
+    /// The report was written, it was checked and is right, or the help was shown.
     Done,
+    /// The report was checked and isn't right.
+    Refused,
     /// The command line has a fault.
     Misused,
-    /// The run has a fault.
+    /// The run or the check has a fault.
     Faulty(RunFault),
 }
 
 impl Ending {
-    /// The program's exit status: 0 where all was done, 2 where the command line has a fault; else the fault's own: 1
-    /// where the input is refused, 3 where memory ran out, 4 where the reader or the writer failed.
+    /// The program's exit status: 0 where all was done, 1 where a report isn't right, 2 where the command line has a
+    /// fault; else the fault's own: 1 where the input or the report is refused, 3 where memory ran out, 4 where the
+    /// reader or the writer failed.
     pub fn status(self) -> u8
         ensures { result ≡ status_of self }
     {
         match self {
             Ending::Done => 0,
+            Ending::Refused => 1,
             Ending::Misused => 2,
             Ending::Faulty(fault) => status_of(&fault),
         }
@@ -49,6 +54,21 @@ impl From<Result<(), RunFault>> for Ending {
         match ran {
             Ok(()) => Ending::Done,
             Err(fault) => Ending::Faulty(fault),
+        }
+    }
+}
+
+/// How a check that answered so lets the command end.
+impl From<Verdict> for Ending {
+    ghost use Rattle.ent_command.specs.Ending.{ending_after};
+    ghost use Rattle.std.specs.Prelude.{◌≡◌};
+
+    ghost from_gives = { λ verdict ending. ending ≡ ending_after verdict };
+
+    fn from(verdict: Verdict) -> Self {
+        match verdict {
+            Verdict::Yes => Ending::Done,
+            Verdict::No { .. } => Ending::Refused,
         }
     }
 }

@@ -18,7 +18,11 @@ const MOST_TRIES: u64 = 9;
 const EXAMPLE: &str = "Example:
   entangle run --tries 3 < friends.sql > friends.report";
 
-/// The program's words: the subcommand `run` with its options, each a whole number in its range.
+/// What stands below what the check is for.
+const CHECK_EXAMPLE: &str = "Example:
+  entangle run --report 2 < friends.sql | entangle check";
+
+/// The program's words: the subcommand `run` with its options, each a whole number in its range, and `check`.
 pub(crate) fn command<'a>(alloc: Global) -> Result<Command<'a>, AllocError> {
     let run = Command::new(alloc, "run")
         .about(
@@ -28,10 +32,16 @@ pub(crate) fn command<'a>(alloc: Global) -> Result<Command<'a>, AllocError> {
         .arg(report(alloc))?
         .arg(tries(alloc))?
         .after_help(EXAMPLE);
+    let check = Command::new(alloc, "check")
+        .about(
+            "Reads a report of version 2 from standard input and prints `yes` where it tells of a legal book, else `no`, a line and the rule that is broken there",
+        )
+        .after_help(CHECK_EXAMPLE);
     Command::new(alloc, "entangle")
         .about("An in-memory transaction manager for entangled SQL")
         .subcommand_required(true)
-        .subcommand(run)
+        .subcommand(run)?
+        .subcommand(check)
 }
 
 fn workers<'a>(alloc: Global) -> Arg<'a> {
@@ -65,8 +75,16 @@ fn tries<'a>(alloc: Global) -> Arg<'a> {
         )
 }
 
+/// What the words ask for.
+pub(crate) enum Asked {
+    /// A run of the scripts of standard input.
+    Run(AskedRun),
+    /// A check of the report of standard input.
+    Check,
+}
+
 /// What the words of a run ask for.
-pub(crate) struct Asked {
+pub(crate) struct AskedRun {
     /// How many threads run the scripts; with 0 they run on one thread.
     pub(crate) workers: usize,
     pub(crate) options: RunOptions,
@@ -74,13 +92,16 @@ pub(crate) struct Asked {
 
 /// What the words ask for.
 pub(crate) fn asked_of<'a>(matches: &ArgMatches<'a>) -> Asked {
+    if matches.subcommand_matches("check").is_some() {
+        return Asked::Check;
+    }
     let Some(run) = matches.subcommand_matches("run") else {
-        return Asked {
+        return Asked::Run(AskedRun {
             workers: 0,
             options: RunOptions::default(),
-        };
+        });
     };
-    Asked {
+    Asked::Run(AskedRun {
         workers: number(run, "workers", 0) as usize,
         options: RunOptions {
             tries: number(run, "tries", DEFAULT_TRIES),
@@ -89,7 +110,7 @@ pub(crate) fn asked_of<'a>(matches: &ArgMatches<'a>) -> Asked {
                 _ => ReportVersion::One,
             },
         },
-    }
+    })
 }
 
 /// The number that an option was given, or else this one.

@@ -1,10 +1,11 @@
 -- The number, the place and the exit status of a fault.
 use Rattle.std.specs.Prelude.{ℕ, List, [], ◌++◌, codes, Option, Some, None}
 use Rattle.std.specs.Fmt.{decimal}
+use Rattle.ent_check_report.specs.Fault.{code_of as check_code_of, status as check_status}
 use Rattle.ent_sql.specs.Fault.{code_of as sql_code_of, place_of as sql_place_of}
 use Rattle.ent_form.specs.Fault.{code_of as form_code_of, place_of as form_place_of}
 use Rattle.ent_engine.specs.declared.fault.RunFault.{RunFault}
-use Rattle.ent_engine.specs.declared.fault.RunFault.TheVariants.{NotUtf8, TooLong, Sql, Form, Differs}
+use Rattle.ent_engine.specs.declared.fault.RunFault.TheVariants.{NotUtf8, TooLong, Sql, Form, Check, Differs}
 use Rattle.ent_engine.specs.declared.fault.RunFault.TheVariants.{ReadFault, WriteFault, Memory}
 
 abbrev pub code_of : RunFault → ℕ
@@ -12,6 +13,7 @@ code_of (NotUtf8 place) = 100
 code_of TooLong = 105
 code_of (Sql fault) = sql_code_of fault
 code_of (Form fault) = form_code_of fault
+code_of (Check fault) = check_code_of fault
 code_of Differs = 502
 code_of ReadFault = 601
 code_of WriteFault = 602
@@ -22,6 +24,7 @@ place_of (NotUtf8 place) = Some place
 place_of TooLong = None
 place_of (Sql fault) = Some (sql_place_of fault)
 place_of (Form fault) = Some (form_place_of fault)
+place_of (Check fault) = None
 place_of Differs = None
 place_of ReadFault = None
 place_of WriteFault = None
@@ -33,6 +36,7 @@ status (NotUtf8 place) = 1
 status TooLong = 1
 status (Sql fault) = 1
 status (Form fault) = 1
+status (Check fault) = check_status fault
 status Differs = 3
 status ReadFault = 4
 status WriteFault = 4

@@ -3,7 +3,7 @@ use Rattle.std.specs.Prelude.{◌≡◌, ℕ, Bool, true, false, ◌<◌, ◌++�
 use Rattle.std.specs.Io.KnownBytes.{Appends, Keeps}
 use Rattle.ent_value.specs.Watched.{Stream}
 use Rattle.ent_engine.specs.declared.fault.RunFault.{RunFault}
-use Rattle.ent_engine.specs.declared.fault.RunFault.TheVariants.{NotUtf8, TooLong, Sql, Form, Differs}
+use Rattle.ent_engine.specs.declared.fault.RunFault.TheVariants.{NotUtf8, TooLong, Sql, Form, Check, Differs}
 use Rattle.ent_engine.specs.declared.fault.RunFault.TheVariants.{ReadFault, WriteFault, Memory}
 use Rattle.ent_tree.specs.declared.script.Input.{Input}
 use Rattle.ent_semantics.specs.declared.book.Book.{Book}
@@ -21,6 +21,7 @@ ReadingFails remaining Memory = Unit {0}
 ReadingFails remaining (NotUtf8 place) = ⊥
 ReadingFails remaining (Sql fault) = ⊥
 ReadingFails remaining (Form fault) = ⊥
+ReadingFails remaining (Check fault) = ⊥
 ReadingFails remaining Differs = ⊥
 ReadingFails remaining WriteFault = ⊥
 
@@ -32,6 +33,7 @@ is_read_fault (Err (NotUtf8 place)) = false
 is_read_fault (Err TooLong) = false
 is_read_fault (Err (Sql fault)) = false
 is_read_fault (Err (Form fault)) = false
+is_read_fault (Err (Check fault)) = false
 is_read_fault (Err Differs) = false
 is_read_fault (Err WriteFault) = false
 is_read_fault (Err Memory) = false
@@ -44,6 +46,7 @@ is_write_fault (Err (NotUtf8 place)) = false
 is_write_fault (Err TooLong) = false
 is_write_fault (Err (Sql fault)) = false
 is_write_fault (Err (Form fault)) = false
+is_write_fault (Err (Check fault)) = false
 is_write_fault (Err Differs) = false
 is_write_fault (Err ReadFault) = false
 is_write_fault (Err Memory) = false
@@ -64,6 +67,7 @@ IsSilent old new (NotUtf8 place) = Keeps old new
 IsSilent old new TooLong = Keeps old new
 IsSilent old new (Sql fault) = Keeps old new
 IsSilent old new (Form fault) = Keeps old new
+IsSilent old new (Check fault) = Keeps old new
 IsSilent old new Differs = Keeps old new
 IsSilent old new Memory = Keeps old new
 
@@ -84,5 +88,6 @@ WritesBeginning version bytes old new (NotUtf8 place) = Unit {0}
 WritesBeginning version bytes old new TooLong = Unit {0}
 WritesBeginning version bytes old new (Sql fault) = Unit {0}
 WritesBeginning version bytes old new (Form fault) = Unit {0}
+WritesBeginning version bytes old new (Check fault) = Unit {0}
 WritesBeginning version bytes old new Differs = Unit {0}
 WritesBeginning version bytes old new Memory = Unit {0}

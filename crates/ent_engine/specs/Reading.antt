@@ -6,7 +6,7 @@ use Rattle.ent_sql.specs.Reading.{reading}
 use Rattle.ent_sched.specs.Play.{input_fault}
 use Rattle.ent_engine.specs.declared.reader.TheConstants.{MOST_BYTES}
 use Rattle.ent_engine.specs.declared.fault.RunFault.{RunFault}
-use Rattle.ent_engine.specs.declared.fault.RunFault.TheVariants.{NotUtf8, TooLong, Sql, Form, Differs}
+use Rattle.ent_engine.specs.declared.fault.RunFault.TheVariants.{NotUtf8, TooLong, Sql, Form, Check, Differs}
 use Rattle.ent_engine.specs.declared.fault.RunFault.TheVariants.{ReadFault, WriteFault, Memory}
 
 -- bytes that are no more than an input may have, and are UTF-8
@@ -31,6 +31,7 @@ IsRefused bytes (NotUtf8 place) = (length bytes ≤ MOST_BYTES) × (¬ (IsUtf8 b
 IsRefused bytes (Sql fault) = IsText bytes × (reading bytes ≡ Err fault)
 IsRefused bytes (Form fault) =
     (input : Input) × IsRead bytes input × (input_fault input.opening input.scripts ≡ Some fault)
+IsRefused bytes (Check fault) = ⊥
 IsRefused bytes Differs = ⊥
 IsRefused bytes ReadFault = Unit {0}
 IsRefused bytes WriteFault = Unit {0}
@@ -39,6 +40,7 @@ IsRefused bytes Memory = Unit {0}
 -- Why a run with workers gives no report: the same, or sessions and core differ.
 abbrev pub IsRefusedAtWork : List ℕ → RunFault → Type 0
 IsRefusedAtWork bytes Differs = Unit {0}
+IsRefusedAtWork bytes (Check fault) = IsRefused bytes (Check fault)
 IsRefusedAtWork bytes TooLong = IsRefused bytes TooLong
 IsRefusedAtWork bytes (NotUtf8 place) = IsRefused bytes (NotUtf8 place)
 IsRefusedAtWork bytes (Sql fault) = IsRefused bytes (Sql fault)

@@ -3,6 +3,7 @@ ghost use Rattle.std.specs.Prelude.{◌≡◌, Some};
 ghost use Rattle.ent_engine.specs.Fault.{code_of, place_of, status, line_text};
 ghost use Rattle.ent_engine.specs.declared.fault.RunFault.TheVariants.{Memory};
 
+use ent_check_report::CheckFault;
 use ent_form::FormFault;
 use ent_sql::SqlFault;
 use std::alloc::{AllocError, AllocFailed};
@@ -24,6 +25,9 @@ pub enum RunFault {
     /// The input's names, numbers of values or kinds have a fault.
     #[error("{0}")]
     Form(FormFault),
+    /// A report can't be checked.
+    #[error("{0}")]
+    Check(CheckFault),
     /// Sessions and core of a run with workers differ.
     #[error("E502: what the sessions hold isn't what the core has")]
     Differs,
@@ -64,6 +68,7 @@ impl RunFault {
             RunFault::TooLong => 105,
             RunFault::Sql(fault) => fault.code(),
             RunFault::Form(fault) => fault.code(),
+            RunFault::Check(fault) => fault.code(),
             RunFault::Differs => 502,
             RunFault::ReadFault => 601,
             RunFault::WriteFault => 602,
@@ -80,6 +85,7 @@ impl RunFault {
             RunFault::Sql(fault) => Some(fault.place()),
             RunFault::Form(fault) => Some(fault.place()),
             RunFault::TooLong
+            | RunFault::Check(_)
             | RunFault::Differs
             | RunFault::ReadFault
             | RunFault::WriteFault
@@ -88,13 +94,14 @@ impl RunFault {
     }
 }
 
-/// The program's exit status after a fault: 1 where the input is refused, 3 where memory ran out, or sessions and core
+/// The program's exit status after a fault: 1 where the input or the report is refused, 3 where memory ran out, or sessions and core
 /// differ, 4 where the reader or the writer failed.
 pub fn status_of(fault: &RunFault) -> u8
     ensures { result ≡ status fault.now }
 {
     match fault {
         RunFault::NotUtf8(_) | RunFault::TooLong | RunFault::Sql(_) | RunFault::Form(_) => 1,
+        RunFault::Check(fault) => ent_check_report::status_of(fault),
         RunFault::Memory | RunFault::Differs => 3,
         RunFault::ReadFault | RunFault::WriteFault => 4,
     }
