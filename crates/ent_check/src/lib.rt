@@ -1,7 +1,7 @@
 //! Parts of a check of what a report tells, against the definitions of ent_rules.
 //!
-//! The rules of the journal, of joint answers and of postconditions are checked whole, and the commits are put in order.
-//! What is found has a line. No call here answers for a whole report yet.
+//! The rules of the journal, of joint answers and of postconditions are checked whole, and the commits are put in
+//! order. What is found has a line.
 #![tactic(auto)]
 
 mod joint;

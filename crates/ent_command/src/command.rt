@@ -13,8 +13,8 @@ use std::thread::Threads;
 use std::{env, io};
 
 /// The program: reads its command line, and runs the scripts of standard input or checks the report of standard input,
-/// as that asks; where it asks for workers, in threads that `threads` starts. A fault is one line on standard error. How it ended says what `main`
-/// ends with.
+/// as that asks; where it asks for workers, in threads that `threads` starts. A fault is one line on standard error.
+/// How it ended says what `main` ends with.
 pub fn entangle<R, T>(rt: &R, threads: &T) -> Ending
 where
     R: Env + AllocGlobal + Input + Print + Eprint,

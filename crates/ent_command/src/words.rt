@@ -34,7 +34,8 @@ pub(crate) fn command<'a>(alloc: Global) -> Result<Command<'a>, AllocError> {
         .after_help(EXAMPLE);
     let check = Command::new(alloc, "check")
         .about(
-            "Reads a report of version 2 from standard input and prints `yes` where it tells of a legal book, else `no`, a line and the rule that is broken there",
+            "Reads a report of version 2 from standard input and prints `yes` where it tells of a legal book, \
+             else `no`, a line and the rule that is broken there",
         )
         .after_help(CHECK_EXAMPLE);
     Command::new(alloc, "entangle")

@@ -94,8 +94,8 @@ impl RunFault {
     }
 }
 
-/// The program's exit status after a fault: 1 where the input or the report is refused, 3 where memory ran out, or sessions and core
-/// differ, 4 where the reader or the writer failed.
+/// The program's exit status after a fault: 1 where the input or the report is refused, 3 where memory ran out, or
+/// sessions and core differ, 4 where the reader or the writer failed.
 pub fn status_of(fault: &RunFault) -> u8
     ensures { result ≡ status fault.now }
 {

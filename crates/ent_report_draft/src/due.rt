@@ -1,7 +1,8 @@
 //! What is due next.
 ghost use Rattle.std.specs.Prelude.{◌≡◌, ◌↔◌, ℕ, IsTrue, IfSome, IfNone, reverse};
 ghost use Rattle.std.specs.List.{AllByRecursion};
-ghost use Rattle.ent_history_form.specs.Draft.{AnswerRows, Ended, Free, Heading, OpeningRows, TableRows, members_due, rows_due};
+ghost use Rattle.ent_history_form.specs.Draft.{AnswerRows, Ended, Free, Heading, OpeningRows, TableRows};
+ghost use Rattle.ent_history_form.specs.Draft.{members_due, rows_due};
 ghost use Rattle.ent_report_draft.specs.Members.{AreNumbers};
 ghost use Rattle.ent_report_draft.specs.View.{HasRoom, IsMemberAt, NoMember, due_of, members_behind};
 

@@ -30,7 +30,8 @@ pub fn table(name: &Name, line: &[u8]) -> Result<u64, Refusal<LineFault>>
     counted(b" ", rest)
 }
 
-/// The line of an answer that is a number behind a word, as ` count ` and ` rows `: the statement's place, and the number.
+/// The line of an answer that is a number behind a word, as ` count ` and ` rows `: the statement's place, and the
+/// number.
 #[tactic(auto, unfolding(crate::specs::Counts::placed_at))]
 pub fn placed(word: &[u8], line: &[u8]) -> Result<(u64, u64), Refusal<LineFault>>
     ensures { Gives (λ told. told) result (placed_at word.now line.now) }

@@ -21,7 +21,8 @@ fn take_script<'a>(
     behind: &'a str,
 ) -> Result<Option<&'a str>, AllocError>
     requires { list_all is_in_line first.now ≡ true }
-    ensures { IfOk result (λ rest. StepsScript draft.old draft.new (line first.now ++ behind.now) (option_copied rest)) }
+    ensures { IfOk result (λ rest.
+        StepsScript draft.old draft.new (line first.now ++ behind.now) (option_copied rest)) }
 {
     let count = match draft.script_line(first.as_bytes()) {
         Ok(count) => count,
