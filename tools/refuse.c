@@ -8,6 +8,7 @@
 #include <fcntl.h>
 #include <stdio.h>
 #include <stdlib.h>
+#include <sys/syscall.h>
 #include <unistd.h>
 
 extern void *__libc_malloc(size_t size);
@@ -54,11 +55,19 @@ ssize_t write(int file, const void *bytes, size_t size) {
 }
 
 __attribute__((destructor)) static void tell(void) {
-    const char *name = getenv("COUNT_TO");
+    static _Atomic int is_told;
+    const char *name = is_told++ ? NULL : getenv("COUNT_TO");
     int file = name ? open(name, O_WRONLY | O_CREAT | O_TRUNC, 0644) : -1;
     char line[96];
     if (file < 0) return;
     int size = snprintf(line, sizeof line, "%ld %ld %ld\n", allocations, reads, writes);
-    if (write(file, line, (size_t)size) < 0) _exit(2);
+    if (write(file, line, (size_t)size) < 0) abort();
     close(file);
+}
+
+/* Where a program ends so, no destructor runs. */
+void _exit(int status) {
+    tell();
+    syscall(SYS_exit_group, status);
+    __builtin_unreachable();
 }
