@@ -1,0 +1,67 @@
+//! The laws of places. Nothing here has a body; what holds is in the contracts.
+ghost use Rattle.std.specs.Prelude.{◌≡◌, List, map};
+ghost use Rattle.ent_tree.specs.Places.{unplaced_entangled, unplaced_statement};
+ghost use Rattle.ent_tree.specs.declared.declaration.Create.{Create};
+ghost use Rattle.ent_tree.specs.declared.declaration.Opening.{Opening};
+ghost use Rattle.ent_tree.specs.declared.entangled.Entangled.{Entangled};
+ghost use Rattle.ent_tree.specs.declared.script.Statement.{Statement};
+ghost use Rattle.ent_semantics.specs.Book.{IsLegal};
+ghost use Rattle.ent_semantics.specs.Database.{Name, Database, Environment, opening_database};
+ghost use Rattle.ent_semantics.specs.Entangled.{Valuation, heads, is_grounding, posts, written_variables};
+ghost use Rattle.ent_semantics.specs.Joint.{IsGood};
+ghost use Rattle.ent_semantics.specs.Serial.{Sight, Turn, scripts_run, scripts_sights};
+ghost use Rattle.ent_semantics.specs.Statement.{statement_meaning};
+ghost use Rattle.ent_semantics.specs.Uses.{changes, uses};
+ghost use Rattle.ent_semantics.specs.declared.book.Book.{Book};
+ghost use Rattle.ent_semantics.specs.declared.book.Member.{Member};
+ghost use Rattle.ent_unplaced_laws.specs.Unplaced.{unplaced_book, unplaced_create, unplaced_opening, unplaced_sight};
+ghost use Rattle.ent_unplaced_laws.specs.Unplaced.{unplaced_turn};
+
+/// A statement without its places, over declarations without theirs, means the same, uses and changes the same tables,
+/// and, where it is entangled, has the same written variables, groundings, heads and postconditions.
+pub fn statements_mean_the_same_without_places()
+    ensures meaning { (declared : List Create) (statement : Statement) (valuation : Valuation)
+        → (database : Database) (environment : Environment)
+        → statement_meaning (map unplaced_create declared) (unplaced_statement statement) valuation database environment
+        ≡ statement_meaning declared statement valuation database environment }
+    ensures variables { (entangled : Entangled)
+        → written_variables (unplaced_entangled entangled) ≡ written_variables entangled }
+    ensures grounds { (declared : List Create) (database : Database) (environment : Environment)
+        → (entangled : Entangled) (valuation : Valuation)
+        → is_grounding (map unplaced_create declared) database environment (unplaced_entangled entangled) valuation
+        ≡ is_grounding declared database environment entangled valuation }
+    ensures heads { (environment : Environment) (entangled : Entangled) (valuation : Valuation)
+        → heads environment (unplaced_entangled entangled) valuation ≡ heads environment entangled valuation }
+    ensures posts { (environment : Environment) (entangled : Entangled) (valuation : Valuation)
+        → posts environment (unplaced_entangled entangled) valuation ≡ posts environment entangled valuation }
+    ensures uses { (statement : Statement) (name : Name)
+        → uses (unplaced_statement statement) name ≡ uses statement name }
+    ensures changes { (statement : Statement) (name : Name)
+        → changes (unplaced_statement statement) name ≡ changes statement name }
+{}
+
+/// The database of an opening is that of the opening without its places, table by table and as a whole.
+pub fn openings_are_the_same_without_places()
+    ensures table { (opening : Opening) (name : Name)
+        → opening_database (unplaced_opening opening) name ≡ opening_database opening name }
+    ensures whole { (opening : Opening) → opening_database (unplaced_opening opening) ≡ opening_database opening }
+{}
+
+/// Scripts without their places, run alone over declarations without theirs, leave and answer the same; their entangled
+/// statements see the same and are the same, places aside; and the joint answers that are good stay so.
+pub fn runs_are_the_same_without_places()
+    ensures run { (declared : List Create) (turns : List Turn) (database : Database)
+        → scripts_run (map unplaced_create declared) (map unplaced_turn turns) database
+        ≡ scripts_run declared turns database }
+    ensures sights { (declared : List Create) (turns : List Turn) (database : Database)
+        → scripts_sights (map unplaced_create declared) (map unplaced_turn turns) database
+        ≡ map unplaced_sight (scripts_sights declared turns database) }
+    ensures good { (declared : List Create) (run : List Sight) (members : List Member)
+        → IsGood declared run members
+        → IsGood (map unplaced_create declared) (map unplaced_sight run) members }
+{}
+
+/// A legal book is legal without its places.
+pub fn legal_books_are_legal_without_places()
+    ensures { (book : Book Database) → IsLegal book → IsLegal (unplaced_book book) }
+{}
