@@ -67,8 +67,8 @@ deeds_run declared [] database environment = refl
 deeds_run declared (deed ∷ more) database environment =
     let here = meaning_same declared deed.statement deed.valuation database environment in
     let rest : (d : Database) (e : Environment)
-        → run (map unplaced_create declared) (map unplaced_deed more) d e ≡ run declared more d e
-        = λ d e. deeds_run declared more d e in
+    → run (map unplaced_create declared) (map unplaced_deed more) d e ≡ run declared more d e
+    = λ d e. deeds_run declared more d e in
     λ i. after (here i) (λ d e. rest d e i)
 
 deeds_run_if : (declared : List Create) (database : Database) (deeds : Option (List Deed))
@@ -95,7 +95,7 @@ scripts_run_same declared [] database = refl
 scripts_run_same declared (turn ∷ more) database =
     let here = script_run_same declared turn.script turn.oracle database in
     let rest : (d : Database) → scripts_run (map unplaced_create declared) (map unplaced_turn more) d
-        ≡ scripts_run declared more d = λ d. scripts_run_same declared more d in
+    ≡ scripts_run declared more d = λ d. scripts_run_same declared more d in
     λ i. option_and_then (λ run. option_map (ran_first run.answers) (rest run.database i)) (here i)
 
 -- ---- what is seen
@@ -128,8 +128,8 @@ sights_are declared tx place (deed ∷ more) database environment =
     let here = statement_seen tx place deed.statement deed.valuation database environment in
     let meaning = meaning_same declared deed.statement deed.valuation database environment in
     let rest : (d : Database) (e : Environment)
-        → sights (map unplaced_create declared) tx (suc place) (map unplaced_deed more) d e
-        ≡ map unplaced_sight (later d e) = λ d e. sights_are declared tx (suc place) more d e in
+    → sights (map unplaced_create declared) tx (suc place) (map unplaced_deed more) d e
+    ≡ map unplaced_sight (later d e) = λ d e. sights_are declared tx (suc place) more d e in
     (λ i. here i ++ seen_after (meaning i) (λ d e. rest d e i))
     ∙ ap (λ (others : List Sight). map unplaced_sight now ++ others)
     (seen_after_each (statement_meaning declared deed.statement deed.valuation database environment) later)
@@ -180,7 +180,7 @@ scripts_sights_are declared (turn ∷ more) database =
     let here = script_sights_are declared turn database in
     let ran = script_run_same declared turn.script turn.oracle database in
     let rest : (d : Database) → scripts_sights (map unplaced_create declared) (map unplaced_turn more) d
-        ≡ map unplaced_sight (later d) = λ d. scripts_sights_are declared more d in
+    ≡ map unplaced_sight (later d) = λ d. scripts_sights_are declared more d in
     (λ i. here i ++ seen_from (ran i) (λ d. rest d i))
     ∙ ap (λ (others : List Sight). map unplaced_sight now ++ others)
     (seen_from_each (script_run declared turn.script turn.oracle database) later)
