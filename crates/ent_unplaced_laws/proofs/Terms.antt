@@ -19,7 +19,8 @@ use Rattle.ent_tree.specs.declared.operand.ValueSpecification.TheVariants as spe
 use Rattle.ent_tree.specs.declared.select.Source.{Source}
 use Rattle.ent_semantics.specs.Database.{Name, Environment, same_name, columns_of}
 use Rattle.ent_semantics.specs.Selection.{compares, holds, meets}
-use Rattle.ent_semantics.specs.Term.{SourceColumn, Worth, source_name, table_columns, source_columns, qualifies, refers_to}
+use Rattle.ent_semantics.specs.Term.{SourceColumn, Worth, source_name, table_columns, source_columns, qualifies}
+use Rattle.ent_semantics.specs.Term.{refers_to}
 use Rattle.ent_semantics.specs.Term.{column_value, known_value, operand_value, number_of, in_64_bits, expression_value}
 use Rattle.ent_unplaced_laws.specs.Unplaced.{unplaced_create, unplaced_declared}
 use Rattle.ent_unplaced_laws.proofs.Through.{map_through, all_through}

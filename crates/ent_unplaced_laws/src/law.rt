@@ -1,10 +1,16 @@
 //! The laws of places. Nothing here has a body; what holds is in the contracts.
-ghost use Rattle.std.specs.Prelude.{◌≡◌, List, map};
-ghost use Rattle.ent_tree.specs.Places.{unplaced_entangled, unplaced_statement};
+ghost use Rattle.std.specs.Prelude.{◌≡◌, [], List, None, map};
+ghost use Rattle.std.specs.Option.{option_map};
+ghost use Rattle.ent_tree.specs.Places.{unplaced_entangled, unplaced_script, unplaced_statement};
 ghost use Rattle.ent_tree.specs.declared.declaration.Create.{Create};
 ghost use Rattle.ent_tree.specs.declared.declaration.Opening.{Opening};
 ghost use Rattle.ent_tree.specs.declared.entangled.Entangled.{Entangled};
+ghost use Rattle.ent_tree.specs.declared.script.Script.{Script};
 ghost use Rattle.ent_tree.specs.declared.script.Statement.{Statement};
+ghost use Rattle.ent_book.specs.Report2.{report_2_text};
+ghost use Rattle.ent_form.specs.Catalogue.{schemas_of};
+ghost use Rattle.ent_form.specs.OpeningFault.{opening_fault};
+ghost use Rattle.ent_form.specs.ScriptFaults.{script_faults};
 ghost use Rattle.ent_semantics.specs.Book.{IsLegal};
 ghost use Rattle.ent_semantics.specs.Database.{Name, Database, Environment, opening_database};
 ghost use Rattle.ent_semantics.specs.Entangled.{Valuation, heads, is_grounding, posts, written_variables};
@@ -14,8 +20,11 @@ ghost use Rattle.ent_semantics.specs.Statement.{statement_meaning};
 ghost use Rattle.ent_semantics.specs.Uses.{changes, uses};
 ghost use Rattle.ent_semantics.specs.declared.book.Book.{Book};
 ghost use Rattle.ent_semantics.specs.declared.book.Member.{Member};
+ghost use Rattle.ent_unplaced_laws.specs.Faults.{unplaced_fault};
 ghost use Rattle.ent_unplaced_laws.specs.Unplaced.{unplaced_book, unplaced_create, unplaced_opening, unplaced_sight};
 ghost use Rattle.ent_unplaced_laws.specs.Unplaced.{unplaced_turn};
+
+use ent_print::places_do_not_show;
 
 /// A statement without its places, over declarations without theirs, means the same, uses and changes the same tables,
 /// and, where it is entangled, has the same written variables, groundings, heads and postconditions.
@@ -65,3 +74,25 @@ pub fn runs_are_the_same_without_places()
 pub fn legal_books_are_legal_without_places()
     ensures { (book : Book Database) → IsLegal book → IsLegal (unplaced_book book) }
 {}
+
+/// The faults of form that stand in a script and in an opening without their places are the same, places aside; where
+/// none stands, none does without places.
+pub fn faults_are_the_same_without_places()
+    ensures script { (creates : List Create) (script : Script)
+        → script_faults (schemas_of (map unplaced_create creates)) (unplaced_script script)
+        ≡ map unplaced_fault (script_faults (schemas_of creates) script) }
+    ensures opening { (opening : Opening)
+        → opening_fault (unplaced_opening opening) ≡ option_map unplaced_fault (opening_fault opening) }
+    ensures faultless_script { (creates : List Create) (script : Script)
+        → script_faults (schemas_of creates) script ≡ []
+        → script_faults (schemas_of (map unplaced_create creates)) (unplaced_script script) ≡ [] }
+    ensures faultless_opening { (opening : Opening) → opening_fault opening ≡ None
+        → opening_fault (unplaced_opening opening) ≡ None }
+{}
+
+/// The report of a book, of version 2, is that of the book without its places.
+pub fn reports_are_the_same_without_places()
+    ensures { (book : Book Database) → report_2_text (unplaced_book book) ≡ report_2_text book }
+{
+    places_do_not_show();
+}

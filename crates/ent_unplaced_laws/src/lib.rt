@@ -7,6 +7,7 @@
 mod law;
 
 pub use law::{
-    legal_books_are_legal_without_places, openings_are_the_same_without_places,
+    faults_are_the_same_without_places, legal_books_are_legal_without_places,
+    openings_are_the_same_without_places, reports_are_the_same_without_places,
     runs_are_the_same_without_places, statements_mean_the_same_without_places,
 };
