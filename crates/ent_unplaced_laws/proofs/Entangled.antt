@@ -1,7 +1,6 @@
 -- What an entangled statement offers, demands, answers and binds hangs on no place.
-use Rattle.std.proofs.Common.{◌≡◌, Bool, ◌&&◌, ◌==◌, List, [], ◌∷◌, ◌++◌, length, map, flat_map, refl, ap, ◌∙◌, Option}
+use Rattle.std.proofs.Common.{◌≡◌, ◌&&◌, ◌==◌, List, [], ◌∷◌, ◌++◌, length, map, flat_map, refl, ap, ◌∙◌, Option}
 use Rattle.std.proofs.Common.{Some, None}
-use Rattle.std.specs.List.{list_all}
 use Rattle.ent_set.specs.Sets as set
 use Rattle.ent_value.specs.declared.value.Value.{Value}
 use Rattle.ent_tree.specs.Places.{unplaced_identifier, unplaced_term, unplaced_item, unplaced_condition}
@@ -14,8 +13,7 @@ use Rattle.ent_tree.specs.declared.entangled.EntangledItem.{EntangledItem}
 use Rattle.ent_tree.specs.declared.entangled.Term.{Term}
 use Rattle.ent_tree.specs.declared.entangled.Term.TheVariants as terms
 use Rattle.ent_tree.specs.declared.operand.Identifier.{Identifier}
-use Rattle.ent_semantics.specs.declared.answer.Fact.{Fact}
-use Rattle.ent_semantics.specs.Database.{Name, Rows, Database, Environment}
+use Rattle.ent_semantics.specs.Database.{Name, Database, Environment}
 use Rattle.ent_semantics.specs.Entangled.{Valuation, first_of_each, term_variables, condition_terms, head_terms}
 use Rattle.ent_semantics.specs.Entangled.{written_variables, variable_value, term_worth, facts, heads, condition_posts}
 use Rattle.ent_semantics.specs.Entangled.{posts, condition_holds, is_grounding, item_binds, bound_values}

@@ -1,5 +1,5 @@
 -- The faults of entangled statements are the same, places aside.
-use Rattle.std.proofs.Common.{◌≡◌, ℕ, Bool, not, ◌&&◌, ◌==◌, List, [], ◌∷◌, ◌++◌, length, map, flat_map, refl, ap, ◌∙◌}
+use Rattle.std.proofs.Common.{◌≡◌, not, ◌&&◌, ◌==◌, List, [], ◌∷◌, ◌++◌, length, map, refl, ap, ◌∙◌}
 use Rattle.std.proofs.Common.{Option, Some, None}
 use Rattle.std.specs.Option.{option_map}
 use Rattle.ent_value.specs.declared.value.Kind.{Kind}
@@ -19,8 +19,8 @@ use Rattle.ent_tree.specs.declared.select.Items.TheVariants as items
 use Rattle.ent_tree.specs.declared.select.Select.{Select}
 use Rattle.ent_semantics.specs.Database.{Name}
 use Rattle.ent_semantics.specs.Entangled.{term_variables}
-use Rattle.ent_form.specs.AllFaults.{View, faults_where, unless_any, kinds_faults, repeated_names, value_kind}
-use Rattle.ent_form.specs.AllFaults.{value_faults, values, operand_kind, view_of, select_faults}
+use Rattle.ent_form.specs.AllFaults.{View, faults_where, kinds_faults, repeated_names, value_kind}
+use Rattle.ent_form.specs.AllFaults.{values, operand_kind, view_of, select_faults}
 use Rattle.ent_form.specs.Catalogue.{is_among}
 use Rattle.ent_form.specs.Entangled.{noted, noted_terms, noted_items, term_place}
 use Rattle.ent_form.specs.EntangledFaults.{shown_kinds, select_kinds, demanding, demanding_all, demanding_unless}

@@ -1,6 +1,6 @@
 -- Lists of faults without places, as they are put together.
-use Rattle.std.proofs.Common.{◌≡◌, ℕ, Bool, true, false, List, [], ◌∷◌, ◌++◌, map, flat_map, refl, sym, ap, ◌∙◌, Option}
-use Rattle.std.proofs.Common.{Some, None, option_map}
+use Rattle.std.proofs.Common.{◌≡◌, Bool, true, false, List, [], ◌∷◌, ◌++◌, map, flat_map, refl, sym, ap, ◌∙◌, Option}
+use Rattle.std.proofs.Common.{Some, None}
 use Rattle.ent_value.specs.declared.value.Kind.{Kind}
 use Rattle.ent_tree.specs.Places.{unplaced_identifier}
 use Rattle.ent_tree.specs.declared.declaration.Create.{Create}
@@ -9,7 +9,6 @@ use Rattle.ent_semantics.specs.Database.{Name}
 use Rattle.ent_form.specs.AllFaults.{faults_where, faults_at, unless_any, kinds_faults, repeated_names}
 use Rattle.ent_form.specs.Catalogue.{column_schema, table_schema, schemas_of, is_among}
 use Rattle.ent_form.specs.declared.catalogue.ColumnSchema.{ColumnSchema}
-use Rattle.ent_form.specs.declared.catalogue.TableSchema.{TableSchema}
 use Rattle.ent_form.specs.declared.fault.FormFault.{FormFault}
 use Rattle.ent_form.specs.declared.fault.FormFault.TheVariants.{Repeated}
 use Rattle.ent_lists.specs.Elements.{map_joined}

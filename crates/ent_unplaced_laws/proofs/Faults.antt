@@ -3,7 +3,7 @@ use Rattle.std.proofs.Common.{◌≡◌, ℕ, Bool, not, ◌==◌, List, [], ◌
 use Rattle.std.proofs.Common.{Option, Some, None, is_none}
 use Rattle.std.proofs.lemmas.List.{length-map}
 use Rattle.ent_value.specs.declared.value.Kind.{Kind}
-use Rattle.ent_tree.specs.Places.{unplaced_identifier, unplaced_specification, unplaced_operand, unplaced_expression}
+use Rattle.ent_tree.specs.Places.{unplaced_specification, unplaced_operand, unplaced_expression}
 use Rattle.ent_tree.specs.Places.{unplaced_test, unplaced_source, unplaced_items, unplaced_tests, unplaced_select}
 use Rattle.ent_tree.specs.Places.{unplaced_insert, unplaced_delete, unplaced_assignment, unplaced_update, unplaced_set}
 use Rattle.ent_tree.specs.declared.operand.Identifier.{Identifier}
@@ -21,7 +21,7 @@ use Rattle.ent_tree.specs.declared.statement.Set.{Set}
 use Rattle.ent_tree.specs.declared.statement.Update.{Update}
 use Rattle.ent_semantics.specs.Database.{Name}
 use Rattle.ent_semantics.specs.Term.{source_name}
-use Rattle.ent_form.specs.AllFaults.{Terms, View, faults_where, faults_at, unless_any, kinds_faults, values}
+use Rattle.ent_form.specs.AllFaults.{Terms, View, faults_where, unless_any, kinds_faults, values}
 use Rattle.ent_form.specs.AllFaults.{operands_over, wanted_faults, test_faults, expression_faults, expression_kind}
 use Rattle.ent_form.specs.AllFaults.{columns_there, view_of, sources_faults, items_faults, select_faults, values_faults}
 use Rattle.ent_form.specs.AllFaults.{insert_faults, table_view, delete_faults, assignment_faults, assignments_faults}
@@ -29,7 +29,7 @@ use Rattle.ent_form.specs.AllFaults.{update_faults, set_faults}
 use Rattle.ent_form.specs.Catalogue.{table_named, column_named, is_among}
 use Rattle.ent_form.specs.Kinds.{Bound}
 use Rattle.ent_form.specs.Lookup.{operand_place, expression_place}
-use Rattle.ent_form.specs.Scope.{Visible, source_place}
+use Rattle.ent_form.specs.Scope.{source_place}
 use Rattle.ent_form.specs.declared.catalogue.ColumnSchema.{ColumnSchema}
 use Rattle.ent_form.specs.declared.catalogue.TableSchema.{TableSchema}
 use Rattle.ent_form.specs.declared.fault.FormFault.{FormFault}

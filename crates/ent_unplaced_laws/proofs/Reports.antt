@@ -1,5 +1,5 @@
 -- The report of a book hangs on no place.
-use Rattle.std.proofs.Common.{◌≡◌, ℕ, ◌+◌, Bool, true, false, cond, List, [], ◌∷◌, ◌++◌, map, flat_map, refl, ap, ◌∙◌}
+use Rattle.std.proofs.Common.{◌≡◌, ℕ, ◌+◌, Bool, true, false, cond, List, [], ◌∷◌, ◌++◌, map, refl, ap, ◌∙◌}
 use Rattle.std.proofs.Common.{Option, Some, None, codes, decimal, nat_cmp}
 use Rattle.std.specs.Cmp.Lexicographic.{slice_cmp}
 use Rattle.std.specs.Option.{option_map}
@@ -12,18 +12,17 @@ use Rattle.ent_tree.specs.declared.script.Script.{Script}
 use Rattle.ent_tree.specs.declared.script.Statement.{Statement}
 use Rattle.ent_tree.specs.declared.script.Statement.TheVariants as statements
 use Rattle.ent_print.specs.Lexeme.{text_of}
-use Rattle.ent_print.specs.Printing.{script_text}
 use Rattle.ent_print.specs.Spelling.{script_spelling}
 use Rattle.ent_semantics.specs.declared.book.Book.{Book}
 use Rattle.ent_semantics.specs.declared.book.JointAnswer.{JointAnswer}
 use Rattle.ent_semantics.specs.declared.book.Member.{Member}
-use Rattle.ent_semantics.specs.Database.{Name, Rows, Database, opening_database, same_name}
+use Rattle.ent_semantics.specs.Database.{Name, Rows, Database, same_name}
 use Rattle.ent_semantics.specs.Serial.{numbered}
 use Rattle.ent_book.specs.Report.{line, rows_text, transactions_text, member_place, joint_line, names_by_bytes}
 use Rattle.ent_book.specs.Report.{tables_text}
-use Rattle.ent_book.specs.Report2.{column_text, columns_text, declared_columns, opening_table_text, opening_text}
+use Rattle.ent_book.specs.Report2.{column_text, columns_text, declared_columns, opening_text}
 use Rattle.ent_book.specs.Report2.{line_count, numbered_script_text, scripts_text, statement_variables}
-use Rattle.ent_book.specs.Report2.{script_statement, member_variables, bindings_text, grounding_line, groundings_text}
+use Rattle.ent_book.specs.Report2.{script_statement, member_variables, bindings_text, groundings_text}
 use Rattle.ent_book.specs.Report2.{grounded_joints_text, report_2_text}
 use Rattle.ent_unplaced_laws.specs.Unplaced.{unplaced_book, unplaced_create, unplaced_declared, unplaced_opening}
 use Rattle.ent_unplaced_laws.proofs.Books.{table_same}

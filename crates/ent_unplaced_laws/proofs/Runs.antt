@@ -11,7 +11,7 @@ use Rattle.ent_semantics.specs.declared.answer.Failure.{Failure}
 use Rattle.ent_semantics.specs.Database.{Database, Environment, nothing_bound}
 use Rattle.ent_semantics.specs.Effect.{Effect}
 use Rattle.ent_semantics.specs.Entangled.{Valuation}
-use Rattle.ent_semantics.specs.Serial.{Deed, Run, Runs, Sight, Turn, is_entangled, deed_first, with_answer, deeds_of}
+use Rattle.ent_semantics.specs.Serial.{Deed, Run, Sight, Turn, is_entangled, deed_first, with_answer, deeds_of}
 use Rattle.ent_semantics.specs.Serial.{after, run, ended, script_run, ran_first, scripts_run, seen, seen_after, sights}
 use Rattle.ent_semantics.specs.Serial.{script_sights, seen_from, scripts_sights}
 use Rattle.ent_semantics.specs.Statement.{statement_meaning}

@@ -1,5 +1,5 @@
 -- What a statement means, and which tables it uses, hangs on no place.
-use Rattle.std.proofs.Common.{◌≡◌, Bool, cond, List, [], ◌∷◌, ◌++◌, map, flat_map, refl, ap, ◌∙◌, Option}
+use Rattle.std.proofs.Common.{◌≡◌, cond, List, [], ◌∷◌, ◌++◌, map, refl, ap, ◌∙◌, Option}
 use Rattle.ent_value.specs.declared.value.Value.{Value}
 use Rattle.ent_tree.specs.Places.{unplaced_specification, unplaced_operand, unplaced_source, unplaced_tests}
 use Rattle.ent_tree.specs.Places.{unplaced_select, unplaced_condition, unplaced_assignment, unplaced_statement}

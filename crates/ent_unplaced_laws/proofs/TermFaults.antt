@@ -1,5 +1,5 @@
 -- The faults of terms, tests and expressions are the same, places aside.
-use Rattle.std.proofs.Common.{◌≡◌, ℕ, Bool, List, [], ◌∷◌, ◌++◌, map, flat_map, filter, refl, ap, ◌∙◌, Option, Some}
+use Rattle.std.proofs.Common.{◌≡◌, ℕ, Bool, List, [], ◌∷◌, ◌++◌, filter, refl, ap, ◌∙◌, Option, Some}
 use Rattle.std.proofs.Common.{None, is_none, not}
 use Rattle.std.specs.Option.{option_map}
 use Rattle.ent_value.specs.declared.value.Kind.{Kind}

@@ -1,5 +1,5 @@
 -- Functions over lists whose elements have changed, where what is made of each is the same.
-use Rattle.std.proofs.Common.{◌≡◌, Bool, ◌&&◌, List, [], ◌∷◌, ◌++◌, map, flat_map, refl, Option, Some, None, option_map}
+use Rattle.std.proofs.Common.{◌≡◌, Bool, ◌&&◌, List, [], ◌∷◌, ◌++◌, map, flat_map, refl, option_map}
 use Rattle.std.proofs.Common.{ℕ, zero, suc}
 use Rattle.std.specs.List.{list_all}
 use Rattle.std.proofs.lemmas.Option.{slice_get-map}
