@@ -48,7 +48,7 @@ entangled_same (statements.Delete delete) = refl
 entangled_same (statements.Update update) = refl
 entangled_same (statements.Set set) = refl
 
-deeds_are : (all : List Statement) (oracle : List Valuation)
+pub deeds_are : (all : List Statement) (oracle : List Valuation)
     → deeds_of (map unplaced_statement all) oracle ≡ option_map (map unplaced_deed) (deeds_of all oracle)
 deeds_are [] [] = refl
 deeds_are [] (valuation ∷ oracle) = refl
