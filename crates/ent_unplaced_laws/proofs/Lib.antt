@@ -1,0 +1,14 @@
+pub mod Through
+pub mod Terms
+pub mod Selects
+pub mod Entangled
+pub mod Statements
+pub mod Runs
+pub mod Books
+pub mod FaultLists
+pub mod TermFaults
+pub mod Faults
+pub mod EntangledFaults
+pub mod ScriptFaults
+pub mod OpeningFaults
+pub mod Reports
