@@ -1,0 +1,71 @@
+-- A legal book stays legal with another opening that has the same tables and rows.
+use Rattle.std.proofs.Common.{◌≡◌, List, Contains, sym, subst, ◌∙◌}
+use Rattle.ent_tree.specs.declared.declaration.Create.{Create}
+use Rattle.ent_tree.specs.declared.declaration.Opening.{Opening}
+use Rattle.ent_semantics.specs.declared.book.Book.{Book}
+use Rattle.ent_semantics.specs.declared.book.Member.{Member}
+use Rattle.ent_semantics.specs.Book.{IsLegal, book_sights}
+use Rattle.ent_semantics.specs.Database.{Database, Name, columns_of, opening_database}
+use Rattle.ent_semantics.specs.Joint.{IsGood}
+use Rattle.ent_semantics.specs.Serial.{Sight, Turn, scripts_run}
+use Rattle.ent_opening_laws.specs.Alike.{AreAlike}
+use Rattle.ent_opening_laws.proofs.Columns.{same_columns}
+use Rattle.ent_opening_laws.proofs.Meant.{same_grounding, same_runs, same_sights}
+
+pub turned : (first second : Opening) → AreAlike first second → AreAlike second first
+turned first second alike = record { tables = λ name. sym (alike.tables name); rows = sym alike.rows }
+
+still_good : (first second : List Create) → ((name : Name) → columns_of first name ≡ columns_of second name)
+    → (run : List Sight) (members : List Member) → IsGood first run members → IsGood second run members
+still_good first second same run members good = record {
+  some = good.some;
+  distinct = good.distinct;
+  of_run = good.of_run;
+  grounded = λ sight at.
+      sym (same_grounding first second same sight.database sight.environment sight.entangled sight.valuation)
+      ∙ good.grounded sight at;
+  met = good.met;
+}
+
+module _ (book : Book Database) (opening : Opening) (alike : AreAlike book.opening opening) where
+  same_names : (name : Name) → columns_of book.opening.tables name ≡ columns_of opening.tables name
+  same_names = same_columns book.opening.tables opening.tables alike.tables
+
+  run_is : (turns : List Turn)
+      → scripts_run book.opening.tables turns (opening_database book.opening)
+      ≡ scripts_run opening.tables turns (opening_database opening)
+  run_is turns = λ i. same_runs book.opening.tables opening.tables same_names turns (alike.rows i) i
+
+  sights_are : (turns : List Turn) → book_sights book turns ≡ book_sights (record book { opening = opening }) turns
+  sights_are turns = λ i. same_sights book.opening.tables opening.tables same_names turns (alike.rows i) i
+
+  pub still_legal : IsLegal book → IsLegal (record book { opening = opening })
+  still_legal legal = record {
+    journal = record {
+      distinct = legal.journal.distinct;
+      of_list = legal.journal.of_list;
+      one_fate = legal.journal.one_fate;
+      committed = legal.journal.committed;
+    };
+    turns = legal.turns;
+    runs = record {
+      in_order = legal.runs.in_order;
+      own_scripts = legal.runs.own_scripts;
+      run = sym (run_is legal.turns) ∙ legal.runs.run;
+    };
+    answered = λ sight at.
+        legal.answered sight
+        (subst (λ (sights : List Sight). Contains sights sight) (sym (sights_are legal.turns)) at);
+    once = legal.once;
+    no_widow = λ member at.
+        let found = legal.no_widow member at in (
+          found.0,
+          subst (λ (sights : List Sight). Contains sights found.0) (sights_are legal.turns) found.1,
+          found.2,
+        );
+    good = λ joint at.
+        still_good book.opening.tables opening.tables same_names
+        (book_sights (record book { opening = opening }) legal.turns) joint.members
+        (subst (λ (sights : List Sight). IsGood book.opening.tables sights joint.members) (sights_are legal.turns)
+        (legal.good joint at));
+  }
