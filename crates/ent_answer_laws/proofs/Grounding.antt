@@ -1,10 +1,9 @@
 -- The values of a grounding can be told, and are of their variables' kinds.
-use Rattle.std.proofs.Common.{◌≡◌, ◌≤◌, ◌<◌, ℕ, zero, suc, Bool, true, false, ◌||◌, ◌&&◌, ◌==◌, List, [], ◌∷◌, ◌++◌, map}
-use Rattle.std.proofs.Common.{length, refl, sym, ap, subst, ◌∙◌, arith, inl, inr, Contains, None, Ok, Result}
+use Rattle.std.proofs.Common.{◌≡◌, ◌<◌, ℕ, suc, Bool, true, false, ◌||◌, ◌==◌, List, [], ◌∷◌, ◌++◌, map}
+use Rattle.std.proofs.Common.{length, refl, sym, ap, subst, ◌∙◌, arith, inl, inr, Contains, Ok}
 use Rattle.std.specs.Prelude.{slice_index_or}
 use Rattle.std.specs.List.{AllByRecursion, list_all, list_any}
 use Rattle.std.proofs.lemmas.Bool.{eqb-true}
-use Rattle.ent_set.specs.Sets as set
 use Rattle.ent_value.specs.Value.{kinds_of}
 use Rattle.ent_value.specs.declared.value.Kind.{Kind}
 use Rattle.ent_value.specs.declared.value.Value.{Value}
@@ -26,8 +25,8 @@ use Rattle.ent_text.specs.declared.token.TokenKind.TheVariants.{Number}
 use Rattle.ent_semantics.specs.Database.{Database, Environment, Name, Rows}
 use Rattle.ent_semantics.specs.Entangled.{Valuation, is_grounding, written_variables}
 use Rattle.ent_semantics.specs.Term.{no_value}
-use Rattle.ent_closed.specs.Closing.{closed_entangled, membership_over, term_over}
-use Rattle.ent_closed.specs.Form.{Tables, form_rows, is_form_grounding, known_worth, membership_holds, term_worth}
+use Rattle.ent_closed.specs.Closing.{membership_over, term_over}
+use Rattle.ent_closed.specs.Form.{is_form_grounding, known_worth, membership_holds, term_worth}
 use Rattle.ent_closed.specs.declared.entangled.Entangled.{Entangled}
 use Rattle.ent_closed.specs.declared.entangled.Membership.{Membership}
 use Rattle.ent_closed.specs.declared.entangled.Term.{Term}
@@ -77,8 +76,8 @@ where_are_read (condition ∷ more) can =
 condition_told : (condition : Condition) → AreRead (condition_spelling condition) → ConditionFits condition
     → IsToldCondition condition
 condition_told (conditions.InSelect tuple select) can fits =
-    let behind = all_second CanBeRead (tuple_spelling tuple) (word keywords.In ∷ in_parentheses (select_spelling select))
-    can in
+    let behind = all_second CanBeRead (tuple_spelling tuple)
+    (word keywords.In ∷ in_parentheses (select_spelling select)) can in
     (all_first CanBeRead (select_spelling select) (sign symbols.Close ∷ []) behind.1.1, fits.1)
 condition_told (conditions.InAnswer tuple relation) can fits = tt
 condition_told (conditions.Test test) can fits = tt

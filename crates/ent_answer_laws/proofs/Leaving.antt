@@ -1,8 +1,7 @@
 -- What a statement leaves and answers can be told, kinds aside.
-use Rattle.std.proofs.Common.{◌≡◌, ◌≢◌, ◌≤◌, ℕ, Bool, true, false, not, List, [], ◌∷◌, ◌++◌, map, length, refl, sym, ap}
+use Rattle.std.proofs.Common.{◌≡◌, ◌≤◌, ℕ, Bool, true, false, not, List, [], ◌∷◌, map, length, refl, sym}
 use Rattle.std.proofs.Common.{subst, ◌∙◌, arith, Option, Some, None, Result, Ok, Err}
 use Rattle.std.specs.Prelude.{nat_le, if◌then◌else◌}
-use Rattle.std.specs.List.{AllByRecursion}
 use Rattle.std.proofs.lemmas.Bool.Decides.{nat_tests}
 use Rattle.std.proofs.lemmas.List.{length-map}
 use Rattle.ent_set.specs.Sets as set
@@ -10,14 +9,11 @@ use Rattle.ent_value.specs.declared.limits.TheConstants.{MOST_ROWS}
 use Rattle.ent_value.specs.declared.value.Value.{Value}
 use Rattle.ent_tree.specs.declared.declaration.Create.{Create}
 use Rattle.ent_tree.specs.declared.entangled.Entangled.{Entangled}
-use Rattle.ent_tree.specs.declared.operand.Operand.{Operand}
 use Rattle.ent_tree.specs.declared.operand.ValueSpecification.{ValueSpecification}
 use Rattle.ent_tree.specs.declared.script.Statement.{Statement}
 use Rattle.ent_tree.specs.declared.script.Statement.TheVariants as statements
-use Rattle.ent_tree.specs.declared.statement.Assignment.{Assignment}
-use Rattle.ent_print.specs.Lexeme.{Lexeme}
 use Rattle.ent_print.specs.Reading.{CanBeRead}
-use Rattle.ent_print.specs.Spelling.{assignment_spelling, comma_list, operand_spelling, sign, specification_spelling}
+use Rattle.ent_print.specs.Spelling.{assignment_spelling, comma_list, sign, specification_spelling}
 use Rattle.ent_print.specs.Spelling.{statement_spelling, tests_clause}
 use Rattle.ent_text.specs.declared.symbol.Symbol.TheVariants as symbols
 use Rattle.ent_semantics.specs.declared.answer.Answer.TheVariants as answers
@@ -25,15 +21,15 @@ use Rattle.ent_semantics.specs.declared.answer.Failure.{Failure}
 use Rattle.ent_semantics.specs.declared.answer.Failure.TheVariants.{TableFull}
 use Rattle.ent_semantics.specs.Change.{image, matched, unmatched, updated}
 use Rattle.ent_semantics.specs.Database.{Database, Environment, Name, Rows, columns_of, same_name, table_named}
-use Rattle.ent_semantics.specs.Database.{with_rows, with_value, with_values}
+use Rattle.ent_semantics.specs.Database.{with_rows, with_value}
 use Rattle.ent_semantics.specs.Effect.{Effect, Meaning, changed, or_overflow}
-use Rattle.ent_semantics.specs.Entangled.{Valuation, bound_values, heads}
+use Rattle.ent_semantics.specs.Entangled.{Valuation, bound_values}
 use Rattle.ent_semantics.specs.Selection.{meets, select_rows}
 use Rattle.ent_semantics.specs.Statement.{statement_meaning, table_worth}
-use Rattle.ent_semantics.specs.Term.{SourceColumn, expression_value, known_value, table_columns}
+use Rattle.ent_semantics.specs.Term.{expression_value, known_value, table_columns}
 use Rattle.ent_round_trip.specs.Fits.{StatementFits}
 use Rattle.ent_history_form.specs.Answers.{IsOfSort}
-use Rattle.ent_history_form.specs.Parts.{IsRow, IsValue}
+use Rattle.ent_history_form.specs.Parts.{IsRow}
 use Rattle.ent_kinded.proofs.Rows.{each_ascending}
 use Rattle.ent_kinded.proofs.Steps.{one_answer}
 use Rattle.ent_lists.specs.Elements.{all_first}
@@ -134,7 +130,8 @@ module _ (declared : List Create) (database : Database) (environment : Environme
     under table row there = (
       rows table row there,
       wide table row there
-          ∙ sym (length-map (columns_of declared table) (λ (column : Name). record { source = table; column = column })),
+          ∙ sym (length-map (columns_of declared table)
+          (λ (column : Name). record { source = table; column = column })),
     )
 
     pub leaves_told : (statement : Statement) → AreRead (statement_spelling statement) → StatementFits statement
@@ -205,7 +202,8 @@ module _ (declared : List Create) (database : Database) (environment : Environme
         (λ row values operand. operand_is_value environment held columns row values operand) read matches
         (database table) there.0 (under table) there.1) effect there.2
     leaves_told (statements.Set set) can fits valuation all effect e =
-        let there = over_there (expression_value (known_value environment) set.expression) (λ value database environment.
+        let there = over_there (expression_value (known_value environment) set.expression)
+        (λ value database environment.
         Ok (record {
           database = database;
           environment = with_value environment set.variable.name value;

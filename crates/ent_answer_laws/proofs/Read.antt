@@ -1,16 +1,13 @@
 -- The parts of statements that can be read.
-use Rattle.std.proofs.Common.{◌≡◌, ◌≤◌, ◌<◌, ℕ, suc, pos, negsuc, List, [], ◌∷◌, ◌++◌, map, length, arith}
-use Rattle.std.specs.List.{AllByRecursion, flat_map}
+use Rattle.std.proofs.Common.{pos, negsuc, List, [], ◌∷◌, arith}
+use Rattle.std.specs.List.{AllByRecursion}
 use Rattle.ent_value.specs.declared.value.Value.{Value}
 use Rattle.ent_value.specs.declared.value.Value.TheVariants as values
-use Rattle.ent_tree.specs.declared.entangled.Entangled.{Entangled}
-use Rattle.ent_tree.specs.declared.entangled.Term.{Term}
-use Rattle.ent_tree.specs.declared.operand.Identifier.{Identifier}
 use Rattle.ent_print.specs.Lexeme.{Lexeme}
 use Rattle.ent_print.specs.Reading.{CanBeRead}
-use Rattle.ent_print.specs.Spelling.{each_behind, entangled_item_spelling, relation_spelling, separated}
-use Rattle.ent_print.specs.Spelling.{term_spelling, value_spelling}
-use Rattle.ent_history_form.specs.Parts.{IsName, IsValue}
+use Rattle.ent_print.specs.Spelling.{each_behind, separated}
+use Rattle.ent_print.specs.Spelling.{value_spelling}
+use Rattle.ent_history_form.specs.Parts.{IsValue}
 use Rattle.ent_lists.specs.Elements.{all_first, all_second}
 
 abbrev pub AreRead : List Lexeme → Type 0

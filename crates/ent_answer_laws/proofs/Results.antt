@@ -1,11 +1,10 @@
 -- The rows of a SELECT's result can be told.
-use Rattle.std.proofs.Common.{◌≡◌, ◌≢◌, ◌≤◌, Bool, List, [], ◌∷◌, ◌++◌, map, length, refl, sym, ap, subst, ◌∙◌, arith}
-use Rattle.std.specs.List.{AllByRecursion, filter, flat_map}
+use Rattle.std.proofs.Common.{◌≡◌, ◌≢◌, ◌≤◌, List, [], ◌∷◌, ◌++◌, map, length, refl, sym, subst, arith}
+use Rattle.std.specs.List.{AllByRecursion, filter}
 use Rattle.std.proofs.lemmas.List.{length-map}
 use Rattle.ent_set.specs.Sets as set
 use Rattle.ent_value.specs.declared.value.Value.{Value}
 use Rattle.ent_tree.specs.declared.declaration.Create.{Create}
-use Rattle.ent_tree.specs.declared.operand.Operand.{Operand}
 use Rattle.ent_tree.specs.declared.select.Items.{Items}
 use Rattle.ent_tree.specs.declared.select.Items.TheVariants as items
 use Rattle.ent_tree.specs.declared.select.Select.{Select}
@@ -21,7 +20,7 @@ use Rattle.ent_text.specs.declared.symbol.Symbol.TheVariants as symbols
 use Rattle.ent_history_form.specs.Parts.{IsRow, IsValue}
 use Rattle.ent_round_trip.specs.Fits.{ItemsFit, SelectFits}
 use Rattle.ent_kinded.proofs.Rows.{each_ascending}
-use Rattle.ent_lists.specs.Elements.{In, all_first, all_filtered, all_joined, all_second, to_all, of_map, of_all, in_flat}
+use Rattle.ent_lists.specs.Elements.{In, all_first, all_filtered, all_joined, to_all, of_map, of_all, in_flat}
 use Rattle.ent_answer_laws.proofs.Read.{AreRead, separated_are_read}
 use Rattle.ent_answer_laws.proofs.Rows.{EachRow, listed_rows}
 use Rattle.ent_answer_laws.proofs.Values.{AreValues, HoldsValues, mapped_are_values, operand_is_value}

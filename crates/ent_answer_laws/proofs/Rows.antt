@@ -16,7 +16,7 @@ use Rattle.ent_value.specs.Value.{row_cmp}
 use Rattle.ent_value.specs.declared.value.Value.{Value}
 use Rattle.ent_semantics.specs.Database.{Rows}
 use Rattle.ent_book.proofs.Ascending.{count_of_ascending}
-use Rattle.ent_lists.specs.Elements.{Pairs, and_both, or_cases, pairs_index, shorter}
+use Rattle.ent_lists.specs.Elements.{Pairs, and_both, pairs_index, shorter}
 use Rattle.ent_report_laws.specs.Tellable.{RowsRise}
 
 -- each row of the set is such

@@ -57,7 +57,8 @@ module _ (declared : List Create) where
       → (environment : Environment) → HoldsValuesOf bound environment → (effect : Effect Database)
       → statement_meaning declared statement valuation database environment ≡ Ok effect
       → IsBehind after statement effect
-  steps_on laws none bound after statement form is can fits valuation answers database stored environment held effect e =
+  steps_on laws none bound after statement form is can fits valuation answers database stored environment held effect
+      e =
       let schemas = schemas_of declared in
       let told = leaves_told declared database environment stored.rows stored.few held.values
       (stored_wide declared database stored) statement can fits valuation answers.values effect e in

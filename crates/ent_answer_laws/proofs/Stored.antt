@@ -1,6 +1,6 @@
 -- Databases that hold rows of their columns, as tables in the order of their declaration.
-use Rattle.std.proofs.Common.{◌≡◌, ◌≤◌, ℕ, Bool, true, false, ◌||◌, List, [], ◌∷◌, ◌++◌, map, length, refl, sym, ap, subst}
-use Rattle.std.proofs.Common.{◌∙◌, arith, inl, inr, Contains, None}
+use Rattle.std.proofs.Common.{◌≡◌, ◌≤◌, Bool, true, false, ◌||◌, List, [], ◌∷◌, ◌++◌, map, length, refl, sym, ap, subst}
+use Rattle.std.proofs.Common.{◌∙◌, arith, inl, inr, None}
 use Rattle.std.specs.Prelude.{if◌then◌else◌}
 use Rattle.std.specs.List.{AllByRecursion}
 use Rattle.std.proofs.lemmas.List.{length-map}
@@ -14,12 +14,12 @@ use Rattle.ent_tree.specs.declared.declaration.Create.{Create}
 use Rattle.ent_closed.specs.Form.{Tables}
 use Rattle.ent_semantics.specs.Database.{Database, Name, Rows, columns_of, same_name}
 use Rattle.ent_semantics.specs.Names.{equal_names, name_itself}
-use Rattle.ent_form.specs.Catalogue.{column_schema, is_among, schemas_of, table_schema}
+use Rattle.ent_form.specs.Catalogue.{column_schema, is_among, schemas_of}
 use Rattle.ent_form.specs.OpeningFault.{◌before◌, declarations_fault, refused_where, repeated}
 use Rattle.ent_form.specs.declared.catalogue.ColumnSchema.{ColumnSchema}
 use Rattle.ent_form.specs.declared.fault.FormFault.TheVariants.{Repeated}
 use Rattle.ent_meant.specs.Tables.{database_of}
-use Rattle.ent_kinded.specs.Kinds.{AreKinded, column_kinds}
+use Rattle.ent_kinded.specs.Kinds.{AreKinded}
 use Rattle.ent_kinded.proofs.Steps.{not_refused, nothing_first, nothing_later}
 use Rattle.ent_history_form.specs.Parts.{IsRow}
 use Rattle.ent_rules.specs.Formed.{is_declared}

@@ -1,7 +1,6 @@
 -- Members and tables that a report shows.
-use Rattle.std.proofs.Common.{◌≡◌, ◌≤◌, List, [], ◌∷◌, map, length, refl, sym, ap, subst, ◌∙◌, arith, inl, inr, Contains}
-use Rattle.std.proofs.Common.{Option, Some, Ok, Result}
-use Rattle.std.specs.List.{AllByRecursion}
+use Rattle.std.proofs.Common.{◌≡◌, ◌≤◌, List, [], ◌∷◌, map, length, refl, sym, ap, subst, ◌∙◌, arith, inl, inr}
+use Rattle.std.proofs.Common.{Contains, Option, Some, Ok, Result}
 use Rattle.ent_set.specs.Sets as set
 use Rattle.ent_value.specs.Value.{kinds_of}
 use Rattle.ent_value.specs.declared.value.Value.{Value}
@@ -18,7 +17,6 @@ use Rattle.ent_closed.specs.declared.operand.Known.{Known}
 use Rattle.ent_closed.specs.declared.statement.Statement.{Statement}
 use Rattle.ent_form.specs.Catalogue.{schemas_of}
 use Rattle.ent_form.specs.Form.{script_in}
-use Rattle.ent_form.specs.declared.catalogue.TableSchema.{TableSchema}
 use Rattle.ent_form.specs.declared.fault.FormFault.{FormFault}
 use Rattle.ent_form.specs.declared.script.Plain.{Plain}
 use Rattle.ent_book.specs.Report2.{member_variables, script_statement, statement_variables}
@@ -28,7 +26,7 @@ use Rattle.ent_history.specs.declared.history.History.{History}
 use Rattle.ent_history_form.specs.Joints.{Binds, BindsRight, binds_of, member_binds, resolved_at, script_binds}
 use Rattle.ent_history_form.specs.Parts.{IsRow}
 use Rattle.ent_kinded.proofs.Rows.{each_ascending}
-use Rattle.ent_lists.specs.Elements.{In, in_contains}
+use Rattle.ent_lists.specs.Elements.{In}
 use Rattle.ent_report_laws.specs.Tellable.{AreRowsOf, AreTablesOf, IsMemberTold}
 use Rattle.ent_answer_laws.specs.Held.{HoldsRowsOf}
 use Rattle.ent_answer_laws.proofs.Rows.{rows_rise}

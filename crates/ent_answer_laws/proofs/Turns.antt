@@ -1,5 +1,5 @@
 -- What scripts answer and see that run one after the other can be told.
-use Rattle.std.proofs.Common.{◌≡◌, ℕ, Bool, true, false, List, [], ◌∷◌, ◌++◌, map, refl, sym, ap, subst, ◌∙◌, inl, inr}
+use Rattle.std.proofs.Common.{◌≡◌, List, [], ◌∷◌, refl, sym, ap, subst, ◌∙◌, inl, inr}
 use Rattle.std.proofs.Common.{Option, Some, None, Ok, Err, Result}
 use Rattle.std.specs.List.{AllByRecursion, flat_map}
 use Rattle.std.specs.Option.{option_and_then, option_map}
@@ -8,11 +8,9 @@ use Rattle.ent_tree.specs.declared.script.End.{End}
 use Rattle.ent_tree.specs.declared.script.End.TheVariants.{Commit, Rollback}
 use Rattle.ent_tree.specs.declared.script.Script.{Script}
 use Rattle.ent_tree.specs.declared.script.Statement.{Statement as TreeStatement}
-use Rattle.ent_print.specs.Lexeme.{Lexeme}
 use Rattle.ent_print.specs.Reading.{CanBeRead, IsReadable}
 use Rattle.ent_print.specs.Spelling.{end_word, line_spelling, script_spelling, sign, statement_spelling, word}
 use Rattle.ent_text.specs.declared.symbol.Symbol.TheVariants as symbols
-use Rattle.ent_semantics.specs.declared.answer.Answer.{Answer}
 use Rattle.ent_semantics.specs.Database.{Database, nothing_bound}
 use Rattle.ent_semantics.specs.Joint.{IsGrounded}
 use Rattle.ent_semantics.specs.Serial.{Deed, Run, Runs, Sight, Turn, deeds_of, ended, ran_first, run, script_run}
@@ -34,7 +32,7 @@ use Rattle.ent_answer_laws.specs.Laws.{Laws}
 use Rattle.ent_answer_laws.proofs.Read.{AreRead}
 use Rattle.ent_answer_laws.proofs.Runs.{IsLeft, RunsOn, runs_on}
 use Rattle.ent_answer_laws.proofs.Stored.{IsStored}
-use Rattle.ent_answer_laws.proofs.Walking.{IsSightTold, Resolves, Behind, all_behind, deeds_so, resolved_so, trees_of}
+use Rattle.ent_answer_laws.proofs.Walking.{IsSightTold, Resolves, Behind, all_behind, deeds_so, resolved_so}
 
 -- ---- a script that can run
 

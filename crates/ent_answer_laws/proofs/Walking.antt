@@ -1,55 +1,34 @@
 -- A script's statements with their forms, and what is there behind each.
-use Rattle.std.proofs.Common.{◌≡◌, ◌⊎◌, ℕ, zero, suc, ◌+◌, Bool, true, false, List, [], ◌∷◌, ◌++◌, map, length, refl, sym, ap}
-use Rattle.std.proofs.Common.{subst, ◌∙◌, arith, inl, inr, Contains, Option, Some, None, Ok, Err, Result, slice_get}
+use Rattle.std.proofs.Common.{◌≡◌, ℕ, suc, ◌+◌, Bool, true, false, List, [], ◌∷◌, ◌++◌, map, refl, sym, ap}
+use Rattle.std.proofs.Common.{subst, ◌∙◌, arith, Option, Some, None, Ok, slice_get}
 use Rattle.std.proofs.Common.{append-nil, append_assoc}
 use Rattle.std.specs.List.{AllByRecursion}
-use Rattle.std.specs.Option.{option_map}
-use Rattle.ent_value.specs.Value.{kinds_of}
 use Rattle.ent_value.specs.declared.value.Kind.{Kind}
-use Rattle.ent_value.specs.Refusal.{◌>>=◌}
-use Rattle.ent_tree.specs.declared.declaration.Create.{Create}
 use Rattle.ent_tree.specs.declared.entangled.Entangled.{Entangled as TreeEntangled}
 use Rattle.ent_tree.specs.declared.script.Script.{Script}
 use Rattle.ent_tree.specs.declared.script.Statement.{Statement as TreeStatement}
 use Rattle.ent_tree.specs.declared.script.Statement.TheVariants as trees
-use Rattle.ent_print.specs.Spelling.{statement_spelling}
-use Rattle.ent_semantics.specs.declared.answer.Answer.{Answer}
-use Rattle.ent_semantics.specs.declared.answer.Failure.{Failure}
-use Rattle.ent_semantics.specs.Database.{Database, Environment}
-use Rattle.ent_semantics.specs.Effect.{Effect}
-use Rattle.ent_semantics.specs.Entangled.{Valuation, is_grounding, written_variables}
-use Rattle.ent_semantics.specs.Joint.{IsGrounded}
-use Rattle.ent_semantics.specs.Serial.{Deed, Run, Sight, after, answered_first, deed_first, deeds_of, is_entangled, run}
-use Rattle.ent_semantics.specs.Serial.{numbered, seen, seen_after, sights, with_answer}
-use Rattle.ent_semantics.specs.Statement.{statement_meaning}
+use Rattle.ent_semantics.specs.Database.{Environment}
+use Rattle.ent_semantics.specs.Entangled.{Valuation}
+use Rattle.ent_semantics.specs.Serial.{Deed, Sight, after, deed_first, deeds_of, is_entangled}
+use Rattle.ent_semantics.specs.Serial.{numbered, with_answer}
 use Rattle.ent_closed.specs.Closing.{closed}
 use Rattle.ent_closed.specs.Kinds.{Fits}
 use Rattle.ent_closed.specs.declared.entangled.Entangled.{Entangled}
 use Rattle.ent_closed.specs.declared.operand.Known.{Known}
 use Rattle.ent_closed.specs.declared.statement.Statement.{Statement}
 use Rattle.ent_closed.specs.declared.statement.Statement.TheVariants as forms
-use Rattle.ent_form.specs.Catalogue.{schemas_of}
 use Rattle.ent_form.specs.Entangled.{entangled_in}
 use Rattle.ent_form.specs.Form.{script_in, statement_in, statements_from}
 use Rattle.ent_form.specs.Kinds.{Bound, none_bound}
-use Rattle.ent_form.specs.OpeningFault.{declarations_fault}
 use Rattle.ent_form.specs.declared.catalogue.TableSchema.{TableSchema}
 use Rattle.ent_form.specs.declared.fault.FormFault.{FormFault}
 use Rattle.ent_form.specs.declared.script.Plain.{Plain}
-use Rattle.ent_round_trip.specs.Fits.{Each, StatementFits}
-use Rattle.ent_kinded.specs.Kinds.{AnswersInKind, HasKinds}
+use Rattle.ent_kinded.specs.Kinds.{AnswersInKind}
 use Rattle.ent_kinded.proofs.Steps.{bound_given, one_answer}
 use Rattle.ent_meant.specs.Tables.{Answers}
 use Rattle.ent_lists.specs.Elements.{clash}
-use Rattle.ent_report_laws.specs.Tellable.{AreAnswersTo}
-use Rattle.ent_answer_laws.specs.Answered.{CanBeCounted}
-use Rattle.ent_answer_laws.specs.Held.{CanAnswer, HoldsValuesOf}
-use Rattle.ent_answer_laws.specs.Laws.{Laws}
-use Rattle.ent_answer_laws.proofs.Grounding.{IsAnswered, grounding_answers}
-use Rattle.ent_answer_laws.proofs.Read.{AreRead}
-use Rattle.ent_answer_laws.proofs.Stepping.{IsBehind, steps_on}
-use Rattle.ent_answer_laws.proofs.Stored.{IsStored}
-use Rattle.ent_answer_laws.proofs.Values.{AreValues}
+use Rattle.ent_answer_laws.proofs.Grounding.{IsAnswered}
 
 -- ---- statements and their forms
 
@@ -137,7 +116,8 @@ Behind n rest whole = (k : ℕ) → slice_get rest k ≡ slice_get whole (n + k)
 pub all_behind : {A : Type 0} (whole : List A) → Behind 0 whole whole
 all_behind whole k = let same : k ≡ 0 + k = omega arith in ap (λ (n : ℕ). slice_get whole n) same
 
-pub next_behind : {A : Type 0} (n : ℕ) (x : A) (rest whole : List A) → Behind n (x ∷ rest) whole → Behind (suc n) rest whole
+pub next_behind : {A : Type 0} (n : ℕ) (x : A) (rest whole : List A) → Behind n (x ∷ rest) whole
+    → Behind (suc n) rest whole
 next_behind n x rest whole behind k =
     let same : n + suc k ≡ suc n + k = omega arith in behind (suc k) ∙ ap (λ (m : ℕ). slice_get whole m) same
 
@@ -148,8 +128,8 @@ first_behind n x rest whole behind =
 
 -- ---- what a statement is answered by
 
-pub in_any_kind : (environment : Environment) (form : Statement Known) (valuation : Valuation) (kinds : List (List Kind))
-    → Fits kinds (closed environment form) → AnswersInKind form valuation
+pub in_any_kind : (environment : Environment) (form : Statement Known) (valuation : Valuation)
+    (kinds : List (List Kind)) → Fits kinds (closed environment form) → AnswersInKind form valuation
 in_any_kind environment (forms.Entangled entangled) valuation kinds fits = absurd fits
 in_any_kind environment (forms.Select select) valuation kinds fits = tt
 in_any_kind environment (forms.Insert table values) valuation kinds fits = tt

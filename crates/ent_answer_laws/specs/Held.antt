@@ -17,8 +17,8 @@ use Rattle.ent_meant.specs.Tables.{Answers}
 use Rattle.ent_history_form.specs.Parts.{IsRow, IsValue}
 use Rattle.ent_rules.specs.Formed.{is_declared}
 
--- declared tables hold rows of their columns' kinds whose values can be told, no more than a table may hold; under other
--- names there is nothing
+-- declared tables hold rows of their columns' kinds whose values can be told, no more than a table may hold; there is
+-- nothing under other names
 pub record HoldsRowsOf (declared : List Create) (database : Database) : Type 0 where
   pub rows : (create : Create) → Contains declared create → (row : List Value)
       → set.contains (database create.name.name) row ≡ true

@@ -68,8 +68,8 @@ pub(crate) fn forms_run_as_statements()
 }
 
 /// Over tables and host variables whose values can be told, a statement that resolves, is within the limits and can
-/// stand in a text leaves such tables and such host variables, and its answer is of its sort and can be told. What
-/// can be told of an answer's rows is said where a report can say how many they are.
+/// stand in a text leaves such tables and such host variables, and its answer is of its sort and can be told. Of rows
+/// that is said where a report can say how many they are.
 pub fn statements_answer_what_can_be_told()
     ensures { (declared : List Create) (bound after : Bound) (statement : TreeStatement) (form : Statement Known)
         → (valuation : Valuation) (database : Database) (environment : Environment) (effect : Effect Database)
@@ -86,8 +86,9 @@ pub fn statements_answer_what_can_be_told()
 /// A grounding of a script's entangled statement over such tables and host variables answers it: it has a value that
 /// can be told for each written variable, of its kind.
 pub fn groundings_can_be_told()
-    ensures { (declared : List Create) (script : Script) (plain : Plain) (bound after : Bound) (entangled : TreeEntangled)
-        → (form : Entangled Known) (database : Database) (environment : Environment) (valuation : Valuation)
+    ensures { (declared : List Create) (script : Script) (plain : Plain) (bound after : Bound)
+        → (entangled : TreeEntangled) (form : Entangled Known) (database : Database) (environment : Environment)
+        → (valuation : Valuation)
         → script_in (schemas_of declared) script ≡ Ok plain
         → Contains plain.statements (forms.Entangled form)
         → entangled_in (schemas_of declared) bound entangled ≡ Ok (form, after)
