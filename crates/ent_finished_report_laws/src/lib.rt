@@ -5,4 +5,7 @@
 
 mod law;
 
-pub use law::{fates_count_runs, joint_answers_come_by_number};
+pub use law::{
+    books_over_texts_can_be_reported, fates_count_runs, finished_books_can_be_reported,
+    joint_answers_come_by_number, read_openings_can_be_shown, reports_of_finished_books_are_right,
+};

@@ -5,3 +5,8 @@ pub mod Kept
 pub mod Seen
 pub mod Joints
 pub mod Transactions
+pub mod Counted
+pub mod Tables
+pub mod Right
+pub mod Bare
+pub mod Main

@@ -5,4 +5,7 @@
 
 mod law;
 
-pub use law::{books_are_told_by_their_reports, legal_books_keep_to_declared_tables};
+pub use law::{
+    books_are_told_by_their_reports, legal_books_keep_to_declared_tables,
+    reports_of_legal_books_are_right,
+};
