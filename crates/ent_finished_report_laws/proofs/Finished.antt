@@ -1,8 +1,7 @@
 -- Finished books over an input that is read can be reported.
-use Rattle.std.proofs.Common.{◌≡◌, ◌<◌, ◌≤◌, ℕ, List, [], ◌∷◌, map, length, refl, sym, ap, subst, ◌∙◌, inl, inr, arith}
-use Rattle.std.proofs.Common.{None, Some, Result, Ok, Err, AllPairs, Contains}
-use Rattle.std.specs.List.{AllByRecursion, filter}
-use Rattle.std.proofs.lemmas.List.{length-map}
+use Rattle.std.proofs.Common.{◌≡◌, ◌<◌, ◌≤◌, ℕ, List, [], ◌∷◌, length, refl, sym, subst, ◌∙◌, None, Result, Ok, Err}
+use Rattle.std.proofs.Common.{AllPairs, Contains}
+use Rattle.std.specs.List.{AllByRecursion}
 use Rattle.ent_value.specs.Refusal.{◌>>=◌}
 use Rattle.ent_tree.specs.declared.declaration.Opening.{Opening}
 use Rattle.ent_tree.specs.declared.limits.TheConstants.{MOST_RUNS, MOST_SCRIPTS}
@@ -28,7 +27,7 @@ use Rattle.ent_semantics.specs.Database.{Database}
 use Rattle.ent_book.specs.Report2.{report_2_text}
 use Rattle.ent_history_form.specs.Answers.{AreRuns}
 use Rattle.ent_protocol.specs.Reached.{IsFinished, IsFinishedBook, IsReached, book_of, committed_joints, scripts_of}
-use Rattle.ent_protocol.specs.State.{State, Submitted, by_number}
+use Rattle.ent_protocol.specs.State.{State, Submitted}
 use Rattle.ent_standing.specs.Attempts.{AskForMost, AsksForRun}
 use Rattle.ent_standing.specs.Numbered.{from_by_number}
 use Rattle.ent_endings.specs.Fates.{HaveFates}

@@ -1,7 +1,6 @@
 -- An opening that is read is such as a report can show.
-use Rattle.std.proofs.Common.{◌≡◌, ◌≤◌, ℕ, List, [], ◌∷◌, map, length, arith, Ok}
+use Rattle.std.proofs.Common.{◌≡◌, ◌≤◌, ℕ, List, [], ◌∷◌, length, arith, Ok}
 use Rattle.std.specs.List.{AllByRecursion}
-use Rattle.ent_text.specs.declared.token.TokenKind.TheVariants.{Name}
 use Rattle.ent_tree.specs.declared.declaration.Column.{Column}
 use Rattle.ent_tree.specs.declared.declaration.Create.{Create}
 use Rattle.ent_tree.specs.declared.declaration.Opening.{Opening}
@@ -14,7 +13,7 @@ use Rattle.ent_sql.specs.Operands.{literal}
 use Rattle.ent_sql.specs.Reading.{reading}
 use Rattle.ent_sql.specs.Scripts as scripts
 use Rattle.ent_sql.specs.Tables as grammar
-use Rattle.ent_print.specs.Reading.{CanBeRead, CanStand}
+use Rattle.ent_print.specs.Reading.{CanBeRead}
 use Rattle.ent_print.specs.Spelling.{value_spelling}
 use Rattle.ent_semantics.specs.Database.{row_of}
 use Rattle.ent_history_form.specs.Parts.{IsName, IsValue}

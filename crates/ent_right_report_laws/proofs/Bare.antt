@@ -1,12 +1,10 @@
 -- An opening such as an input has is one without its places, too.
-use Rattle.std.proofs.Common.{◌≡◌, ◌≤◌, List, [], ◌∷◌, map, length, refl, arith}
+use Rattle.std.proofs.Common.{◌≡◌, List, [], ◌∷◌, map, refl, arith}
 use Rattle.std.specs.List.{AllByRecursion}
 use Rattle.std.proofs.lemmas.List.{length-map}
-use Rattle.ent_value.specs.declared.value.Value.{Value}
 use Rattle.ent_tree.specs.declared.declaration.Column.{Column}
 use Rattle.ent_tree.specs.declared.declaration.Create.{Create}
 use Rattle.ent_tree.specs.declared.declaration.Opening.{Opening}
-use Rattle.ent_tree.specs.declared.declaration.OpeningRow.{OpeningRow}
 use Rattle.ent_tree.specs.declared.operand.Literal.{Literal}
 use Rattle.ent_tree.specs.Places.{unplaced_literal}
 use Rattle.ent_semantics.specs.Database.{row_of}
@@ -56,6 +54,7 @@ opening_bare opening read =
       tables = all_map unplaced_create IsTableRead opening.tables
           (all_by IsTableRead (λ create. IsTableRead (unplaced_create create)) opening.tables table_bare read.tables);
       values = all_map unplaced_row (λ row. AllByRecursion IsValue (row_of row)) opening.rows
-          (all_by (λ row. AllByRecursion IsValue (row_of row)) (λ row. AllByRecursion IsValue (row_of (unplaced_row row)))
-          opening.rows (λ row. values_bare row.values) read.values);
+          (all_by (λ row. AllByRecursion IsValue (row_of row))
+          (λ row. AllByRecursion IsValue (row_of (unplaced_row row))) opening.rows (λ row. values_bare row.values)
+          read.values);
     }

@@ -1,6 +1,5 @@
 -- A report that isn't too long can say how many rows each answer of its book has.
-use Rattle.std.proofs.Common.{◌≡◌, ℕ, suc, ◌+◌, ◌≤◌, List, [], ◌∷◌, ◌++◌, map, length, refl, sym, ap, subst, inl, inr, arith}
-use Rattle.std.proofs.Common.{Some, slice_get, sum_by, flat_map, codes}
+use Rattle.std.proofs.Common.{suc, ◌≤◌, ◌++◌, length, refl, ap, subst, arith, sum_by, flat_map, codes}
 use Rattle.std.specs.List.{AllByRecursion}
 use Rattle.std.proofs.lemmas.List.{length-append}
 use Rattle.ent_semantics.specs.declared.answer.Answer.{Answer}
@@ -11,7 +10,6 @@ use Rattle.ent_semantics.specs.declared.book.Fate.TheVariants as fates
 use Rattle.ent_semantics.specs.declared.book.Fated.{Fated}
 use Rattle.ent_semantics.specs.Book.{JournalIsRight}
 use Rattle.ent_semantics.specs.Database.{Database}
-use Rattle.ent_semantics.specs.Serial.{numbered}
 use Rattle.ent_book.specs.Report.{entry_answers, line}
 use Rattle.ent_book.specs.Report2.{scripts_text}
 use Rattle.ent_history.specs.declared.history.History.{History}
@@ -19,10 +17,10 @@ use Rattle.ent_history.specs.declared.history.Told.{Told}
 use Rattle.ent_history.specs.Lines.{answer_lines, told_lines}
 use Rattle.ent_history.specs.Text.{history_text, joints_text, opening_text, shown_text, transactions_text}
 use Rattle.ent_history.specs.Told.{told_by, told_fate}
-use Rattle.ent_history_form.specs.Parts.{IsNumber}
 use Rattle.ent_lists.specs.Elements.{In, contains_in, to_all, to_map}
 use Rattle.ent_report_laws.proofs.Lengths.{part_fits, transactions_fit}
 use Rattle.ent_answer_laws.specs.Answered.{CanBeCounted}
+use Rattle.ent_right_report_laws.proofs.Entries.{index_of}
 
 -- the text of the transactions is a part of that of the history
 transactions_within : (history : History)
@@ -58,16 +56,11 @@ told_counted history short told at =
     let text = transactions_within history in
     answer_counted answer (omega (arith, one, its, all, text, short)))
 
-index : (xs : List Entry) (x : Entry) → In x xs → (k : ℕ) × (slice_get xs k ≡ Some x)
-index [] x at = absurd at
-index (y ∷ ys) x (inl same) = (0, ap (λ z. Some z) (sym same))
-index (y ∷ ys) x (inr at) = let r = index ys x at in (suc r.0, r.1)
-
 pub entry_counted : (book : Book Database) → JournalIsRight book
     → length (history_text (told_by book)) ≤ 1099511627776 → (entry : Entry) → In entry book.journal
     → AllByRecursion CanBeCounted entry.answers
 entry_counted book right short entry at =
-    let k = index book.journal entry at in
+    let k = index_of book.journal entry at in
     let own = (right.committed entry.tx (suc k.0)).1 (entry, k.1, refl) in
     let fated : Fated = record { tx = entry.tx; fate = fates.Committed (suc k.0) own.0 } in
     let there = to_map (told_fate book.journal) book.fates fated (contains_in book.fates fated own.1) in

@@ -1,6 +1,6 @@
 -- The journal of a book is what its report tells of the transactions that committed.
-use Rattle.std.proofs.Common.{◌≡◌, ◌≢◌, ℕ, zero, suc, ◌+◌, ◌≤◌, ◌==◌, Bool, true, false, cond, List, [], ◌∷◌, ◌++◌, map}
-use Rattle.std.proofs.Common.{length, refl, sym, ap, subst, ◌∙◌, inl, inr, arith, Some, flat_map, slice_get, Contains}
+use Rattle.std.proofs.Common.{◌≡◌, ℕ, zero, suc, ◌+◌, ◌≤◌, ◌==◌, Bool, true, false, cond, List, [], ◌∷◌, ◌++◌, map}
+use Rattle.std.proofs.Common.{length, refl, sym, ap, subst, ◌∙◌, inl, inr, arith, Some, flat_map, slice_get}
 use Rattle.std.specs.List.{AllByRecursion, filter, range_with_len}
 use Rattle.std.proofs.lemmas.Bool.{eqb-true}
 use Rattle.std.proofs.lemmas.Bool.Decides.{Decides-eqb}
@@ -8,21 +8,20 @@ use Rattle.std.proofs.lemmas.Cmp.{nat_eq_equiv}
 use Rattle.std.proofs.lemmas.List.{length-map}
 use Rattle.std.proofs.lemmas.Map.Made.{IsDistinct-from_AllPairs, length-le_from_is_member}
 use Rattle.std.proofs.lemmas.Map.Views.{Contains-from_any, list_any-from_Contains}
-use Rattle.ent_semantics.specs.declared.answer.Answer.{Answer}
 use Rattle.ent_semantics.specs.declared.book.Book.{Book}
 use Rattle.ent_semantics.specs.declared.book.Entry.{Entry}
 use Rattle.ent_semantics.specs.declared.book.Fate.{Fate}
 use Rattle.ent_semantics.specs.declared.book.Fate.TheVariants as fates
 use Rattle.ent_semantics.specs.declared.book.Fated.{Fated}
-use Rattle.ent_semantics.specs.Book.{HasCommitted, IsEntryOf, JournalIsRight}
+use Rattle.ent_semantics.specs.Book.{IsEntryOf, JournalIsRight}
 use Rattle.ent_semantics.specs.Database.{Database}
 use Rattle.ent_semantics.specs.Serial.{numbered}
 use Rattle.ent_book.specs.Report.{entry_answers, fate_answers}
 use Rattle.ent_history.specs.Told.{commits, entries_of, entry_if, fates_from, has_committed, journal_of, told_fate}
 use Rattle.ent_rules.specs.Account.{commit_number, is_number}
-use Rattle.ent_lists.specs.Elements.{In, Pairs, of_all, contains_in, in_contains, index_pairs, pairs_index, pairs_mapped}
-use Rattle.ent_lists.specs.Elements.{filter_empty, got_in, not_so, number_itself, of_filter, of_map, pairs_filtered}
-use Rattle.ent_lists.specs.Elements.{same_number, to_filter, to_map}
+use Rattle.ent_lists.specs.Elements.{In, Pairs, of_all, contains_in, in_contains, index_pairs, pairs_index}
+use Rattle.ent_lists.specs.Elements.{pairs_mapped, filter_empty, got_in, not_so, number_itself, of_filter, of_map}
+use Rattle.ent_lists.specs.Elements.{pairs_filtered, same_number, to_filter, to_map}
 
 -- ---- numbers that differ
 
@@ -39,10 +38,10 @@ no_more xs ys apart inside =
 
 -- ---- numbers in a row
 
-head_of : (x y : ℕ) (xs ys : List ℕ) → x ∷ xs ≡ y ∷ ys → x ≡ y
+pub head_of : (x y : ℕ) (xs ys : List ℕ) → x ∷ xs ≡ y ∷ ys → x ≡ y
 head_of x y xs ys e = cc
 
-tail_of : (x y : ℕ) (xs ys : List ℕ) → x ∷ xs ≡ y ∷ ys → xs ≡ ys
+pub tail_of : (x y : ℕ) (xs ys : List ℕ) → x ∷ xs ≡ y ∷ ys → xs ≡ ys
 tail_of x y xs ys e = cc
 
 -- the fates are those of the transactions by number, from one on
@@ -78,6 +77,12 @@ all_in_order f first (x ∷ xs) own =
     (λ i. one i ++ flat_map f (range_with_len (first + 1) (length xs)))
     ∙ ap (λ more. x ∷ more)
     (all_in_order f (first + 1) xs (λ k y e. ap f (later_number first k) ∙ own (suc k) y e))
+
+-- the index of an element
+pub index_of : {X : Type 0} (xs : List X) (x : X) → In x xs → (k : ℕ) × (slice_get xs k ≡ Some x)
+index_of [] x at = absurd at
+index_of (y ∷ ys) x (inl same) = (0, ap (λ z. Some z) (sym same))
+index_of (y ∷ ys) x (inr at) = let r = index_of ys x at in (suc r.0, r.1)
 
 -- ---- who committed with a number
 
@@ -267,17 +272,12 @@ module _ (book : Book Database) (right : JournalIsRight book) where
   from_entry : (n : ℕ) → In n (map entry_tx book.journal) → In n (map tx_of commits_of)
   from_entry n at =
       let one = of_map entry_tx book.journal n at in
-      let k = index book.journal one.0 one.1 in
+      let k = index_of book.journal one.0 one.1 in
       let own = (right.committed one.0.tx (suc k.0)).1 (entry_there k.0 one.0 k.1) in
       let fated : Fated = record { tx = one.0.tx; fate = fates.Committed (suc k.0) own.0 } in
       let there = contains_in book.fates fated own.1 in
       subst (λ (tx : ℕ). In tx (map tx_of commits_of)) (sym one.2)
       (to_map tx_of commits_of fated (to_filter (λ (f : Fated). has_committed f.fate) book.fates fated there refl))
-    where
-      index : (xs : List Entry) (x : Entry) → In x xs → (k : ℕ) × (slice_get xs k ≡ Some x)
-      index [] x at = absurd at
-      index (y ∷ ys) x (inl same) = (0, ap (λ z. Some z) (sym same))
-      index (y ∷ ys) x (inr at) = let r = index ys x at in (suc r.0, r.1)
 
   as_many : length book.journal ≡ length commits_of
   as_many =

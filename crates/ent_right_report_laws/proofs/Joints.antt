@@ -1,6 +1,6 @@
 -- The joint answers that the report of a legal book tells.
 use Rattle.std.proofs.Common.{◌≡◌, ◌≢◌, ℕ, zero, suc, ◌<◌, ◌≤◌, List, [], ◌∷◌, map, length, refl, sym, ap, subst, ◌∙◌}
-use Rattle.std.proofs.Common.{inl, inr, arith, Some, Contains, AllPairs}
+use Rattle.std.proofs.Common.{arith, Some, Contains, AllPairs}
 use Rattle.std.specs.List.{AllByRecursion}
 use Rattle.ent_tree.specs.declared.limits.TheConstants.{MOST_SCRIPTS, MOST_STATEMENTS}
 use Rattle.ent_tree.specs.declared.script.Script.{Script}
@@ -12,7 +12,6 @@ use Rattle.ent_semantics.specs.Database.{Database, opening_database}
 use Rattle.ent_semantics.specs.Joint.{IsGrounded, member_of}
 use Rattle.ent_semantics.specs.Serial.{Sight, numbered}
 use Rattle.ent_history.specs.declared.history.History.{History}
-use Rattle.ent_history.specs.declared.history.ToldMember.{ToldMember}
 use Rattle.ent_history.specs.Told.{told_joint, told_member}
 use Rattle.ent_history_form.specs.Joints.{PlacesRise}
 use Rattle.ent_history_form.specs.Parts.{IsNumber}

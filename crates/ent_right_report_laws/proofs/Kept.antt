@@ -1,6 +1,6 @@
 -- The database of a legal book has no rows under names that aren't declared.
-use Rattle.std.proofs.Common.{◌≡◌, ℕ, zero, suc, true, false, Bool, List, [], ◌∷◌, map, refl, sym, ap, subst, ◌∙◌, inl, inr}
-use Rattle.std.proofs.Common.{Option, Some, None, Result, Ok, Err, Contains}
+use Rattle.std.proofs.Common.{◌≡◌, ℕ, zero, suc, true, false, Bool, List, [], ◌∷◌, map, refl, sym, ap, subst, ◌∙◌, inl}
+use Rattle.std.proofs.Common.{inr, Option, Some, None, Result, Ok, Err}
 use Rattle.std.specs.List.{AllByRecursion}
 use Rattle.std.specs.Option.{option_and_then, option_map}
 use Rattle.ent_set.specs.Sets as set
@@ -28,7 +28,7 @@ use Rattle.ent_form.specs.OpeningFault.{opening_fault}
 use Rattle.ent_form.specs.ScriptFaults.{script_faults}
 use Rattle.ent_form.specs.declared.fault.FormFault.{FormFault}
 use Rattle.ent_form.specs.declared.script.Plain.{Plain}
-use Rattle.ent_lists.specs.Elements.{In, clash, contains_in, got_in, in_contains, not_so, of_all, to_map}
+use Rattle.ent_lists.specs.Elements.{In, clash, got_in, in_contains, not_so, of_all, to_map}
 use Rattle.ent_report_laws.proofs.Sound.{Laws}
 use Rattle.ent_rules.specs.Formed.{is_declared}
 use Rattle.ent_rules.proofs.Deeds.{goes_on, mapped_some, then_some}

@@ -1,5 +1,5 @@
 -- The report of a legal book that can be reported tells of a legal book.
-use Rattle.std.proofs.Common.{◌≡◌, ◌<◌, ◌≤◌, ℕ, false, List, [], ◌∷◌, map, length, refl, sym, ap, subst, ◌∙◌, None, Some, arith}
+use Rattle.std.proofs.Common.{◌≡◌, ◌≤◌, ℕ, false, List, [], map, length, sym, ap, subst, ◌∙◌, None, Some, arith}
 use Rattle.std.specs.Prelude.{◌↔◌, AllPairs, Contains}
 use Rattle.std.specs.List.{All, AllByRecursion, range_with_len}
 use Rattle.std.proofs.lemmas.List.{length-map}

@@ -1,25 +1,17 @@
 -- What the entangled statements of a run see: each is of the turn of its transaction, and stands at its place.
-use Rattle.std.proofs.Common.{◌≡◌, ℕ, zero, suc, ◌+◌, ◌==◌, ◌&&◌, true, List, [], ◌∷◌, ◌++◌, map, length, refl, sym, ap}
-use Rattle.std.proofs.Common.{subst, ◌∙◌, inl, inr, arith, Option, Some, None, Result, Ok, Err, slice_get, Contains}
-use Rattle.std.specs.List.{list_all}
+use Rattle.std.proofs.Common.{◌≡◌, ℕ, suc, ◌+◌, List, [], ◌∷◌, map, refl, sym, ap, subst, ◌∙◌, inl, inr, arith, Option}
+use Rattle.std.proofs.Common.{Some, None, Result, Ok, Err, slice_get}
 use Rattle.ent_tree.specs.declared.declaration.Create.{Create}
-use Rattle.ent_tree.specs.declared.script.Script.{Script}
 use Rattle.ent_tree.specs.declared.script.Statement.{Statement}
 use Rattle.ent_tree.specs.declared.script.Statement.TheVariants as statements
 use Rattle.ent_semantics.specs.declared.answer.Failure.{Failure}
-use Rattle.ent_semantics.specs.declared.book.Book.{Book}
-use Rattle.ent_semantics.specs.declared.book.JointAnswer.{JointAnswer}
-use Rattle.ent_semantics.specs.declared.book.Member.{Member}
-use Rattle.ent_semantics.specs.Book.{IsLegal, all_members, book_sights}
-use Rattle.ent_semantics.specs.Database.{Database, Environment, nothing_bound, opening_database}
+use Rattle.ent_semantics.specs.Database.{Database, Environment, nothing_bound}
 use Rattle.ent_semantics.specs.Effect.{Effect}
-use Rattle.ent_semantics.specs.Entangled.{Valuation, condition_holds, term_worth, written_variables}
-use Rattle.ent_semantics.specs.Joint.{IsGrounded, member_of}
+use Rattle.ent_semantics.specs.Entangled.{Valuation}
 use Rattle.ent_semantics.specs.Serial.{Deed, Run, Sight, Turn, deeds_of, numbered, script_run, script_sights}
 use Rattle.ent_semantics.specs.Serial.{scripts_sights, seen, seen_after, seen_from, sights}
 use Rattle.ent_semantics.specs.Statement.{statement_meaning}
-use Rattle.ent_book.specs.Report2.{member_variables, script_statement, statement_variables}
-use Rattle.ent_lists.specs.Elements.{In, and_both, contains_in, in_contains, in_either, same_number, to_flat}
+use Rattle.ent_lists.specs.Elements.{In, in_either}
 use Rattle.ent_right_report_laws.proofs.Kept.{deeds_are, statement_of}
 
 -- ---- what a statement sees

@@ -1,18 +1,17 @@
 -- The transactions that the report of a legal book tells.
-use Rattle.std.proofs.Common.{◌≡◌, ℕ, zero, suc, ◌+◌, ◌≤◌, Bool, true, false, List, [], ◌∷◌, map, length, refl, sym, ap, subst}
-use Rattle.std.proofs.Common.{◌∙◌, inl, inr, arith, Some, slice_get, nat_lt}
+use Rattle.std.proofs.Common.{◌≡◌, ℕ, zero, suc, ◌+◌, ◌≤◌, Bool, true, false, List, [], ◌∷◌, map, length, refl, sym, ap}
+use Rattle.std.proofs.Common.{subst, ◌∙◌, inl, inr, arith, Some, slice_get, nat_lt}
 use Rattle.std.specs.List.{AllByRecursion}
 use Rattle.std.proofs.lemmas.Bool.{ltb-true, ltb-false}
 use Rattle.std.proofs.lemmas.List.{length-map}
 use Rattle.ent_tree.specs.declared.limits.TheConstants.{MOST_SCRIPTS}
 use Rattle.ent_tree.specs.declared.script.Script.{Script}
-use Rattle.ent_semantics.specs.declared.answer.Answer.{Answer}
 use Rattle.ent_semantics.specs.declared.book.Book.{Book}
 use Rattle.ent_semantics.specs.declared.book.Entry.{Entry}
 use Rattle.ent_semantics.specs.declared.book.Fate.{Fate}
 use Rattle.ent_semantics.specs.declared.book.Fate.TheVariants as fates
 use Rattle.ent_semantics.specs.declared.book.Fated.{Fated}
-use Rattle.ent_semantics.specs.Book.{IsEntryOf, IsLegal, JournalIsRight}
+use Rattle.ent_semantics.specs.Book.{IsEntryOf, IsLegal}
 use Rattle.ent_semantics.specs.Database.{Database}
 use Rattle.ent_semantics.specs.Serial.{Turn, numbered}
 use Rattle.ent_book.specs.Report.{entry_answers, fate_answers}
@@ -22,7 +21,8 @@ use Rattle.ent_history_form.specs.Parts.{IsNumber}
 use Rattle.ent_lists.specs.Elements.{In, got_in, in_contains, of_all, of_map}
 use Rattle.ent_report_laws.specs.Tellable.{AreAnswersTo, AreTransactionsOf, IsTransactionTold}
 use Rattle.ent_right_report_laws.specs.Reportable.{runs_of}
-use Rattle.ent_right_report_laws.proofs.Entries.{AreFrom, Differ, entries_apart, first_tx, its_entry, more_tx, no_more}
+use Rattle.ent_right_report_laws.proofs.Entries.{AreFrom, entries_apart, first_tx, head_of, its_entry, more_tx, no_more}
+use Rattle.ent_right_report_laws.proofs.Entries.{tail_of}
 use Rattle.ent_right_report_laws.proofs.Joints.{numbered_low}
 
 -- ---- side by side
@@ -70,14 +70,8 @@ turn_at (turn ∷ turns) (one ∷ more) same zero entry at =
   where
     one_entry : (x y : Entry) → Some x ≡ Some y → x ≡ y
     one_entry x y e = cc
-
-    head_of : (x y : ℕ) (xs ys : List ℕ) → x ∷ xs ≡ y ∷ ys → x ≡ y
-    head_of x y xs ys e = cc
 turn_at (turn ∷ turns) (one ∷ more) same (suc k) entry at =
     turn_at turns more (tail_of turn.tx one.tx _ _ same) k entry at
-  where
-    tail_of : (x y : ℕ) (xs ys : List ℕ) → x ∷ xs ≡ y ∷ ys → xs ≡ ys
-    tail_of x y xs ys e = cc
 
 -- ---- numbers up to one
 

@@ -30,8 +30,9 @@ pub record CanBeReported (book : Book Database) : Type 0 where
   -- a fate for each script, by number from 1, after 1 to 1,000 runs
   pub fates : map (λ fated. fated.tx) book.fates ≡ range_with_len 1 (length book.scripts)
   pub runs : AllByRecursion (λ fated. AreRuns (runs_of fated.fate)) book.fates
-  -- joint answers name their members by number
+  -- each joint answer names its members by number
   pub rising : (joint : JointAnswer) → Contains book.joint_answers joint
       → AllPairs (λ (first second : Member). first.tx < second.tx) joint.members
-  -- no more bytes than a report has that is checked
+  -- No more bytes than a report has that is checked. A SELECT over four full tables can answer more rows than a line of
+  -- a report can say.
   pub short : length (report_2_text book) ≤ 1099511627776

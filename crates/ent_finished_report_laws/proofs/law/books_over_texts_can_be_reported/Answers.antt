@@ -1,4 +1,3 @@
-use Rattle.std.specs.List.{AllByRecursion}
 use Rattle.ent_tree.specs.declared.script.Input.{Input}
 use Rattle.ent_finished_report_laws.proofs.Finished.{can_run}
 use Rattle.ent_finished_report_laws.proofs.law.books_over_texts_can_be_reported.Goals as goal

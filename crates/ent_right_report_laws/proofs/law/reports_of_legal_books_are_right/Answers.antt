@@ -1,4 +1,3 @@
-use Rattle.std.proofs.Common.{sym}
 use Rattle.ent_history.specs.Told.{told_by}
 use Rattle.ent_book.specs.Report2.{report_2_text}
 use Rattle.ent_unplaced_laws.specs.Unplaced.{unplaced_book}
