@@ -1,0 +1,15 @@
+pub mod Rows
+pub mod Read
+pub mod Values
+pub mod Results
+pub mod Changes
+pub mod Offered
+pub mod Leaving
+pub mod Stored
+pub mod Grounding
+pub mod Stepping
+pub mod Walking
+pub mod Runs
+pub mod Turns
+pub mod Told
+pub mod Opened

@@ -1,0 +1,167 @@
+-- A script's statements with their forms, and what is there behind each.
+use Rattle.std.proofs.Common.{◌≡◌, ℕ, suc, ◌+◌, Bool, true, false, List, [], ◌∷◌, ◌++◌, map, refl, sym, ap}
+use Rattle.std.proofs.Common.{subst, ◌∙◌, arith, Option, Some, None, Ok, slice_get}
+use Rattle.std.proofs.Common.{append-nil, append_assoc}
+use Rattle.std.specs.List.{AllByRecursion}
+use Rattle.ent_value.specs.declared.value.Kind.{Kind}
+use Rattle.ent_tree.specs.declared.entangled.Entangled.{Entangled as TreeEntangled}
+use Rattle.ent_tree.specs.declared.script.Script.{Script}
+use Rattle.ent_tree.specs.declared.script.Statement.{Statement as TreeStatement}
+use Rattle.ent_tree.specs.declared.script.Statement.TheVariants as trees
+use Rattle.ent_semantics.specs.Database.{Environment}
+use Rattle.ent_semantics.specs.Entangled.{Valuation}
+use Rattle.ent_semantics.specs.Serial.{Deed, Sight, after, deed_first, deeds_of, is_entangled}
+use Rattle.ent_semantics.specs.Serial.{numbered, with_answer}
+use Rattle.ent_closed.specs.Closing.{closed}
+use Rattle.ent_closed.specs.Kinds.{Fits}
+use Rattle.ent_closed.specs.declared.entangled.Entangled.{Entangled}
+use Rattle.ent_closed.specs.declared.operand.Known.{Known}
+use Rattle.ent_closed.specs.declared.statement.Statement.{Statement}
+use Rattle.ent_closed.specs.declared.statement.Statement.TheVariants as forms
+use Rattle.ent_form.specs.Entangled.{entangled_in}
+use Rattle.ent_form.specs.Form.{script_in, statement_in, statements_from}
+use Rattle.ent_form.specs.Kinds.{Bound, none_bound}
+use Rattle.ent_form.specs.declared.catalogue.TableSchema.{TableSchema}
+use Rattle.ent_form.specs.declared.fault.FormFault.{FormFault}
+use Rattle.ent_form.specs.declared.script.Plain.{Plain}
+use Rattle.ent_kinded.specs.Kinds.{AnswersInKind}
+use Rattle.ent_kinded.proofs.Steps.{bound_given, one_answer}
+use Rattle.ent_meant.specs.Tables.{Answers}
+use Rattle.ent_lists.specs.Elements.{clash}
+use Rattle.ent_answer_laws.proofs.Grounding.{IsAnswered}
+
+-- ---- statements and their forms
+
+-- each with what those before it bind
+abbrev pub Resolves : List TableSchema → Bound → List TreeStatement → List (Statement Known) → Type 0
+Resolves schemas bound [] [] = Unit {0}
+Resolves schemas bound [] (form ∷ made) = ⊥
+Resolves schemas bound (tree ∷ more) [] = ⊥
+Resolves schemas bound (tree ∷ more) (form ∷ made) =
+    (behind : Bound) × (statement_in schemas bound tree ≡ Ok (form, behind)) × Resolves schemas behind more made
+
+made_so : (schemas : List TableSchema) (more : List TreeStatement) (bound : Bound) (made out : List (Statement Known))
+    → statements_from schemas bound made more ≡ Ok out
+    → (rest : List (Statement Known)) × (out ≡ made ++ rest) × Resolves schemas bound more rest
+made_so schemas [] bound made out e =
+    ([], sym (one_answer {E = FormFault} made out e) ∙ sym (append-nil made), tt)
+made_so schemas (tree ∷ more) bound made out e =
+    let w = bound_given (statement_in schemas bound tree) _ out e in
+    let behind = made_so schemas more w.0.1 (made ++ w.0.0 ∷ []) out w.2 in (
+      w.0.0 ∷ behind.0,
+      behind.1 ∙ append_assoc made (w.0.0 ∷ []) behind.0,
+      (w.0.1, w.1, behind.2),
+    )
+
+pub resolved_so : (schemas : List TableSchema) (script : Script) (plain : Plain)
+    → script_in schemas script ≡ Ok plain → Resolves schemas none_bound script.statements plain.statements
+resolved_so schemas script plain e =
+    let w = bound_given (statements_from schemas none_bound [] script.statements) _ plain e in
+    let made = made_so schemas script.statements none_bound [] w.0 w.1 in
+    let same : made.0 ≡ plain.statements =
+    sym made.1 ∙ ap (λ (p : Plain). p.statements) (one_answer {E = FormFault} _ plain w.2) in
+    subst (λ (all : List (Statement Known)). Resolves schemas none_bound script.statements all) same made.2
+
+-- ---- statements and the oracle's answers
+
+abbrev pub trees_of : List Deed → List TreeStatement
+trees_of deeds = map (λ (deed : Deed). deed.statement) deeds
+
+-- what isn't entangled takes no value
+abbrev pub TakesNone : Deed → Type 0
+TakesNone deed = is_entangled deed.statement ≡ false → deed.valuation ≡ []
+
+one_list : (x y : List Deed) → Some x ≡ Some y → x ≡ y
+one_list x y e = cc
+
+abbrev AreDeedsOf : List TreeStatement → List Deed → Type 0
+AreDeedsOf statements deeds = (trees_of deeds ≡ statements) × AllByRecursion TakesNone deeds
+
+deed_put : (statement : TreeStatement) (valuation : Valuation) (statements : List TreeStatement)
+    (rest : Option (List Deed)) (deeds : List Deed)
+    → ((others : List Deed) → rest ≡ Some others → AreDeedsOf statements others)
+    → (is_entangled statement ≡ false → valuation ≡ []) → deed_first statement valuation rest ≡ Some deeds
+    → AreDeedsOf (statement ∷ statements) deeds
+deed_put statement valuation statements (Some others) deeds so none e =
+    let behind = so others refl in
+    subst (λ (all : List Deed). AreDeedsOf (statement ∷ statements) all)
+    (one_list (record { statement = statement; valuation = valuation } ∷ others) deeds e)
+    (ap (λ (all : List TreeStatement). statement ∷ all) behind.0, (none, behind.1))
+deed_put statement valuation statements None deeds so none e = cc (e)
+
+pub deeds_so : (statements : List TreeStatement) (oracle : List Valuation) (deeds : List Deed)
+    → deeds_of statements oracle ≡ Some deeds → AreDeedsOf statements deeds
+deeds_so [] [] deeds e = subst (λ (all : List Deed). AreDeedsOf [] all) (one_list [] deeds e) (refl, tt)
+deeds_so [] (valuation ∷ oracle) deeds e = cc (e)
+deeds_so (statement ∷ more) oracle deeds e =
+    by (is_entangled statement) refl oracle e (λ oracle others there. deeds_so more oracle others there)
+  where
+    by : (b : Bool) → is_entangled statement ≡ b → (oracle : List Valuation)
+        → with_answer statement b oracle (λ others. deeds_of more others) ≡ Some deeds
+        → ((oracle : List Valuation) (others : List Deed) → deeds_of more oracle ≡ Some others
+        → AreDeedsOf more others)
+        → AreDeedsOf (statement ∷ more) deeds
+    by false is oracle e rest =
+        deed_put statement [] more (deeds_of more oracle) deeds (rest oracle) (λ plain. refl) e
+    by true is [] e rest = cc (e)
+    by true is (valuation ∷ oracle) e rest =
+        deed_put statement valuation more (deeds_of more oracle) deeds (rest oracle)
+        (λ plain. clash (is_entangled statement) is plain) e
+
+-- ---- a part of a list, behind so many
+
+abbrev pub Behind : {A : Type 0} → ℕ → List A → List A → Type 0
+Behind n rest whole = (k : ℕ) → slice_get rest k ≡ slice_get whole (n + k)
+
+pub all_behind : {A : Type 0} (whole : List A) → Behind 0 whole whole
+all_behind whole k = let same : k ≡ 0 + k = omega arith in ap (λ (n : ℕ). slice_get whole n) same
+
+pub next_behind : {A : Type 0} (n : ℕ) (x : A) (rest whole : List A) → Behind n (x ∷ rest) whole
+    → Behind (suc n) rest whole
+next_behind n x rest whole behind k =
+    let same : n + suc k ≡ suc n + k = omega arith in behind (suc k) ∙ ap (λ (m : ℕ). slice_get whole m) same
+
+pub first_behind : {A : Type 0} (n : ℕ) (x : A) (rest whole : List A) → Behind n (x ∷ rest) whole
+    → slice_get whole n ≡ Some x
+first_behind n x rest whole behind =
+    let same : n ≡ n + 0 = omega arith in ap (λ (m : ℕ). slice_get whole m) same ∙ sym (behind 0)
+
+-- ---- what a statement is answered by
+
+pub in_any_kind : (environment : Environment) (form : Statement Known) (valuation : Valuation)
+    (kinds : List (List Kind)) → Fits kinds (closed environment form) → AnswersInKind form valuation
+in_any_kind environment (forms.Entangled entangled) valuation kinds fits = absurd fits
+in_any_kind environment (forms.Select select) valuation kinds fits = tt
+in_any_kind environment (forms.Insert table values) valuation kinds fits = tt
+in_any_kind environment (forms.Delete table tests) valuation kinds fits = tt
+in_any_kind environment (forms.Update table image tests) valuation kinds fits = tt
+in_any_kind environment (forms.Set variable expression) valuation kinds fits = tt
+
+pub answers_any : (tree : TreeStatement) (valuation : Valuation) → is_entangled tree ≡ false → Answers tree valuation
+answers_any (trees.Entangled entangled) valuation plain = cc (plain)
+answers_any (trees.Select select) valuation plain = tt
+answers_any (trees.Insert insert) valuation plain = tt
+answers_any (trees.Delete delete) valuation plain = tt
+answers_any (trees.Update update) valuation plain = tt
+answers_any (trees.Set setting) valuation plain = tt
+
+-- the form of an entangled statement
+pub entangled_form : (schemas : List TableSchema) (bound after : Bound) (entangled : TreeEntangled)
+    (form : Statement Known) → statement_in schemas bound (trees.Entangled entangled) ≡ Ok (form, after)
+    → (own : Entangled Known) × (form ≡ forms.Entangled own) × (entangled_in schemas bound entangled ≡ Ok (own, after))
+unfolding statement_in
+entangled_form schemas bound after entangled form e =
+    let w = bound_given (entangled_in schemas bound entangled) _ (form, after) e in
+    let same = one_answer {E = FormFault} (forms.Entangled w.0.0, w.0.1) (form, after) w.2 in (
+      w.0.0,
+      sym (ap (λ (f : Statement Known × Bound). f.0) same),
+      w.1 ∙ ap (λ (f : Statement Known × Bound). Ok (w.0.0, f.1)) same,
+    )
+
+-- a sight of a script's entangled statement, and the form of that, that can be told
+pub record IsSightTold (tx : ℕ) (script : Script) (plain : Plain) (sight : Sight) : Type 0 where
+  pub of_script : sight.tx ≡ tx
+  pub statement : numbered script.statements sight.place ≡ Some (trees.Entangled sight.entangled)
+  pub form : Entangled Known
+  pub resolved : numbered plain.statements sight.place ≡ Some (forms.Entangled form)
+  pub answered : IsAnswered sight.entangled form sight.valuation

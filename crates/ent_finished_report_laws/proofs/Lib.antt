@@ -1,0 +1,5 @@
+pub mod Rising
+pub mod Fated
+pub mod Runs
+pub mod Opened
+pub mod Finished

@@ -1,0 +1,12 @@
+pub mod Entries
+pub mod Shown
+pub mod Again
+pub mod Kept
+pub mod Seen
+pub mod Joints
+pub mod Transactions
+pub mod Counted
+pub mod Tables
+pub mod Right
+pub mod Bare
+pub mod Main

@@ -1,0 +1,137 @@
+-- What the entangled statements of a run see: each is of the turn of its transaction, and stands at its place.
+use Rattle.std.proofs.Common.{◌≡◌, ℕ, suc, ◌+◌, List, [], ◌∷◌, map, refl, sym, ap, subst, ◌∙◌, inl, inr, arith, Option}
+use Rattle.std.proofs.Common.{Some, None, Result, Ok, Err, slice_get}
+use Rattle.ent_tree.specs.declared.declaration.Create.{Create}
+use Rattle.ent_tree.specs.declared.script.Statement.{Statement}
+use Rattle.ent_tree.specs.declared.script.Statement.TheVariants as statements
+use Rattle.ent_semantics.specs.declared.answer.Failure.{Failure}
+use Rattle.ent_semantics.specs.Database.{Database, Environment, nothing_bound}
+use Rattle.ent_semantics.specs.Effect.{Effect}
+use Rattle.ent_semantics.specs.Entangled.{Valuation}
+use Rattle.ent_semantics.specs.Serial.{Deed, Run, Sight, Turn, deeds_of, numbered, script_run, script_sights}
+use Rattle.ent_semantics.specs.Serial.{scripts_sights, seen, seen_after, seen_from, sights}
+use Rattle.ent_semantics.specs.Statement.{statement_meaning}
+use Rattle.ent_lists.specs.Elements.{In, in_either}
+use Rattle.ent_right_report_laws.proofs.Kept.{deeds_are, statement_of}
+
+-- ---- what a statement sees
+
+record SeenOne (tx place : ℕ) (st : Statement) (s : Sight) : Type 0 where
+  own : s.tx ≡ tx
+  here : s.place ≡ place
+  is : st ≡ statements.Entangled s.entangled
+
+seen_one : (tx place : ℕ) (st : Statement) (valuation : Valuation) (d : Database) (v : Environment) (s : Sight)
+    → In s (seen tx place (record { statement = st; valuation = valuation }) d v) → SeenOne tx place st s
+seen_one tx place (statements.Entangled entangled) valuation d v s (inl same) =
+    record {
+      own = ap (λ (x : Sight). x.tx) same;
+      here = ap (λ (x : Sight). x.place) same;
+      is = ap (λ (x : Sight). statements.Entangled x.entangled) (sym same);
+    }
+seen_one tx place (statements.Entangled entangled) valuation d v s (inr bad) = absurd bad
+seen_one tx place (statements.Select select) valuation d v s at = absurd at
+seen_one tx place (statements.Insert insert) valuation d v s at = absurd at
+seen_one tx place (statements.Delete delete) valuation d v s at = absurd at
+seen_one tx place (statements.Update update) valuation d v s at = absurd at
+seen_one tx place (statements.Set setting) valuation d v s at = absurd at
+
+in_after : (m : Result (Effect Database) Failure) (f : Database → Environment → List Sight) (s : Sight)
+    → In s (seen_after m f) → (d : Database) × (v : Environment) × In s (f d v)
+in_after (Ok effect) f s at = (effect.database, effect.environment, at)
+in_after (Err failure) f s at = absurd at
+
+in_from : (o : Option Run) (f : Database → List Sight) (s : Sight) → In s (seen_from o f)
+    → (d : Database) × In s (f d)
+in_from (Some r) f s at = (r.database, at)
+in_from None f s at = absurd at
+
+record SeenAt (tx place : ℕ) (deeds : List Deed) (s : Sight) : Type 0 where
+  own : s.tx ≡ tx
+  before : ℕ
+  here : s.place ≡ place + before
+  there : slice_get (map statement_of deeds) before ≡ Some (statements.Entangled s.entangled)
+
+-- a sight of a run: its transaction's turn, and its statement at its place
+pub record SeenIn (turns : List Turn) (s : Sight) : Type 0 where
+  pub turn : Turn
+  pub at : In turn turns
+  pub own : s.tx ≡ turn.tx
+  pub there : numbered turn.script.statements s.place ≡ Some (statements.Entangled s.entangled)
+
+this_place : (place : ℕ) → place ≡ place + 0
+this_place place = omega arith
+
+later_place : (place k : ℕ) → suc place + k ≡ place + suc k
+later_place place k = omega arith
+
+module _ (declared : List Create) where
+  seen_at : (tx place : ℕ) (deeds : List Deed) (d : Database) (v : Environment) (s : Sight)
+      → In s (sights declared tx place deeds d v) → SeenAt tx place deeds s
+  seen_at tx place [] d v s at = absurd at
+  seen_at tx place (deed ∷ more) d v s at =
+      let rest = sights declared tx (suc place) more in
+      let meaning = statement_meaning declared deed.statement deed.valuation d v in
+      elim (in_either (seen tx place deed d v) (seen_after meaning rest) s at) [
+        | inl now ↦
+            let one = seen_one tx place deed.statement deed.valuation d v s now in
+            record {
+              own = one.own;
+              before = 0;
+              here = one.here ∙ this_place place;
+              there = ap (λ x. Some x) one.is;
+            }
+        | inr later ↦
+            let next = in_after meaning rest s later in
+            let r = seen_at tx (suc place) more next.0 next.1 s next.2 in
+            record {
+              own = r.own;
+              before = suc r.before;
+              here = r.here ∙ later_place place r.before;
+              there = r.there;
+            }
+      ]
+
+  script_deeds : (turn : Turn) (d : Database) (s : Sight) → In s (script_sights declared turn d)
+      → (deeds : List Deed) × (deeds_of turn.script.statements turn.oracle ≡ Some deeds)
+      × In s (sights declared turn.tx 1 deeds d nothing_bound)
+  script_deeds turn d s at = by (deeds_of turn.script.statements turn.oracle) refl
+    where
+      by : (o : Option (List Deed)) → deeds_of turn.script.statements turn.oracle ≡ o
+          → (deeds : List Deed) × (deeds_of turn.script.statements turn.oracle ≡ Some deeds)
+          × In s (sights declared turn.tx 1 deeds d nothing_bound)
+      by (Some deeds) e =
+          let same : script_sights declared turn d ≡ sights declared turn.tx 1 deeds d nothing_bound = rw e refl in
+          (deeds, e, subst (In s) same at)
+      by None e =
+          let same : script_sights declared turn d ≡ [] = rw e refl in
+          absurd (subst (In s) same at)
+
+  seen_in_script : (turn : Turn) (d : Database) (s : Sight) → In s (script_sights declared turn d)
+      → (s.tx ≡ turn.tx) × (numbered turn.script.statements s.place ≡ Some (statements.Entangled s.entangled))
+  seen_in_script turn d s at =
+      let x = script_deeds turn d s at in
+      let one = seen_at turn.tx 1 x.0 d nothing_bound s x.2 in
+      let n : 1 + one.before ≡ suc one.before = omega arith in (
+        one.own,
+        ap (numbered turn.script.statements) (one.here ∙ n)
+            ∙ ap (λ (sts : List Statement). slice_get sts one.before)
+            (sym (deeds_are turn.script.statements turn.oracle x.0 x.1))
+            ∙ one.there,
+      )
+
+  pub seen_in : (turns : List Turn) (d : Database) (s : Sight) → In s (scripts_sights declared turns d)
+      → SeenIn turns s
+  seen_in [] d s at = absurd at
+  seen_in (turn ∷ more) d s at =
+      let rest = scripts_sights declared more in
+      let ran = script_run declared turn.script turn.oracle d in
+      elim (in_either (script_sights declared turn d) (seen_from ran rest) s at) [
+        | inl now ↦
+            let one = seen_in_script turn d s now in
+            record { turn = turn; at = inl refl; own = one.0; there = one.1 }
+        | inr later ↦
+            let next = in_from ran rest s later in
+            let r = seen_in more next.0 s next.1 in
+            record { turn = r.turn; at = inr r.at; own = r.own; there = r.there }
+      ]
