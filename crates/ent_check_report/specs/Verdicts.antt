@@ -1,5 +1,6 @@
 -- What a check of a text answers.
 use Rattle.std.specs.Prelude.{◌≡◌, ◌⊎◌, ℕ, List, Some, None}
+use Rattle.std.specs.Str.{IsUtf8}
 use Rattle.ent_history.specs.declared.history.History.{History}
 use Rattle.ent_history_form.specs.Fault.{IsNoReport}
 use Rattle.ent_history_form.specs.Stands.{Tells}
@@ -17,9 +18,9 @@ IsVerdictOn history (No line rule) =
     (finding : Finding) × (first_finding history ≡ Some finding) × (line ≡ line_of history finding.thing)
     × (rule ≡ finding.rule)
 
--- The text is no report, and this is the line at which it isn't; or it tells a history, and this is the verdict on
--- that.
+-- The text is no report, and this is the line at which it isn't; or it is one of whole characters, tells a history, and
+-- this is the verdict on that.
 abbrev pub IsVerdict : List ℕ → Verdict → Type 0
 IsVerdict text verdict =
     ((line : ℕ) × IsNoReport text line × (verdict ≡ No line Form))
-    ⊎ ((history : History) × Tells text history × IsVerdictOn history verdict)
+    ⊎ (IsUtf8 text × (history : History) × Tells text history × IsVerdictOn history verdict)

@@ -1,5 +1,6 @@
 //! The law of verdicts. Nothing here has a body; what holds is in the contracts.
 ghost use Rattle.std.specs.Prelude.{◌↔◌, ℕ, List};
+ghost use Rattle.std.specs.Str.{IsUtf8};
 ghost use Rattle.ent_check_report.specs.Verdicts.{IsVerdict};
 ghost use Rattle.ent_check_report.specs.declared.verdict.Verdict.TheVariants.{Yes};
 ghost use Rattle.ent_history.specs.declared.history.History.{History};
@@ -10,10 +11,11 @@ ghost use Rattle.ent_semantics.specs.Book.{IsLegal};
 use ent_report_laws::told_histories_are_formed;
 use ent_rules::nothing_is_found_where_books_are_legal;
 
-/// The verdict on a text is `yes` exactly where it tells of a legal book.
+/// The verdict on a text is `yes` exactly where it is one of whole characters and tells of a legal book.
 pub fn reports_that_are_right_tell_of_legal_books()
     ensures { (text : List ℕ)
-        → IsVerdict text Yes ↔ ((history : History) × Tells text history × IsLegal (book_of history)) }
+        → IsVerdict text Yes
+        ↔ (IsUtf8 text × (history : History) × Tells text history × IsLegal (book_of history)) }
 {
     told_histories_are_formed();
     nothing_is_found_where_books_are_legal();

@@ -21,6 +21,6 @@ some_left draft (x ∷ rest) empty is none due e = cc
 
 pub read_by : {E : Type 0} (bytes text : List ℕ) (result : Result (Result History ℕ) E) → text ≡ bytes → IsUtf8 bytes
     → IfOk result (λ read. IsTextRead text read) → IfOk result (λ read. IsReportRead bytes read)
-read_by bytes text (Ok (Ok history)) same whole told = subst (λ t. Tells t history) same told
+read_by bytes text (Ok (Ok history)) same whole told = (whole, subst (λ t. Tells t history) same told)
 read_by bytes text (Ok (Err number)) same whole fault = inr (whole, subst (λ t. HasFormFault t number) same fault)
 read_by bytes text (Err fault) same whole read = tt

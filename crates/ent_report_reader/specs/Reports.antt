@@ -1,5 +1,6 @@
 -- What is read of a whole text.
 use Rattle.std.specs.Prelude.{◌≡◌, ℕ, List, ◌++◌, Result, Ok, Err}
+use Rattle.std.specs.Str.{IsUtf8}
 use Rattle.ent_history.specs.declared.history.History.{History}
 use Rattle.ent_history_form.specs.Draft.{Draft, blank}
 use Rattle.ent_history_form.specs.Stands.{AllStand, Tells, whole}
@@ -23,5 +24,5 @@ IsTextRead text (Err number) = HasFormFault text number
 
 -- what a text tells, or the line at which it is no report
 abbrev pub IsReportRead : List ℕ → Result History ℕ → Type 0
-IsReportRead text (Ok history) = Tells text history
+IsReportRead text (Ok history) = IsUtf8 text × Tells text history
 IsReportRead text (Err number) = IsNoReport text number

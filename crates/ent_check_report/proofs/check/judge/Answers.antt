@@ -5,9 +5,9 @@ use Rattle.ent_check_report.proofs.check.judge.Goals as goal
 pub judge_history-requires-clause-formed : goal.judge_history-requires-clause-formed
 judge_history-requires-clause-formed c =
     c.told_histories_are_formed.ensures.opening c.args.text.now c.in-Ok.history
-    (subst (IsReportRead c.args.text.now) c.in-Ok.is c.in_ok-history.ensures)
+    (subst (IsReportRead c.args.text.now) c.in-Ok.is c.in_ok-history.ensures).1
 
 pub judge_history-requires-clause-resolved : goal.judge_history-requires-clause-resolved
 judge_history-requires-clause-resolved c =
     c.told_histories_are_formed.ensures.scripts c.args.text.now c.in-Ok.history
-    (subst (IsReportRead c.args.text.now) c.in-Ok.is c.in_ok-history.ensures)
+    (subst (IsReportRead c.args.text.now) c.in-Ok.is c.in_ok-history.ensures).1

@@ -27,10 +27,11 @@ returns c text = (
     | inr w ↦ (
       w.0,
       w.1,
-      (nothing w.0 (formed text w.0 w.1)).0 (none_found (findings w.0) w.2),
+      w.2,
+      (nothing w.1 (formed text w.1 w.2)).0 (none_found (findings w.1) w.3),
     )
   ],
-  λ w. inr (w.0, w.1, ap first_of ((nothing w.0 (formed text w.0 w.1)).1 w.2)),
+  λ w. inr (w.0, w.1, w.2, ap first_of ((nothing w.1 (formed text w.1 w.2)).1 w.3)),
 )
   where
     formed : (text : List ℕ) (history : History) → Tells text history → IsFormed history
