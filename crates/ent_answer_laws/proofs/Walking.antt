@@ -10,7 +10,7 @@ use Rattle.ent_tree.specs.declared.script.Statement.{Statement as TreeStatement}
 use Rattle.ent_tree.specs.declared.script.Statement.TheVariants as trees
 use Rattle.ent_semantics.specs.Database.{Environment}
 use Rattle.ent_semantics.specs.Entangled.{Valuation}
-use Rattle.ent_semantics.specs.Serial.{Deed, Sight, after, deed_first, deeds_of, is_entangled}
+use Rattle.ent_semantics.specs.Serial.{Deed, Sight, deed_first, deeds_of, is_entangled}
 use Rattle.ent_semantics.specs.Serial.{numbered, with_answer}
 use Rattle.ent_closed.specs.Closing.{closed}
 use Rattle.ent_closed.specs.Kinds.{Fits}
