@@ -1,6 +1,7 @@
 //! Laws of finished books. Nothing here has a body; what holds is in the contracts.
 ghost use Rattle.std.specs.Prelude.{◌≡◌, ◌≤◌, ◌<◌, ℕ, [], AllPairs, Contains, List, None, Ok, length};
 ghost use Rattle.std.specs.List.{AllByRecursion};
+ghost use Rattle.std.specs.Str.{IsUtf8};
 ghost use Rattle.ent_tree.specs.declared.script.Input.{Input};
 ghost use Rattle.ent_sql.specs.Reading.{reading};
 ghost use Rattle.ent_form.specs.Catalogue.{schemas_of};
@@ -69,7 +70,8 @@ pub fn read_openings_can_be_shown()
 }
 
 /// A book whose opening and scripts a text says, without a fault of form, can be reported, where each script has its
-/// fate after 1 to 1,000 runs, joint answers name their members by number, and the report isn't too long.
+/// fate after 1 to 1,000 runs, joint answers name their members by number, and the report is a text of whole characters
+/// that isn't too long.
 pub fn books_over_texts_can_be_reported()
     ensures { (text : List ℕ) (book : Book Database)
         → reading text ≡ Ok (record { opening = book.opening; scripts = book.scripts })
@@ -80,6 +82,7 @@ pub fn books_over_texts_can_be_reported()
         → ((joint : JointAnswer) → Contains book.joint_answers joint
         → AllPairs (λ (first second : Member). first.tx < second.tx) joint.members)
         → length (report_2_text book) ≤ 1099511627776
+        → IsUtf8 (report_2_text book)
         → CanBeReported book }
 {
     read_openings_can_be_shown();
@@ -87,13 +90,14 @@ pub fn books_over_texts_can_be_reported()
 }
 
 /// A finished book over an input that is read from a text and whose opening has no fault of form can be reported, where
-/// the report isn't too long.
+/// the report is a text of whole characters that isn't too long.
 pub fn finished_books_can_be_reported()
     ensures { (text : List ℕ) (input : Input) (book : Book Database)
         → reading text ≡ Ok input
         → opening_fault input.opening ≡ None
         → IsFinishedBook resolved_forms input.opening input.scripts book
         → length (report_2_text book) ≤ 1099511627776
+        → IsUtf8 (report_2_text book)
         → CanBeReported book }
 {
     joint_answers_come_by_number::<FormFault>();
@@ -112,6 +116,7 @@ pub fn reports_of_finished_books_are_right()
         → opening_fault input.opening ≡ None
         → IsFinishedBook resolved_forms input.opening input.scripts book
         → length (report_2_text book) ≤ 1099511627776
+        → IsUtf8 (report_2_text book)
         → IsVerdict (report_2_text book) Yes }
 {
     finished_books_are_legal();

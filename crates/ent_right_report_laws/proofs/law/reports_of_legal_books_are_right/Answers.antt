@@ -35,4 +35,4 @@ returns c book legal reported =
     } in
     let told = tells_legal laws book legal reported in
     (c.reports_that_are_right_tell_of_legal_books.ensures (report_2_text book)).1
-    (told_by (unplaced_book book), told.0, told.1)
+    (reported.characters, told_by (unplaced_book book), told.0, told.1)
