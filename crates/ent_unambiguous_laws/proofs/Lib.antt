@@ -1,0 +1,11 @@
+mod Known
+mod Fronts
+mod Bindings
+mod InLines
+mod Lines
+mod AnswerTexts
+mod Scripts
+mod Sorts
+mod Steps
+mod Runs
+mod Verdicts
