@@ -4,7 +4,8 @@ use crate::words::{Asked, AskedRun, asked_of, command};
 use clap::Error;
 use clap::error::ErrorKind;
 use ent_check_report::check_report;
-use ent_engine::{FaultLine, RunFault, run_workers};
+use ent_engine::{FaultLine, RunFault, RunOptions, run_watched, run_workers};
+use ent_trace::Trace;
 use ent_value::Watched;
 use std::alloc::Global;
 use std::env::Env;
@@ -69,12 +70,19 @@ fn show_command_line<R: Print + Eprint>(rt: &R, fault: &Error) -> Ending {
 }
 
 /// Runs the scripts of standard input.
-fn run<R: AllocGlobal + Input + Print, T: Threads + Wait + Sync>(
+fn run<R: AllocGlobal + Input + Print + Eprint, T: Threads + Wait + Sync>(
     rt: &R,
     threads: &T,
     asked: AskedRun,
 ) -> Result<(), RunFault> {
-    let AskedRun { workers, options } = asked;
+    let AskedRun {
+        workers,
+        is_traced,
+        options,
+    } = asked;
+    if is_traced {
+        return run_traced(rt, options);
+    }
     let mut reader = Watched::new(rt.reader());
     let mut writer = Watched::new(io::writer(rt));
     if workers == 0 {
@@ -88,6 +96,26 @@ fn run<R: AllocGlobal + Input + Print, T: Threads + Wait + Sync>(
         workers,
         options.report,
     )
+}
+
+/// Runs the scripts of standard input on one thread, and writes each event and its reply to standard error, also where
+/// the run comes to a fault. Where not all of that could be written, this is a fault of the writer, though the report
+/// was.
+fn run_traced<R: AllocGlobal + Input + Print + Eprint>(
+    rt: &R,
+    options: RunOptions,
+) -> Result<(), RunFault> {
+    let mut reader = Watched::new(rt.reader());
+    let mut writer = Watched::new(io::writer(rt));
+    let mut trace = Trace::new(rt.alloc(), rt);
+    let ran = run_watched(rt.alloc(), &mut reader, &mut writer, options, &mut trace);
+    let is_whole = trace.close();
+    ran?;
+    if is_whole {
+        Ok(())
+    } else {
+        Err(RunFault::WriteFault)
+    }
 }
 
 /// Checks the report of standard input, and prints the verdict in a line.

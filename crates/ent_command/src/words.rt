@@ -1,7 +1,7 @@
 //! The words that the command line takes, and what they ask of a run.
 
 use clap::builder::ValueParser;
-use clap::{Arg, ArgMatches, Command};
+use clap::{Arg, ArgAction, ArgMatches, Command};
 use ent_engine::{DEFAULT_TRIES, ReportVersion, RunOptions};
 use std::alloc::{AllocError, Global};
 
@@ -22,7 +22,8 @@ const EXAMPLE: &str = "Example:
 const CHECK_EXAMPLE: &str = "Example:
   entangle run --report 2 < friends.sql | entangle check";
 
-/// The program's words: the subcommand `run` with its options, each a whole number in its range, and `check`.
+/// The program's words: the subcommand `run` with its options, each a whole number in its range but for `--trace`, and
+/// `check`.
 pub(crate) fn command<'a>(alloc: Global) -> Result<Command<'a>, AllocError> {
     let run = Command::new(alloc, "run")
         .about(
@@ -31,6 +32,7 @@ pub(crate) fn command<'a>(alloc: Global) -> Result<Command<'a>, AllocError> {
         .arg(workers(alloc))?
         .arg(report(alloc))?
         .arg(tries(alloc))?
+        .arg(trace(alloc)?)?
         .after_help(EXAMPLE);
     let check = Command::new(alloc, "check")
         .about(
@@ -76,6 +78,16 @@ fn tries<'a>(alloc: Global) -> Arg<'a> {
         )
 }
 
+fn trace<'a>(alloc: Global) -> Result<Arg<'a>, AllocError> {
+    Arg::new(alloc, "trace")
+        .long("trace")
+        .action(ArgAction::SetTrue)
+        .help(
+            "Writes each event of the run and its reply to standard error, a line each; not with --workers",
+        )
+        .conflicts_with("workers")
+}
+
 /// What the words ask for.
 pub(crate) enum Asked {
     /// A run of the scripts of standard input.
@@ -88,6 +100,8 @@ pub(crate) enum Asked {
 pub(crate) struct AskedRun {
     /// How many threads run the scripts; with 0 they run on one thread.
     pub(crate) workers: usize,
+    /// Whether events and replies are written to standard error.
+    pub(crate) is_traced: bool,
     pub(crate) options: RunOptions,
 }
 
@@ -99,11 +113,13 @@ pub(crate) fn asked_of<'a>(matches: &ArgMatches<'a>) -> Asked {
     let Some(run) = matches.subcommand_matches("run") else {
         return Asked::Run(AskedRun {
             workers: 0,
+            is_traced: false,
             options: RunOptions::default(),
         });
     };
     Asked::Run(AskedRun {
         workers: number(run, "workers", 0) as usize,
+        is_traced: run.get_flag("trace"),
         options: RunOptions {
             tries: number(run, "tries", DEFAULT_TRIES),
             report: match number(run, "report", 1) {

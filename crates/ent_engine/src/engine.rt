@@ -11,9 +11,45 @@ use crate::reader::read_whole;
 use crate::runs::{run_out, submit_all};
 use crate::writer::write_book;
 use ent_book::WriteFault;
+use ent_sched::{Silent, Watcher};
 use ent_value::{Refusal, Watched};
 use std::alloc::Global;
 use std::io::{Read, Write};
+
+/// As [`run`]; and a watcher is told each event of the core that is run, with its reply, in order.
+pub fn run_watched<R: Read, W: Write, T: Watcher>(
+    alloc: Global,
+    reader: &mut Watched<R>,
+    writer: &mut Watched<W>,
+    options: RunOptions,
+    watcher: &mut T,
+) -> Result<(), RunFault>
+    requires reader_unmarked { IsUnmarked reader.old }
+    requires writer_unmarked { IsUnmarked writer.old }
+    ensures report { OnOk result (IfSome (R.remaining reader.old.inner) (λ bytes.
+        WritesReport options.report bytes (W.contents writer.old.inner) (W.contents writer.new.inner))) }
+    ensures refused { IfErr result (λ fault. IfSome (R.remaining reader.old.inner) (λ bytes. IsRefused bytes fault)) }
+    // A fault of the reader is answered exactly where that one failed; one of the writer exactly where that one failed
+    // or took no byte.
+    ensures reader_marks { IsReaderMarkedBy result reader.new }
+    ensures writer_marks { IsWriterMarkedBy result writer.new }
+    // Nothing is written but where the writer failed; then it is a beginning of the report.
+    ensures silent { IfErr result (λ fault.
+        IsSilent (W.contents writer.old.inner) (W.contents writer.new.inner) fault) }
+    ensures beginning { IfErr result (λ fault. IfSome (R.remaining reader.old.inner) (λ bytes.
+        WritesBeginning options.report bytes (W.contents writer.old.inner) (W.contents writer.new.inner) fault)) }
+{
+    let bytes = read_whole(alloc, reader)?;
+    let input = parse(alloc, bytes.as_slice())?;
+    drop(bytes);
+    let core = submit_all(alloc, input)?;
+    let book = run_out(alloc, core, options.tries, watcher)?;
+    match write_book(alloc, &book, options.report, writer) {
+        Ok(()) => Ok(()),
+        Err(Refusal::Memory) => Err(RunFault::Memory),
+        Err(Refusal::Fault(WriteFault)) => Err(RunFault::WriteFault),
+    }
+}
 
 /// Reads an input whole, submits its scripts in order, runs them until each has its fate, and writes their report.
 ///
@@ -42,14 +78,5 @@ pub fn run<R: Read, W: Write>(
     ensures beginning { IfErr result (λ fault. IfSome (R.remaining reader.old.inner) (λ bytes.
         WritesBeginning options.report bytes (W.contents writer.old.inner) (W.contents writer.new.inner) fault)) }
 {
-    let bytes = read_whole(alloc, reader)?;
-    let input = parse(alloc, bytes.as_slice())?;
-    drop(bytes);
-    let core = submit_all(alloc, input)?;
-    let book = run_out(alloc, core, options.tries)?;
-    match write_book(alloc, &book, options.report, writer) {
-        Ok(()) => Ok(()),
-        Err(Refusal::Memory) => Err(RunFault::Memory),
-        Err(Refusal::Fault(WriteFault)) => Err(RunFault::WriteFault),
-    }
+    run_watched(alloc, reader, writer, options, &mut Silent)
 }

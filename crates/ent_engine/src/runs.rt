@@ -12,7 +12,7 @@ use crate::fault::RunFault;
 use ent_book::NamedTable;
 use ent_endings::events_lead_on;
 use ent_form::FormFault;
-use ent_sched::{Core, Played, run_all};
+use ent_sched::{Core, Counted, Played, Watcher, run_all_watched};
 use ent_semantics::Book;
 use ent_tree::Input;
 use ent_value::{Refusal, Sequence};
@@ -35,27 +35,28 @@ pub(crate) fn submit_all(alloc: Global, input: Input) -> Result<Core, RunFault>
     }
 }
 
-/// Runs the scripts of a core until each has its fate. Where memory runs out, the core that comes back is run on, as
-/// long as there are tries left.
-pub(crate) fn run_out(
+/// Runs the scripts of a core until each has its fate; the watcher is told of each event. Where memory runs out, the core
+/// that comes back is run on, as long as there are tries left.
+pub(crate) fn run_out<T: Watcher>(
     alloc: Global,
     core: Core,
     tries: u64,
+    watcher: &mut T,
 ) -> Result<Book<Sequence<NamedTable>>, AllocError>
     ensures book { IfOk result (λ book. IsRunOut resolved_forms core (book_seen book)) }
     ensures fates { IfOk result (λ book. HaveFates (book_seen book)) }
     ensures legal { IfOk result (λ book. IsLegal (book_seen book)) }
 {
     events_lead_on::<FormFault>();
-    let mut core = core;
+    let mut counted = Counted::new(core);
     for _ in 1..tries {
-        match run_all(alloc, core) {
-            Ok(book) => return Ok(book),
-            Err(AllocFailed { value }) => core = value,
+        match run_all_watched(alloc, counted, watcher) {
+            Ok(made) => return Ok(made.book),
+            Err(AllocFailed { value }) => counted = value,
         }
     }
-    match run_all(alloc, core) {
-        Ok(book) => Ok(book),
+    match run_all_watched(alloc, counted, watcher) {
+        Ok(made) => Ok(made.book),
         Err(_) => Err(AllocError),
     }
 }

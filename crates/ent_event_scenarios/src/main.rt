@@ -3,7 +3,6 @@
 //! writes the replies.
 #![tactic(auto)]
 
-mod answer;
 mod close;
 mod event;
 mod input;
@@ -13,7 +12,6 @@ mod played;
 mod reply;
 mod scenario;
 mod script;
-mod shown;
 mod told;
 
 use crate::scenario::replies;

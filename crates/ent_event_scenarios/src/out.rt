@@ -1,9 +1,9 @@
 //! Lines that are written, until something stops them. A writer here doesn't fail: it marks the lines as stopped.
 use anyhow::{Context, Result, bail};
-use ent_group::{Members, Tx};
-use ent_value::{Name, Row, Value, print_row, print_value};
+use ent_group::Members;
+use ent_trace::Text;
+use ent_value::Name;
 use std::alloc::Global;
-use std::io::Write;
 
 /// Why a scenario isn't played on.
 #[derive(Clone, Copy)]
@@ -32,10 +32,11 @@ impl Stop {
     }
 }
 
-/// Lines, the number of the line of the scenario that they are of, and why they were stopped.
+/// Lines, the number of the line of the scenario that they are of, and why they were stopped. They are stopped too
+/// where memory ran out for one of them.
 #[derive(Drop)]
 pub(crate) struct Out {
-    bytes: Vec<u8>,
+    pub(crate) text: Text,
     line: usize,
     stop: Option<Stop>,
 }
@@ -43,23 +44,24 @@ pub(crate) struct Out {
 impl Out {
     pub(crate) fn new(alloc: Global) -> Self {
         Out {
-            bytes: Vec::new(alloc),
+            text: Text::new(alloc),
             line: 0,
             stop: None,
         }
     }
 
     pub(crate) fn bytes(&self) -> &[u8] {
-        self.bytes.as_slice()
+        self.text.bytes()
     }
 
     /// What was written; or the line at which it was stopped, and why.
     pub(crate) fn into_text(self) -> Result<String> {
-        let Out { bytes, line, stop } = self;
-        if let Some(stop) = stop {
+        let told = self.told();
+        let Out { text, line, .. } = self;
+        if let Some(stop) = told {
             bail!("line {line}: {}", stop.words());
         }
-        String::from_utf8(bytes).context("the replies aren't UTF-8")
+        String::from_utf8(text.into_bytes()).context("the replies aren't UTF-8")
     }
 
     /// What is written next is of the next line, unless all was stopped before.
@@ -69,8 +71,16 @@ impl Out {
         }
     }
 
+    /// Why they were stopped.
+    fn told(&self) -> Option<Stop> {
+        match self.stop {
+            None if self.text.is_cut_off() => Some(Stop::Memory),
+            stop => stop,
+        }
+    }
+
     pub(crate) fn is_stopped(&self) -> bool {
-        self.stop.is_some()
+        self.told().is_some()
     }
 
     /// The first stop is the one that is told.
@@ -80,68 +90,35 @@ impl Out {
         }
     }
 
-    fn stop_unless(&mut self, is_written: bool) {
-        if !is_written {
-            self.stop(Stop::Memory);
-        }
-    }
-
     pub(crate) fn put_bytes(&mut self, bytes: &[u8]) {
-        let is_written = self.bytes.extend_from_slice(bytes).is_ok();
-        self.stop_unless(is_written);
+        self.text.put_bytes(bytes);
     }
 
     pub(crate) fn put(&mut self, text: &str) {
-        self.put_bytes(text.as_bytes());
+        self.text.put(text);
     }
 
     pub(crate) fn put_count(&mut self, count: u64) {
-        let is_written = write!(self.bytes, "{count}").is_ok();
-        self.stop_unless(is_written);
+        self.text.put_count(count);
     }
 
     /// A word, a blank and a number.
     pub(crate) fn put_number(&mut self, word: &str, number: u64) {
-        self.put(word);
-        self.put(" ");
-        self.put_count(number);
+        self.text.put_number(word, number);
     }
 
     /// A word, and each transaction behind a blank.
     pub(crate) fn put_members(&mut self, word: &str, members: &Members) {
-        self.put(word);
-        self.put_transactions(members.as_slice());
+        self.text.put_members(word, members);
     }
 
-    fn put_transactions(&mut self, transactions: &[Tx]) {
-        for tx in transactions {
-            self.put_number("", *tx);
-        }
-    }
-
-    /// A fault and its place, as `E305 at 26`.
-    pub(crate) fn put_fault(&mut self, code: u16, place: usize) {
-        self.put("E");
-        self.put_count(code as u64);
-        self.put_number(" at", place as u64);
-    }
-
+    /// A line of a fault and its place, as `E305 at 26`.
     pub(crate) fn put_fault_line(&mut self, code: u16, place: usize) {
-        self.put_fault(code, place);
-        self.put("\n");
+        self.text.put_fault(code, place);
+        self.text.put("\n");
     }
 
     pub(crate) fn put_name(&mut self, name: &Name) {
-        self.put_bytes(name.as_bytes());
-    }
-
-    pub(crate) fn put_value(&mut self, alloc: Global, value: &Value) {
-        let is_written = print_value(alloc, &mut self.bytes, value).is_ok();
-        self.stop_unless(is_written);
-    }
-
-    pub(crate) fn put_row(&mut self, alloc: Global, row: &Row) {
-        let is_written = print_row(alloc, &mut self.bytes, row).is_ok();
-        self.stop_unless(is_written);
+        self.text.put_name(name);
     }
 }

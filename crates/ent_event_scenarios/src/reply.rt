@@ -3,10 +3,10 @@ ghost use Rattle.std.specs.Prelude.{◌≡◌, IfSome};
 ghost use Rattle.ent_protocol.specs.Job.{IsEvaluated};
 
 use crate::out::{Out, Stop};
-use crate::shown::put_reply;
 use ent_core::Reply;
 use ent_eval::{Done, evaluate};
 use ent_job::Job;
+use ent_trace::put_reply;
 use ent_value::Sequence;
 use std::alloc::Global;
 
@@ -88,7 +88,7 @@ pub(crate) fn push_reply(replies: &mut Sequence<Reply>, reply: Reply, out: &mut 
 pub(crate) fn put_replies(alloc: Global, out: &mut Out, replies: &[Reply]) {
     let mut next = 1u64;
     for reply in replies {
-        put_reply(alloc, out, reply, next);
+        put_reply(alloc, &mut out.text, reply, next);
         if job_of(reply).is_some() {
             next = next.saturating_add(1);
         }
@@ -104,6 +104,6 @@ pub(crate) fn put_last(alloc: Global, out: &mut Out, replies: &[Reply]) {
         }
     }
     if let Some(reply) = replies.last() {
-        put_reply(alloc, out, reply, lent);
+        put_reply(alloc, &mut out.text, reply, lent);
     }
 }

@@ -1,13 +1,12 @@
 //! Look-ups, each as a line has it.
-use crate::answer::{put_answers, put_rows};
 use crate::line::LookUp;
 use crate::out::{Out, Stop};
-use crate::shown::failure_name;
 use ent_core::{Core, Standing};
 use ent_group::Tx;
 use ent_next::Turn;
 use ent_rel::Table;
 use ent_semantics::Fate;
+use ent_trace::{failure_name, put_answers, put_rows};
 use ent_tree::MOST_SCRIPTS;
 use ent_value::{Name, is_word};
 use std::alloc::Global;
@@ -87,7 +86,7 @@ fn put_fate(out: &mut Out, fate: Fate) {
 
 fn put_answers_of(alloc: Global, out: &mut Out, core: &Core, tx: Tx) {
     out.put_number("answers", tx);
-    put_answers(alloc, out, core.answers(tx));
+    put_answers(alloc, &mut out.text, core.answers(tx));
 }
 
 /// The table of a name; none where no table is declared by it.
@@ -110,7 +109,7 @@ fn put_table(alloc: Global, out: &mut Out, name: &Name, table: &Table) {
     out.put_name(name);
     out.put_number("", table.len() as u64);
     match table.rows(alloc) {
-        Ok(rows) => put_rows(alloc, out, rows.as_slice()),
+        Ok(rows) => put_rows(alloc, &mut out.text, rows.as_slice()),
         Err(_) => out.stop(Stop::Memory),
     }
 }
@@ -119,7 +118,7 @@ fn put_entry(alloc: Global, out: &mut Out, core: &Core, number: usize) {
     match core.entry(number) {
         Some(entry) => {
             out.put_number("entry", entry.tx);
-            put_answers(alloc, out, entry.answers.as_slice());
+            put_answers(alloc, &mut out.text, entry.answers.as_slice());
         }
         None => out.put("entry none"),
     }

@@ -9,7 +9,7 @@ use Rattle.ent_protocol.specs.State.{State}
 use Rattle.ent_sched.specs.Onward.{TicksOn}
 use Rattle.ent_sched.specs.Tally.{MakesEvent, Tally}
 
-ticked_none : (ticks : ℕ) → ticks < 2 ^ 64 → ticks ≡ ticked 0 ticks
+pub ticked_none : (ticks : ℕ) → ticks < 2 ^ 64 → ticks ≡ ticked 0 ticks
 ticked_none ticks bound = grind (arith, nat_tests)
 
 pub ticked_twice : (n m ticks : ℕ) → ticked m (ticked n ticks) ≡ ticked (n + m) ticks

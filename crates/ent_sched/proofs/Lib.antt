@@ -1,9 +1,10 @@
 pub mod Adding
 pub mod Counting
 pub mod Moving
+pub mod NoneLent
 pub mod Running
 pub mod Spent
 pub mod Started
 pub mod Staying
-pub mod Told
 pub mod Turning
+pub mod Watched

@@ -1,6 +1,5 @@
 -- A recall and runs, as far as they have come.
-use Rattle.std.proofs.Common.{◌≡◌, ◌∙◌, ◌+◌, ℕ, List, [], ◌∷◌, ◌++◌, map, refl, sym, ap, subst, arith, false}
-use Rattle.std.specs.Prelude.{sum}
+use Rattle.std.proofs.Common.{◌≡◌, ◌∙◌, ◌+◌, ℕ, List, [], ◌∷◌, ◌++◌, map, refl, ap, subst, arith, false}
 use Rattle.std.proofs.lemmas.List.Sums.{sum_by-append}
 use Rattle.ent_value.specs.Ticks.{ticked}
 use Rattle.ent_semantics.specs.Database.{Database}

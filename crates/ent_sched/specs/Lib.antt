@@ -6,3 +6,4 @@ pub mod RunOut
 pub mod Runs
 pub mod Tally
 pub mod Tries
+pub mod Watching

@@ -2,16 +2,19 @@
 ghost use Rattle.std.specs.Prelude.{◌≡◌, ℕ, IfErr, IfOk};
 ghost use Rattle.ent_book.specs.Tables.{book_seen};
 ghost use Rattle.ent_endings.specs.Fates.{HaveFates};
-ghost use Rattle.ent_protocol.specs.Reached.{IsFinishedBook, scripts_of};
+ghost use Rattle.ent_protocol.specs.Reached.{IsFinishedBook, book_of, scripts_of};
 ghost use Rattle.ent_resolved.specs.Resolved.{resolved_forms};
 ghost use Rattle.ent_sched.specs.Onward.{LeadsOn};
 ghost use Rattle.ent_sched.specs.RunOut.{IsRunOut};
 ghost use Rattle.ent_sched.specs.Runs.{RunsInto, RunsOut};
+ghost use Rattle.ent_sched.specs.Tally.{Tally};
+ghost use Rattle.ent_sched.specs.Watching.{IsWatched};
 ghost use Rattle.ent_semantics.specs.Book.{IsLegal};
 ghost use Rattle.ent_value.specs.Ticks.{ticked};
 
 use crate::counted::{Counted, CountedBook, NotClosedYet};
-use crate::one_run::run;
+use crate::one_run::run_watched;
+use crate::watcher::{Silent, Watcher};
 use ent_book::NamedTable;
 use ent_core::Core;
 use ent_endings::{events_keep_the_input, events_lead_on, finished_scripts_have_fates};
@@ -20,11 +23,13 @@ use ent_semantics::Book;
 use ent_value::{Refusal, Sequence};
 use std::alloc::{AllocFailed, Global};
 
-/// What [`run_all`] does, of a core whose events are counted: the count goes up by the events that are made, each of
-/// which is the recall or stands in a run.
-pub fn run_all_counted(
+/// What [`run_all`] does, of a core whose events are counted, and of which a watcher is told: the count goes up by the
+/// events that are made, each of which is the recall or stands in a run; and the watcher hears of each of them with its
+/// reply, in order, and of nothing else.
+pub fn run_all_watched<W: Watcher>(
     alloc: Global,
     mut counted: Counted,
+    watcher: &mut W,
 ) -> Result<CountedBook, AllocFailed<Counted>>
     ensures runs { IfOk result (λ made. (count : ℕ)
         × RunsOut resolved_forms count counted.core (book_seen made.book)
@@ -38,11 +43,17 @@ pub fn run_all_counted(
         × LeadsOn resolved_forms count counted.core refused.value.core
         × RunsInto resolved_forms count counted.core refused.value.core
         × (refused.value.ticks ≡ ticked count counted.ticks)) }
+    ensures watched { IfOk result (λ made. (last : Tally)
+        × IsWatched resolved_forms W.hears counted last watcher.old watcher.new
+        × (book_seen made.book ≡ book_of last.core)
+        × (made.ticks ≡ last.ticks)) }
+    ensures watched_so_far { IfErr result (λ refused.
+        IsWatched resolved_forms W.hears counted refused.value watcher.old watcher.new) }
 {
     events_keep_the_input::<FormFault>();
     events_lead_on::<FormFault>();
     finished_scripts_have_fates::<FormFault>();
-    counted.recall();
+    drop(counted.recall_watched(watcher));
     'runs: loop {
         counted.is_reached();
         match counted.close() {
@@ -58,10 +69,29 @@ pub fn run_all_counted(
                 }
             }
         }
-        if run(alloc, &mut counted).is_err() {
+        if run_watched(alloc, &mut counted, watcher).is_err() {
             return Err(AllocFailed { value: counted });
         }
     }
+}
+
+/// What [`run_all`] does, of a core whose events are counted: the count goes up by the events that are made, each of
+/// which is the recall or stands in a run.
+pub fn run_all_counted(alloc: Global, counted: Counted) -> Result<CountedBook, AllocFailed<Counted>>
+    ensures runs { IfOk result (λ made. (count : ℕ)
+        × RunsOut resolved_forms count counted.core (book_seen made.book)
+        × (made.ticks ≡ ticked count counted.ticks)) }
+    ensures book { IfOk result (λ made. IsRunOut resolved_forms counted.core (book_seen made.book)) }
+    ensures finished { IfOk result (λ made.
+        IsFinishedBook resolved_forms counted.core.opening (scripts_of counted.core) (book_seen made.book)) }
+    ensures fates { IfOk result (λ made. HaveFates (book_seen made.book)) }
+    ensures legal { IfOk result (λ made. IsLegal (book_seen made.book)) }
+    ensures handed_back { IfErr result (λ refused. (count : ℕ)
+        × LeadsOn resolved_forms count counted.core refused.value.core
+        × RunsInto resolved_forms count counted.core refused.value.core
+        × (refused.value.ticks ≡ ticked count counted.ticks)) }
+{
+    run_all_watched(alloc, counted, &mut Silent)
 }
 
 /// Runs the scripts of a core until each has its fate, and closes it: its finished book. Jobs that are lent are taken

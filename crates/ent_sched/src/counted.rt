@@ -17,6 +17,7 @@ ghost use Rattle.ent_semantics.specs.Book.{IsLegal};
 ghost use Rattle.ent_standing.specs.Attempts.{AsksForRun};
 ghost use Rattle.ent_value.specs.declared.refusal.Refusal.TheVariants.{Fault};
 
+use crate::watcher::{Silent, Told, Watcher};
 use ent_book::NamedTable;
 use ent_core::{Core, NotClosed, NotDone, Reply, Standing};
 use ent_eval::Done;
@@ -27,8 +28,8 @@ use std::alloc::{AllocError, AllocFailed};
 use std::marker::Model;
 
 /// A core, and how many events were made of it since it was counted. Whoever has it makes an event of the core only by
-/// a call of this type, and each such call ticks once, also where the event changes nothing. Where memory runs out no
-/// event was made, and nothing ticks.
+/// a call of this type, and each such call ticks once, also where the event changes nothing, and tells the watcher that
+/// it is passed. Where memory runs out no event was made, nothing ticks and nothing is told.
 #[derive(Drop)]
 pub struct Counted {
     core: Core,
@@ -117,31 +118,45 @@ impl Counted {
     pub fn recall(&mut self) -> Reply
         ensures { MakesEvent resolved_forms Recall (reply_seen result) self.old self.new }
     {
+        self.recall_watched(&mut Silent)
+    }
+
+    /// The same, and a watcher is told.
+    pub(crate) fn recall_watched<W: Watcher>(&mut self, watcher: &mut W) -> Reply
+        ensures made { MakesEvent resolved_forms Recall (reply_seen result) self.old self.new }
+        ensures told { W.hears watcher.old (Recall, reply_seen result) watcher.new }
+    {
         let reply = self.core.recall();
         self.ticks.add();
+        watcher.tell(Told::Recall, &reply);
         reply
     }
 
     /// Starts a run, or is refused.
-    pub(crate) fn start_run(&mut self) -> Result<Reply, AllocError>
+    pub(crate) fn start_run<W: Watcher>(&mut self, watcher: &mut W) -> Result<Reply, AllocError>
         ensures ok { IfOk result (λ reply.
             MakesEvent resolved_forms StartRun (reply_seen reply) self.old self.new) }
         ensures err { OnErr result (self.new ≡ self.old) }
+        ensures told { IfOk result (λ reply. W.hears watcher.old (StartRun, reply_seen reply) watcher.new) }
+        ensures untold { OnErr result (watcher.new ≡ watcher.old) }
     {
         let reply = self.core.start_run()?;
         self.ticks.add();
+        watcher.tell(Told::StartRun, &reply);
         Ok(reply)
     }
 
-    /// Whether another member is in the way of a member. Where it is, the begin of the member is refused: this is that
-    /// event, which changes nothing. Else nothing is made.
-    pub(crate) fn is_begin_blocked(&mut self, tx: Tx) -> bool
+    /// Whether another member is in the way of a member, for a watcher that doesn't listen. Where it is, the begin of
+    /// the member is refused: this is that event, which changes nothing. Else nothing is made; nor for a watcher that
+    /// listens, which wants to be told who is in the way.
+    pub(crate) fn is_begin_blocked<W: Watcher>(&mut self, watcher: &W, tx: Tx) -> bool
         ensures blocked { result ≡ true → (holder : ℕ)
-            × MakesEvent resolved_forms (Begin tx) (Blocked holder) self.old self.new }
+            × MakesEvent resolved_forms (Begin tx) (Blocked holder) self.old self.new
+            × W.hears watcher.now (Begin tx, Blocked holder) watcher.now }
         ensures same { self.new.core ≡ self.old.core }
         ensures free { result ≡ false → self.new ≡ self.old }
     {
-        if self.core.is_blocked(tx) {
+        if !watcher.listens() && self.core.is_blocked(tx) {
             self.ticks.add();
             return true;
         }
@@ -149,67 +164,94 @@ impl Counted {
     }
 
     /// A member begins its next statement, or is refused.
-    pub(crate) fn begin(&mut self, tx: Tx) -> Result<Reply, AllocError>
+    pub(crate) fn begin<W: Watcher>(&mut self, watcher: &mut W, tx: Tx) -> Result<Reply, AllocError>
         ensures ok { IfOk result (λ reply.
             MakesEvent resolved_forms (Begin tx) (reply_seen reply) self.old self.new) }
         ensures err { OnErr result (self.new ≡ self.old) }
+        ensures told { IfOk result (λ reply. W.hears watcher.old (Begin tx, reply_seen reply) watcher.new) }
+        ensures untold { OnErr result (watcher.new ≡ watcher.old) }
     {
         let reply = self.core.begin(tx)?;
         self.ticks.add();
+        watcher.tell(Told::Begin(tx), &reply);
         Ok(reply)
     }
 
     /// Takes the result of the statement whose job alone is lent.
-    pub(crate) fn finish_at_once(&mut self, done: Done) -> Result<Reply, AllocFailed<Done>>
+    pub(crate) fn finish_at_once<W: Watcher>(
+        &mut self,
+        watcher: &mut W,
+        done: Done,
+    ) -> Result<Reply, AllocFailed<Done>>
         requires { self.old.core.lent ≡ done.job ∷ [] }
         ensures ok { IfOk result (λ reply.
             MakesEvent resolved_forms (Finish done) (reply_seen reply) self.old self.new) }
         ensures err { OnErr result (self.new ≡ self.old) }
+        ensures told { IfOk result (λ reply. W.hears watcher.old (Finish done, reply_seen reply) watcher.new) }
+        ensures untold { OnErr result (watcher.new ≡ watcher.old) }
     {
+        let mark = watcher.mark(&done);
         let reply = self.core.finish_at_once(done)?;
         self.ticks.add();
+        watcher.tell(Told::Finish(mark), &reply);
         Ok(reply)
     }
 
     /// Lends the job of a component, where one can be picked.
-    pub(crate) fn pick(&mut self) -> Result<Reply, AllocError>
+    pub(crate) fn pick<W: Watcher>(&mut self, watcher: &mut W) -> Result<Reply, AllocError>
         ensures ok { IfOk result (λ reply. MakesEvent resolved_forms Pick (reply_seen reply) self.old self.new) }
         ensures err { OnErr result (self.new ≡ self.old) }
+        ensures told { IfOk result (λ reply. W.hears watcher.old (Pick, reply_seen reply) watcher.new) }
+        ensures untold { OnErr result (watcher.new ≡ watcher.old) }
     {
         let reply = self.core.pick()?;
         self.ticks.add();
+        watcher.tell(Told::Pick, &reply);
         Ok(reply)
     }
 
     /// Takes the result of the component whose job alone is lent.
-    pub(crate) fn join_answer_at_once(&mut self, done: Done) -> Result<Reply, AllocFailed<Done>>
+    pub(crate) fn join_answer_at_once<W: Watcher>(
+        &mut self,
+        watcher: &mut W,
+        done: Done,
+    ) -> Result<Reply, AllocFailed<Done>>
         requires alone { self.old.core.lent ≡ done.job ∷ [] }
         requires outstanding { IsOutstandingJoint self.old.core done }
         ensures ok { IfOk result (λ reply.
             MakesEvent resolved_forms (JoinAnswer done) (reply_seen reply) self.old self.new) }
         ensures err { OnErr result (self.new ≡ self.old) }
+        ensures told { IfOk result (λ reply. W.hears watcher.old (JoinAnswer done, reply_seen reply) watcher.new) }
+        ensures untold { OnErr result (watcher.new ≡ watcher.old) }
     {
+        let mark = watcher.mark(&done);
         let reply = self.core.join_answer_at_once(done)?;
         self.ticks.add();
+        watcher.tell(Told::JoinAnswer(mark), &reply);
         Ok(reply)
     }
 
     /// Breaks a deadlock, where there is one. It takes no memory.
-    pub(crate) fn break_cycle(&mut self) -> Reply
-        ensures { MakesEvent resolved_forms BreakCycle (reply_seen result) self.old self.new }
+    pub(crate) fn break_cycle<W: Watcher>(&mut self, watcher: &mut W) -> Reply
+        ensures made { MakesEvent resolved_forms BreakCycle (reply_seen result) self.old self.new }
+        ensures told { W.hears watcher.old (BreakCycle, reply_seen result) watcher.new }
     {
         let reply = self.core.break_cycle();
         self.ticks.add();
+        watcher.tell(Told::BreakCycle, &reply);
         reply
     }
 
     /// Ends the run where it is quiet, or is refused.
-    pub(crate) fn end_run(&mut self) -> Result<Reply, AllocError>
+    pub(crate) fn end_run<W: Watcher>(&mut self, watcher: &mut W) -> Result<Reply, AllocError>
         ensures ok { IfOk result (λ reply. MakesEvent resolved_forms EndRun (reply_seen reply) self.old self.new) }
         ensures err { OnErr result (self.new ≡ self.old) }
+        ensures told { IfOk result (λ reply. W.hears watcher.old (EndRun, reply_seen reply) watcher.new) }
+        ensures untold { OnErr result (watcher.new ≡ watcher.old) }
     {
         let reply = self.core.end_run()?;
         self.ticks.add();
+        watcher.tell(Told::EndRun, &reply);
         Ok(reply)
     }
 

@@ -5,9 +5,11 @@ ghost use Rattle.ent_protocol.specs.Event.{Nothing, Pick};
 ghost use Rattle.ent_resolved.specs.Resolved.{resolved_forms};
 ghost use Rattle.ent_sched.specs.Onward.{TicksOn};
 ghost use Rattle.ent_sched.specs.Progress.{IsJustLent, UsesUp};
+ghost use Rattle.ent_sched.specs.Watching.{IsWatched};
 
 use crate::counted::Counted;
 use crate::law::events_add_up;
+use crate::watcher::Watcher;
 use ent_bounds::{progress_uses_up, steps_stay_within};
 use ent_core::Reply;
 use ent_endings::{jobs_are_lent_by_replies, results_are_taken_at_once};
@@ -18,9 +20,10 @@ use std::alloc::{AllocError, Global};
 
 /// Hands in the result of the job of the component that was just picked: the members have their answers, or there is
 /// no choice. Where memory runs out the job stays lent.
-fn hand_in(counted: &mut Counted, done: Done) -> Result<(), AllocError>
+fn hand_in<W: Watcher>(counted: &mut Counted, watcher: &mut W, done: Done) -> Result<(), AllocError>
     requires lent { IsJustLent resolved_forms Pick done.job counted.old.core }
     ensures events { TicksOn resolved_forms 1 counted.old counted.new }
+    ensures watched { IsWatched resolved_forms W.hears counted.old counted.new watcher.old watcher.new }
     ensures none_lent { OnOk result (counted.new.core.lent ≡ []) }
     ensures progress { OnOk result (UsesUp counted.old.core counted.new.core) }
 {
@@ -29,7 +32,7 @@ fn hand_in(counted: &mut Counted, done: Done) -> Result<(), AllocError>
     results_are_taken_at_once::<FormFault>();
     progress_uses_up::<FormFault>();
     counted.is_reached();
-    match counted.join_answer_at_once(done) {
+    match counted.join_answer_at_once(watcher, done) {
         Ok(reply) => {
             drop(reply);
             Ok(())
@@ -43,16 +46,22 @@ fn hand_in(counted: &mut Counted, done: Done) -> Result<(), AllocError>
 
 /// Does the job of the component that was just picked, and hands its result in. Where memory runs out the job stays
 /// lent.
-fn answer(alloc: Global, counted: &mut Counted, job: Job) -> Result<(), AllocError>
+fn answer<W: Watcher>(
+    alloc: Global,
+    counted: &mut Counted,
+    watcher: &mut W,
+    job: Job,
+) -> Result<(), AllocError>
     requires lent { IsJustLent resolved_forms Pick job counted.old.core }
     ensures events { TicksOn resolved_forms 1 counted.old counted.new }
+    ensures watched { IsWatched resolved_forms W.hears counted.old counted.new watcher.old watcher.new }
     ensures none_lent { OnOk result (counted.new.core.lent ≡ []) }
     ensures progress { OnOk result (UsesUp counted.old.core counted.new.core) }
 {
     events_add_up::<FormFault>();
     counted.is_reached();
     match evaluate(alloc, job) {
-        Ok(done) => hand_in(counted, done),
+        Ok(done) => hand_in(counted, watcher, done),
         Err(refused) => {
             drop(refused);
             Err(AllocError)
@@ -62,9 +71,14 @@ fn answer(alloc: Global, counted: &mut Counted, job: Job) -> Result<(), AllocErr
 
 /// A component is picked, where there is one, and answered at once. Whether there was one. Where memory runs out the
 /// events that were made stand.
-pub(crate) fn answer_component(alloc: Global, counted: &mut Counted) -> Result<bool, AllocError>
+pub(crate) fn answer_component<W: Watcher>(
+    alloc: Global,
+    counted: &mut Counted,
+    watcher: &mut W,
+) -> Result<bool, AllocError>
     requires none_lent { counted.old.core.lent ≡ [] }
     ensures events { TicksOn resolved_forms 2 counted.old counted.new }
+    ensures watched { IsWatched resolved_forms W.hears counted.old counted.new watcher.old watcher.new }
     ensures none_lent { OnOk result (counted.new.core.lent ≡ []) }
     ensures progress { IfOk result (λ moved. moved ≡ true → UsesUp counted.old.core counted.new.core) }
     ensures idle { IfOk result (λ moved. moved ≡ false
@@ -73,10 +87,10 @@ pub(crate) fn answer_component(alloc: Global, counted: &mut Counted) -> Result<b
     events_add_up::<FormFault>();
     steps_stay_within::<FormFault>();
     counted.is_reached();
-    let reply = counted.pick()?;
+    let reply = counted.pick(watcher)?;
     match reply {
         Reply::Lent(job) => {
-            answer(alloc, counted, job)?;
+            answer(alloc, counted, watcher, job)?;
             Ok(true)
         }
         other => {

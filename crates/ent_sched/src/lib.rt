@@ -7,8 +7,9 @@
 //! it makes a bounded number of events and leaves no run on, and that each run uses up tries; and on [`run_all`], that
 //! it takes the jobs back and makes runs, each within its bound, and nothing else, and answers the finished book of the
 //! core that it is given, which is legal, and in which each script has a fate. Only want of memory keeps it from that,
-//! and then the core comes back. [`run_all_counted`] is the same, and tells how many events were made. The core that
-//! runs take and give is passed on by its name.
+//! and then the core comes back. [`run_all_counted`] is the same, and tells how many events were made;
+//! [`run_all_watched`] tells a [`Watcher`] each of them with its reply, in order, and nothing else. The core that runs
+//! take and give is passed on by its name.
 #![tactic(auto)]
 
 mod all_runs;
@@ -21,10 +22,12 @@ mod one_run;
 mod progress;
 mod rounds;
 mod turn;
+mod watcher;
 
-pub use all_runs::{run_all, run_all_counted};
+pub use all_runs::{run_all, run_all_counted, run_all_watched};
 pub use counted::{Counted, CountedBook};
 pub use ent_core::{Core, Played};
 pub use law::{events_add_up, events_use_up_tries};
 pub use one_round::round;
 pub use one_run::run;
+pub use watcher::{Silent, Told, Watcher};

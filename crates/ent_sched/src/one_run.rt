@@ -6,18 +6,21 @@ ghost use Rattle.ent_protocol.specs.Reached.{CanClose};
 ghost use Rattle.ent_resolved.specs.Resolved.{resolved_forms};
 ghost use Rattle.ent_sched.specs.Onward.{TicksOn};
 ghost use Rattle.ent_sched.specs.Bounds.{events_of_run, run_start};
+ghost use Rattle.ent_sched.specs.Watching.{IsWatched};
 
 use crate::counted::Counted;
 use crate::law::{events_add_up, events_use_up_tries};
 use crate::rounds::rounds;
+use crate::watcher::{Silent, Watcher};
 use ent_endings::{idle_rounds_are_quiet, jobs_are_lent_by_replies};
 use ent_form::FormFault;
 use std::alloc::{AllocError, Global};
 
 /// Starts a run, unless one is on, or nothing is dormant. Whether one is on then.
-fn start(counted: &mut Counted) -> Result<bool, AllocError>
+fn start<W: Watcher>(counted: &mut Counted, watcher: &mut W) -> Result<bool, AllocError>
     requires none_lent { counted.old.core.lent ≡ [] }
     ensures events { TicksOn resolved_forms 1 counted.old counted.new }
+    ensures watched { IsWatched resolved_forms W.hears counted.old counted.new watcher.old watcher.new }
     ensures none_lent { counted.new.core.lent ≡ [] }
     ensures on { IfOk result (λ on. on ≡ true
         → (¬ CanClose counted.old.core)
@@ -32,14 +35,15 @@ fn start(counted: &mut Counted) -> Result<bool, AllocError>
     if counted.running() {
         return Ok(true);
     }
-    drop(counted.start_run()?);
+    drop(counted.start_run(watcher)?);
     Ok(counted.running())
 }
 
 /// Ends a run in whose last round nothing moved.
-fn end(counted: &mut Counted) -> Result<(), AllocError>
+fn end<W: Watcher>(counted: &mut Counted, watcher: &mut W) -> Result<(), AllocError>
     requires idle { IsIdleRound resolved_forms counted.old.core }
     ensures events { TicksOn resolved_forms 1 counted.old counted.new }
+    ensures watched { IsWatched resolved_forms W.hears counted.old counted.new watcher.old watcher.new }
     ensures none_lent { OnOk result (counted.new.core.lent ≡ []) }
     ensures ended { OnOk result (counted.new.core.running ≡ false) }
 {
@@ -47,8 +51,35 @@ fn end(counted: &mut Counted) -> Result<(), AllocError>
     idle_rounds_are_quiet::<FormFault>();
     jobs_are_lent_by_replies::<FormFault>();
     counted.is_reached();
-    drop(counted.end_run()?);
+    drop(counted.end_run(watcher)?);
     Ok(())
+}
+
+/// One run: it starts, unless one is on; then come rounds, until nothing moves in one; then it ends. Where no run is on
+/// and nothing is dormant, nothing happens. Where memory runs out the events that were made stand. A watcher is told.
+pub(crate) fn run_watched<W: Watcher>(
+    alloc: Global,
+    counted: &mut Counted,
+    watcher: &mut W,
+) -> Result<(), AllocError>
+    requires none_lent { counted.old.core.lent ≡ [] }
+    ensures events { TicksOn resolved_forms (events_of_run counted.old.core) counted.old counted.new }
+    ensures watched { IsWatched resolved_forms W.hears counted.old counted.new watcher.old watcher.new }
+    ensures none_lent { OnOk result (counted.new.core.lent ≡ []) }
+    ensures ended { OnOk result (counted.new.core.running ≡ false) }
+    ensures tries { OnOk result (¬ CanClose counted.old.core
+        → tries_left counted.new.core < tries_left counted.old.core) }
+    ensures same { OnOk result (CanClose counted.old.core → counted.new.core ≡ counted.old.core) }
+{
+    events_add_up::<FormFault>();
+    events_use_up_tries::<FormFault>();
+    counted.is_reached();
+    if !start(counted, watcher)? {
+        return Ok(());
+    }
+    counted.is_reached();
+    rounds(alloc, counted, watcher)?;
+    end(counted, watcher)
 }
 
 /// One run: it starts, unless one is on; then come rounds, until nothing moves in one; then it ends. Where no run is on
@@ -62,13 +93,5 @@ pub fn run(alloc: Global, counted: &mut Counted) -> Result<(), AllocError>
         → tries_left counted.new.core < tries_left counted.old.core) }
     ensures same { OnOk result (CanClose counted.old.core → counted.new.core ≡ counted.old.core) }
 {
-    events_add_up::<FormFault>();
-    events_use_up_tries::<FormFault>();
-    counted.is_reached();
-    if !start(counted)? {
-        return Ok(());
-    }
-    counted.is_reached();
-    rounds(alloc, counted)?;
-    end(counted)
+    run_watched(alloc, counted, &mut Silent)
 }

@@ -7,10 +7,12 @@ ghost use Rattle.ent_protocol.specs.Lookup.{Ready, Turn, running_members, standi
 ghost use Rattle.ent_resolved.specs.Resolved.{resolved_forms};
 ghost use Rattle.ent_sched.specs.Onward.{TicksOn};
 ghost use Rattle.ent_sched.specs.Progress.{IsJustLent, UsesUp};
+ghost use Rattle.ent_sched.specs.Watching.{IsWatched};
 
 use crate::counted::Counted;
 use crate::law::events_add_up;
 use crate::progress::told_of_progress;
+use crate::watcher::Watcher;
 use ent_bounds::{progress_uses_up, steps_stay_within};
 use ent_core::{Reply, Standing};
 use ent_endings::{
@@ -25,9 +27,10 @@ use std::alloc::{AllocError, Global};
 
 /// Hands in the result of the job that was just lent to a member: its statement is done, or its group is rolled back.
 /// Where memory runs out the job stays lent.
-fn hand_in(counted: &mut Counted, done: Done) -> Result<(), AllocError>
+fn hand_in<W: Watcher>(counted: &mut Counted, watcher: &mut W, done: Done) -> Result<(), AllocError>
     requires lent { (tx : ℕ) × IsJustLent resolved_forms (Begin tx) done.job counted.old.core }
     ensures events { TicksOn resolved_forms 1 counted.old counted.new }
+    ensures watched { IsWatched resolved_forms W.hears counted.old counted.new watcher.old watcher.new }
     ensures none_lent { OnOk result (counted.new.core.lent ≡ []) }
     ensures progress { OnOk result (UsesUp counted.old.core counted.new.core) }
 {
@@ -36,7 +39,7 @@ fn hand_in(counted: &mut Counted, done: Done) -> Result<(), AllocError>
     results_are_taken_at_once::<FormFault>();
     progress_uses_up::<FormFault>();
     counted.is_reached();
-    match counted.finish_at_once(done) {
+    match counted.finish_at_once(watcher, done) {
         Ok(reply) => {
             drop(reply);
             Ok(())
@@ -49,16 +52,22 @@ fn hand_in(counted: &mut Counted, done: Done) -> Result<(), AllocError>
 }
 
 /// Does the job that was just lent to a member, and hands its result in. Where memory runs out the job stays lent.
-fn carry_out(alloc: Global, counted: &mut Counted, job: Job) -> Result<(), AllocError>
+fn carry_out<W: Watcher>(
+    alloc: Global,
+    counted: &mut Counted,
+    watcher: &mut W,
+    job: Job,
+) -> Result<(), AllocError>
     requires lent { (tx : ℕ) × IsJustLent resolved_forms (Begin tx) job counted.old.core }
     ensures events { TicksOn resolved_forms 1 counted.old counted.new }
+    ensures watched { IsWatched resolved_forms W.hears counted.old counted.new watcher.old watcher.new }
     ensures none_lent { OnOk result (counted.new.core.lent ≡ []) }
     ensures progress { OnOk result (UsesUp counted.old.core counted.new.core) }
 {
     events_add_up::<FormFault>();
     counted.is_reached();
     match evaluate(alloc, job) {
-        Ok(done) => hand_in(counted, done),
+        Ok(done) => hand_in(counted, watcher, done),
         Err(refused) => {
             drop(refused);
             Err(AllocError)
@@ -68,10 +77,16 @@ fn carry_out(alloc: Global, counted: &mut Counted, job: Job) -> Result<(), Alloc
 
 /// A member that is ready begins its next statement, and a job that is lent is carried out at once. Whether it moved.
 /// Where memory runs out the events that were made stand.
-fn begin(alloc: Global, counted: &mut Counted, tx: Tx) -> Result<bool, AllocError>
+fn begin<W: Watcher>(
+    alloc: Global,
+    counted: &mut Counted,
+    watcher: &mut W,
+    tx: Tx,
+) -> Result<bool, AllocError>
     requires none_lent { counted.old.core.lent ≡ [] }
     requires ready { (turn : Turn) × (standing counted.old.core tx ≡ Some (Ready turn)) }
     ensures events { TicksOn resolved_forms 2 counted.old counted.new }
+    ensures watched { IsWatched resolved_forms W.hears counted.old counted.new watcher.old watcher.new }
     ensures none_lent { OnOk result (counted.new.core.lent ≡ []) }
     ensures progress { IfOk result (λ moved. moved ≡ true → UsesUp counted.old.core counted.new.core) }
     ensures idle { IfOk result (λ moved. moved ≡ false
@@ -84,10 +99,10 @@ fn begin(alloc: Global, counted: &mut Counted, tx: Tx) -> Result<bool, AllocErro
     steps_stay_within::<FormFault>();
     refusals_change_nothing::<FormFault>();
     counted.is_reached();
-    let reply = counted.begin(tx)?;
+    let reply = counted.begin(watcher, tx)?;
     match reply {
         Reply::Lent(job) => {
-            carry_out(alloc, counted, job)?;
+            carry_out(alloc, counted, watcher, job)?;
             Ok(true)
         }
         other => Ok(told_of_progress(other)),
@@ -96,9 +111,15 @@ fn begin(alloc: Global, counted: &mut Counted, tx: Tx) -> Result<bool, AllocErro
 
 /// One member's turn: where it is ready it begins its next statement, and a job that is lent is carried out at once.
 /// Whether it moved. Where memory runs out the events that were made stand.
-fn turn(alloc: Global, counted: &mut Counted, tx: Tx) -> Result<bool, AllocError>
+fn turn<W: Watcher>(
+    alloc: Global,
+    counted: &mut Counted,
+    watcher: &mut W,
+    tx: Tx,
+) -> Result<bool, AllocError>
     requires none_lent { counted.old.core.lent ≡ [] }
     ensures events { TicksOn resolved_forms 2 counted.old counted.new }
+    ensures watched { IsWatched resolved_forms W.hears counted.old counted.new watcher.old watcher.new }
     ensures none_lent { OnOk result (counted.new.core.lent ≡ []) }
     ensures progress { IfOk result (λ moved. moved ≡ true → UsesUp counted.old.core counted.new.core) }
     ensures idle { IfOk result (λ moved. moved ≡ false
@@ -106,19 +127,24 @@ fn turn(alloc: Global, counted: &mut Counted, tx: Tx) -> Result<bool, AllocError
 {
     events_add_up::<FormFault>();
     counted.is_reached();
-    if counted.is_begin_blocked(tx) {
+    if counted.is_begin_blocked(&*watcher, tx) {
         return Ok(false);
     }
     match counted.standing(tx) {
-        Some(Standing::Ready(_)) => begin(alloc, counted, tx),
+        Some(Standing::Ready(_)) => begin(alloc, counted, watcher, tx),
         _ => Ok(false),
     }
 }
 
 /// Each member of the run, by number, has its turn. Whether one of them moved.
-pub(crate) fn take_turns(alloc: Global, counted: &mut Counted) -> Result<bool, AllocError>
+pub(crate) fn take_turns<W: Watcher>(
+    alloc: Global,
+    counted: &mut Counted,
+    watcher: &mut W,
+) -> Result<bool, AllocError>
     requires none_lent { counted.old.core.lent ≡ [] }
     ensures events { TicksOn resolved_forms (2 * length (running_members counted.old.core)) counted.old counted.new }
+    ensures watched { IsWatched resolved_forms W.hears counted.old counted.new watcher.old watcher.new }
     ensures none_lent { OnOk result (counted.new.core.lent ≡ []) }
     ensures progress { IfOk result (λ moved. moved ≡ true → UsesUp counted.old.core counted.new.core) }
     ensures idle { IfOk result (λ moved. moved ≡ false
@@ -130,7 +156,7 @@ pub(crate) fn take_turns(alloc: Global, counted: &mut Counted) -> Result<bool, A
     let members = counted.members();
     let mut moved = false;
     for tx in members.as_slice() {
-        if turn(alloc, counted, *tx)? {
+        if turn(alloc, counted, watcher, *tx)? {
             moved = true;
         }
     }

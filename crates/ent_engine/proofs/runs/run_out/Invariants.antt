@@ -5,4 +5,4 @@ use Rattle.ent_engine.proofs.runs.run_out.Given as goal
 
 -- events lead from the core that was handed in to the present one
 abbrev pub invariant-loop : goal.invariant-loop
-invariant-loop l = record { led : (count : ℕ) × LeadsOn resolved_forms count l.fn.core l.core }
+invariant-loop g l = record { led : (count : ℕ) × LeadsOn resolved_forms count l.fn.core l.counted.core }

@@ -1,4 +1,4 @@
 use Rattle.ent_sched.proofs.rounds.rounds.Given as goal
 
 abbrev pub ghosts-counted_rounds : goal.ghosts-counted_rounds
-ghosts-counted_rounds a = record { name = a.ledger.name; parts = a.ledger.parts }
+ghosts-counted_rounds g a = record { name = a.ledger.name; parts = a.ledger.parts }

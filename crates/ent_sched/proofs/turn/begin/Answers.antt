@@ -4,11 +4,12 @@ use Rattle.ent_core.specs.Reply.{reply_seen}
 use Rattle.ent_protocol.specs.Event.{Begin}
 use Rattle.ent_resolved.specs.Resolved.{resolved_forms}
 use Rattle.ent_sched.proofs.Moving.{held_up, none_lent}
-use Rattle.ent_sched.proofs.Told.{lends_none}
+use Rattle.ent_sched.proofs.NoneLent.{lends_none}
+use Rattle.ent_sched.proofs.Watched.{one_watched, watched_on}
 use Rattle.ent_sched.proofs.turn.begin.Goals as goal
 
 pub returns-in_err-carry_out-in-Lent-clause-events : goal.returns-in_err-carry_out-in-Lent-clause-events
-returns-in_err-carry_out-in-Lent-clause-events c =
+returns-in_err-carry_out-in-Lent-clause-events g c =
     let first = c.args.counted.now in
     let middle = c.begin.new.self in
     let begun = c.events_add_up.ensures.one resolved_forms (Begin c.args.tx) (reply_seen c.in_ok-reply.reply) first
@@ -17,7 +18,7 @@ returns-in_err-carry_out-in-Lent-clause-events c =
     c.in_err-carry_out-in-Lent.ensures.events
 
 pub returns-in_ok-carry_out-in-Lent-clause-events : goal.returns-in_ok-carry_out-in-Lent-clause-events
-returns-in_ok-carry_out-in-Lent-clause-events c =
+returns-in_ok-carry_out-in-Lent-clause-events g c =
     let first = c.args.counted.now in
     let middle = c.begin.new.self in
     let begun = c.events_add_up.ensures.one resolved_forms (Begin c.args.tx) (reply_seen c.in_ok-reply.reply) first
@@ -26,14 +27,14 @@ returns-in_ok-carry_out-in-Lent-clause-events c =
     c.in_ok-carry_out-in-Lent.ensures.events
 
 pub returns-in_ok-carry_out-in-Lent-clause-progress : goal.returns-in_ok-carry_out-in-Lent-clause-progress
-returns-in_ok-carry_out-in-Lent-clause-progress c = λ moved most left within.
+returns-in_ok-carry_out-in-Lent-clause-progress g c = λ moved most left within.
     c.in_ok-carry_out-in-Lent.ensures.progress most left
     (c.steps_stay_within.ensures resolved_forms c.args.counted.now.core (Begin c.args.tx)
     (reply_seen c.in_ok-reply.reply) c.begin.new.self.core most left c.is_reached.ensures.reached
     c.in_ok-reply.ensures.ok.step (ap (λ reply. brings_work (reply_seen reply)) c.in-Lent.is) within)
 
 pub returns-in_default : goal.returns-in_default
-returns-in_default c =
+returns-in_default g c =
     let first = c.args.counted.now in
     let last = c.begin.new.self in
     let s = first.core in
@@ -50,6 +51,8 @@ returns-in_default c =
     record {
       events = c.events_add_up.ensures.widened resolved_forms 1 2 first last (omega arith)
           (c.events_add_up.ensures.one resolved_forms (Begin tx) reply first last c.in_ok-reply.ensures.ok refl);
+      watched = one_watched resolved_forms g.W.Watcher.hears (Begin tx) reply first last c.args.watcher.now
+          c.begin.new.watcher c.in_ok-reply.ensures.ok c.in_ok-reply.ensures.told;
       none_lent =
           c.jobs_are_lent_by_replies.ensures.lent resolved_forms s (Begin tx) reply new c.requires.none_lent step
           ∙ none_lent reply lends;
@@ -62,3 +65,21 @@ returns-in_default c =
             (λ turn is. (reply, idle, (new, step))),
           );
     }
+
+pub returns-in_err-carry_out-in-Lent-clause-watched : goal.returns-in_err-carry_out-in-Lent-clause-watched
+returns-in_err-carry_out-in-Lent-clause-watched g c =
+    let first = c.args.counted.now in
+    let middle = c.begin.new.self in
+    let one = one_watched resolved_forms g.W.Watcher.hears (Begin c.args.tx) (reply_seen c.in_ok-reply.reply) first
+    middle c.args.watcher.now c.begin.new.watcher c.in_ok-reply.ensures.ok c.in_ok-reply.ensures.told in
+    watched_on resolved_forms g.W.Watcher.hears first middle c.carry_out.new.counted c.args.watcher.now
+    c.begin.new.watcher c.carry_out.new.watcher one c.in_err-carry_out-in-Lent.ensures.watched
+
+pub returns-in_ok-carry_out-in-Lent-clause-watched : goal.returns-in_ok-carry_out-in-Lent-clause-watched
+returns-in_ok-carry_out-in-Lent-clause-watched g c =
+    let first = c.args.counted.now in
+    let middle = c.begin.new.self in
+    let one = one_watched resolved_forms g.W.Watcher.hears (Begin c.args.tx) (reply_seen c.in_ok-reply.reply) first
+    middle c.args.watcher.now c.begin.new.watcher c.in_ok-reply.ensures.ok c.in_ok-reply.ensures.told in
+    watched_on resolved_forms g.W.Watcher.hears first middle c.carry_out.new.counted c.args.watcher.now
+    c.begin.new.watcher c.carry_out.new.watcher one c.in_ok-carry_out-in-Lent.ensures.watched

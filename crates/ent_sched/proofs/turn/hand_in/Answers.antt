@@ -4,22 +4,23 @@ use Rattle.ent_endings.specs.Lending.{IsLentAlone}
 use Rattle.ent_protocol.specs.Event.{Begin, Finish, Lent}
 use Rattle.ent_resolved.specs.Resolved.{resolved_forms}
 use Rattle.ent_sched.proofs.Moving.{single_progress}
+use Rattle.ent_sched.proofs.Watched.{one_watched}
 use Rattle.ent_sched.proofs.turn.hand_in.Goals as goal
 
 pub finish_at_once-requires : goal.finish_at_once-requires
-finish_at_once-requires c =
+finish_at_once-requires g c =
     let tx = c.requires.lent.0 in
     let lent = c.requires.lent.1 in
     c.jobs_are_lent_by_replies.ensures.lent resolved_forms lent.before (Begin tx) (Lent c.args.done.job)
     c.args.counted.now.core lent.none_lent lent.lends
 
 pub returns-in-Ok-clause-events : goal.returns-in-Ok-clause-events
-returns-in-Ok-clause-events c =
+returns-in-Ok-clause-events g c =
     c.events_add_up.ensures.one resolved_forms (Finish c.args.done) (reply_seen c.in-Ok.reply) c.args.counted.now
     c.finish_at_once.new.self c.in-Ok.ensures.ok refl
 
 pub returns-in-Ok-clause-none_lent : goal.returns-in-Ok-clause-none_lent
-returns-in-Ok-clause-none_lent c =
+returns-in-Ok-clause-none_lent g c =
     let tx = c.requires.lent.0 in
     let lent = c.requires.lent.1 in
     let alone : IsLentAlone resolved_forms lent.before (Begin tx) c.args.done c.args.counted.now.core =
@@ -28,7 +29,7 @@ returns-in-Ok-clause-none_lent c =
     c.args.counted.now.core (reply_seen c.in-Ok.reply) c.finish_at_once.new.self.core alone c.in-Ok.ensures.ok.step
 
 pub returns-in-Ok-clause-progress : goal.returns-in-Ok-clause-progress
-returns-in-Ok-clause-progress c = λ most left within.
+returns-in-Ok-clause-progress g c = λ most left within.
     let tx = c.requires.lent.0 in
     let lent = c.requires.lent.1 in
     let s = c.args.counted.now.core in
@@ -40,3 +41,8 @@ returns-in-Ok-clause-progress c = λ most left within.
     alone c.in-Ok.ensures.ok.step in
     c.progress_uses_up.ensures resolved_forms s (Finish c.args.done) reply new most left c.is_reached.ensures.reached
     c.in-Ok.ensures.ok.step (single_progress reply taken) within
+
+pub returns-in-Ok-clause-watched : goal.returns-in-Ok-clause-watched
+returns-in-Ok-clause-watched g c =
+    one_watched resolved_forms g.W.Watcher.hears (Finish c.args.done) (reply_seen c.in-Ok.reply) c.args.counted.now
+    c.finish_at_once.new.self c.args.watcher.now c.finish_at_once.new.watcher c.in-Ok.ensures.ok c.in-Ok.ensures.told

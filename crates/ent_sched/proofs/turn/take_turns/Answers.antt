@@ -5,11 +5,12 @@ use Rattle.ent_protocol.specs.State.{State}
 use Rattle.ent_resolved.specs.Resolved.{resolved_forms}
 use Rattle.ent_sched.proofs.Moving.{one_moved}
 use Rattle.ent_sched.proofs.Turning.{all_taken}
+use Rattle.ent_sched.proofs.Watched.{watched_on}
 use Rattle.ent_sched.proofs.turn.take_turns.Goals.{then-branch, else-branch}
 use Rattle.ent_sched.proofs.turn.take_turns.Goals as goal
 
 pub returns-in_err-turn-clause-events : goal.returns-in_err-turn-clause-events
-returns-in_err-turn-clause-events c =
+returns-in_err-turn-clause-events g c =
     let first = c.args.counted.now in
     let last = c.turn.new.counted in
     let i = c.loop-tx.tx-index in
@@ -21,7 +22,7 @@ returns-in_err-turn-clause-events c =
     c.in_err-turn.ensures.events)
 
 pub loop-tx-preserved : goal.loop-tx-preserved
-loop-tx-preserved c =
+loop-tx-preserved g c =
     let first = c.args.counted.now in
     let middle = c.loop-tx.counted in
     let last = c.turn.new.counted in
@@ -34,6 +35,8 @@ loop-tx-preserved c =
     record {
       events = c.events_add_up.ensures.widened resolved_forms (2 * i + 2) (2 * (i + 1)) first last few
           (c.events_add_up.ensures.joined resolved_forms (2 * i) 2 first middle last now.events turned.events);
+      watched = watched_on resolved_forms g.W.Watcher.hears first middle last c.args.watcher.now c.loop-tx.watcher
+          c.turn.new.watcher now.watched turned.watched;
       none_lent = turned.none_lent;
       progress = λ moved.
           one_moved c.loop-tx.moved c.in_ok-turn.field-0 s middle.core last.core
@@ -54,3 +57,8 @@ loop-tx-preserved c =
                 )
           ];
     }
+
+pub returns-in_err-turn-clause-watched : goal.returns-in_err-turn-clause-watched
+returns-in_err-turn-clause-watched g c =
+    watched_on resolved_forms g.W.Watcher.hears c.args.counted.now c.loop-tx.counted c.turn.new.counted
+    c.args.watcher.now c.loop-tx.watcher c.turn.new.watcher c.loop-tx.invariant.watched c.in_err-turn.ensures.watched

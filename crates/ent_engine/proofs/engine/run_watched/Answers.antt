@@ -1,7 +1,10 @@
+use Rattle.std.proofs.Common.{◌≡◌, subst, sym, rules}
+use Rattle.std.specs.Io.KnownBytes.{Keeps}
 use Rattle.ent_book.specs.Tables.{book_seen}
+use Rattle.ent_value.specs.Watched.{Stream}
 use Rattle.ent_engine.proofs.Ran.{book_of_input}
 use Rattle.ent_engine.proofs.Written.{wrote_beginning, wrote_report}
-use Rattle.ent_engine.proofs.engine.run.Goals as goal
+use Rattle.ent_engine.proofs.engine.run_watched.Goals as goal
 
 pub returns-in-Ok-clause-report : goal.returns-in-Ok-clause-report
 returns-in-Ok-clause-report g c =
@@ -26,3 +29,11 @@ returns-clause-beginning g c =
     (book_of_input input core book c.in_ok-core.ensures.submitted c.in_ok-book.ensures.book c.in_ok-book.ensures.fates
     c.in_ok-book.ensures.legal)
     c.in-Err-Fault.ensures.beginning
+
+pub returns-in-Err-Memory-clause-silent : goal.returns-in-Err-Memory-clause-silent
+returns-in-Err-Memory-clause-silent g c =
+    let same : c.write_book.new.writer ≡ c.args.writer.now = search rules in
+    let still : Keeps (g.W.Write.contents c.args.writer.now.inner) (g.W.Write.contents c.args.writer.now.inner) =
+    search rules in
+    subst (λ (w : Stream g.row.W.Denot).
+    Keeps (g.W.Write.contents c.args.writer.now.inner) (g.W.Write.contents w.inner)) (sym same) still

@@ -6,10 +6,11 @@ use Rattle.ent_protocol.specs.State.{State}
 use Rattle.ent_resolved.specs.Resolved.{resolved_forms}
 use Rattle.ent_sched.specs.Onward.{events_of_round}
 use Rattle.ent_sched.proofs.Moving.{moved_then, one_moved}
-use Rattle.ent_sched.proofs.one_round.round.Goals as goal
+use Rattle.ent_sched.proofs.Watched.{watched_on}
+use Rattle.ent_sched.proofs.one_round.round_watched.Goals as goal
 
 pub returns-then-answered-clause-events : goal.returns-then-answered-clause-events
-returns-then-answered-clause-events c =
+returns-then-answered-clause-events g c =
     let first = c.args.counted.now in
     let last = c.break_deadlock-broken.new.counted in
     let n = length (running_members first.core) in
@@ -22,7 +23,7 @@ returns-then-answered-clause-events c =
     c.break_deadlock-broken.ensures.events)
 
 pub returns-then-answered-clause-progress : goal.returns-then-answered-clause-progress
-returns-then-answered-clause-progress c = λ moved.
+returns-then-answered-clause-progress g c = λ moved.
     let turned = c.in_ok-turned.ensures in
     let answered = c.in_ok-answered.ensures in
     let broken = c.break_deadlock-broken.ensures in
@@ -34,7 +35,7 @@ returns-then-answered-clause-progress c = λ moved.
     c.break_deadlock-broken.new.counted.core one (broken.progress, (λ still. (broken.idle still).0))
 
 pub returns-else-answered-clause-events : goal.returns-else-answered-clause-events
-returns-else-answered-clause-events c =
+returns-else-answered-clause-events g c =
     let first = c.args.counted.now in
     let last = c.break_deadlock-broken.new.counted in
     let n = length (running_members first.core) in
@@ -47,7 +48,7 @@ returns-else-answered-clause-events c =
     c.break_deadlock-broken.ensures.events)
 
 pub returns-else-answered-clause-idle : goal.returns-else-answered-clause-idle
-returns-else-answered-clause-idle c = λ still.
+returns-else-answered-clause-idle g c = λ still.
     let none = c.if-answered.false in
     let turned = c.in_ok-turned.ensures.idle none.0 in
     let answered = c.in_ok-answered.ensures.idle none.1 in
@@ -61,3 +62,29 @@ returns-else-answered-clause-idle c = λ still.
             broken.1;
       },
     )
+
+pub returns-in_err-answered-clause-watched : goal.returns-in_err-answered-clause-watched
+returns-in_err-answered-clause-watched g c =
+    watched_on resolved_forms g.W.Watcher.hears c.args.counted.now c.take_turns.new.counted
+    c.answer_component.new.counted c.args.watcher.now c.take_turns.new.watcher c.answer_component.new.watcher
+    c.in_ok-turned.ensures.watched c.in_err-answered.ensures.watched
+
+pub returns-then-answered-clause-watched : goal.returns-then-answered-clause-watched
+returns-then-answered-clause-watched g c =
+    let first = c.args.counted.now in
+    let middle = c.answer_component.new.counted in
+    let two = watched_on resolved_forms g.W.Watcher.hears first c.take_turns.new.counted middle c.args.watcher.now
+    c.take_turns.new.watcher c.answer_component.new.watcher c.in_ok-turned.ensures.watched
+    c.in_ok-answered.ensures.watched in
+    watched_on resolved_forms g.W.Watcher.hears first middle c.break_deadlock-broken.new.counted c.args.watcher.now
+    c.answer_component.new.watcher c.break_deadlock-broken.new.watcher two c.break_deadlock-broken.ensures.watched
+
+pub returns-else-answered-clause-watched : goal.returns-else-answered-clause-watched
+returns-else-answered-clause-watched g c =
+    let first = c.args.counted.now in
+    let middle = c.answer_component.new.counted in
+    let two = watched_on resolved_forms g.W.Watcher.hears first c.take_turns.new.counted middle c.args.watcher.now
+    c.take_turns.new.watcher c.answer_component.new.watcher c.in_ok-turned.ensures.watched
+    c.in_ok-answered.ensures.watched in
+    watched_on resolved_forms g.W.Watcher.hears first middle c.break_deadlock-broken.new.counted c.args.watcher.now
+    c.answer_component.new.watcher c.break_deadlock-broken.new.watcher two c.break_deadlock-broken.ensures.watched

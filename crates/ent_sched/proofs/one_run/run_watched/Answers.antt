@@ -4,10 +4,11 @@ use Rattle.ent_resolved.specs.Resolved.{resolved_forms}
 use Rattle.ent_sched.specs.Bounds.{events_of_rounds, run_start}
 use Rattle.ent_sched.proofs.Counting.{AddUp, rounds_made, run_made}
 use Rattle.ent_sched.proofs.Started.{on_ok}
-use Rattle.ent_sched.proofs.one_run.run.Goals as goal
+use Rattle.ent_sched.proofs.Watched.{watched_on}
+use Rattle.ent_sched.proofs.one_run.run_watched.Goals as goal
 
 pub returns-in_err-rounds-clause-events : goal.returns-in_err-rounds-clause-events
-returns-in_err-rounds-clause-events c =
+returns-in_err-rounds-clause-events g c =
     let adds : AddUp resolved_forms = record {
       joined = c.events_add_up.ensures.joined resolved_forms;
       widened = c.events_add_up.ensures.widened resolved_forms;
@@ -19,7 +20,7 @@ returns-in_err-rounds-clause-events c =
     c.rounds.ensures.events)
 
 pub returns-clause-events : goal.returns-clause-events
-returns-clause-events c =
+returns-clause-events g c =
     let adds : AddUp resolved_forms = record {
       joined = c.events_add_up.ensures.joined resolved_forms;
       widened = c.events_add_up.ensures.widened resolved_forms;
@@ -31,7 +32,7 @@ returns-clause-events c =
     c.rounds.ensures.events) c.end.ensures.events
 
 pub returns-clause-tries : goal.returns-clause-tries
-returns-clause-tries c =
+returns-clause-tries g c =
     let first = c.args.counted.now.core in
     let middle = c.start.new.counted.core in
     let last = c.end.new.counted.core in
@@ -48,6 +49,20 @@ returns-clause-tries c =
     on_ok c.end.result (λ off undone. fewer off) c.end.ensures.ended
 
 pub returns-clause-same : goal.returns-clause-same
-returns-clause-same c =
+returns-clause-same g c =
     let on = c.in_ok-start.ensures.on c.if-not-branch.false in
     on_ok c.end.result (λ off done. absurd (on.0 done)) c.end.ensures.ended
+
+pub returns-in_err-rounds-clause-watched : goal.returns-in_err-rounds-clause-watched
+returns-in_err-rounds-clause-watched g c =
+    watched_on resolved_forms g.W.Watcher.hears c.args.counted.now c.start.new.counted c.rounds.new.counted
+    c.args.watcher.now c.start.new.watcher c.rounds.new.watcher c.start.ensures.watched c.rounds.ensures.watched
+
+pub returns-clause-watched : goal.returns-clause-watched
+returns-clause-watched g c =
+    let first = c.args.counted.now in
+    let middle = c.rounds.new.counted in
+    let before = watched_on resolved_forms g.W.Watcher.hears first c.start.new.counted middle c.args.watcher.now
+    c.start.new.watcher c.rounds.new.watcher c.start.ensures.watched c.rounds.ensures.watched in
+    watched_on resolved_forms g.W.Watcher.hears first middle c.end.new.counted c.args.watcher.now
+    c.rounds.new.watcher c.end.new.watcher before c.end.ensures.watched

@@ -1,0 +1,98 @@
+//! Replies, each as a line has it.
+use crate::answer::put_answer;
+use crate::text::Text;
+use ent_core::{Reason, Reply};
+use ent_form::FormFault;
+use ent_group::{Members, Tx};
+use ent_match::Unsafe;
+use ent_semantics::{Answer, Failure};
+use std::alloc::Global;
+
+/// The line of a reply, where a job that it lends has this number.
+pub fn put_reply(alloc: Global, text: &mut Text, reply: &Reply, number: u64) {
+    match reply {
+        Reply::Submitted(tx) => text.put_number("number", *tx),
+        Reply::Started(members) => text.put_members("started", members),
+        Reply::Blocked(tx) => text.put_number("blocked", *tx),
+        Reply::Lent(_) => text.put_number("lent", number),
+        Reply::HeldBack(post) => put_held_back(text, post),
+        Reply::Posted => text.put("posted"),
+        Reply::Prepared => text.put("prepared"),
+        Reply::Committed { first, members } => put_committed(text, *first, members.as_slice()),
+        Reply::RolledBack(members) => text.put_members("rolled back", members),
+        Reply::Stepped(answer) => put_stepped(alloc, text, answer),
+        Reply::Failed(failure, members) => put_failed(text, *failure, members),
+        Reply::Nothing => text.put("nothing"),
+        Reply::Answered => text.put("answered"),
+        Reply::NoChoice => text.put("no choice"),
+        Reply::Broken(cycle, group) => put_broken(text, cycle, group),
+        Reply::NoCycle => text.put("no cycle"),
+        Reply::Ended(members) => text.put_members("ended", members),
+        Reply::Recalled => text.put("recalled"),
+        Reply::Absent => text.put("E401"),
+        Reply::NotNow => text.put("E402"),
+        Reply::Stale(_) => text.put("E403"),
+        Reply::Busy(reason) => put_reason(text, reason),
+        Reply::Full(_) => text.put("E406"),
+        Reply::Faulty(_, fault) => put_form_fault(text, *fault),
+    }
+    text.put("\n");
+}
+
+fn put_form_fault(text: &mut Text, fault: FormFault) {
+    text.put_fault(fault.code(), fault.place());
+}
+
+/// The post by its transaction and its number, and the two transactions with a head for it.
+fn put_held_back(text: &mut Text, post: &Unsafe) {
+    text.put_number("held back", post.asker());
+    text.put(".");
+    text.put_count(post.post() as u64);
+    text.put_number("", post.first());
+    text.put_number("", post.second());
+}
+
+/// Each transaction behind its number in the journal.
+fn put_committed(text: &mut Text, first: u64, members: &[Tx]) {
+    text.put("committed");
+    let mut number = first;
+    for tx in members {
+        text.put_number("", number);
+        text.put(".");
+        text.put_count(*tx);
+        number = number.saturating_add(1);
+    }
+}
+
+fn put_stepped(alloc: Global, text: &mut Text, answer: &Answer) {
+    text.put("stepped ");
+    put_answer(alloc, text, answer);
+}
+
+/// A failure's name in a report.
+pub fn failure_name(failure: Failure) -> &'static str {
+    match failure {
+        Failure::Overflow => "F1",
+        Failure::TableFull => "F2",
+    }
+}
+
+fn put_failed(text: &mut Text, failure: Failure, members: &Members) {
+    text.put("failed ");
+    text.put_members(failure_name(failure), members);
+}
+
+fn put_broken(text: &mut Text, cycle: &Members, group: &Members) {
+    text.put_members("broken", cycle);
+    text.put_members(" group", group);
+}
+
+/// Why a run can't end yet.
+fn put_reason(text: &mut Text, reason: &Reason) {
+    match reason {
+        Reason::JobOut(tx) => text.put_number("E404 job out", *tx),
+        Reason::CanBegin(tx) => text.put_number("E404 can begin", *tx),
+        Reason::Untried(tx) => text.put_number("E404 untried", *tx),
+        Reason::Cycle(members) => text.put_members("E404 cycle", members),
+    }
+}
