@@ -15,16 +15,22 @@ use std::{env, io};
 
 /// The program: reads its command line, and runs the scripts of standard input or checks the report of standard input,
 /// as that asks; where it asks for workers, in threads that `threads` starts. A fault is one line on standard error.
-/// How it ended says what `main` ends with.
-pub fn entangle<R, T>(rt: &R, threads: &T) -> Ending
+/// How it ended says what `main` ends with. Where standard input is a terminal, it says first what it waits for.
+pub fn entangle<R, T>(rt: &R, threads: &T, is_terminal: bool) -> Ending
 where
     R: Env + AllocGlobal + Input + Print + Eprint,
     T: Threads + Wait + Sync,
 {
     let ending = match words_of(rt) {
         Ok(words) => match read_command_line(rt.alloc(), words.as_slice()) {
-            Ok(Asked::Run(asked)) => Ending::from(run(rt, threads, asked)),
-            Ok(Asked::Check) => check(rt),
+            Ok(Asked::Run(asked)) => {
+                say_what_is_read(rt, is_terminal, "tables, rows and scripts");
+                Ending::from(run(rt, threads, asked))
+            }
+            Ok(Asked::Check) => {
+                say_what_is_read(rt, is_terminal, "a report of version 2");
+                check(rt)
+            }
             Err(fault) => show_command_line(rt, &fault),
         },
         Err(ending) => ending,
@@ -33,6 +39,13 @@ where
         let _ = eprintln!(rt; "{}", FaultLine(fault));
     }
     ending
+}
+
+/// Says at a terminal what is read from there, and how that ends.
+fn say_what_is_read<R: Eprint>(rt: &R, is_terminal: bool, what: &str) {
+    if is_terminal {
+        let _ = eprintln!(rt; "entangle: reads {what} from the terminal, up to Ctrl-D");
+    }
 }
 
 /// The words of the command line. One that isn't UTF-8 is a fault of the command line, and is said.

@@ -14,6 +14,9 @@ const HIGHEST_REPORT: u64 = 2;
 /// The most tries.
 const MOST_TRIES: u64 = 9;
 
+/// What `--version` tells: the version, and the logic of the kit that the program is proved by.
+const VERSION: &str = "0.9.0, proved by logic dac8208d650f15bf";
+
 /// What stands below the list of options.
 const EXAMPLE: &str = "Example:
   entangle run --tries 3 < friends.sql > friends.report";
@@ -42,6 +45,7 @@ pub(crate) fn command<'a>(alloc: Global) -> Result<Command<'a>, AllocError> {
         .after_help(CHECK_EXAMPLE);
     Command::new(alloc, "entangle")
         .about("An in-memory transaction manager for entangled SQL")
+        .version(VERSION)
         .subcommand_required(true)
         .subcommand(run)?
         .subcommand(check)

@@ -30,7 +30,7 @@ impl Outcome {
             given.push(word)?;
         }
         let machine = Machine::new(alloc, given.as_slice(), input, reads, writes);
-        let status = entangle(&machine, threads).status();
+        let status = entangle(&machine, threads, false).status();
         let (output, errors) = machine.into_written();
         Ok(Outcome {
             status,

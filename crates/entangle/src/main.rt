@@ -2,8 +2,10 @@
 //! report to standard output.
 #![tactic(auto)]
 
+use std::io::IsTerminal;
 use std::process::ExitCode;
 
 fn main(rt: HostRuntime) -> ExitCode {
-    ent_command::entangle(&rt, &rt).exit_code()
+    let is_terminal = rt.stdin().is_terminal();
+    ent_command::entangle(&rt, &rt, is_terminal).exit_code()
 }
