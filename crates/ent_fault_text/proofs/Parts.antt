@@ -1,0 +1,34 @@
+-- Parts of a text.
+use Rattle.std.proofs.Common.{◌≡◌, ◌<◌, ◌+◌, ℕ, Bool, true, List, [], ◌∷◌, ◌++◌, length, take, drop, refl, sym, ◌∙◌, ap, arith}
+use Rattle.std.specs.Prelude.{◌↔◌, IsTrue}
+use Rattle.std.proofs.lemmas.List.{length-append, take-append-drop, append-nil}
+use Rattle.ent_fault_text.specs.Part.{IsEndOf, IsBeginningOf}
+
+pub all_is_end : (text : List ℕ) → IsEndOf text text
+all_is_end text = ([], refl)
+
+pub all_is_beginning : (text : List ℕ) → IsBeginningOf text text
+all_is_beginning text = ([], sym (append-nil text))
+
+pub drop_is_end : (text part : List ℕ) (n : ℕ) → part ≡ drop n text → IsEndOf text part
+drop_is_end text part n is =
+    (take n text, sym (take-append-drop n text) ∙ ap (λ (rest : List ℕ). take n text ++ rest) (sym is))
+
+pub take_is_beginning : (text part : List ℕ) (n : ℕ) → part ≡ take n text → IsBeginningOf text part
+take_is_beginning text part n is =
+    (drop n text, sym (take-append-drop n text) ∙ ap (λ (front : List ℕ). front ++ drop n text) (sym is))
+
+-- an end is shorter than the text just where it isn't all
+pub end_is_shorter : (text part : List ℕ) → IsEndOf text part → (length part < length text) ↔ ¬ (part ≡ text)
+end_is_shorter text part ([], whole) =
+    ((λ shorter same. omega (arith, ap (λ (l : List ℕ). length l) same, shorter)), (λ differs. absurd (differs (sym whole))))
+end_is_shorter text part (b ∷ front, whole) =
+    let lengths : length text ≡ length (b ∷ front) + length part = ap (λ (l : List ℕ). length l) whole ∙ length-append (b ∷ front) part in
+    ((λ shorter same. omega (arith, ap (λ (l : List ℕ). length l) same, shorter)), (λ differs. grind (arith, lengths)))
+
+pub beginning_is_shorter : (text part : List ℕ) → IsBeginningOf text part → (length part < length text) ↔ ¬ (part ≡ text)
+beginning_is_shorter text part ([], whole) =
+    ((λ shorter same. omega (arith, ap (λ (l : List ℕ). length l) same, shorter)), (λ differs. absurd (differs (sym (whole ∙ append-nil part)))))
+beginning_is_shorter text part (b ∷ rest, whole) =
+    let lengths : length text ≡ length part + length (b ∷ rest) = ap (λ (l : List ℕ). length l) whole ∙ length-append part (b ∷ rest) in
+    ((λ shorter same. omega (arith, ap (λ (l : List ℕ). length l) same, shorter)), (λ differs. grind (arith, lengths)))
