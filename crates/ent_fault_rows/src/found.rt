@@ -1,28 +1,16 @@
 //! The fault of an input, and what is said of it.
 use anyhow::{Result, anyhow, bail};
-use ent_fault_text::{InputFault, explain_fault};
+use ent_fault_text::{InputFault, explain_fault, valid_text};
 use ent_form::{Catalogue, FormFault, resolve};
 use ent_sql::parse_input;
 use ent_tree::Input;
 use ent_value::Refusal;
 use std::alloc::Global;
-use std::str;
-
-/// The text of an input up to its first byte that is ill-formed, and whether it is all.
-fn text_of(bytes: &[u8]) -> (&str, bool) {
-    match str::from_utf8(bytes) {
-        Ok(text) => (text, true),
-        Err(fault) => {
-            let (front, _) = bytes.split_at(fault.valid_up_to());
-            (str::from_utf8(front).unwrap_or(""), false)
-        }
-    }
-}
 
 /// The first fault of an input, which has one.
 pub(crate) fn fault_of(alloc: Global, bytes: &[u8]) -> Result<InputFault> {
-    let (text, is_all) = text_of(bytes);
-    if !is_all {
+    let text = valid_text(bytes);
+    if text.len() < bytes.len() {
         return Ok(InputFault::NotUtf8);
     }
     match parse_input(alloc, text) {
@@ -64,7 +52,7 @@ fn number_of(fault: InputFault) -> u16 {
 
 /// What the program says of a fault, and the explanation below it.
 pub(crate) fn told(alloc: Global, bytes: &[u8], fault: InputFault) -> Result<String> {
-    let (text, _) = text_of(bytes);
+    let text = valid_text(bytes);
     let number = number_of(fault);
     let offset = fault.offset(text);
     let explanation = explain_fault(alloc, text, fault)?;

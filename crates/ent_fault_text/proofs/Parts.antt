@@ -1,6 +1,6 @@
 -- Parts of a text.
-use Rattle.std.proofs.Common.{◌≡◌, ◌<◌, ◌+◌, ℕ, Bool, true, List, [], ◌∷◌, ◌++◌, length, take, drop, refl, sym, ◌∙◌, ap, arith}
-use Rattle.std.specs.Prelude.{◌↔◌, IsTrue}
+use Rattle.std.proofs.Common.{◌≡◌, ◌<◌, ◌+◌, ℕ, List, [], ◌∷◌, ◌++◌, length, take, drop, refl, sym, ◌∙◌, ap, arith}
+use Rattle.std.specs.Prelude.{◌↔◌}
 use Rattle.std.proofs.lemmas.List.{length-append, take-append-drop, append-nil}
 use Rattle.ent_fault_text.specs.Part.{IsEndOf, IsBeginningOf}
 
@@ -18,17 +18,26 @@ pub take_is_beginning : (text part : List ℕ) (n : ℕ) → part ≡ take n tex
 take_is_beginning text part n is =
     (drop n text, sym (take-append-drop n text) ∙ ap (λ (front : List ℕ). front ++ drop n text) (sym is))
 
+equal_lengths : (part text : List ℕ) → part ≡ text → length part ≡ length text
+equal_lengths part text same = ap (λ (bytes : List ℕ). length bytes) same
+
+not_shorter : (part text : List ℕ) → length part < length text → ¬ (part ≡ text)
+not_shorter part text shorter same = omega (arith, equal_lengths part text same, shorter)
+
 -- an end is shorter than the text just where it isn't all
 pub end_is_shorter : (text part : List ℕ) → IsEndOf text part → (length part < length text) ↔ ¬ (part ≡ text)
-end_is_shorter text part ([], whole) =
-    ((λ shorter same. omega (arith, ap (λ (l : List ℕ). length l) same, shorter)), (λ differs. absurd (differs (sym whole))))
+end_is_shorter text part ([], whole) = (not_shorter part text, (λ differs. absurd (differs (sym whole))))
 end_is_shorter text part (b ∷ front, whole) =
-    let lengths : length text ≡ length (b ∷ front) + length part = ap (λ (l : List ℕ). length l) whole ∙ length-append (b ∷ front) part in
-    ((λ shorter same. omega (arith, ap (λ (l : List ℕ). length l) same, shorter)), (λ differs. grind (arith, lengths)))
+    let lengths : length text ≡ length (b ∷ front) + length part =
+    equal_lengths text (b ∷ (front ++ part)) whole ∙ length-append (b ∷ front) part in
+    (not_shorter part text, (λ differs. grind (arith, lengths)))
 
-pub beginning_is_shorter : (text part : List ℕ) → IsBeginningOf text part → (length part < length text) ↔ ¬ (part ≡ text)
+-- the same of a beginning
+pub beginning_is_shorter : (text part : List ℕ) → IsBeginningOf text part
+    → (length part < length text) ↔ ¬ (part ≡ text)
 beginning_is_shorter text part ([], whole) =
-    ((λ shorter same. omega (arith, ap (λ (l : List ℕ). length l) same, shorter)), (λ differs. absurd (differs (sym (whole ∙ append-nil part)))))
+    (not_shorter part text, (λ differs. absurd (differs (sym (whole ∙ append-nil part)))))
 beginning_is_shorter text part (b ∷ rest, whole) =
-    let lengths : length text ≡ length part + length (b ∷ rest) = ap (λ (l : List ℕ). length l) whole ∙ length-append part (b ∷ rest) in
-    ((λ shorter same. omega (arith, ap (λ (l : List ℕ). length l) same, shorter)), (λ differs. grind (arith, lengths)))
+    let lengths : length text ≡ length part + length (b ∷ rest) =
+    equal_lengths text (part ++ b ∷ rest) whole ∙ length-append part (b ∷ rest) in
+    (not_shorter part text, (λ differs. grind (arith, lengths)))

@@ -89,7 +89,11 @@ const VALUES: [Absent; 6] = [
 /// What is written in the place of a word that is among these.
 fn found(word: &str, absents: &[Absent]) -> Option<&'static str> {
     for absent in absents {
-        if absent.words.split(' ').any(|one| one.eq_ignore_ascii_case(word)) {
+        if absent
+            .words
+            .split(' ')
+            .any(|one| one.eq_ignore_ascii_case(word))
+        {
             return Some(absent.instead);
         }
     }

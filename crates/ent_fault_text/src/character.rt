@@ -19,9 +19,9 @@ pub(crate) fn text_fault(scene: &Scene<'_>, fault: TextFault) -> Result<Told, Al
             format!(in alloc; "this text has no closing quote")?,
             "a ' in a text is written twice: ''",
         ),
-        TextFault::NumberTooLarge(_) => Ok(Told::plain(
-            format!(in alloc; "this number is above 9223372036854775807, the greatest")?,
-        )),
+        TextFault::NumberTooLarge(_) => Ok(Told::plain(format!(in alloc;
+            "this number is above 9223372036854775807, the greatest"
+        )?)),
         TextFault::TextTooLong(_) => too_long(scene, rest),
     }
 }
@@ -77,9 +77,15 @@ fn hint_of(c: char) -> Option<&'static str> {
         '"' | '`' | '\u{2018}' | '\u{2019}' | '\u{201c}' | '\u{201d}' => {
             Some("a text is written in single quotes, as 'LA', and a name without quotes")
         }
-        '@' | ':' | '?' | '$' => Some("a host variable is @ and a word directly behind it, as @day"),
-        '/' | '#' => Some("a comment goes from -- to the end of its line, and numbers aren't divided"),
-        '%' | '^' | '&' | '|' => Some("numbers are added and subtracted alone, and texts not at all"),
+        '@' | ':' | '?' | '$' => Some(
+            "a host variable is @ and a word directly behind it, as @day",
+        ),
+        '/' | '#' => Some(
+            "a comment goes from -- to the end of its line, and numbers aren't divided",
+        ),
+        '%' | '^' | '&' | '|' => Some(
+            "numbers are added and subtracted alone, and texts not at all",
+        ),
         '!' => Some("not equal is <> or !="),
         '_' => Some("a name begins with a letter"),
         '[' | ']' | '{' | '}' => Some("lists stand in ( and )"),

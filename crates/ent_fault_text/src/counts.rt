@@ -57,8 +57,14 @@ fn row_arity(scene: &Scene<'_>) -> Result<Told, AllocError> {
 fn tuple_arity(scene: &Scene<'_>) -> Result<Told, AllocError> {
     let alloc = scene.alloc;
     let coming = scene.coming();
-    let is_enclosed = scene.ahead(0).is_some_and(|mark| mark.is_sign(Symbol::Open));
-    let inside = if is_enclosed { coming.get(1..) } else { coming.get(..) };
+    let is_enclosed = scene
+        .ahead(0)
+        .is_some_and(|mark| mark.is_sign(Symbol::Open));
+    let inside = if is_enclosed {
+        coming.get(1..)
+    } else {
+        coming.get(..)
+    };
     let terms = Counted(things(inside.unwrap_or(coming), Keyword::In), "term");
     let items = Counted(items_behind(scene, coming)?, "item");
     let sentence = format!(in alloc; "this tuple has {terms}, and its sub-select has {items}")?;

@@ -135,8 +135,12 @@ fn end(text: &str, length: usize) -> &str
 }
 
 /// The character that is shown for another: itself, where that is no control character.
-fn shown(c: char) -> char {
-    if c.is_control() && c != '\t' { '\u{fffd}' } else { c }
+fn visible(c: char) -> char {
+    if c.is_control() && c != '\t' {
+        '\u{fffd}'
+    } else {
+        c
+    }
 }
 
 /// Writes a text without control characters.
@@ -146,7 +150,7 @@ struct Shown<'a>(&'a str);
 impl fmt::Display for Shown<'_> {
     fn fmt<W: fmt::Write>(&self, f: &mut fmt::Formatter<W>) -> fmt::Result {
         for c in self.0.chars() {
-            f.write_char(shown(c))?;
+            f.write_char(visible(c))?;
         }
         Ok(())
     }

@@ -4,8 +4,17 @@ use ent_sql::parse_input;
 use ent_value::Refusal;
 use std::alloc::{AllocError, Global};
 
-/// The tokens that are tried, but those of values and comparisons.
-const WORDS: &str = "( ) , ; . * + - AND ANSWER AS BEGIN CHOOSE COMMIT CREATE DELETE FROM IN INSERT INT INTO ROLLBACK RUNS SELECT SET TABLE TEXT TRANSACTION UPDATE VALUES WHERE WITHIN";
+/// The symbols that are tried, but those of comparisons.
+const SIGNS: &str = "( ) , ; . * + -";
+
+/// The reserved words from A to C.
+const FIRST_WORDS: &str = "AND ANSWER AS BEGIN CHOOSE COMMIT CREATE";
+
+/// The reserved words from D to R.
+const MIDDLE_WORDS: &str = "DELETE FROM IN INSERT INT INTO ROLLBACK RUNS";
+
+/// The reserved words from S on.
+const LAST_WORDS: &str = "SELECT SET TABLE TEXT TRANSACTION UPDATE VALUES WHERE WITHIN";
 
 /// What can stand at a place.
 #[derive(Drop)]
@@ -45,11 +54,8 @@ impl Expected {
         if can_follow(alloc, lead, "=")? {
             things.push("a comparison")?;
         }
-        for word in WORDS.split(' ') {
-            let is_value = word == "-" && values.is_number;
-            if !is_value && can_follow(alloc, lead, word)? {
-                things.push(word)?;
-            }
+        for words in [SIGNS, FIRST_WORDS, MIDDLE_WORDS, LAST_WORDS] {
+            add_words(&mut things, alloc, lead, words, values)?;
         }
         if is_input(alloc, lead)? {
             things.push("the end of the input")?;
@@ -66,6 +72,23 @@ impl Expected {
     pub(crate) fn listed(&self, alloc: Global) -> Result<String, AllocError> {
         joined(alloc, self.things.as_slice(), " or ")
     }
+}
+
+/// Adds those of some words that can stand somewhere. A minus sign before a number belongs to a value.
+fn add_words(
+    things: &mut Vec<&'static str>,
+    alloc: Global,
+    lead: &str,
+    words: &'static str,
+    values: Values,
+) -> Result<(), AllocError> {
+    for word in words.split(' ') {
+        let is_value = word == "-" && values.is_number;
+        if !is_value && can_follow(alloc, lead, word)? {
+            things.push(word)?;
+        }
+    }
+    Ok(())
 }
 
 /// Whether a text is an input.

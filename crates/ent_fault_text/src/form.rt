@@ -39,9 +39,16 @@ fn no_table(scene: &Scene<'_>) -> Result<Told, AllocError> {
     let sentence = format!(in alloc; "there is no table {name}")?;
     if scene.relations.iter().any(|relation| *relation == name) {
         let hint = format!(in alloc; "{name} is an answer relation, and no table")?;
-        return Ok(Told { sentence, hint: Some(hint) });
+        return Ok(Told {
+            sentence,
+            hint: Some(hint),
+        });
     }
-    let names: Vec<&str> = scene.tables.iter().map(|table| table.name.text).collect(alloc)?;
+    let names: Vec<&str> = scene
+        .tables
+        .iter()
+        .map(|table| table.name.text)
+        .collect(alloc)?;
     let hint = hint_among(scene, name, names.as_slice(), "the tables are")?;
     Ok(Told { sentence, hint })
 }
@@ -55,7 +62,10 @@ fn no_source(scene: &Scene<'_>, name: &str) -> Result<Told, AllocError> {
         if source.table == name {
             let alias = source.name;
             let hint = format!(in alloc; "{name} goes by {alias} here")?;
-            return Ok(Told { sentence, hint: Some(hint) });
+            return Ok(Told {
+                sentence,
+                hint: Some(hint),
+            });
         }
     }
     let names: Vec<&str> = sources.iter().map(|source| source.name).collect(alloc)?;
@@ -143,7 +153,8 @@ fn unbound(scene: &Scene<'_>) -> Result<Told, AllocError> {
     let alloc = scene.alloc;
     let name = scene.word();
     let sentence = format!(in alloc;
-        "{name} has no value: it stands in no tuple with IN (SELECT ..) of its statement")?;
+        "{name} has no value: it stands in no tuple with IN (SELECT ..) of its statement"
+    )?;
     let hint = Some(unbound_hint(scene, name)?);
     Ok(Told { sentence, hint })
 }
@@ -169,12 +180,18 @@ fn no_host_variable(scene: &Scene<'_>) -> Result<Told, AllocError> {
     let alloc = scene.alloc;
     let name = scene.word();
     let sentence = format!(in alloc;
-        "{name} has no value: no earlier statement of its script gives it one")?;
+        "{name} has no value: no earlier statement of its script gives it one"
+    )?;
     for (index, mark) in scene.statement().iter().enumerate() {
         let is_bound = index > 0 && mark.sort == Sort::HostVariable && mark.text == name;
         if is_bound && mark.start != scene.offset && scene.is_bound_at(index) {
-            let hint = format!(in alloc; "AS {name} gives it one for the statements behind this one")?;
-            return Ok(Told { sentence, hint: Some(hint) });
+            let hint = format!(in alloc;
+                "AS {name} gives it one for the statements behind this one"
+            )?;
+            return Ok(Told {
+                sentence,
+                hint: Some(hint),
+            });
         }
     }
     let others = scene.host_variables()?;

@@ -174,7 +174,10 @@ fn things_at(scene: &Scene<'_>) -> &'static str {
     if scene.follows(Keyword::And) {
         return "conditions: a WHERE has at most 16";
     }
-    if scene.back(1).is_some_and(|mark| mark.is_sign(Symbol::Comma)) {
+    if scene
+        .back(1)
+        .is_some_and(|mark| mark.is_sign(Symbol::Comma))
+    {
         return listed_things(scene);
     }
     match scene.ahead(0) {

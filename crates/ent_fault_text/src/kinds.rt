@@ -20,21 +20,26 @@ pub(crate) struct Side<'a> {
     pub(crate) kind: Option<Kind>,
 }
 
-/// Where the innermost SELECT begins that isn't closed behind these tokens; 0 where there is none.
+/// Where the SELECT in parentheses begins that isn't closed behind these tokens; 0 where there is none. No such SELECT
+/// holds another.
 fn select_start(marks: &[Mark<'_>]) -> usize {
-    let mut closed = 0usize;
-    for (index, mark) in marks.iter().enumerate().rev() {
+    let mut start = 0usize;
+    let mut depth = 0usize;
+    for (index, mark) in marks.iter().enumerate() {
         let next = index.saturating_add(1);
-        if mark.is_sign(Symbol::Close) {
-            closed = closed.saturating_add(1);
-        } else if mark.is_sign(Symbol::Open) {
-            if closed == 0 && is_select(marks.get(next)) {
-                return next;
+        if mark.is_sign(Symbol::Open) {
+            depth = depth.saturating_add(1);
+            if is_select(marks.get(next)) {
+                start = next;
             }
-            closed = closed.saturating_sub(1);
+        } else if mark.is_sign(Symbol::Close) {
+            depth = depth.saturating_sub(1);
+            if depth == 0 {
+                start = 0;
+            }
         }
     }
-    0
+    start
 }
 
 fn is_select(mark: Option<&Mark<'_>>) -> bool {
@@ -95,7 +100,9 @@ impl<'a> Scene<'a> {
     fn scope(&self) -> &[Mark<'a>] {
         let statement = self.statement();
         let passed = statement.len().saturating_sub(self.coming().len());
-        let front = statement.get(..passed.saturating_add(1)).unwrap_or(statement);
+        let front = statement
+            .get(..passed.saturating_add(1))
+            .unwrap_or(statement);
         statement.get(select_start(front)..).unwrap_or(statement)
     }
 
@@ -105,7 +112,10 @@ impl<'a> Scene<'a> {
     }
 
     /// The sources of the first SELECT that these tokens go on.
-    pub(crate) fn sources_behind<'b>(&self, marks: &[Mark<'b>]) -> Result<Vec<Source<'b>>, AllocError> {
+    pub(crate) fn sources_behind<'b>(
+        &self,
+        marks: &[Mark<'b>],
+    ) -> Result<Vec<Source<'b>>, AllocError> {
         sources_of(self.alloc, introduced(marks))
     }
 
@@ -120,7 +130,9 @@ impl<'a> Scene<'a> {
             if qualifier.is_some_and(|wanted| wanted != source.name) {
                 continue;
             }
-            let column = self.table(source.table).and_then(|table| table.column(name));
+            let column = self
+                .table(source.table)
+                .and_then(|table| table.column(name));
             if column.is_some() {
                 return Ok(column);
             }
@@ -129,7 +141,11 @@ impl<'a> Scene<'a> {
     }
 
     /// The kind of a token that is a value, or a column with this qualifier.
-    fn kind_of(&self, qualifier: Option<&str>, mark: &Mark<'_>) -> Result<Option<Kind>, AllocError> {
+    fn kind_of(
+        &self,
+        qualifier: Option<&str>,
+        mark: &Mark<'_>,
+    ) -> Result<Option<Kind>, AllocError> {
         match mark.sort {
             Sort::Number | Sort::Sign(Symbol::Minus) => Ok(Some(Kind::Int)),
             Sort::Text => Ok(Some(Kind::Text)),
@@ -141,13 +157,19 @@ impl<'a> Scene<'a> {
     /// What begins at the place.
     pub(crate) fn side_ahead(&self) -> Result<Side<'a>, AllocError> {
         let (Some(first), dot, second) = (self.ahead(0), self.ahead(1), self.ahead(2)) else {
-            return Ok(Side { text: "", kind: None });
+            return Ok(Side {
+                text: "",
+                kind: None,
+            });
         };
         let is_pair = first.is_sign(Symbol::Minus);
         let is_qualified = first.is_name() && dot.is_some_and(|mark| mark.is_sign(Symbol::Dot));
         if is_qualified && let Some(column) = second {
             let kind = self.kind_of(Some(first.text), &column)?;
-            return Ok(Side { text: self.between(&first, &column), kind });
+            return Ok(Side {
+                text: self.between(&first, &column),
+                kind,
+            });
         }
         let kind = self.kind_of(None, &first)?;
         let text = match dot {
@@ -168,10 +190,16 @@ impl<'a> Scene<'a> {
         let is_qualified = self.back(3).is_some_and(|mark| mark.is_sign(Symbol::Dot));
         if is_qualified && let Some(qualifier) = self.back(4) {
             let kind = self.kind_of(Some(qualifier.text), &last)?;
-            return Ok(Some(Side { text: self.between(&qualifier, &last), kind }));
+            return Ok(Some(Side {
+                text: self.between(&qualifier, &last),
+                kind,
+            }));
         }
         let kind = self.kind_of(None, &last)?;
-        Ok(Some(Side { text: last.text, kind }))
+        Ok(Some(Side {
+            text: last.text,
+            kind,
+        }))
     }
 
     /// The text from one token to the end of another.

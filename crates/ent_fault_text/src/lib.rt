@@ -28,6 +28,6 @@ mod words;
 
 pub use excerpt::Excerpt;
 pub use explanation::{Explanation, explain_fault};
-pub use fault::InputFault;
+pub use fault::{InputFault, valid_text};
 pub use line::Line;
 pub use place::Place;

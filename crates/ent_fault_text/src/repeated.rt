@@ -17,7 +17,9 @@ pub(crate) fn ambiguous(scene: &Scene<'_>) -> Result<Told, AllocError> {
     let sentence = format!(in alloc; "two sources have a column {name}")?;
     let mut choices: Vec<String> = Vec::new(alloc);
     for source in &scene.sources()? {
-        let has = scene.table(source.table).is_some_and(|table| table.column(name).is_some());
+        let has = scene
+            .table(source.table)
+            .is_some_and(|table| table.column(name).is_some());
         if has {
             let qualifier = source.name;
             choices.push(format!(in alloc; "{qualifier}.{name}")?)?;
@@ -26,7 +28,10 @@ pub(crate) fn ambiguous(scene: &Scene<'_>) -> Result<Told, AllocError> {
     let names: Vec<&str> = choices.iter().map(|choice| choice.as_str()).collect(alloc)?;
     let list = listed(alloc, names.as_slice(), " or ")?;
     let hint = format!(in alloc; "write {list}")?;
-    Ok(Told { sentence, hint: Some(hint) })
+    Ok(Told {
+        sentence,
+        hint: Some(hint),
+    })
 }
 
 /// Whether the place stands in a FROM.
@@ -43,7 +48,7 @@ fn is_source(scene: &Scene<'_>) -> bool {
 
 /// What is declared, assigned, named or bound twice.
 #[derive(Clone, Copy, PartialEq, Eq)]
-enum Repeated {
+enum RepeatedThing {
     Table,
     Column,
     Assignment,
@@ -52,19 +57,22 @@ enum Repeated {
 }
 
 /// What stands at the place.
-fn repeated_at(scene: &Scene<'_>) -> Repeated {
+fn repeated_at(scene: &Scene<'_>) -> RepeatedThing {
     if scene.follows(Keyword::Table) {
-        return Repeated::Table;
+        return RepeatedThing::Table;
     }
     if scene.follows(Keyword::Answer) {
-        return Repeated::Relation;
+        return RepeatedThing::Relation;
     }
-    if scene.ahead(0).is_some_and(|mark| mark.sort == Sort::HostVariable) {
-        return Repeated::HostVariable;
+    if scene
+        .ahead(0)
+        .is_some_and(|mark| mark.sort == Sort::HostVariable)
+    {
+        return RepeatedThing::HostVariable;
     }
     match scene.statement().first() {
-        Some(mark) if mark.is_word(Keyword::Create) => Repeated::Column,
-        _ => Repeated::Assignment,
+        Some(mark) if mark.is_word(Keyword::Create) => RepeatedThing::Column,
+        _ => RepeatedThing::Assignment,
     }
 }
 
@@ -74,11 +82,13 @@ pub(crate) fn repeated(scene: &Scene<'_>) -> Result<Told, AllocError> {
     let name = scene.word();
     let thing = repeated_at(scene);
     let sentence = match thing {
-        Repeated::Table => format!(in alloc; "the table {name} is declared twice")?,
-        Repeated::Column => format!(in alloc; "the column {name} is declared twice")?,
-        Repeated::Assignment => format!(in alloc; "the column {name} is assigned twice")?,
-        Repeated::Relation => format!(in alloc; "the answer relation {name} is named twice")?,
-        Repeated::HostVariable => format!(in alloc; "{name} is given a value twice in one statement")?,
+        RepeatedThing::Table => format!(in alloc; "the table {name} is declared twice")?,
+        RepeatedThing::Column => format!(in alloc; "the column {name} is declared twice")?,
+        RepeatedThing::Assignment => format!(in alloc; "the column {name} is assigned twice")?,
+        RepeatedThing::Relation => format!(in alloc; "the answer relation {name} is named twice")?,
+        RepeatedThing::HostVariable => format!(in alloc;
+            "{name} is given a value twice in one statement"
+        )?,
     };
     let hint = match first_of(scene, thing) {
         Some(start) => {
@@ -91,8 +101,8 @@ pub(crate) fn repeated(scene: &Scene<'_>) -> Result<Told, AllocError> {
 }
 
 /// Where the first of the two stands.
-fn first_of(scene: &Scene<'_>, thing: Repeated) -> Option<usize> {
-    if thing == Repeated::Table {
+fn first_of(scene: &Scene<'_>, thing: RepeatedThing) -> Option<usize> {
+    if thing == RepeatedThing::Table {
         return Some(scene.table(scene.word())?.name.start);
     }
     let mut last: Option<Mark<'_>> = None;
@@ -106,12 +116,12 @@ fn first_of(scene: &Scene<'_>, thing: Repeated) -> Option<usize> {
 }
 
 /// Whether a token can stand before such a thing.
-fn leads_to(thing: Repeated, before: &Mark<'_>) -> bool {
+fn leads_to(thing: RepeatedThing, before: &Mark<'_>) -> bool {
     match thing {
-        Repeated::Table => before.is_word(Keyword::Table),
-        Repeated::Column => before.is_sign(Symbol::Open) || before.is_sign(Symbol::Comma),
-        Repeated::Assignment => before.is_word(Keyword::Set) || before.is_sign(Symbol::Comma),
-        Repeated::Relation => before.is_word(Keyword::Answer),
-        Repeated::HostVariable => before.is_word(Keyword::As),
+        RepeatedThing::Table => before.is_word(Keyword::Table),
+        RepeatedThing::Column => before.is_sign(Symbol::Open) || before.is_sign(Symbol::Comma),
+        RepeatedThing::Assignment => before.is_word(Keyword::Set) || before.is_sign(Symbol::Comma),
+        RepeatedThing::Relation => before.is_word(Keyword::Answer),
+        RepeatedThing::HostVariable => before.is_word(Keyword::As),
     }
 }

@@ -121,7 +121,10 @@ impl<'a> Scene<'a> {
     /// The tokens of the statement that holds the place.
     pub(crate) fn statement(&self) -> &[Mark<'a>] {
         let passed = self.passed();
-        let start = match passed.iter().rposition(|mark| mark.is_sign(Symbol::Semicolon)) {
+        let start = match passed
+            .iter()
+            .rposition(|mark| mark.is_sign(Symbol::Semicolon))
+        {
             Some(end) => end.saturating_add(1),
             None => 0,
         };

@@ -21,7 +21,10 @@ pub(crate) struct Table<'a> {
 impl<'a> Table<'a> {
     /// Its column of this name.
     pub(crate) fn column(&self, name: &str) -> Option<Column<'a>> {
-        self.columns.iter().copied().find(|column| column.name == name)
+        self.columns
+            .iter()
+            .copied()
+            .find(|column| column.name == name)
     }
 }
 
@@ -47,7 +50,10 @@ pub(crate) fn declare<'a>(
     };
     if last.is_word(Keyword::Table) && mark.is_name() {
         let columns = Vec::new(alloc);
-        tables.push(Table { name: mark, columns })?;
+        tables.push(Table {
+            name: mark,
+            columns,
+        })?;
         return Ok(());
     }
     let Some(kind) = kind_named(&mark) else {

@@ -30,8 +30,10 @@ pub(crate) fn wrong_kind(scene: &Scene<'_>) -> Result<Told, AllocError> {
 
 /// Whether the place stands beside `+` or `-`, as a term of a sum.
 fn is_beside_sign(scene: &Scene<'_>) -> bool {
-    let is_behind = scene.back(1).is_some_and(|mark| mark.is_sign(Symbol::Plus) || mark.is_sign(Symbol::Minus));
-    let is_before = scene.ahead(1).is_some_and(|mark| mark.is_sign(Symbol::Plus) || mark.is_sign(Symbol::Minus));
+    let is_behind = scene.back(1).is_some_and(|mark| mark.is_sign(Symbol::Plus)
+        || mark.is_sign(Symbol::Minus));
+    let is_before = scene.ahead(1).is_some_and(|mark| mark.is_sign(Symbol::Plus)
+        || mark.is_sign(Symbol::Minus));
     let is_qualified = scene.ahead(1).is_some_and(|mark| mark.is_sign(Symbol::Dot));
     is_behind || is_before || is_qualified && is_before_sign(scene)
 }
@@ -44,7 +46,9 @@ fn is_before_sign(scene: &Scene<'_>) -> bool {
 fn beside_sign(scene: &Scene<'_>, side: Side<'_>) -> Result<Told, AllocError> {
     let alloc = scene.alloc;
     let text = side.text;
-    let sentence = format!(in alloc; "{text} is a TEXT, and only an INT can be added or subtracted")?;
+    let sentence = format!(in alloc;
+        "{text} is a TEXT, and only an INT can be added or subtracted"
+    )?;
     Ok(Told::plain(sentence))
 }
 
@@ -57,7 +61,10 @@ fn inserted_column<'a>(scene: &Scene<'a>) -> Option<Column<'a>> {
     let table = scene.table(statement.get(2)?.text)?;
     let passed = statement.len().saturating_sub(scene.coming().len());
     let front = statement.get(..passed)?;
-    let commas = front.iter().filter(|mark| mark.is_sign(Symbol::Comma)).count();
+    let commas = front
+        .iter()
+        .filter(|mark| mark.is_sign(Symbol::Comma))
+        .count();
     table.columns.get(commas).copied()
 }
 
@@ -103,7 +110,9 @@ fn quotes_hint(scene: &Scene<'_>, text: &str) -> Result<Option<String>, AllocErr
     if is_digits(text) {
         return Ok(Some(format!(in alloc; "a text is written in quotes: '{text}'")?));
     }
-    let inner = text.strip_prefix('\'').and_then(|rest| rest.strip_suffix('\''));
+    let inner = text
+        .strip_prefix('\'')
+        .and_then(|rest| rest.strip_suffix('\''));
     match inner {
         Some(digits) if is_digits(digits) => {
             Ok(Some(format!(in alloc; "a number is written without quotes: {digits}")?))

@@ -5,7 +5,7 @@ use ent_text::Keyword;
 use std::alloc::AllocError;
 
 impl<'a> Scene<'a> {
-    /// The other names of the statement that are no tables, relations or columns of a sub-select: its written variables.
+    /// The other names of the statement that are no tables' and no relations': its written variables are among them.
     pub(crate) fn variables(&self) -> Result<Vec<&'a str>, AllocError> {
         let mut names = Vec::new(self.alloc);
         let word = self.word();
@@ -39,7 +39,10 @@ impl<'a> Scene<'a> {
 
     /// Whether the host variable at this place of the statement is given a value there, by AS.
     pub(crate) fn is_bound_at(&self, index: usize) -> bool {
-        match index.checked_sub(1).and_then(|before| self.statement().get(before)) {
+        match index
+            .checked_sub(1)
+            .and_then(|before| self.statement().get(before))
+        {
             Some(mark) => mark.is_word(Keyword::As),
             None => false,
         }
