@@ -1,5 +1,5 @@
 //! What is said where numbers of values differ.
-use crate::mark::Mark;
+use crate::mark::{Mark, marks_behind};
 use crate::scene::Scene;
 use crate::words::{Counted, Told};
 use ent_text::{Keyword, Symbol};
@@ -45,7 +45,7 @@ fn row_arity(scene: &Scene<'_>) -> Result<Told, AllocError> {
         Some(table) => table.columns.len(),
         None => 0,
     };
-    let inside = scene.coming().get(1..).unwrap_or(&[]);
+    let inside = marks_behind(scene.coming(), 1);
     let columns = Counted(columns, "column");
     let count = things(inside, Keyword::Values);
     let values = Counted(count, "value");
@@ -77,7 +77,7 @@ fn items_behind(scene: &Scene<'_>, marks: &[Mark<'_>]) -> Result<usize, AllocErr
         Some(at) => at.saturating_add(1),
         None => marks.len(),
     };
-    let list = marks.get(start..).unwrap_or(&[]);
+    let list = marks_behind(marks, start);
     if !list.first().is_some_and(|mark| mark.is_sign(Symbol::Star)) {
         return Ok(things(list, Keyword::From));
     }

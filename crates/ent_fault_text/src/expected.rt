@@ -49,7 +49,7 @@ impl Expected {
     /// What can follow a text that begins an input.
     pub(crate) fn behind(alloc: Global, lead: &str) -> Result<Self, AllocError> {
         let values = values_behind(alloc, lead)?;
-        let mut things = Vec::new(alloc);
+        let mut things: Vec<&'static str> = Vec::new(alloc);
         add_values(&mut things, values)?;
         if can_follow(alloc, lead, "=")? {
             things.push("a comparison")?;

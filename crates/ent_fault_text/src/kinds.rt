@@ -1,5 +1,5 @@
 //! The sources around a place, and the kinds of what stands there.
-use crate::mark::{Mark, Sort};
+use crate::mark::{Mark, Sort, first_marks, marks_behind};
 use crate::scene::Scene;
 use crate::schema::Column;
 use ent_text::{Keyword, Symbol};
@@ -54,14 +54,14 @@ fn introduced<'a, 'b>(marks: &'b [Mark<'a>]) -> &'b [Mark<'a>] {
             depth = depth.saturating_add(1);
         } else if mark.is_sign(Symbol::Close) {
             if depth == 0 {
-                return &[];
+                return first_marks(marks, 0);
             }
             depth = depth.saturating_sub(1);
         } else if depth == 0 && introduces(mark) {
-            return marks.get(index.saturating_add(1)..).unwrap_or(&[]);
+            return marks_behind(marks, index.saturating_add(1));
         }
     }
-    &[]
+    first_marks(marks, 0)
 }
 
 fn introduces(mark: &Mark<'_>) -> bool {
@@ -100,10 +100,8 @@ impl<'a> Scene<'a> {
     fn scope(&self) -> &[Mark<'a>] {
         let statement = self.statement();
         let passed = statement.len().saturating_sub(self.coming().len());
-        let front = statement
-            .get(..passed.saturating_add(1))
-            .unwrap_or(statement);
-        statement.get(select_start(front)..).unwrap_or(statement)
+        let front = first_marks(statement, passed.saturating_add(1));
+        marks_behind(statement, select_start(front))
     }
 
     /// The sources of the innermost SELECT that holds the place; of another statement its table.

@@ -77,3 +77,13 @@ pub(crate) fn sort_of(view: &TokenView<'_>) -> Sort {
         TokenView::Fault(_) => Sort::Faulty,
     }
 }
+
+/// The first of some tokens, up to so many.
+pub(crate) fn first_marks<'a, 'b>(marks: &'b [Mark<'a>], count: usize) -> &'b [Mark<'a>] {
+    marks.split_at(count.min(marks.len())).0
+}
+
+/// The tokens behind so many.
+pub(crate) fn marks_behind<'a, 'b>(marks: &'b [Mark<'a>], count: usize) -> &'b [Mark<'a>] {
+    marks.split_at(count.min(marks.len())).1
+}

@@ -1,5 +1,5 @@
 //! What stands around a place: the declared tables, and the tokens of its statement.
-use crate::mark::{Mark, Sort};
+use crate::mark::{Mark, Sort, first_marks, marks_behind};
 use crate::schema::{Table, declare};
 use ent_text::{Keyword, Symbol};
 use std::alloc::{AllocError, Global};
@@ -110,12 +110,12 @@ impl<'a> Scene<'a> {
 
     /// The tokens before the place.
     pub(crate) fn passed(&self) -> &[Mark<'a>] {
-        self.marks.get(..self.at).unwrap_or(&[])
+        first_marks(self.marks.as_slice(), self.at)
     }
 
     /// The tokens from the place on.
     pub(crate) fn coming(&self) -> &[Mark<'a>] {
-        self.marks.get(self.at..).unwrap_or(&[])
+        marks_behind(self.marks.as_slice(), self.at)
     }
 
     /// The tokens of the statement that holds the place.
@@ -128,7 +128,7 @@ impl<'a> Scene<'a> {
             Some(end) => end.saturating_add(1),
             None => 0,
         };
-        self.marks.get(start..).unwrap_or(&[])
+        marks_behind(self.marks.as_slice(), start)
     }
 
     /// The text from the first of these tokens up to the place.
