@@ -1,6 +1,6 @@
 -- Parts of a text.
-use Rattle.std.proofs.Common.{◌≡◌, ◌<◌, ◌+◌, ℕ, List, [], ◌∷◌, ◌++◌, length, take, drop, refl, sym, ◌∙◌, ap, arith}
-use Rattle.std.specs.Prelude.{◌↔◌}
+use Rattle.std.proofs.Common.{◌≡◌, ◌<◌, ◌+◌, ℕ, Bool, true, false, List, [], ◌∷◌, ◌++◌, length, take, drop, refl, sym, ◌∙◌, ap, arith}
+use Rattle.std.specs.Prelude.{◌↔◌, IsTrue}
 use Rattle.std.proofs.lemmas.List.{length-append, take-append-drop, append-nil}
 use Rattle.ent_fault_text.specs.Part.{IsEndOf, IsBeginningOf}
 
@@ -41,3 +41,11 @@ beginning_is_shorter text part (b ∷ rest, whole) =
     let lengths : length text ≡ length part + length (b ∷ rest) =
     equal_lengths text (part ++ b ∷ rest) whole ∙ length-append part (b ∷ rest) in
     (not_shorter part text, (λ differs. grind (arith, lengths)))
+
+pub in_turn : {A B C : Type 0} → A ↔ B → B ↔ C → A ↔ C
+in_turn first second = ((λ a. second.0 (first.0 a)), (λ b. first.1 (second.1 b)))
+
+-- a part that is all of the text isn't cut
+pub not_cut : (cut : Bool) (part text : List ℕ) → IsTrue cut ↔ ¬ (part ≡ text) → part ≡ text → cut ≡ false
+not_cut true part text told same = absurd (told.0 refl same)
+not_cut false part text told same = refl

@@ -1,5 +1,5 @@
 //! A line that is shown, with carets below it.
-ghost use Rattle.std.specs.Prelude.{◌≡◌, ◌+◌, ◌≤◌};
+ghost use Rattle.std.specs.Prelude.{◌≡◌, ◌+◌, ◌≤◌, ◌<◌, ◌↔◌, length, IsTrue};
 ghost use Rattle.ent_fault_text.specs.Part.{IsEndOf, IsBeginningOf, width};
 
 use crate::line::Line;
@@ -34,16 +34,39 @@ impl<'a> Excerpt<'a> {
     pub fn of(line: Line<'a>, marked: usize) -> Self
         ensures { IsExcerptOf line.entry.before.now line.entry.behind.now result }
     {
-        let Line { before, behind } = line;
-        let (shown_before, shown_behind) = shown_parts(before, behind);
+        let parts = shown_parts(line.before, line.behind);
+        let is_cut_before = is_shorter(parts.0, line.before);
+        let is_cut_behind = is_shorter(parts.1, line.behind);
+        let carets = carets_below(parts.1, marked);
         Excerpt {
-            before: shown_before,
-            behind: shown_behind,
-            is_cut_before: shown_before.len() < before.len(),
-            is_cut_behind: shown_behind.len() < behind.len(),
-            carets: marked.min(columns(shown_behind)).max(1),
+            before: parts.0,
+            behind: parts.1,
+            is_cut_before,
+            is_cut_behind,
+            carets,
         }
     }
+}
+
+/// Whether a part is shorter than the text.
+fn is_shorter(part: &str, text: &str) -> bool
+    ensures { IsTrue result ↔ (length part.now < length text.now) }
+{
+    part.len() < text.len()
+}
+
+/// How many carets stand below what is shown behind a place, where so many columns are marked: one at least.
+fn carets_below(shown: &str, marked: usize) -> usize
+    ensures { 0 < result }
+{
+    marked.min(columns(shown)).max(1)
+}
+
+/// Whether the parts of a line take no more than 100 columns.
+fn is_short(before: &str, behind: &str) -> bool
+    ensures { IsTrue result ↔ (width before.now + width behind.now ≤ 100) }
+{
+    before.width().saturating_add(behind.width()) <= MOST_COLUMNS
 }
 
 /// The parts of a line that are shown: both, where they take no more than 100 columns.
@@ -53,7 +76,7 @@ fn shown_parts<'a>(before: &'a str, behind: &'a str) -> (&'a str, &'a str)
     ensures short { width before.now + width behind.now ≤ 100
         → (result.0.now ≡ before.now) × (result.1.now ≡ behind.now) }
 {
-    if before.width().saturating_add(behind.width()) <= MOST_COLUMNS {
+    if is_short(before, behind) {
         return (before, behind);
     }
     let room = MOST_COLUMNS.saturating_sub(columns(behind).min(COLUMNS_BEHIND));

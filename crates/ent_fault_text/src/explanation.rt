@@ -44,10 +44,13 @@ pub fn explain_fault<'a>(
     let offset = fault.offset(text);
     let scene = scene_at(alloc, text, offset)?;
     let Told { sentence, hint } = told(&scene, fault)?;
+    let place = Place::of(text, offset);
+    let line = Line::of(text, offset);
+    let excerpt = Excerpt::of(line, marked(&scene));
     Ok(Explanation {
-        place: Place::of(text, offset),
+        place,
         sentence,
-        excerpt: Excerpt::of(Line::of(text, offset), marked(&scene)),
+        excerpt,
         hint,
     })
 }

@@ -1,5 +1,5 @@
 //! Where something stands, for people.
-ghost use Rattle.std.specs.Prelude.{◌≡◌, ◌+◌, length, take, chars};
+ghost use Rattle.std.specs.Prelude.{◌≡◌, ◌+◌, ◌≤◌, ◌<◌, ◌^◌, length, take, chars};
 ghost use Rattle.std.specs.Str.{IsCharBoundary};
 ghost use Rattle.ent_fault_text.specs.Place.{breaks, IsPlaceAt};
 
@@ -33,7 +33,9 @@ fn breaks(text: &str) -> usize
 
 /// How many characters a text has.
 fn characters(text: &str) -> usize
-    ensures { result ≡ length (chars text.now) }
+    ensures value { result ≡ length (chars text.now) }
+    ensures bound { result ≤ length text.now }
+    ensures small { result < 2 ^ 63 }
 {
     text.chars().count()
 }
