@@ -51,6 +51,7 @@ fn fixed_hint(scene: &Scene<'_>, found: &Mark<'_>, expected: &Expected) -> Optio
         .or(hint_of_number(scene, found))
         .or(hint_of_place(found, expected))
         .or(hint_of_word(found, expected))
+        .or(hint_of_sign(found, expected))
 }
 
 /// What helps in an INSERT.
@@ -124,16 +125,33 @@ fn hint_of_place(found: &Mark<'_>, expected: &Expected) -> Option<&'static str> 
     None
 }
 
-/// What helps where a word is reserved, or a sign isn't in the language.
+/// What helps where a word is reserved, or stands in other statements alone.
 fn hint_of_word(found: &Mark<'_>, expected: &Expected) -> Option<&'static str> {
     if is_likely_name(found) && expected.has("a name") {
         return Some("this word is reserved, and can't be a name");
     }
+    if found.is_word(Keyword::In) {
+        return Some("IN stands in entangled statements alone, outside their sub-selects");
+    }
+    if found.sort == Sort::HostVariable && expected.has("ANSWER") {
+        return Some("SET gives a host variable a value, and so does AS in an entangled statement");
+    }
+    None
+}
+
+/// What helps where a sign can't stand.
+fn hint_of_sign(found: &Mark<'_>, expected: &Expected) -> Option<&'static str> {
     if found.is_sign(Symbol::Equal) && expected.has("a value") {
         return Some("equal is one =");
     }
     if found.is_sign(Symbol::Star) {
         return Some("numbers are added and subtracted alone");
+    }
+    if found.is_sign(Symbol::Plus) || found.is_sign(Symbol::Minus) {
+        return Some("a sum has two terms, and stands in UPDATE and SET alone");
+    }
+    if found.is_sign(Symbol::Semicolon) && expected.has("TRANSACTION") {
+        return Some("a script begins with BEGIN TRANSACTION;");
     }
     None
 }
