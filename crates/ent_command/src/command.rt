@@ -1,11 +1,11 @@
 //! What the program does: it reads its command line, and runs what that asks for.
 use crate::ending::Ending;
-use crate::words::{Asked, AskedRun, asked_of, command};
+use crate::running::run;
+use crate::words::{Asked, asked_of, command};
 use clap::Error;
 use clap::error::ErrorKind;
 use ent_check_report::check_report;
-use ent_engine::{FaultLine, RunFault, RunOptions, run_watched, run_workers};
-use ent_trace::Trace;
+use ent_engine::{FaultLine, RunFault};
 use ent_value::Watched;
 use std::alloc::Global;
 use std::env::Env;
@@ -21,20 +21,25 @@ where
     R: Env + AllocGlobal + Input + Print + Eprint,
     T: Threads + Wait + Sync,
 {
-    let ending = match words_of(rt) {
-        Ok(words) => match read_command_line(rt.alloc(), words.as_slice()) {
-            Ok(Asked::Run(asked)) => {
-                say_what_is_read(rt, is_terminal, "tables, rows and scripts");
-                Ending::from(run(rt, threads, asked))
-            }
-            Ok(Asked::Check) => {
-                say_what_is_read(rt, is_terminal, "a report of version 2");
-                check(rt)
-            }
-            Err(fault) => show_command_line(rt, &fault),
-        },
-        Err(ending) => ending,
+    let words = match words_of(rt) {
+        Ok(words) => words,
+        Err(ending) => return said(rt, ending),
     };
+    match read_command_line(rt.alloc(), words.as_slice()) {
+        Ok(Asked::Run(asked)) => {
+            say_what_is_read(rt, is_terminal, "tables, rows and scripts");
+            run(rt, threads, asked)
+        }
+        Ok(Asked::Check) => {
+            say_what_is_read(rt, is_terminal, "a report of version 2");
+            said(rt, check(rt))
+        }
+        Err(fault) => said(rt, show_command_line(rt, &fault)),
+    }
+}
+
+/// Says the fault with which the program ends, where there is one, in a line on standard error.
+pub(crate) fn said<R: Eprint>(rt: &R, ending: Ending) -> Ending {
     if let Ending::Faulty(fault) = ending {
         let _ = eprintln!(rt; "{}", FaultLine(fault));
     }
@@ -79,55 +84,6 @@ fn show_command_line<R: Print + Eprint>(rt: &R, fault: &Error) -> Ending {
         Ending::Faulty(RunFault::WriteFault)
     } else {
         Ending::Done
-    }
-}
-
-/// Runs the scripts of standard input.
-fn run<R: AllocGlobal + Input + Print + Eprint, T: Threads + Wait + Sync>(
-    rt: &R,
-    threads: &T,
-    asked: AskedRun,
-) -> Result<(), RunFault> {
-    let AskedRun {
-        workers,
-        is_traced,
-        options,
-    } = asked;
-    if is_traced {
-        return run_traced(rt, options);
-    }
-    let mut reader = Watched::new(rt.reader());
-    let mut writer = Watched::new(io::writer(rt));
-    if workers == 0 {
-        return ent_engine::run(rt.alloc(), &mut reader, &mut writer, options);
-    }
-    run_workers(
-        threads,
-        rt.alloc(),
-        &mut reader,
-        &mut writer,
-        workers,
-        options.report,
-    )
-}
-
-/// Runs the scripts of standard input on one thread, and writes each event and its reply to standard error, also where
-/// the run comes to a fault. Where not all of that could be written, this is a fault of the writer, though the report
-/// was.
-fn run_traced<R: AllocGlobal + Input + Print + Eprint>(
-    rt: &R,
-    options: RunOptions,
-) -> Result<(), RunFault> {
-    let mut reader = Watched::new(rt.reader());
-    let mut writer = Watched::new(io::writer(rt));
-    let mut trace = Trace::new(rt.alloc(), rt);
-    let ran = run_watched(rt.alloc(), &mut reader, &mut writer, options, &mut trace);
-    let is_whole = trace.close();
-    ran?;
-    if is_whole {
-        Ok(())
-    } else {
-        Err(RunFault::WriteFault)
     }
 }
 

@@ -5,6 +5,7 @@
 
 mod command;
 mod ending;
+mod running;
 mod words;
 
 pub use command::entangle;

@@ -25,8 +25,8 @@ const EXAMPLE: &str = "Example:
 const CHECK_EXAMPLE: &str = "Example:
   entangle run --report 2 < friends.sql | entangle check";
 
-/// The program's words: the subcommand `run` with its options, each a whole number in its range but for `--trace`, and
-/// `check`.
+/// The program's words: the subcommand `run` with its options, each a whole number in its range but for `--trace`
+/// and `--explain`, and `check`.
 pub(crate) fn command<'a>(alloc: Global) -> Result<Command<'a>, AllocError> {
     let run = Command::new(alloc, "run")
         .about(
@@ -36,6 +36,7 @@ pub(crate) fn command<'a>(alloc: Global) -> Result<Command<'a>, AllocError> {
         .arg(report(alloc))?
         .arg(tries(alloc))?
         .arg(trace(alloc)?)?
+        .arg(explain(alloc))?
         .after_help(EXAMPLE);
     let check = Command::new(alloc, "check")
         .about(
@@ -92,6 +93,15 @@ fn trace<'a>(alloc: Global) -> Result<Arg<'a>, AllocError> {
         .conflicts_with("workers")
 }
 
+fn explain<'a>(alloc: Global) -> Arg<'a> {
+    Arg::new(alloc, "explain")
+        .long("explain")
+        .action(ArgAction::SetTrue)
+        .help(
+            "Says where an input that is refused has its fault, what is wrong there, and what helps",
+        )
+}
+
 /// What the words ask for.
 pub(crate) enum Asked {
     /// A run of the scripts of standard input.
@@ -101,11 +111,14 @@ pub(crate) enum Asked {
 }
 
 /// What the words of a run ask for.
+#[derive(Clone, Copy)]
 pub(crate) struct AskedRun {
     /// How many threads run the scripts; with 0 they run on one thread.
     pub(crate) workers: usize,
     /// Whether events and replies are written to standard error.
     pub(crate) is_traced: bool,
+    /// Whether a fault of the input is explained.
+    pub(crate) is_explained: bool,
     pub(crate) options: RunOptions,
 }
 
@@ -118,12 +131,14 @@ pub(crate) fn asked_of<'a>(matches: &ArgMatches<'a>) -> Asked {
         return Asked::Run(AskedRun {
             workers: 0,
             is_traced: false,
+            is_explained: false,
             options: RunOptions::default(),
         });
     };
     Asked::Run(AskedRun {
         workers: number(run, "workers", 0) as usize,
         is_traced: run.get_flag("trace"),
+        is_explained: run.get_flag("explain"),
         options: RunOptions {
             tries: number(run, "tries", DEFAULT_TRIES),
             report: match number(run, "report", 1) {

@@ -19,5 +19,5 @@ mod writer;
 pub use engine::{run, run_watched};
 pub use fault::{FaultLine, RunFault, status_of};
 pub use options::{DEFAULT_TRIES, ReportVersion, RunOptions};
-pub use reader::MOST_BYTES;
+pub use reader::{MOST_BYTES, read_whole};
 pub use workers::run_workers;

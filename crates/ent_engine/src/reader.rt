@@ -13,11 +13,9 @@ use std::io::Read;
 /// The most bytes that an input has.
 pub const MOST_BYTES: usize = 16_777_216;
 
-/// Reads to the end, in any pieces that the reader gives.
-pub(crate) fn read_whole<R: Read>(
-    alloc: Global,
-    reader: &mut Watched<R>,
-) -> Result<Vec<u8>, RunFault>
+/// Reads to the end, in any pieces that the reader gives: an input's bytes, of which there are at most [`MOST_BYTES`].
+/// The reader is handed in unmarked, as [`Watched::new`] makes it.
+pub fn read_whole<R: Read>(alloc: Global, reader: &mut Watched<R>) -> Result<Vec<u8>, RunFault>
     requires unmarked { IsUnmarked reader.old }
     ensures whole { IfOk result (λ bytes. IfSome (R.remaining reader.old.inner) (λ all. bytes.items ≡ all)) }
     ensures short { IfOk result (λ bytes. length bytes.items ≤ MOST_BYTES) }

@@ -44,11 +44,24 @@ impl Outcome {
         self.output.as_slice()
     }
 
+    /// Checks the exit status.
+    fn check_status(&self, alloc: Global, status: &str) -> Result<()> {
+        let got = format!(in alloc; "{}", self.status)?;
+        ensure!(got.as_str() == status, "status {got}");
+        Ok(())
+    }
+
+    /// Checks the exit status, and all that is said on standard error.
+    pub(crate) fn check_said(&self, alloc: Global, status: &str, said: &[u8]) -> Result<()> {
+        self.check_status(alloc, status)?;
+        ensure!(self.errors.as_slice() == said, "something else is said");
+        Ok(())
+    }
+
     /// Checks the exit status, and the line on standard error: none where the line is empty, and some text where it
     /// is `*`.
     pub(crate) fn check_end(&self, alloc: Global, status: &str, line: &str) -> Result<()> {
-        let got = format!(in alloc; "{}", self.status)?;
-        ensure!(got.as_str() == status, "status {got}");
+        self.check_status(alloc, status)?;
         if line == "*" {
             ensure!(!self.errors.is_empty(), "nothing is said");
             return Ok(());

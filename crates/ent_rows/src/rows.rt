@@ -1,7 +1,8 @@
 //! The worked rows, the examples and the longest input.
 //!
 //! A row is an input and a command line, and the report, the exit status and the line on standard error that they must
-//! give; `INDEX.tsv` lists the rows. An example is an input and its report.
+//! give; `INDEX.tsv` lists the rows. Where more than a line is said, the line is `@`, and a file `NAME.err` has all of
+//! it. An example is an input and its report.
 use crate::machine::Manner;
 use crate::outcome::Outcome;
 use anyhow::{Context, Result, bail, ensure};
@@ -77,6 +78,10 @@ fn check_row<T: Threads + Wait + Sync>(
     let wanted = fs::read(rt, format!(in alloc; "rows/{name}.out")?)?;
     let ran = run_over(alloc, threads, words, input.as_slice())?;
     ensure!(ran.output() == wanted.as_slice(), "another report");
+    if line == "@" {
+        let said = fs::read(rt, format!(in alloc; "rows/{name}.err")?)?;
+        return ran.check_said(alloc, status, said.as_slice());
+    }
     ran.check_end(alloc, status, line)
 }
 

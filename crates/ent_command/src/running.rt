@@ -1,0 +1,103 @@
+//! Runs of scripts: with workers or without, with a trace, and with a word of why an input is refused.
+use crate::command::said;
+use crate::ending::Ending;
+use crate::words::AskedRun;
+use ent_engine::{RunFault, read_whole, run_watched, run_workers};
+use ent_fault_text::{InputFault, explain_fault, valid_text};
+use ent_trace::Trace;
+use ent_value::Watched;
+use std::io;
+use std::io::Read;
+use std::sync::Wait;
+use std::thread::Threads;
+
+/// Runs the scripts of standard input. A fault is a line on standard error, and an explanation below it where that is
+/// asked for.
+pub(crate) fn run<R, T>(rt: &R, threads: &T, asked: AskedRun) -> Ending
+where
+    R: AllocGlobal + Input + Print + Eprint,
+    T: Threads + Wait + Sync,
+{
+    if asked.is_explained {
+        return run_explained(rt, threads, asked);
+    }
+    said(rt, Ending::from(run_over(rt, threads, rt.reader(), asked)))
+}
+
+/// Reads all of standard input and runs its scripts, so that a fault of the input can be explained.
+fn run_explained<R, T>(rt: &R, threads: &T, asked: AskedRun) -> Ending
+where
+    R: AllocGlobal + Input + Print + Eprint,
+    T: Threads + Wait + Sync,
+{
+    let mut reader = Watched::new(rt.reader());
+    let input = match read_whole(rt.alloc(), &mut reader) {
+        Ok(input) => input,
+        Err(fault) => return said(rt, Ending::Faulty(fault)),
+    };
+    let ran = run_over(rt, threads, input.as_slice(), asked);
+    if let Err(fault) = ran {
+        let ending = said(rt, Ending::Faulty(fault));
+        explain(rt, input.as_slice(), fault);
+        return ending;
+    }
+    Ending::Done
+}
+
+/// Says of a fault of an input where it stands, what is wrong there, and what helps. Where memory runs out for that,
+/// nothing is said.
+fn explain<R: AllocGlobal + Eprint>(rt: &R, input: &[u8], fault: RunFault) {
+    let fault = match fault {
+        RunFault::NotUtf8(_) => InputFault::NotUtf8,
+        RunFault::Sql(fault) => InputFault::Sql(fault),
+        RunFault::Form(fault) => InputFault::Form(fault),
+        _ => return,
+    };
+    if let Ok(explanation) = explain_fault(rt.alloc(), valid_text(input), fault) {
+        let _ = eprintln!(rt; "{explanation}");
+    }
+}
+
+/// Runs the scripts that a reader gives.
+fn run_over<R, T, I>(rt: &R, threads: &T, reader: I, asked: AskedRun) -> Result<(), RunFault>
+where
+    R: AllocGlobal + Print + Eprint,
+    T: Threads + Wait + Sync,
+    I: Read + Drop,
+{
+    let AskedRun {
+        workers,
+        is_traced,
+        is_explained: _,
+        options,
+    } = asked;
+    let mut reader = Watched::new(reader);
+    let mut writer = Watched::new(io::writer(rt));
+    if is_traced {
+        let mut trace = Trace::new(rt.alloc(), rt);
+        let ran = run_watched(rt.alloc(), &mut reader, &mut writer, options, &mut trace);
+        return traced(ran, trace.close());
+    }
+    if workers == 0 {
+        return ent_engine::run(rt.alloc(), &mut reader, &mut writer, options);
+    }
+    run_workers(
+        threads,
+        rt.alloc(),
+        &mut reader,
+        &mut writer,
+        workers,
+        options.report,
+    )
+}
+
+/// How a run ends that was traced, also where it came to a fault. Where not all of the trace could be written, this is
+/// a fault of the writer, though the report was.
+fn traced(ran: Result<(), RunFault>, is_whole: bool) -> Result<(), RunFault> {
+    ran?;
+    if is_whole {
+        Ok(())
+    } else {
+        Err(RunFault::WriteFault)
+    }
+}
