@@ -1,0 +1,72 @@
+-- What it means that statements, groundings and runs keep to values with a property.
+use Rattle.std.specs.Prelude.{◌≡◌, true, Contains, List, [], Ok, Some}
+use Rattle.std.specs.List.{AllByRecursion}
+use Rattle.ent_value.specs.declared.value.Value.{Value}
+use Rattle.ent_tree.specs.declared.declaration.Create.{Create}
+use Rattle.ent_tree.specs.declared.entangled.Entangled.{Entangled}
+use Rattle.ent_tree.specs.declared.script.Script.{Script}
+use Rattle.ent_tree.specs.declared.script.Statement.{Statement}
+use Rattle.ent_tree.specs.declared.script.Statement.TheVariants as statements
+use Rattle.ent_semantics.specs.Database.{Database, Environment}
+use Rattle.ent_semantics.specs.Effect.{Effect}
+use Rattle.ent_semantics.specs.Entangled.{Valuation, is_grounding}
+use Rattle.ent_semantics.specs.Serial.{Runs, Sight, Turn, scripts_run, scripts_sights}
+use Rattle.ent_semantics.specs.Statement.{statement_meaning}
+use Rattle.ent_form.specs.Catalogue.{schemas_of}
+use Rattle.ent_form.specs.ScriptFaults.{script_faults}
+use Rattle.ent_answer_laws.specs.Answered.{AreGrounded}
+use Rattle.ent_value_laws.specs.Values.{AnswersValues, BindsValues, HoldsValues, LeavesValues, ScriptWrites}
+use Rattle.ent_value_laws.specs.Values.{WritesValues}
+
+module _ (P : Value → Type 0) where
+  -- A statement that writes such values, over tables and host variables with such values and under a valuation of such,
+  -- leaves and answers such values.
+  abbrev pub StatementsKeep : Type 0
+  StatementsKeep =
+      (declared : List Create) (statement : Statement) (valuation : Valuation) (database : Database)
+      (environment : Environment) (effect : Effect Database)
+      → WritesValues P statement
+      → AllByRecursion P valuation
+      → HoldsValues P database
+      → BindsValues P environment
+      → statement_meaning declared statement valuation database environment ≡ Ok effect
+      → LeavesValues P effect
+
+  -- So does each grounding of an entangled statement of a script without a fault of form.
+  abbrev pub GroundingsKeep : Type 0
+  GroundingsKeep =
+      (declared : List Create) (script : Script) (entangled : Entangled) (database : Database)
+      (environment : Environment) (valuation : Valuation)
+      → script_faults (schemas_of declared) script ≡ []
+      → Contains script.statements (statements.Entangled entangled)
+      → WritesValues P (statements.Entangled entangled)
+      → HoldsValues P database
+      → BindsValues P environment
+      → is_grounding declared database environment entangled valuation ≡ true
+      → AllByRecursion P valuation
+
+  -- scripts without a fault of form that write such values
+  pub record CanKeep (declared : List Create) (turns : List Turn) : Type 0 where
+    pub resolved : (turn : Turn) → Contains turns turn → script_faults (schemas_of declared) turn.script ≡ []
+    pub writes : (turn : Turn) → Contains turns turn → ScriptWrites P turn.script
+
+  -- Such scripts that run one after the other, each entangled statement answered by a grounding, leave and answer such
+  -- values.
+  abbrev pub RunsKeep : Type 0
+  RunsKeep =
+      (declared : List Create) (turns : List Turn) (database : Database) (runs : Runs)
+      → CanKeep declared turns
+      → HoldsValues P database
+      → AreGrounded declared (scripts_sights declared turns database)
+      → scripts_run declared turns database ≡ Some runs
+      → HoldsValues P runs.database × AllByRecursion (AllByRecursion (AnswersValues P)) runs.answers
+
+  -- and each of these groundings is of such values
+  abbrev pub SightsKeep : Type 0
+  SightsKeep =
+      (declared : List Create) (turns : List Turn) (database : Database) (sight : Sight)
+      → CanKeep declared turns
+      → HoldsValues P database
+      → AreGrounded declared (scripts_sights declared turns database)
+      → Contains (scripts_sights declared turns database) sight
+      → AllByRecursion P sight.valuation
