@@ -4,3 +4,7 @@ pub mod Selected
 pub mod Changed
 pub mod Offered
 pub mod Leaving
+pub mod Ranged
+pub mod Grounding
+pub mod Runs
+pub mod Turns

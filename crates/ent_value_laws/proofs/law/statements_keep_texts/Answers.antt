@@ -1,7 +1,5 @@
-use Rattle.std.proofs.Common.{◌≡◌, true}
-use Rattle.std.specs.Str.{IsUtf8}
-use Rattle.ent_value_laws.proofs.Leaving.{statement_leaves}
 use Rattle.ent_value_laws.specs.Values.{IsOfCharacters, IsPassed}
+use Rattle.ent_value_laws.proofs.Leaving.{statement_leaves}
 use Rattle.ent_value_laws.proofs.law.statements_keep_texts.Goals as goal
 
 pub returns-clause-characters : goal.returns-clause-characters
