@@ -1,5 +1,6 @@
 pub mod Written
 pub mod Worth
+pub mod Tables
 pub mod Selected
 pub mod Changed
 pub mod Offered

@@ -1,7 +1,17 @@
 //! Laws of the texts among values. Nothing here has a body; what holds is in the contracts.
 ghost use Rattle.std.specs.Prelude.{ℕ, Bool, List};
-ghost use Rattle.ent_value_laws.specs.Kept.{GroundingsKeep, RunsKeep, SightsKeep, StatementsKeep};
+ghost use Rattle.ent_value_laws.specs.Kept.{GroundingsKeep, OpeningsKeep, RunsKeep, SightsKeep};
+ghost use Rattle.ent_value_laws.specs.Kept.{StatementsKeep, TablesShow};
 ghost use Rattle.ent_value_laws.specs.Values.{IsOfCharacters, IsPassed};
+
+/// An opening whose texts are of whole characters begins with tables whose texts are so, and the rows of such tables,
+/// in order, have such texts. The same holds of texts that pass any other test.
+pub fn tables_keep_texts()
+    ensures characters { OpeningsKeep IsOfCharacters }
+    ensures shown_characters { TablesShow IsOfCharacters }
+    ensures tests { (passes : List ℕ → Bool) → OpeningsKeep (IsPassed passes) }
+    ensures shown_tests { (passes : List ℕ → Bool) → TablesShow (IsPassed passes) }
+{}
 
 /// A statement whose texts are of whole characters, over tables and host variables with such texts, leaves and answers
 /// such texts, where its valuation has such. The same holds of texts that pass any other test.
