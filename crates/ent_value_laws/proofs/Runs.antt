@@ -42,7 +42,8 @@ module _ (P : Value → Type 0) (numbers : (number : ℤ) → P (Int number)) (d
   abbrev pub IsLeft : Run → Type 0
   IsLeft over = HoldsValues P over.database × AllByRecursion (AnswersValues P) over.answers
 
-  pub record RunKeeps (tx place : ℕ) (deeds : List Deed) (database : Database) (environment : Environment) : Type 0 where
+  pub record RunKeeps (tx place : ℕ) (deeds : List Deed) (database : Database) (environment : Environment)
+      : Type 0 where
     pub sees : AreSeen (sights declared tx place deeds database environment)
     pub leaves : (over : Run) → run declared deeds database environment ≡ Some over → IsLeft over
 
@@ -147,8 +148,9 @@ module _ (P : Value → Type 0) (numbers : (number : ℤ) → P (Int number)) (d
       (λ sight at. grounded sight (in_first here later sight at)) in
       let from = keeps_from tx place here more meaning
       (seen_has tx place database environment deed.statement deed.valuation has)
-      (λ effect e. statement_leaves P numbers declared deed.statement deed.valuation database environment effect ready.0.0
-      has holds binds e)
+      (λ effect e.
+      statement_leaves P numbers declared deed.statement deed.valuation database environment effect ready.0.0 has holds
+      binds e)
       (λ sight at. grounded sight (in_second here later sight at))
       (λ effect there rest. run_keeps tx (suc place) more none.1 ready.1 effect.database there.tables effect.environment
       there.variables rest) in

@@ -18,7 +18,8 @@ use Rattle.ent_form.specs.Catalogue.{schemas_of}
 use Rattle.ent_form.specs.Kinds.{none_bound}
 use Rattle.ent_form.specs.ScriptFaults.{script_faults}
 use Rattle.ent_rules.proofs.Deeds.{mapped_some, then_some}
-use Rattle.ent_lists.specs.Elements.{In, all_first, all_second, contains_in, in_contains, in_either, in_first, in_second}
+use Rattle.ent_lists.specs.Elements.{In, all_first, all_second, contains_in, in_contains, in_either, in_first}
+use Rattle.ent_lists.specs.Elements.{in_second}
 use Rattle.ent_answer_laws.proofs.Walking.{deeds_so}
 use Rattle.ent_value_laws.specs.Kept.{CanKeep, RunsKeep, SightsKeep}
 use Rattle.ent_value_laws.specs.Values.{AnswersValues, BindsValues, HoldsValues, IsWritten, ScriptWrites, WritesValues}

@@ -50,8 +50,8 @@ module _ (P : Value → Type 0) where
       → statement_meaning declared statement valuation database environment ≡ Ok effect
       → LeavesValues P effect
 
-  -- A grounding of an entangled statement that writes such values, over such tables and host variables, has such values,
-  -- where the script that the statement is of has no fault of form.
+  -- A grounding of an entangled statement that writes such values, over such tables and host variables, has such
+  -- values, where the script that the statement is of has no fault of form.
   abbrev pub GroundingsKeep : Type 0
   GroundingsKeep =
       (declared : List Create) (script : Script) (entangled : Entangled) (database : Database)
