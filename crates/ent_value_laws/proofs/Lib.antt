@@ -1,0 +1,11 @@
+pub mod Written
+pub mod Worth
+pub mod Tables
+pub mod Selected
+pub mod Changed
+pub mod Offered
+pub mod Leaving
+pub mod Ranged
+pub mod Grounding
+pub mod Runs
+pub mod Turns
