@@ -1,0 +1,5 @@
+pub mod Fault
+pub mod Line
+pub mod Place
+pub mod Part
+pub mod Excerpt

@@ -1,0 +1,109 @@
+//! What is said where numbers of values differ.
+use crate::mark::{Mark, marks_behind};
+use crate::scene::Scene;
+use crate::words::{Counted, Told, listed};
+use ent_text::{Keyword, Symbol};
+use std::alloc::AllocError;
+
+/// How many things stand in front, with a comma between each two, up to where parentheses close or a word ends them.
+fn things(marks: &[Mark<'_>], end: Keyword) -> usize {
+    let mut count = 1usize;
+    let mut depth = 0usize;
+    for mark in marks {
+        if mark.is_sign(Symbol::Open) {
+            depth = depth.saturating_add(1);
+        } else if mark.is_sign(Symbol::Close) {
+            if depth == 0 {
+                break;
+            }
+            depth = depth.saturating_sub(1);
+        } else if depth == 0 && mark.is_word(end) {
+            break;
+        } else if depth == 0 && mark.is_sign(Symbol::Comma) {
+            count = count.saturating_add(1);
+        }
+    }
+    count
+}
+
+/// A row with another number of values than its table has columns, or a sub-select with another number of items than
+/// its tuple has terms.
+pub(crate) fn arity(scene: &Scene<'_>) -> Result<Told, AllocError> {
+    if scene.follows(Keyword::Values) {
+        return row_arity(scene);
+    }
+    tuple_arity(scene)
+}
+
+fn row_arity(scene: &Scene<'_>) -> Result<Told, AllocError> {
+    let alloc = scene.alloc;
+    let name = match scene.back(2) {
+        Some(mark) => mark.text,
+        None => "",
+    };
+    let columns = column_names(scene, name)?;
+    let inside = marks_behind(scene.coming(), 1);
+    let wanted = Counted(columns.len(), "column");
+    let count = things(inside, Keyword::Values);
+    let values = Counted(count, "value");
+    let verb = if count == 1 { "stands" } else { "stand" };
+    let sentence = format!(in alloc; "{name} has {wanted}, and here {verb} {values}")?;
+    let list = listed(alloc, columns.as_slice(), " and ")?;
+    let be = if columns.len() == 1 {
+        "column is"
+    } else {
+        "columns are"
+    };
+    let hint = format!(in alloc; "the {be} {list}")?;
+    Ok(Told {
+        sentence,
+        hint: Some(hint),
+    })
+}
+
+/// The names of a table's columns.
+fn column_names<'a>(scene: &Scene<'a>, name: &str) -> Result<Vec<&'a str>, AllocError> {
+    let mut names: Vec<&'a str> = Vec::new(scene.alloc);
+    if let Some(table) = scene.table(name) {
+        for column in &table.columns {
+            names.push(column.name)?;
+        }
+    }
+    Ok(names)
+}
+
+fn tuple_arity(scene: &Scene<'_>) -> Result<Told, AllocError> {
+    let alloc = scene.alloc;
+    let coming = scene.coming();
+    let is_enclosed = scene
+        .ahead(0)
+        .is_some_and(|mark| mark.is_sign(Symbol::Open));
+    let inside = if is_enclosed {
+        coming.get(1..)
+    } else {
+        coming.get(..)
+    };
+    let terms = Counted(things(inside.unwrap_or(coming), Keyword::In), "term");
+    let items = Counted(items_behind(scene, coming)?, "item");
+    let sentence = format!(in alloc; "this tuple has {terms}, and its sub-select has {items}")?;
+    Ok(Told::plain(sentence))
+}
+
+/// How many items the first sub-select of these tokens has; `*` stands for all columns of its sources.
+fn items_behind(scene: &Scene<'_>, marks: &[Mark<'_>]) -> Result<usize, AllocError> {
+    let start = match marks.iter().position(|mark| mark.is_word(Keyword::Select)) {
+        Some(at) => at.saturating_add(1),
+        None => marks.len(),
+    };
+    let list = marks_behind(marks, start);
+    if !list.first().is_some_and(|mark| mark.is_sign(Symbol::Star)) {
+        return Ok(things(list, Keyword::From));
+    }
+    let mut count = 0usize;
+    for source in &scene.sources_behind(list)? {
+        if let Some(table) = scene.table(source.table) {
+            count = count.saturating_add(table.columns.len());
+        }
+    }
+    Ok(count)
+}

@@ -1,0 +1,134 @@
+//! What can stand at a place: the reader itself is asked, token by token.
+use crate::words::joined;
+use ent_sql::parse_input;
+use ent_value::Refusal;
+use std::alloc::{AllocError, Global};
+
+/// The symbols that are tried, but those of comparisons.
+const SIGNS: &str = "( ) , ; . * + -";
+
+/// The reserved words from A to C.
+const FIRST_WORDS: &str = "AND ANSWER AS BEGIN CHOOSE COMMIT CREATE";
+
+/// The reserved words from D to R.
+const MIDDLE_WORDS: &str = "DELETE FROM IN INSERT INT INTO ROLLBACK RUNS";
+
+/// The reserved words from S on.
+const LAST_WORDS: &str = "SELECT SET TABLE TEXT TRANSACTION UPDATE VALUES WHERE WITHIN";
+
+/// What can stand at a place.
+#[derive(Drop)]
+pub(crate) struct Expected {
+    /// Each thing that can, in words.
+    things: Vec<&'static str>,
+}
+
+/// Which tokens of values can stand at a place.
+#[derive(Clone, Copy)]
+struct Values {
+    is_name: bool,
+    is_variable: bool,
+    is_number: bool,
+    /// Another number than 1.
+    is_any_number: bool,
+    is_text: bool,
+}
+
+/// Whether a token can follow a text that begins an input. The reader refuses an input at the first token that can't
+/// follow what stands before it; a line's end keeps the token out of a comment.
+fn can_follow(alloc: Global, lead: &str, token: &str) -> Result<bool, AllocError> {
+    let text = format!(in alloc; "{lead}\n{token}")?;
+    match parse_input(alloc, text.as_str()) {
+        Ok(_) => Ok(true),
+        Err(Refusal::Memory) => Err(AllocError),
+        Err(Refusal::Fault(fault)) => Ok(fault.place() > lead.len().saturating_add(1)),
+    }
+}
+
+impl Expected {
+    /// What can follow a text that begins an input.
+    pub(crate) fn behind(alloc: Global, lead: &str) -> Result<Self, AllocError> {
+        let values = values_behind(alloc, lead)?;
+        let mut things: Vec<&'static str> = Vec::new(alloc);
+        add_values(&mut things, values)?;
+        if can_follow(alloc, lead, "=")? {
+            things.push("a comparison")?;
+        }
+        for words in [SIGNS, FIRST_WORDS, MIDDLE_WORDS, LAST_WORDS] {
+            add_words(&mut things, alloc, lead, words, values)?;
+        }
+        if is_input(alloc, lead)? {
+            things.push("the end of the input")?;
+        }
+        Ok(Expected { things })
+    }
+
+    /// Whether this can stand there.
+    pub(crate) fn has(&self, thing: &str) -> bool {
+        self.things.iter().any(|one| *one == thing)
+    }
+
+    /// All of it, as `, or FROM`: a comma may be among it.
+    pub(crate) fn listed(&self, alloc: Global) -> Result<String, AllocError> {
+        joined(alloc, self.things.as_slice(), " or ")
+    }
+}
+
+/// Adds those of some words that can stand somewhere. A minus sign before a number belongs to a value.
+fn add_words(
+    things: &mut Vec<&'static str>,
+    alloc: Global,
+    lead: &str,
+    words: &'static str,
+    values: Values,
+) -> Result<(), AllocError> {
+    for word in words.split(' ') {
+        let is_value = word == "-" && values.is_number;
+        if !is_value && can_follow(alloc, lead, word)? {
+            things.push(word)?;
+        }
+    }
+    Ok(())
+}
+
+/// Whether a text is an input.
+fn is_input(alloc: Global, text: &str) -> Result<bool, AllocError> {
+    match parse_input(alloc, text) {
+        Ok(_) => Ok(true),
+        Err(Refusal::Memory) => Err(AllocError),
+        Err(Refusal::Fault(_)) => Ok(false),
+    }
+}
+
+fn values_behind(alloc: Global, lead: &str) -> Result<Values, AllocError> {
+    Ok(Values {
+        is_name: can_follow(alloc, lead, "a")?,
+        is_variable: can_follow(alloc, lead, "@a")?,
+        is_number: can_follow(alloc, lead, "1")?,
+        is_any_number: can_follow(alloc, lead, "2")?,
+        is_text: can_follow(alloc, lead, "''")?,
+    })
+}
+
+/// Says which values can stand somewhere.
+fn add_values(things: &mut Vec<&'static str>, values: Values) -> Result<(), AllocError> {
+    if values.is_name {
+        things.push("a name")?;
+    }
+    if values.is_number && values.is_text && values.is_variable {
+        things.push("a value")?;
+        return Ok(());
+    }
+    if values.is_any_number {
+        things.push("a number")?;
+    } else if values.is_number {
+        things.push("1")?;
+    }
+    if values.is_text {
+        things.push("a text")?;
+    }
+    if values.is_variable {
+        things.push("a host variable")?;
+    }
+    Ok(())
+}

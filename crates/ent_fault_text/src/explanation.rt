@@ -1,0 +1,103 @@
+//! A fault, explained.
+ghost use Rattle.std.specs.Prelude.{IfOk};
+ghost use Rattle.std.specs.Str.{IsCharBoundary};
+ghost use Rattle.ent_fault_text.specs.Fault.{offset_of};
+ghost use Rattle.ent_fault_text.specs.Place.{IsPlaceAt};
+ghost use Rattle.ent_fault_text.specs.Excerpt.{IsExcerptAt};
+
+use crate::character::{text_fault, word_length};
+use crate::excerpt::{Excerpt, columns};
+use crate::fault::InputFault;
+use crate::form::form_fault;
+use crate::grammar::{too_many, unexpected};
+use crate::line::Line;
+use crate::mark::Sort;
+use crate::place::Place;
+use crate::scene::Scene;
+use crate::tokens::scene_at;
+use crate::words::Told;
+use ent_sql::SqlFault;
+use std::alloc::{AllocError, Global};
+use std::fmt;
+
+/// What is said of a fault: where it stands, one sentence of what is wrong, the line with carets below the place, and
+/// where something helps a second sentence. Printed it is lines without an end of the last.
+#[derive(Debug, Drop)]
+pub struct Explanation<'a> {
+    pub place: Place,
+    pub sentence: String,
+    pub excerpt: Excerpt<'a>,
+    pub hint: Option<String>,
+}
+
+/// Explains a fault over the text that has it.
+pub fn explain_fault<'a>(
+    alloc: Global,
+    text: &'a str,
+    fault: InputFault,
+) -> Result<Explanation<'a>, AllocError>
+    ensures place { IfOk result (λ told. IsCharBoundary text.now (offset_of fault text.now)
+        → IsPlaceAt text.now (offset_of fault text.now) told.place) }
+    ensures excerpt { IfOk result (λ told. IsCharBoundary text.now (offset_of fault text.now)
+        → IsExcerptAt text.now (offset_of fault text.now) told.excerpt) }
+{
+    let offset = fault.offset(text);
+    let scene = scene_at(alloc, text, offset)?;
+    let Told { sentence, hint } = told(&scene, fault)?;
+    let place = Place::of(text, offset);
+    let line = Line::of(text, offset);
+    let excerpt = Excerpt::of(line, marked(&scene));
+    Ok(Explanation {
+        place,
+        sentence,
+        excerpt,
+        hint,
+    })
+}
+
+/// The sentence and the hint.
+fn told(scene: &Scene<'_>, fault: InputFault) -> Result<Told, AllocError> {
+    let alloc = scene.alloc;
+    match fault {
+        InputFault::NotUtf8 => Told::hinted(
+            alloc,
+            format!(in alloc; "what stands here isn't UTF-8")?,
+            "an input is a text in UTF-8",
+        ),
+        InputFault::Sql(SqlFault::Text(fault)) => text_fault(scene, fault),
+        InputFault::Sql(SqlFault::Unexpected(_)) => unexpected(scene),
+        InputFault::Sql(SqlFault::TooMany(_)) => too_many(scene),
+        InputFault::Form(fault) => form_fault(scene, fault),
+    }
+}
+
+/// How many columns are marked: those of the token at the place, or of the word where a fault of tokens stands.
+fn marked(scene: &Scene<'_>) -> usize {
+    match scene.ahead(0) {
+        Some(mark) if mark.sort == Sort::Faulty => faulty_length(mark.text),
+        Some(mark) => columns(mark.text),
+        None => 1,
+    }
+}
+
+/// How long the word is that a text begins with, and the `@` before it.
+fn faulty_length(text: &str) -> usize {
+    match text.strip_prefix('@') {
+        Some(word) => word_length(word).saturating_add(1),
+        None => word_length(text),
+    }
+}
+
+impl fmt::Display for Explanation<'_> {
+    fn fmt<W: fmt::Write>(&self, f: &mut fmt::Formatter<W>) -> fmt::Result {
+        let place = self.place;
+        let sentence = self.sentence.as_str();
+        let excerpt = self.excerpt;
+        write!(f, "{place}: {sentence}\n{excerpt}")?;
+        if let Some(hint) = &self.hint {
+            let hint = hint.as_str();
+            write!(f, "\n{hint}")?;
+        }
+        Ok(())
+    }
+}

@@ -1,0 +1,208 @@
+//! The sources around a place, and the kinds of what stands there.
+use crate::mark::{Mark, Sort, first_marks, marks_behind};
+use crate::scene::Scene;
+use crate::schema::Column;
+use ent_text::{Keyword, Symbol};
+use ent_value::Kind;
+use std::alloc::{AllocError, Global};
+
+/// A source: a table and the name that it goes by.
+#[derive(Clone, Copy)]
+pub(crate) struct Source<'a> {
+    pub(crate) table: &'a str,
+    pub(crate) name: &'a str,
+}
+
+/// What stands on one side of a test: its text, and its kind where that is known.
+#[derive(Clone, Copy)]
+pub(crate) struct Side<'a> {
+    pub(crate) text: &'a str,
+    pub(crate) kind: Option<Kind>,
+}
+
+/// Where the SELECT in parentheses begins that isn't closed behind these tokens; 0 where there is none. No such SELECT
+/// holds another.
+fn select_start(marks: &[Mark<'_>]) -> usize {
+    let mut start = 0usize;
+    let mut depth = 0usize;
+    for (index, mark) in marks.iter().enumerate() {
+        let next = index.saturating_add(1);
+        if mark.is_sign(Symbol::Open) {
+            depth = depth.saturating_add(1);
+            if is_select(marks.get(next)) {
+                start = next;
+            }
+        } else if mark.is_sign(Symbol::Close) {
+            depth = depth.saturating_sub(1);
+            if depth == 0 {
+                start = 0;
+            }
+        }
+    }
+    start
+}
+
+fn is_select(mark: Option<&Mark<'_>>) -> bool {
+    mark.is_some_and(|mark| mark.is_word(Keyword::Select))
+}
+
+/// The tokens behind the word that introduces sources or a table, outside parentheses.
+fn introduced<'a, 'b>(marks: &'b [Mark<'a>]) -> &'b [Mark<'a>] {
+    let mut depth = 0usize;
+    for (index, mark) in marks.iter().enumerate() {
+        if mark.is_sign(Symbol::Open) {
+            depth = depth.saturating_add(1);
+        } else if mark.is_sign(Symbol::Close) {
+            if depth == 0 {
+                return first_marks(marks, 0);
+            }
+            depth = depth.saturating_sub(1);
+        } else if depth == 0 && introduces(mark) {
+            return marks_behind(marks, index.saturating_add(1));
+        }
+    }
+    first_marks(marks, 0)
+}
+
+fn introduces(mark: &Mark<'_>) -> bool {
+    mark.is_word(Keyword::From) || mark.is_word(Keyword::Into) || mark.is_word(Keyword::Update)
+}
+
+/// The sources that these tokens begin with.
+fn sources_of<'a>(alloc: Global, marks: &[Mark<'a>]) -> Result<Vec<Source<'a>>, AllocError> {
+    let mut sources: Vec<Source<'a>> = Vec::new(alloc);
+    let mut is_new = true;
+    for mark in marks {
+        let name = mark.text;
+        if mark.is_name() && is_new {
+            sources.push(Source { table: name, name })?;
+            is_new = false;
+        } else if mark.is_name() {
+            rename(&mut sources, name);
+        } else if mark.is_sign(Symbol::Comma) {
+            is_new = true;
+        } else if !mark.is_word(Keyword::As) {
+            break;
+        }
+    }
+    Ok(sources)
+}
+
+/// Lets the last source go by another name.
+fn rename<'a>(sources: &mut Vec<Source<'a>>, name: &'a str) {
+    if let Some(source) = sources.last_mut() {
+        source.name = name;
+    }
+}
+
+impl<'a> Scene<'a> {
+    /// The tokens of the innermost SELECT that holds the place, or of its statement, from the first on.
+    fn scope(&self) -> &[Mark<'a>] {
+        let statement = self.statement();
+        let passed = statement.len().saturating_sub(self.coming().len());
+        let front = first_marks(statement, passed.saturating_add(1));
+        marks_behind(statement, select_start(front))
+    }
+
+    /// The sources of the innermost SELECT that holds the place; of another statement its table.
+    pub(crate) fn sources(&self) -> Result<Vec<Source<'a>>, AllocError> {
+        sources_of(self.alloc, introduced(self.scope()))
+    }
+
+    /// The sources of the first SELECT that these tokens go on.
+    pub(crate) fn sources_behind<'b>(
+        &self,
+        marks: &[Mark<'b>],
+    ) -> Result<Vec<Source<'b>>, AllocError> {
+        sources_of(self.alloc, introduced(marks))
+    }
+
+    /// The first column of this name, in the source that goes by the qualifier or, without one, in any.
+    pub(crate) fn column(
+        &self,
+        qualifier: Option<&str>,
+        name: &str,
+    ) -> Result<Option<Column<'a>>, AllocError> {
+        let sources = self.sources()?;
+        for source in &sources {
+            if qualifier.is_some_and(|wanted| wanted != source.name) {
+                continue;
+            }
+            let column = self
+                .table(source.table)
+                .and_then(|table| table.column(name));
+            if column.is_some() {
+                return Ok(column);
+            }
+        }
+        Ok(None)
+    }
+
+    /// The kind of a token that is a value, or a column with this qualifier.
+    fn kind_of(
+        &self,
+        qualifier: Option<&str>,
+        mark: &Mark<'_>,
+    ) -> Result<Option<Kind>, AllocError> {
+        match mark.sort {
+            Sort::Number | Sort::Sign(Symbol::Minus) => Ok(Some(Kind::Int)),
+            Sort::Text => Ok(Some(Kind::Text)),
+            Sort::Name => Ok(self.column(qualifier, mark.text)?.map(|column| column.kind)),
+            _ => Ok(None),
+        }
+    }
+
+    /// What begins at the place.
+    pub(crate) fn side_ahead(&self) -> Result<Side<'a>, AllocError> {
+        let (Some(first), dot, second) = (self.ahead(0), self.ahead(1), self.ahead(2)) else {
+            return Ok(Side {
+                text: "",
+                kind: None,
+            });
+        };
+        let is_pair = first.is_sign(Symbol::Minus);
+        let is_qualified = first.is_name() && dot.is_some_and(|mark| mark.is_sign(Symbol::Dot));
+        if is_qualified && let Some(column) = second {
+            let kind = self.kind_of(Some(first.text), &column)?;
+            return Ok(Side {
+                text: self.between(&first, &column),
+                kind,
+            });
+        }
+        let kind = self.kind_of(None, &first)?;
+        let text = match dot {
+            Some(number) if is_pair => self.between(&first, &number),
+            _ => first.text,
+        };
+        Ok(Side { text, kind })
+    }
+
+    /// What ends just before the comparison that stands before the place.
+    pub(crate) fn side_back(&self) -> Result<Option<Side<'a>>, AllocError> {
+        let (Some(sign), Some(last)) = (self.back(1), self.back(2)) else {
+            return Ok(None);
+        };
+        if !sign.is_comparison() {
+            return Ok(None);
+        }
+        let is_qualified = self.back(3).is_some_and(|mark| mark.is_sign(Symbol::Dot));
+        if is_qualified && let Some(qualifier) = self.back(4) {
+            let kind = self.kind_of(Some(qualifier.text), &last)?;
+            return Ok(Some(Side {
+                text: self.between(&qualifier, &last),
+                kind,
+            }));
+        }
+        let kind = self.kind_of(None, &last)?;
+        Ok(Some(Side {
+            text: last.text,
+            kind,
+        }))
+    }
+
+    /// The text from one token to the end of another.
+    fn between(&self, first: &Mark<'_>, last: &Mark<'_>) -> &'a str {
+        let end = last.start.saturating_add(last.text.len());
+        self.text.get(first.start..end).unwrap_or("")
+    }
+}

@@ -1,0 +1,33 @@
+//! Faults of an input, told to people: where one stands, what is wrong there, and what helps.
+//!
+//! A caller may rely on the place, the line and the column of characters, and on the excerpt, which is that line or a
+//! part of it. What the sentences say rests on rows of examples, which `ent_fault_rows` plays.
+#![tactic(auto)]
+
+mod absent;
+mod character;
+mod counts;
+mod excerpt;
+mod expected;
+mod explanation;
+mod fault;
+mod form;
+mod grammar;
+mod kinds;
+mod line;
+mod mark;
+mod names;
+mod place;
+mod repeated;
+mod scene;
+mod schema;
+mod tokens;
+mod typed;
+mod variables;
+mod words;
+
+pub use excerpt::Excerpt;
+pub use explanation::{Explanation, explain_fault};
+pub use fault::{InputFault, valid_text};
+pub use line::Line;
+pub use place::Place;

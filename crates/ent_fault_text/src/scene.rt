@@ -1,0 +1,146 @@
+//! What stands around a place: the declared tables, and the tokens of its statement.
+use crate::mark::{Mark, Sort, first_marks, marks_behind};
+use crate::schema::{Table, declare};
+use ent_text::{Keyword, Symbol};
+use std::alloc::{AllocError, Global};
+
+/// The tables that are declared before a place, and the tokens around it: of its script up to its statement's end, or
+/// of its declaration, or of its opening row.
+#[derive(Drop)]
+pub(crate) struct Scene<'a> {
+    pub(crate) alloc: Global,
+    pub(crate) text: &'a str,
+    pub(crate) offset: usize,
+    pub(crate) tables: Vec<Table<'a>>,
+    /// The answer relations that are named before the statement's end.
+    pub(crate) relations: Vec<&'a str>,
+    pub(crate) marks: Vec<Mark<'a>>,
+    /// How many tokens stand before the place.
+    pub(crate) at: usize,
+    is_opening: bool,
+    is_full: bool,
+}
+
+impl<'a> Scene<'a> {
+    pub(crate) fn new(alloc: Global, text: &'a str, offset: usize) -> Self {
+        Scene {
+            alloc,
+            text,
+            offset,
+            tables: Vec::new(alloc),
+            relations: Vec::new(alloc),
+            marks: Vec::new(alloc),
+            at: 0,
+            is_opening: true,
+            is_full: false,
+        }
+    }
+
+    /// Whether no further token stands around the place.
+    pub(crate) fn is_full(&self) -> bool {
+        self.is_full
+    }
+
+    /// Takes the text's next token.
+    pub(crate) fn take(&mut self, mark: Mark<'a>) -> Result<(), AllocError> {
+        if mark.start < self.offset && self.begins_anew(&mark) {
+            self.marks.clear();
+            self.at = 0;
+        }
+        if mark.is_word(Keyword::Begin) {
+            self.is_opening = false;
+        }
+        let last = self.marks.last().copied();
+        if self.is_opening {
+            declare(self.alloc, &mut self.tables, last, mark)?;
+        }
+        if mark.is_name() && last.is_some_and(|mark| mark.is_word(Keyword::Answer)) {
+            self.relations.push(mark.text)?;
+        }
+        if mark.start < self.offset {
+            self.at = self.at.saturating_add(1);
+        } else if mark.is_sign(Symbol::Semicolon) || mark.sort == Sort::Faulty {
+            self.is_full = true;
+        }
+        self.marks.push(mark)?;
+        Ok(())
+    }
+
+    /// Whether a token begins a script, a declaration or an opening row.
+    fn begins_anew(&self, mark: &Mark<'_>) -> bool {
+        mark.is_word(Keyword::Begin)
+            || (self.is_opening && (mark.is_word(Keyword::Create) || mark.is_word(Keyword::Insert)))
+    }
+
+    /// The token at the place, or so many behind it.
+    pub(crate) fn ahead(&self, steps: usize) -> Option<Mark<'a>> {
+        self.marks.get(self.at.saturating_add(steps)).copied()
+    }
+
+    /// The token so many before the place; the one just before it is 1 before it.
+    pub(crate) fn back(&self, steps: usize) -> Option<Mark<'a>> {
+        self.marks.get(self.at.checked_sub(steps)?).copied()
+    }
+
+    /// The text of the token at the place; none at the text's end.
+    pub(crate) fn word(&self) -> &'a str {
+        match self.ahead(0) {
+            Some(mark) => mark.text,
+            None => "",
+        }
+    }
+
+    /// The text from the place on.
+    pub(crate) fn rest(&self) -> &'a str {
+        self.text.get(self.offset..).unwrap_or("")
+    }
+
+    /// Whether the place stands in a script.
+    pub(crate) fn is_in_script(&self) -> bool {
+        match self.marks.first() {
+            Some(mark) => mark.is_word(Keyword::Begin) && mark.start < self.offset,
+            None => false,
+        }
+    }
+
+    /// Whether the token before the place is this reserved word.
+    pub(crate) fn follows(&self, word: Keyword) -> bool {
+        self.back(1).is_some_and(|mark| mark.is_word(word))
+    }
+
+    /// The tokens before the place.
+    pub(crate) fn passed(&self) -> &[Mark<'a>] {
+        first_marks(self.marks.as_slice(), self.at)
+    }
+
+    /// The tokens from the place on.
+    pub(crate) fn coming(&self) -> &[Mark<'a>] {
+        marks_behind(self.marks.as_slice(), self.at)
+    }
+
+    /// The tokens of the statement that holds the place.
+    pub(crate) fn statement(&self) -> &[Mark<'a>] {
+        let passed = self.passed();
+        let start = match passed
+            .iter()
+            .rposition(|mark| mark.is_sign(Symbol::Semicolon))
+        {
+            Some(end) => end.saturating_add(1),
+            None => 0,
+        };
+        marks_behind(self.marks.as_slice(), start)
+    }
+
+    /// The text from the first of these tokens up to the place.
+    pub(crate) fn lead(&self) -> &'a str {
+        match self.marks.first() {
+            Some(mark) => self.text.get(mark.start..self.offset).unwrap_or(""),
+            None => "",
+        }
+    }
+
+    /// The declared table of this name.
+    pub(crate) fn table(&self, name: &str) -> Option<&Table<'a>> {
+        self.tables.iter().find(|table| table.name.text == name)
+    }
+}

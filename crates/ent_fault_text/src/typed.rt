@@ -1,0 +1,127 @@
+//! What is said where kinds differ.
+use crate::kinds::Side;
+use crate::scene::Scene;
+use crate::schema::Column;
+use crate::words::{Told, other_than, with_article};
+use ent_text::{Keyword, Symbol};
+use ent_value::Kind;
+use std::alloc::AllocError;
+
+/// What isn't of the kind that is wanted at its place. There are two kinds, so what isn't of one is of the other.
+pub(crate) fn wrong_kind(scene: &Scene<'_>) -> Result<Told, AllocError> {
+    let side = scene.side_ahead()?;
+    if is_beside_sign(scene) && side.kind != Some(Kind::Int) {
+        return beside_sign(scene, side);
+    }
+    if let Some(column) = inserted_column(scene) {
+        return other_kind(scene, column.name, side, Some(other_than(column.kind)));
+    }
+    match scene.side_back()? {
+        Some(left) => {
+            let given = match left.kind {
+                Some(kind) => Some(other_than(kind)),
+                None => side.kind,
+            };
+            other_kind(scene, left.text, side, given)
+        }
+        None => of_item(scene, side),
+    }
+}
+
+/// Whether the place stands beside `+` or `-`, as a term of a sum.
+fn is_beside_sign(scene: &Scene<'_>) -> bool {
+    let is_behind = scene.back(1).is_some_and(|mark| mark.is_sign(Symbol::Plus)
+        || mark.is_sign(Symbol::Minus));
+    let is_before = scene.ahead(1).is_some_and(|mark| mark.is_sign(Symbol::Plus)
+        || mark.is_sign(Symbol::Minus));
+    let is_qualified = scene.ahead(1).is_some_and(|mark| mark.is_sign(Symbol::Dot));
+    is_behind || is_before || is_qualified && is_before_sign(scene)
+}
+
+/// Whether `+` or `-` stands behind a qualified name at the place.
+fn is_before_sign(scene: &Scene<'_>) -> bool {
+    scene.ahead(3).is_some_and(|mark| mark.is_sign(Symbol::Plus) || mark.is_sign(Symbol::Minus))
+}
+
+fn beside_sign(scene: &Scene<'_>, side: Side<'_>) -> Result<Told, AllocError> {
+    let alloc = scene.alloc;
+    let text = side.text;
+    let sentence = format!(in alloc;
+        "{text} is a TEXT, and only an INT can be added or subtracted"
+    )?;
+    Ok(Told::plain(sentence))
+}
+
+/// The column for which the value at the place is, in a row of values.
+fn inserted_column<'a>(scene: &Scene<'a>) -> Option<Column<'a>> {
+    let statement = scene.statement();
+    if !statement.first()?.is_word(Keyword::Insert) {
+        return None;
+    }
+    let table = scene.table(statement.get(2)?.text)?;
+    let passed = statement.len().saturating_sub(scene.coming().len());
+    let front = statement.get(..passed)?;
+    let commas = front
+        .iter()
+        .filter(|mark| mark.is_sign(Symbol::Comma))
+        .count();
+    table.columns.get(commas).copied()
+}
+
+/// Something of this kind, where another thing is of the other.
+fn other_kind(
+    scene: &Scene<'_>,
+    wanted: &str,
+    side: Side<'_>,
+    given: Option<Kind>,
+) -> Result<Told, AllocError> {
+    let alloc = scene.alloc;
+    let text = side.text;
+    let Some(given) = given else {
+        let sentence = format!(in alloc; "{wanted} and {text} are of two kinds")?;
+        return Ok(Told::plain(sentence));
+    };
+    let kind = with_article(given);
+    let other = with_article(other_than(given));
+    let sentence = format!(in alloc; "{wanted} is {other}, and {text} is {kind}")?;
+    let hint = quotes_hint(scene, text)?;
+    Ok(Told { sentence, hint })
+}
+
+/// A term of a tuple that isn't of the kind of its sub-select's item.
+fn of_item(scene: &Scene<'_>, side: Side<'_>) -> Result<Told, AllocError> {
+    let alloc = scene.alloc;
+    let text = side.text;
+    let sentence = match side.kind {
+        Some(kind) => {
+            let given = with_article(kind);
+            let wanted = with_article(other_than(kind));
+            format!(in alloc; "{text} is {given}, and its sub-select has {wanted} there")?
+        }
+        None => format!(in alloc; "{text} is of another kind than the item of its sub-select")?,
+    };
+    let hint = quotes_hint(scene, text)?;
+    Ok(Told { sentence, hint })
+}
+
+/// What helps where a number is written as a text, or a text as a number.
+fn quotes_hint(scene: &Scene<'_>, text: &str) -> Result<Option<String>, AllocError> {
+    let alloc = scene.alloc;
+    if is_digits(text) {
+        return Ok(Some(format!(in alloc; "a text is written in quotes: '{text}'")?));
+    }
+    let inner = text
+        .strip_prefix('\'')
+        .and_then(|rest| rest.strip_suffix('\''));
+    match inner {
+        Some(digits) if is_digits(digits) => {
+            Ok(Some(format!(in alloc; "a number is written without quotes: {digits}")?))
+        }
+        _ => Ok(None),
+    }
+}
+
+/// Whether a text is digits, and not empty.
+fn is_digits(text: &str) -> bool {
+    !text.is_empty() && text.bytes().all(|byte| byte.is_ascii_digit())
+}
