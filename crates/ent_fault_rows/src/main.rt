@@ -1,5 +1,5 @@
-//! Explains the faults of stored inputs, and fails where something else is said of one than it must. With the word `tell` it
-//! explains the fault of standard input, if it has one.
+//! Explains the faults of stored inputs, and fails where something else is said of one than it must. With the word
+//! `tell` it explains the fault of standard input, if it has one.
 #![tactic(auto)]
 
 mod found;

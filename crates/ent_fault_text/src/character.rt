@@ -11,6 +11,7 @@ pub(crate) fn text_fault(scene: &Scene<'_>, fault: TextFault) -> Result<Told, Al
     match fault {
         TextFault::BadChar(_) => match rest.chars().next() {
             Some(c) if c.is_control() => control_character(scene, c),
+            Some(c) if is_unseen(c) => unseen_character(scene, c),
             Some(c) => other_character(scene, c),
             None => Ok(Told::plain(format!(in alloc; "a character can't stand here")?)),
         },
@@ -59,6 +60,23 @@ fn control_character(scene: &Scene<'_>, c: char) -> Result<Told, AllocError> {
     }
     let sentence = format!(in alloc; "the control character U+{code:04X} can't stand here")?;
     Ok(Told::plain(sentence))
+}
+
+/// Whether a character can't be seen: white space other than a blank, or one without width at a text's beginning.
+fn is_unseen(c: char) -> bool {
+    c.is_whitespace() || c == '\u{feff}' || c == '\u{200b}'
+}
+
+/// A character that can't be seen, by its number.
+fn unseen_character(scene: &Scene<'_>, c: char) -> Result<Told, AllocError> {
+    let alloc = scene.alloc;
+    let code = c as u32;
+    let sentence = format!(in alloc; "the character U+{code:04X} can't stand here")?;
+    let hint = match c {
+        '\u{feff}' => "an input has no byte order mark",
+        _ => "white space is space, tab, CR and LF",
+    };
+    Told::hinted(alloc, sentence, hint)
 }
 
 /// A character that begins no token.

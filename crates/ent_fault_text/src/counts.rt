@@ -1,7 +1,7 @@
 //! What is said where numbers of values differ.
 use crate::mark::{Mark, marks_behind};
 use crate::scene::Scene;
-use crate::words::{Counted, Told};
+use crate::words::{Counted, Told, listed};
 use ent_text::{Keyword, Symbol};
 use std::alloc::AllocError;
 
@@ -41,17 +41,35 @@ fn row_arity(scene: &Scene<'_>) -> Result<Told, AllocError> {
         Some(mark) => mark.text,
         None => "",
     };
-    let columns = match scene.table(name) {
-        Some(table) => table.columns.len(),
-        None => 0,
-    };
+    let columns = column_names(scene, name)?;
     let inside = marks_behind(scene.coming(), 1);
-    let columns = Counted(columns, "column");
+    let wanted = Counted(columns.len(), "column");
     let count = things(inside, Keyword::Values);
     let values = Counted(count, "value");
     let verb = if count == 1 { "stands" } else { "stand" };
-    let sentence = format!(in alloc; "{name} has {columns}, and here {verb} {values}")?;
-    Ok(Told::plain(sentence))
+    let sentence = format!(in alloc; "{name} has {wanted}, and here {verb} {values}")?;
+    let list = listed(alloc, columns.as_slice(), " and ")?;
+    let be = if columns.len() == 1 {
+        "column is"
+    } else {
+        "columns are"
+    };
+    let hint = format!(in alloc; "the {be} {list}")?;
+    Ok(Told {
+        sentence,
+        hint: Some(hint),
+    })
+}
+
+/// The names of a table's columns.
+fn column_names<'a>(scene: &Scene<'a>, name: &str) -> Result<Vec<&'a str>, AllocError> {
+    let mut names: Vec<&'a str> = Vec::new(scene.alloc);
+    if let Some(table) = scene.table(name) {
+        for column in &table.columns {
+            names.push(column.name)?;
+        }
+    }
+    Ok(names)
 }
 
 fn tuple_arity(scene: &Scene<'_>) -> Result<Told, AllocError> {
