@@ -1,0 +1,19 @@
+//! Laws of whole characters. Nothing here has a body; what holds is in the contracts.
+ghost use Rattle.std.specs.Prelude.{◌↔◌, ℕ, List};
+ghost use Rattle.std.specs.Str.{IsUtf8};
+ghost use Rattle.ent_value.specs.Print.{quoted};
+ghost use Rattle.ent_history.specs.declared.history.History.{History};
+ghost use Rattle.ent_history.specs.Text.{history_text};
+ghost use Rattle.ent_report_laws.specs.Tellable.{CanBeTold};
+ghost use Rattle.ent_character_laws.specs.Characters.{HoldsCharacters};
+
+/// A text between quotes, in which each quote is doubled, is UTF-8 exactly where the text is.
+pub fn quotes_are_doubled_among_characters()
+    ensures { (text : List ℕ) → IsUtf8 (quoted text) ↔ IsUtf8 text }
+{}
+
+/// The text of a history that can be told is UTF-8 where the values that it tells and the literals in its scripts are.
+pub fn histories_of_characters_have_texts_of_characters()
+    ensures { (history : History)
+        → CanBeTold history → HoldsCharacters history → IsUtf8 (history_text history) }
+{}
