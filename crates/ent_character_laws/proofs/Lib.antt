@@ -6,3 +6,9 @@ mod Answers
 mod Printed
 mod Variables
 mod Told
+mod Carrying
+mod Lexed
+mod Literals
+mod Selects
+mod Entangling
+mod Read

@@ -1,5 +1,5 @@
 -- Names and reserved words are of ASCII.
-use Rattle.std.proofs.Common.{◌≡◌, ℕ, ◌<◌, ◌≤◌, Bool, true, eqb, leb, ltb, List, [], ◌∷◌, refl, arith, inl, inr, subst, sym}
+use Rattle.std.proofs.Common.{◌≡◌, ℕ, ◌<◌, ◌≤◌, true, eqb, leb, List, [], ◌∷◌, arith, inl, inr, subst}
 use Rattle.std.specs.Prelude.{◌||◌}
 use Rattle.std.specs.Char.{is_ascii_alphanumeric}
 use Rattle.std.specs.Int.{is_in_range}
@@ -8,7 +8,6 @@ use Rattle.std.specs.Str.{IsUtf8}
 use Rattle.std.proofs.lemmas.Bool.{and_parts, eqb-true, leb-true, or_cases}
 use Rattle.std.proofs.lemmas.Str.{IsUtf8-nil}
 use Rattle.ent_value.specs.Name.{is_word_byte}
-use Rattle.ent_text.specs.Spelling.{Spells}
 use Rattle.ent_text.specs.declared.token.TokenKind.TheVariants as kinds
 use Rattle.ent_print.specs.Reading.{CanStand}
 use Rattle.ent_history_form.specs.Parts.{IsName}

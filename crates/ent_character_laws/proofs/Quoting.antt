@@ -4,7 +4,6 @@ use Rattle.std.proofs.Common.{arith, append_assoc}
 use Rattle.std.specs.Prelude.{◌↔◌}
 use Rattle.std.specs.Str.{IsUtf8}
 use Rattle.std.proofs.lemmas.Bool.{eqb-true}
-use Rattle.std.proofs.lemmas.Str.{IsUtf8-nil}
 use Rattle.ent_value.specs.Print.{doubled, quoted}
 use Rattle.ent_character_laws.proofs.Texts.{behind_byte, cut_at, joined, one_byte}
 

@@ -1,14 +1,13 @@
 -- The written variables of a script that can be printed are names.
-use Rattle.std.proofs.Common.{◌≡◌, ℕ, zero, suc, List, [], ◌∷◌, ◌++◌, Bool, true, false, cond, not, map, Option, Some, None}
-use Rattle.std.proofs.Common.{refl, arith, slice_get, subst, sym}
-use Rattle.std.specs.List.{All, AllByRecursion, filter, flat_map}
+use Rattle.std.proofs.Common.{ℕ, zero, suc, List, [], ◌∷◌, ◌++◌, not, map, Option, Some, None}
+use Rattle.std.proofs.Common.{slice_get, subst, sym}
+use Rattle.std.specs.List.{All, AllByRecursion, flat_map}
 use Rattle.ent_tree.specs.declared.entangled.Condition.{Condition}
 use Rattle.ent_tree.specs.declared.entangled.Condition.TheVariants as conditions
 use Rattle.ent_tree.specs.declared.entangled.Entangled.{Entangled}
 use Rattle.ent_tree.specs.declared.entangled.EntangledItem.{EntangledItem}
 use Rattle.ent_tree.specs.declared.entangled.Term.{Term}
 use Rattle.ent_tree.specs.declared.entangled.Term.TheVariants as terms
-use Rattle.ent_tree.specs.declared.entangled.Tuple.{Tuple}
 use Rattle.ent_tree.specs.declared.script.Script.{Script}
 use Rattle.ent_tree.specs.declared.script.Statement.{Statement}
 use Rattle.ent_tree.specs.declared.script.Statement.TheVariants as statements
@@ -34,36 +33,9 @@ use Rattle.ent_history_form.specs.Joints.{Binds, BindsRight, binds_of, member_bi
 use Rattle.ent_history_form.specs.Parts.{IsName}
 use Rattle.ent_history_form.specs.Scripts.{IsScript}
 use Rattle.ent_report_laws.specs.Tellable.{IsMemberTold}
+use Rattle.ent_lists.specs.Elements.{all_filtered, all_first, all_index, all_joined, all_second}
 
--- ---- lists
-
-all_front : {A : Type 0} (so : A → Type 0) (xs ys : List A) → AllByRecursion so (xs ++ ys) → AllByRecursion so xs
-all_front so [] ys each = tt
-all_front so (x ∷ xs) ys each = (each.0, all_front so xs ys each.1)
-
-all_back : {A : Type 0} (so : A → Type 0) (xs ys : List A) → AllByRecursion so (xs ++ ys) → AllByRecursion so ys
-all_back so [] ys each = each
-all_back so (x ∷ xs) ys each = all_back so xs ys each.1
-
-all_both : {A : Type 0} (so : A → Type 0) (xs ys : List A) → AllByRecursion so xs → AllByRecursion so ys
-    → AllByRecursion so (xs ++ ys)
-all_both so [] ys each others = others
-all_both so (x ∷ xs) ys each others = (each.0, all_both so xs ys each.1 others)
-
-all_kept : {A : Type 0} (so : A → Type 0) (test : A → Bool) (xs : List A) → AllByRecursion so xs
-    → AllByRecursion so (filter test xs)
-all_kept so test [] each = tt
-all_kept so test (x ∷ xs) each = by (test x) (all_kept so test xs each.1)
-  where
-    by : (kept : Bool) → AllByRecursion so (filter test xs)
-        → AllByRecursion so (cond kept (x ∷ filter test xs) (filter test xs))
-    by true more = (each.0, more)
-    by false more = more
-
-by_recursion : {A : Type 0} (so : A → Type 0) (xs : List A) → All so xs → AllByRecursion so xs
-by_recursion so [] each = tt
-by_recursion so (x ∷ xs) each =
-    (each 0 x (omega arith), by_recursion so xs (λ k d below. each (suc k) d (omega arith)))
+-- ---- what stands at a place
 
 abbrev Holds : {A : Type 0} → (A → Type 0) → Option A → Type 0
 Holds so None = Unit {0}
@@ -85,10 +57,10 @@ abbrev AreRead : List Lexeme → Type 0
 AreRead lexemes = AllByRecursion CanBeRead lexemes
 
 front_read : (front behind : List Lexeme) → AreRead (front ++ behind) → AreRead front
-front_read = all_front CanBeRead
+front_read = all_first CanBeRead
 
 back_read : (front behind : List Lexeme) → AreRead (front ++ behind) → AreRead behind
-back_read = all_back CanBeRead
+back_read = all_second CanBeRead
 
 each_is_read : {A : Type 0} (separator : Lexeme) (spelling : A → List Lexeme) (xs : List A)
     → AreRead (each_behind separator spelling xs) → AllByRecursion (λ x. AreRead (spelling x)) xs
@@ -123,7 +95,7 @@ variables_named (terms.Variable variable ∷ more) read = (read.0.0, variables_n
 firsts_named : (names : List Name) → AllByRecursion IsName names → AllByRecursion IsName (first_of_each names)
 firsts_named [] each = tt
 firsts_named (name ∷ names) each =
-    (each.0, all_kept IsName (λ other. not (same_name name other)) (first_of_each names) (firsts_named names each.1))
+    (each.0, all_filtered IsName (λ other. not (same_name name other)) (first_of_each names) (firsts_named names each.1))
 
 items_read : (items : List EntangledItem) → AllByRecursion (λ item. AreRead (entangled_item_spelling item)) items
     → AllByRecursion IsTermRead (map (λ item. item.term) items)
@@ -148,7 +120,7 @@ conditions_read : (found : List Condition) → AllByRecursion (λ condition. Are
     → AllByRecursion IsTermRead (flat_map condition_terms found)
 conditions_read [] read = tt
 conditions_read (condition ∷ found) read =
-    all_both IsTermRead (condition_terms condition) (flat_map condition_terms found)
+    all_joined IsTermRead (condition_terms condition) (flat_map condition_terms found)
     (condition_read condition read.0) (conditions_read found read.1)
 
 written_named : (entangled : Entangled) → AreRead (statement_spelling (statements.Entangled entangled))
@@ -159,7 +131,7 @@ written_named entangled read =
     let found = where_clause condition_spelling entangled.conditions in
     let from_relations = (back_read items _ read.1).1 in
     let from_found = back_read relations _ from_relations in
-    let named = all_both IsTermRead (head_terms entangled) (flat_map condition_terms entangled.conditions)
+    let named = all_joined IsTermRead (head_terms entangled) (flat_map condition_terms entangled.conditions)
     (items_read entangled.items
     (list_is_read (sign symbols.Comma) entangled_item_spelling entangled.items (front_read items _ read.1)))
     (conditions_read entangled.conditions
@@ -186,7 +158,7 @@ AreStatementsRead script = AllByRecursion IsStatementRead script.statements
 
 statements_read : (script : Script) → All CanBeRead (script_spelling script) → AreStatementsRead script
 statements_read script read =
-    let each = by_recursion CanBeRead (script_spelling script) read in
+    let each = all_index CanBeRead (script_spelling script) read in
     lines_read script.statements
     (front_read (flat_map line_spelling script.statements) (word (end_word script.end) ∷ sign symbols.Semicolon ∷ [])
     each.1.1.1.1.1.1)

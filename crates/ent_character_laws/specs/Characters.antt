@@ -12,13 +12,8 @@ use Rattle.ent_print.specs.Lexeme.{Lexeme, Token, Negative}
 use Rattle.ent_print.specs.Spelling.{script_spelling}
 use Rattle.ent_semantics.specs.declared.answer.Answer.{Answer}
 use Rattle.ent_semantics.specs.declared.answer.Answer.TheVariants as answers
-use Rattle.ent_semantics.specs.declared.answer.Fact.{Fact}
 use Rattle.ent_semantics.specs.Database.{row_of}
 use Rattle.ent_history.specs.declared.history.History.{History}
-use Rattle.ent_history.specs.declared.history.Shown.{Shown}
-use Rattle.ent_history.specs.declared.history.Told.{Told}
-use Rattle.ent_history.specs.declared.history.ToldJoint.{ToldJoint}
-use Rattle.ent_history.specs.declared.history.ToldMember.{ToldMember}
 
 -- any number, and a text that is UTF-8
 abbrev pub IsOfCharacters : Value → Type 0

@@ -8,4 +8,5 @@ mod law;
 
 pub use law::{
     histories_of_characters_have_texts_of_characters, quotes_are_doubled_among_characters,
+    texts_of_characters_say_characters,
 };
