@@ -63,10 +63,6 @@ pub carry_so : {A : Type 0} {g : Grammar A} {such so : A → Type 0} → ((x : A
     → Carries g so
 carry_so then each = record { carries = λ y tokens are spelled. then y (each.carries y tokens are spelled) }
 
--- where it holds of everything
-pub carry_all : {A : Type 0} {g : Grammar A} {so : A → Type 0} → ((x : A) → so x) → Carries g so
-carry_all each = record { carries = λ y tokens are spelled. each y }
-
 pub carry_if : {A : Type 0} {g h : Grammar A} {so : A → Type 0} (test : Bool) → Carries g so → Carries h so
     → Carries (cond test g h) so
 carry_if true one other = one

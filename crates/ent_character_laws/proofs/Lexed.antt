@@ -23,8 +23,8 @@ tokens_within front place bytes tokens end rest (nothing _ _) is = tt
 tokens_within front place bytes tokens end rest (gap at before behind others _ _ is_gap longest more) is =
     tokens_within (front ++ before) (at + length before) behind others end rest more
     (subst IsUtf8 (sym (append_assoc front before behind)) is)
-tokens_within front place bytes tokens end rest (token at before behind kind others _ _ spelled longest small more) is = (
-  kind_within front before behind kind spelled is,
+tokens_within front place bytes tokens end rest (token at before behind kind others _ _ is_kind far small more) is = (
+  kind_within front before behind kind is_kind is,
   tokens_within (front ++ before) (at + length before) behind others end rest more
       (subst IsUtf8 (sym (append_assoc front before behind)) is),
 )

@@ -1,5 +1,5 @@
 -- The text of a history of whole characters.
-use Rattle.std.proofs.Common.{◌≡◌, ℕ, ◌+◌, true, false, Bool, cond, List, [], ◌∷◌, ◌++◌, length, map, refl, subst, sym}
+use Rattle.std.proofs.Common.{◌≡◌, ℕ, ◌+◌, true, false, Bool, List, [], ◌∷◌, ◌++◌, length, refl, subst, sym}
 use Rattle.std.specs.Prelude.{codes}
 use Rattle.std.specs.List.{AllByRecursion, filter, flat_map}
 use Rattle.std.specs.Fmt.{decimal}
@@ -32,6 +32,7 @@ use Rattle.ent_history_form.specs.Parts.{IsName}
 use Rattle.ent_history_form.specs.Scripts.{IsScript}
 use Rattle.ent_report_laws.specs.Tellable.{AreTablesOf, AreTransactionsOf, CanBeTold, IsJointTold, IsMemberTold}
 use Rattle.ent_report_laws.specs.Tellable.{IsTransactionTold}
+use Rattle.ent_lists.specs.Elements.{all_filtered, all_map}
 use Rattle.ent_character_laws.specs.Characters.{HoldsCharacters, IsAnswerOfCharacters, IsOpeningOfCharacters}
 use Rattle.ent_character_laws.specs.Characters.{IsRowOfCharacters}
 use Rattle.ent_character_laws.proofs.Answers.{answers_are_text, fate_is_text}
@@ -83,16 +84,11 @@ heading_is_text create count is =
 abbrev IsOpened : OpeningRow → Type 0
 IsOpened row = IsRowOfCharacters (row_of row)
 
-found_rows : (name : Name) (rows : List OpeningRow) → AllByRecursion IsOpened rows
-    → AllByRecursion IsRowOfCharacters (map row_of (filter (λ row. same_name row.table.name name) rows))
-found_rows name [] each = tt
-found_rows name (row ∷ rows) each = by (same_name row.table.name name) (found_rows name rows each.1)
-  where
-    by : (found : Bool)
-        → AllByRecursion IsRowOfCharacters (map row_of (filter (λ one. same_name one.table.name name) rows))
-        → AllByRecursion IsRowOfCharacters (map row_of (cond found (row ∷ filter (λ one. same_name one.table.name name) rows) (filter (λ one. same_name one.table.name name) rows)))
-    by true more = (each.0, more)
-    by false more = more
+found_rows : (opening : Opening) (name : Name) → IsOpeningOfCharacters opening
+    → AllByRecursion IsRowOfCharacters (rows_under opening name)
+found_rows opening name is =
+    let test = λ (row : OpeningRow). same_name row.table.name name in
+    all_map row_of IsRowOfCharacters (filter test opening.rows) (all_filtered IsOpened test opening.rows is)
 
 tables_are_text : (opening : Opening) (tables : List Create) → IsOpeningOfCharacters opening
     → AllByRecursion IsDeclaration tables → IsUtf8 (flat_map (opened_text opening) tables)
@@ -102,7 +98,7 @@ tables_are_text opening (create ∷ tables) is each =
     joined (opened_text opening create) (flat_map (opened_text opening) tables)
     (joined (opening_line create.name.name create.columns (length rows)) (rows_text rows)
     (heading_is_text create (length rows) each.0)
-    (rows_are_text rows (found_rows create.name.name opening.rows is)))
+    (rows_are_text rows (found_rows opening create.name.name is)))
     (tables_are_text opening tables is each.1)
 
 -- ---- transactions

@@ -95,7 +95,8 @@ variables_named (terms.Variable variable ∷ more) read = (read.0.0, variables_n
 firsts_named : (names : List Name) → AllByRecursion IsName names → AllByRecursion IsName (first_of_each names)
 firsts_named [] each = tt
 firsts_named (name ∷ names) each =
-    (each.0, all_filtered IsName (λ other. not (same_name name other)) (first_of_each names) (firsts_named names each.1))
+    let others = λ (other : Name). not (same_name name other) in
+    (each.0, all_filtered IsName others (first_of_each names) (firsts_named names each.1))
 
 items_read : (items : List EntangledItem) → AllByRecursion (λ item. AreRead (entangled_item_spelling item)) items
     → AllByRecursion IsTermRead (map (λ item. item.term) items)

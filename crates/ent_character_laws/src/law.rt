@@ -1,15 +1,20 @@
 //! Laws of whole characters. Nothing here has a body; what holds is in the contracts.
-ghost use Rattle.std.specs.Prelude.{◌≡◌, ◌↔◌, ℕ, List, Ok};
-ghost use Rattle.std.specs.List.{AllByRecursion};
+ghost use Rattle.std.specs.Prelude.{◌≡◌, ◌↔◌, ℕ, List, Ok, length, map};
+ghost use Rattle.std.specs.List.{AllByRecursion, range_with_len};
 ghost use Rattle.std.specs.Str.{IsUtf8};
 ghost use Rattle.ent_value.specs.Print.{quoted};
 ghost use Rattle.ent_tree.specs.declared.script.Input.{Input};
 ghost use Rattle.ent_sql.specs.Reading.{reading};
+ghost use Rattle.ent_semantics.specs.Database.{Database};
+ghost use Rattle.ent_semantics.specs.declared.book.Book.{Book};
+ghost use Rattle.ent_book.specs.Report2.{report_2_text};
 ghost use Rattle.ent_history.specs.declared.history.History.{History};
 ghost use Rattle.ent_history.specs.Text.{history_text};
+ghost use Rattle.ent_history.specs.Told.{told_by};
 ghost use Rattle.ent_report_laws.specs.Tellable.{CanBeTold};
 ghost use Rattle.ent_character_laws.specs.Characters.{HoldsCharacters, IsOpeningOfCharacters, IsScriptOfCharacters};
 
+use ent_history::reports_tell_of_books;
 use ent_sql::reading_is_exact;
 use ent_text::reader_is_exact;
 
@@ -34,3 +39,14 @@ pub fn histories_of_characters_have_texts_of_characters()
     ensures { (history : History)
         → CanBeTold history → HoldsCharacters history → IsUtf8 (history_text history) }
 {}
+
+/// The report of a book is UTF-8 where what is told by it can be told, its values and the literals in its scripts are
+/// UTF-8, and its fates are those of its transactions by number, from 1 on.
+pub fn books_of_characters_have_reports_of_characters()
+    ensures { (book : Book Database)
+        → map (λ fated. fated.tx) book.fates ≡ range_with_len 1 (length book.fates)
+        → CanBeTold (told_by book) → HoldsCharacters (told_by book) → IsUtf8 (report_2_text book) }
+{
+    reports_tell_of_books();
+    histories_of_characters_have_texts_of_characters();
+}

@@ -7,6 +7,7 @@
 mod law;
 
 pub use law::{
+    books_of_characters_have_reports_of_characters,
     histories_of_characters_have_texts_of_characters, quotes_are_doubled_among_characters,
     texts_of_characters_say_characters,
 };
