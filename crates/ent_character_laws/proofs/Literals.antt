@@ -9,7 +9,6 @@ use Rattle.ent_text.specs.declared.symbol.Symbol.TheVariants as symbols
 use Rattle.ent_text.specs.declared.keyword.Keyword.TheVariants as keywords
 use Rattle.ent_text.specs.declared.token.TokenKind.{TokenKind}
 use Rattle.ent_text.specs.declared.token.TokenKind.TheVariants as kinds
-use Rattle.ent_tree.specs.declared.operand.Literal.{Literal}
 use Rattle.ent_tree.specs.declared.operand.ColumnReference.{ColumnReference}
 use Rattle.ent_tree.specs.declared.operand.Identifier.{Identifier}
 use Rattle.ent_grammar.specs.Class.{given, text}

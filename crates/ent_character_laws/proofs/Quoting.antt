@@ -7,11 +7,11 @@ use Rattle.std.proofs.lemmas.Bool.{eqb-true}
 use Rattle.ent_value.specs.Print.{doubled, quoted}
 use Rattle.ent_character_laws.proofs.Texts.{behind_byte, cut_at, joined, one_byte}
 
--- what stands behind a front, the quotes in it doubled
+-- a byte goes over to the front
 with_front : (front : List ℕ) (b : ℕ) (bytes : List ℕ) → (front ++ b ∷ []) ++ bytes ≡ front ++ b ∷ bytes
 with_front front b bytes = append_assoc front (b ∷ []) bytes
 
-module _ (front : List ℕ) (b : ℕ) (bytes : List ℕ) where
+module _ (b : ℕ) (bytes : List ℕ) where
   quote_doubled : b ≡ 39 → doubled (b ∷ bytes) ≡ 39 ∷ 39 ∷ doubled bytes
   quote_doubled same = ap (λ (c : ℕ). doubled (c ∷ bytes)) same
 
@@ -25,14 +25,14 @@ module _ (front : List ℕ) (b : ℕ) (bytes : List ℕ) where
   doubled_in_by again true e is =
       let same = eqb-true b 39 e in
       let parts = cut_at front 39 bytes (omega arith) (subst (λ (c : ℕ). IsUtf8 (front ++ c ∷ bytes)) same is) in
-      subst (λ (more : List ℕ). IsUtf8 (front ++ more)) (sym (quote_doubled front b bytes same))
+      subst (λ (more : List ℕ). IsUtf8 (front ++ more)) (sym (quote_doubled b bytes same))
       (joined front (39 ∷ 39 ∷ doubled bytes) parts.0
       (behind_byte 39 (39 ∷ doubled bytes) (omega arith)
       (behind_byte 39 (doubled bytes) (omega arith) (again [] parts.1))))
   doubled_in_by again false e is =
       subst IsUtf8
       (with_front front b (doubled bytes)
-      ∙ ap (λ (more : List ℕ). front ++ more) (sym (other_stays front b bytes e)))
+      ∙ ap (λ (more : List ℕ). front ++ more) (sym (other_stays b bytes e)))
       (again (front ++ b ∷ []) (subst IsUtf8 (sym (with_front front b bytes)) is))
 
   doubled_out_by : ((before : List ℕ) → IsUtf8 (before ++ doubled bytes) → IsUtf8 (before ++ bytes)) → (test : Bool)
@@ -40,14 +40,14 @@ module _ (front : List ℕ) (b : ℕ) (bytes : List ℕ) where
   doubled_out_by again true e is =
       let same = eqb-true b 39 e in
       let first = cut_at front 39 (39 ∷ doubled bytes) (omega arith)
-      (subst (λ (more : List ℕ). IsUtf8 (front ++ more)) (quote_doubled front b bytes same) is) in
+      (subst (λ (more : List ℕ). IsUtf8 (front ++ more)) (quote_doubled b bytes same) is) in
       let second = cut_at [] 39 (doubled bytes) (omega arith) first.1 in
       subst (λ (c : ℕ). IsUtf8 (front ++ c ∷ bytes)) (sym same)
       (joined front (39 ∷ bytes) first.0 (behind_byte 39 bytes (omega arith) (again [] second.1)))
   doubled_out_by again false e is =
       subst IsUtf8 (with_front front b bytes)
       (again (front ++ b ∷ [])
-      (subst IsUtf8 (ap (λ (more : List ℕ). front ++ more) (other_stays front b bytes e)
+      (subst IsUtf8 (ap (λ (more : List ℕ). front ++ more) (other_stays b bytes e)
       ∙ sym (with_front front b (doubled bytes))) is))
 
 pub doubled_in : (front bytes : List ℕ) → IsUtf8 (front ++ bytes) → IsUtf8 (front ++ doubled bytes)
