@@ -1,0 +1,14 @@
+mod Texts
+mod Quoting
+mod Names
+mod Values
+mod Answers
+mod Printed
+mod Variables
+mod Told
+mod Carrying
+mod Lexed
+mod Literals
+mod Selects
+mod Entangling
+mod Read
