@@ -1,8 +1,7 @@
 -- Finished books over an input that is read can be reported.
-use Rattle.std.proofs.Common.{◌≡◌, ◌<◌, ◌≤◌, ℕ, List, [], ◌∷◌, length, refl, sym, subst, ◌∙◌, None, Result, Ok, Err}
-use Rattle.std.proofs.Common.{AllPairs, Contains}
+use Rattle.std.proofs.Common.{◌≡◌, ◌<◌, ◌≤◌, ℕ, List, [], ◌∷◌, length, refl, sym, ap, subst, ◌∙◌, None, Result, Ok}
+use Rattle.std.proofs.Common.{Err, AllPairs, Contains}
 use Rattle.std.specs.List.{AllByRecursion}
-use Rattle.std.specs.Str.{IsUtf8}
 use Rattle.ent_value.specs.Refusal.{◌>>=◌}
 use Rattle.ent_tree.specs.declared.declaration.Opening.{Opening}
 use Rattle.ent_tree.specs.declared.limits.TheConstants.{MOST_RUNS, MOST_SCRIPTS}
@@ -10,6 +9,7 @@ use Rattle.ent_tree.specs.declared.script.Input.{Input}
 use Rattle.ent_tree.specs.declared.script.Script.{Script}
 use Rattle.ent_closed.specs.declared.operand.Known.{Known}
 use Rattle.ent_closed.specs.declared.statement.Statement.{Statement}
+use Rattle.ent_sql.specs.Reading.{reading}
 use Rattle.ent_form.specs.AllFaults.{fault_of, head_of}
 use Rattle.ent_form.specs.Catalogue.{schemas_of}
 use Rattle.ent_form.specs.Form.{script_in}
@@ -119,8 +119,8 @@ module _ (laws : Laws) (s : State) (finished : IsFinished resolved_forms s)
 
   pub can_be_reported : IsOpeningRead s.opening → opening_fault s.opening ≡ None
       → length (scripts_of s) ≤ MOST_SCRIPTS → length (report_2_text (book_of s)) ≤ 1099511627776
-      → IsUtf8 (report_2_text (book_of s)) → CanBeReported (book_of s)
-  can_be_reported opening opened few short characters = record {
+      → CanBeReported (book_of s)
+  can_be_reported opening opened few short = record {
     opening = opening;
     faultless = opened;
     few = few;
@@ -129,20 +129,29 @@ module _ (laws : Laws) (s : State) (finished : IsFinished resolved_forms s)
     runs = runs;
     rising = rising;
     short = short;
-    characters = characters;
   }
 
 pub finished_can_be_reported : Laws → (input : Input) (book : Book Database)
     → IsOpeningRead input.opening → opening_fault input.opening ≡ None
     → AreReadable input.scripts → length input.scripts ≤ MOST_SCRIPTS
     → IsFinishedBook resolved_forms input.opening input.scripts book
-    → length (report_2_text book) ≤ 1099511627776 → IsUtf8 (report_2_text book) → CanBeReported book
-finished_can_be_reported laws input book opening opened readable few is short characters =
+    → length (report_2_text book) ≤ 1099511627776 → CanBeReported book
+finished_can_be_reported laws input book opening opened readable few is short =
     let s = is.last in
     subst CanBeReported (sym is.is)
     (can_be_reported laws s is.finished (subst AreReadable (sym is.of_scripts) readable)
     (subst IsOpeningRead (sym is.of_opening) opening)
     (subst (λ (o : Opening). opening_fault o ≡ None) (sym is.of_opening) opened)
     (subst (λ (scripts : List Script). length scripts ≤ MOST_SCRIPTS) (sym is.of_scripts) few)
-    (subst (λ (b : Book Database). length (report_2_text b) ≤ 1099511627776) is.is short)
-    (subst (λ (b : Book Database). IsUtf8 (report_2_text b)) is.is characters))
+    (subst (λ (b : Book Database). length (report_2_text b) ≤ 1099511627776) is.is short))
+
+-- a text that says an input says the opening and the scripts of its books
+pub book_is_read : (text : List ℕ) (input : Input) (book : Book Database) → reading text ≡ Ok input
+    → IsFinishedBook resolved_forms input.opening input.scripts book
+    → reading text ≡ Ok (record { opening = book.opening; scripts = book.scripts })
+book_is_read text input book reads is =
+    let opening : input.opening ≡ book.opening =
+    sym is.of_opening ∙ ap (λ (b : Book Database). b.opening) (sym is.is) in
+    let scripts : input.scripts ≡ book.scripts =
+    sym is.of_scripts ∙ ap (λ (b : Book Database). b.scripts) (sym is.is) in
+    reads ∙ (λ i. Ok (record { opening = opening i; scripts = scripts i }))

@@ -29,6 +29,7 @@ use ent_endings::{events_lead_on, finished_scripts_have_fates};
 use ent_faults::first_fault_is_first;
 use ent_form::FormFault;
 use ent_ready::submitted_forms_are_resolved;
+use ent_report_character_laws::reports_over_texts_are_of_characters;
 use ent_resolved::finished_books_are_legal;
 use ent_right_report_laws::reports_of_legal_books_are_right;
 use ent_round_trip::read_scripts_can_be_printed;
@@ -70,8 +71,7 @@ pub fn read_openings_can_be_shown()
 }
 
 /// A book whose opening and scripts a text says, without a fault of form, can be reported, where each script has its
-/// fate after 1 to 1,000 runs, joint answers name their members by number, and the report is a text of whole characters
-/// that isn't too long.
+/// fate after 1 to 1,000 runs, joint answers name their members by number, and the report isn't too long.
 pub fn books_over_texts_can_be_reported()
     ensures { (text : List ℕ) (book : Book Database)
         → reading text ≡ Ok (record { opening = book.opening; scripts = book.scripts })
@@ -82,7 +82,6 @@ pub fn books_over_texts_can_be_reported()
         → ((joint : JointAnswer) → Contains book.joint_answers joint
         → AllPairs (λ (first second : Member). first.tx < second.tx) joint.members)
         → length (report_2_text book) ≤ 1099511627776
-        → IsUtf8 (report_2_text book)
         → CanBeReported book }
 {
     read_openings_can_be_shown();
@@ -90,14 +89,13 @@ pub fn books_over_texts_can_be_reported()
 }
 
 /// A finished book over an input that is read from a text and whose opening has no fault of form can be reported, where
-/// the report is a text of whole characters that isn't too long.
+/// the report isn't too long.
 pub fn finished_books_can_be_reported()
     ensures { (text : List ℕ) (input : Input) (book : Book Database)
         → reading text ≡ Ok input
         → opening_fault input.opening ≡ None
         → IsFinishedBook resolved_forms input.opening input.scripts book
         → length (report_2_text book) ≤ 1099511627776
-        → IsUtf8 (report_2_text book)
         → CanBeReported book }
 {
     joint_answers_come_by_number::<FormFault>();
@@ -109,17 +107,18 @@ pub fn finished_books_can_be_reported()
     finished_scripts_have_fates::<FormFault>();
 }
 
-/// The report of such a book is answered `yes`.
+/// The report of such a book is answered `yes`, where the text that its input is read from is one of whole characters.
 pub fn reports_of_finished_books_are_right()
     ensures { (text : List ℕ) (input : Input) (book : Book Database)
         → reading text ≡ Ok input
+        → IsUtf8 text
         → opening_fault input.opening ≡ None
         → IsFinishedBook resolved_forms input.opening input.scripts book
         → length (report_2_text book) ≤ 1099511627776
-        → IsUtf8 (report_2_text book)
         → IsVerdict (report_2_text book) Yes }
 {
     finished_books_are_legal();
     finished_books_can_be_reported();
     reports_of_legal_books_are_right();
+    reports_over_texts_are_of_characters();
 }

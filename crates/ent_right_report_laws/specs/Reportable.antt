@@ -1,7 +1,6 @@
 -- Books whose version 2 report can be read again: over what an input can say, run until each script has its fate.
 use Rattle.std.specs.Prelude.{◌≡◌, ◌≤◌, ◌<◌, ℕ, length, map, AllPairs, Contains, None}
 use Rattle.std.specs.List.{AllByRecursion, range_with_len}
-use Rattle.std.specs.Str.{IsUtf8}
 use Rattle.ent_tree.specs.declared.limits.TheConstants.{MOST_SCRIPTS}
 use Rattle.ent_form.specs.OpeningFault.{opening_fault}
 use Rattle.ent_semantics.specs.declared.book.Book.{Book}
@@ -37,5 +36,3 @@ pub record CanBeReported (book : Book Database) : Type 0 where
   -- No more bytes than a report has that is checked. A SELECT over four full tables can answer more rows than a line of
   -- a report can say.
   pub short : length (report_2_text book) ≤ 1099511627776
-  -- a text of whole characters, as those are that its names and values are taken from
-  pub characters : IsUtf8 (report_2_text book)

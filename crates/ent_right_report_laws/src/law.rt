@@ -1,6 +1,7 @@
 //! Laws of the reports of legal books. Nothing here has a body; what holds is in the contracts.
 ghost use Rattle.std.specs.Prelude.{◌≡◌, [], None, false, length, map};
 ghost use Rattle.std.specs.List.{AllByRecursion, range_with_len};
+ghost use Rattle.std.specs.Str.{IsUtf8};
 ghost use Rattle.ent_set.specs.Sets as set;
 ghost use Rattle.ent_form.specs.Catalogue.{schemas_of};
 ghost use Rattle.ent_form.specs.OpeningFault.{opening_fault};
@@ -13,7 +14,9 @@ ghost use Rattle.ent_check_report.specs.Verdicts.{IsVerdict};
 ghost use Rattle.ent_check_report.specs.declared.verdict.Verdict.TheVariants.{Yes};
 ghost use Rattle.ent_right_report_laws.specs.Reportable.{CanBeReported};
 ghost use Rattle.ent_history.specs.Told.{book_of, told_by, told_opening};
+ghost use Rattle.ent_history_form.specs.Stands.{Tells};
 ghost use Rattle.ent_rules.specs.Formed.{is_declared};
+ghost use Rattle.ent_unplaced_laws.specs.Unplaced.{unplaced_book};
 
 use ent_answer_laws::{
     runs_answer_what_can_be_told, sights_can_be_told, tables_can_be_told, told_openings_hold_rows,
@@ -59,10 +62,14 @@ pub fn legal_books_keep_to_declared_tables()
     first_fault_is_first();
 }
 
-/// The report of a legal book that can be reported is answered `yes`.
-pub fn reports_of_legal_books_are_right()
+/// The report of a legal book that can be reported tells what is told by the book without its places, and so it tells of
+/// a legal book.
+pub fn reports_of_legal_books_are_told()
     ensures { (book : Book Database)
-        → IsLegal book → CanBeReported book → IsVerdict (report_2_text book) Yes }
+        → IsLegal book
+        → CanBeReported book
+        → Tells (report_2_text book) (told_by (unplaced_book book))
+        × IsLegal (book_of (told_by (unplaced_book book))) }
 {
     statements_keep_to_their_uses();
     resolved_scripts_keep_to_declared_tables();
@@ -81,5 +88,16 @@ pub fn reports_of_legal_books_are_right()
     told_openings_hold_rows();
     reports_tell_of_books();
     reports_of_tellable_books_are_told();
+}
+
+/// The report of a legal book that can be reported is answered `yes`, where it is a text of whole characters.
+pub fn reports_of_legal_books_are_right()
+    ensures { (book : Book Database)
+        → IsLegal book
+        → CanBeReported book
+        → IsUtf8 (report_2_text book)
+        → IsVerdict (report_2_text book) Yes }
+{
+    reports_of_legal_books_are_told();
     reports_that_are_right_tell_of_legal_books();
 }

@@ -7,5 +7,5 @@ mod law;
 
 pub use law::{
     books_are_told_by_their_reports, legal_books_keep_to_declared_tables,
-    reports_of_legal_books_are_right,
+    reports_of_legal_books_are_right, reports_of_legal_books_are_told,
 };

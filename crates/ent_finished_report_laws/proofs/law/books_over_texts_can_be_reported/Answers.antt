@@ -3,7 +3,7 @@ use Rattle.ent_finished_report_laws.proofs.Finished.{can_run}
 use Rattle.ent_finished_report_laws.proofs.law.books_over_texts_can_be_reported.Goals as goal
 
 pub returns : goal.returns
-returns c text book reads opened faultless fates runs rising short characters =
+returns c text book reads opened faultless fates runs rising short =
     let input : Input = record { opening = book.opening; scripts = book.scripts } in
     record {
       opening = c.read_openings_can_be_shown.ensures text input reads;
@@ -15,5 +15,4 @@ returns c text book reads opened faultless fates runs rising short characters =
       runs = runs;
       rising = rising;
       short = short;
-      characters = characters;
     }

@@ -3,7 +3,7 @@ use Rattle.ent_resolved.specs.Resolved.{resolved_forms}
 use Rattle.ent_finished_report_laws.proofs.law.finished_books_can_be_reported.Goals as goal
 
 pub returns : goal.returns
-returns c text input book reads opened finished short characters =
+returns c text input book reads opened finished short =
     let laws : Laws = record {
       first = c.first_fault_is_first.ensures.script;
       resolved = c.submitted_forms_are_resolved.ensures resolved_forms;
@@ -13,4 +13,4 @@ returns c text input book reads opened finished short characters =
     } in
     finished_can_be_reported laws input book (c.read_openings_can_be_shown.ensures text input reads) opened
     (λ script there. c.read_scripts_can_be_printed.ensures.each text input script reads there)
-    (c.read_scripts_can_be_printed.ensures.few text input reads) finished short characters
+    (c.read_scripts_can_be_printed.ensures.few text input reads) finished short
