@@ -3,7 +3,6 @@ use Rattle.std.specs.Prelude.{List}
 use Rattle.std.specs.List.{AllByRecursion}
 use Rattle.std.specs.Str.{IsUtf8}
 use Rattle.ent_value.specs.declared.value.Value.{Value}
-use Rattle.ent_value.specs.declared.value.Value.TheVariants.{Int, Text}
 use Rattle.ent_text.specs.declared.token.TokenKind.{TokenKind}
 use Rattle.ent_text.specs.declared.token.TokenKind.TheVariants.{Literal}
 use Rattle.ent_tree.specs.declared.declaration.Opening.{Opening}
@@ -11,14 +10,9 @@ use Rattle.ent_tree.specs.declared.script.Script.{Script}
 use Rattle.ent_print.specs.Lexeme.{Lexeme, Token, Negative}
 use Rattle.ent_print.specs.Spelling.{script_spelling}
 use Rattle.ent_semantics.specs.declared.answer.Answer.{Answer}
-use Rattle.ent_semantics.specs.declared.answer.Answer.TheVariants as answers
 use Rattle.ent_semantics.specs.Database.{row_of}
 use Rattle.ent_history.specs.declared.history.History.{History}
-
--- any number, and a text that is UTF-8
-abbrev pub IsOfCharacters : Value → Type 0
-IsOfCharacters (Int number) = Unit {0}
-IsOfCharacters (Text content) = IsUtf8 content
+use Rattle.ent_value_laws.specs.Values.{AnswersValues, IsOfCharacters}
 
 abbrev pub IsRowOfCharacters : List Value → Type 0
 IsRowOfCharacters row = AllByRecursion IsOfCharacters row
@@ -42,10 +36,7 @@ IsScriptOfCharacters script = AllByRecursion IsLexemeOfCharacters (script_spelli
 
 -- each value in it
 abbrev pub IsAnswerOfCharacters : Answer → Type 0
-IsAnswerOfCharacters (answers.Count count) = Unit {0}
-IsAnswerOfCharacters (answers.Value value) = IsOfCharacters value
-IsAnswerOfCharacters (answers.Rows rows) = AllByRecursion IsRowOfCharacters rows
-IsAnswerOfCharacters (answers.Heads facts) = AllByRecursion (λ fact. IsRowOfCharacters fact.values) facts
+IsAnswerOfCharacters answer = AnswersValues IsOfCharacters answer
 
 -- each value that it tells, and each literal in its scripts
 pub record HoldsCharacters (history : History) : Type 0 where

@@ -34,17 +34,17 @@ use Rattle.ent_right_report_laws.specs.Reportable.{CanBeReported}
 use Rattle.ent_right_report_laws.proofs.Joints.{all_grounded}
 use Rattle.ent_right_report_laws.proofs.Kept.{numbered_in}
 use Rattle.ent_value_laws.specs.Kept.{CanKeep, OpeningsKeep, RunsKeep, SightsKeep, TablesShow}
-use Rattle.ent_value_laws.specs.Values.{AnswersValues, HoldsValues, IsWritten}
+use Rattle.ent_value_laws.specs.Values.{HoldsValues, IsOfCharacters, IsWritten}
 use Rattle.ent_character_laws.specs.Characters.{HoldsCharacters, IsAnswerOfCharacters, IsLexemeOfCharacters}
 use Rattle.ent_character_laws.specs.Characters.{IsOpeningOfCharacters, IsRowOfCharacters, IsScriptOfCharacters}
-use Rattle.ent_report_character_laws.proofs.Kept.{IsKept, kept_answers, kept_row, kept_rows, lexeme_kept, row_kept}
+use Rattle.ent_report_character_laws.proofs.Kept.{lexeme_kept}
 
 -- what other laws say
 pub record Laws : Type 0 where
-  pub opens : OpeningsKeep IsKept
-  pub shows : TablesShow IsKept
-  pub runs : RunsKeep IsKept
-  pub sights : SightsKeep IsKept
+  pub opens : OpeningsKeep IsOfCharacters
+  pub shows : TablesShow IsOfCharacters
+  pub runs : RunsKeep IsOfCharacters
+  pub sights : SightsKeep IsOfCharacters
   pub spelled : (script : Script) → script_spelling (unplaced_script script) ≡ script_spelling script
   pub unplaced : (opening : Opening) → opening_database (unplaced_opening opening) ≡ opening_database opening
 
@@ -57,24 +57,23 @@ module _ (laws : Laws) (book : Book Database) (legal : IsLegal book) (reported :
   abbrev first : Database
   first = opening_database book.opening
 
-  first_holds : HoldsValues IsKept first
+  first_holds : HoldsValues IsOfCharacters first
   first_holds =
       laws.opens book.opening (λ row c.
-      row_kept (row_of row)
-      (of_all (λ (r : OpeningRow). IsRowOfCharacters (row_of r)) book.opening.rows row opening
-      (contains_in book.opening.rows row c)))
+      of_all (λ (r : OpeningRow). IsRowOfCharacters (row_of r)) book.opening.rows row opening
+      (contains_in book.opening.rows row c))
 
   -- ---- the run
 
   own_script : (turn : Turn) → Contains legal.turns turn → In turn.script book.scripts
   own_script turn c = numbered_in book.scripts turn.tx turn.script (legal.runs.own_scripts turn c)
 
-  can_keep : CanKeep IsKept book.opening.tables legal.turns
+  can_keep : CanKeep IsOfCharacters book.opening.tables legal.turns
   can_keep = record {
     resolved = λ turn c.
         (of_all (CanRun book.opening.tables) book.scripts turn.script reported.scripts (own_script turn c)).resolved;
     writes = λ turn c.
-        all_by IsLexemeOfCharacters (IsWritten IsKept) (script_spelling turn.script) lexeme_kept
+        all_by IsLexemeOfCharacters (IsWritten IsOfCharacters) (script_spelling turn.script) lexeme_kept
         (of_all IsScriptOfCharacters book.scripts turn.script scripts (own_script turn c));
   }
 
@@ -84,8 +83,8 @@ module _ (laws : Laws) (book : Book Database) (legal : IsLegal book) (reported :
   abbrev left : Runs
   left = record { database = book.database; answers = map answers_of book.journal }
 
-  left_keeps : HoldsValues IsKept book.database
-      × AllByRecursion (AllByRecursion (AnswersValues IsKept)) (map answers_of book.journal)
+  left_keeps : HoldsValues IsOfCharacters book.database
+      × AllByRecursion (AllByRecursion IsAnswerOfCharacters) (map answers_of book.journal)
   left_keeps =
       laws.runs book.opening.tables legal.turns first left can_keep first_holds (all_grounded book legal)
       legal.runs.run
@@ -95,16 +94,15 @@ module _ (laws : Laws) (book : Book Database) (legal : IsLegal book) (reported :
   abbrev bare : Opening
   bare = unplaced_opening book.opening
 
-  bare_holds : HoldsValues IsKept (opening_database bare)
-  bare_holds = subst (HoldsValues IsKept) (sym (laws.unplaced book.opening)) first_holds
+  bare_holds : HoldsValues IsOfCharacters (opening_database bare)
+  bare_holds = subst (HoldsValues IsOfCharacters) (sym (laws.unplaced book.opening)) first_holds
 
   opening_row_holds : (name : Name) (values : List Value) → In values (set.ascending (opening_database bare name))
       → IsRowOfCharacters (row_of (opening_row name values))
   opening_row_holds name values at =
       subst IsRowOfCharacters (sym (values_again name values))
-      (kept_row values
-      (of_all (AllByRecursion IsKept) (set.ascending (opening_database bare name)) values
-      (laws.shows (opening_database bare) name bare_holds) at))
+      (of_all IsRowOfCharacters (set.ascending (opening_database bare name)) values
+      (laws.shows (opening_database bare) name bare_holds) at)
 
   opening_holds : IsOpeningOfCharacters (told_opening bare)
   opening_holds =
@@ -127,9 +125,8 @@ module _ (laws : Laws) (book : Book Database) (legal : IsLegal book) (reported :
   entry_holds : (o : Option Entry) (number : ℕ) → numbered book.journal number ≡ o
       → AllByRecursion IsAnswerOfCharacters (entry_answers o)
   entry_holds (Some entry) number e =
-      kept_answers entry.answers
-      (of_all (AllByRecursion (AnswersValues IsKept)) (map answers_of book.journal) entry.answers left_keeps.1
-      (to_map answers_of book.journal entry (numbered_in book.journal number entry e)))
+      of_all (AllByRecursion IsAnswerOfCharacters) (map answers_of book.journal) entry.answers left_keeps.1
+      (to_map answers_of book.journal entry (numbered_in book.journal number entry e))
   entry_holds None number e = tt
 
   fate_holds : (fate : Fate) → AllByRecursion IsAnswerOfCharacters (fate_answers book.journal fate)
@@ -152,9 +149,8 @@ module _ (laws : Laws) (book : Book Database) (legal : IsLegal book) (reported :
   member_holds joint jt member mt =
       let seen = legal.no_widow member (in_contains (all_members book.joint_answers) member
       (to_flat (λ (j : JointAnswer). j.members) book.joint_answers joint member jt mt)) in
-      kept_row member.grounding
-      (subst (λ (m : Member). AllByRecursion IsKept m.grounding) (sym seen.2)
-      (laws.sights book.opening.tables legal.turns first seen.0 can_keep first_holds (all_grounded book legal) seen.1))
+      subst (λ (m : Member). IsRowOfCharacters m.grounding) (sym seen.2)
+      (laws.sights book.opening.tables legal.turns first seen.0 can_keep first_holds (all_grounded book legal) seen.1)
 
   abbrev IsMemberHeld : ToldMember → Type 0
   IsMemberHeld told = IsRowOfCharacters told.member.grounding
@@ -178,7 +174,7 @@ module _ (laws : Laws) (book : Book Database) (legal : IsLegal book) (reported :
   tables_hold names =
       all_map (shown_table book.database) (λ (shown : Shown). AllByRecursion IsRowOfCharacters shown.rows) names
       (to_all (λ (name : Name). AllByRecursion IsRowOfCharacters (set.ascending (book.database name))) names
-      (λ name at. kept_rows (set.ascending (book.database name)) (laws.shows book.database name left_keeps.0)))
+      (λ name at. laws.shows book.database name left_keeps.0))
 
   pub holds_characters : HoldsCharacters (told_by (unplaced_book book))
   holds_characters = record {
