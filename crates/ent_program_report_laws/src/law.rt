@@ -11,8 +11,8 @@ ghost use Rattle.ent_tree.specs.declared.script.Input.{Input};
 
 use ent_finished_report_laws::reports_of_finished_books_are_right;
 
-/// The report of version 2 of a book of an input is answered `yes`, where it has no more bytes than one that is checked;
-/// and what the program writes, with workers or without, is the report of such a book.
+/// The report of version 2 of a book of an input is answered `yes`, where it has no more bytes than one that is
+/// checked; and what the program writes, with workers or without, is the report of such a book.
 pub fn reports_of_the_program_are_right()
     ensures { (bytes : List ℕ) (input : Input) (book : Book Database)
         → IsInput bytes input
