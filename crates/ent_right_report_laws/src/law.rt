@@ -62,8 +62,8 @@ pub fn legal_books_keep_to_declared_tables()
     first_fault_is_first();
 }
 
-/// The report of a legal book that can be reported tells what is told by the book without its places, and so it tells of
-/// a legal book.
+/// The report of a legal book that can be reported tells what is told by the book without its places, and so it tells
+/// of a legal book.
 pub fn reports_of_legal_books_are_told()
     ensures { (book : Book Database)
         → IsLegal book
