@@ -1,3 +1,2 @@
-pub mod Submitted
 pub mod Ran
 pub mod Written

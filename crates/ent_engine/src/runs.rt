@@ -35,8 +35,8 @@ pub(crate) fn submit_all(alloc: Global, input: Input) -> Result<Core, RunFault>
     }
 }
 
-/// Runs the scripts of a core until each has its fate; the watcher is told of each event. Where memory runs out, the core
-/// that comes back is run on, as long as there are tries left.
+/// Runs the scripts of a core until each has its fate; the watcher is told of each event. Where memory runs out, the
+/// core that comes back is run on, as long as there are tries left.
 pub(crate) fn run_out<T: Watcher>(
     alloc: Global,
     core: Core,

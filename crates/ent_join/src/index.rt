@@ -111,7 +111,8 @@ impl Index {
     /// Marks the classes of the index.
     pub(crate) fn mark_classes(&self, marks: &mut [bool])
         ensures kept { AreMarkedIn marks.old marks.new }
-        ensures marked { AllByRecursion (λ class. class < length marks.old → IsMarked marks.new class) self.now.classes }
+        ensures marked { AllByRecursion (λ class. class < length marks.old → IsMarked marks.new class)
+            self.now.classes }
     {
         mark_each(marks, self.classes.as_slice());
     }

@@ -105,8 +105,8 @@ pub fn statement_uses<K>(statement: &Statement<K>) -> Uses
     uses
 }
 
-/// The table that a statement changes; none for a statement that changes no table. Where there is one, its exclusive use
-/// is all that the statement asks for.
+/// The table that a statement changes; none for a statement that changes no table. Where there is one, its exclusive
+/// use is all that the statement asks for.
 pub fn changed_table<K>(statement: &Statement<K>) -> Option<usize>
     ensures table { result ≡ table_changed_by statement.now }
     ensures uses { IfSome result (λ table. uses_of statement.now ≡ exclusive table ∷ []) }

@@ -72,7 +72,8 @@ impl SubmittedScript {
         place: usize,
         environment: &Environment,
     ) -> Option<&Arc<Entangled<Value>>>
-        ensures { IfSome result (λ asked. (environment.now ≡ []) × IsAskedAt self.now.form place (arc_value asked.now)) }
+        ensures { IfSome result (λ asked.
+            (environment.now ≡ []) × IsAskedAt self.now.form place (arc_value asked.now)) }
     {
         match &self.first_asked {
             Some(first) if first.place == place && environment.count() == 0 => {

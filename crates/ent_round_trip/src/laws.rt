@@ -60,8 +60,8 @@ pub fn read_script_is_itself()
 }
 
 /// Scripts that were read, from whatever texts, are read again where they are printed behind a text that is read and a
-/// line end: the opening and the scripts of that text stay, places included, and these scripts stand behind them, places
-/// aside.
+/// line end: the opening and the scripts of that text stay, places included, and these scripts stand behind them,
+/// places aside.
 pub fn printed_scripts_follow()
     ensures { (front : List ℕ) (first : Input) (scripts : List Script) → reading front ≡ Ok first
         → All WasRead scripts → length first.scripts + length scripts ≤ MOST_SCRIPTS

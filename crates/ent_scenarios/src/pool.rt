@@ -1,5 +1,5 @@
-//! Pools: `== pool`. Statements are posted to a pool and withdrawn, and it tells its components, and the plans and least
-//! choices of its statements.
+//! Pools: `== pool`. Statements are posted to a pool and withdrawn, and it tells its components, and the plans and
+//! least choices of its statements.
 ghost use Rattle.std.specs.Prelude.{IsTrue};
 ghost use Rattle.ent_match.specs.Posting.{HasNone};
 

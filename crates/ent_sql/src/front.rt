@@ -20,7 +20,13 @@ pub fn begins_with_variable(tokens: &Tokens<'_>) -> bool
     matches!(tokens.front(), Some(TokenView::HostVariable(_)))
 }
 
-#[tactic(auto, unfolding(crate::specs::Operands::literal, crate::specs::Operands::negative, crate::specs::Operands::unsigned, crate::specs::Operands::positive, crate::specs::Operands::quoted))]
+#[tactic(auto, unfolding(
+    crate::specs::Operands::literal,
+    crate::specs::Operands::negative,
+    crate::specs::Operands::unsigned,
+    crate::specs::Operands::positive,
+    crate::specs::Operands::quoted
+))]
 pub fn begins_with_literal(tokens: &Tokens<'_>) -> bool
     ensures { result ≡ begins (among (firsts literal)) tokens.now }
 {
@@ -35,7 +41,15 @@ pub fn begins_with_literal(tokens: &Tokens<'_>) -> bool
     )
 }
 
-#[tactic(auto, unfolding(crate::specs::Operands::value, crate::specs::Operands::host_variable, crate::specs::Operands::literal, crate::specs::Operands::negative, crate::specs::Operands::unsigned, crate::specs::Operands::positive, crate::specs::Operands::quoted))]
+#[tactic(auto, unfolding(
+    crate::specs::Operands::value,
+    crate::specs::Operands::host_variable,
+    crate::specs::Operands::literal,
+    crate::specs::Operands::negative,
+    crate::specs::Operands::unsigned,
+    crate::specs::Operands::positive,
+    crate::specs::Operands::quoted
+))]
 pub fn begins_with_value(tokens: &Tokens<'_>) -> bool
     ensures { result ≡ begins (among (firsts value)) tokens.now }
 {
@@ -51,7 +65,18 @@ pub fn begins_with_value(tokens: &Tokens<'_>) -> bool
     )
 }
 
-#[tactic(auto, unfolding(crate::specs::Operands::operand, crate::specs::Operands::column_reference, crate::specs::Operands::identifier, crate::specs::Operands::value, crate::specs::Operands::host_variable, crate::specs::Operands::literal, crate::specs::Operands::negative, crate::specs::Operands::unsigned, crate::specs::Operands::positive, crate::specs::Operands::quoted))]
+#[tactic(auto, unfolding(
+    crate::specs::Operands::operand,
+    crate::specs::Operands::column_reference,
+    crate::specs::Operands::identifier,
+    crate::specs::Operands::value,
+    crate::specs::Operands::host_variable,
+    crate::specs::Operands::literal,
+    crate::specs::Operands::negative,
+    crate::specs::Operands::unsigned,
+    crate::specs::Operands::positive,
+    crate::specs::Operands::quoted
+))]
 pub fn begins_with_operand(tokens: &Tokens<'_>) -> bool
     ensures { result ≡ begins (among (firsts operand)) tokens.now }
 {

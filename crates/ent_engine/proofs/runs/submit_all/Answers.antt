@@ -1,4 +1,4 @@
-use Rattle.ent_engine.proofs.Submitted.{input_clean, just_submitted}
+use Rattle.ent_desk.proofs.Submitted.{input_clean, just_submitted}
 use Rattle.ent_engine.proofs.runs.submit_all.Goals as goal
 
 pub returns-in-Ok-clause-submitted : goal.returns-in-Ok-clause-submitted
