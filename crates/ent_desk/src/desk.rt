@@ -248,12 +248,7 @@ impl<L: Naming> Desk<L> {
     }
 
     /// The first member, by number, that is ready and that moves begins its next statement.
-    #[tactic(auto, using(
-        crate::proofs::Keeping::both_on,
-        crate::proofs::Keeping::gets_on,
-        crate::proofs::Keeping::none_on,
-        crate::proofs::Keeping::gets_none
-    ))]
+    #[tactic(auto, using(crate::proofs::Keeping::both_on, crate::proofs::Keeping::gets_on, crate::proofs::Keeping::none_on, crate::proofs::Keeping::gets_none))]
     fn begin_first(
         &mut self,
         alloc: Global,

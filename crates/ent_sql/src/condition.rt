@@ -170,11 +170,7 @@ fn tuple_behind(
 }
 
 /// A condition that begins with this term.
-#[tactic(auto, unfolding(
-    crate::specs::Entangling::condition_behind,
-    crate::specs::Entangling::comparison_behind,
-    crate::specs::Operands::comparison
-))]
+#[tactic(auto, unfolding(crate::specs::Entangling::condition_behind, crate::specs::Entangling::comparison_behind, crate::specs::Operands::comparison))]
 fn condition_behind(
     alloc: Global,
     first: Term,
@@ -211,21 +207,7 @@ impl Item for Condition {
 
     ghost grammar = { condition };
 
-    #[tactic(auto, unfolding(
-        crate::specs::Entangling::condition,
-        crate::specs::Entangling::bracketed,
-        crate::specs::Operands::term,
-        crate::specs::Operands::operand,
-        crate::specs::Operands::column_reference,
-        crate::specs::Operands::identifier,
-        crate::specs::Operands::value,
-        crate::specs::Operands::host_variable,
-        crate::specs::Operands::literal,
-        crate::specs::Operands::negative,
-        crate::specs::Operands::unsigned,
-        crate::specs::Operands::positive,
-        crate::specs::Operands::quoted
-    ))]
+    #[tactic(auto, unfolding(crate::specs::Entangling::condition, crate::specs::Entangling::bracketed, crate::specs::Operands::term, crate::specs::Operands::operand, crate::specs::Operands::column_reference, crate::specs::Operands::identifier, crate::specs::Operands::value, crate::specs::Operands::host_variable, crate::specs::Operands::literal, crate::specs::Operands::negative, crate::specs::Operands::unsigned, crate::specs::Operands::positive, crate::specs::Operands::quoted))]
     fn is_start(tokens: &Tokens<'_>) -> bool {
         begins_with_sign(Symbol::Open, tokens) || begins_with_operand(tokens)
     }

@@ -129,20 +129,7 @@ impl Item for EntangledItem {
 
     ghost grammar = { entangled_item };
 
-    #[tactic(auto, unfolding(
-        crate::specs::Entangling::entangled_item,
-        crate::specs::Operands::term,
-        crate::specs::Operands::operand,
-        crate::specs::Operands::column_reference,
-        crate::specs::Operands::identifier,
-        crate::specs::Operands::value,
-        crate::specs::Operands::host_variable,
-        crate::specs::Operands::literal,
-        crate::specs::Operands::negative,
-        crate::specs::Operands::unsigned,
-        crate::specs::Operands::positive,
-        crate::specs::Operands::quoted
-    ))]
+    #[tactic(auto, unfolding(crate::specs::Entangling::entangled_item, crate::specs::Operands::term, crate::specs::Operands::operand, crate::specs::Operands::column_reference, crate::specs::Operands::identifier, crate::specs::Operands::value, crate::specs::Operands::host_variable, crate::specs::Operands::literal, crate::specs::Operands::negative, crate::specs::Operands::unsigned, crate::specs::Operands::positive, crate::specs::Operands::quoted))]
     fn is_start(tokens: &Tokens<'_>) -> bool {
         begins_with_operand(tokens)
     }
@@ -231,11 +218,7 @@ fn entangled_at(
 }
 
 /// A SELECT of either kind: what stands behind its list decides.
-#[tactic(auto, unfolding(
-    crate::specs::Entangling::query,
-    crate::specs::Entangling::ordinary,
-    crate::specs::Selects::select_behind
-))]
+#[tactic(auto, unfolding(crate::specs::Entangling::query, crate::specs::Entangling::ordinary, crate::specs::Selects::select_behind))]
 pub(crate) fn query_at(
     alloc: Global,
     end: usize,

@@ -20,13 +20,7 @@ pub fn begins_with_variable(tokens: &Tokens<'_>) -> bool
     matches!(tokens.front(), Some(TokenView::HostVariable(_)))
 }
 
-#[tactic(auto, unfolding(
-    crate::specs::Operands::literal,
-    crate::specs::Operands::negative,
-    crate::specs::Operands::unsigned,
-    crate::specs::Operands::positive,
-    crate::specs::Operands::quoted
-))]
+#[tactic(auto, unfolding(crate::specs::Operands::literal, crate::specs::Operands::negative, crate::specs::Operands::unsigned, crate::specs::Operands::positive, crate::specs::Operands::quoted))]
 pub fn begins_with_literal(tokens: &Tokens<'_>) -> bool
     ensures { result ≡ begins (among (firsts literal)) tokens.now }
 {
@@ -41,15 +35,7 @@ pub fn begins_with_literal(tokens: &Tokens<'_>) -> bool
     )
 }
 
-#[tactic(auto, unfolding(
-    crate::specs::Operands::value,
-    crate::specs::Operands::host_variable,
-    crate::specs::Operands::literal,
-    crate::specs::Operands::negative,
-    crate::specs::Operands::unsigned,
-    crate::specs::Operands::positive,
-    crate::specs::Operands::quoted
-))]
+#[tactic(auto, unfolding(crate::specs::Operands::value, crate::specs::Operands::host_variable, crate::specs::Operands::literal, crate::specs::Operands::negative, crate::specs::Operands::unsigned, crate::specs::Operands::positive, crate::specs::Operands::quoted))]
 pub fn begins_with_value(tokens: &Tokens<'_>) -> bool
     ensures { result ≡ begins (among (firsts value)) tokens.now }
 {
@@ -65,18 +51,7 @@ pub fn begins_with_value(tokens: &Tokens<'_>) -> bool
     )
 }
 
-#[tactic(auto, unfolding(
-    crate::specs::Operands::operand,
-    crate::specs::Operands::column_reference,
-    crate::specs::Operands::identifier,
-    crate::specs::Operands::value,
-    crate::specs::Operands::host_variable,
-    crate::specs::Operands::literal,
-    crate::specs::Operands::negative,
-    crate::specs::Operands::unsigned,
-    crate::specs::Operands::positive,
-    crate::specs::Operands::quoted
-))]
+#[tactic(auto, unfolding(crate::specs::Operands::operand, crate::specs::Operands::column_reference, crate::specs::Operands::identifier, crate::specs::Operands::value, crate::specs::Operands::host_variable, crate::specs::Operands::literal, crate::specs::Operands::negative, crate::specs::Operands::unsigned, crate::specs::Operands::positive, crate::specs::Operands::quoted))]
 pub fn begins_with_operand(tokens: &Tokens<'_>) -> bool
     ensures { result ≡ begins (among (firsts operand)) tokens.now }
 {

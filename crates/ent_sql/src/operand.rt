@@ -72,11 +72,7 @@ fn negative_at(
     }
 }
 
-#[tactic(auto, unfolding(
-    crate::specs::Operands::unsigned,
-    crate::specs::Operands::positive,
-    crate::specs::Operands::quoted
-))]
+#[tactic(auto, unfolding(crate::specs::Operands::unsigned, crate::specs::Operands::positive, crate::specs::Operands::quoted))]
 fn unsigned_at(
     alloc: Global,
     end: usize,
@@ -148,11 +144,7 @@ fn reference_at(
     }
 }
 
-#[tactic(auto, unfolding(
-    crate::specs::Operands::operand,
-    crate::specs::Operands::column_reference,
-    crate::specs::Operands::identifier
-))]
+#[tactic(auto, unfolding(crate::specs::Operands::operand, crate::specs::Operands::column_reference, crate::specs::Operands::identifier))]
 fn operand_at(
     alloc: Global,
     end: usize,
@@ -245,19 +237,7 @@ impl Item for Term {
 
     ghost grammar = { term };
 
-    #[tactic(auto, unfolding(
-        crate::specs::Operands::term,
-        crate::specs::Operands::operand,
-        crate::specs::Operands::column_reference,
-        crate::specs::Operands::identifier,
-        crate::specs::Operands::value,
-        crate::specs::Operands::host_variable,
-        crate::specs::Operands::literal,
-        crate::specs::Operands::negative,
-        crate::specs::Operands::unsigned,
-        crate::specs::Operands::positive,
-        crate::specs::Operands::quoted
-    ))]
+    #[tactic(auto, unfolding(crate::specs::Operands::term, crate::specs::Operands::operand, crate::specs::Operands::column_reference, crate::specs::Operands::identifier, crate::specs::Operands::value, crate::specs::Operands::host_variable, crate::specs::Operands::literal, crate::specs::Operands::negative, crate::specs::Operands::unsigned, crate::specs::Operands::positive, crate::specs::Operands::quoted))]
     fn is_start(tokens: &Tokens<'_>) -> bool {
         begins_with_operand(tokens)
     }

@@ -109,14 +109,7 @@ fn set_at(
     ))
 }
 
-#[tactic(auto, unfolding(
-    crate::specs::Statements::statement,
-    crate::specs::Statements::delete,
-    crate::specs::Statements::update,
-    crate::specs::Statements::set,
-    crate::specs::Tables::insert,
-    crate::specs::Tables::row
-))]
+#[tactic(auto, unfolding(crate::specs::Statements::statement, crate::specs::Statements::delete, crate::specs::Statements::update, crate::specs::Statements::set, crate::specs::Tables::insert, crate::specs::Tables::row))]
 fn statement_at(
     alloc: Global,
     end: usize,
@@ -164,16 +157,7 @@ impl Item for Statement {
 
     ghost grammar = { ended_statement };
 
-    #[tactic(auto, unfolding(
-        crate::specs::Statements::ended_statement,
-        crate::specs::Statements::statement,
-        crate::specs::Statements::delete,
-        crate::specs::Statements::update,
-        crate::specs::Statements::set,
-        crate::specs::Tables::insert,
-        crate::specs::Tables::row,
-        crate::specs::Entangling::query
-    ))]
+    #[tactic(auto, unfolding(crate::specs::Statements::ended_statement, crate::specs::Statements::statement, crate::specs::Statements::delete, crate::specs::Statements::update, crate::specs::Statements::set, crate::specs::Tables::insert, crate::specs::Tables::row, crate::specs::Entangling::query))]
     fn is_start(tokens: &Tokens<'_>) -> bool {
         begins_with_word(Keyword::Insert, tokens)
             || begins_with_word(Keyword::Delete, tokens)

@@ -66,19 +66,7 @@ impl Item for Test<Operand> {
 
     ghost grammar = { compared operand };
 
-    #[tactic(auto, unfolding(
-        crate::specs::Operands::compared,
-        crate::specs::Operands::operand,
-        crate::specs::Operands::column_reference,
-        crate::specs::Operands::identifier,
-        crate::specs::Operands::value,
-        crate::specs::Operands::host_variable,
-        crate::specs::Operands::literal,
-        crate::specs::Operands::negative,
-        crate::specs::Operands::unsigned,
-        crate::specs::Operands::positive,
-        crate::specs::Operands::quoted
-    ))]
+    #[tactic(auto, unfolding(crate::specs::Operands::compared, crate::specs::Operands::operand, crate::specs::Operands::column_reference, crate::specs::Operands::identifier, crate::specs::Operands::value, crate::specs::Operands::host_variable, crate::specs::Operands::literal, crate::specs::Operands::negative, crate::specs::Operands::unsigned, crate::specs::Operands::positive, crate::specs::Operands::quoted))]
     fn is_start(tokens: &Tokens<'_>) -> bool {
         begins_with_operand(tokens)
     }
