@@ -11,6 +11,7 @@ use Rattle.ent_closed.specs.declared.entangled.Entangled.{Entangled}
 use Rattle.ent_closed.specs.declared.operand.Known.{Known}
 use Rattle.ent_closed.specs.declared.statement.Statement.{Statement}
 use Rattle.ent_coordination.specs.Choice.{AreGroundings, IsLeastChoiceIfAny}
+use Rattle.ent_coordination.specs.Pool.{Posted}
 use Rattle.ent_protocol.specs.Begin.{BeginsOrdinary, BeginsEntangled, BeginsCommit, BeginsNext, BeginsUnless}
 use Rattle.ent_protocol.specs.Begin.{BeginsMember, lending, posting, with_member}
 use Rattle.ent_protocol.specs.Begin as begin
@@ -19,8 +20,8 @@ use Rattle.ent_protocol.specs.Event.{Event, Reply}
 use Rattle.ent_protocol.specs.Event as events
 use Rattle.ent_protocol.specs.Finish.{FinishesBy, Finishes, IsTaken, noted, stepped, table_of, variable_of, with_bound}
 use Rattle.ent_protocol.specs.Finish.{with_change}
-use Rattle.ent_protocol.specs.Job.{Job, One, Joint, Asking, Done, Single, Outcome, Shown, Changed, Bound}
-use Rattle.ent_protocol.specs.Job.{Choice, Fault, IsOutcome, tables_of, posted_of}
+use Rattle.ent_protocol.specs.Job.{Job, One, Joint, Done, Single, Outcome, Shown, Changed, Bound}
+use Rattle.ent_protocol.specs.Job.{Choice, Fault, IsOutcome, tables_of}
 use Rattle.ent_protocol.specs.Member.{Next, Ordinary, Asks, active_member, next_of, is_lent, is_prepared, is_tx}
 use Rattle.ent_protocol.specs.Member as nexts
 use Rattle.ent_protocol.specs.PoolEvents.{AnswersBy, JoinsOrIsStale, IsPresentComponent, CanBePicked, joining}
@@ -50,7 +51,7 @@ pub record ComesBack (s : State) (member : Member) (left : List Job) : Type 0 wh
   pub own : member.tx ≡ single.tx
 
 -- a joint job that came back, and the other jobs
-pub record JointBack (s : State) (asked : List Asking) (left : List Job) : Type 0 where
+pub record JointBack (s : State) (asked : List Posted) (left : List Job) : Type 0 where
   pub job : Job
   pub taken : IsTaken job s.lent left
   pub is_joint : job.work ≡ Joint asked
@@ -70,10 +71,10 @@ pub data Act (s : State) : Type 0 where
   Steps : (member : Member) → (own : Member) → (left : List Job) → (tables : Tables) → (changes : List Change)
       → ComesBack s member left → own.tx ≡ member.tx → own.place ≡ suc member.place → own.posted ≡ false → Act s
   Fails : (member : Member) → (cause : Cause) → (left : List Job) → ComesBack s member left → Act s
-  Picks : (asked : List Asking) → CanBePicked s asked → Act s
-  Answers : (asked : List Asking) → (groundings : List Valuation) → (left : List Job) → JointBack s asked left
+  Picks : (asked : List Posted) → CanBePicked s asked → Act s
+  Answers : (asked : List Posted) → (groundings : List Valuation) → (left : List Job) → JointBack s asked left
       → length groundings ≡ length asked → Act s
-  Tries : (asked : List Asking) → (left : List Job) → JointBack s asked left → Act s
+  Tries : (asked : List Posted) → (left : List Job) → JointBack s asked left → Act s
   Ends : Act s
   Recalls : Act s
 
@@ -132,12 +133,12 @@ found s tx member e =
     let r = of_filter (is_tx tx) s.active member (first_in (filter (is_tx tx) s.active) member e) in
     (r.0, same_number member.tx tx r.1)
 
-groundings_enough : (tables : Tables) (asked : List Asking) (groundings : List Valuation)
-    → AreGroundings tables (map posted_of asked) groundings → length groundings ≡ length asked
+groundings_enough : (tables : Tables) (asked : List Posted) (groundings : List Valuation)
+    → AreGroundings tables asked groundings → length groundings ≡ length asked
 groundings_enough tables [] [] h = refl
 groundings_enough tables [] (values ∷ more) h = absurd h
-groundings_enough tables (asking ∷ asked) [] h = absurd h
-groundings_enough tables (asking ∷ asked) (values ∷ more) h = ap suc (groundings_enough tables asked more h.1)
+groundings_enough tables (query ∷ asked) [] h = absurd h
+groundings_enough tables (query ∷ asked) (values ∷ more) h = ap suc (groundings_enough tables asked more h.1)
 
 module _ {F : Type 0} where
   -- the reply is known
@@ -236,10 +237,10 @@ module _ {F : Type 0} where
       (record { job = done.job; taken = step.2.taken; single = single; is_single = step.1; at = f.0; own = f.1 })
   finish s done reply new (inr step) = acts s reply _ new Stays step.1.0 step.1.1 refl refl
 
-  answers_by : (s : State) (left : List Job) (asked : List Asking) (groundings : Option (List Valuation))
+  answers_by : (s : State) (left : List Job) (asked : List Posted) (groundings : Option (List Valuation))
       (tables : Tables) (reply : Reply F) (new : State)
       → AnswersBy (record s { lent = left }) asked groundings reply new → JointBack s asked left
-      → IsLeastChoiceIfAny tables (map posted_of asked) groundings → IsAct s reply new
+      → IsLeastChoiceIfAny tables asked groundings → IsAct s reply new
   answers_by s left asked (Some groundings) tables reply new step back chosen =
       acts s reply _ new
       (Answers asked groundings left back (groundings_enough tables asked groundings chosen.choice.grounded))

@@ -7,9 +7,9 @@ use Rattle.std.proofs.lemmas.List.Sums.{sum_by-append}
 use Rattle.std.specs.List.{filter}
 use Rattle.ent_semantics.specs.Entangled.{Valuation}
 use Rattle.ent_semantics.specs.Serial.{numbered}
+use Rattle.ent_coordination.specs.Pool.{Posted}
 use Rattle.ent_protocol.specs.Begin.{replaced}
 use Rattle.ent_protocol.specs.Commit.{preparing, committing}
-use Rattle.ent_protocol.specs.Job.{Asking}
 use Rattle.ent_protocol.specs.Member.{Commits, RollsBack, is_of, is_tx, next_in, next_of}
 use Rattle.ent_protocol.specs.PoolEvents.{answered_among, answered_by, in_joined_group}
 use Rattle.ent_protocol.specs.Rollback.{Cause, group_members, is_among, rolled_back}
@@ -194,16 +194,16 @@ pub committed_begun : (s : State) (m : Member) → unbegun (committing (preparin
 committed_begun s m = sum_filtered (unbegun_of s.submitted) (λ other. not (is_tx m.tx other)) s.active
 
 -- an answer leaves what is unbegun: a posted statement was begun
-pub answered_begun : (all : List Submitted) (groups : List ℕ) (asked : List Asking) (given : List Valuation)
+pub answered_begun : (all : List Submitted) (groups : List ℕ) (asked : List Posted) (given : List Valuation)
     (m : Member)
     → unbegun_of all (in_joined_group groups (answered_among asked given m)) ≤ unbegun_of all m
 answered_begun all groups [] given m = omega arith
-answered_begun all groups (asking ∷ asked) [] m = omega arith
-answered_begun all groups (asking ∷ asked) (values ∷ more) m =
-    by (m.tx == asking.tx) (answered_begun all groups asked more m)
+answered_begun all groups (query ∷ asked) [] m = omega arith
+answered_begun all groups (query ∷ asked) (values ∷ more) m =
+    by (m.tx == query.tx) (answered_begun all groups asked more m)
   where
     by : (b : Bool) → unbegun_of all (in_joined_group groups (answered_among asked more m)) ≤ unbegun_of all m
-        → unbegun_of all (in_joined_group groups (cond b (answered_by asking values m) (answered_among asked more m)))
+        → unbegun_of all (in_joined_group groups (cond b (answered_by query values m) (answered_among asked more m)))
         ≤ unbegun_of all m
     by true rest = behind_less (numbered all m.tx) (begun m) m.place (begun_most m)
     by false rest = rest

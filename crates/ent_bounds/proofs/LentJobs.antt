@@ -9,9 +9,10 @@ use Rattle.ent_tree.specs.declared.script.Script.{Script}
 use Rattle.ent_semantics.specs.Serial.{numbered}
 use Rattle.ent_closed.specs.declared.operand.Known.{Known}
 use Rattle.ent_closed.specs.declared.statement.Statement.{Statement}
+use Rattle.ent_coordination.specs.Pool.{Posted}
 use Rattle.ent_protocol.specs.Begin.{single_job}
 use Rattle.ent_protocol.specs.Finish.{IsTaken}
-use Rattle.ent_protocol.specs.Job.{Job, One, Joint, Single, Asking}
+use Rattle.ent_protocol.specs.Job.{Job, One, Joint, Single}
 use Rattle.ent_protocol.specs.Member.{Next, Ordinary, Asks, Commits, RollsBack, end_next, next_in, next_of}
 use Rattle.ent_protocol.specs.PoolEvents.{joint_job}
 use Rattle.ent_protocol.specs.State.{State, Submitted, Member}
@@ -91,10 +92,10 @@ still_placed all own tx place h = by (numbered all tx) refl h
 pub record LentRight (s : State) : Type 0 where
   pub placed : (job : Job) (single : Single) → In job s.lent → job.work ≡ One single
       → IsPlaced (numbered s.submitted single.tx) single.place
-  pub untried : (job : Job) (asked : List Asking) → In job s.lent → job.work ≡ Joint asked → Contains s.tried asked
+  pub untried : (job : Job) (asked : List Posted) → In job s.lent → job.work ≡ Joint asked → Contains s.tried asked
       → ⊥
 
-never : {A : Type 0} (single : Single) (asked : List Asking) → One single ≡ Joint asked → A
+never : {A : Type 0} (single : Single) (asked : List Posted) → One single ≡ Joint asked → A
 never single asked e = absurd (different e)
   where
     different : One single ≡ Joint asked → ⊥
@@ -103,7 +104,7 @@ never single asked e = absurd (different e)
 one_single : (one other : Single) → One one ≡ One other → one ≡ other
 one_single one other e = cc
 
-one_asked : (one other : List Asking) → Joint one ≡ Joint other → one ≡ other
+one_asked : (one other : List Posted) → Joint one ≡ Joint other → one ≡ other
 one_asked one other e = cc
 
 -- some of the same jobs are lent
@@ -115,7 +116,7 @@ fewer s new from submitted tried h =
           subst (λ (all : List Submitted). IsPlaced (numbered all single.tx) single.place) (sym submitted)
           (h.placed job single (from job at) is);
       untried = λ job asked at is there.
-          h.untried job asked (from job at) is (subst (λ (all : List (List Asking)). Contains all asked) tried there);
+          h.untried job asked (from job at) is (subst (λ (all : List (List Posted)). Contains all asked) tried there);
     }
 
 pub of_left : (s : State) (job : Job) (left : List Job) → IsTaken job s.lent left → (other : Job) → In other left
@@ -156,7 +157,7 @@ lends s m statement all is next h =
           | inr new ↦ elim new [ inl same ↦ inr same | inr bad ↦ absurd bad ]
         ]
 
-picks : (s : State) (asked : List Asking) → (Contains s.tried asked → ⊥) → LentRight s
+picks : (s : State) (asked : List Posted) → (Contains s.tried asked → ⊥) → LentRight s
     → LentRight (record s { lent = s.lent ++ joint_job s asked ∷ [] })
 picks s asked untried h =
     record {
@@ -180,7 +181,7 @@ picks s asked untried h =
         ]
 
 -- the job of what is tried is lent no more, and no other of the same statements
-tries : (s : State) (asked : List Asking) (left : List Job) (job : Job) → IsTaken job s.lent left
+tries : (s : State) (asked : List Posted) (left : List Job) (job : Job) → IsTaken job s.lent left
     → job.work ≡ Joint asked → LentStandOnce s → LentRight s
     → LentRight (record s { lent = left; tried = asked ∷ s.tried })
 tries s asked left job taken work once h =
@@ -197,7 +198,7 @@ tries s asked left job taken work once h =
         subst (Pairs (λ (one other : Job). AreOther one.work other.work)) taken.is_there
         (index_pairs (λ (one other : Job). AreOther one.work other.work) s.lent once.once)
 
-    apart : (other : Job) (more : List Asking) → In other left → other.work ≡ Joint more → more ≡ asked → ⊥
+    apart : (other : Job) (more : List Posted) → In other left → other.work ≡ Joint more → more ≡ asked → ⊥
     apart other more at is same =
         elim (pairs_around (λ (one other : Job). AreOther one.work other.work) taken.before taken.behind job other
         pairs (subst (In other) taken.others at)) [
@@ -209,7 +210,7 @@ tries s asked left job taken work once h =
               (subst (AreOther (Joint asked)) is (subst (λ w. AreOther w other.work) work b))
         ]
       where
-        joint_apart : (one other : List Asking) → one ≡ other → AreOther (Joint one) (Joint other) → ⊥
+        joint_apart : (one other : List Posted) → one ≡ other → AreOther (Joint one) (Joint other) → ⊥
         joint_apart one other same differ = differ same
 
 pub kept_right : (s : State) (act : Act s) → LentStandOnce s → LentRight s → LentRight (after s act)

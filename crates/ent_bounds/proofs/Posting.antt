@@ -1,19 +1,20 @@
 -- Another stands in the place of a member that isn't posted: what is asked then.
 use Rattle.std.proofs.Common.{◌≡◌, ◌⊎◌, inl, inr, ℕ, Bool, true, false, cond, not, ◌==◌, List, map, refl, sym, ap}
 use Rattle.std.proofs.Common.{subst, ◌∙◌}
+use Rattle.ent_coordination.specs.Pool.{Posted}
 use Rattle.ent_protocol.specs.Begin.{replaced}
 use Rattle.ent_protocol.specs.Commit.{preparing}
-use Rattle.ent_protocol.specs.Job.{Asking}
-use Rattle.ent_protocol.specs.Member.{askings, is_tx, next_in}
+use Rattle.ent_protocol.specs.Member.{is_tx, next_in, pool}
+use Rattle.ent_protocol.specs.PostedBy.{IsPostedBy, in_pool, to_pool}
 use Rattle.ent_protocol.specs.State.{State, Submitted, Member}
 use Rattle.ent_semantics.specs.Serial.{numbered}
-use Rattle.ent_bounds.proofs.Askings.{AreAsked, AsksAs, AskTheSame, of_askings, to_askings}
+use Rattle.ent_bounds.proofs.Askings.{AreAsked, AskTheSame}
 use Rattle.ent_lists.specs.Elements.{In, Pairs, clash, number_itself, of_filter, of_map, same_number, to_filter, to_map}
 use Rattle.ent_bounds.proofs.Lists.{Below, one_of}
 use Rattle.ent_bounds.proofs.ReachedStates.{member_tx}
 
 -- what a member asks depends on the scripts alone
-pub asks_under : (s new : State) (m : Member) (a : Asking) → new.submitted ≡ s.submitted → AsksAs new m a → AsksAs s m a
+pub asks_under : (s new : State) (m : Member) (a : Posted) → new.submitted ≡ s.submitted → IsPostedBy new m a → IsPostedBy s m a
 asks_under s new m a submitted asks =
     record {
       posted = asks.posted;
@@ -29,30 +30,30 @@ pub same_members : (s new : State) → new.active ≡ s.active → new.submitted
 same_members s new active submitted =
     record {
       there = λ a at.
-          let r = of_askings new a at in
-          to_askings s a r.member (subst (In r.member) active r.at) (asks_under s new r.member a submitted r.asks);
+          let r = in_pool new a at in
+          to_pool s a r.member (subst (In r.member) active r.at) (asks_under s new r.member a submitted r.by);
       back = λ a at.
-          let r = of_askings s a at in
-          to_askings new a r.member (subst (In r.member) (sym active) r.at)
-          (asks_under new s r.member a (sym submitted) r.asks);
+          let r = in_pool s a at in
+          to_pool new a r.member (subst (In r.member) (sym active) r.at)
+          (asks_under new s r.member a (sym submitted) r.by);
     }
 
 module _ (s new : State) (m own : Member) (active : new.active ≡ map (replaced own) s.active)
     (submitted : new.submitted ≡ s.submitted) (ascend : Pairs (Below member_tx) s.active) (at : In m s.active)
     (tx : own.tx ≡ m.tx) (unposted : m.posted ≡ false) where
   -- who asked before is another, and asks on
-  others_ask : (a : Asking) → In a (askings s) → In a (askings new) × ((a.tx == m.tx) ≡ false)
+  others_ask : (a : Posted) → In a (pool s) → In a (pool new) × ((a.tx == m.tx) ≡ false)
   others_ask a there =
-      let r = of_askings s a there in
-      by r.member r.at r.asks r.own (r.member.tx == own.tx) refl
+      let r = in_pool s a there in
+      by r.member r.at r.by r.own (r.member.tx == own.tx) refl
     where
-      by : (b : Member) → In b s.active → AsksAs s b a → a.tx ≡ b.tx → (is : Bool) → (b.tx == own.tx) ≡ is
-          → In a (askings new) × ((a.tx == m.tx) ≡ false)
+      by : (b : Member) → In b s.active → IsPostedBy s b a → a.tx ≡ b.tx → (is : Bool) → (b.tx == own.tx) ≡ is
+          → In a (pool new) × ((a.tx == m.tx) ≡ false)
       by b here asks same true is =
           let one : b ≡ m = one_of member_tx s.active ascend b m here at (same_number b.tx own.tx is ∙ tx) in
           clash b.posted asks.posted (ap (λ (x : Member). x.posted) one ∙ unposted)
       by b here asks same false is = (
-        to_askings new a b
+        to_pool new a b
             (subst (In b) (sym active)
             (subst (λ (x : Member). In x (map (replaced own) s.active)) (stays (b.tx == own.tx) is)
             (to_map (replaced own) s.active b here)))
@@ -65,22 +66,22 @@ module _ (s new : State) (m own : Member) (active : new.active ≡ map (replaced
           stays false e = refl
 
   -- and who asks now is that one, or asked before
-  asked_before : (a : Asking) → In a (askings new) → (a.tx ≡ m.tx) × (own.posted ≡ true) ⊎ In a (askings s)
+  asked_before : (a : Posted) → In a (pool new) → (a.tx ≡ m.tx) × (own.posted ≡ true) ⊎ In a (pool s)
   asked_before a there =
-      let r = of_askings new a there in
+      let r = in_pool new a there in
       let q = of_map (replaced own) s.active r.member (subst (In r.member) active r.at) in
-      by r.member r.asks r.own q.0 q.1 (q.0.tx == own.tx) q.2
+      by r.member r.by r.own q.0 q.1 (q.0.tx == own.tx) q.2
     where
-      by : (x : Member) → AsksAs new x a → a.tx ≡ x.tx → (b : Member) → In b s.active → (is : Bool)
-          → x ≡ cond is own b → (a.tx ≡ m.tx) × (own.posted ≡ true) ⊎ In a (askings s)
+      by : (x : Member) → IsPostedBy new x a → a.tx ≡ x.tx → (b : Member) → In b s.active → (is : Bool)
+          → x ≡ cond is own b → (a.tx ≡ m.tx) × (own.posted ≡ true) ⊎ In a (pool s)
       by x asks same b here true is =
           inl (
             same ∙ ap (λ (y : Member). y.tx) is ∙ tx,
             ap (λ (y : Member). y.posted) (sym is) ∙ asks.posted,
           )
       by x asks same b here false is =
-          inr (to_askings s a b here
-          (asks_under s new b a submitted (subst (λ (y : Member). AsksAs new y a) is asks)))
+          inr (to_pool s a b here
+          (asks_under s new b a submitted (subst (λ (y : Member). IsPostedBy new y a) is asks)))
 
   -- nothing is asked anew where the other isn't posted
   pub same_asked : own.posted ≡ false → AskTheSame new s
@@ -112,14 +113,14 @@ pub prepared_asks : (s : State) (m : Member) → Pairs (Below member_tx) s.activ
 prepared_asks s m ascend at unposted =
     record {
       there = λ a there.
-          let r = of_askings (preparing s m) a there in
-          to_askings s a r.member (of_filter (λ other. not (is_tx m.tx other)) s.active r.member r.at).0
-          (asks_under s (preparing s m) r.member a refl r.asks);
+          let r = in_pool (preparing s m) a there in
+          to_pool s a r.member (of_filter (λ other. not (is_tx m.tx other)) s.active r.member r.at).0
+          (asks_under s (preparing s m) r.member a refl r.by);
       back = λ a there.
-          let r = of_askings s a there in
-          to_askings (preparing s m) a r.member
-          (to_filter (λ other. not (is_tx m.tx other)) s.active r.member r.at (other r.member r.at r.asks.posted))
-          (asks_under (preparing s m) s r.member a refl r.asks);
+          let r = in_pool s a there in
+          to_pool (preparing s m) a r.member
+          (to_filter (λ other. not (is_tx m.tx other)) s.active r.member r.at (other r.member r.at r.by.posted))
+          (asks_under (preparing s m) s r.member a refl r.by);
     }
   where
     other : (b : Member) → In b s.active → b.posted ≡ true → not (b.tx == m.tx) ≡ true

@@ -2,7 +2,7 @@
 use Rattle.std.proofs.Common.{◌≡◌, zero, suc, ℕ, sym, subst, ◌∙◌}
 use Rattle.ent_tree.specs.declared.declaration.Opening.{Opening}
 use Rattle.ent_protocol.specs.Event.{Event, Reply}
-use Rattle.ent_protocol.specs.Member.{askings}
+use Rattle.ent_protocol.specs.Member.{pool}
 use Rattle.ent_protocol.specs.Reached.{LeadsTo, IsReached, opened}
 use Rattle.ent_protocol.specs.Run.{Forms}
 use Rattle.ent_protocol.specs.State.{State, Member}
@@ -10,7 +10,7 @@ use Rattle.ent_protocol.specs.Step.{Step}
 use Rattle.ent_standing.specs.ByNumber.{StandByNumber}
 use Rattle.ent_standing.specs.Lent.{LentStandOnce}
 use Rattle.ent_standing.specs.Standing.{GoesOn}
-use Rattle.ent_bounds.proofs.Askings.{asking_tx}
+use Rattle.ent_bounds.proofs.Askings.{posted_tx}
 use Rattle.ent_bounds.proofs.Changes.{act_of}
 use Rattle.ent_bounds.proofs.LentJobs.{LentRight, kept_right}
 use Rattle.ent_lists.specs.Elements.{Pairs, index_pairs}
@@ -22,7 +22,7 @@ member_tx member = member.tx
 -- members and posted statements stand by number, and lent jobs stand once
 pub record IsKnown (s : State) : Type 0 where
   pub active : Pairs (Below member_tx) s.active
-  pub asked : Pairs (Below asking_tx) (askings s)
+  pub asked : Pairs (Below posted_tx) (pool s)
   pub once : LentStandOnce s
   pub lent : LentRight s
 
@@ -68,7 +68,7 @@ module _ {F : Type 0} (forms : Forms F) (laws : Laws forms) where
       let stand = laws.by_number s reached in
       record {
         active = index_pairs (Below member_tx) s.active stand.active;
-        asked = index_pairs (Below asking_tx) (askings s) stand.asked;
+        asked = index_pairs (Below posted_tx) (pool s) stand.pool;
         once = laws.once s reached;
         lent = lent_right reached.0 s.opening s reached.1;
       }

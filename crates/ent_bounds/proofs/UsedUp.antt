@@ -5,13 +5,14 @@ use Rattle.std.proofs.lemmas.List.{length-map}
 use Rattle.std.specs.List.{filter, list_any}
 use Rattle.ent_value.specs.declared.value.Value.{Value}
 use Rattle.ent_closed.specs.declared.entangled.Entangled.{Entangled}
+use Rattle.ent_coordination.specs.Pool.{Posted}
 use Rattle.ent_protocol.specs.Begin.{posting}
-use Rattle.ent_protocol.specs.Job.{Asking}
-use Rattle.ent_protocol.specs.Member.{askings}
+use Rattle.ent_protocol.specs.Member.{pool}
 use Rattle.ent_protocol.specs.PoolEvents.{IsPresentComponent}
+use Rattle.ent_protocol.specs.PostedBy.{in_pool}
 use Rattle.ent_protocol.specs.State.{State, Member, members}
 use Rattle.ent_bounds.specs.Within.{HasOneOf, HitUntried, IsWithin, unbegun}
-use Rattle.ent_bounds.proofs.Askings.{AreAsked, AskTheSame, asked_there, asking_tx, of_askings, present_in_other}
+use Rattle.ent_bounds.proofs.Askings.{AreAsked, AskTheSame, asked_there, posted_tx, present_in_other}
 use Rattle.ent_bounds.proofs.Askings.{present_in_part, some_asked}
 use Rattle.ent_bounds.proofs.Counts.{members_counted}
 use Rattle.ent_lists.specs.Elements.{In, Pairs, any_in, any_some, clash, contains_in, in_contains, number_itself}
@@ -55,15 +56,15 @@ left_less u v t a n m most q r left b c d e f g = omega (arith, b, c, d, e, f, g
 same_hit : (s new : State) (by : List ℕ) → AskTheSame new s → new.tried ≡ s.tried → HitUntried s by → HitUntried new by
 same_hit s new by same tried hit asked component untried =
     hit asked (present_in_other new s same asked component)
-    (λ there. untried (subst (λ (all : List (List Asking)). Contains all asked) (sym tried) there))
+    (λ there. untried (subst (λ (all : List (List Posted)). Contains all asked) (sym tried) there))
 
 -- the members that aren't prepared hit each
 pub all_hit : (s : State) → HitUntried s (map member_tx s.active)
 all_hit s asked component untried =
     let a = some_asked s asked component in
-    let r = of_askings s a.0 (asked_there s asked component a.0 a.1) in
+    let r = in_pool s a.0 (asked_there s asked component a.0 a.1) in
     record {
-      asking = a.0;
+      query = a.0;
       is_in = in_contains asked a.0 a.1;
       is_of = in_contains (map member_tx s.active) a.0.tx
           (subst (λ n. In n (map member_tx s.active)) (sym r.own) (to_map member_tx s.active r.member r.at));
@@ -121,7 +122,7 @@ leaving most left s new low less w =
 -- ---- a statement is posted
 
 posted_hit : (s : State) (m : Member) (statement : Entangled Value) (by : List ℕ) → Pairs (Below member_tx) s.active
-    → In m s.active → m.posted ≡ false → Pairs (Below asking_tx) (askings (posting s m statement)) → HitUntried s by
+    → In m s.active → m.posted ≡ false → Pairs (Below posted_tx) (pool (posting s m statement)) → HitUntried s by
     → HitUntried (posting s m statement) (m.tx ∷ by)
 posted_hit s m statement by ascend at unposted asked_ascend hit asked component untried =
     cases (list_any (λ a. a.tx == m.tx) asked) refl
@@ -131,9 +132,9 @@ posted_hit s m statement by ascend at unposted asked_ascend hit asked component 
 
     cases : (b : Bool) → list_any (λ a. a.tx == m.tx) asked ≡ b → HasOneOf (m.tx ∷ by) asked
     cases true is =
-        let some = any_some (λ (a : Asking). a.tx == m.tx) asked is in
+        let some = any_some (λ (a : Posted). a.tx == m.tx) asked is in
         record {
-          asking = some.0;
+          query = some.0;
           is_in = in_contains asked some.0 some.1;
           is_of = in_contains (m.tx ∷ by) some.0.tx (inl (same_number some.0.tx m.tx some.2));
         }
@@ -142,18 +143,18 @@ posted_hit s m statement by ascend at unposted asked_ascend hit asked component 
         (λ a there. other a there (a.tx == m.tx) refl) in
         let h = hit asked old untried in
         record {
-          asking = h.asking;
+          query = h.query;
           is_in = h.is_in;
-          is_of = in_contains (m.tx ∷ by) h.asking.tx (inr (contains_in by h.asking.tx h.is_of));
+          is_of = in_contains (m.tx ∷ by) h.query.tx (inr (contains_in by h.query.tx h.is_of));
         }
       where
-        other : (a : Asking) → In a asked → (b : Bool) → (a.tx == m.tx) ≡ b → not b ≡ true
+        other : (a : Posted) → In a asked → (b : Bool) → (a.tx == m.tx) ≡ b → not b ≡ true
         other a there true same =
-            clash (list_any (λ a. a.tx == m.tx) asked) (any_in (λ (a : Asking). a.tx == m.tx) asked a there same) is
+            clash (list_any (λ a. a.tx == m.tx) asked) (any_in (λ (a : Posted). a.tx == m.tx) asked a there same) is
         other a there false differ = refl
 
 pub posted : (most left : ℕ) (s : State) (m : Member) (statement : Entangled Value) → Pairs (Below member_tx) s.active
-    → In m s.active → m.posted ≡ false → Pairs (Below asking_tx) (askings (posting s m statement))
+    → In m s.active → m.posted ≡ false → Pairs (Below posted_tx) (pool (posting s m statement))
     → length (members (posting s m statement)) ≤ length (members s)
     → unbegun (posting s m statement) + 1 ≤ unbegun s → IsWithin most left s
     → IsUsed 1 most left (posting s m statement)
@@ -188,32 +189,32 @@ stays_by n by k at differ = to_filter (λ k. not (k == n)) by k at (cases (k == 
     cases false is = refl
 
 -- a component that was hit needs no trying any more, and each other one did already, with no statement of that one's
-pub settled : (most left : ℕ) (s new : State) (asked : List Asking) → IsPresentComponent s asked
-    → (Contains s.tried asked → ⊥) → ((a : Asking) → In a asked → (others : List Asking) → IsPresentComponent new others
+pub settled : (most left : ℕ) (s new : State) (asked : List Posted) → IsPresentComponent s asked
+    → (Contains s.tried asked → ⊥) → ((a : Posted) → In a asked → (others : List Posted) → IsPresentComponent new others
     → (Contains new.tried others → ⊥) → IsPresentComponent s others × (Contains s.tried others → ⊥)
-    × ((b : Asking) → In b others → b.tx ≡ a.tx → ⊥)) → length (members new) ≤ length (members s)
+    × ((b : Posted) → In b others → b.tx ≡ a.tx → ⊥)) → length (members new) ≤ length (members s)
     → unbegun new ≤ unbegun s → IsWithin most left s → IsUsed 1 most left new
 settled most left s new asked component untried apart low less w =
     let h = w.hit asked component untried in
-    let at = contains_in w.transactions h.asking.tx h.is_of in
+    let at = contains_in w.transactions h.query.tx h.is_of in
     record {
-      less = 2 * unbegun new + length (without h.asking.tx w.transactions) + most * length (members new);
+      less = 2 * unbegun new + length (without h.query.tx w.transactions) + most * length (members new);
       below = one_fewer (unbegun s) (unbegun new) (length w.transactions)
-          (length (without h.asking.tx w.transactions)) (most * length (members s)) (most * length (members new)) left
-          less (fewer_by h.asking.tx w.transactions at) (fewer_members most s new low) w.within;
+          (length (without h.query.tx w.transactions)) (most * length (members s)) (most * length (members new)) left
+          less (fewer_by h.query.tx w.transactions at) (fewer_members most s new low) w.within;
       within = record {
         few = let few = w.few in omega (arith, low, few);
-        transactions = without h.asking.tx w.transactions;
+        transactions = without h.query.tx w.transactions;
         hit = λ others there fresh.
-            let r = apart h.asking (contains_in asked h.asking h.is_in) others there fresh in
+            let r = apart h.query (contains_in asked h.query h.is_in) others there fresh in
             let o = w.hit others r.0 r.1 in
             record {
-              asking = o.asking;
+              query = o.query;
               is_in = o.is_in;
-              is_of = in_contains (without h.asking.tx w.transactions) o.asking.tx
-                  (stays_by h.asking.tx w.transactions o.asking.tx
-                  (contains_in w.transactions o.asking.tx o.is_of)
-                  (r.2 o.asking (contains_in others o.asking o.is_in)));
+              is_of = in_contains (without h.query.tx w.transactions) o.query.tx
+                  (stays_by h.query.tx w.transactions o.query.tx
+                  (contains_in w.transactions o.query.tx o.is_of)
+                  (r.2 o.query (contains_in others o.query o.is_in)));
             };
         within = omega arith;
       };

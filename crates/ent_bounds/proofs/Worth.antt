@@ -13,22 +13,23 @@ use Rattle.ent_closed.specs.declared.statement.Statement.{Statement}
 use Rattle.ent_coordination.specs.Component.{IsComponent}
 use Rattle.ent_coordination.specs.Pool.{Posted}
 use Rattle.ent_protocol.specs.Begin.{holding, lending, posting, replaced, with_member}
-use Rattle.ent_protocol.specs.Job.{Asking, Job}
+use Rattle.ent_protocol.specs.Job.{Job}
 use Rattle.ent_protocol.specs.Member.{Asks, next_of}
 use Rattle.ent_protocol.specs.PoolEvents.{answered_among, answered_groups, in_joined_group, joining}
 use Rattle.ent_protocol.specs.Rollback.{is_among}
+use Rattle.ent_protocol.specs.PostedBy.{in_pool}
 use Rattle.ent_protocol.specs.State.{State, Member, Change, members}
 use Rattle.ent_protocol.specs.Uses.{entangled_uses, statement_uses}
 use Rattle.ent_bounds.specs.Within.{IsWithin, begun, statements_behind, unbegun, unbegun_of}
 use Rattle.ent_bounds.proofs.Answering.{is_asked, left_asked, left_components}
-use Rattle.ent_bounds.proofs.Askings.{asked_there, of_askings, one_component, present_in_other, some_asked}
+use Rattle.ent_bounds.proofs.Askings.{asked_there, one_component, present_in_other, some_asked}
 use Rattle.ent_bounds.proofs.Changes.{Act, Submits, Starts, Lends, Posts, Prepares, Steps, Fails, Picks, Answers}
 use Rattle.ent_bounds.proofs.Changes.{Tries, Ends, Recalls, ComesBack, IsIdle, JointBack, after, opens, worth}
 use Rattle.ent_bounds.proofs.Changes as acts
 use Rattle.ent_bounds.proofs.Counts.{answered_begun, begun_unposted, behind_placed, committed_begun, committed_counted}
 use Rattle.ent_bounds.proofs.Counts.{gone_begun, group_leaves, one_begins, prepared_begun, prepared_counted}
 use Rattle.ent_bounds.proofs.LentJobs.{IsPlaced, placed_next, taken_there}
-use Rattle.ent_lists.specs.Elements.{In, any_in, clash, contains_in, in_contains, number_itself, any_in, filter_empty}
+use Rattle.ent_lists.specs.Elements.{In, any_in, clash, contains_in, in_contains, number_itself, filter_empty}
 use Rattle.ent_lists.specs.Elements.{in_first, in_second, turned}
 use Rattle.ent_bounds.proofs.Lists.{one_of, sum_mapped}
 use Rattle.ent_bounds.proofs.Posting.{prepared_asks, same_asked, same_members}
@@ -124,12 +125,12 @@ steps most left s m own jobs tables changes back tx place unposted known w =
 
 -- ---- joint jobs
 
-untried : (s : State) (asked : List Asking) (left : List Job) → JointBack s asked left → IsKnown s
+untried : (s : State) (asked : List Posted) (left : List Job) → JointBack s asked left → IsKnown s
     → Contains s.tried asked → ⊥
 untried s asked left back known there =
     known.lent.untried back.job asked (taken_there s back.job left back.taken) back.is_joint there
 
-answers : (most left : ℕ) (s : State) (asked : List Asking) (groundings : List Valuation) (jobs : List Job)
+answers : (most left : ℕ) (s : State) (asked : List Posted) (groundings : List Valuation) (jobs : List Job)
     → JointBack s asked jobs → length groundings ≡ length asked → IsKnown s → IsWithin most left s
     → IsUsed 1 most left (joining (record s { lent = jobs }) asked groundings)
 answers most left s asked groundings jobs back enough known w =
@@ -138,7 +139,7 @@ answers most left s asked groundings jobs back enough known w =
       fresh,
       λ b bt same.
           clash (is_asked asked b.tx)
-          (any_in (λ (x : Asking). b.tx == x.tx) asked a at (ap (λ n. b.tx == n) (sym same) ∙ number_itself b.tx))
+          (any_in (λ (x : Posted). b.tx == x.tx) asked a at (ap (λ n. b.tx == n) (sym same) ∙ number_itself b.tx))
           (turned (is_asked asked b.tx)
           ((left_asked s jobs asked groundings enough).down b (asked_there new others there b bt)).1),
     ))
@@ -156,7 +157,7 @@ answers most left s asked groundings jobs back enough known w =
 module _ (classes : (pool members others : List Posted) (shared member : Posted) → IsComponent pool members
     → IsComponent pool others → Contains members shared → Contains others shared
     → Contains members member ↔ Contains others member) where
-  tries : (most left : ℕ) (s : State) (asked : List Asking) (jobs : List Job) → JointBack s asked jobs → IsKnown s
+  tries : (most left : ℕ) (s : State) (asked : List Posted) (jobs : List Job) → JointBack s asked jobs → IsKnown s
       → IsWithin most left s → IsUsed 1 most left (record s { lent = jobs; tried = asked ∷ s.tried })
   tries most left s asked jobs back known w =
       settled most left s new asked back.component (untried s asked jobs back known) (λ a at others there fresh.
@@ -185,7 +186,7 @@ module _ (classes : (pool members others : List Posted) (shared member : Posted)
           transactions = [];
           hit = λ asked component fresh.
               let a = some_asked new asked component in
-              let r = of_askings new a.0 (asked_there new asked component a.0 a.1) in
+              let r = in_pool new a.0 (asked_there new asked component a.0 a.1) in
               absurd (subst (In r.member) active r.at);
           within = low (unbegun new) (length (members new)) begun_all none;
         };

@@ -2,7 +2,7 @@
 use Rattle.std.specs.Prelude.{◌≤◌, ℕ, ◌+◌, ◌-◌, ◌*◌, suc, pred, List, length, Contains, sum_by}
 use Rattle.std.specs.Prelude.{Option, Some, None, if◌then◌else◌}
 use Rattle.ent_semantics.specs.Serial.{numbered}
-use Rattle.ent_protocol.specs.Job.{Asking}
+use Rattle.ent_coordination.specs.Pool.{Posted}
 use Rattle.ent_protocol.specs.PoolEvents.{IsPresentComponent}
 use Rattle.ent_protocol.specs.State.{State, Submitted, Member, members}
 
@@ -31,15 +31,15 @@ statements_in_run s = sum_by (λ member. statements_behind 0 (numbered s.submitt
 -- ---- components
 
 -- one of some transactions has a statement among these
-pub record HasOneOf (transactions : List ℕ) (asked : List Asking) : Type 0 where
-  pub asking : Asking
-  pub is_in : Contains asked asking
-  pub is_of : Contains transactions asking.tx
+pub record HasOneOf (transactions : List ℕ) (asked : List Posted) : Type 0 where
+  pub query : Posted
+  pub is_in : Contains asked query
+  pub is_of : Contains transactions query.tx
 
 -- each component that wasn't tried has a statement of one of these transactions
 abbrev pub HitUntried : State → List ℕ → Type 0
 HitUntried s transactions =
-    (asked : List Asking) → IsPresentComponent s asked → (Contains s.tried asked → ⊥) → HasOneOf transactions asked
+    (asked : List Posted) → IsPresentComponent s asked → (Contains s.tried asked → ⊥) → HasOneOf transactions asked
 
 -- ---- what is left
 

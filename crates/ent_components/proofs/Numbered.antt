@@ -1,15 +1,12 @@
 -- Lists by ascending numbers.
-use Rattle.std.proofs.Common.{◌≡◌, ℕ, ◌<◌, List, [], ◌∷◌, length, get_or, refl, sym, ap, ◌∙◌, subst, arith}
+use Rattle.std.proofs.Common.{◌≡◌, ℕ, suc, ◌<◌, List, [], ◌∷◌, length, get_or, refl, sym, ap, ◌∙◌, subst, arith}
 use Rattle.std.proofs.Common.{inl, inr}
 use Rattle.std.specs.Prelude.{AllPairs, Contains}
-use Rattle.std.proofs.Math.ListN.{get_or-map}
 use Rattle.std.proofs.lemmas.Bool.{cases_lt}
-use Rattle.std.proofs.lemmas.List.{get_or_default, length-map}
+use Rattle.std.proofs.lemmas.List.{get_or_default}
 use Rattle.ent_coordination.specs.Pool.{Posted}
 use Rattle.ent_match.specs.Fault.{IsByNumber}
-use Rattle.ent_protocol.specs.Job.{Asking, posted_of}
-use Rattle.ent_components.specs.Component.{pool_of}
-use Rattle.ent_components.proofs.Listed.{element_here, element_later}
+use Rattle.ent_components.proofs.Listed.{element_cases, element_here, element_later, in_none}
 
 module _ {X : Type 0} (number : X → ℕ) where
   abbrev pub Ascends : List X → Type 0
@@ -39,32 +36,50 @@ module _ {X : Type 0} (number : X → ℕ) where
         ]
       ]
 
-abbrev tx_of : Posted → ℕ
-tx_of member = member.tx
+-- ---- statements by number
 
--- posted statements are by number where their pool is
-pub by_number : (posted : List Asking) → IsByNumber (pool_of posted)
-    → AllPairs (λ (one other : Asking). one.tx < other.tx) posted
-by_number posted ascends i j d before below =
-    let l = length-map posted posted_of in
-    let less = ascends i j (posted_of d) before (omega arith) in
-    subst (λ (p : Posted). (posted_of (get_or posted i d)).tx < p.tx) (get_or-map posted_of posted j d)
-    (subst (λ (p : Posted). p.tx < (get_or (pool_of posted) j (posted_of d)).tx) (get_or-map posted_of posted i d) less)
+first_less : (x : Posted) (xs : List Posted) (z : Posted) → IsByNumber (x ∷ xs) → Contains xs z → x.tx < z.tx
+first_less x xs z ordered (k, below, is) =
+    let less = ordered 0 (suc k) z (omega arith) (omega arith) in
+    subst (λ (y : Posted). x.tx < y.tx) is less
 
--- some of them are the same where their statements in the pool are
-pub same_asked : (posted : List Asking) → IsByNumber (pool_of posted) → (xs ys : List Asking)
-    → ((x : Asking) → Contains xs x → Contains posted x) → ((y : Asking) → Contains ys y → Contains posted y)
-    → pool_of xs ≡ pool_of ys → xs ≡ ys
-same_asked posted ascends [] [] to back same = refl
-same_asked posted ascends [] (y ∷ ys) to back same = cc
-same_asked posted ascends (x ∷ xs) [] to back same = cc
-same_asked posted ascends (x ∷ xs) (y ∷ ys) to back same =
-    let head : posted_of x ≡ posted_of y = cc in
-    let tail : pool_of xs ≡ pool_of ys = cc in
-    let first : x ≡ y =
-    same_member (λ (a : Asking). a.tx) posted (by_number posted ascends) x y (to x (element_here x xs x refl))
-    (back y (element_here y ys y refl)) (ap tx_of head) in
-    let rest : xs ≡ ys =
-    same_asked posted ascends xs ys (λ z there. to z (element_later x xs z there))
-    (λ z there. back z (element_later y ys z there)) tail in
+rest_ordered : (x : Posted) (xs : List Posted) → IsByNumber (x ∷ xs) → IsByNumber xs
+rest_ordered x xs ordered i j d less below = ordered (suc i) (suc j) d (omega arith) (omega arith)
+
+same_first : (x y : Posted) (xs ys : List Posted) → IsByNumber (x ∷ xs) → IsByNumber (y ∷ ys)
+    → Contains (y ∷ ys) x → Contains (x ∷ xs) y → x ≡ y
+same_first x y xs ys one other there back =
+    elim (element_cases y ys x there) [
+      | inl is ↦ sym is
+      | inr behind ↦ elim (element_cases x xs y back) [
+        | inl is ↦ is
+        | inr behind_too ↦
+            (let l = first_less y ys x other behind in
+            let r = first_less x xs y one behind_too in
+            absurd (omega arith))
+      ]
+    ]
+
+rest_there : (x y : Posted) (xs ys : List Posted) → x ≡ y → IsByNumber (x ∷ xs)
+    → ((z : Posted) → Contains (x ∷ xs) z → Contains (y ∷ ys) z) → (z : Posted) → Contains xs z → Contains ys z
+rest_there x y xs ys same ordered all z there =
+    elim (element_cases y ys z (all z (element_later x xs z there))) [
+      | inl is ↦
+          let l = first_less x xs z ordered there in
+          let tx : x.tx ≡ z.tx = ap (λ (p : Posted). p.tx) (same ∙ is) in
+          absurd (omega arith)
+      | inr behind ↦ behind
+    ]
+
+-- statements by number are the same where they are the same ones
+pub same_statements : (xs ys : List Posted) → IsByNumber xs → IsByNumber ys
+    → ((x : Posted) → Contains xs x → Contains ys x) → ((x : Posted) → Contains ys x → Contains xs x) → xs ≡ ys
+same_statements [] [] one other there back = refl
+same_statements [] (y ∷ ys) one other there back = absurd (in_none y (back y (element_here y ys y refl)))
+same_statements (x ∷ xs) [] one other there back = absurd (in_none x (there x (element_here x xs x refl)))
+same_statements (x ∷ xs) (y ∷ ys) one other there back =
+    let first = same_first x y xs ys one other (there x (element_here x xs x refl))
+    (back y (element_here y ys y refl)) in
+    let rest = same_statements xs ys (rest_ordered x xs one) (rest_ordered y ys other)
+    (rest_there x y xs ys first one there) (rest_there y x ys xs (sym first) other back) in
     λ i. first i ∷ rest i

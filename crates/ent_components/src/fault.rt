@@ -1,15 +1,12 @@
 //! Whether one more statement may be posted.
-ghost use Rattle.std.specs.Prelude.{◌≡◌, IfOk, MatchOption};
+ghost use Rattle.std.specs.Prelude.{◌≡◌, [], ◌∷◌, ◌++◌, IfOk, MatchOption};
 ghost use Rattle.ent_coordination.specs.Pool.{IsFirstUnsafe, IsSafe};
 ghost use Rattle.ent_match.specs.Fault.{IsByNumber};
 ghost use Rattle.ent_match.specs.Posting.{HasNone};
 ghost use Rattle.ent_match.specs.declared.fault.PostFault.TheVariants as faults;
-ghost use Rattle.ent_protocol.specs.Job.{posted_of};
-ghost use Rattle.ent_components.specs.Component.{pool_and, pool_of};
 
 use crate::pool::pool_of;
-use ent_job::Asking;
-use ent_match::{PostFault, Unsafe, same_statements_are_alike};
+use ent_match::{PostFault, Posted, Unsafe, same_statements_are_alike};
 use std::alloc::{AllocError, Global};
 
 /// The unsafe post that stands in the way, where it isn't memory.
@@ -26,18 +23,18 @@ fn unsafe_post(why: PostFault) -> Result<Unsafe, AllocError>
 /// that pool.
 pub fn post_fault(
     alloc: Global,
-    posted: &[Asking],
-    asking: &Asking,
+    posted: &[Posted],
+    query: &Posted,
 ) -> Result<Option<Unsafe>, AllocError>
-    requires by_number { IsByNumber (pool_of posted.now) }
-    requires safe { IsSafe (pool_of posted.now) }
-    requires none { HasNone (pool_of posted.now) (posted_of asking.now) }
-    ensures { IfOk result (λ fault. MatchOption fault (IsSafe (pool_and posted.now asking.now))
-        (IsFirstUnsafe (pool_and posted.now asking.now))) }
+    requires by_number { IsByNumber posted.now }
+    requires safe { IsSafe posted.now }
+    requires none { HasNone posted.now query.now }
+    ensures { IfOk result (λ fault. MatchOption fault (IsSafe (posted.now ++ query.now ∷ []))
+        (IsFirstUnsafe (posted.now ++ query.now ∷ []))) }
 {
     same_statements_are_alike();
     let mut pool = pool_of(alloc, posted)?;
-    let member = asking.member()?;
+    let member = query.shared()?;
     match pool.post(member) {
         Ok(()) => Ok(None),
         Err((member, why)) => {

@@ -6,7 +6,6 @@
 //! of a pool with one statement more that it is safe, or its first unsafe post.
 #![tactic(auto)]
 
-mod asked;
 mod fault;
 mod open;
 mod part;

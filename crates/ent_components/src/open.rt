@@ -1,20 +1,17 @@
 //! Components that are neither tried nor out.
-ghost use Rattle.std.specs.Prelude.{◌≡◌, ◌↔◌, Contains, IfOk, IsTrue, MatchOption, map};
-ghost use Rattle.ent_match.specs.Components.{lists_in};
+ghost use Rattle.std.specs.Prelude.{◌≡◌, ◌↔◌, Contains, IsTrue, MatchOption};
 ghost use Rattle.ent_protocol.specs.Job.{Joint};
 ghost use Rattle.ent_protocol.specs.PoolEvents.{first_tx};
-ghost use Rattle.ent_components.specs.Component.{asked_by};
 ghost use Rattle.ent_components.specs.Open.{IsBefore, IsFirstOpen, IsOpen, IsOutAmong, NoneIsOpen};
 
-use crate::asked::{asked_by, is_of};
 use ent_group::Tx;
-use ent_job::{Asking, Job, Work};
+use ent_job::{Job, Work};
+use ent_match::Posted;
 use ent_tree::Same;
 use ent_value::Sequence;
-use std::alloc::{AllocError, Global};
 
 /// Whether two lists are equal, statement by statement.
-pub(crate) fn are_same(mine: &[Asking], theirs: &[Asking]) -> bool
+fn are_same(mine: &[Posted], theirs: &[Posted]) -> bool
     ensures { IsTrue result ↔ (mine.now ≡ theirs.now) }
 {
     if mine.len() != theirs.len() {
@@ -29,7 +26,7 @@ pub(crate) fn are_same(mine: &[Asking], theirs: &[Asking]) -> bool
 }
 
 /// Whether a list is one of some.
-fn is_among(lists: &[Sequence<Asking>], asked: &[Asking]) -> bool
+pub(crate) fn is_among(lists: &[Sequence<Posted>], asked: &[Posted]) -> bool
     ensures { IsTrue result ↔ Contains lists.now asked.now }
 {
     for other in lists {
@@ -41,7 +38,7 @@ fn is_among(lists: &[Sequence<Asking>], asked: &[Asking]) -> bool
 }
 
 /// Whether a job is one of exactly these statements.
-fn is_joint_of(job: &Job, asked: &[Asking]) -> bool
+fn is_joint_of(job: &Job, asked: &[Posted]) -> bool
     ensures { IsTrue result ↔ (job.now.work ≡ Joint asked.now) }
 {
     match job.work() {
@@ -51,7 +48,7 @@ fn is_joint_of(job: &Job, asked: &[Asking]) -> bool
 }
 
 /// Whether a job of exactly these statements is one of those lent.
-fn is_out(lent: &[Job], asked: &[Asking]) -> bool
+fn is_out(lent: &[Job], asked: &[Posted]) -> bool
     ensures { IsTrue result ↔ IsOutAmong lent.now asked.now }
 {
     for job in lent {
@@ -62,67 +59,46 @@ fn is_out(lent: &[Job], asked: &[Asking]) -> bool
     false
 }
 
-fn is_open(tried: &[Sequence<Asking>], lent: &[Job], asked: &[Asking]) -> bool
+fn is_open(tried: &[Sequence<Posted>], lent: &[Job], asked: &[Posted]) -> bool
     ensures { IsTrue result ↔ IsOpen tried.now lent.now asked.now }
 {
     !is_among(tried, asked) && !is_out(lent, asked)
 }
 
 /// The number of the first of some statements; 0 of none.
-pub(crate) fn first_tx(asked: &[Asking]) -> Tx
+pub(crate) fn first_tx(asked: &[Posted]) -> Tx
     ensures { result ≡ first_tx asked.now }
 {
     match asked.first() {
-        Some(asking) => asking.tx(),
+        Some(query) => query.tx(),
         None => 0,
     }
 }
 
-/// The number of the first of the statements of some transactions; 0 where there is none.
-pub(crate) fn first_tx_of(posted: &[Asking], txs: &[Tx]) -> Tx
-    ensures { result ≡ first_tx (asked_by posted.now txs.now) }
-{
-    let Some((first, rest)) = posted.split_first() else {
-        return 0;
-    };
-    if is_of(txs, first) {
-        first.tx()
-    } else {
-        first_tx_of(rest, txs)
-    }
-}
-
-/// Whether the statements of some transactions may go before those that are the first so far.
-fn is_before(posted: &[Asking], txs: &[Tx], first: &Option<Sequence<Asking>>) -> bool
-    ensures { IsTrue result ↔ IsBefore (asked_by posted.now txs.now) first.now }
+/// Whether some statements go before those that are the first so far.
+fn is_before(asked: &[Posted], first: &Option<Sequence<Posted>>) -> bool
+    ensures { IsTrue result ↔ IsBefore asked.now first.now }
 {
     match first {
-        Some(other) => first_tx_of(posted, txs) < first_tx(other.as_slice()),
+        Some(other) => first_tx(asked) < first_tx(other.as_slice()),
         None => true,
     }
 }
 
-/// Of the statements of some lists of transactions those with the least first member that are neither tried nor out.
-/// Only statements that may be these are copied.
+/// Of some lists of statements the one with the least first member that is neither tried nor out.
 pub(crate) fn first_open(
-    alloc: Global,
-    posted: &[Asking],
-    lists: Vec<Vec<Tx>>,
-    tried: &[Sequence<Asking>],
+    lists: Vec<Sequence<Posted>>,
+    tried: &[Sequence<Posted>],
     lent: &[Job],
-) -> Result<Option<Sequence<Asking>>, AllocError>
-    ensures { IfOk result (λ first.
-        MatchOption first (NoneIsOpen (map (asked_by posted.now) (lists_in lists.items)) tried.now lent.now)
-        (IsFirstOpen (map (asked_by posted.now) (lists_in lists.items)) tried.now lent.now)) }
+) -> Option<Sequence<Posted>>
+    ensures { MatchOption result (NoneIsOpen lists.items tried.now lent.now)
+        (IsFirstOpen lists.items tried.now lent.now) }
 {
     let mut first = None;
-    for txs in lists {
-        if is_before(posted, txs.as_slice(), &first) {
-            let asked = asked_by(alloc, posted, txs.as_slice())?;
-            if is_open(tried, lent, asked.as_slice()) {
-                first = Some(asked);
-            }
+    for asked in lists {
+        if is_before(asked.as_slice(), &first) && is_open(tried, lent, asked.as_slice()) {
+            first = Some(asked);
         }
     }
-    Ok(first)
+    first
 }

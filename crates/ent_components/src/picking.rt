@@ -2,23 +2,23 @@
 ghost use Rattle.std.specs.Prelude.{◌≡◌, ◌<◌, IfOk, MatchBool, MatchOption, length};
 ghost use Rattle.ent_coordination.specs.Pool.{IsSafe};
 ghost use Rattle.ent_match.specs.Fault.{IsByNumber};
-ghost use Rattle.ent_protocol.specs.Member.{askings};
+ghost use Rattle.ent_protocol.specs.Member.{pool};
 ghost use Rattle.ent_protocol.specs.Quiet.{IsLeast, IsUntried, NoneIs};
 ghost use Rattle.ent_protocol.specs.State.{State};
-ghost use Rattle.ent_components.specs.Component.{IsPick, pool_of};
+ghost use Rattle.ent_components.specs.Component.{IsPick};
 ghost use Rattle.ent_components.specs.Part.{AreBehind, IsEarlier};
 
 use crate::open::{first_open, first_tx};
 use crate::part::take_part;
 use crate::pool::pool_of;
 use ent_group::Tx;
-use ent_job::{Asking, Job};
-use ent_match::Pool;
+use ent_job::Job;
+use ent_match::{Pool, Posted};
 use ent_value::Sequence;
 use std::alloc::{AllocError, Global};
 
 /// Whether a component of what is left of a pool may go before the first so far.
-fn may_go_before(rest: &Pool, first: &Option<Sequence<Asking>>) -> bool
+fn may_go_before(rest: &Pool, first: &Option<Sequence<Posted>>) -> bool
     ensures { MatchBool result (0 < length rest.now) (AreBehind rest.now first.now) }
 {
     let Some(next) = rest.members().first() else {
@@ -32,9 +32,9 @@ fn may_go_before(rest: &Pool, first: &Option<Sequence<Asking>>) -> bool
 
 /// Of two components that may be there the one with the lesser first member.
 fn earlier(
-    one: Option<Sequence<Asking>>,
-    other: Option<Sequence<Asking>>,
-) -> Option<Sequence<Asking>>
+    one: Option<Sequence<Posted>>,
+    other: Option<Sequence<Posted>>,
+) -> Option<Sequence<Posted>>
     ensures { IsEarlier one other result }
 {
     let Some(one) = one else {
@@ -50,19 +50,19 @@ fn earlier(
 /// first member; none where there is none. The pool is gone through part by part, and no further than need be.
 pub fn pick(
     alloc: Global,
-    posted: &[Asking],
-    tried: &[Sequence<Asking>],
+    posted: &[Posted],
+    tried: &[Sequence<Posted>],
     lent: &[Job],
-) -> Result<Option<Sequence<Asking>>, AllocError>
-    requires by_number { IsByNumber (pool_of posted.now) }
-    requires safe { IsSafe (pool_of posted.now) }
+) -> Result<Option<Sequence<Posted>>, AllocError>
+    requires by_number { IsByNumber posted.now }
+    requires safe { IsSafe posted.now }
     ensures { IfOk result (λ picked. IsPick posted.now tried.now lent.now picked) }
 {
     let mut rest = pool_of(alloc, posted)?;
     let mut first = None;
     'parts: while may_go_before(&rest, &first) {
         let (lists, others) = take_part(alloc, &rest, 0)?;
-        let found = first_open(alloc, posted, lists, tried, lent)?;
+        let found = first_open(lists, tried, lent);
         first = earlier(first, found);
         rest = others;
     }
@@ -72,13 +72,13 @@ pub fn pick(
 /// The least first transaction of a component that wasn't tried, where there is one.
 pub fn first_untried(
     alloc: Global,
-    posted: &[Asking],
-    tried: &[Sequence<Asking>],
+    posted: &[Posted],
+    tried: &[Sequence<Posted>],
 ) -> Result<Option<Tx>, AllocError>
-    requires by_number { IsByNumber (pool_of posted.now) }
-    requires safe { IsSafe (pool_of posted.now) }
+    requires by_number { IsByNumber posted.now }
+    requires safe { IsSafe posted.now }
     ensures { IfOk result (λ first. (s : State)
-        → askings s ≡ posted.now
+        → pool s ≡ posted.now
         → s.tried ≡ tried.now
         → MatchOption first (NoneIs (IsUntried s)) (IsLeast (IsUntried s))) }
 {

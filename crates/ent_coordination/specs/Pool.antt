@@ -12,9 +12,12 @@ use Rattle.ent_closed.specs.Form.{atom_fact}
 use Rattle.ent_closed.specs.declared.entangled.Atom.{Atom}
 use Rattle.ent_closed.specs.declared.entangled.Entangled.{Entangled}
 
--- a transaction's statement that was posted, its host variables replaced by their values
+-- A transaction's statement that was posted, of this attempt and at this place, its host variables replaced by their
+-- values. What pools and choices are doesn't read the attempt and the place.
 pub record Posted : Type 0 where
   pub tx : ℕ
+  pub attempt : ℕ
+  pub place : ℕ
   pub statement : Entangled Value
 
 -- at most one statement of each transaction

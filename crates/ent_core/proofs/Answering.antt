@@ -3,18 +3,18 @@ use Rattle.std.proofs.Common.{◌≡◌, List, [], ◌∷◌, length, map, refl,
 use Rattle.std.specs.List.{IsDistinct}
 use Rattle.ent_semantics.specs.Entangled.{Valuation}
 use Rattle.ent_members.specs.Answered.{MemberAnswer, answer_tx, member_answers}
-use Rattle.ent_protocol.specs.Job.{Asking}
+use Rattle.ent_coordination.specs.Pool.{Posted}
 
-asked_numbers : (asked : List Asking) (groundings : List Valuation) → length groundings ≡ length asked
-    → map answer_tx (member_answers asked groundings) ≡ map (λ (asking : Asking). asking.tx) asked
+asked_numbers : (asked : List Posted) (groundings : List Valuation) → length groundings ≡ length asked
+    → map answer_tx (member_answers asked groundings) ≡ map (λ (query : Posted). query.tx) asked
 asked_numbers [] groundings e = refl
-asked_numbers (asking ∷ asked) [] e = absurd (omega (arith, e))
-asked_numbers (asking ∷ asked) (values ∷ more) e =
-    ap (λ ns. asking.tx ∷ ns) (asked_numbers asked more (omega (arith, e)))
+asked_numbers (query ∷ asked) [] e = absurd (omega (arith, e))
+asked_numbers (query ∷ asked) (values ∷ more) e =
+    ap (λ ns. query.tx ∷ ns) (asked_numbers asked more (omega (arith, e)))
 
 -- those who are answered are distinct
-pub given_distinct : (given : List MemberAnswer) (asked : List Asking) (groundings : List Valuation)
+pub given_distinct : (given : List MemberAnswer) (asked : List Posted) (groundings : List Valuation)
     → given ≡ member_answers asked groundings → length groundings ≡ length asked
-    → IsDistinct nat_eq (map (λ (asking : Asking). asking.tx) asked) → IsDistinct nat_eq (map answer_tx given)
+    → IsDistinct nat_eq (map (λ (query : Posted). query.tx) asked) → IsDistinct nat_eq (map answer_tx given)
 given_distinct given asked groundings is long distinct =
     subst (IsDistinct nat_eq) (sym (ap (map answer_tx) is ∙ asked_numbers asked groundings long)) distinct

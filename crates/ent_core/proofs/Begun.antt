@@ -9,7 +9,7 @@ use Rattle.std.proofs.lemmas.Bool.Decides.{nat_tests}
 use Rattle.ent_value.specs.declared.value.Value.{Value}
 use Rattle.ent_closed.specs.declared.entangled.Entangled.{Entangled}
 use Rattle.ent_closed.specs.declared.statement.Statement.{Statement}
-use Rattle.ent_coordination.specs.Pool.{IsFirstUnsafe, IsSafe, Unsafe}
+use Rattle.ent_coordination.specs.Pool.{IsFirstUnsafe, IsSafe, Unsafe, Posted}
 use Rattle.ent_form.specs.declared.catalogue.TableSchema.{TableSchema}
 use Rattle.ent_form.specs.declared.fault.FormFault.{FormFault}
 use Rattle.ent_protocol.specs.Begin.{Begins, BeginsCommit, BeginsEntangled, BeginsMember, BeginsNext, BeginsOrdinary}
@@ -18,7 +18,7 @@ use Rattle.ent_protocol.specs.Begin.{holding, pool_with, single_job, with_member
 use Rattle.ent_protocol.specs.Commit.{is_ready, preparing}
 use Rattle.ent_protocol.specs.Event.{Reply}
 use Rattle.ent_protocol.specs.Event as replies
-use Rattle.ent_protocol.specs.Job.{Asking, Job}
+use Rattle.ent_protocol.specs.Job.{Job}
 use Rattle.ent_protocol.specs.Member.{Asks, Commits, Next, Ordinary, RollsBack, active_member, is_lent, is_prepared}
 use Rattle.ent_protocol.specs.Member.{is_tx}
 use Rattle.ent_protocol.specs.Member.{next_of}
@@ -172,9 +172,9 @@ module _ (s : State) (tx : ℕ) where
 
     pub entangled_posted : blocker s member (entangled_uses statement) ≡ None
         → IsSafe (pool_with s member statement)
-        → (asking : Asking) → asking.statement ≡ statement → (new : State) → PostsTo tx asking s new
+        → (query : Posted) → query.statement ≡ statement → (new : State) → PostsTo tx query s new
         → Begins {F = FormFault} s tx replies.Posted new
-    entangled_posted none safe asking same new posts =
+    entangled_posted none safe query same new posts =
         let as_posted : new
         ≡ with_member (record (holding member (entangled_uses statement)) { posted = true }) s =
         posts member begun.there
@@ -249,10 +249,10 @@ module _ (s : State) (tx : ℕ) where
         λ m. record (with_member (holding m (job_uses job)) s) { lent = s.lent ++ job ∷ [] } in
         lends_not job (done member) (plan (done member) (λ m at. ap done (one_member member m (sym there ∙ at))))
 
-    pub plans_no_post : (asking : Asking)
-        → ((new : State) → PostsTo tx asking s new → Begins {F = FormFault} s tx replies.Posted new) → ⊥
-    plans_no_post asking plan =
-        let done : Member → State = λ m. with_member (posting (entangled_uses asking.statement) m) s in
+    pub plans_no_post : (query : Posted)
+        → ((new : State) → PostsTo tx query s new → Begins {F = FormFault} s tx replies.Posted new) → ⊥
+    plans_no_post query plan =
+        let done : Member → State = λ m. with_member (posting (entangled_uses query.statement) m) s in
         posts_not (done member) (plan (done member) (λ m at. ap done (one_member member m (sym there ∙ at))))
 
 -- ---- what the store keeps

@@ -11,8 +11,8 @@ use Rattle.ent_coordination.specs.Choice.{AreGroundings, IsLeastChoiceIfAny}
 use Rattle.ent_coordination.specs.Pool.{Posted}
 use Rattle.ent_form.specs.declared.fault.FormFault.{FormFault}
 use Rattle.ent_protocol.specs.Event.{Reply}
-use Rattle.ent_protocol.specs.Job.{Asking, Choice, Done, IsEvaluated, IsOutcome, Joint, Outcome, Work}
-use Rattle.ent_protocol.specs.Job.{posted_of, tables_of}
+use Rattle.ent_protocol.specs.Job.{Choice, Done, IsEvaluated, IsOutcome, Joint, Outcome, Work}
+use Rattle.ent_protocol.specs.Job.{tables_of}
 use Rattle.ent_protocol.specs.PoolEvents.{IsPresentComponent, Joins}
 use Rattle.ent_protocol.specs.State.{State}
 use Rattle.ent_core.specs.Joining.{AnswersAt}
@@ -25,15 +25,14 @@ groundings_counted tables (member ∷ members) [] are = absurd are
 groundings_counted tables (member ∷ members) (values ∷ more) are =
     ap suc (groundings_counted tables members more are.1)
 
-choice_counted : (tables : Tables) (asked : List Asking) (choice : Option (List Valuation))
-    → IsLeastChoiceIfAny tables (map posted_of asked) choice
+choice_counted : (tables : Tables) (asked : List Posted) (choice : Option (List Valuation))
+    → IsLeastChoiceIfAny tables asked choice
     → IfSome choice (λ groundings. length groundings ≡ length asked)
 choice_counted tables asked None is = tt
 choice_counted tables asked (Some groundings) is =
-    groundings_counted tables (map posted_of asked) groundings is.choice.grounded ∙ length-map asked posted_of
+    groundings_counted tables asked groundings is.choice.grounded  -- a choice has a grounding for each statement
 
--- a choice has a grounding for each statement
-pub one_grounding_each : (done : Done) (asked : List Asking) (choice : Option (List Valuation))
+pub one_grounding_each : (done : Done) (asked : List Posted) (choice : Option (List Valuation))
     → Joint asked ≡ done.job.work → Choice choice ≡ done.outcome → IsEvaluated done
     → IfSome choice (λ groundings. length groundings ≡ length asked)
 one_grounding_each done asked choice work is meant =
@@ -44,26 +43,26 @@ one_grounding_each done asked choice work is meant =
 apart : (n m : ℕ) → n < m → nat_eq n m ≡ false
 apart n m less = grind (arith, nat_tests)
 
-none_again : (tx : ℕ) (asked : List Asking)
-    → ((k : ℕ) (d : Posted) → k < length (map posted_of asked) → tx < (slice_index_or (map posted_of asked) k d).tx)
-    → AllByRecursion (λ n. nat_eq tx n ≡ false) (map (λ (asking : Asking). asking.tx) asked)
+none_again : (tx : ℕ) (asked : List Posted)
+    → ((k : ℕ) (d : Posted) → k < length asked → tx < (slice_index_or asked k d).tx)
+    → AllByRecursion (λ n. nat_eq tx n ≡ false) (map (λ (query : Posted). query.tx) asked)
 none_again tx [] all = tt
-none_again tx (asking ∷ asked) all =
-    let less : tx < asking.tx = all 0 (posted_of asking) (omega arith) in
-    (apart tx asking.tx less, none_again tx asked (λ k d within. all (suc k) d (omega arith)))
+none_again tx (query ∷ asked) all =
+    let less : tx < query.tx = all 0 query (omega arith) in
+    (apart tx query.tx less, none_again tx asked (λ k d within. all (suc k) d (omega arith)))
 
 -- statements that come by number are of distinct transactions
-pub distinct_by_number : (asked : List Asking)
-    → AllPairs (λ (one other : Posted). one.tx < other.tx) (map posted_of asked)
-    → IsDistinct nat_eq (map (λ (asking : Asking). asking.tx) asked)
+pub distinct_by_number : (asked : List Posted)
+    → AllPairs (λ (one other : Posted). one.tx < other.tx) asked
+    → IsDistinct nat_eq (map (λ (query : Posted). query.tx) asked)
 unfolding IsDistinct
 distinct_by_number [] all = tt
-distinct_by_number (asking ∷ asked) all = (
-  none_again asking.tx asked (λ k d within. all 0 (suc k) d (omega arith) (omega arith)),
+distinct_by_number (query ∷ asked) all = (
+  none_again query.tx asked (λ k d within. all 0 (suc k) d (omega arith) (omega arith)),
   distinct_by_number asked (λ i j d below within. all (suc i) (suc j) d (omega arith) (omega arith)),
 )
 
-pub accepted : (s new : State) (done : Done) (index : ℕ) (asked : List Asking) (choice : Option (List Valuation))
+pub accepted : (s new : State) (done : Done) (index : ℕ) (asked : List Posted) (choice : Option (List Valuation))
     (reply : Reply FormFault) → Joint asked ≡ done.job.work → slice_get s.lent index ≡ Some done.job
     → IsPresentComponent s asked → IsEvaluated done → Choice choice ≡ done.outcome
     → AnswersAt s index asked choice reply new → Joins s done reply new

@@ -1,12 +1,13 @@
 -- Results that aren't outstanding.
 use Rattle.std.proofs.Common.{◌≡◌, ◌∙◌, ℕ, List, [], Option, Some, None, ap, refl, subst, sym, slice_get}
 use Rattle.std.specs.Prelude.{IfSome, IsNone}
+use Rattle.ent_coordination.specs.Pool.{Posted}
 use Rattle.ent_protocol.specs.Finish.{IsOutstandingSingle, IsTaken}
 use Rattle.ent_core.specs.Finish.{StandsAt}
-use Rattle.ent_protocol.specs.Job.{Job, Asking, Done, One, Joint, Single, Work}
+use Rattle.ent_protocol.specs.Job.{Job, Done, One, Joint, Single, Work}
 use Rattle.ent_protocol.specs.State.{State}
 
-pub joint_not_single : (job : Job) (asked : List Asking) → Joint asked ≡ job.work → (s : State) (done : Done)
+pub joint_not_single : (job : Job) (asked : List Posted) → Joint asked ≡ job.work → (s : State) (done : Done)
     → done.job ≡ job → IsOutstandingSingle s done → ⊥
 joint_not_single job asked is s done same o =
     let apart : Joint asked ≡ One o.0 = is ∙ ap (λ (own : Job). own.work) (sym same) ∙ o.2 in
@@ -28,9 +29,9 @@ stands_at s done (Some index) there single none = (there, single)
 stands_at s done None there single none = none refl
 
 -- joint work is of one list of statements
-pub same_asked : (mine theirs : List Asking) → Joint mine ≡ Joint theirs → mine ≡ theirs
+pub same_asked : (mine theirs : List Posted) → Joint mine ≡ Joint theirs → mine ≡ theirs
 same_asked mine theirs same = ap asked_by same
   where
-    asked_by : Work → List Asking
+    asked_by : Work → List Posted
     asked_by (Joint asked) = asked
     asked_by (One single) = []

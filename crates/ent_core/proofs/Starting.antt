@@ -6,8 +6,8 @@ use Rattle.ent_semantics.specs.declared.book.Fated.{Fated}
 use Rattle.ent_tree.specs.declared.declaration.Opening.{Opening}
 use Rattle.ent_form.specs.declared.catalogue.TableSchema.{TableSchema}
 use Rattle.ent_members.specs.Run.{Run}
+use Rattle.ent_coordination.specs.Pool.{Posted}
 use Rattle.ent_protocol.specs.Event.{Reply, Started}
-use Rattle.ent_protocol.specs.Job.{Asking}
 use Rattle.ent_protocol.specs.Run.{Starts, StartsWith, fresh, numbers_of, starting}
 use Rattle.ent_protocol.specs.State.{State, Submitted, Dormant, Member, by_number}
 use Rattle.ent_roster.specs.Roster.{Roster}
@@ -111,7 +111,7 @@ starts_with s false [] reply new off some replies is = absurd (omega arith)
 starts_with s false (first ∷ more) reply new off some replies is = (replies, is)
 
 pub started : (F : Type 0) (s now : State) (count : ℕ) (dormant' : List Dormant) (fates' : List Fated) (prepared' active' : List Member)
-    (members : List ℕ) (tried' : List (List Asking)) → s ≡ now → s.running ≡ false → tried' ≡ [] → s.prepared ≡ [] → 0 < length s.dormant
+    (members : List ℕ) (tried' : List (List Posted)) → s ≡ now → s.running ≡ false → tried' ≡ [] → s.prepared ≡ [] → 0 < length s.dormant
     → count ≡ min (length s.dormant) MOST_MEMBERS → prepared' ≡ []
     → active' ≡ by_number (λ member. member.tx) (map fresh (take count s.dormant)) → dormant' ≡ drop count s.dormant → fates' ≡ s.fates
     → members ≡ numbers_of (prepared' ++ active')

@@ -161,7 +161,7 @@ goes_same gone job = by job.work refl
   where
     by : (work : Work) → job.work ≡ work → goes_with (by_number tx_of gone) job ≡ goes_with gone job
     by (One single) e = rw e (among_by_number gone single.tx)
-    by (Joint askings) e = rw e refl
+    by (Joint posted) e = rw e refl
 
 pub taken : (s : State) (gone : List Member) (cause : Cause) (dormant : List Dormant) (fates : List Fated)
     (prepared active : List Member) (joints : List JointAnswer) (lent : List Job) (tables : Tables) (changes : List Change)

@@ -2,10 +2,11 @@
 use Rattle.std.specs.Prelude.{◌≡◌, ◌||◌, ℕ, false, List, [], ◌∷◌, ◌++◌, None, Some, IsSome}
 use Rattle.ent_form.specs.declared.fault.FormFault.{FormFault}
 use Rattle.ent_members.specs.Changes.{posting}
+use Rattle.ent_coordination.specs.Pool.{Posted}
 use Rattle.ent_protocol.specs.Begin.{Begins, holding, with_member}
 use Rattle.ent_protocol.specs.Event.{Reply}
 use Rattle.ent_protocol.specs.Event as replies
-use Rattle.ent_protocol.specs.Job.{Asking, Job, Joint, One, Work}
+use Rattle.ent_protocol.specs.Job.{Job, Joint, One, Work}
 use Rattle.ent_protocol.specs.Member.{Commits, Next, RollsBack, active_member, is_lent, next_of}
 use Rattle.ent_protocol.specs.State.{State, Member, Use}
 use Rattle.ent_protocol.specs.Uses.{blocker, entangled_uses, statement_uses}
@@ -39,7 +40,7 @@ pub record IsToBegin (s : State) (tx : ℕ) (next : Next) : Type 0 where
 -- the uses of the statement that work carries out alone; posted statements hold theirs already
 abbrev pub work_uses : Work → List Use
 work_uses (One single) = statement_uses single.statement
-work_uses (Joint askings) = []
+work_uses (Joint posted) = []
 
 abbrev pub job_uses : Job → List Use
 job_uses job = work_uses job.work
@@ -51,10 +52,10 @@ LendsTo tx job old new =
     → new ≡ record (with_member (holding member (job_uses job)) old) { lent = old.lent ++ job ∷ [] }
 
 -- a member's statement is posted, and it holds the uses of the statement
-abbrev pub PostsTo : ℕ → Asking → State → State → Type 0
-PostsTo tx asking old new =
+abbrev pub PostsTo : ℕ → Posted → State → State → Type 0
+PostsTo tx query old new =
     (member : Member) → active_member old tx ≡ Some member
-    → new ≡ with_member (posting (entangled_uses asking.statement) member) old
+    → new ≡ with_member (posting (entangled_uses query.statement) member) old
 
 -- the label of the group of the member of a number
 abbrev pub IsGroupOf : State → ℕ → ℕ → Type 0
@@ -66,8 +67,8 @@ Follows s tx (plans.HeldBack fault) = Begins {F = FormFault} s tx (replies.HeldB
 Follows s tx (plans.Lends job) =
     IsSome (active_member s tx)
     × ((new : State) → LendsTo tx job s new → Begins {F = FormFault} s tx (replies.Lent job) new)
-Follows s tx (plans.Posts asking) =
+Follows s tx (plans.Posts query) =
     IsSome (active_member s tx)
-    × ((new : State) → PostsTo tx asking s new → Begins {F = FormFault} s tx replies.Posted new)
+    × ((new : State) → PostsTo tx query s new → Begins {F = FormFault} s tx replies.Posted new)
 Follows s tx plans.Commits = IsToBegin s tx Commits
 Follows s tx (plans.RollsBack group) = IsToBegin s tx RollsBack × IsGroupOf s tx group

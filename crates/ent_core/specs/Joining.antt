@@ -2,14 +2,15 @@
 use Rattle.std.specs.Prelude.{◌≡◌, ℕ, List, Option, Some, None, slice_get}
 use Rattle.ent_form.specs.declared.fault.FormFault.{FormFault}
 use Rattle.ent_semantics.specs.Entangled.{Valuation}
+use Rattle.ent_coordination.specs.Pool.{Posted}
 use Rattle.ent_protocol.specs.Event.{Reply}
 use Rattle.ent_protocol.specs.Finish.{IsTaken}
-use Rattle.ent_protocol.specs.Job.{Asking, Done, Job}
+use Rattle.ent_protocol.specs.Job.{Done, Job}
 use Rattle.ent_protocol.specs.PoolEvents.{AnswersBy, IsOutstandingJoint, Joins}
 use Rattle.ent_protocol.specs.State.{State}
 
 -- what the joint job at an index of the lent ones came to is carried out, and it is lent no more
-pub record AnswersAt (s : State) (index : ℕ) (asked : List Asking) (groundings : Option (List Valuation))
+pub record AnswersAt (s : State) (index : ℕ) (asked : List Posted) (groundings : Option (List Valuation))
     (reply : Reply FormFault) (new : State) : Type 0 where
   pub answers : AnswersBy (record s { lent = new.lent }) asked groundings reply new
   pub taken : (job : Job) → slice_get s.lent index ≡ Some job → IsTaken job s.lent new.lent

@@ -21,10 +21,10 @@ use ent_closed::{Entangled, Statement};
 use ent_components::post_fault;
 use ent_form::FormFault;
 use ent_group::Tx;
-use ent_job::{Asking, Job, Single, Work};
-use ent_match::Unsafe;
+use ent_job::{Job, Single, Work};
+use ent_match::{Posted, Unsafe};
 use ent_members::{Member, Uses, entangled_uses, statement_uses, uses_are_kept_by_closing};
-use ent_next::{Next, askings, next_form, next_of};
+use ent_next::{Next, next_form, next_of, posted_statements};
 use ent_ready::{begun_statements_are_work, used_tables_are_declared};
 use ent_roster::Cause;
 use ent_standing::{
@@ -66,7 +66,7 @@ enum Plan {
     /// The job is lent, and the member holds the uses of its statement too.
     Lends(Job),
     /// The statement is in the pool, and the member holds its uses too.
-    Posts(Asking),
+    Posts(Posted),
     Commits,
     /// The group with this label is rolled back.
     RollsBack(Tx),
@@ -109,12 +109,12 @@ fn plan_entangled(
     // Laws: the pool is safe and stands by number.
     members_stand_by_number::<FormFault>();
     pools_are_safe::<FormFault>();
-    let posted = askings(store.alloc, store.submitted.as_slice(), store.run.active())?;
+    let posted = posted_statements(store.alloc, store.submitted.as_slice(), store.run.active())?;
     let place = member.place() as u64;
-    let asking = Asking::new(member.tx(), member.attempt(), place, statement);
-    match post_fault(store.alloc, posted.as_slice(), &asking)? {
+    let query = Posted::new(member.tx(), member.attempt(), place, statement);
+    match post_fault(store.alloc, posted.as_slice(), &query)? {
         Some(fault) => Ok(Plan::HeldBack(fault)),
-        None => Ok(Plan::Posts(asking)),
+        None => Ok(Plan::Posts(query)),
     }
 }
 
@@ -233,14 +233,14 @@ fn lend(store: &mut Store, tx: Tx, job: Job) -> Result<Reply, AllocError>
 }
 
 /// A statement is posted, and the member holds its uses. Where memory runs out nothing changes.
-fn post(store: &mut Store, tx: Tx, asking: &Asking) -> Result<Reply, AllocError>
+fn post(store: &mut Store, tx: Tx, query: &Posted) -> Result<Reply, AllocError>
     requires { IsSome (found store.old.active tx) }
     ensures reply { IfOk result (λ reply. reply_seen reply ≡ replies.Posted) }
-    ensures ok { IfOk result (λ reply. PostsTo tx asking.now store.old store.new) }
+    ensures ok { IfOk result (λ reply. PostsTo tx query.now store.old store.new) }
     ensures err { OnErr result (store.new ≡ store.old) }
 {
     uses_are_kept_by_closing();
-    let uses = entangled_uses(asking.statement());
+    let uses = entangled_uses(query.statement());
     store.run.post(tx, uses.as_slice())?;
     Ok(Reply::Posted)
 }
@@ -262,7 +262,7 @@ fn carry_out(store: &mut Store, tx: Tx, plan: Plan) -> Result<Reply, AllocError>
     match plan {
         Plan::HeldBack(fault) => Ok(Reply::HeldBack(fault)),
         Plan::Lends(job) => lend(store, tx, job),
-        Plan::Posts(asking) => post(store, tx, &asking),
+        Plan::Posts(query) => post(store, tx, &query),
         Plan::Commits => commit(store, tx),
         Plan::RollsBack(group) => {
             Ok(Reply::RolledBack(roll_back(store, group, Cause::Asked(tx))))

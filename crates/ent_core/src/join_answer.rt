@@ -3,6 +3,7 @@ ghost use Rattle.std.specs.Prelude.{◌≡◌, ◌<◌, ◌↔◌, ◌∷◌, []
 ghost use Rattle.std.specs.Prelude.{map, nat_eq, slice_get};
 ghost use Rattle.std.specs.List.{IsDistinct};
 ghost use Rattle.std.specs.Option.{option_map};
+ghost use Rattle.ent_coordination.specs.Pool.{Posted as PostedStatement};
 ghost use Rattle.ent_core.specs.Joining.{Accepts, AnswersAt};
 ghost use Rattle.ent_core.specs.Kept.{IsKeptState};
 ghost use Rattle.ent_core.specs.Reply.{reply_seen};
@@ -15,21 +16,22 @@ use crate::store::Store;
 use ent_components::is_present;
 use ent_eval::{Done, JobOutcome};
 use ent_form::FormFault;
-use ent_job::{Asking, Work};
-use ent_next::askings;
+use ent_job::Work;
+use ent_match::Posted;
+use ent_next::posted_statements;
 use ent_standing::{members_stand_by_number, pools_are_safe};
 use ent_tree::Duplicate;
 use ent_value::{Sequence, Value};
 use std::alloc::{AllocError, AllocFailed};
 
 /// Whether statements are posted just so, and exactly a component of the pool.
-fn is_component(store: &Store, asked: &[Asking]) -> Result<bool, AllocError>
+fn is_component(store: &Store, asked: &[Posted]) -> Result<bool, AllocError>
     requires kept { IsKeptState store.now }
     ensures { IfOk result (λ is. IsTrue is ↔ IsPresentComponent store.now asked.now) }
 {
     members_stand_by_number::<FormFault>();
     pools_are_safe::<FormFault>();
-    let posted = askings(store.alloc, store.submitted.as_slice(), store.run.active())?;
+    let posted = posted_statements(store.alloc, store.submitted.as_slice(), store.run.active())?;
     let is = is_present(store.alloc, posted.as_slice(), asked)?;
     Ok(is)
 }
@@ -39,12 +41,12 @@ fn is_component(store: &Store, asked: &[Asking]) -> Result<bool, AllocError>
 fn carry_out(
     store: &mut Store,
     index: usize,
-    asked: &Sequence<Asking>,
+    asked: &Sequence<Posted>,
     choice: &Option<Sequence<Sequence<Value>>>,
 ) -> Result<Reply, AllocError>
     requires lent { index < length store.old.lent }
     requires one_each { IfSome choice.now (λ groundings. length groundings ≡ length asked.now) }
-    requires distinct { IsDistinct nat_eq (map (λ asking. asking.tx) asked.now) }
+    requires distinct { IsDistinct nat_eq (map (λ query. query.tx) asked.now) }
     ensures ok { IfOk result (λ reply.
         AnswersAt store.old index asked.now choice.now (reply_seen reply) store.new) }
     ensures err { OnErr result (store.new ≡ store.old) }
@@ -68,7 +70,7 @@ fn carry_out(
 /// Another one changes nothing, and gets no reply here.
 fn settle(store: &mut Store, index: usize, done: &Done) -> Result<Option<Reply>, AllocError>
     requires lent { slice_get store.old.lent index ≡ Some done.now.job }
-    requires component { (asked : List jobs.Asking)
+    requires component { (asked : List PostedStatement)
         → done.now.job.work ≡ jobs.Joint asked
         → IsPresentComponent store.old asked }
     ensures ok { IfOk result (λ reply. Accepts store.old done.now (option_map reply_seen reply) store.new) }

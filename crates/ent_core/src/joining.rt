@@ -5,7 +5,7 @@ ghost use Rattle.ent_members.specs.Answered.{member_answers};
 ghost use Rattle.ent_protocol.specs.PoolEvents.{joining, joint_members};
 
 use crate::store::Store;
-use ent_job::Asking;
+use ent_match::Posted;
 use ent_members::MemberAnswer;
 use ent_semantics::{JointAnswer, Member};
 use ent_tree::Duplicate;
@@ -15,19 +15,19 @@ use std::alloc::{AllocError, Global};
 /// What each member gets under its grounding, put to others.
 fn push_answers(
     alloc: Global,
-    asked: &[Asking],
+    asked: &[Posted],
     groundings: &[Sequence<Value>],
     given: &mut Vec<MemberAnswer>,
 ) -> Result<(), AllocError>
     ensures { OnOk result (given.new.items ≡ given.old.items ++ member_answers asked.now groundings.now) }
 {
-    let Some((asking, others)) = asked.split_first() else {
+    let Some((query, others)) = asked.split_first() else {
         return Ok(());
     };
     let Some((values, more)) = groundings.split_first() else {
         return Ok(());
     };
-    let own = MemberAnswer::of(alloc, asking.tx(), asking.statement(), values.as_slice())?;
+    let own = MemberAnswer::of(alloc, query.tx(), query.statement(), values.as_slice())?;
     given.push(own)?;
     push_answers(alloc, others, more, given)
 }
@@ -35,13 +35,13 @@ fn push_answers(
 /// The members of a joint answer with their groundings, put to others.
 fn push_members(
     alloc: Global,
-    asked: &[Asking],
+    asked: &[Posted],
     groundings: &[Sequence<Value>],
     members: &mut Vec<Member>,
 ) -> Result<(), AllocError>
     ensures { OnOk result (members.new.items ≡ members.old.items ++ joint_members asked.now groundings.now) }
 {
-    let Some((asking, others)) = asked.split_first() else {
+    let Some((query, others)) = asked.split_first() else {
         return Ok(());
     };
     let Some((values, more)) = groundings.split_first() else {
@@ -49,8 +49,8 @@ fn push_members(
     };
     let grounding = values.copy(alloc)?;
     members.push(Member {
-        tx: asking.tx(),
-        place: asking.place(),
+        tx: query.tx(),
+        place: query.place(),
         grounding,
     })?;
     push_members(alloc, others, more, members)
@@ -60,11 +60,11 @@ fn push_members(
 /// memory runs out nothing changes.
 pub(crate) fn join(
     store: &mut Store,
-    asked: &[Asking],
+    asked: &[Posted],
     groundings: &[Sequence<Value>],
 ) -> Result<(), AllocError>
     requires one_each { length groundings.now ≡ length asked.now }
-    requires distinct { IsDistinct nat_eq (map (λ asking. asking.tx) asked.now) }
+    requires distinct { IsDistinct nat_eq (map (λ query. query.tx) asked.now) }
     ensures ok { OnOk result (store.new ≡ joining store.old asked.now groundings.now) }
     ensures err { OnErr result (store.new ≡ store.old) }
 {

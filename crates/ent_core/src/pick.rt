@@ -9,15 +9,16 @@ use crate::reply::Reply;
 use crate::store::Store;
 use ent_components::{joint_uses, pick as first_to_pick};
 use ent_form::FormFault;
-use ent_job::{Asking, Job};
-use ent_next::askings;
+use ent_job::Job;
+use ent_match::Posted;
+use ent_next::posted_statements;
 use ent_ready::{picked_statements_fit, used_tables_are_declared};
 use ent_standing::{members_stand_by_number, pools_are_safe};
 use ent_value::Sequence;
 use std::alloc::AllocError;
 
 /// The job of a component over the tables as they stand.
-fn joint_job(store: &Store, asked: Sequence<Asking>) -> Result<Job, AllocError>
+fn joint_job(store: &Store, asked: Sequence<Posted>) -> Result<Job, AllocError>
     requires kept { IsKeptState store.now }
     requires present { IsPresentComponent store.now asked }
     ensures { IfOk result (λ job. job ≡ joint_job store.now asked) }
@@ -37,7 +38,7 @@ fn picked_job(store: &Store) -> Result<Option<Job>, AllocError>
 {
     members_stand_by_number::<FormFault>();
     pools_are_safe::<FormFault>();
-    let posted = askings(store.alloc, store.submitted.as_slice(), store.run.active())?;
+    let posted = posted_statements(store.alloc, store.submitted.as_slice(), store.run.active())?;
     let picked = first_to_pick(
         store.alloc,
         posted.as_slice(),

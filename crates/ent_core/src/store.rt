@@ -3,8 +3,8 @@ ghost use Rattle.std.specs.List.{AllByRecursion};
 ghost use Rattle.ent_standing.specs.Attempts.{AsksForRun};
 
 use ent_form::Catalogue;
-use ent_job::Asking;
 use ent_lent::LentJobs;
+use ent_match::Posted;
 use ent_members::Run;
 use ent_next::SubmittedScript;
 use ent_roster::Roster;
@@ -27,7 +27,7 @@ pub(crate) struct Store {
     pub(crate) running: bool,
     pub(crate) run: Run,
     pub(crate) joints: Vec<JointAnswer>,
-    pub(crate) tried: Vec<Sequence<Asking>>,
+    pub(crate) tried: Vec<Sequence<Posted>>,
     pub(crate) lent: LentJobs,
     pub(crate) tables: StoredTables,
     pub(crate) journal: Vec<Entry>,

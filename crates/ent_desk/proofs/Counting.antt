@@ -9,14 +9,14 @@ use Rattle.ent_closed.specs.declared.entangled.Entangled.{Entangled}
 use Rattle.ent_closed.specs.declared.operand.Known.{Known}
 use Rattle.ent_closed.specs.declared.statement.Statement.{Statement}
 use Rattle.ent_semantics.specs.Entangled.{Valuation}
-use Rattle.ent_coordination.specs.Pool.{Unsafe}
+use Rattle.ent_coordination.specs.Pool.{Unsafe, Posted}
 use Rattle.ent_protocol.specs.Begin.{Begins, BeginsMember, BeginsUnless, BeginsNext, BeginsOrdinary, BeginsEntangled}
 use Rattle.ent_protocol.specs.Begin.{BeginsCommit, Posts, lending, posting, pool_with}
 use Rattle.ent_protocol.specs.Commit.{commit_numbers, committing, committing_members, entry_of, is_ready, preparing}
 use Rattle.ent_protocol.specs.Event.{Event, Reply}
 use Rattle.ent_protocol.specs.Event as events
 use Rattle.ent_protocol.specs.Finish.{Finishes, FinishesBy, FinishesSingle}
-use Rattle.ent_protocol.specs.Job.{Done, Job, Asking, One, Single, Outcome, Shown, Changed, Bound, Choice, Fault}
+use Rattle.ent_protocol.specs.Job.{Done, Job, One, Single, Outcome, Shown, Changed, Bound, Choice, Fault}
 use Rattle.ent_protocol.specs.Member.{Next, Ordinary, Asks, Commits, RollsBack, active_member, is_lent, next_of}
 use Rattle.ent_protocol.specs.PoolEvents.{Lends, Picks, Joins, JoinsOrIsStale, AnswersBy}
 use Rattle.ent_protocol.specs.Quiet.{IsQuiet, IsReason}
@@ -150,7 +150,7 @@ module _ {F : Type 0} (old new : State) (reply : Reply F) where
   picks_none (inl h) = same old _ new h.is refl refl
   picks_none (inr h) = same old old new h.1.1 refl refl
 
-  answers_by : (left : List Job) (asked : List Asking) (groundings : Option (List Valuation))
+  answers_by : (left : List Job) (asked : List Posted) (groundings : Option (List Valuation))
       → AnswersBy (record old { lent = left }) asked groundings reply new → Adds 0 0 old new
   answers_by left asked (Some groundings) h = same old _ new h.1 refl refl
   answers_by left asked None h = same old _ new h.1 refl refl

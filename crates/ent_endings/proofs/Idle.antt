@@ -12,15 +12,15 @@ use Rattle.ent_protocol.specs.Begin.{BeginsCommit, BeginsEntangled, BeginsNext, 
 use Rattle.ent_protocol.specs.Commit.{preparing, is_ready}
 use Rattle.ent_protocol.specs.Event.{Reason, Reply}
 use Rattle.ent_protocol.specs.Event as events
-use Rattle.ent_protocol.specs.Job.{Asking}
 use Rattle.ent_protocol.specs.Lookup.{active_standing, running_members, standing, turn_of}
 use Rattle.ent_protocol.specs.Lookup as lookups
-use Rattle.ent_protocol.specs.Member.{Next, Ordinary, Asks, Commits, RollsBack, active_member, asking_of, askings}
-use Rattle.ent_protocol.specs.Member.{is_lent, is_single_of, is_tx, next_of, pool}
+use Rattle.ent_protocol.specs.Member.{Next, Ordinary, Asks, Commits, RollsBack, active_member, posted_by, pool}
+use Rattle.ent_protocol.specs.Member.{is_lent, is_single_of, is_tx, next_of}
 use Rattle.ent_protocol.specs.Play.{is_idle}
 use Rattle.ent_protocol.specs.PoolEvents.{CanBePicked, IsOut, Picks}
 use Rattle.ent_protocol.specs.Quiet.{CanMove, CanPost, HasJobOut, IsQuiet, IsReason, IsUntried, MovesBy, NoneIs}
 use Rattle.ent_protocol.specs.Run.{BreaksIfAny, Ends, EndsWhileRunning, Forms, ending}
+use Rattle.ent_protocol.specs.PostedBy.{in_pool}
 use Rattle.ent_protocol.specs.State.{State, Dormant, Member, first_of, members}
 use Rattle.ent_protocol.specs.Uses.{statement_uses, entangled_uses, blocker}
 use Rattle.ent_protocol.specs.Waits.{NoDeadlock, waits}
@@ -100,23 +100,6 @@ module _ (s : State) (once : StandOnce s) (by_number : StandByNumber s) (m : Mem
 
 -- ---- who asks is posted
 
-asks_posted : (s : State) (m : Member) (asking : Asking) → In asking (asking_of s m)
-    → (m.posted ≡ true) × (asking.tx ≡ m.tx)
-asks_posted s m asking at = by m.posted refl (next_of s m) refl
-  where
-    posted_next : m.posted ≡ true → next_of s (record m { posted = true }) ≡ next_of s m
-    posted_next e = λ i. next_of s (record m { posted = sym e i })
-
-    by : (b : Bool) → m.posted ≡ b → (n : Next) → next_of s m ≡ n → (m.posted ≡ true) × (asking.tx ≡ m.tx)
-    by true posted (Asks statement) next =
-        let h : In asking (record { tx = m.tx; attempt = m.attempt; place = m.place; statement = statement } ∷ []) =
-        rw (posted, posted_next posted ∙ next) at at in
-        elim h [ inl same ↦ (posted, ap (λ (x : Asking). x.tx) same) | inr bad ↦ absurd bad ]
-    by true posted (Ordinary statement) next = let h : ⊥ = rw (posted, posted_next posted ∙ next) at at in absurd h
-    by true posted Commits next = let h : ⊥ = rw (posted, posted_next posted ∙ next) at at in absurd h
-    by true posted RollsBack next = let h : ⊥ = rw (posted, posted_next posted ∙ next) at at in absurd h
-    by false posted n next = let h : ⊥ = rw posted at at in absurd h
-
 abbrev posted_tx : Posted → ℕ
 posted_tx posted = posted.tx
 
@@ -124,15 +107,13 @@ posted_tx posted = posted.tx
 pool_apart : (s : State) (by_number : StandByNumber s) (m : Member) (asked : Entangled Value) → In m s.active
     → m.posted ≡ false → Pairs (Apart posted_tx) (pool_with s m asked)
 pool_apart s by_number m asked at unposted =
-    pairs_behind (Apart posted_tx) (pool s) (record { tx = m.tx; statement = asked })
+    pairs_behind (Apart posted_tx) (pool s)
+    (record { tx = m.tx; attempt = m.attempt; place = m.place; statement = asked })
     (below_apart posted_tx (pool s) (index_pairs (Below posted_tx) (pool s) by_number.pool)) (λ p there same.
-    let r = of_map _ (askings s) p there in
-    let f = in_flat (asking_of s) s.active r.0 r.1 in
-    let q = asks_posted s f.0 r.0 f.2 in
-    let own : f.0.tx ≡ m.tx = sym q.1 ∙ ap posted_tx (sym r.2) ∙ same in
-    let one = one_of tx_of s.active f.0 m
-    (below_apart tx_of s.active (index_pairs (Below tx_of) s.active by_number.active)) f.1 at own in
-    clash f.0.posted q.0 (ap (λ (x : Member). x.posted) one ∙ unposted))
+    let r = in_pool s p there in
+    let one = one_of tx_of s.active r.member m
+    (below_apart tx_of s.active (index_pairs (Below tx_of) s.active by_number.active)) r.at at (sym r.own ∙ same) in
+    clash r.member.posted r.by.posted (ap (λ (x : Member). x.posted) one ∙ unposted))
 
 -- where no two are of one transaction a safe pool has no unsafe post
 never_unsafe : (those : List Posted) (fault : Unsafe) → Pairs (Apart posted_tx) those → IsSafe those
@@ -207,7 +188,7 @@ module _ {F : Type 0} where
 
   module _ (forms : Forms F) (s : State) (once : StandOnce s) (by_number : StandByNumber s)
       (round : IsIdleRound {F = F} forms s) where
-    none_out : (asked : List Asking) → IsOut s asked → ⊥
+    none_out : (asked : List Posted) → IsOut s asked → ⊥
     none_out asked out = absurd (subst (In out.0) round.none_lent (contains_in s.lent out.0 out.1))
 
     nothing_out : NoneIs (HasJobOut s)
@@ -227,7 +208,7 @@ module _ {F : Type 0} where
         moves s by_number m at (neither m.posted (is_lent s m.tx) waiting).0 (next_of s m) refused.0 refused.2.0 step
         can.moves refused.1
 
-    none_picked : (reply : Reply F) (new : State) → Picks s reply new → is_idle reply ≡ true → (asked : List Asking)
+    none_picked : (reply : Reply F) (new : State) → Picks s reply new → is_idle reply ≡ true → (asked : List Posted)
         → CanBePicked s asked → ⊥
     none_picked reply new (inl step) idle = absurd (not_idle reply _ step.replies refl idle)
     none_picked reply new (inr step) idle = step.0

@@ -9,13 +9,14 @@ use Rattle.ent_semantics.specs.Entangled.{Valuation}
 use Rattle.ent_closed.specs.declared.entangled.Entangled.{Entangled}
 use Rattle.ent_closed.specs.declared.operand.Known.{Known}
 use Rattle.ent_closed.specs.declared.statement.Statement.{Statement}
+use Rattle.ent_coordination.specs.Pool.{Posted}
 use Rattle.ent_protocol.specs.Begin.{BeginsOrdinary, Posts, BeginsEntangled, BeginsCommit, BeginsNext, BeginsUnless}
 use Rattle.ent_protocol.specs.Begin.{BeginsMember, lending, posting, single_job}
 use Rattle.ent_protocol.specs.Commit.{preparing, committing, is_ready}
 use Rattle.ent_protocol.specs.Event.{Event, Reply}
 use Rattle.ent_protocol.specs.Event as events
 use Rattle.ent_protocol.specs.Finish.{FinishesBy, Finishes, IsTaken, finished}
-use Rattle.ent_protocol.specs.Job.{Job, Asking, Done, Outcome, Shown, Changed, Bound, Choice, Fault}
+use Rattle.ent_protocol.specs.Job.{Job, Done, Outcome, Shown, Changed, Bound, Choice, Fault}
 use Rattle.ent_protocol.specs.Member.{Next, Ordinary, Asks, Commits, RollsBack, active_member, is_prepared, is_tx}
 use Rattle.ent_protocol.specs.Member.{next_of}
 use Rattle.ent_protocol.specs.PoolEvents.{Picks, AnswersBy, JoinsOrIsStale, joining, joint_job}
@@ -51,11 +52,11 @@ pub record Leaves (s : State) (P : Bool → List Job → State → Type 0) : Typ
       → P false [] (rolled_back group cause (record s { lent = left }))
   pub finishes : (left : List Job) (member : Member) (statement : Statement Value) (outcome : Outcome)
       → CameBack s left → In member s.active → P false [] (finished (record s { lent = left }) member statement outcome)
-  pub picks : (asked : List Asking)
+  pub picks : (asked : List Posted)
       → P false (joint_job s asked ∷ []) (record s { lent = s.lent ++ joint_job s asked ∷ [] })
-  pub joins : (left : List Job) (asked : List Asking) (groundings : List Valuation) → CameBack s left
+  pub joins : (left : List Job) (asked : List Posted) (groundings : List Valuation) → CameBack s left
       → P false [] (joining (record s { lent = left }) asked groundings)
-  pub tries : (left : List Job) (asked : List Asking) → CameBack s left
+  pub tries : (left : List Job) (asked : List Posted) → CameBack s left
       → P false [] (record s { lent = left; tried = asked ∷ s.tried })
   pub ends : s.running ≡ true → P false [] (ending s)
   pub recalls : P false [] (record s { lent = [] })
@@ -153,7 +154,7 @@ module _ {F : Type 0} (s : State) (P : Bool → List Job → State → Type 0) (
       (record { job = done.job; taken = h.taken }) (found s step.0.tx h.member h.is_member).0
   finish done reply new (inr step) = told reply (events.Stale done) new s step.1.0 step.1.1 leaves.same
 
-  answers_by : (left : List Job) (asked : List Asking) (groundings : Option (List Valuation)) (reply : Reply F)
+  answers_by : (left : List Job) (asked : List Posted) (groundings : Option (List Valuation)) (reply : Reply F)
       (new : State) → AnswersBy (record s { lent = left }) asked groundings reply new → CameBack s left
       → P false (lent_by reply) new
   answers_by left asked (Some groundings) reply new step back =

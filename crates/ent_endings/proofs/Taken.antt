@@ -6,13 +6,14 @@ use Rattle.ent_value.specs.declared.value.Value.{Value}
 use Rattle.ent_semantics.specs.Entangled.{Valuation}
 use Rattle.ent_closed.specs.declared.entangled.Entangled.{Entangled}
 use Rattle.ent_closed.specs.declared.statement.Statement.{Statement}
+use Rattle.ent_coordination.specs.Pool.{Posted}
 use Rattle.ent_protocol.specs.Begin.{BeginsOrdinary, Posts, BeginsEntangled, BeginsCommit, BeginsNext, BeginsUnless}
 use Rattle.ent_protocol.specs.Begin.{BeginsMember, single_job}
 use Rattle.ent_protocol.specs.Commit.{preparing, is_ready}
 use Rattle.ent_protocol.specs.Event.{Event, Reply}
 use Rattle.ent_protocol.specs.Event as events
 use Rattle.ent_protocol.specs.Finish.{FinishesBy, Finishes, IsOutstandingSingle, IsTaken, finished}
-use Rattle.ent_protocol.specs.Job.{Job, One, Single, Asking, Done, Outcome, Shown, Changed, Bound, Choice, Fault}
+use Rattle.ent_protocol.specs.Job.{Job, One, Single, Done, Outcome, Shown, Changed, Bound, Choice, Fault}
 use Rattle.ent_protocol.specs.Member.{Next, Ordinary, Asks, Commits, RollsBack, active_member, is_prepared}
 use Rattle.ent_protocol.specs.Member.{next_of}
 use Rattle.ent_protocol.specs.PoolEvents.{AnswersBy, IsOutstandingJoint, IsPresentComponent, JoinsOrIsStale, Picks}
@@ -80,12 +81,10 @@ leaves_lent s none =
 abbrev IsSingle : Job → Type 0
 IsSingle job = (single : Single) × (job.work ≡ One single)
 
-still_present : (s new : State) (jobs : List Job) (asked : List Asking) → new ≡ record s { lent = jobs }
+still_present : (s new : State) (jobs : List Job) (asked : List Posted) → new ≡ record s { lent = jobs }
     → IsPresentComponent s asked → IsPresentComponent new asked
 still_present s new jobs asked is h =
-    let there : IsPresentComponent (record s { lent = jobs }) asked =
-    record { present = h.present; component = h.component } in
-    subst (λ (x : State). IsPresentComponent x asked) (sym is) there
+    subst (λ (x : State). IsPresentComponent x asked) (sym is) h
 
 module _ {F : Type 0} where
   pub lent_behind : (forms : Forms F) (s : State) (event : Event) (reply : Reply F) (new : State) → s.lent ≡ []
@@ -225,7 +224,7 @@ module _ {F : Type 0} where
   joint_said : (reply is : Reply F) → reply ≡ is → IsJointTaken is → IsJointTaken reply
   joint_said reply is e h = subst IsJointTaken (sym e) h
 
-  answered_by : (s : State) (asked : List Asking) (groundings : Option (List Valuation)) (reply : Reply F)
+  answered_by : (s : State) (asked : List Posted) (groundings : Option (List Valuation)) (reply : Reply F)
       (new : State) → AnswersBy s asked groundings reply new → IsJointTaken reply
   answered_by s asked (Some groundings) reply new step = joint_said reply _ step.0 tt
   answered_by s asked None reply new step = joint_said reply _ step.0 tt
@@ -236,7 +235,7 @@ module _ {F : Type 0} where
       answered_by _ step.outstanding.asked step.groundings reply new step.answers
   joint_taken s done reply new out (inr step) = absurd (step.0 out)
 
-  joined_by : (s : State) (asked : List Asking) (groundings : Option (List Valuation)) (reply : Reply F)
+  joined_by : (s : State) (asked : List Posted) (groundings : Option (List Valuation)) (reply : Reply F)
       (new : State) → s.lent ≡ [] → AnswersBy s asked groundings reply new → new.lent ≡ []
   joined_by s asked (Some groundings) reply new none step = ap (λ (x : State). x.lent) step.1 ∙ none
   joined_by s asked None reply new none step = ap (λ (x : State). x.lent) step.1 ∙ none

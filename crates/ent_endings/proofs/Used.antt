@@ -9,12 +9,13 @@ use Rattle.ent_group.specs.declared.members.TheConstants.{MOST_MEMBERS}
 use Rattle.ent_semantics.specs.Entangled.{Valuation}
 use Rattle.ent_semantics.specs.declared.book.Fate.{Fate}
 use Rattle.ent_closed.specs.declared.statement.Statement.{Statement}
+use Rattle.ent_coordination.specs.Pool.{Posted}
 use Rattle.ent_protocol.specs.Begin.{lending, posting, replaced}
 use Rattle.ent_protocol.specs.Commit.{committing, preparing}
 use Rattle.ent_protocol.specs.Event.{Event, Reason, Reply}
 use Rattle.ent_protocol.specs.Event as events
 use Rattle.ent_protocol.specs.Finish.{finished}
-use Rattle.ent_protocol.specs.Job.{Asking, Job, Outcome, Shown, Changed, Bound, Choice, Fault}
+use Rattle.ent_protocol.specs.Job.{Job, Outcome, Shown, Changed, Bound, Choice, Fault}
 use Rattle.ent_protocol.specs.Member.{is_of, is_tx}
 use Rattle.ent_protocol.specs.PoolEvents.{answered_among, answered_by, answered_groups, in_joined_group, joining}
 use Rattle.ent_protocol.specs.Rollback.{Cause, NoOne, dormant_by, fate_of, group_members, is_among, rolled_back}
@@ -238,20 +239,20 @@ ends s on =
 
 -- ---- the other events
 
-answered_same : (submitted : List Submitted) (asked : List Asking) (groundings : List Valuation) (m : Member)
+answered_same : (submitted : List Submitted) (asked : List Posted) (groundings : List Valuation) (m : Member)
     → of_member submitted (answered_among asked groundings m) ≡ of_member submitted m
 answered_same submitted [] groundings m = refl
-answered_same submitted (asking ∷ asked) [] m = refl
-answered_same submitted (asking ∷ asked) (values ∷ more) m =
-    by (is_tx asking.tx m) (answered_same submitted asked more m)
+answered_same submitted (query ∷ asked) [] m = refl
+answered_same submitted (query ∷ asked) (values ∷ more) m =
+    by (is_tx query.tx m) (answered_same submitted asked more m)
   where
     by : (b : Bool) → of_member submitted (answered_among asked more m) ≡ of_member submitted m
-        → of_member submitted (cond b (answered_by asking values m) (answered_among asked more m))
+        → of_member submitted (cond b (answered_by query values m) (answered_among asked more m))
         ≡ of_member submitted m
     by true e = refl
     by false e = e
 
-joins : (s : State) (left : List Job) (asked : List Asking) (groundings : List Valuation)
+joins : (s : State) (left : List Job) (asked : List Posted) (groundings : List Valuation)
     → NoMore s (joining (record s { lent = left }) asked groundings)
 joins s left asked groundings =
     let groups = answered_groups (record s { lent = left }) asked in

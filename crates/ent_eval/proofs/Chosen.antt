@@ -1,9 +1,6 @@
 -- Plans of posted statements, and their least choices.
 use Rattle.std.proofs.Common.{◌≡◌, ◌≢◌, ◌<◌, ℕ, List, [], ◌∷◌, map, refl, sym, ap, ◌∙◌, subst, arith}
 use Rattle.std.specs.Prelude.{AllPairs, slice_index_or}
-use Rattle.std.specs.List.{flat_map}
-use Rattle.std.specs.Ordering.{nat_cmp}
-use Rattle.std.proofs.lemmas.List.Folds.{flat_map-map}
 use Rattle.std.proofs.lemmas.Simd.{map-map}
 use Rattle.ent_set.specs.Sets as set
 use Rattle.ent_value.specs.Value.{kinds_of}
@@ -13,8 +10,8 @@ use Rattle.ent_semantics.specs.Entangled.{Valuation}
 use Rattle.ent_closed.specs.Form.{Tables}
 use Rattle.ent_coordination.specs.Choice.{AreGroundings, IsChoice}
 use Rattle.ent_coordination.specs.Pool.{IsPool, Posted}
-use Rattle.ent_join.specs.Plans.{AreKindedFor, HaveNoPlan, sources_of, tables_named}
-use Rattle.ent_protocol.specs.Job.{Asking, Seen, posted_of, tables_of}
+use Rattle.ent_join.specs.Plans.{AreKindedFor, HaveNoPlan, tables_named}
+use Rattle.ent_protocol.specs.Job.{Seen, tables_of}
 use Rattle.ent_select.specs.Tables.{rows_in}
 use Rattle.ent_job.specs.Seen.{relation_of}
 use Rattle.ent_job.specs.Work.{IsJoint}
@@ -39,15 +36,13 @@ no_choice tables members none others choice =
     none others (are_kinded tables members others choice.grounded) choice.met
 
 -- the tables of a joint job stand under the numbers that the plan names
-pub stand_planned : (asked : List Asking) (tables : List Seen) → IsJoint asked tables
-    → map (λ number. slice_index_or (tables_of tables) number set.empty) (tables_named (map posted_of asked))
+pub stand_planned : (asked : List Posted) (tables : List Seen) → IsJoint asked tables
+    → map (λ number. slice_index_or (tables_of tables) number set.empty) (tables_named asked)
     ≡ rows_in (map relation_of tables)
 stand_planned asked tables is =
     let at : ℕ → Rows = λ number. slice_index_or (tables_of tables) number set.empty in
-    let named : tables_named (map posted_of asked) ≡ map (λ (seen : Seen). seen.table) tables =
-    ap (λ numbers. set.ascending (set.from_list {R = nat_cmp} numbers))
-    (flat_map-map (λ (member : Posted). sources_of member.statement) posted_of asked)
-    ∙ sym (joint_tables asked) ∙ sym is.used in
+    let named : tables_named asked ≡ map (λ (seen : Seen). seen.table) tables =
+    sym (joint_tables asked) ∙ sym is.used in
     ap (map at) named
     ∙ map-map at (λ (seen : Seen). seen.table) tables
     ∙ is.stand

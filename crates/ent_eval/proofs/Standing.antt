@@ -1,5 +1,6 @@
 -- Tables that are lent stand at their numbers.
-use Rattle.std.proofs.Common.{◌≡◌, ◌≢◌, ◌⊎◌, inl, inr, ℕ, zero, suc, List, [], ◌∷◌, map, refl, sym, ap, ◌∙◌, subst, arith}
+use Rattle.std.proofs.Common.{◌≡◌, ◌≢◌, ◌⊎◌, inl, inr, ℕ, zero, suc, List, [], ◌∷◌, map, refl, sym, ap, ◌∙◌, subst}
+use Rattle.std.proofs.Common.{arith}
 use Rattle.std.specs.Prelude.{slice_index_or}
 use Rattle.std.specs.List.{AllByRecursion}
 use Rattle.std.proofs.lemmas.Bool.{cases_lt}
@@ -67,10 +68,12 @@ module _ (declared : List Create) (tables : Tables) where
   all_stand : (uses : List Use) → AllByRecursion (Stands uses) uses
   all_stand [] = tt
   all_stand (first ∷ uses) =
-      (stands_first first uses, weaker {P = Stands uses} {Q = Stands (first ∷ uses)} (stands_more first uses) uses (all_stand uses))
+      let more = weaker {P = Stands uses} {Q = Stands (first ∷ uses)} (stands_more first uses) uses (all_stand uses) in
+      (stands_first first uses, more)
 
   same_rows : (among uses : List Use) → AllByRecursion (Stands among) uses
-      → map (λ (seen : Seen). at (tables_of (lent among)) seen.table) (lent uses) ≡ map (λ (seen : Seen). seen.rows) (lent uses)
+      → map (λ (seen : Seen). at (tables_of (lent among)) seen.table) (lent uses)
+      ≡ map (λ (seen : Seen). seen.rows) (lent uses)
   same_rows among [] all = refl
   same_rows among (own ∷ more) all = λ i. all.0 i ∷ same_rows among more all.1 i
 

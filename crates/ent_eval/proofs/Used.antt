@@ -18,8 +18,8 @@ use Rattle.ent_set.specs.Sets as set
 use Rattle.ent_value.specs.declared.value.Value.{Value}
 use Rattle.ent_closed.specs.declared.entangled.Entangled.{Entangled}
 use Rattle.ent_closed.specs.declared.entangled.Membership.{Membership}
+use Rattle.ent_coordination.specs.Pool.{Posted}
 use Rattle.ent_protocol.specs.Begin.{same_use, use_rank, with_uses}
-use Rattle.ent_protocol.specs.Job.{Asking}
 use Rattle.ent_protocol.specs.PoolEvents.{joint_uses}
 use Rattle.ent_protocol.specs.State.{Use, inserted}
 use Rattle.ent_protocol.specs.Uses.{shared, entangled_uses}
@@ -215,23 +215,23 @@ flat_shared f [] = refl
 flat_shared f (x ∷ xs) =
     ap (λ uses. map shared (f x) ++ uses) (flat_shared f xs) ∙ sym (map-append shared (f x) (flat_map f xs))
 
-all_shared : (asked : List Asking) → flat_map (λ asking. entangled_uses asking.statement) asked
-    ≡ map shared (flat_map (λ (asking : Asking). sources asking.statement) asked)
+all_shared : (asked : List Posted) → flat_map (λ query. entangled_uses query.statement) asked
+    ≡ map shared (flat_map (λ (query : Posted). sources query.statement) asked)
 all_shared [] = refl
-all_shared (asking ∷ asked) =
-    (λ i. flat_shared (λ (atom : Membership Value). atom.select.sources) asking.statement.atoms i
+all_shared (query ∷ asked) =
+    (λ i. flat_shared (λ (atom : Membership Value). atom.select.sources) query.statement.atoms i
     ++ all_shared asked i)
-    ∙ sym (map-append shared (sources asking.statement) (flat_map (λ (asking : Asking). sources asking.statement) asked))
+    ∙ sym (map-append shared (sources query.statement) (flat_map (λ (query : Posted). sources query.statement) asked))
 
 tables_shared : (numbers : List ℕ) → map (λ (own : Use). own.table) (map shared numbers) ≡ numbers
 tables_shared [] = refl
 tables_shared (number ∷ more) = ap (λ numbers. number ∷ numbers) (tables_shared more)
 
 -- the tables of a joint job are those that the sub-selects name
-pub joint_tables : (asked : List Asking) → map (λ (own : Use). own.table) (joint_uses asked)
-    ≡ set.ascending (set.from_list {R = nat_cmp} (flat_map (λ (asking : Asking). sources asking.statement) asked))
+pub joint_tables : (asked : List Posted) → map (λ (own : Use). own.table) (joint_uses asked)
+    ≡ set.ascending (set.from_list {R = nat_cmp} (flat_map (λ (query : Posted). sources query.statement) asked))
 joint_tables asked =
-    let all = flat_map (λ (asking : Asking). sources asking.statement) asked in
+    let all = flat_map (λ (query : Posted). sources query.statement) asked in
     ap (map (λ (own : Use). own.table))
     (ap (λ uses. with_uses uses []) (all_shared asked) ∙ shared_uses all [])
     ∙ tables_shared (numbered all [])

@@ -1,34 +1,34 @@
 //! Posted statements that are to be answered together.
-ghost use Rattle.std.specs.Prelude.{◌≡◌, IfOk, List, MatchOption, map};
+ghost use Rattle.std.specs.Prelude.{◌≡◌, IfOk, List, MatchOption};
 ghost use Rattle.ent_coordination.specs.Choice.{IsLeastChoiceIfAny};
 ghost use Rattle.ent_join.specs.Plans.{HaveNoPlan};
-ghost use Rattle.ent_protocol.specs.Job.{Seen as TableSeen, posted_of, tables_of};
+ghost use Rattle.ent_protocol.specs.Job.{Seen as TableSeen, tables_of};
 ghost use Rattle.ent_job.specs.Work.{IsJoint};
 
 use crate::shared::tables_shared;
-use ent_job::{Asking, Seen};
-use ent_join::{JoinPlan, Member, first};
+use ent_job::Seen;
+use ent_join::{JoinPlan, first};
+use ent_match::Posted;
 use ent_value::{Sequence, Value};
 use std::alloc::{AllocError, Global};
 
-/// The statements as a pool has them.
-fn posted(alloc: Global, asked: &[Asking]) -> Result<Vec<Member>, AllocError>
-    ensures { IfOk result (λ members. members.items ≡ map posted_of asked.now) }
+/// The same statements, which are shared.
+fn shared(alloc: Global, asked: &[Posted]) -> Result<Vec<Posted>, AllocError>
+    ensures { IfOk result (λ members. members.items ≡ asked.now) }
 {
     let mut members = Vec::with_capacity(alloc, asked.len())?;
-    for asking in asked {
-        members.push(asking.member()?)?;
+    for query in asked {
+        members.push(query.shared()?)?;
     }
     Ok(members)
 }
 
 /// The plan of the choices of posted statements; none where there are no choices, whatever the rows.
-fn plan_of(alloc: Global, asked: &[Asking]) -> Result<Option<JoinPlan>, AllocError>
+fn plan_of(alloc: Global, asked: &[Posted]) -> Result<Option<JoinPlan>, AllocError>
     requires { (tables : List TableSeen) × IsJoint asked.now tables }
-    ensures { IfOk result (λ plan. MatchOption plan (HaveNoPlan (map posted_of asked.now))
-        (λ plan. plan.members ≡ map posted_of asked.now)) }
+    ensures { IfOk result (λ plan. MatchOption plan (HaveNoPlan asked.now) (λ plan. plan.members ≡ asked.now)) }
 {
-    let members = posted(alloc, asked)?;
+    let members = shared(alloc, asked)?;
     let plan = JoinPlan::of(alloc, members)?;
     Ok(plan)
 }
@@ -37,11 +37,11 @@ fn plan_of(alloc: Global, asked: &[Asking]) -> Result<Option<JoinPlan>, AllocErr
 /// there is none.
 pub(crate) fn choice(
     alloc: Global,
-    asked: &[Asking],
+    asked: &[Posted],
     tables: &[Seen],
 ) -> Result<Option<Sequence<Sequence<Value>>>, AllocError>
     requires { IsJoint asked.now tables.now }
-    ensures { IfOk result (λ choice. IsLeastChoiceIfAny (tables_of tables.now) (map posted_of asked.now) choice) }
+    ensures { IfOk result (λ choice. IsLeastChoiceIfAny (tables_of tables.now) asked.now choice) }
 {
     let planned = plan_of(alloc, asked)?;
     match planned {

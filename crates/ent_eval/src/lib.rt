@@ -16,7 +16,7 @@ mod shared;
 mod term;
 
 pub use done::{Done, NotDone, evaluate};
-pub use ent_job::{Asking, Job, Seen, Single, Work};
+pub use ent_job::{Job, Seen, Single, Work};
 pub use evaluation::statement_outcome;
 pub use law::{components_stand_alone, lent_tables_stand};
 pub use outcome::{JobOutcome, Outcome};

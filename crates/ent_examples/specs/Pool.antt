@@ -34,7 +34,7 @@ wants own partner =
     }
 
 abbrev pub friend : ℕ → Value → Value → Posted
-friend tx own partner = record { tx = tx; statement = wants own partner }
+friend tx own partner = record { tx = tx; attempt = 1; place = 1; statement = wants own partner }
 
 abbrev pub two_friends : List Posted
 two_friends = friend 1 Mickey Minnie ∷ friend 2 Minnie Mickey ∷ []

@@ -11,13 +11,14 @@ use Rattle.ent_semantics.specs.Entangled.{Valuation}
 use Rattle.ent_closed.specs.declared.entangled.Entangled.{Entangled}
 use Rattle.ent_closed.specs.declared.operand.Known.{Known}
 use Rattle.ent_closed.specs.declared.statement.Statement.{Statement}
+use Rattle.ent_coordination.specs.Pool.{Posted}
 use Rattle.ent_protocol.specs.Begin.{BeginsCommit, BeginsEntangled, BeginsMember, BeginsNext, BeginsOrdinary}
 use Rattle.ent_protocol.specs.Begin.{BeginsUnless, Posts}
 use Rattle.ent_protocol.specs.Commit.{commit_fates, committing, committing_members, is_ready, preparing}
 use Rattle.ent_protocol.specs.Event.{Event, Reply}
 use Rattle.ent_protocol.specs.Event as events
 use Rattle.ent_protocol.specs.Finish.{Finishes, FinishesBy, finished}
-use Rattle.ent_protocol.specs.Job.{Asking, Bound, Changed, Choice, Done, Fault, Job, Outcome, Shown}
+use Rattle.ent_protocol.specs.Job.{Bound, Changed, Choice, Done, Fault, Job, Outcome, Shown}
 use Rattle.ent_protocol.specs.Member.{Asks, Commits, Next, Ordinary, RollsBack, active_member, is_lent, is_of, is_tx}
 use Rattle.ent_protocol.specs.Member.{next_of}
 use Rattle.ent_protocol.specs.PoolEvents.{AnswersBy, JoinsOrIsStale, Picks}
@@ -214,7 +215,7 @@ module _ {F : Type 0} (forms : Forms F) where
       by_outcome s step.2.member step.2.left step.0.statement done.outcome reply new step.2.steps
   finish s done reply new (inr step) = as_is s s new refl step.1.1
 
-  answers_by : (s : State) (left : List Job) (asked : List Asking) (groundings : Option (List Valuation))
+  answers_by : (s : State) (left : List Job) (asked : List Posted) (groundings : Option (List Valuation))
       (reply : Reply F) (new : State) → AnswersBy (record s { lent = left }) asked groundings reply new
       → FatesFrom s new
   answers_by s left asked (Some groundings) reply new step = as_is s _ new refl step.1

@@ -6,8 +6,9 @@ use Rattle.ent_value.specs.declared.value.Value.{Value}
 use Rattle.ent_semantics.specs.declared.book.JointAnswer.{JointAnswer}
 use Rattle.ent_semantics.specs.declared.book.Member.{Member as JointMember}
 use Rattle.ent_semantics.specs.Entangled.{Valuation}
+use Rattle.ent_coordination.specs.Pool.{Posted}
 use Rattle.ent_protocol.specs.Finish.{finished}
-use Rattle.ent_protocol.specs.Job.{Asking, Outcome, Shown, Changed, Bound, Choice, Fault, posted_of}
+use Rattle.ent_protocol.specs.Job.{Outcome, Shown, Changed, Bound, Choice, Fault}
 use Rattle.ent_protocol.specs.PoolEvents.{IsPresentComponent, joint_answer, joint_members}
 use Rattle.ent_protocol.specs.Reached.{IsReached}
 use Rattle.ent_protocol.specs.Run.{Forms}
@@ -24,39 +25,38 @@ Rises joint = Pairs Before joint.members
 abbrev AllRise : State → Type 0
 AllRise s = AllByRecursion Rises s.joints
 
-abbrev AskedBefore : Asking → Asking → Type 0
+abbrev AskedBefore : Posted → Posted → Type 0
 AskedBefore first second = first.tx < second.tx
 
 -- ---- the joint answer of a component
 
-asked_by : (asked : List Asking) (groundings : List Valuation) (member : JointMember)
-    → In member (joint_members asked groundings) → (asking : Asking) × In asking asked × (member.tx ≡ asking.tx)
+asked_by : (asked : List Posted) (groundings : List Valuation) (member : JointMember)
+    → In member (joint_members asked groundings) → (query : Posted) × In query asked × (member.tx ≡ query.tx)
 asked_by [] groundings member at = absurd at
-asked_by (asking ∷ asked) [] member at = absurd at
-asked_by (asking ∷ asked) (values ∷ more) member (inl same) =
-    (asking, inl refl, ap (λ (m : JointMember). m.tx) same)
-asked_by (asking ∷ asked) (values ∷ more) member (inr at) =
+asked_by (query ∷ asked) [] member at = absurd at
+asked_by (query ∷ asked) (values ∷ more) member (inl same) =
+    (query, inl refl, ap (λ (m : JointMember). m.tx) same)
+asked_by (query ∷ asked) (values ∷ more) member (inr at) =
     let r = asked_by asked more member at in
     (r.0, inr r.1, r.2)
 
-members_rise : (asked : List Asking) (groundings : List Valuation) → Pairs AskedBefore asked
+members_rise : (asked : List Posted) (groundings : List Valuation) → Pairs AskedBefore asked
     → Pairs Before (joint_members asked groundings)
 members_rise [] groundings rise = tt
-members_rise (asking ∷ asked) [] rise = tt
-members_rise (asking ∷ asked) (values ∷ more) rise = (
-  to_all (Before (record { tx = asking.tx; place = asking.place; grounding = values })) (joint_members asked more)
+members_rise (query ∷ asked) [] rise = tt
+members_rise (query ∷ asked) (values ∷ more) rise = (
+  to_all (Before (record { tx = query.tx; place = query.place; grounding = values })) (joint_members asked more)
       (λ member at.
       let r = asked_by asked more member at in
-      subst (λ n. asking.tx < n) (sym r.2) (of_all (AskedBefore asking) asked r.0 rise.0 r.1)),
+      subst (λ n. query.tx < n) (sym r.2) (of_all (AskedBefore query) asked r.0 rise.0 r.1)),
   members_rise asked more rise.1,
 )
 
-answer_rises : (s : State) (asked : List Asking) (groundings : List Valuation) → IsPresentComponent s asked
+answer_rises : (s : State) (asked : List Posted) (groundings : List Valuation) → IsPresentComponent s asked
     → Rises (joint_answer asked groundings)
 answer_rises s asked groundings component =
     members_rise asked groundings
-    (pairs_unmapped posted_of (λ one other. one.tx < other.tx) asked
-    (index_pairs (λ one other. one.tx < other.tx) (map posted_of asked) component.component.ascending))
+    (index_pairs (λ one other. one.tx < other.tx) asked component.ascending)
 
 -- ---- all events
 

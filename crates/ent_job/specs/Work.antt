@@ -2,11 +2,11 @@
 use Rattle.std.specs.Prelude.{◌≡◌, List, map, slice_index_or}
 use Rattle.ent_set.specs.Sets as set
 use Rattle.ent_coordination.specs.Component.{IsComponent}
-use Rattle.ent_coordination.specs.Pool.{IsSafe}
+use Rattle.ent_coordination.specs.Pool.{IsSafe, Posted}
 use Rattle.ent_closed.specs.Kinds.{Fits}
 use Rattle.ent_plan.specs.Plan.{HaveDistinctHeads}
 use Rattle.ent_plan.specs.Ranged.{AreRanged}
-use Rattle.ent_protocol.specs.Job.{Single, Asking, Seen, posted_of, tables_of}
+use Rattle.ent_protocol.specs.Job.{Single, Seen, tables_of}
 use Rattle.ent_protocol.specs.Job as jobs
 use Rattle.ent_protocol.specs.PoolEvents.{joint_uses}
 use Rattle.ent_protocol.specs.State.{Use}
@@ -35,11 +35,11 @@ pub record IsOne (single : Single) (tables : List Seen) : Type 0 where
 
 -- The statements are one component of the pool that they make, which is safe; the heads of each are of distinct
 -- relations, and each written variable stands in a sub-select's tuple. The tables are those that they use.
-pub record IsJoint (asked : List Asking) (tables : List Seen) : Type 0 where
-  pub component : IsComponent (map posted_of asked) (map posted_of asked)
-  pub safe : IsSafe (map posted_of asked)
-  pub heads : HaveDistinctHeads (map posted_of asked)
-  pub ranged : AreRanged (map posted_of asked)
+pub record IsJoint (asked : List Posted) (tables : List Seen) : Type 0 where
+  pub component : IsComponent asked asked
+  pub safe : IsSafe asked
+  pub heads : HaveDistinctHeads asked
+  pub ranged : AreRanged asked
   pub used : AreUsed (joint_uses asked) tables
   pub stand : StandAtNumbers tables
 

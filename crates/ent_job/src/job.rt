@@ -3,10 +3,10 @@ ghost use Rattle.std.specs.Prelude.{◌≡◌, ◌↔◌, IfOk, IsTrue};
 ghost use Rattle.ent_protocol.specs.Job as jobs;
 ghost use Rattle.ent_job.specs.Work.{IsOne, IsJoint, IsWork, work_seen};
 
-use crate::asking::Asking;
 use crate::seen::Seen;
 use crate::single::Single;
 use crate::work::Work;
+use ent_match::Posted;
 use ent_tree::{Duplicate, Same};
 use ent_value::Sequence;
 use std::alloc::{AllocError, Global};
@@ -58,7 +58,7 @@ impl Job {
     }
 
     /// The job of posted statements, by number of their transactions, over the tables that they use, by number.
-    pub fn joint(asked: Sequence<Asking>, tables: Sequence<Seen>) -> Self
+    pub fn joint(asked: Sequence<Posted>, tables: Sequence<Seen>) -> Self
         requires { IsJoint asked tables }
         ensures { result ≡ record { work = jobs.Joint asked; tables = tables } }
     {

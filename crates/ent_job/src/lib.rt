@@ -4,13 +4,11 @@
 //! pool, so that whoever carries it out has to look at nothing else. Evaluation is in a crate of its own, above.
 #![tactic(auto)]
 
-mod asking;
 mod job;
 mod seen;
 mod single;
 mod work;
 
-pub use asking::Asking;
 pub use job::Job;
 pub use seen::Seen;
 pub use single::Single;

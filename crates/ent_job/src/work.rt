@@ -1,6 +1,6 @@
 //! Work of transactions: statements at their places.
-use crate::asking::Asking;
 use crate::single::Single;
+use ent_match::Posted;
 use ent_tree::{Duplicate, Same};
 use ent_value::Sequence;
 use std::alloc::{AllocError, Global};
@@ -11,7 +11,7 @@ pub enum Work {
     /// A statement of one transaction, alone.
     One(Single),
     /// Posted statements, which are to be answered together, by number of their transactions.
-    Joint(Sequence<Asking>),
+    Joint(Sequence<Posted>),
 }
 
 impl Duplicate for Work {

@@ -318,7 +318,8 @@ pub no_dead_end : (candidates : List Value → List Value) (passes : List Value 
     → ⊥
 no_dead_end candidates passes count left less old pushed remaining after marks value e c push is next refuted ends =
     let way = ends old value (subst (IsAmong value) is (first_among remaining after value next)) in
-    none_passes passes (length pushed + less) less pushed marks refl refuted way.0 (let l : length old + (1 + length way.0) ≡ count = way.1 in omega arith)
+    none_passes passes (length pushed + less) less pushed marks refl refuted way.0
+    (let l : length old + (1 + length way.0) ≡ count = way.1 in omega arith)
     (ap passes (moved old pushed value push way.0) ∙ way.2)
 
 pub pushed_count : (left less : ℕ) (old pushed : List Value) (value : Value)
@@ -381,8 +382,8 @@ pub going_on : (candidates : List Value → List Value) (passes : List Value →
     → Refutes (length pushed + less) passes pushed reason
     → IsGoing passes candidates count old mid items remaining old_ticks ticks
     → IsGoing passes candidates count old now (take len (both ++ drop (length both) items)) after old_ticks new_ticks
-going_on candidates passes count left less old pushed mid now remaining after items before reason both value len old_ticks
-    ticks new_ticks e c push same is long_both long all_before all_reason next refuted going =
+going_on candidates passes count left less old pushed mid now remaining after items before reason both value len
+    old_ticks ticks new_ticks e c push same is long_both long all_before all_reason next refuted going =
     let l : length before ≡ length items = ap length is in
     let w : take len (both ++ drop (length both) items) ≡ both = written items both len (omega arith) in
     let k : count ≡ length pushed + less = c ∙ pushed_count left less old pushed value e push in

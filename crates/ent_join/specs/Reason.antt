@@ -1,5 +1,6 @@
 -- For which places of a list an answer stands: the places that it read, marked in a list.
-use Rattle.std.specs.Prelude.{◌≡◌, ◌<◌, ◌+◌, ℕ, Bool, true, false, List, [], ◌∷◌, ◌++◌, length, slice_get, slice_index_or}
+use Rattle.std.specs.Prelude.{◌≡◌, ◌<◌, ◌+◌, ℕ, Bool, true, false, List, [], ◌∷◌, ◌++◌, length, slice_get}
+use Rattle.std.specs.Prelude.{slice_index_or}
 use Rattle.ent_value.specs.declared.value.Value.{Value}
 
 abbrev pub IsMarked : List Bool → ℕ → Type 0

@@ -9,7 +9,8 @@ use crate::index::Index;
 use crate::keyed::{columns_of, term_slot};
 use crate::made::{Made, index_for};
 use ent_closed::{Membership, Term};
-use ent_plan::{Member, Slot};
+use ent_match::Posted;
+use ent_plan::Slot;
 use ent_rel::Table;
 use ent_tree::Test;
 use ent_value::{Kind, Sequence, Value};
@@ -76,7 +77,7 @@ fn push_all_indexes<'a>(
     tables: &[Arc<Table>],
     tests: &[Test<Slot>],
     made: &mut Vec<Made<'a>>,
-    members: &'a [Member],
+    members: &'a [Posted],
     slots: &[Sequence<Slot>],
     indexes: &mut Vec<Index>,
 ) -> Result<(), AllocError>
@@ -135,7 +136,7 @@ fn push_tests(
 /// Puts the tests of all statements behind others.
 fn push_all_tests(
     alloc: Global,
-    members: &[Member],
+    members: &[Posted],
     slots: &[Sequence<Slot>],
     made: &mut Vec<Test<Slot>>,
 ) -> Result<(), AllocError>
@@ -166,7 +167,7 @@ pub(crate) fn frame_of(
     alloc: Global,
     numbers: &[usize],
     tables: &[Arc<Table>],
-    members: &[Member],
+    members: &[Posted],
     slots: &[Sequence<Slot>],
     kinds: &[Kind],
 ) -> Result<Frame, AllocError>

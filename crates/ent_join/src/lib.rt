@@ -24,4 +24,4 @@ mod reason;
 mod search;
 
 pub use choice::{first, first_with};
-pub use ent_plan::{JoinPlan, Member};
+pub use ent_plan::JoinPlan;

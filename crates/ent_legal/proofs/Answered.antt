@@ -8,7 +8,7 @@ use Rattle.ent_semantics.specs.Entangled.{Valuation}
 use Rattle.ent_semantics.specs.Serial.{Deed, numbered}
 use Rattle.ent_closed.specs.Form.{Tables, form_heads, form_posts, is_form_grounding}
 use Rattle.ent_coordination.specs.Choice.{AreGroundings, all_posts, all_heads}
-use Rattle.ent_protocol.specs.Job.{Asking, posted_of}
+use Rattle.ent_coordination.specs.Pool.{Posted}
 use Rattle.ent_protocol.specs.Member.{is_tx, Asks, next_of}
 use Rattle.ent_protocol.specs.PoolEvents.{answered_by, answered_among, joint_members, joined_label}
 use Rattle.ent_protocol.specs.State.{State, Submitted, Member}
@@ -19,8 +19,8 @@ use Rattle.ent_legal.proofs.Joints.{OtherTx}
 -- ---- what an answer keeps of a member
 
 pub answered_keeps : {A : Type 0} (field : Member → A)
-    → ((asking : Asking) (values : Valuation) (m : Member) → field (answered_by asking values m) ≡ field m)
-    → (asked : List Asking) (groundings : List Valuation) (m : Member)
+    → ((query : Posted) (values : Valuation) (m : Member) → field (answered_by query values m) ≡ field m)
+    → (asked : List Posted) (groundings : List Valuation) (m : Member)
     → field (answered_among asked groundings m) ≡ field m
 answered_keeps field same [] groundings m = refl
 answered_keeps field same (a ∷ asked) [] m = refl
@@ -42,37 +42,37 @@ abbrev pub deed_at : Member → Valuation → Option Submitted → List Deed
 deed_at m values None = []
 deed_at m values (Some own) = statement_deed values (numbered own.script.statements m.place)
 
-abbrev pub deeds_among : List Submitted → List Asking → List Valuation → Member → List Deed
+abbrev pub deeds_among : List Submitted → List Posted → List Valuation → Member → List Deed
 deeds_among submitted [] groundings m = []
 deeds_among submitted (a ∷ asked) [] m = []
 deeds_among submitted (a ∷ asked) (values ∷ more) m =
     cond (is_tx a.tx m) (deed_at m values (numbered submitted m.tx)) (deeds_among submitted asked more m)
 
-abbrev pub joint_member : Asking → Valuation → JointMember
-joint_member asking values = record { tx = asking.tx; place = asking.place; grounding = values }
+abbrev pub joint_member : Posted → Valuation → JointMember
+joint_member query values = record { tx = query.tx; place = query.place; grounding = values }
 
 -- a statement of the answer is a member's
-pub record IsAnswered (submitted : List Submitted) (seen : Tables) (asked : List Asking) (groundings : List Valuation)
+pub record IsAnswered (submitted : List Submitted) (seen : Tables) (asked : List Posted) (groundings : List Valuation)
     (m : Member) : Type 0 where
-  pub asking : Asking
+  pub query : Posted
   pub values : Valuation
-  pub at : In asking asked
-  pub tx : m.tx ≡ asking.tx
-  pub grounds : is_form_grounding (λ value. value) seen asking.statement values ≡ true
-  pub member : answered_among asked groundings m ≡ answered_by asking values m
+  pub at : In query asked
+  pub tx : m.tx ≡ query.tx
+  pub grounds : is_form_grounding (λ value. value) seen query.statement values ≡ true
+  pub member : answered_among asked groundings m ≡ answered_by query values m
   pub deeds : deeds_among submitted asked groundings m ≡ deed_at m values (numbered submitted m.tx)
-  pub in_joint : In (joint_member asking values) (joint_members asked groundings)
-  pub demands : (post : Fact) → In post (form_posts (λ value. value) asking.statement values)
-      → In post (all_posts (map posted_of asked) groundings)
+  pub in_joint : In (joint_member query values) (joint_members asked groundings)
+  pub demands : (post : Fact) → In post (form_posts (λ value. value) query.statement values)
+      → In post (all_posts asked groundings)
 
-pub record IsLeft (submitted : List Submitted) (asked : List Asking) (groundings : List Valuation) (m : Member)
+pub record IsLeft (submitted : List Submitted) (asked : List Posted) (groundings : List Valuation) (m : Member)
     : Type 0 where
   pub member : answered_among asked groundings m ≡ m
   pub deeds : deeds_among submitted asked groundings m ≡ []
-  pub none : (asking : Asking) → In asking asked → m.tx ≡ asking.tx → ⊥
+  pub none : (query : Posted) → In query asked → m.tx ≡ query.tx → ⊥
 
-pub answered_or_left : (submitted : List Submitted) (seen : Tables) (asked : List Asking) (groundings : List Valuation)
-    (m : Member) → AreGroundings seen (map posted_of asked) groundings
+pub answered_or_left : (submitted : List Submitted) (seen : Tables) (asked : List Posted) (groundings : List Valuation)
+    (m : Member) → AreGroundings seen asked groundings
     → IsAnswered submitted seen asked groundings m ⊎ IsLeft submitted asked groundings m
 answered_or_left submitted seen [] groundings m good =
     inr (record { member = refl; deeds = refl; none = λ a at. absurd at })
@@ -85,7 +85,7 @@ answered_or_left submitted seen (a ∷ asked) (values ∷ more) m good =
         → IsAnswered submitted seen (a ∷ asked) (values ∷ more) m ⊎ IsLeft submitted (a ∷ asked) (values ∷ more) m
     by true is rest =
         inl (record {
-          asking = a;
+          query = a;
           values = values;
           at = inl refl;
           tx = same_number m.tx a.tx is;
@@ -94,11 +94,11 @@ answered_or_left submitted seen (a ∷ asked) (values ∷ more) m good =
           deeds = ap (λ b. cond b (deed_at m values (numbered submitted m.tx)) (deeds_among submitted asked more m)) is;
           in_joint = inl refl;
           demands = λ post at. in_first (form_posts (λ value. value) a.statement values)
-              (all_posts (map posted_of asked) more) post at;
+              (all_posts asked more) post at;
         })
     by false is (inl r) =
         inl (record {
-          asking = r.asking;
+          query = r.query;
           values = r.values;
           at = inr r.at;
           tx = r.tx;
@@ -108,7 +108,7 @@ answered_or_left submitted seen (a ∷ asked) (values ∷ more) m good =
               ∙ r.deeds;
           in_joint = inr r.in_joint;
           demands = λ post at. in_second (form_posts (λ value. value) a.statement values)
-              (all_posts (map posted_of asked) more) post (r.demands post at);
+              (all_posts asked more) post (r.demands post at);
         })
     by false is (inr r) =
         inr (record {
@@ -116,13 +116,13 @@ answered_or_left submitted seen (a ∷ asked) (values ∷ more) m good =
           deeds = ap (λ b. cond b (deed_at m values (numbered submitted m.tx)) (deeds_among submitted asked more m)) is
               ∙ r.deeds;
           none = λ other at same. elim at [
-            | inl here ↦ differ m.tx a.tx is (same ∙ ap (λ (x : Asking). x.tx) here)
+            | inl here ↦ differ m.tx a.tx is (same ∙ ap (λ (x : Posted). x.tx) here)
             | inr there ↦ r.none other there same
           ];
         })
 
-pub nonempty : (seen : Tables) (asked : List Asking) (groundings : List Valuation)
-    → AreGroundings seen (map posted_of asked) groundings → (asked ≡ [] → ⊥)
+pub nonempty : (seen : Tables) (asked : List Posted) (groundings : List Valuation)
+    → AreGroundings seen asked groundings → (asked ≡ [] → ⊥)
     → joint_members asked groundings ≡ [] → ⊥
 nonempty seen [] groundings good some e = some refl
 nonempty seen (a ∷ asked) [] good some e = absurd good
@@ -131,28 +131,28 @@ nonempty seen (a ∷ asked) (v ∷ groundings) good some e = cc (e)
 -- ---- the joint answer
 
 -- what each place of the joint answer comes from
-pub from_joint : (many : List Asking) (gs : List Valuation) (m : JointMember) → In m (joint_members many gs)
-    → (a : Asking) × (v : Valuation) × In a many × (m ≡ joint_member a v)
+pub from_joint : (many : List Posted) (gs : List Valuation) (m : JointMember) → In m (joint_members many gs)
+    → (a : Posted) × (v : Valuation) × In a many × (m ≡ joint_member a v)
 from_joint [] gs m at = absurd at
 from_joint (a ∷ many) [] m at = absurd at
 from_joint (a ∷ many) (v ∷ gs) m (inl same) = (a, v, inl refl, same)
 from_joint (a ∷ many) (v ∷ gs) m (inr at) = let r = from_joint many gs m at in (r.0, r.1, inr r.2, r.3)
 
-pub from_heads : (many : List Asking) (gs : List Valuation) (fact : Fact) → In fact (all_heads (map posted_of many) gs)
-    → (a : Asking) × (v : Valuation) × In a many × In (joint_member a v) (joint_members many gs)
+pub from_heads : (many : List Posted) (gs : List Valuation) (fact : Fact) → In fact (all_heads many gs)
+    → (a : Posted) × (v : Valuation) × In a many × In (joint_member a v) (joint_members many gs)
     × In fact (form_heads (λ value. value) a.statement v)
 from_heads [] gs fact at = absurd at
 from_heads (a ∷ many) [] fact at = absurd at
 from_heads (a ∷ many) (v ∷ gs) fact at =
-    elim (in_either (form_heads (λ value. value) a.statement v) (all_heads (map posted_of many) gs) fact at) [
+    elim (in_either (form_heads (λ value. value) a.statement v) (all_heads many gs) fact at) [
       | inl here ↦ (a, v, inl refl, inl refl, here)
       | inr there ↦ let r = from_heads many gs fact there in (r.0, r.1, inr r.2, inr r.3, r.4)
     ]
 
-abbrev pub OtherAsking : Asking → Asking → Type 0
+abbrev pub OtherAsking : Posted → Posted → Type 0
 OtherAsking one other = one.tx ≡ other.tx → ⊥
 
-pub joint_pairs : (many : List Asking) (gs : List Valuation) → Pairs OtherAsking many
+pub joint_pairs : (many : List Posted) (gs : List Valuation) → Pairs OtherAsking many
     → Pairs OtherTx (joint_members many gs)
 joint_pairs [] gs pairs = tt
 joint_pairs (a ∷ many) [] pairs = tt
@@ -166,13 +166,13 @@ joint_pairs (a ∷ many) (v ∷ gs) pairs = (
 -- ---- members that are answered
 
 -- a statement is of a member that is posted before it
-pub record IsPresent (s : State) (asking : Asking) : Type 0 where
+pub record IsPresent (s : State) (query : Posted) : Type 0 where
   pub member : Member
   pub at : In member s.active
   pub posted : member.posted ≡ true
-  pub next : next_of s member ≡ Asks asking.statement
-  pub tx : asking.tx ≡ member.tx
-  pub place : asking.place ≡ member.place
+  pub next : next_of s member ≡ Asks query.statement
+  pub tx : query.tx ≡ member.tx
+  pub place : query.place ≡ member.place
 
 -- groups that are joined have one label
 pub label_same : (groups : List ℕ) (one other : ℕ) → In one groups → In other groups

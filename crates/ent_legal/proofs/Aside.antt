@@ -5,142 +5,84 @@ use Rattle.std.proofs.Common.{◌==◌}
 use Rattle.std.specs.List.{AllByRecursion, filter, list_any}
 use Rattle.ent_semantics.specs.Serial.{numbered}
 use Rattle.ent_coordination.specs.Pool.{Posted}
-use Rattle.ent_protocol.specs.Job.{Job, Work, One, Joint, Asking, posted_of, tables_of}
-use Rattle.ent_protocol.specs.Member.{Next, Ordinary, Asks, Commits, RollsBack, next_in, next_of, askings, asking_of}
-use Rattle.ent_protocol.specs.Member.{is_tx, pool, seen_now}
+use Rattle.ent_protocol.specs.Job.{Job, Work, One, Joint, tables_of}
+use Rattle.ent_protocol.specs.Member.{Next, Ordinary, Asks, Commits, RollsBack, next_in, next_of, posted_by, pool}
+use Rattle.ent_protocol.specs.Member.{is_tx, seen_now}
 use Rattle.ent_protocol.specs.PoolEvents.{IsPresentComponent, answered_groups, joint_job, joint_uses}
 use Rattle.ent_protocol.specs.Run.{Forms}
+use Rattle.ent_protocol.specs.PostedBy.{in_pool, is_present}
 use Rattle.ent_protocol.specs.State.{State, Member, members}
 use Rattle.ent_protocol.specs.Uses.{entangled_uses}
 use Rattle.ent_legal.specs.History.{History}
 use Rattle.ent_legal.specs.Faithful.{is_used}
 use Rattle.ent_legal.proofs.Answered.{OtherAsking, IsPresent}
 use Rattle.ent_legal.proofs.Undo.{number_itself}
-use Rattle.ent_lists.specs.Elements.{In, Pairs, of_all, to_all, all_joined, any_in, to_map, to_filter, pairs_before}
+use Rattle.ent_lists.specs.Elements.{In, Pairs, of_all, to_all, all_joined, any_in, to_map, to_filter, pairs_by}
 use Rattle.ent_lists.specs.Elements.{in_first, in_second, in_either, nobody, pairs_joined}
+use Rattle.ent_lists.specs.Elements.{all_index, contains_in, in_contains, in_flat, index_pairs}
 use Rattle.ent_legal.proofs.Outcomes.{seen_same, used_first, used_second}
 use Rattle.ent_legal.proofs.Deeds.{HoldsUses}
 use Rattle.ent_legal.proofs.Locks.{used_got}
 use Rattle.ent_legal.proofs.Jobs.{JobRight, AskingRight, OtherJob, OtherWork}
 use Rattle.ent_legal.proofs.Kept.{Kept, PostedHolds, one_member, active_at, prepared_at}
 
--- ---- elements by index
-
-pub contains_in : {X : Type 0} (xs : List X) (x : X) → Contains xs x → In x xs
-contains_in {X} xs x c = found xs c.0 c.1 c.2
-  where
-    found : (ys : List X) (k : ℕ) → k < length ys → slice_index_or ys k x ≡ x → In x ys
-    found [] k low e = absurd (omega (arith, low))
-    found (y ∷ ys) zero low e = inl (sym e)
-    found (y ∷ ys) (suc k) low e = inr (found ys k (omega (arith, low)) e)
-
-pub all_index : {X : Type 0} (P : X → Type 0) (xs : List X) → All P xs → AllByRecursion P xs
-all_index P [] all = tt
-all_index P (x ∷ xs) all =
-    (all 0 x (omega arith), all_index P xs (λ k d low. all (suc k) d (omega (arith, low))))
-
-pub in_contains : {X : Type 0} (xs : List X) (x : X) → In x xs → Contains xs x
-in_contains [] x at = absurd at
-in_contains (y ∷ ys) x (inl same) = (0, omega arith, sym same)
-in_contains (y ∷ ys) x (inr at) =
-    let r = in_contains ys x at in
-    let low = r.1 in
-    (suc r.0, omega (arith, low), r.2)
-
-pub in_flat : {X Y : Type 0} (f : X → List Y) (xs : List X) (y : Y) → In y (flat_map f xs)
-    → (x : X) × In x xs × In y (f x)
-in_flat f [] y at = absurd at
-in_flat f (x ∷ xs) y at =
-    elim (in_either (f x) (flat_map f xs) y at) [
-      | inl a ↦ (x, inl refl, a)
-      | inr b ↦ let r = in_flat f xs y b in (r.0, inr r.1, r.2)
-    ]
-
-pub index_pairs : {X : Type 0} (R : X → X → Type 0) (xs : List X) → AllPairs R xs → Pairs R xs
-index_pairs R [] h = tt
-index_pairs R (x ∷ xs) h = (
-  all_index (R x) xs (λ k d low. h 0 (suc k) d (omega arith) (omega (arith, low))),
-  index_pairs R xs (λ i j d less low. h (suc i) (suc j) d (omega (arith, less)) (omega (arith, low))),
-)
-
 -- ---- members that ask
 
-asks_of : (s : State) (m : Member) (a : Asking) → In a (asking_of s m)
-    → (m.posted ≡ true) × (next_of s m ≡ Asks a.statement) × (a.tx ≡ m.tx) × (a.place ≡ m.place)
-asks_of s m a at = by m.posted refl (next_of s m) refl
-  where
-    posted_next : m.posted ≡ true → next_in (numbered s.submitted m.tx) (record m { posted = true }) ≡ next_of s m
-    posted_next e = λ i. next_in (numbered s.submitted m.tx) (record m { posted = sym e i })
-
-    by : (b : Bool) → m.posted ≡ b → (n : Next) → next_of s m ≡ n
-        → (m.posted ≡ true) × (next_of s m ≡ Asks a.statement) × (a.tx ≡ m.tx) × (a.place ≡ m.place)
-    by true posted (Asks statement) next =
-        let h : In a (record { tx = m.tx; attempt = m.attempt; place = m.place; statement = statement } ∷ []) =
-        rw (posted, posted_next posted ∙ next) at at in
-        elim h [
-          | inl same ↦ (
-            posted,
-            next ∙ ap (λ (x : Asking). Asks x.statement) (sym same),
-            ap (λ (x : Asking). x.tx) same,
-            ap (λ (x : Asking). x.place) same,
-          )
-          | inr bad ↦ absurd bad
-        ]
-    by true posted (Ordinary statement) next = let h : ⊥ = rw (posted, posted_next posted ∙ next) at at in absurd h
-    by true posted Commits next = let h : ⊥ = rw (posted, posted_next posted ∙ next) at at in absurd h
-    by true posted RollsBack next = let h : ⊥ = rw (posted, posted_next posted ∙ next) at at in absurd h
-    by false posted n next = let h : ⊥ = rw posted at at in absurd h
-
-pub present_all : (s : State) (asked : List Asking) → IsPresentComponent s asked → AllByRecursion (IsPresent s) asked
+pub present_all : (s : State) (asked : List Posted) → IsPresentComponent s asked → AllByRecursion (IsPresent s) asked
 present_all s asked component =
     to_all (IsPresent s) asked (λ a at.
-    let c = of_all (Contains (askings s)) asked a (all_index (Contains (askings s)) asked component.present) at in
-    let r = in_flat (asking_of s) s.active a (contains_in (askings s) a c) in
-    let q = asks_of s r.0 a r.2 in
-    record { member = r.0; at = r.1; posted = q.0; next = q.1; tx = q.2; place = q.3 })
+    let r = in_pool s a (is_present (pool s) asked component a at) in
+    record {
+      member = r.member;
+      at = r.at;
+      posted = r.by.posted;
+      next = r.by.next;
+      tx = r.own;
+      place = ap (λ (x : Posted). x.place) r.by.is;
+    })
 
 -- the statements of a component are of distinct transactions
-pub askings_apart : (s : State) (asked : List Asking) → IsPresentComponent s asked → Pairs OtherAsking asked
+pub askings_apart : (s : State) (asked : List Posted) → IsPresentComponent s asked → Pairs OtherAsking asked
 askings_apart s asked component =
-    pairs_before posted_of (λ (one other : Posted). one.tx < other.tx) OtherAsking (λ a b low e. unlike a.tx b.tx low e)
-    asked (index_pairs (λ (one other : Posted). one.tx < other.tx) (map posted_of asked) component.component.ascending)
+    pairs_by (λ (one other : Posted). one.tx < other.tx) OtherAsking asked (λ a b low e. unlike a.tx b.tx low e)
+    (index_pairs (λ (one other : Posted). one.tx < other.tx) asked component.ascending)
   where
     unlike : (n m : ℕ) → n < m → n ≡ m → ⊥
     unlike n m low e = omega (low, e, arith)
 
 -- there is one
-pub askings_some : (s : State) (asked : List Asking) → IsPresentComponent s asked → asked ≡ [] → ⊥
+pub askings_some : (s : State) (asked : List Posted) → IsPresentComponent s asked → asked ≡ [] → ⊥
 askings_some s asked component none =
-    let c = component.component in
-    let at = contains_in (map posted_of asked) c.first ((c.class c.first).1 (c.in_remainder, (0, refl))) in
-    subst (λ many. In c.first (map posted_of many)) none at
+    let c = component in
+    let at = contains_in asked c.first ((c.class c.first).1 (c.in_remainder, (0, refl))) in
+    subst (λ many. In c.first many) none at
 
 -- who is answered is of a group that is joined
-pub groups_answered : {F : Type 0} (forms : Forms F) (s : State) (kept : Kept forms s) (asked : List Asking)
-    (a : Asking) → In a asked → (x : History) → In x (kept.prepared ++ kept.others) → x.member.tx ≡ a.tx
+pub groups_answered : {F : Type 0} (forms : Forms F) (s : State) (kept : Kept forms s) (asked : List Posted)
+    (a : Posted) → In a asked → (x : History) → In x (kept.prepared ++ kept.others) → x.member.tx ≡ a.tx
     → In x.member.group (answered_groups s asked)
 groups_answered forms s kept asked a at x xt same =
     to_map (λ (m : Member). m.group)
-    (filter (λ (m : Member). list_any (λ (b : Asking). is_tx b.tx m) asked) (members s)) x.member
-    (to_filter (λ (m : Member). list_any (λ (b : Asking). is_tx b.tx m) asked) (members s) x.member
+    (filter (λ (m : Member). list_any (λ (b : Posted). is_tx b.tx m) asked) (members s)) x.member
+    (to_filter (λ (m : Member). list_any (λ (b : Posted). is_tx b.tx m) asked) (members s) x.member
     (elim (in_either kept.prepared kept.others x xt) [
       | inl p ↦ in_first s.prepared s.active x.member (prepared_at forms s kept x p)
       | inr q ↦ in_second s.prepared s.active x.member (active_at forms s kept x q)
     ])
-    (any_in (λ (b : Asking). is_tx b.tx x.member) asked a at
+    (any_in (λ (b : Posted). is_tx b.tx x.member) asked a at
     (ap (λ n. n == a.tx) same ∙ number_itself a.tx)))
 
 -- where there is a component there is a member
-pub component_on : {F : Type 0} (forms : Forms F) (s : State) → Kept forms s → (asked : List Asking)
+pub component_on : {F : Type 0} (forms : Forms F) (s : State) → Kept forms s → (asked : List Posted)
     → IsPresentComponent s asked → s.running ≡ false → ⊥
 component_on forms s kept asked component off =
-    let first = contains_in (pool s) component.component.first component.component.in_remainder.is_in.0 in
-    let none : pool s ≡ [] = ap (λ ms. map posted_of (flat_map (asking_of s) ms)) (kept.idle off).1 in
-    subst (In component.component.first) none first
+    let first = contains_in (pool s) component.first component.in_remainder.is_in.0 in
+    let none : pool s ≡ [] = ap (λ ms. (flat_map (posted_by s) ms)) (kept.idle off).1 in
+    subst (In component.first) none first
 
 module _ {F : Type 0} (forms : Forms F) (s : State) (kept : Kept forms s) where
   -- fewer jobs
-  pub with_jobs : (lent : List Job) (tried : List (List Asking)) → ((job : Job) → In job lent → In job s.lent)
+  pub with_jobs : (lent : List Job) (tried : List (List Posted)) → ((job : Job) → In job lent → In job s.lent)
       → Pairs OtherJob lent → Kept forms (record s { lent = lent; tried = tried })
   with_jobs lent tried fewer apart =
       record {
@@ -178,18 +120,18 @@ module _ {F : Type 0} (forms : Forms F) (s : State) (kept : Kept forms s) where
         fated_scripts = kept.fated_scripts;
       }
 
-  used_flat : (asked : List Asking) (a : Asking) (table : ℕ) → In a asked
+  used_flat : (asked : List Posted) (a : Posted) (table : ℕ) → In a asked
       → is_used (entangled_uses a.statement) table ≡ true
-      → is_used (flat_map (λ (asking : Asking). entangled_uses asking.statement) asked) table ≡ true
+      → is_used (flat_map (λ (query : Posted). entangled_uses query.statement) asked) table ≡ true
   used_flat [] a table at used = absurd at
   used_flat (b ∷ asked) a table (inl same) used =
       used_first (entangled_uses b.statement) _ table
-      (ap (λ (x : Asking). is_used (entangled_uses x.statement) table) (sym same) ∙ used)
+      (ap (λ (x : Posted). is_used (entangled_uses x.statement) table) (sym same) ∙ used)
   used_flat (b ∷ asked) a table (inr at) used =
       used_second (entangled_uses b.statement) _ table (used_flat asked a table at used)
 
   -- a component's job is lent
-  pub picks : (asked : List Asking) → IsPresentComponent s asked
+  pub picks : (asked : List Posted) → IsPresentComponent s asked
       → Kept forms (record s { lent = s.lent ++ joint_job s asked ∷ [] })
   picks asked component =
       let present = present_all s asked component in
@@ -206,7 +148,7 @@ module _ {F : Type 0} (forms : Forms F) (s : State) (kept : Kept forms s) where
               (of_all (PostedHolds s.submitted) s.active p.member kept.posted p.at p.posted a.statement p.next);
           alike = λ table used.
               seen_same s.opening.tables s.tables (joint_uses asked) table
-              (used_got (flat_map (λ (asking : Asking). entangled_uses asking.statement) asked) [] table
+              (used_got (flat_map (λ (query : Posted). entangled_uses query.statement) asked) [] table
               (used_flat asked a table at used));
         },
       )) in

@@ -26,7 +26,7 @@ use Rattle.ent_legal.specs.SerialState.{IsOracled, IsWhole}
 use Rattle.ent_lists.specs.Elements.{In, all_joined, all_first, of_all}
 use Rattle.ent_legal.proofs.Frame.{Laws}
 use Rattle.ent_legal.proofs.Kept.{Kept, entry_from, map_map}
-use Rattle.ent_legal.proofs.Aside.{contains_in}
+use Rattle.ent_lists.specs.Elements.{contains_in}
 use Rattle.ent_legal.proofs.Reached.{reached_kept}
 
 -- ---- the oracle's answers of deeds

@@ -8,7 +8,7 @@ use Rattle.ent_legal.specs.Faithful.{is_used}
 use Rattle.ent_legal.specs.Present.{AreApart, UsesAreApart}
 use Rattle.ent_legal.specs.Conflicts.{AreInConflict, ConflictsStandInGroups}
 use Rattle.ent_lists.specs.Elements.{any_in, clash, in_either}
-use Rattle.ent_legal.proofs.Aside.{contains_in, in_contains}
+use Rattle.ent_lists.specs.Elements.{contains_in, in_contains}
 use Rattle.ent_legal.proofs.Undo.{same_number, number_itself}
 
 both : (a b : Bool) → (a && b) ≡ true → (a ≡ true) × (b ≡ true)

@@ -17,7 +17,7 @@ use Rattle.ent_protocol.specs.State.{State}
 use Rattle.ent_legal.specs.Faithful.{AreFaithful}
 use Rattle.ent_legal.specs.GoodAnswers.{histories_sights, AnswersAreGood}
 use Rattle.ent_legal.specs.History.{History, AreSerial}
-use Rattle.ent_legal.proofs.Aside.{contains_in, in_contains, in_flat}
+use Rattle.ent_lists.specs.Elements.{contains_in, in_contains, in_flat}
 use Rattle.ent_legal.proofs.Asks.{Ask, ask_of, ask_member, ask_heads, history_asks, sights_asks}
 use Rattle.ent_legal.proofs.Frame.{Laws, serial_joined}
 use Rattle.ent_legal.proofs.Joints.{JointsRight, AsksOf, OtherTx}

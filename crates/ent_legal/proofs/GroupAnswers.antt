@@ -19,7 +19,7 @@ use Rattle.ent_legal.specs.GoodAnswers.{histories_sights}
 use Rattle.ent_legal.specs.GroupAnswers.{history_sights, group_sights, IsOfGroup, HaveGroups, GroupAnswers}
 use Rattle.ent_legal.specs.GroupRuns.{GroupRuns, settled_database}
 use Rattle.ent_legal.specs.History.{History, Replays}
-use Rattle.ent_legal.proofs.Aside.{contains_in, in_contains}
+use Rattle.ent_lists.specs.Elements.{contains_in, in_contains}
 use Rattle.ent_legal.proofs.Asks.{Ask, ask_of, ask_member, history_asks, sights_asks}
 use Rattle.ent_legal.proofs.Frame.{Laws}
 use Rattle.ent_legal.proofs.Good.{histories_ask, histories_grounded, good_over}

@@ -13,7 +13,7 @@ use Rattle.ent_legal.specs.GroupRuns.{UnownedIsSettled}
 use Rattle.ent_legal.specs.GroupAnswers.{AreOthers}
 use Rattle.ent_legal.specs.History.{History, Replays, AreSerial}
 use Rattle.ent_legal.specs.SerialState.{Follows, IsWhole}
-use Rattle.ent_legal.proofs.Aside.{contains_in, in_contains}
+use Rattle.ent_lists.specs.Elements.{contains_in, in_contains}
 use Rattle.ent_legal.proofs.Frame.{Laws, IsCovered, Apart, apart_turned, gather, serial_joined, serial_parts}
 use Rattle.ent_legal.proofs.Frame.{serial_kept, owned, unowned}
 use Rattle.ent_legal.proofs.Kept.{Kept, history_of, active_at, in_all, one_history}

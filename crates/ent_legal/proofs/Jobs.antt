@@ -8,36 +8,16 @@ use Rattle.ent_closed.specs.Closing.{closed}
 use Rattle.ent_closed.specs.Form.{Tables}
 use Rattle.ent_closed.specs.declared.operand.Known.{Known}
 use Rattle.ent_closed.specs.declared.statement.Statement.{Statement}
-use Rattle.ent_protocol.specs.Job.{Job, Work, One, Joint, Single, Asking, tables_of}
+use Rattle.ent_coordination.specs.Pool.{Posted}
+use Rattle.ent_protocol.specs.Job.{Job, Work, One, Joint, Single, tables_of}
 use Rattle.ent_protocol.specs.Member.{Ordinary, next_in, statement_next, environment_of, is_single_of}
+use Rattle.ent_protocol.specs.PostedBy.{next_same}
 use Rattle.ent_protocol.specs.State.{Submitted, Member, Use}
 use Rattle.ent_protocol.specs.Uses.{statement_uses, entangled_uses}
 use Rattle.ent_lists.specs.Elements.{In, of_all, to_all}
 use Rattle.ent_legal.proofs.Undo.{number_itself}
 use Rattle.ent_legal.proofs.Outcomes.{SameAt, HasRoom}
 use Rattle.ent_legal.proofs.Deeds.{HoldsUses}
-
--- ---- what stands next depends on the place and on what is bound
-
-next_there : (script : Script) (form : List (Statement Known)) (one other : Member) (n : ℕ)
-    → one.bound ≡ other.bound
-    → next_in (Some (record { script = script; form = form })) (record one { place = suc n })
-    ≡ next_in (Some (record { script = script; form = form })) (record other { place = suc n })
-next_there script [] one other n bound = refl
-next_there script (f ∷ fs) one other zero bound =
-    ap (λ b. statement_next (closed (environment_of (record one { bound = b })) f)) bound
-next_there script (f ∷ fs) one other (suc n) bound = next_there script fs one other n bound
-
-next_placed : (own : Submitted) (one other : Member) (n : ℕ) → one.bound ≡ other.bound
-    → next_in (Some own) (record one { place = n }) ≡ next_in (Some own) (record other { place = n })
-next_placed own one other zero bound = refl
-next_placed own one other (suc n) bound = next_there own.script own.form one other n bound
-
-pub next_same : (x : Option Submitted) (one other : Member) → one.place ≡ other.place → one.bound ≡ other.bound
-    → next_in x one ≡ next_in x other
-next_same None one other place bound = refl
-next_same (Some own) one other place bound =
-    (λ i. next_in (Some own) (record one { place = place i })) ∙ next_placed own one other other.place bound
 
 -- ---- jobs
 
@@ -53,16 +33,16 @@ pub record SingleRight (submitted : List Submitted) (active : List Member) (tabl
   pub alike : SameAt (statement_uses single.statement) seen tables
   pub room : HasRoom (statement_uses single.statement) seen
 
-pub record StillAsks (tables seen : Tables) (asking : Asking) (member : Member) : Type 0 where
+pub record StillAsks (tables seen : Tables) (query : Posted) (member : Member) : Type 0 where
   pub posted : member.posted ≡ true
-  pub holds : HoldsUses member (entangled_uses asking.statement)
-  pub alike : SameAt (entangled_uses asking.statement) seen tables
+  pub holds : HoldsUses member (entangled_uses query.statement)
+  pub alike : SameAt (entangled_uses query.statement) seen tables
 
 -- a statement of a joint job: its member still asks, or is past it
-abbrev pub AskingRight : List Member → Tables → Tables → Asking → Type 0
-AskingRight active tables seen asking =
-    (member : Member) → In member active → member.tx ≡ asking.tx
-    → (asking.place ≤ member.place) × (member.place ≡ asking.place → StillAsks tables seen asking member)
+abbrev pub AskingRight : List Member → Tables → Tables → Posted → Type 0
+AskingRight active tables seen query =
+    (member : Member) → In member active → member.tx ≡ query.tx
+    → (query.place ≤ member.place) × (member.place ≡ query.place → StillAsks tables seen query member)
 
 abbrev pub WorkRight : List Submitted → List Member → Tables → Tables → Work → Type 0
 WorkRight submitted active tables seen (One single) = SingleRight submitted active tables seen single
@@ -117,29 +97,29 @@ module _ (submitted : List Submitted) (active next : List Member) (tables new : 
     → (one : Member) × In one active × (Stays tables new one other ⊎ Moves one other))
     (forward : (one : Member) → In one active → one.posted ≡ false → HasSingle left one.tx
     → (other : Member) × In other next × Stays tables new one other × (other.posted ≡ false)) where
-  still : (seen : Tables) (asking : Asking) (one other : Member) → Stays tables new one other
-      → StillAsks tables seen asking one → StillAsks new seen asking other
-  still seen asking one other stays h =
+  still : (seen : Tables) (query : Posted) (one other : Member) → Stays tables new one other
+      → StillAsks tables seen query one → StillAsks new seen query other
+  still seen query one other stays h =
       record {
         posted = stays.posts h.posted;
-        holds = holds_through one other (entangled_uses asking.statement) h.holds stays.holds;
+        holds = holds_through one other (entangled_uses query.statement) h.holds stays.holds;
         alike = λ table used. h.alike table used ∙ stays.alike table ((h.holds table).0 used);
       }
 
-  asking_moved : (seen : Tables) (asking : Asking) → AskingRight active tables seen asking
-      → AskingRight next new seen asking
-  asking_moved seen asking right other at tx =
+  asking_moved : (seen : Tables) (query : Posted) → AskingRight active tables seen query
+      → AskingRight next new seen query
+  asking_moved seen query right other at tx =
       let r = backward other at in
       elim r.2 [
         | inl stays ↦
             let h = right r.0 r.1 (sym stays.tx ∙ tx) in (
-              subst (λ n. asking.place ≤ n) (sym stays.place) h.0,
-              λ here. still seen asking r.0 other stays (h.1 (sym stays.place ∙ here)),
+              subst (λ n. query.place ≤ n) (sym stays.place) h.0,
+              λ here. still seen query r.0 other stays (h.1 (sym stays.place ∙ here)),
             )
         | inr moves ↦
             let h = right r.0 r.1 (sym moves.0 ∙ tx) in (
-              lower asking.place r.0.place other.place h.0 moves.1,
-              λ here. absurd (not_here asking.place r.0.place other.place h.0 moves.1 here),
+              lower query.place r.0.place other.place h.0 moves.1,
+              λ here. absurd (not_here query.place r.0.place other.place h.0 moves.1 here),
             )
       ]
     where
@@ -153,7 +133,7 @@ module _ (submitted : List Submitted) (active next : List Member) (tables new : 
       → WorkRight submitted active tables seen work → WorkRight submitted next new seen work
   work_moved job at seen (Joint asked) is right =
       to_all (AskingRight next new seen) asked
-      (λ asking there. asking_moved seen asking (of_all (AskingRight active tables seen) asked asking right there))
+      (λ query there. asking_moved seen query (of_all (AskingRight active tables seen) asked query right there))
   work_moved job at seen (One single) is right =
       let has : is_single_of right.member.tx job ≡ true =
       ap (λ w. is_single_of right.member.tx (record { work = w; tables = job.tables })) is

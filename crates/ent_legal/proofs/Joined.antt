@@ -21,7 +21,8 @@ use Rattle.ent_closed.specs.declared.operand.Known.{Known}
 use Rattle.ent_closed.specs.declared.statement.Statement.TheVariants as statements
 use Rattle.ent_coordination.specs.Choice.{AreGroundings, all_posts, all_heads}
 use Rattle.ent_meant.specs.Tables.{database_of}
-use Rattle.ent_protocol.specs.Job.{Job, Asking, posted_of}
+use Rattle.ent_coordination.specs.Pool.{Posted}
+use Rattle.ent_protocol.specs.Job.{Job}
 use Rattle.ent_protocol.specs.Member.{next_of, environment_of}
 use Rattle.ent_protocol.specs.PoolEvents.{answered_by, answered_among, joined_label, in_joined_group, joint_members}
 use Rattle.ent_protocol.specs.PoolEvents.{joint_answer}
@@ -53,8 +54,8 @@ use Rattle.ent_legal.proofs.Moved.{posted_joined, jobs_joined}
 use Rattle.ent_legal.proofs.Stands.{IsNext, asking_next, follows_of}
 
 module _ {F : Type 0} (forms : Forms F) (laws : Laws) (s : State) (kept : Kept forms s)
-    (faithful : AreFaithful forms s.opening) (asked : List Asking) (groundings : List Valuation) (seen : Tables)
-    (groups : List ℕ) (good : AreGroundings seen (map posted_of asked) groundings)
+    (faithful : AreFaithful forms s.opening) (asked : List Posted) (groundings : List Valuation) (seen : Tables)
+    (groups : List ℕ) (good : AreGroundings seen asked groundings)
     (present : AllByRecursion (IsPresent s) asked)
     (right : AllByRecursion (AskingRight s.active s.tables seen) asked) where
   abbrev change : Member → Member
@@ -88,7 +89,7 @@ module _ {F : Type 0} (forms : Forms F) (laws : Laws) (s : State) (kept : Kept f
       }
 
   -- the member of a statement of the answer
-  present_of : (m : Member) (a : Asking) → In m s.active → In a asked → m.tx ≡ a.tx
+  present_of : (m : Member) (a : Posted) → In m s.active → In a asked → m.tx ≡ a.tx
       → (p : IsPresent s a) × (p.member ≡ m)
   present_of m a mt at same =
       let p = of_all (IsPresent s) asked a present at in
@@ -98,11 +99,11 @@ module _ {F : Type 0} (forms : Forms F) (laws : Laws) (s : State) (kept : Kept f
   record Answering (x : History) : Type 0 where
     pub answered : IsAnswered s.submitted seen asked groundings x.member
     pub follows : Follows s.submitted x
-    pub next : IsNext forms s x follows (statements.Entangled answered.asking.statement)
-    pub pair : IsPair s.opening.tables next.statement next.form (environment_of x.member) answered.asking.statement
-    pub asks : StillAsks s.tables seen answered.asking x.member
+    pub next : IsNext forms s x follows (statements.Entangled answered.query.statement)
+    pub pair : IsPair s.opening.tables next.statement next.form (environment_of x.member) answered.query.statement
+    pub asks : StillAsks s.tables seen answered.query x.member
     pub is : entered x
-        ≡ with_deed x (in_joined_group groups (answered_by answered.asking answered.values x.member))
+        ≡ with_deed x (in_joined_group groups (answered_by answered.query answered.values x.member))
         (record { statement = next.statement; valuation = answered.values })
 
   deed_is : (x : History) (values : Valuation) (follows : Follows s.submitted x) (st : TreeStatement)
@@ -116,17 +117,17 @@ module _ {F : Type 0} (forms : Forms F) (laws : Laws) (s : State) (kept : Kept f
 
   answering : (x : History) → In x kept.others → IsAnswered s.submitted seen asked groundings x.member → Answering x
   answering x at r =
-      let p = present_of x.member r.asking (active_at forms s kept x at) r.at r.tx in
+      let p = present_of x.member r.query (active_at forms s kept x at) r.at r.tx in
       let follows = follows_of forms laws s kept faithful x at in
-      let next = asking_next forms s kept faithful x follows r.asking.statement
+      let next = asking_next forms s kept faithful x follows r.query.statement
       (ap (next_of s) (sym p.1) ∙ p.0.next) in
-      let still = of_all (AskingRight s.active s.tables seen) asked r.asking right r.at x.member
+      let still = of_all (AskingRight s.active s.tables seen) asked r.query right r.at x.member
       (active_at forms s kept x at) r.tx in
       record {
         answered = r;
         follows = follows;
         next = next;
-        pair = pair_of s.opening.tables next.statement next.form (environment_of x.member) r.asking.statement
+        pair = pair_of s.opening.tables next.statement next.form (environment_of x.member) r.query.statement
             next.faithful.alike next.closes;
         asks = still.1 (ap (λ (m : Member). m.place) (sym p.1) ∙ sym p.0.place);
         is = λ i. record {
@@ -137,7 +138,7 @@ module _ {F : Type 0} (forms : Forms F) (laws : Laws) (s : State) (kept : Kept f
 
   abbrev of_answer : (x : History) → Answering x → History
   of_answer x r =
-      with_deed x (in_joined_group groups (answered_by r.answered.asking r.answered.values x.member))
+      with_deed x (in_joined_group groups (answered_by r.answered.query r.answered.values x.member))
       (record { statement = r.next.statement; valuation = r.answered.values })
 
   holds_next : (x : History) (r : Answering x)
@@ -148,14 +149,14 @@ module _ {F : Type 0} (forms : Forms F) (laws : Laws) (s : State) (kept : Kept f
   replays_pair : (x : History) (r : Answering x) (entangled : TreeEntangled) (form : Entangled Known)
       → IsFaithful s.opening.tables (tree.Entangled entangled) (statements.Entangled form)
       → IsFaithfulEntangled s.opening.tables entangled form
-      → closed_entangled (environment_of x.member) form ≡ r.answered.asking.statement → (before after : Database)
+      → closed_entangled (environment_of x.member) form ≡ r.answered.query.statement → (before after : Database)
       → Agree (held s.opening.tables x.member.uses) (database_of s.opening.tables s.tables) after
       → Replays s.opening.tables x before after
       → Replays s.opening.tables
-      (with_deed x (in_joined_group groups (answered_by r.answered.asking r.answered.values x.member))
+      (with_deed x (in_joined_group groups (answered_by r.answered.query r.answered.values x.member))
       (record { statement = tree.Entangled entangled; valuation = r.answered.values })) before after
   replays_pair x r entangled form faith pair closes before after agree replays =
-      let asks_for = r.answered.asking.statement in
+      let asks_for = r.answered.query.statement in
       let values = r.answered.values in
       let grounds : is_form_grounding (λ value. value) s.tables asks_for values ≡ true =
       sym (grounding_same seen s.tables asks_for values r.asks.alike) ∙ r.answered.grounds in
@@ -164,7 +165,7 @@ module _ {F : Type 0} (forms : Forms F) (laws : Laws) (s : State) (kept : Kept f
       (subst (λ e. is_used (entangled_uses e) (number_of s.opening.tables name) ≡ true) closes
       (faith.reads (environment_of x.member) name used)) in
       replays_pushed s.opening.tables laws x
-      (with_deed x (in_joined_group groups (answered_by r.answered.asking values x.member))
+      (with_deed x (in_joined_group groups (answered_by r.answered.query values x.member))
       (record { statement = tree.Entangled entangled; valuation = values }))
       (record { statement = tree.Entangled entangled; valuation = values }) before after after
       (answers.Heads (form_heads (λ value. value) asks_for values)) refl refl refl
@@ -187,7 +188,7 @@ module _ {F : Type 0} (forms : Forms F) (laws : Laws) (s : State) (kept : Kept f
       subst (IsFaithful s.opening.tables (tree.Entangled pair.entangled)) pair.form_is
       (subst (λ st. IsFaithful s.opening.tables st r.next.form) pair.is r.next.faithful) in
       subst (λ st. Replays s.opening.tables
-      (with_deed x (in_joined_group groups (answered_by r.answered.asking r.answered.values x.member))
+      (with_deed x (in_joined_group groups (answered_by r.answered.query r.answered.values x.member))
       (record { statement = st; valuation = r.answered.values })) before after) (sym pair.is)
       (replays_pair x r pair.entangled pair.form faith pair.faithful pair.closes before after agree replays)
 
@@ -205,7 +206,7 @@ module _ {F : Type 0} (forms : Forms F) (laws : Laws) (s : State) (kept : Kept f
   prepared_left x at =
       elim (answered_or_left s.submitted seen asked groundings x.member good) [
         | inl r ↦
-            let p = of_all (IsPresent s) asked r.asking present r.at in
+            let p = of_all (IsPresent s) asked r.query present r.at in
             let y = history_of forms s kept p.member p.at in
             absurd ((pairs_across Fit kept.prepared kept.others x y.0 kept.sound.fit at y.1).distinct
             (r.tx ∙ p.tx ∙ ap (λ (m : Member). m.tx) y.2))
@@ -247,7 +248,7 @@ module _ {F : Type 0} (forms : Forms F) (laws : Laws) (s : State) (kept : Kept f
   covers_entered x (inl r) covered =
       subst (IsCovered s.opening.tables) (sym r.is)
       (covers_pushed s.opening.tables x
-      (in_joined_group groups (answered_by r.answered.asking r.answered.values x.member)) r.next.statement r.next.form
+      (in_joined_group groups (answered_by r.answered.query r.answered.values x.member)) r.next.statement r.next.form
       r.answered.values r.next.faithful (holds_next x r) refl covered)
   covers_entered x (inr l) covered =
       subst (IsCovered s.opening.tables) (sym (left_is x l))
@@ -277,7 +278,7 @@ module _ {F : Type 0} (forms : Forms F) (laws : Laws) (s : State) (kept : Kept f
       elim (case_of x at) [
         | inl r ↦ subst (Follows s.submitted) (sym r.is)
             (follows_pushed s.submitted x
-            (in_joined_group groups (answered_by r.answered.asking r.answered.values x.member))
+            (in_joined_group groups (answered_by r.answered.query r.answered.values x.member))
             (record { statement = r.next.statement; valuation = r.answered.values }) r.follows refl refl
             (subst (λ st. IsOracled (record { statement = st; valuation = r.answered.values })) (sym r.pair.is) tt)
             r.next.at)
@@ -326,9 +327,9 @@ module _ {F : Type 0} (forms : Forms F) (laws : Laws) (s : State) (kept : Kept f
       let faith : IsFaithful s.opening.tables (tree.Entangled pair.entangled) (statements.Entangled pair.form) =
       subst (IsFaithful s.opening.tables (tree.Entangled pair.entangled)) pair.form_is
       (subst (λ st. IsFaithful s.opening.tables st r.next.form) pair.is r.next.faithful) in
-      asked_length s.opening.tables laws x r.answered.asking.statement r.answered.values pair.entangled pair.form faith
+      asked_length s.opening.tables laws x r.answered.query.statement r.answered.values pair.entangled pair.form faith
       pair.faithful pair.closes s.tables kept.sound.wide
-      (sym (grounding_same seen s.tables r.answered.asking.statement r.answered.values r.asks.alike)
+      (sym (grounding_same seen s.tables r.answered.query.statement r.answered.values r.asks.alike)
       ∙ r.answered.grounds)
 
   -- ---- the joint answer
@@ -348,10 +349,10 @@ module _ {F : Type 0} (forms : Forms F) (laws : Laws) (s : State) (kept : Kept f
   NewAsk ask = (x : History) × In x kept.others × (r : Answering x) × (ask ≡ new_ask x r)
 
   new_member : (x : History) → In x kept.others → (r : Answering x)
-      → ask_member (new_ask x r) ≡ joint_member r.answered.asking r.answered.values
+      → ask_member (new_ask x r) ≡ joint_member r.answered.query r.answered.values
   new_member x at r =
-      let p = present_of x.member r.answered.asking (active_at forms s kept x at) r.answered.at r.answered.tx in
-      let place : suc (length x.deeds) ≡ r.answered.asking.place =
+      let p = present_of x.member r.answered.query (active_at forms s kept x at) r.answered.at r.answered.tx in
+      let place : suc (length x.deeds) ≡ r.answered.query.place =
       sym r.follows.place ∙ ap (λ (m : Member). m.place) (sym p.1) ∙ sym p.0.place in
       λ i. record { tx = r.answered.tx i; place = place i; grounding = r.answered.values }
 
@@ -370,7 +371,7 @@ module _ {F : Type 0} (forms : Forms F) (laws : Laws) (s : State) (kept : Kept f
   asks_left x l = ap history_asks (left_is x l)
 
   -- the one that a statement of the answer is of
-  answering_of : (a : Asking) → In a asked → (x : History) × In x kept.others × (r : Answering x) × (x.member.tx ≡ a.tx)
+  answering_of : (a : Posted) → In a asked → (x : History) × In x kept.others × (r : Answering x) × (x.member.tx ≡ a.tx)
   answering_of a at =
       let p = of_all (IsPresent s) asked a present at in
       let y = history_of forms s kept p.member p.at in
@@ -381,9 +382,9 @@ module _ {F : Type 0} (forms : Forms F) (laws : Laws) (s : State) (kept : Kept f
       ]
 
   module _ (apart : Pairs OtherAsking asked) (some : asked ≡ [] → ⊥)
-      (choice : (post : Fact) → In post (all_posts (map posted_of asked) groundings)
-      → In post (all_heads (map posted_of asked) groundings))
-      (grouped : (a : Asking) → In a asked → (x : History) → In x (kept.prepared ++ kept.others)
+      (choice : (post : Fact) → In post (all_posts asked groundings)
+      → In post (all_heads asked groundings))
+      (grouped : (a : Posted) → In a asked → (x : History) → In x (kept.prepared ++ kept.others)
       → x.member.tx ≡ a.tx → In x.member.group groups) where
     joint_apart : Pairs OtherTx (joint_members asked groundings)
     joint_apart = joint_pairs asked groundings apart
@@ -393,35 +394,35 @@ module _ {F : Type 0} (forms : Forms F) (laws : Laws) (s : State) (kept : Kept f
         → (r : Answering x) → x.member.tx ≡ m.tx → m ≡ ask_member (new_ask x r)
     same_place m mt x at r tx =
         elim (pairs_at OtherTx (λ a b h e. h (sym e)) (joint_members asked groundings) m
-        (joint_member r.answered.asking r.answered.values) joint_apart mt r.answered.in_joint) [
+        (joint_member r.answered.query r.answered.values) joint_apart mt r.answered.in_joint) [
           | inl e ↦ e ∙ sym (new_member x at r)
           | inr differ_so ↦ absurd (differ_so (sym tx ∙ r.answered.tx))
         ]
 
     posts_are : (x : History) (r : Answering x)
-        → ask_posts (new_ask x r) ≡ form_posts (λ value. value) r.answered.asking.statement r.answered.values
+        → ask_posts (new_ask x r) ≡ form_posts (λ value. value) r.answered.query.statement r.answered.values
     posts_are x r =
         r.pair.faithful.demands (environment_of x.member) r.answered.values (long x r)
         ∙ sym (laws.closes_posts (environment_of x.member) r.pair.form r.answered.values)
         ∙ ap (λ e. form_posts (λ value. value) e r.answered.values) r.pair.closes
 
     heads_are : (x : History) (r : Answering x)
-        → ask_heads (new_ask x r) ≡ form_heads (λ value. value) r.answered.asking.statement r.answered.values
+        → ask_heads (new_ask x r) ≡ form_heads (λ value. value) r.answered.query.statement r.answered.values
     heads_are x r =
         r.pair.faithful.offers (environment_of x.member) r.answered.values (long x r)
         ∙ sym (laws.closes_heads (environment_of x.member) r.pair.form r.answered.values)
         ∙ ap (λ e. form_heads (λ value. value) e r.answered.values) r.pair.closes
 
-    same_asking : (a : Asking) → In a asked → (x : History) (r : Answering x) → x.member.tx ≡ a.tx
-        → a ≡ r.answered.asking
+    same_asking : (a : Posted) → In a asked → (x : History) (r : Answering x) → x.member.tx ≡ a.tx
+        → a ≡ r.answered.query
     same_asking a at x r tx =
-        elim (pairs_at OtherAsking (λ u v h e. h (sym e)) asked a r.answered.asking apart at r.answered.at) [
+        elim (pairs_at OtherAsking (λ u v h e. h (sym e)) asked a r.answered.query apart at r.answered.at) [
           | inl e ↦ e
           | inr differ_so ↦ absurd (differ_so (sym tx ∙ r.answered.tx))
         ]
 
     -- what a place of the answer offers is offered by a statement that is answered now
-    offered : (a : Asking) (v : Valuation) → In a asked → In (joint_member a v) (joint_members asked groundings)
+    offered : (a : Posted) (v : Valuation) → In a asked → In (joint_member a v) (joint_members asked groundings)
         → (post : Fact) → In post (form_heads (λ value. value) a.statement v)
         → (other : Ask) × NewAsk other × In (ask_member other) (joint_members asked groundings)
         × In post (ask_heads other)
@@ -436,9 +437,9 @@ module _ {F : Type 0} (forms : Forms F) (laws : Laws) (s : State) (kept : Kept f
               (y.0, y.1, y.2, refl),
               subst (λ n. In n (joint_members asked groundings)) place mt,
               subst (In post) (sym (heads_are y.0 y.2))
-                  (subst (λ w. In post (form_heads (λ value. value) y.2.answered.asking.statement w))
+                  (subst (λ w. In post (form_heads (λ value. value) y.2.answered.query.statement w))
                   (ap (λ (n : JointMember). n.grounding) place)
-                  (subst (λ (z : Asking). In post (form_heads (λ value. value) z.statement v))
+                  (subst (λ (z : Posted). In post (form_heads (λ value. value) z.statement v))
                   (same_asking a at y.0 y.2 y.3) pt)),
             )
 

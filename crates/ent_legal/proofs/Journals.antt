@@ -19,7 +19,7 @@ use Rattle.ent_lists.specs.Elements.{In, Pairs, of_all, to_all, all_first, of_ma
 use Rattle.ent_legal.proofs.Frame.{Laws}
 use Rattle.ent_legal.proofs.Locks.{by_number_same, by_number_pairs}
 use Rattle.ent_legal.proofs.Kept.{Kept, OtherFated, entry_from}
-use Rattle.ent_legal.proofs.Aside.{contains_in, in_contains}
+use Rattle.ent_lists.specs.Elements.{contains_in, in_contains}
 use Rattle.ent_legal.proofs.Books.{numbered_map}
 use Rattle.ent_legal.proofs.Reached.{reached_kept}
 

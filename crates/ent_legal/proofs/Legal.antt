@@ -26,7 +26,7 @@ use Rattle.ent_legal.proofs.Left.{committed_stays}
 use Rattle.ent_legal.proofs.Runs.{everyone, history_member}
 use Rattle.ent_legal.proofs.Asks.{Ask, ask_of, ask_member, ask_heads, history_asks, sights_asks}
 use Rattle.ent_legal.proofs.Joints.{JointsRight, AsksOf, OtherTx, stand_left, members_in, in_members}
-use Rattle.ent_legal.proofs.Aside.{contains_in, in_contains, in_flat}
+use Rattle.ent_lists.specs.Elements.{contains_in, in_contains, in_flat}
 use Rattle.ent_legal.proofs.Books.{turn_of, turns_of, turn_run, turn_sights, committed_whole, run_gives_book}
 use Rattle.ent_legal.proofs.Books.{sights_grounded}
 use Rattle.ent_legal.proofs.Journals.{journal_right, pairs_index}

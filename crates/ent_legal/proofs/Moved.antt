@@ -6,10 +6,10 @@ use Rattle.ent_semantics.specs.Serial.{numbered}
 use Rattle.ent_protocol.specs.Job.{Job}
 use Rattle.ent_protocol.specs.PoolEvents.{in_joined_group}
 use Rattle.ent_protocol.specs.Run.{Forms}
+use Rattle.ent_protocol.specs.PostedBy.{next_same}
 use Rattle.ent_protocol.specs.State.{State, Member}
 use Rattle.ent_lists.specs.Elements.{In, of_all, to_all, of_map, to_map, clash}
 use Rattle.ent_legal.proofs.Jobs.{JobRight, Stays, Moves, jobs_moved, holds_own}
-use Rattle.ent_legal.proofs.Jobs.{next_same}
 use Rattle.ent_legal.proofs.Kept.{Kept, PostedHolds}
 
 module _ {F : Type 0} (forms : Forms F) (s : State) (kept : Kept forms s) (groups : List ℕ) (change : Member → Member)

@@ -18,7 +18,7 @@ use Rattle.ent_legal.specs.Answered.{HasAsked, stands_in, IsAnsweredOnce, Nothin
 use Rattle.ent_legal.specs.Faithful.{AreFaithful}
 use Rattle.ent_legal.specs.History.{History}
 use Rattle.ent_legal.specs.SerialState.{Follows, IsWhole}
-use Rattle.ent_legal.proofs.Aside.{contains_in, in_contains}
+use Rattle.ent_lists.specs.Elements.{contains_in, in_contains}
 use Rattle.ent_legal.proofs.Asks.{Ask, ask_member, asks_at, asks_of, history_asks, next_environment}
 use Rattle.ent_legal.proofs.Frame.{Laws}
 use Rattle.ent_legal.proofs.Joints.{in_members, of_own}

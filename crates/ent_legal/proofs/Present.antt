@@ -1,7 +1,8 @@
 -- What members use, and what lent jobs saw, in a state that is reached.
 use Rattle.std.proofs.Common.{◌≡◌, List, ◌++◌, sym, ap, subst, ◌∙◌, inl, inr}
 use Rattle.std.specs.List.{AllByRecursion}
-use Rattle.ent_protocol.specs.Job.{Job, Single, Asking, One, Joint, tables_of}
+use Rattle.ent_coordination.specs.Pool.{Posted}
+use Rattle.ent_protocol.specs.Job.{Job, Single, One, Joint, tables_of}
 use Rattle.ent_protocol.specs.PoolEvents.{IsPresentComponent}
 use Rattle.ent_protocol.specs.Reached.{IsReached}
 use Rattle.ent_protocol.specs.Run.{Forms}
@@ -15,7 +16,8 @@ use Rattle.ent_legal.proofs.Frame.{Laws, apart_turned}
 use Rattle.ent_legal.proofs.Sound.{AreApart as ApartHistories, Fit, fit_turned}
 use Rattle.ent_legal.proofs.Jobs.{JobRight, WorkRight, SingleRight, AskingRight}
 use Rattle.ent_legal.proofs.Kept.{Kept, history_of}
-use Rattle.ent_legal.proofs.Aside.{contains_in, in_contains, present_all}
+use Rattle.ent_lists.specs.Elements.{contains_in, in_contains}
+use Rattle.ent_legal.proofs.Aside.{present_all}
 use Rattle.ent_legal.proofs.Answered.{IsPresent}
 use Rattle.ent_legal.proofs.Reached.{reached_kept}
 use Rattle.ent_legal.proofs.Runs.{member_history}
@@ -64,15 +66,15 @@ module _ {F : Type 0} (forms : Forms F) (laws : Laws) (s : State) (kept : Kept f
         same = right.alike;
       }
 
-  joint_present : (job : Job) (asked : List Asking) → In job s.lent → job.work ≡ Joint asked
-      → IsPresentComponent s asked → (asking : Asking) → In asking asked
-      → SameWhereUsed (entangled_uses asking.statement) (tables_of job.tables) s.tables
-  joint_present job asked at is component asking there =
+  joint_present : (job : Job) (asked : List Posted) → In job s.lent → job.work ≡ Joint asked
+      → IsPresentComponent s asked → (query : Posted) → In query asked
+      → SameWhereUsed (entangled_uses query.statement) (tables_of job.tables) s.tables
+  joint_present job asked at is component query there =
       let right : AllByRecursion (AskingRight s.active s.tables (tables_of job.tables)) asked =
       subst (WorkRight s.submitted s.active s.tables (tables_of job.tables)) is
       (of_all (JobRight s.submitted s.active s.tables) s.lent job kept.jobs at) in
-      let p = of_all (IsPresent s) asked asking (present_all s asked component) there in
-      let still = of_all (AskingRight s.active s.tables (tables_of job.tables)) asked asking right there p.member p.at
+      let p = of_all (IsPresent s) asked query (present_all s asked component) there in
+      let still = of_all (AskingRight s.active s.tables (tables_of job.tables)) asked query right there p.member p.at
       (sym p.tx) in
       (still.1 (sym p.place)).alike
 
@@ -94,7 +96,7 @@ reached_present forms laws s faithful reached =
     let kept = reached_kept forms laws s faithful reached in
     record {
       single = λ job single at is. single_present forms laws s kept job single (contains_in s.lent job at) is;
-      joint = λ job asked at is component asking there.
-          joint_present forms laws s kept job asked (contains_in s.lent job at) is component asking
-          (contains_in asked asking there);
+      joint = λ job asked at is component query there.
+          joint_present forms laws s kept job asked (contains_in s.lent job at) is component query
+          (contains_in asked query there);
     }

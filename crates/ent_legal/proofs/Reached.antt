@@ -11,14 +11,15 @@ use Rattle.ent_closed.specs.declared.entangled.Entangled.{Entangled}
 use Rattle.ent_closed.specs.declared.operand.Known.{Known}
 use Rattle.ent_closed.specs.declared.statement.Statement.{Statement}
 use Rattle.ent_coordination.specs.Choice.{IsChoice, IsLeastChoiceIfAny, all_heads, all_posts}
+use Rattle.ent_coordination.specs.Pool.{Posted}
 use Rattle.ent_protocol.specs.Begin.{BeginsOrdinary, Posts, BeginsEntangled, BeginsCommit, BeginsNext, BeginsUnless}
 use Rattle.ent_protocol.specs.Begin.{BeginsMember}
 use Rattle.ent_protocol.specs.Commit.{preparing, is_ready}
 use Rattle.ent_protocol.specs.Event.{Event, Reply}
 use Rattle.ent_protocol.specs.Event as events
 use Rattle.ent_protocol.specs.Finish.{FinishesBy, Finishes, FinishesSingle, IsTaken, finished}
-use Rattle.ent_protocol.specs.Job.{Job, Work, One, Joint, Asking, Done, Single, Outcome, Shown, Changed, Bound}
-use Rattle.ent_protocol.specs.Job.{Choice, Fault, IsOutcome, IsEffect, tables_of, posted_of}
+use Rattle.ent_protocol.specs.Job.{Job, Work, One, Joint, Done, Single, Outcome, Shown, Changed, Bound}
+use Rattle.ent_protocol.specs.Job.{Choice, Fault, IsOutcome, IsEffect, tables_of}
 use Rattle.ent_protocol.specs.Member.{Next, Ordinary, Asks, Commits, RollsBack, active_member, next_of, is_lent}
 use Rattle.ent_protocol.specs.Member.{is_of, is_tx, is_single_of, environment_of}
 use Rattle.ent_protocol.specs.PoolEvents.{Picks, AnswersBy, Joins, JoinsOrIsStale, IsPresentComponent}
@@ -42,7 +43,8 @@ use Rattle.ent_legal.proofs.Stands.{lends, posts, prepares}
 use Rattle.ent_legal.proofs.Left.{commits}
 use Rattle.ent_legal.proofs.Finished.{finishes_by}
 use Rattle.ent_legal.proofs.Joined.{joins}
-use Rattle.ent_legal.proofs.Aside.{with_jobs, picks, present_all, component_on, contains_in, in_contains}
+use Rattle.ent_lists.specs.Elements.{contains_in, in_contains}
+use Rattle.ent_legal.proofs.Aside.{with_jobs, picks, present_all, component_on}
 use Rattle.ent_legal.proofs.Aside.{askings_apart, askings_some, groups_answered}
 use Rattle.ent_legal.proofs.Runs.{submits, starts, rolls_back, ends, kept_opened}
 
@@ -223,10 +225,10 @@ module _ {F : Type 0} (forms : Forms F) (laws : Laws) where
 
   -- ---- joint answers
 
-  answers_by : (s : State) (asked : List Asking) (groundings : Option (List Valuation)) (seen : Tables)
+  answers_by : (s : State) (asked : List Posted) (groundings : Option (List Valuation)) (seen : Tables)
       (left : List Job) (reply : Reply F) (new : State)
       → AnswersBy (record s { lent = left }) asked groundings reply new
-      → ((values : List Valuation) → groundings ≡ Some values → IsChoice seen (map posted_of asked) values)
+      → ((values : List Valuation) → groundings ≡ Some values → IsChoice seen asked values)
       → Kept forms s → AreFaithful forms s.opening → IsPresentComponent s asked
       → AllByRecursion (AskingRight s.active s.tables seen) asked
       → ((job : Job) → In job left → In job s.lent) → Pairs OtherJob left → Kept forms new
@@ -236,8 +238,8 @@ module _ {F : Type 0} (forms : Forms F) (laws : Laws) where
       (chosen values refl).grounded (present_all s asked component) right (askings_apart s asked component)
       (askings_some s asked component)
       (λ post at.
-      contains_in (all_heads (map posted_of asked) values) post
-      ((chosen values refl).met post (in_contains (all_posts (map posted_of asked) values) post at)))
+      contains_in (all_heads asked values) post
+      ((chosen values refl).met post (in_contains (all_posts asked values) post at)))
       (λ a at x xt same. groups_answered forms s kept asked a at x xt same) left fewer
       apart (component_on forms s kept asked component))
   answers_by s asked None seen left reply new step chosen kept faithful component right fewer apart =
@@ -256,7 +258,7 @@ module _ {F : Type 0} (forms : Forms F) (laws : Laws) where
       subst (λ w. IsOutcome w (tables_of done.job.tables) (Choice step.groundings)) out.is_joint
       (subst (IsOutcome done.job.work (tables_of done.job.tables)) step.choice step.meant) in
       answers_by s out.asked step.groundings (tables_of done.job.tables) out.left reply new step.answers
-      (λ values is. (subst (λ g. IsLeastChoiceIfAny (tables_of done.job.tables) (map posted_of out.asked) g) is
+      (λ values is. (subst (λ g. IsLeastChoiceIfAny (tables_of done.job.tables) out.asked g) is
       chosen).choice)
       kept faithful out.component right (taken_fewer done.job s.lent out.left out.taken)
       (taken_apart done.job s.lent out.left out.taken kept.jobs_apart)

@@ -11,7 +11,7 @@ use Rattle.ent_legal.specs.SerialState.{IsSerialState}
 use Rattle.ent_legal.proofs.Frame.{Laws}
 use Rattle.ent_lists.specs.Elements.{pairs_by}
 use Rattle.ent_legal.proofs.Kept.{Kept, member_of}
-use Rattle.ent_legal.proofs.Aside.{contains_in, in_contains}
+use Rattle.ent_lists.specs.Elements.{contains_in, in_contains}
 use Rattle.ent_legal.proofs.Journals.{pairs_index}
 use Rattle.ent_legal.proofs.Reached.{reached_kept}
 use Rattle.ent_legal.proofs.Sound.{Fit}

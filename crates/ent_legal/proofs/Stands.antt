@@ -16,6 +16,7 @@ use Rattle.ent_protocol.specs.Job.{Job, Work, One, Joint}
 use Rattle.ent_protocol.specs.Member.{Ordinary, Asks, Commits, next_in, next_of, statement_next, environment_of}
 use Rattle.ent_protocol.specs.Member.{is_single_of, is_lent, is_tx}
 use Rattle.ent_protocol.specs.Run.{Forms}
+use Rattle.ent_protocol.specs.PostedBy.{next_same}
 use Rattle.ent_protocol.specs.State.{State, Member}
 use Rattle.ent_protocol.specs.Uses.{statement_uses, entangled_uses, blocker}
 use Rattle.ent_legal.specs.Faithful.{is_used, IsFaithful, AreFaithful}
@@ -31,7 +32,7 @@ use Rattle.ent_legal.proofs.Outcomes.{seen_same, seen_room}
 use Rattle.ent_legal.proofs.Deeds.{HoldsUses}
 use Rattle.ent_legal.proofs.Scripts.{next_ordinary, next_asking, next_committing, turn_at, turn_end, take_whole}
 use Rattle.ent_legal.proofs.Locks.{holds_asked}
-use Rattle.ent_legal.proofs.Jobs.{JobRight, SingleRight, OtherJob, OtherWork, jobs_moved, stays_as_is, next_same}
+use Rattle.ent_legal.proofs.Jobs.{JobRight, SingleRight, OtherJob, OtherWork, jobs_moved, stays_as_is}
 use Rattle.ent_legal.proofs.Joints.{stand_moved, unchanged}
 use Rattle.ent_legal.proofs.Kept.{Kept, one_history, in_all, OtherMember, PostedHolds, member_of, history_of}
 use Rattle.ent_legal.proofs.Kept.{active_at}

@@ -2,7 +2,8 @@
 use Rattle.std.specs.Prelude.{◌≡◌, ◌≢◌, ℕ, true, false, List, Contains, slice_index_or}
 use Rattle.ent_set.specs.Sets as set
 use Rattle.ent_closed.specs.Form.{Tables}
-use Rattle.ent_protocol.specs.Job.{Job, Single, Asking, One, Joint, tables_of}
+use Rattle.ent_coordination.specs.Pool.{Posted}
+use Rattle.ent_protocol.specs.Job.{Job, Single, One, Joint, tables_of}
 use Rattle.ent_protocol.specs.Member.{Ordinary, next_of}
 use Rattle.ent_protocol.specs.PoolEvents.{IsPresentComponent}
 use Rattle.ent_protocol.specs.State.{State, Member, Use, members}
@@ -41,6 +42,6 @@ pub record LentIsPresent (s : State) : Type 0 where
   pub single : (job : Job) (single : Single) → Contains s.lent job → job.work ≡ One single
       → IsPresentSingle s job single
   -- a joint job whose members are exactly a component: the tables that they use are the present ones
-  pub joint : (job : Job) (asked : List Asking) → Contains s.lent job → job.work ≡ Joint asked
-      → IsPresentComponent s asked → (asking : Asking) → Contains asked asking
-      → SameWhereUsed (entangled_uses asking.statement) (tables_of job.tables) s.tables
+  pub joint : (job : Job) (asked : List Posted) → Contains s.lent job → job.work ≡ Joint asked
+      → IsPresentComponent s asked → (query : Posted) → Contains asked query
+      → SameWhereUsed (entangled_uses query.statement) (tables_of job.tables) s.tables

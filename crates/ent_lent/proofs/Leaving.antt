@@ -18,7 +18,7 @@ goes : (gone : List Member) (work : Work) (tables : List Seen)
     → goes_with_any (numbers_of gone) (record { work = work; tables = tables })
     ≡ goes_with gone (record { work = work; tables = tables })
 goes gone (One single) tables = among_numbers gone single.tx
-goes gone (Joint askings) tables = refl
+goes gone (Joint posted) tables = refl
 
 pub left_with : (gone : List Member) (jobs : List Job)
     → filter (λ job. not (goes_with_any (numbers_of gone) job)) jobs ≡ filter (λ job. not (goes_with gone job)) jobs

@@ -1,18 +1,17 @@
 //! The list of lent jobs.
-ghost use Rattle.std.specs.Prelude.{◌≡◌, ◌↔◌, ◌<◌, ◌++◌, ◌∷◌, [], ◌==◌, List, Some, length, map, filter, not};
-ghost use Rattle.std.specs.Prelude.{Contains, IfSome, IsNone, IsTrue, OnErr, OnOk, slice_get};
+ghost use Rattle.std.specs.Prelude.{◌≡◌, ◌<◌, ◌++◌, ◌∷◌, [], ◌==◌, List, Some, length, map, filter, not};
+ghost use Rattle.std.specs.Prelude.{Contains, IfSome, IsNone, OnErr, OnOk, slice_get};
 ghost use Rattle.std.specs.List.{list_any};
-ghost use Rattle.ent_lent.specs.Lent.{HasJointOf, goes_with_any};
+ghost use Rattle.ent_lent.specs.Lent.{goes_with_any};
 ghost use Rattle.ent_protocol.specs.Finish.{IsTaken};
 ghost use Rattle.ent_protocol.specs.Job.{Job as Seen};
 ghost use Rattle.ent_protocol.specs.Member.{is_lent, is_single_of};
-ghost use Rattle.ent_protocol.specs.PoolEvents.{IsOut};
 ghost use Rattle.ent_protocol.specs.Rollback.{goes_with};
 ghost use Rattle.ent_protocol.specs.State.{Member, State};
 
 use crate::list;
 use ent_group::{Members, Tx};
-use ent_job::{Asking, Job};
+use ent_job::Job;
 use std::alloc::{AllocError, Global};
 use std::marker::Model;
 
@@ -87,14 +86,6 @@ impl LentJobs {
         ensures state { (s : State) → s.lent ≡ self.now → result ≡ is_lent s tx }
     {
         list::is_lent(self.jobs.as_slice(), tx)
-    }
-
-    /// Whether a job of exactly these posted statements is lent.
-    pub fn is_joint_out(&self, asked: &[Asking]) -> bool
-        ensures list { IsTrue result ↔ HasJointOf self.now asked.now }
-        ensures state { (s : State) → s.lent ≡ self.now → IsTrue result ↔ IsOut s asked.now }
-    {
-        list::has_joint_of(self.jobs.as_slice(), asked)
     }
 
     /// Where a job stands in the list, counted from 0; None where it isn't lent. Jobs are compared in everything,

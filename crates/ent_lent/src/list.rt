@@ -1,33 +1,21 @@
 //! Lists of jobs.
-ghost use Rattle.std.specs.Prelude.{◌≡◌, ◌↔◌, ◌<◌, Some, filter, length, not, slice_get};
-ghost use Rattle.std.specs.Prelude.{Contains, IfSome, IsNone, IsTrue};
+ghost use Rattle.std.specs.Prelude.{◌≡◌, ◌<◌, Some, filter, length, not, slice_get};
+ghost use Rattle.std.specs.Prelude.{Contains, IfSome, IsNone};
 ghost use Rattle.std.specs.List.{list_any};
-ghost use Rattle.ent_lent.specs.Lent.{HasJointOf, goes_with_any};
+ghost use Rattle.ent_lent.specs.Lent.{goes_with_any};
 ghost use Rattle.ent_protocol.specs.Finish.{IsTaken};
 ghost use Rattle.ent_protocol.specs.Job.{Job as Seen};
 ghost use Rattle.ent_protocol.specs.Member.{is_single_of};
 
-use crate::job::{goes_with, is_joint_of, is_single_of};
+use crate::job::{goes_with, is_single_of};
 use ent_group::{Members, Tx};
-use ent_job::{Asking, Job};
+use ent_job::Job;
 
 /// Whether a job of one statement of a transaction is among them.
 pub(crate) fn is_lent(jobs: &[Job], tx: Tx) -> bool
     ensures { result ≡ list_any (is_single_of tx) jobs.now }
 {
     jobs.iter().any(|job| is_single_of(job, tx))
-}
-
-/// Whether a job of exactly these posted statements is among them.
-pub(crate) fn has_joint_of(jobs: &[Job], asked: &[Asking]) -> bool
-    ensures { IsTrue result ↔ HasJointOf jobs.now asked.now }
-{
-    for job in jobs {
-        if is_joint_of(job, asked) {
-            return true;
-        }
-    }
-    false
 }
 
 /// The index of the first job that is the same as another.

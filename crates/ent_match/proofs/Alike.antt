@@ -12,8 +12,8 @@ pub alike_safe : (pool other : List Posted) → SameStatements pool other → Is
 alike_safe pool other alike safe = λ asker first second index asks offers too meets meets_too.
     safe asker first second index ((alike asker).1 asks) ((alike first).1 offers) ((alike second).1 too) meets meets_too
 
-alike_head : (pool other : List Posted) (tx index owner : ℕ) → SameStatements pool other → HasHeadFor pool tx index owner
-    → HasHeadFor other tx index owner
+alike_head : (pool other : List Posted) (tx index owner : ℕ) → SameStatements pool other
+    → HasHeadFor pool tx index owner → HasHeadFor other tx index owner
 alike_head pool other tx index owner alike has =
     record {
       asker = has.asker;
@@ -33,8 +33,8 @@ alike_unsafe pool other fault alike is = (
   alike_head pool other fault.asker fault.index fault.second alike is.2,
 )
 
-pub alike_first_unsafe : (pool other : List Posted) (fault : Unsafe) → SameStatements pool other → IsFirstUnsafe pool fault
-    → IsFirstUnsafe other fault
+pub alike_first_unsafe : (pool other : List Posted) (fault : Unsafe) → SameStatements pool other
+    → IsFirstUnsafe pool fault → IsFirstUnsafe other fault
 alike_first_unsafe pool other fault alike is = (
   alike_unsafe pool other fault alike is.0,
   λ another unsafe. is.1 another (alike_unsafe other pool another (turned pool other alike) unsafe),

@@ -1,5 +1,5 @@
 -- The first statement of each class, where classes are looked for from the first place on.
-use Rattle.std.proofs.Common.{◌≡◌, ℕ, zero, suc, ◌<◌, ◌≤◌, Bool, true, false, List, [], ◌∷◌, map, refl, sym, ap, subst}
+use Rattle.std.proofs.Common.{◌≡◌, ℕ, zero, suc, ◌<◌, ◌≤◌, Bool, true, false, List, [], ◌∷◌, refl, sym, ap, subst}
 use Rattle.std.proofs.Common.{◌∙◌, arith, inl, inr, length, true≢false}
 use Rattle.std.specs.Prelude.{Contains}
 use Rattle.ent_coordination.specs.Component.{AreJoined}
@@ -17,7 +17,7 @@ some_at (m ∷ pool) (suc n) below = let r = some_at pool n (omega arith) in (r.
 -- of statements at marked places the one at the least place is the first
 pub first_is : (marks : List Bool) (pool : List Posted) (n : ℕ) (a : Posted) → At pool n a → IsMarked marks n
     → ((p : ℕ) → IsMarked marks p → n ≤ p)
-    → first_of (map (λ (member : Posted). member.tx) (marked_in marks pool)) ≡ a.tx
+    → first_of (marked_in marks pool) ≡ a.tx
 first_is [] pool n a at marked least = absurd (true≢false (sym marked))
 first_is (b ∷ marks) [] n a (below, is) marked least = absurd (omega arith)
 first_is (true ∷ marks) (m ∷ pool) zero a (below, is) marked least = ap (λ (z : Posted). z.tx) is

@@ -1,10 +1,10 @@
 -- Joins of statements that remain, and the classes to which they lead.
 use Rattle.std.proofs.Common.{◌≡◌, ◌≢◌, ◌⊎◌, ℕ, zero, suc, ◌+◌, ◌<◌, Bool, true, false, List, [], ◌∷◌, ◌++◌}
-use Rattle.std.proofs.Common.{take, set, map, length, get_or, refl, sym, ◌∙◌, ap, subst, arith, inl, inr, true≢false}
+use Rattle.std.proofs.Common.{take, set, length, get_or, refl, sym, ◌∙◌, ap, subst, arith, inl, inr, true≢false}
 use Rattle.std.proofs.Common.{All}
 use Rattle.std.specs.Prelude.{Contains}
 use Rattle.std.proofs.lemmas.Bool.{cases_lt, cases_Bool}
-use Rattle.std.proofs.lemmas.List.{get_or-set_same, get_or-set_other, get_or_default, map-append, take_more}
+use Rattle.std.proofs.lemmas.List.{get_or-set_same, get_or-set_other, get_or_default, take_more}
 use Rattle.std.proofs.lemmas.List.Elements.{Contains-push_cases, Contains-push, Contains-append_left}
 use Rattle.std.proofs.lemmas.List.Kept.{AllPairs-cons}
 use Rattle.ent_coordination.specs.Component.{IsComponent, IsInRemainder, AreJoined, AreLinked}
@@ -248,18 +248,6 @@ seen_more old cur marks i within here seen kept added = (
           | inl same ↦ subst (IsMarked (set cur i true)) same (get_or-set_same cur i true false within)
           | inr other ↦ get_or-set_other cur i k true false other ∙ marked
         ]
-
--- the transactions of the class, one more
-pub class_pushed : (marks : List Bool) (pool : List Posted) (i : ℕ) (o : Posted) → length marks ≡ length pool
-    → i < length pool
-    → o ≡ get_or pool i o → get_or marks i false ≡ true → (old new : List ℕ) (tx : ℕ)
-    → old ≡ map (λ (m : Posted). m.tx) (marked_in (take i marks) (take i pool)) → tx ≡ o.tx → new ≡ old ++ tx ∷ []
-    → new ≡ map (λ (m : Posted). m.tx) (marked_in (take (i + 1) marks) (take (i + 1) pool))
-class_pushed marks pool i o room below is marked old new tx so_far of pushed =
-    pushed ∙ (ap (λ xs. xs ++ tx ∷ []) so_far
-    ∙ (ap (λ t. map (λ (m : Posted). m.tx) (marked_in (take i marks) (take i pool)) ++ t ∷ []) of
-    ∙ (sym (map-append (λ (m : Posted). m.tx) (marked_in (take i marks) (take i pool)) (o ∷ []))
-    ∙ ap (map (λ (m : Posted). m.tx)) (sym (class_more marks pool i o room below is marked)))))
 
 -- ---- a class is a component
 

@@ -1,7 +1,7 @@
 -- The list of classes, and what a pool's links say of its remainder.
 use Rattle.std.proofs.Common.{◌≡◌, ℕ, zero, suc, ◌+◌, ◌<◌, ◌≤◌, Bool, true, false, not, cond, List, [], ◌∷◌}
 use Rattle.std.proofs.Common.{◌++◌}
-use Rattle.std.proofs.Common.{map, length, get_or, refl, sym, ◌∙◌, ap, subst, arith, inl, inr, true≢false}
+use Rattle.std.proofs.Common.{length, get_or, refl, sym, ◌∙◌, ap, subst, arith, inl, inr, true≢false}
 use Rattle.std.proofs.Common.{Vec, Global}
 use Rattle.std.specs.Prelude.{AllPairs, Contains, IfOk, Result, Ok, Err, ◌==◌, ◌≢◌, if◌then◌else◌}
 use Rattle.std.proofs.lemmas.Bool.{cases_lt, cases_Bool, eq-eqb, eqb-true}
@@ -16,27 +16,25 @@ use Rattle.ent_match.specs.Fault.{IsByNumber}
 use Rattle.ent_match.specs.Links.{Closed, IsMarked, PathIn, Closes}
 use Rattle.ent_match.specs.Remainder.{At, HasOffers, IsAsked, IsStart}
 use Rattle.ent_match.specs.Components.{flipped, AreJoinsOf, marked_in, IsClassAt, AreLinkedBy, AreComponents}
-use Rattle.ent_match.specs.Components.{AscendByFirst, first_of, lists_in}
+use Rattle.ent_match.specs.Components.{AscendByFirst, first_of}
 use Rattle.ent_match.proofs.Numbered.{at_place, same_member}
 use Rattle.ent_match.proofs.Firsts.{first_is, marked_before, removed_closed}
 use Rattle.ent_match.proofs.Offered.{one_place}
 use Rattle.ent_match.proofs.Joins.{class_component, at_marked}
-use Rattle.ent_match.proofs.Placed.{contains_cases}
 
 -- ---- the list of classes
 
 -- what is listed of the statements so far
 pub record AreListed (pool : List Posted) (joins : List Link) (removed seen : List Bool) (n : ℕ)
-    (lists : List (List ℕ)) : Type 0 where
+    (lists : List (List Posted)) : Type 0 where
   pub room : length seen ≡ length removed
   pub so_far : (p : ℕ) → p < n → IsMarked seen p
   pub removed_seen : (p : ℕ) → IsMarked removed p → IsMarked seen p
   pub closed : Closed joins seen
-  pub exact : (list : List ℕ) → Contains lists list
-      → (members : List Posted) × IsComponent pool members × (list ≡ map (λ (member : Posted). member.tx) members)
+  pub exact : (list : List Posted) → Contains lists list → IsComponent pool list
   pub covers : (p : ℕ) (member : Posted) → At pool p member → IsMarked seen p → get_or removed p false ≡ false
-      → (list : List ℕ) × Contains lists list × Contains list member.tx
-  pub begins : (list : List ℕ) → Contains lists list
+      → (list : List Posted) × Contains lists list × Contains list member
+  pub begins : (list : List Posted) → Contains lists list
       → (p : ℕ) × (first : Posted) × (p < n) × At pool p first × (first_of list ≡ first.tx)
   pub ascending : AscendByFirst lists
 
@@ -54,8 +52,9 @@ none_listed pool joins removed s =
       ascending = λ i j d less below. absurd (omega arith);
     }
 
-pub listed_same : (pool : List Posted) (joins : List Link) (removed seen : List Bool) (n : ℕ) (lists : List (List ℕ))
-    → IsMarked seen n → AreListed pool joins removed seen n lists → AreListed pool joins removed seen (n + 1) lists
+pub listed_same : (pool : List Posted) (joins : List Link) (removed seen : List Bool) (n : ℕ)
+    (lists : List (List Posted)) → IsMarked seen n → AreListed pool joins removed seen n lists
+    → AreListed pool joins removed seen (n + 1) lists
 listed_same pool joins removed seen n lists here are =
     record {
       room = are.room;
@@ -74,21 +73,12 @@ listed_same pool joins removed seen n lists here are =
       ascending = are.ascending;
     }
 
-contains_tx : (members : List Posted) (m : Posted) → Contains members m
-    → Contains (map (λ (x : Posted). x.tx) members) m.tx
-contains_tx [] m (k, below, is) = absurd (omega arith)
-contains_tx (x ∷ members) m inside =
-    elim (contains_cases x members m inside) [
-      | inl is ↦ (0, omega arith, ap (λ (z : Posted). z.tx) is)
-      | inr later ↦ (let r = contains_tx members m later in (suc r.0, (let l = r.1 in omega arith), r.2))
-    ]
-
 not_marked : (marks : List Bool) (k : ℕ) → (IsMarked marks k → ⊥) → get_or marks k false ≡ false
 not_marked marks k h =
     elim (cases_Bool (get_or marks k false)) [ inl marked ↦ absurd (h marked) | inr unmarked ↦ unmarked ]
 
 module _ (pool : List Posted) (joins : List Link) (removed seen new : List Bool) (n : ℕ) (a : Posted)
-    (lists fresh : List (List ℕ)) (class : List ℕ) (s : AreLinkedBy pool joins removed) (at : At pool n a)
+    (lists fresh : List (List Posted)) (class : List Posted) (s : AreLinkedBy pool joins removed) (at : At pool n a)
     (unseen : get_or seen n false ≡ false) (is_class : IsClassAt pool joins n seen new class)
     (pushed : fresh ≡ lists ++ class ∷ []) (are : AreListed pool joins removed seen n lists) where
   here_remains : get_or removed n false ≡ false
@@ -112,7 +102,7 @@ module _ (pool : List Posted) (joins : List Link) (removed seen new : List Bool)
   class_begins : first_of class ≡ a.tx
   class_begins = ap first_of is_class.class_is ∙ first_is is_class.marks pool n a at is_class.here none_before
 
-  begins_before : (list : List ℕ) → Contains lists list → first_of list < first_of class
+  begins_before : (list : List Posted) → Contains lists list → first_of list < first_of class
   begins_before list inside =
       let b = are.begins list inside in
       let p : At pool b.0 b.1 = b.3 in
@@ -150,7 +140,7 @@ module _ (pool : List Posted) (joins : List Link) (removed seen new : List Bool)
     exact = λ list inside.
         elim (Contains-push_cases lists class list (subst (λ xs. Contains xs list) pushed inside)) [
           | inl old ↦ are.exact list old
-          | inr last ↦ (marked_in is_class.marks pool, component, sym last ∙ is_class.class_is)
+          | inr last ↦ subst (IsComponent pool) (sym is_class.class_is ∙ last) component
         ];
     covers = λ p member at_p marked remains. elim (is_class.seen p marked) [
       | inl old ↦
@@ -158,10 +148,9 @@ module _ (pool : List Posted) (joins : List Link) (removed seen new : List Bool)
           (r.0, subst (λ xs. Contains xs r.0) (sym pushed) (Contains-append_left lists (class ∷ []) r.0 r.1), r.2)
       | inr reached ↦ (
         class,
-        subst (λ xs. Contains {X = List ℕ} xs class) (sym pushed) (Contains-push lists class),
-        subst (λ xs. Contains xs member.tx) (sym is_class.class_is)
-            (contains_tx (marked_in is_class.marks pool) member
-            (at_marked is_class.marks pool member p at_p reached)),
+        subst (λ xs. Contains {X = List Posted} xs class) (sym pushed) (Contains-push lists class),
+        subst (λ xs. Contains xs member) (sym is_class.class_is)
+            (at_marked is_class.marks pool member p at_p reached),
       )
     ];
     begins = λ list inside.
@@ -173,13 +162,13 @@ module _ (pool : List Posted) (joins : List Link) (removed seen new : List Bool)
           | inr last ↦ (n, a, omega arith, at, ap first_of (sym last) ∙ class_begins)
         ];
     ascending = subst AscendByFirst (sym pushed)
-        (all_pairs_push (λ (one other : List ℕ). first_of one < first_of other) lists class are.ascending
+        (all_pairs_push (λ (one other : List Posted). first_of one < first_of other) lists class are.ascending
         (λ k d below. begins_before (get_or lists k d) (Contains-get_or lists k d below)));
   }
 
-pub all_listed : (pool : List Posted) (joins : List Link) (removed seen : List Bool) (n : ℕ) (lists : List (List ℕ))
-    → AreLinkedBy pool joins removed → length pool ≤ n → AreListed pool joins removed seen n lists
-    → AreComponents pool lists
+pub all_listed : (pool : List Posted) (joins : List Link) (removed seen : List Bool) (n : ℕ)
+    (lists : List (List Posted)) → AreLinkedBy pool joins removed → length pool ≤ n
+    → AreListed pool joins removed seen n lists → AreComponents pool lists
 all_listed pool joins removed seen n lists s all are =
     record {
       exact = are.exact;
@@ -191,14 +180,13 @@ all_listed pool joins removed seen n lists s all are =
     }
 
 -- lists in the order of their first transactions are different ones
-pub different : (lists : List (List ℕ)) → AscendByFirst lists → AllPairs ◌≢◌ lists
+pub different : (lists : List (List Posted)) → AscendByFirst lists → AllPairs ◌≢◌ lists
 different lists ascending i j d less below =
     λ same. let apart = ascending i j d less below in let e = ap first_of same in omega arith
 
-pub different_if : {E : Type 0} (result : Result (Vec (Vec ℕ Global) Global) E)
-    → IfOk result (λ lists. AscendByFirst (lists_in lists.items))
-    → IfOk result (λ lists. AllPairs ◌≢◌ (lists_in lists.items))
-different_if (Ok lists) ascending = different (lists_in lists.items) ascending
+pub different_if : {E : Type 0} (result : Result (Vec (List Posted) Global) E)
+    → IfOk result (λ lists. AscendByFirst lists.items) → IfOk result (λ lists. AllPairs ◌≢◌ lists.items)
+different_if (Ok lists) ascending = different lists.items ascending
 different_if (Err e) ascending = tt
 
 -- ---- the remainder

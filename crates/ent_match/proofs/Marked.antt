@@ -139,7 +139,8 @@ pub record AreGoneFrom (pool : List Posted) (place : ℕ) (marks done : List Boo
   pub least : AreLeast pool place marks
 
 pub gone_from : (pool : List Posted) (place next : ℕ) (marks done new : List Bool) → IsMarked marks next
-    → AreGoneFrom pool place marks done → AreMarkedFrom pool next marks new → AreGoneFrom pool place new (set done next true)
+    → AreGoneFrom pool place marks done → AreMarkedFrom pool next marks new
+    → AreGoneFrom pool place new (set done next true)
 gone_from pool place next marks done new from so_far round =
     record {
       room = round.room ∙ so_far.room;

@@ -1,7 +1,6 @@
 -- Components by their places.
-use Rattle.std.specs.Prelude.{◌≡◌, ◌<◌, ◌⊎◌, ℕ, Bool, true, false, List, [], ◌∷◌, length, map, AllPairs, Contains}
+use Rattle.std.specs.Prelude.{◌≡◌, ◌<◌, ◌⊎◌, ℕ, Bool, true, false, List, [], ◌∷◌, length, AllPairs, Contains}
 use Rattle.std.specs.Prelude.{slice_index_or}
-use Rattle.std.proofs.Common.{Vec, Global}
 use Rattle.ent_coordination.specs.Component.{IsComponent, IsInRemainder, AreJoined}
 use Rattle.ent_coordination.specs.Pool.{Posted}
 use Rattle.ent_match.specs.Fault.{IsByNumber}
@@ -35,13 +34,13 @@ marked_in (true ∷ marks) (member ∷ pool) = member ∷ marked_in marks pool
 marked_in (false ∷ marks) (member ∷ pool) = marked_in marks pool
 
 -- the statements to which joins lead from one place
-pub record IsClassAt (pool : List Posted) (joins : List Link) (place : ℕ) (old new : List Bool) (class : List ℕ) :
-    Type 0 where
+pub record IsClassAt (pool : List Posted) (joins : List Link) (place : ℕ) (old new : List Bool)
+    (class : List Posted) : Type 0 where
   pub marks : List Bool
   pub here : IsMarked marks place
   pub reached : (last : ℕ) → IsMarked marks last → (n : ℕ) × PathIn joins n place last
   pub closed : Closed joins marks
-  pub class_is : class ≡ map (λ (member : Posted). member.tx) (marked_in marks pool)
+  pub class_is : class ≡ marked_in marks pool
   pub room : length new ≡ length old
   pub seen : (last : ℕ) → IsMarked new last → IsMarked old last ⊎ IsMarked marks last
   pub kept : (last : ℕ) → IsMarked old last → IsMarked new last
@@ -63,21 +62,17 @@ pub record AreLinkedBy (pool : List Posted) (joins : List Link) (removed : List 
       → slice_index_or removed p false ≡ false → slice_index_or removed q false ≡ false
       → Contains joins (record { from = p; to = q })
 
--- the lists of transactions
-abbrev pub lists_in : List (Vec ℕ Global) → List (List ℕ)
-lists_in classes = map (λ (class : Vec ℕ Global). class.items) classes
-
--- each list is a component's, and each statement of the remainder is in one
-pub record AreComponents (pool : List Posted) (lists : List (List ℕ)) : Type 0 where
-  pub exact : (list : List ℕ) → Contains lists list
-      → (members : List Posted) × IsComponent pool members × (list ≡ map (λ (member : Posted). member.tx) members)
+-- each list is a component, and each statement of the remainder is in one
+pub record AreComponents (pool : List Posted) (lists : List (List Posted)) : Type 0 where
+  pub exact : (list : List Posted) → Contains lists list → IsComponent pool list
   pub covers : (member : Posted) → IsInRemainder pool member
-      → (list : List ℕ) × Contains lists list × Contains list member.tx
+      → (list : List Posted) × Contains lists list × Contains list member
 
--- the first transaction of a list
-abbrev pub first_of : List ℕ → ℕ
-first_of list = slice_index_or list 0 0
+-- the transaction of a list's first statement
+abbrev pub first_of : List Posted → ℕ
+first_of [] = 0
+first_of (member ∷ list) = member.tx
 
--- the lists stand in the order of their first transactions
-abbrev pub AscendByFirst : List (List ℕ) → Type 0
-AscendByFirst lists = AllPairs (λ (one other : List ℕ). first_of one < first_of other) lists
+-- the lists stand in the order of the transactions of their first statements
+abbrev pub AscendByFirst : List (List Posted) → Type 0
+AscendByFirst lists = AllPairs (λ (one other : List Posted). first_of one < first_of other) lists

@@ -5,12 +5,12 @@ ghost use Rattle.ent_match.specs.Fault.{IsByNumber};
 ghost use Rattle.ent_match.specs.Links.{AreWithin};
 ghost use Rattle.ent_match.specs.Remainder.{IsStart};
 ghost use Rattle.ent_match.specs.Components.{AreComponents, AreJoinsOf, AreLinkedBy, AscendByFirst, IsClassAt};
-ghost use Rattle.ent_match.specs.Components.{IsUnmarked, lists_in};
+ghost use Rattle.ent_match.specs.Components.{IsUnmarked};
 
 use crate::link::{Link, mark_all};
-use crate::member::Member;
+use crate::posted::Posted;
 use crate::remainder::{Offers, links_of};
-use ent_group::Tx;
+use ent_value::Sequence;
 use std::alloc::{AllocError, Global};
 
 /// The links between statements that remain, both ways.
@@ -31,28 +31,28 @@ fn joins_of(alloc: Global, links: &[Link], removed: &[bool]) -> Result<Vec<Link>
     Ok(joins)
 }
 
-/// The transactions of the statements to which joins lead from one place; they are marked as seen.
-/// Nothing is reached yet.
+/// The statements to which joins lead from one place; they are marked as seen. Nothing is reached yet.
 fn class_at(
     alloc: Global,
-    members: &[Member],
+    members: &[Posted],
     joins: &[Link],
     place: usize,
     reached: &mut [bool],
     seen: &mut [bool],
-) -> Result<Vec<Tx>, AllocError>
+) -> Result<Sequence<Posted>, AllocError>
     requires place { place < length members.now }
     requires within { AreWithin joins.now (length members.now) }
     requires reached { IsUnmarked (length members.now) reached.old }
     requires seen { length seen.old ≡ length members.now }
-    ensures { IfOk result (λ class. IsClassAt members.now joins.now place seen.old seen.new class.items) }
+    ensures { IfOk result (λ class. IsClassAt members.now joins.now place seen.old seen.new class) }
 {
     reached[place] = true;
     mark_all(joins, reached);
-    let mut class = Vec::new(alloc);
+    let mut class = Sequence::new(alloc);
     for i in 0..members.len() {
         if reached[i] {
-            class.push(members[i].tx())?;
+            let member = members[i].shared()?;
+            class.push(member)?;
             seen[i] = true;
         }
     }
@@ -62,13 +62,13 @@ fn class_at(
 /// The classes of statements that joins link; `seen` marks the places of no class, and then all.
 fn classes_of(
     alloc: Global,
-    members: &[Member],
+    members: &[Posted],
     joins: &[Link],
     seen: &mut [bool],
-) -> Result<Vec<Vec<Tx>>, AllocError>
+) -> Result<Vec<Sequence<Posted>>, AllocError>
     requires { AreLinkedBy members.now joins.now seen.old }
-    ensures components { IfOk result (λ lists. AreComponents members.now (lists_in lists.items)) }
-    ensures by_first { IfOk result (λ lists. AscendByFirst (lists_in lists.items)) }
+    ensures components { IfOk result (λ lists. AreComponents members.now lists.items) }
+    ensures by_first { IfOk result (λ lists. AscendByFirst lists.items) }
 {
     let mut classes = Vec::new(alloc);
     for place in 0..members.len() {
@@ -84,15 +84,15 @@ fn classes_of(
 /// The components of a pool whose links are put down, `removed` marking the statements with a post that nobody meets.
 fn components_from(
     alloc: Global,
-    members: &[Member],
+    members: &[Posted],
     links: &[Link],
     removed: &mut [bool],
-) -> Result<Vec<Vec<Tx>>, AllocError>
+) -> Result<Vec<Sequence<Posted>>, AllocError>
     requires by_number { IsByNumber members.now }
     requires safe { IsSafe members.now }
     requires start { IsStart members.now links.now removed.old }
-    ensures components { IfOk result (λ lists. AreComponents members.now (lists_in lists.items)) }
-    ensures by_first { IfOk result (λ lists. AscendByFirst (lists_in lists.items)) }
+    ensures components { IfOk result (λ lists. AreComponents members.now lists.items) }
+    ensures by_first { IfOk result (λ lists. AscendByFirst lists.items) }
 {
     mark_all(links, removed);
     let joins = joins_of(alloc, links, removed)?;
@@ -101,11 +101,14 @@ fn components_from(
 }
 
 /// The components of a pool.
-pub(crate) fn components_of(alloc: Global, members: &[Member]) -> Result<Vec<Vec<Tx>>, AllocError>
+pub(crate) fn components_of(
+    alloc: Global,
+    members: &[Posted],
+) -> Result<Vec<Sequence<Posted>>, AllocError>
     requires by_number { IsByNumber members.now }
     requires safe { IsSafe members.now }
-    ensures components { IfOk result (λ lists. AreComponents members.now (lists_in lists.items)) }
-    ensures by_first { IfOk result (λ lists. AscendByFirst (lists_in lists.items)) }
+    ensures components { IfOk result (λ lists. AreComponents members.now lists.items) }
+    ensures by_first { IfOk result (λ lists. AscendByFirst lists.items) }
 {
     let Offers { links, mut removed } = links_of(alloc, members)?;
     let components = components_from(alloc, members, links.as_slice(), removed.as_mut_slice())?;

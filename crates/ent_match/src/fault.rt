@@ -4,7 +4,7 @@ ghost use Rattle.ent_coordination.specs.Pool.{IsSafe, IsFirstUnsafe};
 ghost use Rattle.ent_match.specs.Fault.{IsByNumber, MeetsOne, AreTwoLeast, IsFaultOf, IsSafeBut};
 
 use crate::meets::can_meet;
-use crate::member::Member;
+use crate::posted::Posted;
 use ent_group::Tx;
 use std::marker::Model;
 
@@ -68,7 +68,7 @@ impl Unsafe {
 }
 
 /// The two least of the statements that have a head for a post; none where there is one at most.
-fn two_least(members: &[Member], asker: &Member, index: usize) -> Option<(Tx, Tx)>
+fn two_least(members: &[Posted], asker: &Posted, index: usize) -> Option<(Tx, Tx)>
     requires by_number { IsByNumber members.now }
     requires post { index < length asker.now.statement.posts }
     ensures { MatchOption result (MeetsOne members.now asker.now index)
@@ -87,7 +87,7 @@ fn two_least(members: &[Member], asker: &Member, index: usize) -> Option<(Tx, Tx
 }
 
 /// The first post of a statement that unifies with heads of two, where the pool without the new statement is safe.
-fn fault_in(members: &[Member], asker: &Member, new: &Member) -> Option<Unsafe>
+fn fault_in(members: &[Posted], asker: &Posted, new: &Posted) -> Option<Unsafe>
     requires by_number { IsByNumber members.now }
     requires asks { Contains members.now asker.now }
     requires is_new { Contains members.now new.now }
@@ -112,7 +112,7 @@ fn fault_in(members: &[Member], asker: &Member, new: &Member) -> Option<Unsafe>
 }
 
 /// The first post of a pool that unifies with heads of two statements, where the pool without the new one is safe.
-pub(crate) fn fault_of(members: &[Member], new: &Member) -> Option<Unsafe>
+pub(crate) fn fault_of(members: &[Posted], new: &Posted) -> Option<Unsafe>
     requires by_number { IsByNumber members.now }
     requires is_new { Contains members.now new.now }
     requires safe { IsSafeBut members.now new.now }

@@ -11,12 +11,12 @@ mod fault;
 mod law;
 mod link;
 mod meets;
-mod member;
 mod part;
 mod pool;
+mod posted;
 mod remainder;
 
 pub use fault::{PostFault, Unsafe};
 pub use law::{parts_are_apart, same_statements_are_alike};
-pub use member::Member;
 pub use pool::Pool;
+pub use posted::Posted;

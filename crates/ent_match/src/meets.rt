@@ -2,11 +2,11 @@
 ghost use Rattle.std.specs.Prelude.{◌≡◌, ◌↔◌, ◌<◌, IsTrue, length, Some, slice_get};
 ghost use Rattle.ent_coordination.specs.Pool.{CanMeet};
 
-use crate::member::Member;
+use crate::posted::Posted;
 use ent_unify::unifies;
 
 /// Whether a post of one statement, by its index, unifies with a head of another.
-pub(crate) fn can_meet(asker: &Member, index: usize, owner: &Member) -> bool
+pub(crate) fn can_meet(asker: &Posted, index: usize, owner: &Posted) -> bool
     requires { index < length asker.now.statement.posts }
     ensures { IsTrue result ↔ CanMeet asker.now index owner.now }
 {

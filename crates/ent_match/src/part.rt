@@ -7,11 +7,11 @@ ghost use Rattle.ent_match.specs.Links.{IsMarked};
 ghost use Rattle.ent_match.specs.Parts.{AreMarkedFrom, IsMarkedPart, IsNextOf};
 
 use crate::meets::can_meet;
-use crate::member::Member;
+use crate::posted::Posted;
 use std::alloc::{AllocError, Global};
 
 /// Whether one statement has a post that unifies with a head of another.
-fn asks(asker: &Member, owner: &Member) -> bool
+fn asks(asker: &Posted, owner: &Posted) -> bool
     ensures { IsTrue result ↔ ((index : ℕ) × CanMeet asker.now index owner.now) }
 {
     for index in 0..asker.statement().posts.len() {
@@ -23,7 +23,7 @@ fn asks(asker: &Member, owner: &Member) -> bool
 }
 
 /// Whether one of two statements has a head for a post of the other.
-fn are_joined(one: &Member, other: &Member) -> bool
+fn are_joined(one: &Posted, other: &Posted) -> bool
     ensures { IsTrue result ↔ AreJoined one.now other.now }
 {
     asks(one, other) || asks(other, one)
@@ -44,7 +44,7 @@ fn next_place(marks: &[bool], done: &[bool]) -> Option<usize>
 }
 
 /// Marks the statements that are joined to the one at a place.
-fn mark_joined(members: &[Member], place: usize, marks: &mut [bool])
+fn mark_joined(members: &[Posted], place: usize, marks: &mut [bool])
     requires place { place < length members.now }
     requires room { length marks.old ≡ length members.now }
     ensures { AreMarkedFrom members.now place marks.old marks.new }
@@ -60,7 +60,7 @@ fn mark_joined(members: &[Member], place: usize, marks: &mut [bool])
 /// Marks at the statements of the part of a pool around a place.
 pub(crate) fn part_marks(
     alloc: Global,
-    members: &[Member],
+    members: &[Posted],
     place: usize,
 ) -> Result<Vec<bool>, AllocError>
     requires { place < length members.now }
@@ -79,9 +79,9 @@ pub(crate) fn part_marks(
 /// The statements at marked places, and the others.
 pub(crate) fn split_by(
     alloc: Global,
-    members: &[Member],
+    members: &[Posted],
     marks: &[bool],
-) -> Result<(Vec<Member>, Vec<Member>), AllocError>
+) -> Result<(Vec<Posted>, Vec<Posted>), AllocError>
     requires { length marks.now ≡ length members.now }
     ensures marked { IfOk result (λ two. two.0.items ≡ marked_in marks.now members.now) }
     ensures others { IfOk result (λ two. two.1.items ≡ marked_in (map not marks.now) members.now) }

@@ -1,16 +1,17 @@
 //! The pool.
 ghost use Rattle.std.specs.Prelude.{◌≡◌, ◌≢◌, [], ◌<◌, AllPairs, IfOk, OnOk, OnErr, IfErr, filter, length};
 ghost use Rattle.ent_coordination.specs.Pool.{IsSafe};
-ghost use Rattle.ent_match.specs.Components.{AreComponents, AscendByFirst, lists_in};
+ghost use Rattle.ent_match.specs.Components.{AreComponents, AscendByFirst};
 ghost use Rattle.ent_match.specs.Fault.{IsByNumber};
 ghost use Rattle.ent_match.specs.Parts.{AreSplit};
 ghost use Rattle.ent_match.specs.Posting.{HasNone, IsPostedTo, IsWhyWith, IsPlaceFor, is_of_other};
 
 use crate::components::components_of;
 use crate::fault::{PostFault, fault_of};
-use crate::member::Member;
 use crate::part::{part_marks, split_by};
+use crate::posted::Posted;
 use ent_group::Tx;
+use ent_value::Sequence;
 use std::alloc::{AllocError, Global};
 use std::marker::Model;
 
@@ -18,7 +19,7 @@ use std::marker::Model;
 /// each post unifies with the heads of one statement at most.
 #[derive(Drop)]
 pub struct Pool {
-    members: Vec<Member>,
+    members: Vec<Posted>,
 }
 
 impl Model for Pool {
@@ -44,7 +45,7 @@ impl Pool {
     }
 
     /// The pool of statements that are known to be by number and safe: nothing is checked again. It takes no memory.
-    pub fn of_safe(members: Vec<Member>) -> Self
+    pub fn of_safe(members: Vec<Posted>) -> Self
         requires by_number { IsByNumber members.items }
         requires safe { IsSafe members.items }
         ensures { result ≡ members.items }
@@ -53,7 +54,7 @@ impl Pool {
     }
 
     /// The statements, by number of their transactions.
-    pub fn members(&self) -> &[Member]
+    pub fn members(&self) -> &[Posted]
         ensures members { result.now ≡ self.now }
         ensures by_number { IsByNumber self.now }
         ensures safe { IsSafe self.now }
@@ -63,7 +64,7 @@ impl Pool {
 
     /// Posts a statement. Refused where a post of the pool would unify with heads of two statements, or where memory
     /// runs out; then the pool is as before and the statement comes back.
-    pub fn post(&mut self, member: Member) -> Result<(), (Member, PostFault)>
+    pub fn post(&mut self, member: Posted) -> Result<(), (Posted, PostFault)>
         requires { HasNone self.old member }
         ensures posted { OnOk result (IsPostedTo self.old self.new member) }
         ensures kept { OnErr result (self.new ≡ self.old) }
@@ -73,11 +74,12 @@ impl Pool {
         post_to(&mut self.members, member)
     }
 
-    /// The components, each once: of each the transactions by number, and the components by their first ones.
-    pub fn components(&self, alloc: Global) -> Result<Vec<Vec<Tx>>, AllocError>
-        ensures components { IfOk result (λ lists. AreComponents self.now (lists_in lists.items)) }
-        ensures by_first { IfOk result (λ lists. AscendByFirst (lists_in lists.items)) }
-        ensures once { IfOk result (λ lists. AllPairs ◌≢◌ (lists_in lists.items)) }
+    /// The components, each once: of each the statements by number, and the components by their first ones. Statements
+    /// are shared, so that none is copied.
+    pub fn components(&self, alloc: Global) -> Result<Vec<Sequence<Posted>>, AllocError>
+        ensures components { IfOk result (λ lists. AreComponents self.now lists.items) }
+        ensures by_first { IfOk result (λ lists. AscendByFirst lists.items) }
+        ensures once { IfOk result (λ lists. AllPairs ◌≢◌ lists.items) }
     {
         let members = self.members();
         components_of(alloc, members)
@@ -104,7 +106,7 @@ impl Pool {
 }
 
 /// Where a statement goes, by number.
-fn place_of(members: &[Member], member: &Member) -> usize
+fn place_of(members: &[Posted], member: &Posted) -> usize
     ensures { IsPlaceFor members.now member.now result }
 {
     for (i, other) in members.iter().enumerate() {
@@ -116,7 +118,7 @@ fn place_of(members: &[Member], member: &Member) -> usize
 }
 
 /// Posts a statement to statements by number that are safe; refused, they are as before.
-fn post_to(members: &mut Vec<Member>, member: Member) -> Result<(), (Member, PostFault)>
+fn post_to(members: &mut Vec<Posted>, member: Posted) -> Result<(), (Posted, PostFault)>
     requires by_number { IsByNumber members.old.items }
     requires safe { IsSafe members.old.items }
     requires none { HasNone members.old.items member }
@@ -138,14 +140,14 @@ fn post_to(members: &mut Vec<Member>, member: Member) -> Result<(), (Member, Pos
     }
 }
 
-fn is_of_other(member: &Member, tx: Tx) -> bool
+fn is_of_other(member: &Posted, tx: Tx) -> bool
     ensures { result ≡ is_of_other tx member.now }
 {
     member.tx() != tx
 }
 
 /// Takes the statement of a transaction out.
-fn withdraw_from(members: &mut Vec<Member>, tx: Tx)
+fn withdraw_from(members: &mut Vec<Posted>, tx: Tx)
     ensures { members.new.items ≡ filter (is_of_other tx) members.old.items }
 {
     members.retain(|member| is_of_other(member, tx));

@@ -4,7 +4,7 @@ ghost use Rattle.ent_match.specs.Remainder.{HasNoOwner, IsOwnerAt, AsksTo, IsSta
 
 use crate::link::Link;
 use crate::meets::can_meet;
-use crate::member::Member;
+use crate::posted::Posted;
 use std::alloc::{AllocError, Global};
 
 /// The links of a pool from the owner of a head to the owner of a post that it unifies with, and marks at the
@@ -16,7 +16,7 @@ pub struct Offers {
 }
 
 /// The place of the first statement that has a head for a post.
-fn owner_place(members: &[Member], asker: &Member, index: usize) -> Option<usize>
+fn owner_place(members: &[Posted], asker: &Posted, index: usize) -> Option<usize>
     requires { index < length asker.now.statement.posts }
     ensures { MatchOption result (HasNoOwner members.now asker.now index) (IsOwnerAt members.now asker.now index) }
 {
@@ -29,7 +29,7 @@ fn owner_place(members: &[Member], asker: &Member, index: usize) -> Option<usize
 }
 
 /// Puts down the links to the statement at a place; answers whether it has a post that unifies with no head.
-fn push_links(links: &mut Vec<Link>, members: &[Member], place: usize) -> Result<bool, AllocError>
+fn push_links(links: &mut Vec<Link>, members: &[Posted], place: usize) -> Result<bool, AllocError>
     requires { place < length members.now }
     ensures { IfOk result (AsksTo members.now place links.old.items links.new.items) }
 {
@@ -47,7 +47,7 @@ fn push_links(links: &mut Vec<Link>, members: &[Member], place: usize) -> Result
 }
 
 /// The links of a pool, and marks at the statements with a post that unifies with no head.
-pub(crate) fn links_of(alloc: Global, members: &[Member]) -> Result<Offers, AllocError>
+pub(crate) fn links_of(alloc: Global, members: &[Posted]) -> Result<Offers, AllocError>
     ensures { IfOk result (λ offers. IsStart members.now offers.links.items offers.removed.items) }
 {
     let mut links = Vec::new(alloc);

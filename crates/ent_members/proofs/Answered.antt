@@ -5,7 +5,7 @@ use Rattle.std.specs.Prelude.{None, filter}
 use Rattle.std.specs.List.{IsDistinct, AllByRecursion, list_any}
 use Rattle.std.proofs.lemmas.List.{set-get_or, set-set}
 use Rattle.ent_semantics.specs.Entangled.{Valuation}
-use Rattle.ent_protocol.specs.Job.{Asking}
+use Rattle.ent_coordination.specs.Pool.{Posted}
 use Rattle.ent_protocol.specs.Member.{is_tx}
 use Rattle.ent_protocol.specs.PoolEvents.{answered_among, answered_by, in_joined_group}
 use Rattle.ent_protocol.specs.State.{State, Member, first_of}
@@ -199,21 +199,21 @@ together given numbers old mid new is prepared active joined =
 
 -- ---- what posted statements ask for
 
-from_asked : (asked : List Asking) (groundings : List Valuation) (member : Member)
+from_asked : (asked : List Posted) (groundings : List Valuation) (member : Member)
     → answered_from (member_answers asked groundings) member ≡ answered_among asked groundings member
 from_asked [] groundings member = refl
-from_asked (asking ∷ asked) [] member = refl
-from_asked (asking ∷ asked) (values ∷ more) member =
-    ap (λ m. if is_tx asking.tx member then answered_by asking values member else m) (from_asked asked more member)
+from_asked (query ∷ asked) [] member = refl
+from_asked (query ∷ asked) (values ∷ more) member =
+    ap (λ m. if is_tx query.tx member then answered_by query values member else m) (from_asked asked more member)
 
-asked_numbers : (asked : List Asking) (groundings : List Valuation) → length groundings ≡ length asked
-    → map answer_tx (member_answers asked groundings) ≡ map (λ (asking : Asking). asking.tx) asked
+asked_numbers : (asked : List Posted) (groundings : List Valuation) → length groundings ≡ length asked
+    → map answer_tx (member_answers asked groundings) ≡ map (λ (query : Posted). query.tx) asked
 asked_numbers [] groundings e = refl
-asked_numbers (asking ∷ asked) [] e = absurd (omega (arith, e))
-asked_numbers (asking ∷ asked) (values ∷ more) e =
-    ap (λ ns. asking.tx ∷ ns) (asked_numbers asked more (omega (arith, e)))
+asked_numbers (query ∷ asked) [] e = absurd (omega (arith, e))
+asked_numbers (query ∷ asked) (values ∷ more) e =
+    ap (λ ns. query.tx ∷ ns) (asked_numbers asked more (omega (arith, e)))
 
-pub joins_asked : (given : List MemberAnswer) (old new : Run) (s : State) (asked : List Asking)
+pub joins_asked : (given : List MemberAnswer) (old new : Run) (s : State) (asked : List Posted)
     (groundings : List Valuation) → given ≡ member_answers asked groundings → length groundings ≡ length asked
     → AnswerTogether given old new → IsJoining (with_run old s) asked groundings new
 joins_asked given old new s asked groundings is long answered =

@@ -6,7 +6,7 @@ use Rattle.std.specs.List.{list_any}
 use Rattle.std.proofs.lemmas.Bool.Decides.{nat_tests}
 use Rattle.std.proofs.lemmas.List.{length-map, map-append, take_more}
 use Rattle.std.proofs.lemmas.List.Elements.{filter-append}
-use Rattle.ent_protocol.specs.Job.{Asking}
+use Rattle.ent_coordination.specs.Pool.{Posted}
 use Rattle.ent_protocol.specs.Member.{is_tx}
 use Rattle.ent_protocol.specs.PoolEvents.{in_joined_group}
 use Rattle.ent_protocol.specs.State.{Member}
@@ -42,27 +42,27 @@ labels_more numbers xs i member b lt at is =
 eq_turned : (a b : ℕ) → (a == b) ≡ (b == a)
 eq_turned a b = grind (arith, nat_tests)
 
-one_asked : (asked : List Asking) (member : Member)
-    → is_one_of (map (λ (asking : Asking). asking.tx) asked) member
-    ≡ list_any (λ (asking : Asking). is_tx asking.tx member) asked
+one_asked : (asked : List Posted) (member : Member)
+    → is_one_of (map (λ (query : Posted). query.tx) asked) member
+    ≡ list_any (λ (query : Posted). is_tx query.tx member) asked
 one_asked [] member = refl
-one_asked (asking ∷ asked) member =
-    ap (λ b. b || is_one_of (map (λ (a : Asking). a.tx) asked) member) (eq_turned asking.tx member.tx)
-    ∙ ap (λ b. (member.tx == asking.tx) || b) (one_asked asked member)
+one_asked (query ∷ asked) member =
+    ap (λ b. b || is_one_of (map (λ (a : Posted). a.tx) asked) member) (eq_turned query.tx member.tx)
+    ∙ ap (λ b. (member.tx == query.tx) || b) (one_asked asked member)
 
-filter_asked : (asked : List Asking) (xs : List Member)
-    → filter (is_one_of (map (λ (asking : Asking). asking.tx) asked)) xs
-    ≡ filter (λ member. list_any (λ (asking : Asking). is_tx asking.tx member) asked) xs
+filter_asked : (asked : List Posted) (xs : List Member)
+    → filter (is_one_of (map (λ (query : Posted). query.tx) asked)) xs
+    ≡ filter (λ member. list_any (λ (query : Posted). is_tx query.tx member) asked) xs
 filter_asked asked [] = refl
 filter_asked asked (x ∷ xs) =
-    ap (λ b. if b then x ∷ filter (is_one_of (map (λ (a : Asking). a.tx) asked)) xs
-    else filter (is_one_of (map (λ (a : Asking). a.tx) asked)) xs) (one_asked asked x)
-    ∙ ap (λ ms. if list_any (λ (asking : Asking). is_tx asking.tx x) asked then x ∷ ms else ms) (filter_asked asked xs)
+    ap (λ b. if b then x ∷ filter (is_one_of (map (λ (a : Posted). a.tx) asked)) xs
+    else filter (is_one_of (map (λ (a : Posted). a.tx) asked)) xs) (one_asked asked x)
+    ∙ ap (λ ms. if list_any (λ (query : Posted). is_tx query.tx x) asked then x ∷ ms else ms) (filter_asked asked xs)
 
-pub asked_labels : (asked : List Asking) (xs : List Member)
-    → labels_in (map (λ (asking : Asking). asking.tx) asked) xs
+pub asked_labels : (asked : List Posted) (xs : List Member)
+    → labels_in (map (λ (query : Posted). query.tx) asked) xs
     ≡ map (λ (member : Member). member.group)
-    (filter (λ member. list_any (λ (asking : Asking). is_tx asking.tx member) asked) xs)
+    (filter (λ member. list_any (λ (query : Posted). is_tx query.tx member) asked) xs)
 asked_labels asked xs = ap (map (λ (member : Member). member.group)) (filter_asked asked xs)
 
 -- ---- the run

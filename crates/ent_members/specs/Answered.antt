@@ -7,7 +7,7 @@ use Rattle.ent_semantics.specs.Database.{Name}
 use Rattle.ent_semantics.specs.Entangled.{Valuation}
 use Rattle.ent_closed.specs.declared.entangled.Entangled.{Entangled}
 use Rattle.ent_closed.specs.Form.{form_bound, form_heads}
-use Rattle.ent_protocol.specs.Job.{Asking}
+use Rattle.ent_coordination.specs.Pool.{Posted}
 use Rattle.ent_protocol.specs.Member.{is_tx}
 use Rattle.ent_protocol.specs.PoolEvents.{in_joined_group, joining}
 use Rattle.ent_protocol.specs.State.{State, Member}
@@ -31,11 +31,11 @@ member_answer tx statement values =
     }
 
 -- what each member gets under its grounding
-abbrev pub member_answers : List Asking → List Valuation → List MemberAnswer
+abbrev pub member_answers : List Posted → List Valuation → List MemberAnswer
 member_answers [] groundings = []
-member_answers (asking ∷ asked) [] = []
-member_answers (asking ∷ asked) (values ∷ more) =
-    member_answer asking.tx asking.statement values ∷ member_answers asked more
+member_answers (query ∷ asked) [] = []
+member_answers (query ∷ asked) (values ∷ more) =
+    member_answer query.tx query.statement values ∷ member_answers asked more
 
 abbrev pub answer_tx : MemberAnswer → ℕ
 answer_tx own = own.tx
@@ -57,6 +57,6 @@ pub record AnswerTogether (given : List MemberAnswer) (old new : Run) : Type 0 w
       ≡ map (λ member. in_joined_group (answered_labels given old) (answered_from given member)) old.active
 
 -- the members of a state in which these statements were answered
-pub record IsJoining (s : State) (asked : List Asking) (groundings : List Valuation) (run : Run) : Type 0 where
+pub record IsJoining (s : State) (asked : List Posted) (groundings : List Valuation) (run : Run) : Type 0 where
   pub prepared : run.prepared ≡ (joining s asked groundings).prepared
   pub active : run.active ≡ (joining s asked groundings).active

@@ -4,12 +4,12 @@ ghost use Rattle.std.specs.Prelude.{List, IfOk, OnOk, OnErr, IsSome};
 ghost use Rattle.std.specs.List.{IsDistinct};
 ghost use Rattle.std.specs.Option.{option_copied};
 ghost use Rattle.std.specs.Vec.{vec_capacity};
+ghost use Rattle.ent_coordination.specs.Pool.{Posted};
 ghost use Rattle.ent_protocol.specs.Begin.{holding};
 ghost use Rattle.ent_protocol.specs.Commit.{committing_members, is_ready};
 ghost use Rattle.ent_protocol.specs.Finish.{stepped};
 ghost use Rattle.ent_protocol.specs.Lookup.{member_of, running_members};
 ghost use Rattle.ent_protocol.specs.Member.{active_member, is_prepared};
-ghost use Rattle.ent_protocol.specs.Job.{Asking};
 ghost use Rattle.ent_protocol.specs.PoolEvents.{answered_groups};
 ghost use Rattle.ent_protocol.specs.Rollback.{group_members, group_numbers};
 ghost use Rattle.ent_protocol.specs.Run.{fresh};
@@ -282,7 +282,7 @@ impl Run {
     /// The groups of the members of these numbers become one. It takes no memory.
     pub fn join_groups(&mut self, numbers: &Members)
         ensures list { JoinGroups (labels_in numbers.now (self.old.prepared ++ self.old.active)) self.old self.new }
-        ensures answered { (s : State) (asked : List Asking) → numbers.now ≡ map (λ asking. asking.tx) asked
+        ensures answered { (s : State) (asked : List Posted) → numbers.now ≡ map (λ query. query.tx) asked
             → JoinGroups (answered_groups (with_run self.old s) asked) self.old self.new }
     {
         self.join(numbers.as_slice());
@@ -313,7 +313,7 @@ impl Run {
     pub fn answer(&mut self, given: Vec<MemberAnswer>) -> Result<(), AllocError>
         requires { IsDistinct nat_eq (map answer_tx given.items) }
         ensures ok { OnOk result (AnswerTogether given.items self.old self.new) }
-        ensures joining { OnOk result ((s : State) (asked : List Asking) (groundings : List Valuation)
+        ensures joining { OnOk result ((s : State) (asked : List Posted) (groundings : List Valuation)
             → given.items ≡ member_answers asked groundings → length groundings ≡ length asked
             → IsJoining (with_run self.old s) asked groundings self.new) }
         ensures err { OnErr result (self.new ≡ self.old) }

@@ -2,7 +2,7 @@
 //!
 //! A [`SubmittedScript`] is a script with its statements resolved, and the script of a transaction is found by its
 //! number. A caller may rely on it that [`next_of`] is what the protocol says comes next, closed under what the member
-//! bound; that [`next_form`], which takes no memory, asks for the same uses; and that [`askings`] are the posted
+//! bound; that [`next_form`], which takes no memory, asks for the same uses; and that [`posted_statements`] are the posted
 //! statements of a state with these scripts and members.
 #![tactic(auto)]
 
@@ -17,6 +17,6 @@ mod turn;
 pub use form::next_form;
 pub use next::{Next, next_of};
 pub use numbered::{script_of, with_number};
-pub use posted::askings;
+pub use posted::posted_statements;
 pub use submitted::SubmittedScript;
 pub use turn::{Turn, turn_of};

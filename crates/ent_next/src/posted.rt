@@ -2,13 +2,13 @@
 ghost use Rattle.std.specs.Prelude.{◌≡◌, ◌++◌, ◌∷◌, [], false, All, IfOk, OnOk, IsOk};
 ghost use Rattle.std.specs.Arc.{arc_value};
 ghost use Rattle.std.specs.List.{list_any};
-ghost use Rattle.ent_protocol.specs.Member.{asking_of, askings};
+ghost use Rattle.ent_protocol.specs.Member.{posted_by, pool};
 ghost use Rattle.ent_protocol.specs.State.{State};
 
 use crate::next::{Next, kept_next, next_of};
 use crate::submitted::SubmittedScript;
 use ent_closed::Entangled;
-use ent_job::Asking;
+use ent_match::Posted;
 use ent_members::Member;
 use ent_value::{Sequence, Value};
 use std::alloc::{AllocError, Global};
@@ -18,9 +18,9 @@ use std::sync::Arc;
 fn push_asked(
     member: &Member,
     statement: Arc<Entangled<Value>>,
-    askings: &mut Sequence<Asking>,
+    posted: &mut Sequence<Posted>,
 ) -> Result<(), AllocError>
-    ensures { OnOk result (askings.new ≡ askings.old ++ record {
+    ensures { OnOk result (posted.new ≡ posted.old ++ record {
       tx = member.now.tx;
       attempt = member.now.attempt;
       place = member.now.place;
@@ -28,8 +28,8 @@ fn push_asked(
     } ∷ []) }
 {
     let place = member.place() as u64;
-    let asking = Asking::new(member.tx(), member.attempt(), place, statement);
-    askings.push(asking)?;
+    let query = Posted::new(member.tx(), member.attempt(), place, statement);
+    posted.push(query)?;
     Ok(())
 }
 
@@ -38,10 +38,10 @@ fn push_posted(
     alloc: Global,
     submitted: &[SubmittedScript],
     member: &Member,
-    askings: &mut Sequence<Asking>,
+    posted: &mut Sequence<Posted>,
 ) -> Result<(), AllocError>
     ensures pushed { (s : State) → s.submitted ≡ submitted.now
-        → OnOk result (askings.new ≡ askings.old ++ asking_of s member.now) }
+        → OnOk result (posted.new ≡ posted.old ++ posted_by s member.now) }
     ensures idle { member.now.posted ≡ false → IsOk result }
 {
     if !member.is_posted() {
@@ -49,10 +49,10 @@ fn push_posted(
     }
     if let Some(kept) = kept_next(submitted, member) {
         let shared = kept.clone()?;
-        return push_asked(member, shared, askings);
+        return push_asked(member, shared, posted);
     }
     match next_of(alloc, submitted, member)? {
-        Next::Asks(statement) => push_asked(member, statement, askings),
+        Next::Asks(statement) => push_asked(member, statement, posted),
         other => {
             drop(other);
             Ok(())
@@ -68,7 +68,7 @@ fn any_posted(active: &[Member]) -> bool
 }
 
 /// No statement, with room for one of each member; it takes no memory where nobody posted.
-fn room_for(alloc: Global, active: &[Member]) -> Result<Sequence<Asking>, AllocError>
+fn room_for(alloc: Global, active: &[Member]) -> Result<Sequence<Posted>, AllocError>
     ensures empty { IfOk result (λ made. made ≡ []) }
     ensures idle { All (λ member. member.posted ≡ false) active.now → IsOk result }
 {
@@ -81,18 +81,18 @@ fn room_for(alloc: Global, active: &[Member]) -> Result<Sequence<Asking>, AllocE
 
 /// The statements that members posted, in the order of the members: those in the pool of each state with these scripts
 /// and these members that aren't prepared. It takes no memory where nobody posted.
-pub fn askings(
+pub fn posted_statements(
     alloc: Global,
     submitted: &[SubmittedScript],
     active: &[Member],
-) -> Result<Sequence<Asking>, AllocError>
-    ensures askings { (s : State) → s.submitted ≡ submitted.now → s.active ≡ active.now
-        → IfOk result (λ made. made ≡ askings s) }
+) -> Result<Sequence<Posted>, AllocError>
+    ensures pool { (s : State) → s.submitted ≡ submitted.now → s.active ≡ active.now
+        → IfOk result (λ made. made ≡ pool s) }
     ensures idle { All (λ member. member.posted ≡ false) active.now → IsOk result }
 {
-    let mut askings = room_for(alloc, active)?;
+    let mut posted = room_for(alloc, active)?;
     for member in active {
-        push_posted(alloc, submitted, member, &mut askings)?;
+        push_posted(alloc, submitted, member, &mut posted)?;
     }
-    Ok(askings)
+    Ok(posted)
 }

@@ -124,8 +124,13 @@ module _ (environment : Environment) where
 
 pub distinct_closed : (tables : List TableSchema) (script : Script) (plain : Plain) (entangled : Entangled Known)
     → script_in tables script ≡ Ok plain → Contains plain.statements (statements.Entangled entangled)
-    → (tx : ℕ) (environment : Environment)
-    → HasDistinctHeads (record { tx = tx; statement = closed_entangled environment entangled })
-distinct_closed tables script plain entangled e there tx environment =
+    → (tx attempt place : ℕ) (environment : Environment)
+    → HasDistinctHeads (record {
+      tx = tx;
+      attempt = attempt;
+      place = place;
+      statement = closed_entangled environment entangled;
+    })
+distinct_closed tables script plain entangled e there tx attempt place environment =
     differ_at environment entangled.heads
     (script_each (λ entangled. AreApart entangled.heads) entangled_apart tables script plain entangled e there)

@@ -18,8 +18,13 @@ pub fn resolved_heads_are_distinct()
     ensures { (tables : List TableSchema) (script : Script) (plain : Plain) (entangled : Entangled Known)
         → script_in tables script ≡ Ok plain
         → Contains plain.statements (statements.Entangled entangled)
-        → (tx : ℕ) (environment : Environment)
-        → HasDistinctHeads record { tx = tx; statement = closed_entangled environment entangled } }
+        → (tx attempt place : ℕ) (environment : Environment)
+        → HasDistinctHeads record {
+          tx = tx;
+          attempt = attempt;
+          place = place;
+          statement = closed_entangled environment entangled;
+        } }
 {}
 
 /// Each written variable of an entangled statement of a script that is resolved stands in a tuple of some sub-select,

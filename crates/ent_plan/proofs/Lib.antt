@@ -6,4 +6,3 @@ pub mod Facts
 pub mod Meeting
 pub mod Planning
 pub mod Selection
-pub mod Components

@@ -8,13 +8,13 @@ use Rattle.ent_coordination.specs.Pool.{Posted, IsPool, IsSafe}
 use Rattle.ent_match.specs.Fault.{IsByNumber}
 use Rattle.ent_plan.specs.Plan.{HaveDistinctHeads, is_named, named}
 
-pub kept : (pool : List Posted) (txs : List ℕ) (member : Posted) → Contains (named pool txs) member
+kept : (pool : List Posted) (txs : List ℕ) (member : Posted) → Contains (named pool txs) member
     → Contains pool member
 kept pool txs member there =
     All-contains (Contains pool) (named pool txs) member
     (All-filter (is_named txs) (Contains pool) pool (All-contains_itself pool)) there
 
-pub apart : (pool : List Posted) → IsByNumber pool → IsPool pool
+apart : (pool : List Posted) → IsByNumber pool → IsPool pool
 apart pool ordered i j d less below same =
     (let l = ordered i j d less below in absurd (omega arith))
 

@@ -12,7 +12,7 @@ use crate::pair::{heads_of, pairs_of, posts_of};
 use crate::slot::Slot;
 use crate::table::tables_of;
 use ent_group::Tx;
-use ent_match::{Member, Pool};
+use ent_match::{Pool, Posted};
 use ent_unify::{Unifier, unify};
 use ent_value::{Kind, Sequence};
 use std::alloc::{AllocError, Global};
@@ -21,7 +21,7 @@ use std::marker::Model;
 /// The plan of the coordinating choices of posted statements. Contracts see the statements, what each of their written
 /// variables is, and the kinds of the classes, and may rely on it that this is a plan of them.
 pub struct JoinPlan {
-    members: Vec<Member>,
+    members: Vec<Posted>,
     slots: Vec<Sequence<Slot>>,
     kinds: Vec<Kind>,
     tables: Vec<usize>,
@@ -60,7 +60,7 @@ pub struct Slots {
 }
 
 /// The kinds of each member's variables.
-fn kinds_of<'a>(alloc: Global, members: &'a [Member]) -> Result<Vec<&'a [Kind]>, AllocError>
+fn kinds_of<'a>(alloc: Global, members: &'a [Posted]) -> Result<Vec<&'a [Kind]>, AllocError>
     ensures { IfOk result (λ kinds. kinds_seen kinds.items ≡ variables_of members.now) }
 {
     let mut kinds = Vec::new(alloc);
@@ -84,7 +84,7 @@ fn class_kinds(alloc: Global, classes: &[Class]) -> Result<Vec<Kind>, AllocError
 /// The unifier of the members' posts with the heads that they unify with; none where there is none.
 fn unifier_of(
     alloc: Global,
-    members: &[Member],
+    members: &[Posted],
     kinds: &[&[Kind]],
 ) -> Result<Option<Unifier>, AllocError>
     requires kinds { kinds_seen kinds.now ≡ variables_of members.now }
@@ -103,7 +103,7 @@ fn unifier_of(
 }
 
 /// What the written variables of members are; none where no groundings make each post equal to a head.
-fn slots_of(alloc: Global, members: &[Member]) -> Result<Option<Slots>, AllocError>
+fn slots_of(alloc: Global, members: &[Posted]) -> Result<Option<Slots>, AllocError>
     requires one { IsPool members.now }
     requires safe { IsSafe members.now }
     requires heads { HaveDistinctHeads members.now }
@@ -124,7 +124,7 @@ impl JoinPlan {
     /// The plan of posted statements; none where no groundings, whatever rows the tables have, make each post equal to
     /// a head. A pool of the statements is to be safe, and the heads of each of distinct relations, so that a post
     /// unifies with one head at most.
-    pub fn of(alloc: Global, members: Vec<Member>) -> Result<Option<JoinPlan>, AllocError>
+    pub fn of(alloc: Global, members: Vec<Posted>) -> Result<Option<JoinPlan>, AllocError>
         requires one { IsPool members.items }
         requires safe { IsSafe members.items }
         requires heads { HaveDistinctHeads members.items }
@@ -145,7 +145,7 @@ impl JoinPlan {
     }
 
     /// The statements.
-    pub fn members(&self) -> &[Member]
+    pub fn members(&self) -> &[Posted]
         ensures members { result.now ≡ self.now.members }
         ensures plan { IsPlan self.now }
     {

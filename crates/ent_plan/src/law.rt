@@ -1,14 +1,12 @@
 //! Laws of plans. Nothing here has a body; what holds is in the contracts.
-ghost use Rattle.std.specs.Prelude.{◌≡◌, ◌<◌, ◌↔◌, ℕ, AllPairs, Contains, List, length, map};
+ghost use Rattle.std.specs.Prelude.{◌≡◌, ◌<◌, ◌↔◌, ℕ, Contains, List, length};
 ghost use Rattle.std.specs.Cmp.Lexicographic.{slice_cmp};
 ghost use Rattle.ent_value.specs.Value.{value_cmp};
 ghost use Rattle.ent_value.specs.declared.value.Value.{Value};
 ghost use Rattle.ent_semantics.specs.Entangled.{Valuation};
 ghost use Rattle.ent_closed.specs.Form.{Tables};
 ghost use Rattle.ent_coordination.specs.Choice.{IsChoice, choice_cmp};
-ghost use Rattle.ent_coordination.specs.Component.{IsComponent};
-ghost use Rattle.ent_coordination.specs.Pool.{Posted};
-ghost use Rattle.ent_plan.specs.Plan.{IsGroundedSpread, IsPlan, Plan, all_slots, named, spread};
+ghost use Rattle.ent_plan.specs.Plan.{IsGroundedSpread, IsPlan, Plan, all_slots, spread};
 ghost use Rattle.ent_plan.specs.declared.slot.Slot.TheVariants.{Class};
 
 /// The coordinating choices are the groundings that a plan makes of values for its classes.
@@ -35,12 +33,4 @@ pub fn plan_names_its_classes()
         → IsPlan plan
         → Contains (all_slots plan) (Class number)
         → number < length plan.kinds }
-{}
-
-/// The statements of a component are those of its transactions, where the pool has its statements by number.
-pub fn component_is_named()
-    ensures { (pool members : List Posted)
-        → AllPairs (λ (one other : Posted). one.tx < other.tx) pool
-        → IsComponent pool members
-        → named pool (map (λ (member : Posted). member.tx) members) ≡ members }
 {}

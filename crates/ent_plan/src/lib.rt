@@ -15,9 +15,6 @@ mod pair;
 mod slot;
 mod table;
 
-pub use ent_match::Member;
 pub use join_plan::{JoinPlan, combine};
-pub use law::{
-    component_is_named, plan_has_the_choices, plan_keeps_the_order, plan_names_its_classes,
-};
+pub use law::{plan_has_the_choices, plan_keeps_the_order, plan_names_its_classes};
 pub use slot::Slot;

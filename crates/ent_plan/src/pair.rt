@@ -4,7 +4,7 @@ ghost use Rattle.ent_plan.specs.Pairs.{ArePairs, HasLonePost, PutsPairs, placed_
 ghost use Rattle.ent_plan.specs.Pairs.{seen, seen_pair};
 
 use ent_closed::Atom;
-use ent_match::Member;
+use ent_match::Posted;
 use ent_unify::{MemberAtom, unifies};
 use ent_value::{Kind, Value};
 use std::alloc::{AllocError, Global};
@@ -52,7 +52,7 @@ fn push_atoms<'a>(
 /// The posts of the members.
 pub(crate) fn posts_of<'a>(
     alloc: Global,
-    members: &'a [Member],
+    members: &'a [Posted],
 ) -> Result<Vec<PlacedAtom<'a>>, AllocError>
     ensures { IfOk result (λ placed. map seen placed.items ≡ placed_posts members.now) }
 {
@@ -68,7 +68,7 @@ pub(crate) fn posts_of<'a>(
 /// The heads of the members.
 pub(crate) fn heads_of<'a>(
     alloc: Global,
-    members: &'a [Member],
+    members: &'a [Posted],
 ) -> Result<Vec<PlacedAtom<'a>>, AllocError>
     ensures { IfOk result (λ placed. map seen placed.items ≡ placed_heads members.now) }
 {

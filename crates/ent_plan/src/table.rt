@@ -3,7 +3,7 @@ ghost use Rattle.std.specs.Prelude.{◌≡◌, ◌++◌, IfOk, OnOk};
 ghost use Rattle.ent_plan.specs.Tables.{sources_of, tables_named};
 
 use ent_closed::Entangled;
-use ent_match::Member;
+use ent_match::Posted;
 use ent_value::Value;
 use std::alloc::{AllocError, Global};
 
@@ -18,7 +18,7 @@ fn push_sources(tables: &mut Vec<usize>, statement: &Entangled<Value>) -> Result
 }
 
 /// The tables that the sub-selects of the members name, by number and each once.
-pub(crate) fn tables_of(alloc: Global, members: &[Member]) -> Result<Vec<usize>, AllocError>
+pub(crate) fn tables_of(alloc: Global, members: &[Posted]) -> Result<Vec<usize>, AllocError>
     ensures { IfOk result (λ tables. tables.items ≡ tables_named members.now) }
 {
     let mut tables = Vec::new(alloc);

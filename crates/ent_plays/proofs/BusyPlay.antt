@@ -15,7 +15,7 @@ use Rattle.ent_protocol.specs.State.{State}
 use Rattle.ent_plays.specs.Busy.{deletes_form, is_busy, cycle_stands}
 use Rattle.ent_plays.specs.HeldBack.{mickey, minnie, two_friends}
 use Rattle.ent_plays.specs.Scripts.{ScriptOf, asks_form, script}
-use Rattle.ent_plays.specs.Wish.{asking, wants, first_asks, joint_job}
+use Rattle.ent_plays.specs.Wish.{posted, wants, first_asks, joint_job}
 use Rattle.ent_plays.proofs.Answered.{lends, joins, nothing_out, present}
 use Rattle.ent_plays.proofs.Choice.{taken}
 use Rattle.ent_plays.proofs.Component.{everyone}
@@ -54,7 +54,7 @@ module _ {F : Type 0} {resolved : Forms F} (one : ScriptOf resolved 8 (asks_form
   picked = record two_posted { lent = joint_job two_friends ∷ [] }
 
   abbrev joined : State
-  joined = joining two_posted (map asking two_friends) (taken two_friends)
+  joined = joining two_posted (map posted two_friends) (taken two_friends)
 
   first_can : IsReason started (replies.CanBegin 1)
   first_can = (
@@ -73,7 +73,7 @@ module _ {F : Type 0} {resolved : Forms F} (one : ScriptOf resolved 8 (asks_form
     none_out two_posted refl (λ tx. refl),
     no_mover two_posted refl,
     least_untried two_posted two_friends refl 1 refl (record {
-      asked = map asking two_friends;
+      asked = map posted two_friends;
       component = present two_posted two_friends refl everyone _ _ together;
       untried = λ tried. none_there _ tried;
       first = refl;
@@ -83,10 +83,10 @@ module _ {F : Type 0} {resolved : Forms F} (one : ScriptOf resolved 8 (asks_form
   both_out : IsReason picked (replies.JobOut 1)
   both_out =
       least_out picked two_friends refl 1 refl (λ tx. refl) (record {
-        asked = map asking two_friends;
+        asked = map posted two_friends;
         out = (joint_job two_friends, (0, omega arith, refl), refl);
         component = present picked two_friends refl everyone _ _ together;
-        asking = asking (first_asks 1 mickey);
+        query = posted (first_asks 1 mickey);
         is_in = (0, omega arith, refl);
         own = refl;
       })
@@ -157,7 +157,7 @@ module _ {F : Type 0} {resolved : Forms F} (one : ScriptOf resolved 8 (asks_form
 
   no_component : NoneIs (IsUntried joined)
   no_component tx untried =
-      none_remains [] refl untried.component.component.first untried.component.component.in_remainder
+      none_remains [] refl untried.component.first untried.component.in_remainder
 
   in_cycle : IsReason joined (replies.Cycle (2 ∷ 1 ∷ []))
   in_cycle = (none_out joined refl (λ tx. refl), blocked, no_component, two_wait joined refl)

@@ -13,7 +13,7 @@ use Rattle.ent_protocol.specs.State.{State}
 use Rattle.ent_plays.specs.Earlier.{first_booked, job_outlives, next_attempt}
 use Rattle.ent_plays.specs.Grown.{A_for_B, B_for_A, A_and_B}
 use Rattle.ent_plays.specs.Scripts.{ScriptOf, asks_form, books_form, script}
-use Rattle.ent_plays.specs.Wish.{Friend, asking, wants, first_asks, joint_job}
+use Rattle.ent_plays.specs.Wish.{Friend, posted, wants, first_asks, joint_job}
 use Rattle.ent_plays.proofs.Answered.{lends, joins, nothing_out, stale_single}
 use Rattle.ent_plays.proofs.Choice.{taken}
 use Rattle.ent_plays.proofs.Component.{everyone}
@@ -46,7 +46,7 @@ module _ {F : Type 0} {resolved : Forms F}
   picked = record two_posted { lent = joint_job A_and_B ∷ [] }
 
   abbrev joined : State
-  joined = joining two_posted (map asking A_and_B) (taken A_and_B)
+  joined = joining two_posted (map posted A_and_B) (taken A_and_B)
 
   abbrev books_now : State
   books_now = lending joined (answered 1 1 1 A_for_B) (books (codes "A"))

@@ -16,7 +16,7 @@ use Rattle.ent_protocol.specs.State.{State}
 use Rattle.ent_plays.specs.Failure.{sets_too_much, set_done, set_fails, partner_gives_up}
 use Rattle.ent_plays.specs.HeldBack.{mickey, minnie, two_friends}
 use Rattle.ent_plays.specs.Scripts.{ScriptOf, asks_form, script}
-use Rattle.ent_plays.specs.Wish.{Friend, asking, wants, first_asks, joint_job}
+use Rattle.ent_plays.specs.Wish.{Friend, posted, wants, first_asks, joint_job}
 use Rattle.ent_plays.proofs.Answered.{lends, joins, nothing_out}
 use Rattle.ent_plays.proofs.Choice.{taken}
 use Rattle.ent_plays.proofs.Component.{everyone}
@@ -55,7 +55,7 @@ module _ {F : Type 0} {resolved : Forms F}
   picked = record two_posted { lent = joint_job two_friends ∷ [] }
 
   abbrev joined : State
-  joined = joining two_posted (map asking two_friends) (taken two_friends)
+  joined = joining two_posted (map posted two_friends) (taken two_friends)
 
   abbrev prepared : State
   prepared = preparing joined (answered 2 1 1 minnie)

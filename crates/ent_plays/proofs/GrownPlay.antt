@@ -1,6 +1,7 @@
 -- The component that grows, event by event.
 use Rattle.std.proofs.Common.{◌≡◌, inl, inr, [], ◌∷◌, ◌++◌, map, refl, arith, ap, sym, ◌∙◌}
 use Rattle.ent_tree.specs.declared.script.End.TheVariants.{Commit}
+use Rattle.ent_coordination.specs.Pool.{Posted}
 use Rattle.ent_protocol.specs.Begin.{posting}
 use Rattle.ent_protocol.specs.Commit.{preparing, committing}
 use Rattle.ent_protocol.specs.Partners.{partners_opening}
@@ -8,13 +9,13 @@ use Rattle.ent_protocol.specs.Play.{Plays}
 use Rattle.ent_protocol.specs.PoolEvents.{joining}
 use Rattle.ent_protocol.specs.Reached.{opened}
 use Rattle.ent_protocol.specs.Finish.{IsTaken}
-use Rattle.ent_protocol.specs.Job.{Asking, Job, Joint}
+use Rattle.ent_protocol.specs.Job.{Job, Joint}
 use Rattle.ent_protocol.specs.PoolEvents.{IsOut, IsOutstandingJoint}
 use Rattle.ent_protocol.specs.Run.{Forms, submitting, starting, ending}
 use Rattle.ent_protocol.specs.State.{State}
 use Rattle.ent_plays.specs.Grown.{A_for_B, B_for_A, C_for_A, A_and_B, A_B_and_C, job_is_late, all_are_answered}
 use Rattle.ent_plays.specs.Scripts.{ScriptOf, asks_form, script}
-use Rattle.ent_plays.specs.Wish.{asking, wants, first_asks, joint_job, joint_done}
+use Rattle.ent_plays.specs.Wish.{posted, wants, first_asks, joint_job, joint_done}
 use Rattle.ent_plays.proofs.Answered.{AreTogether, lends, joins, nothing_out, grown, gone, one_lent}
 use Rattle.ent_plays.proofs.Choice.{taken}
 use Rattle.ent_plays.proofs.Component.{everyone}
@@ -30,7 +31,7 @@ three_together : AreTogether A_B_and_C everyone (first_asks 1 A_for_B)
     (first_asks 2 B_for_A ∷ first_asks 3 C_for_A ∷ [])
 three_together = record { are = refl; served = refl; closed = refl; star = refl; by_number = refl }
 
-two_of_three : (x y z w v : Asking) → Joint (x ∷ y ∷ []) ≡ Joint (z ∷ w ∷ v ∷ []) → ⊥
+two_of_three : (x y z w v : Posted) → Joint (x ∷ y ∷ []) ≡ Joint (z ∷ w ∷ v ∷ []) → ⊥
 two_of_three x y z w v e = cc
 
 module _ {F : Type 0} {resolved : Forms F} (one : ScriptOf resolved 8 (asks_form A_for_B ∷ []) Commit)
@@ -105,12 +106,12 @@ module _ {F : Type 0} {resolved : Forms F} (one : ScriptOf resolved 8 (asks_form
 
   abbrev joined : State
   joined =
-      joining (record three_posted { lent = joint_job A_and_B ∷ [] }) (map asking A_B_and_C) (taken A_B_and_C)
+      joining (record three_posted { lent = joint_job A_and_B ∷ [] }) (map posted A_B_and_C) (taken A_B_and_C)
 
   behind : IsTaken (joint_job A_B_and_C) again.lent (joint_job A_and_B ∷ [])
   behind = record { before = joint_job A_and_B ∷ []; behind = []; is_there = refl; others = refl }
 
-  not_out : IsOut three_posted (map asking A_B_and_C) → ⊥
+  not_out : IsOut three_posted (map posted A_B_and_C) → ⊥
   not_out h = two_of_three _ _ _ _ _ (sym (ap (λ (job : Job). job.work) (one_lent _ h.0 h.1)) ∙ h.2)
 
   abbrev two_prepared : State

@@ -12,7 +12,7 @@ use Rattle.ent_protocol.specs.State.{State}
 use Rattle.ent_tree.specs.declared.script.End.TheVariants.{Commit}
 use Rattle.ent_plays.specs.HeldBack.{mickey, minnie, two_friends, holds_back, posts_later}
 use Rattle.ent_plays.specs.Scripts.{ScriptOf, asks_form, script}
-use Rattle.ent_plays.specs.Wish.{Friend, asking, wants, joint_job, first_asks}
+use Rattle.ent_plays.specs.Wish.{Friend, posted, wants, joint_job, first_asks}
 use Rattle.ent_plays.proofs.Answered.{AreTogether, lends, joins, nothing_out}
 use Rattle.ent_plays.proofs.Choice.{taken}
 use Rattle.ent_plays.proofs.Component.{everyone}
@@ -52,7 +52,7 @@ module _ {F : Type 0} {resolved : Forms F} (one : ScriptOf resolved 8 (asks_form
   picked = record two_posted { lent = joint_job two_friends ∷ [] }
 
   abbrev joined : State
-  joined = joining two_posted (map asking two_friends) (taken two_friends)
+  joined = joining two_posted (map posted two_friends) (taken two_friends)
 
   lends_both : Lends {F = F} two_posted (replies.Lent (joint_job two_friends)) picked
   lends_both = lends two_posted two_friends refl everyone _ _ together refl (nothing_out two_posted _ refl) refl

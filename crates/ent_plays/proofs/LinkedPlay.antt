@@ -25,7 +25,7 @@ use Rattle.ent_plays.specs.Grown.{A_for_B, B_for_A, A_and_B}
 use Rattle.ent_plays.specs.Linked.{A, B_for_C, C_for_B, B_and_C, sets_136, updates_form, update_job, update_done}
 use Rattle.ent_plays.specs.Linked.{first_link, second_link}
 use Rattle.ent_plays.specs.Scripts.{ScriptOf, asks_form, books_form, script}
-use Rattle.ent_plays.specs.Wish.{Friend, asking, wants, first_asks, joint_job}
+use Rattle.ent_plays.specs.Wish.{Friend, posted, wants, first_asks, joint_job}
 use Rattle.ent_plays.proofs.Answered.{AreTogether, lends, joins, nothing_out}
 use Rattle.ent_plays.proofs.Changed.{inserted, updated, no_row}
 use Rattle.ent_plays.proofs.Choice.{taken}
@@ -90,7 +90,7 @@ module _ {F : Type 0} {resolved : Forms F}
   picked = record three_posted { lent = joint_job A_and_B ∷ [] }
 
   abbrev joined : State
-  joined = joining three_posted (map asking A_and_B) (taken A_and_B)
+  joined = joining three_posted (map posted A_and_B) (taken A_and_B)
 
   abbrev A_booked : State
   A_booked = books_in joined (answered 1 1 1 A_for_B) (codes "A")
@@ -164,7 +164,7 @@ module _ {F : Type 0} {resolved : Forms F}
   picked_again = record B_posted { lent = joint_job B_and_C ∷ [] }
 
   abbrev all_joined : State
-  all_joined = joining B_posted (map asking B_and_C) (taken B_and_C)
+  all_joined = joining B_posted (map posted B_and_C) (taken B_and_C)
 
   abbrev A_prepared : State
   A_prepared = preparing all_joined (booked (answered 1 1 1 A_for_B))

@@ -5,12 +5,14 @@ use Rattle.std.specs.Prelude.{All, AllPairs, Contains, nat_le}
 use Rattle.std.specs.List.{list_all}
 use Rattle.std.proofs.lemmas.List.Elements.{All-contains}
 use Rattle.ent_group.specs.Cycle.{IsInRing, Closes, links, links_to}
-use Rattle.ent_protocol.specs.Job.{Asking}
-use Rattle.ent_protocol.specs.Member.{askings, is_lent}
+use Rattle.ent_coordination.specs.Pool.{Posted}
+use Rattle.ent_protocol.specs.Member.{is_lent, pool}
 use Rattle.ent_protocol.specs.Quiet.{NoneIs, HasJobOut, OutJoint, CanMove, IsLeast, IsUntried}
+use Rattle.ent_lists.specs.Elements.{contains_in, in_contains}
+use Rattle.ent_protocol.specs.PostedBy.{is_present}
 use Rattle.ent_protocol.specs.State.{State, Member}
 use Rattle.ent_protocol.specs.Waits.{waits, IsDeadlock}
-use Rattle.ent_plays.specs.Wish.{Friend, asking}
+use Rattle.ent_plays.specs.Wish.{Friend, posted}
 use Rattle.ent_plays.proofs.Answered.{at_most, first_at_least}
 use Rattle.ent_plays.proofs.Listed.{none_there, by_first, first_there, later_there, each_passes, image_of}
 
@@ -30,7 +32,7 @@ least_mover s n h can = (
       subst (λ tx. n ≤ tx) moves.own (at_most n moves.member.tx (each_passes _ s.active moves.member h moves.active)),
 )
 
-pub least_untried : (s : State) (friends : List Friend) → askings s ≡ map asking friends → (n : ℕ)
+pub least_untried : (s : State) (friends : List Friend) → pool s ≡ map posted friends → (n : ℕ)
     → list_all (λ friend. nat_le n friend.tx) friends ≡ true → IsUntried s n → IsLeast (IsUntried s) n
 least_untried s friends asked n h untried = (
   untried,
@@ -39,7 +41,7 @@ least_untried s friends asked n h untried = (
 )
 
 -- a joint job is out, and no other
-pub least_out : (s : State) (friends : List Friend) → askings s ≡ map asking friends → (n : ℕ)
+pub least_out : (s : State) (friends : List Friend) → pool s ≡ map posted friends → (n : ℕ)
     → list_all (λ friend. nat_le n friend.tx) friends ≡ true → ((tx : ℕ) → is_lent s tx ≡ false) → OutJoint s n
     → IsLeast (HasJobOut s) n
 least_out s friends asked n h no_single out = (inr out, least)
@@ -47,9 +49,10 @@ least_out s friends asked n h no_single out = (inr out, least)
     least : (other : ℕ) → HasJobOut s other → n ≤ other
     least other (inl is) = absurd (not_true _ (no_single other) is)
     least other (inr is) =
-        let there = All-contains (Contains (askings s)) is.asked is.asking is.component.present is.is_in in
-        let x = image_of asking friends is.asking (subst (λ xs. Contains xs is.asking) asked there) in
-        subst (λ tx. n ≤ tx) (sym (ap (λ (a : Asking). a.tx) x.2) ∙ is.own)
+        let there = in_contains (pool s) is.query
+        (is_present (pool s) is.asked is.component is.query (contains_in is.asked is.query is.is_in)) in
+        let x = image_of posted friends is.query (subst (λ xs. Contains xs is.query) asked there) in
+        subst (λ tx. n ≤ tx) (sym (ap (λ (a : Posted). a.tx) x.2) ∙ is.own)
         (at_most n x.0.tx (each_passes _ friends x.0 h x.1))
 
 -- ---- two who wait for each other

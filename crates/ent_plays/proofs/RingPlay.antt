@@ -13,7 +13,7 @@ use Rattle.ent_protocol.specs.State.{State}
 use Rattle.ent_plays.specs.Grown.{A_for_B, C_for_A}
 use Rattle.ent_plays.specs.Ring.{B_for_C, ring_of_three, ring_closes, ring_commits}
 use Rattle.ent_plays.specs.Scripts.{ScriptOf, asks_form, script}
-use Rattle.ent_plays.specs.Wish.{asking, wants, first_asks, joint_job}
+use Rattle.ent_plays.specs.Wish.{posted, wants, first_asks, joint_job}
 use Rattle.ent_plays.proofs.Answered.{AreTogether, lends, joins, nothing_out}
 use Rattle.ent_plays.proofs.Choice.{taken}
 use Rattle.ent_plays.proofs.Component.{everyone}
@@ -54,7 +54,7 @@ module _ {F : Type 0} {resolved : Forms F} (one : ScriptOf resolved 8 (asks_form
   picked = record three_posted { lent = joint_job ring_of_three ∷ [] }
 
   abbrev joined : State
-  joined = joining (record picked { lent = [] }) (map asking ring_of_three) (taken ring_of_three)
+  joined = joining (record picked { lent = [] }) (map posted ring_of_three) (taken ring_of_three)
 
   alone : IsTaken (joint_job ring_of_three) picked.lent []
   alone = record { before = []; behind = []; is_there = refl; others = refl }

@@ -14,7 +14,7 @@ use Rattle.ent_protocol.specs.State.{State}
 use Rattle.ent_plays.specs.Grown.{A_for_B, B_for_A, C_for_A, A_and_B}
 use Rattle.ent_plays.specs.Scripts.{ScriptOf, asks_form, script}
 use Rattle.ent_plays.specs.Shrunk.{C_for_D, D_for_C, C_and_D, group_forms, comes_and_goes, is_picked_again}
-use Rattle.ent_plays.specs.Wish.{Friend, asking, wants, first_asks, joint_job, joint_done}
+use Rattle.ent_plays.specs.Wish.{Friend, posted, wants, first_asks, joint_job, joint_done}
 use Rattle.ent_plays.proofs.Answered.{AreTogether, lends, joins, nothing_out, grown, stale_joint}
 use Rattle.ent_plays.proofs.Choice.{taken}
 use Rattle.ent_plays.proofs.Component.{everyone}
@@ -63,7 +63,7 @@ module _ {F : Type 0} {resolved : Forms F} (one : ScriptOf resolved 8 (asks_form
   C_and_D_picked = record D_posted { lent = joint_job C_and_D ∷ [] }
 
   abbrev group_formed : State
-  group_formed = joining D_posted (map asking C_and_D) (taken C_and_D)
+  group_formed = joining D_posted (map posted C_and_D) (taken C_and_D)
 
   first_lent : Lends {F = F} D_posted (replies.Lent (joint_job C_and_D)) C_and_D_picked
   first_lent = lends D_posted C_and_D refl everyone _ _ C_and_D_together refl (nothing_out D_posted _ refl) refl
@@ -157,7 +157,7 @@ module _ {F : Type 0} {resolved : Forms F} (one : ScriptOf resolved 8 (asks_form
   picked_again = record gone_back { lent = joint_job A_and_B ∷ [] }
 
   abbrev joined : State
-  joined = joining gone_back (map asking A_and_B) (taken A_and_B)
+  joined = joining gone_back (map posted A_and_B) (taken A_and_B)
 
   abbrev A_prepared : State
   A_prepared = preparing joined (answered 1 1 1 A_for_B)

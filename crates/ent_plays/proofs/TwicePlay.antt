@@ -18,7 +18,7 @@ use Rattle.ent_protocol.specs.Partners.{partners_opening, Mickey, Minnie, flight
 use Rattle.ent_plays.specs.HeldBack.{mickey, minnie, two_friends}
 use Rattle.ent_plays.specs.Scripts.{ScriptOf, asks_form, books_form, script}
 use Rattle.ent_plays.specs.Twice.{Mickey_booked, Minnie_booked, joint_comes_twice, single_comes_twice}
-use Rattle.ent_plays.specs.Wish.{asking, wants, first_asks, joint_job, joint_done}
+use Rattle.ent_plays.specs.Wish.{posted, wants, first_asks, joint_job, joint_done}
 use Rattle.ent_plays.proofs.Answered.{lends, joins, nothing_out, stale_joint, stale_single, not_joint, not_single}
 use Rattle.ent_plays.proofs.Changed.{inserted, no_row, one_row}
 use Rattle.ent_plays.proofs.Choice.{taken}
@@ -66,7 +66,7 @@ module _ {F : Type 0} {resolved : Forms F}
   picked = record two_posted { lent = joint_job two_friends ∷ [] }
 
   abbrev joined : State
-  joined = joining two_posted (map asking two_friends) (taken two_friends)
+  joined = joining two_posted (map posted two_friends) (taken two_friends)
 
   joins_once : Plays resolved (opened partners_opening) (joint_comes_twice one two) joined
   joins_once = (

@@ -6,14 +6,12 @@ use Rattle.std.specs.List.{list_all}
 use Rattle.ent_group.specs.Cycle.{IsInRing, Closes}
 use Rattle.ent_coordination.specs.Component.{IsInRemainder}
 use Rattle.ent_coordination.specs.Pool.{Posted}
-use Rattle.ent_protocol.specs.Job.{Asking, posted_of}
-use Rattle.ent_protocol.specs.Member.{askings, is_lent}
+use Rattle.ent_protocol.specs.Member.{is_lent, pool}
 use Rattle.ent_protocol.specs.PoolEvents.{IsPresentComponent}
 use Rattle.ent_protocol.specs.Quiet.{IsQuiet, HasJobOut}
 use Rattle.ent_protocol.specs.State.{State, Member}
 use Rattle.ent_protocol.specs.Waits.{waits}
-use Rattle.ent_plays.specs.Wish.{Friend, asking, posted}
-use Rattle.ent_plays.proofs.Answered.{all_posted}
+use Rattle.ent_plays.specs.Wish.{Friend, posted}
 use Rattle.ent_plays.proofs.Listed.{none_there, each_passes, image_of}
 use Rattle.ent_plays.proofs.Meets.{meets}
 use Rattle.ent_plays.proofs.Safe.{met_in}
@@ -53,7 +51,7 @@ false_true false c e h = cc
 not_true : (b : Bool) → b ≡ false → b ≡ true → ⊥
 not_true b e h = cc
 
-pub quiet : (s : State) (friends : List Friend) → askings s ≡ map asking friends → nobody_meets friends ≡ true
+pub quiet : (s : State) (friends : List Friend) → pool s ≡ map posted friends → nobody_meets friends ≡ true
     → ((tx : ℕ) → is_lent s tx ≡ false) → all_wait s ≡ true → waits s ≡ [] → IsQuiet s
 quiet s friends asked nobody no_single wait waits_is =
     record {
@@ -63,11 +61,11 @@ quiet s friends asked nobody no_single wait waits_is =
       no_deadlock = no_ring (waits s) waits_is;
     }
   where
-    no_component : (others : List Asking) → IsPresentComponent s others → ⊥
+    no_component : (others : List Posted) → IsPresentComponent s others → ⊥
     no_component others h =
-        none_remains friends nobody h.component.first
-        (subst (λ xs. IsInRemainder xs h.component.first) (ap (map posted_of) asked ∙ all_posted friends)
-        h.component.in_remainder)
+        none_remains friends nobody h.first
+        (subst (λ xs. IsInRemainder xs h.first) asked
+        h.in_remainder)
 
     nothing : (tx : ℕ) → HasJobOut s tx → ⊥
     nothing tx (inl h) = not_true _ (no_single tx) h

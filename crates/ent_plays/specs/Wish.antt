@@ -11,7 +11,7 @@ use Rattle.ent_closed.specs.declared.entangled.Term.TheVariants as terms
 use Rattle.ent_closed.specs.declared.operand.Known.{Known}
 use Rattle.ent_closed.specs.declared.operand.Known.TheVariants as known
 use Rattle.ent_coordination.specs.Pool.{Posted}
-use Rattle.ent_protocol.specs.Job.{Job, Joint, Asking, Done, Choice, posted_of}
+use Rattle.ent_protocol.specs.Job.{Job, Joint, Done, Choice}
 use Rattle.ent_protocol.specs.Partners.{partners_opening, flight_122, Mickey, Minnie}
 use Rattle.ent_protocol.specs.Partners as partners
 
@@ -56,18 +56,15 @@ pub record Friend : Type 0 where
 abbrev pub first_asks : ℕ → Wish → Friend
 first_asks tx wish = record { tx = tx; attempt = 1; place = 1; wish = wish }
 
-abbrev pub asking : Friend → Asking
-asking friend =
-    record { tx = friend.tx; attempt = friend.attempt; place = friend.place; statement = wants friend.wish }
-
 abbrev pub posted : Friend → Posted
-posted friend = posted_of (asking friend)
+posted friend =
+    record { tx = friend.tx; attempt = friend.attempt; place = friend.place; statement = wants friend.wish }
 
 -- the job of answering friends together, over the flights
 abbrev pub joint_job : List Friend → Job
 joint_job friends =
     record {
-      work = Joint (map asking friends);
+      work = Joint (map posted friends);
       tables = record {
         table = 0;
         kinds = kinds.Int ∷ kinds.Text ∷ [];

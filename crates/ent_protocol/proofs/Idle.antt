@@ -7,12 +7,13 @@ use Rattle.ent_semantics.specs.Entangled.{Valuation}
 use Rattle.ent_closed.specs.declared.entangled.Entangled.{Entangled}
 use Rattle.ent_closed.specs.declared.operand.Known.{Known}
 use Rattle.ent_closed.specs.declared.statement.Statement.{Statement}
+use Rattle.ent_coordination.specs.Pool.{Posted}
 use Rattle.ent_protocol.specs.Begin.{BeginsOrdinary, Posts, BeginsEntangled, BeginsCommit, BeginsNext, BeginsUnless}
 use Rattle.ent_protocol.specs.Begin.{BeginsMember}
 use Rattle.ent_protocol.specs.Event.{Event, Reply}
 use Rattle.ent_protocol.specs.Event as events
 use Rattle.ent_protocol.specs.Finish.{FinishesBy, Finishes}
-use Rattle.ent_protocol.specs.Job.{Asking, Done, Outcome, Shown, Changed, Bound, Choice, Fault}
+use Rattle.ent_protocol.specs.Job.{Done, Outcome, Shown, Changed, Bound, Choice, Fault}
 use Rattle.ent_protocol.specs.Member.{Next, Ordinary, Asks, Commits, RollsBack}
 use Rattle.ent_protocol.specs.Play.{is_idle}
 use Rattle.ent_protocol.specs.PoolEvents.{Picks, AnswersBy, JoinsOrIsStale}
@@ -83,7 +84,7 @@ module _ {F : Type 0} where
   picks s reply new (inl h) idle = not_idle reply _ h.replies refl idle
   picks s reply new (inr h) idle = h.1.1
 
-  answers : (s before : State) (asked : List Asking) (groundings : Option (List Valuation)) (reply : Reply F)
+  answers : (s before : State) (asked : List Posted) (groundings : Option (List Valuation)) (reply : Reply F)
       (new : State) → AnswersBy before asked groundings reply new → is_idle reply ≡ true → new ≡ s
   answers s before asked (Some groundings) reply new h idle = not_idle reply _ h.0 refl idle
   answers s before asked None reply new h idle = not_idle reply _ h.0 refl idle

@@ -13,13 +13,14 @@ use Rattle.ent_semantics.specs.Entangled.{Valuation}
 use Rattle.ent_closed.specs.declared.entangled.Entangled.{Entangled}
 use Rattle.ent_closed.specs.declared.operand.Known.{Known}
 use Rattle.ent_closed.specs.declared.statement.Statement.{Statement}
+use Rattle.ent_coordination.specs.Pool.{Posted}
 use Rattle.ent_protocol.specs.Begin.{BeginsOrdinary, Posts, BeginsEntangled, BeginsCommit, BeginsNext, BeginsUnless}
 use Rattle.ent_protocol.specs.Begin.{BeginsMember}
 use Rattle.ent_protocol.specs.Commit.{preparing, committing, committing_members, commit_fates, entry_of}
 use Rattle.ent_protocol.specs.Event.{Event, Reply}
 use Rattle.ent_protocol.specs.Event as events
 use Rattle.ent_protocol.specs.Finish.{FinishesBy, Finishes, finished}
-use Rattle.ent_protocol.specs.Job.{Asking, Done, Outcome, Shown, Changed, Bound, Choice, Fault}
+use Rattle.ent_protocol.specs.Job.{Done, Outcome, Shown, Changed, Bound, Choice, Fault}
 use Rattle.ent_protocol.specs.Member.{Next, Ordinary, Asks, Commits, RollsBack, active_member}
 use Rattle.ent_protocol.specs.Numbers.{with_commit, commits_in, entry_numbers, AreNumbered}
 use Rattle.ent_protocol.specs.PoolEvents.{Picks, AnswersBy, JoinsOrIsStale}
@@ -195,7 +196,7 @@ module _ {F : Type 0} where
   picks s reply new (inl step) h = as_it_is _ new step.is h
   picks s reply new (inr step) h = as_it_is s new step.1.1 h
 
-  answers : (s : State) (asked : List Asking) (groundings : Option (List Valuation)) (reply : Reply F)
+  answers : (s : State) (asked : List Posted) (groundings : Option (List Valuation)) (reply : Reply F)
       (new : State) → AnswersBy s asked groundings reply new → AreNumbered s → AreNumbered new
   answers s asked (Some groundings) reply new step h = as_it_is _ new step.1 h
   answers s asked None reply new step h = as_it_is _ new step.1 h

@@ -22,8 +22,8 @@ use Rattle.ent_closed.specs.declared.statement.Select.{Select}
 use Rattle.ent_closed.specs.Form.{Tables, form_rows, is_form_grounding, operand_worth}
 use Rattle.ent_coordination.specs.Choice.{IsChoice, IsLeastChoice, all_heads, all_posts, choice_cmp}
 use Rattle.ent_protocol.specs.Job.{tables_of}
-use Rattle.ent_protocol.specs.Partners.{partners_opening, Mickey, Minnie, LA, flight_122, pair_job}
-use Rattle.ent_protocol.proofs.PartnersPool.{friend, both, two_cases}
+use Rattle.ent_protocol.specs.Partners.{partners_opening, Mickey, Minnie, LA, flight_122, pair, pair_job, query}
+use Rattle.ent_protocol.proofs.PartnersPool.{two_cases}
 
 abbrev pub seen : Tables
 seen = tables_of (pair_job 1 2).tables
@@ -60,7 +60,7 @@ abbrev goes : Value → Bool
 goes x = list_any (eq_by_cmp row_cmp (x ∷ [])) LA_flights
 
 grounds : (tx : ℕ) (own partner x : Value)
-    → is_form_grounding (λ value. value) seen (friend tx own partner).statement (x ∷ []) ≡ ((goes x && true) && true)
+    → is_form_grounding (λ value. value) seen (query tx own partner).statement (x ∷ []) ≡ ((goes x && true) && true)
 grounds tx own partner x =
     ap (λ rows. (set.contains rows (x ∷ []) && true) && true) rows_to_LA
     ∙ ap (λ b. (b && true) && true) (contains-from_list rows_total exact_rows LA_flights (x ∷ []))
@@ -70,15 +70,15 @@ grounds tx own partner x =
 abbrev pub taken : List Valuation
 taken = (flight_122 ∷ []) ∷ (flight_122 ∷ []) ∷ []
 
-met : (one two : ℕ) (post : Fact) → Contains (all_posts (both one two) taken) post
-    → Contains (all_heads (both one two) taken) post
+met : (one two : ℕ) (post : Fact) → Contains (all_posts (pair one two) taken) post
+    → Contains (all_heads (pair one two) taken) post
 met one two post there = of (two_cases _ _ post there)
   where
     of : (post ≡ record { relation = codes "R"; values = Minnie ∷ flight_122 ∷ [] })
         ⊎ (post ≡ record { relation = codes "R"; values = Mickey ∷ flight_122 ∷ [] })
-        → Contains (all_heads (both one two) taken) post
-    of (inl e) = subst (λ fact. Contains (all_heads (both one two) taken) fact) (sym e) (1, omega arith, refl)
-    of (inr e) = subst (λ fact. Contains (all_heads (both one two) taken) fact) (sym e) (0, omega arith, refl)
+        → Contains (all_heads (pair one two) taken) post
+    of (inl e) = subst (λ fact. Contains (all_heads (pair one two) taken) fact) (sym e) (1, omega arith, refl)
+    of (inr e) = subst (λ fact. Contains (all_heads (pair one two) taken) fact) (sym e) (0, omega arith, refl)
 
 -- ---- the least one
 
@@ -95,7 +95,7 @@ either false true h = inr refl
 either false false h = cc
 
 one_of_two : (tx : ℕ) (own partner x : Value)
-    → is_form_grounding (λ value. value) seen (friend tx own partner).statement (x ∷ []) ≡ true
+    → is_form_grounding (λ value. value) seen (query tx own partner).statement (x ∷ []) ≡ true
     → (x ≡ flight_122) ⊎ (x ≡ flight_123)
 one_of_two tx own partner x h =
     of (either (eq_by_cmp row_cmp (x ∷ []) (flight_122 ∷ [])) (eq_by_cmp row_cmp (x ∷ []) (flight_123 ∷ []))
@@ -117,7 +117,7 @@ too_long : (n : ℕ) (b : Bool) → ((suc (suc n) == 1) && b) ≡ true → ⊥
 too_long n b h = no_false (suc (suc n) == 1) b (not_one n) h
 
 one_value : (tx : ℕ) (own partner : Value) (values : Valuation)
-    → is_form_grounding (λ value. value) seen (friend tx own partner).statement values ≡ true
+    → is_form_grounding (λ value. value) seen (query tx own partner).statement values ≡ true
     → (x : Value) × (values ≡ x ∷ []) × ((x ≡ flight_122) ⊎ (x ≡ flight_123))
 one_value tx own partner [] h = cc
 one_value tx own partner (x ∷ []) h = (x, refl, one_of_two tx own partner x h)
@@ -138,7 +138,7 @@ not_less x y (inr e) f h = greater (sym (ap (λ z. choice_cmp ((z ∷ []) ∷ (y
     greater : Greater ≡ Less → ⊥
     greater z = cc
 
-least : (one two : ℕ) (others : List Valuation) → IsChoice seen (both one two) others
+least : (one two : ℕ) (others : List Valuation) → IsChoice seen (pair one two) others
     → choice_cmp others taken ≡ Less → ⊥
 least one two [] h less = absurd h.grounded
 least one two (v ∷ []) h less = absurd h.grounded.1
@@ -148,7 +148,7 @@ least one two (v ∷ w ∷ []) h less =
     not_less x.0 y.0 x.2 y.2 (sym (λ i. choice_cmp (x.1 i ∷ y.1 i ∷ []) taken) ∙ less)
 least one two (v ∷ w ∷ u ∷ more) h less = absurd h.grounded.1.1
 
-pub least_taken : (one two : ℕ) → IsLeastChoice seen (both one two) taken
+pub least_taken : (one two : ℕ) → IsLeastChoice seen (pair one two) taken
 least_taken one two =
     record {
       choice = record {

@@ -10,8 +10,7 @@ use Rattle.ent_closed.specs.Form.{known_worth}
 use Rattle.ent_semantics.specs.Database.{nothing_bound}
 use Rattle.ent_coordination.specs.Component.{IsIn, IsInRemainder, IsSupported, AreLinked, IsComponent}
 use Rattle.ent_coordination.specs.Pool.{Posted, Unify, CanMeet, IsSafe}
-use Rattle.ent_protocol.specs.Job.{posted_of}
-use Rattle.ent_protocol.specs.Partners.{Mickey, Minnie, flight_122, flies_as, asking}
+use Rattle.ent_protocol.specs.Partners.{Mickey, Minnie, flight_122, flies_as, pair, query}
 
 pub one_case : {A : Type 0} (x z : A) → Contains (x ∷ []) z → z ≡ x
 one_case x z (zero, h, e) = sym e
@@ -22,17 +21,11 @@ two_cases x y z (zero, h, e) = inl (sym e)
 two_cases x y z (suc zero, h, e) = inr (sym e)
 two_cases x y z (suc (suc k), h, e) = absurd (omega arith)
 
-abbrev pub friend : ℕ → Value → Value → Posted
-friend tx own partner = posted_of (asking tx own partner)
-
 abbrev pub mickey : ℕ → Posted
-mickey tx = friend tx Mickey Minnie
+mickey tx = query tx Mickey Minnie
 
 abbrev pub minnie : ℕ → Posted
-minnie tx = friend tx Minnie Mickey
-
-abbrev pub both : ℕ → ℕ → List Posted
-both one two = mickey one ∷ minnie two ∷ []
+minnie tx = query tx Minnie Mickey
 
 -- a closed atom of a name
 abbrev atom : Value → Atom Value
@@ -42,7 +35,7 @@ pub safe_one : (one : ℕ) → IsSafe (mickey one ∷ [])
 safe_one one asker first other index a b c h k =
     ap (λ (x : Posted). x.tx) (one_case (mickey one) first b ∙ sym (one_case (mickey one) other c))
 
-pub safe_two : (one two : ℕ) → IsSafe (both one two)
+pub safe_two : (one two : ℕ) → IsSafe (pair one two)
 safe_two one two = grind (arith, rules)
 
 -- ---- one component
@@ -84,7 +77,7 @@ module _ (one two : ℕ) (before : one < two) where
   abbrev HasPartners : Posted → Type 0
   HasPartners asker =
       (index : ℕ) (post : Atom Value) → slice_get asker.statement.posts index ≡ Some post
-      → (owner : Posted) × IsIn (both one two) everyone owner × CanMeet asker index owner
+      → (owner : Posted) × IsIn (pair one two) everyone owner × CanMeet asker index owner
 
   first_has : HasPartners (mickey one)
   first_has zero post e = (minnie two, ((1, omega arith, refl), refl), mickey_meets one two)
@@ -94,27 +87,27 @@ module _ (one two : ℕ) (before : one < two) where
   second_has zero post e = (mickey one, ((0, omega arith, refl), refl), minnie_meets one two)
   second_has (suc k) post e = cc
 
-  -- what holds of both holds of each of the pool
-  of_both : (P : Posted → Type 0) → P (mickey one) → P (minnie two) → (x : Posted) → Contains (both one two) x → P x
+  -- what holds of pair holds of each of the pool
+  of_both : (P : Posted → Type 0) → P (mickey one) → P (minnie two) → (x : Posted) → Contains (pair one two) x → P x
   of_both P h k x there = of (two_cases (mickey one) (minnie two) x there)
     where
       of : (x ≡ mickey one) ⊎ (x ≡ minnie two) → P x
       of (inl e) = subst P (sym e) h
       of (inr e) = subst P (sym e) k
 
-  supported : IsSupported (both one two) everyone
+  supported : IsSupported (pair one two) everyone
   supported asker index post h e = of_both HasPartners first_has second_has asker h.0 index post e
 
-  remains : (x : Posted) → Contains (both one two) x → IsInRemainder (both one two) x
+  remains : (x : Posted) → Contains (pair one two) x → IsInRemainder (pair one two) x
   remains x there = record { among = everyone; supported = supported; is_in = (there, refl) }
 
-  abbrev first_there : Contains (both one two) (mickey one)
+  abbrev first_there : Contains (pair one two) (mickey one)
   first_there = (0, omega arith, refl)
 
-  abbrev second_there : Contains (both one two) (minnie two)
+  abbrev second_there : Contains (pair one two) (minnie two)
   second_there = (1, omega arith, refl)
 
-  ascending : AllPairs (λ (x y : Posted). x.tx < y.tx) (both one two)
+  ascending : AllPairs (λ (x y : Posted). x.tx < y.tx) (pair one two)
   ascending zero zero d i<j j<n = absurd (omega arith)
   ascending zero (suc zero) d i<j j<n = before
   ascending zero (suc (suc j)) d i<j j<n = absurd (omega arith)
@@ -122,13 +115,13 @@ module _ (one two : ℕ) (before : one < two) where
   ascending (suc i) (suc zero) d i<j j<n = absurd (omega arith)
   ascending (suc i) (suc (suc j)) d i<j j<n = absurd (omega arith)
 
-  pub one_component : IsComponent (both one two) (both one two)
+  pub one_component : IsComponent (pair one two) (pair one two)
   one_component =
       record {
         first = mickey one;
         in_remainder = remains (mickey one) first_there;
         class = λ member. (
-          λ there. of_both (λ x. IsInRemainder (both one two) x × AreLinked (both one two) (mickey one) x)
+          λ there. of_both (λ x. IsInRemainder (pair one two) x × AreLinked (pair one two) (mickey one) x)
               (remains (mickey one) first_there, (zero, refl)) (
                 remains (minnie two) second_there,
                 (suc zero, (minnie two, (0, inl (mickey_meets one two)), remains (minnie two) second_there, refl)),

@@ -8,10 +8,11 @@ use Rattle.ent_value.specs.declared.value.Value.{Value}
 use Rattle.ent_semantics.specs.Entangled.{Valuation}
 use Rattle.ent_closed.specs.declared.statement.Statement.{Statement}
 use Rattle.ent_closed.specs.Form.{Tables}
+use Rattle.ent_coordination.specs.Pool.{Posted}
 use Rattle.ent_protocol.specs.Begin.{replaced, with_member}
 use Rattle.ent_protocol.specs.Commit.{preparing, committing, committing_members}
 use Rattle.ent_protocol.specs.Finish.{finished, noted, table_of}
-use Rattle.ent_protocol.specs.Job.{Job, Asking, Outcome, Shown, Changed, Bound, Choice, Fault}
+use Rattle.ent_protocol.specs.Job.{Job, Outcome, Shown, Changed, Bound, Choice, Fault}
 use Rattle.ent_protocol.specs.Member.{is_tx, is_of, active_member}
 use Rattle.ent_protocol.specs.PoolEvents.{joining, answered_among, answered_by, answered_groups}
 use Rattle.ent_protocol.specs.PoolEvents.{in_joined_group}
@@ -195,18 +196,18 @@ finishes_tidy s member statement (Fault failure) there h = h
 
 -- ---- a joint answer
 
-answered_tx : (asked : List Asking) (groundings : List Valuation) (m : Member)
+answered_tx : (asked : List Posted) (groundings : List Valuation) (m : Member)
     → (answered_among asked groundings m).tx ≡ m.tx
 answered_tx [] groundings m = refl
-answered_tx (asking ∷ asked) [] m = refl
-answered_tx (asking ∷ asked) (values ∷ more) m =
-    elim (is_tx asking.tx m) as (λ b. (cond b (answered_by asking values m) (answered_among asked more m)).tx
+answered_tx (query ∷ asked) [] m = refl
+answered_tx (query ∷ asked) (values ∷ more) m =
+    elim (is_tx query.tx m) as (λ b. (cond b (answered_by query values m) (answered_among asked more m)).tx
     ≡ m.tx) [
       | true ↦ refl
       | false ↦ answered_tx asked more m
     ]
 
-pub joins : (s : State) (asked : List Asking) (groundings : List Valuation) → IsTidy s
+pub joins : (s : State) (asked : List Posted) (groundings : List Valuation) → IsTidy s
     → IsTidy (joining s asked groundings)
 joins s asked groundings h =
     same_members s (joining s asked groundings) (in_joined_group (answered_groups s asked))

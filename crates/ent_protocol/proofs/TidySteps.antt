@@ -8,13 +8,14 @@ use Rattle.ent_semantics.specs.Entangled.{Valuation}
 use Rattle.ent_closed.specs.declared.entangled.Entangled.{Entangled}
 use Rattle.ent_closed.specs.declared.operand.Known.{Known}
 use Rattle.ent_closed.specs.declared.statement.Statement.{Statement}
+use Rattle.ent_coordination.specs.Pool.{Posted}
 use Rattle.ent_protocol.specs.Begin.{BeginsOrdinary, Posts, BeginsEntangled, BeginsCommit, BeginsNext, BeginsUnless}
 use Rattle.ent_protocol.specs.Begin.{BeginsMember, lending, posting}
 use Rattle.ent_protocol.specs.Commit.{preparing}
 use Rattle.ent_protocol.specs.Event.{Event, Reply}
 use Rattle.ent_protocol.specs.Event as events
 use Rattle.ent_protocol.specs.Finish.{FinishesBy, Finishes, FinishesSingle}
-use Rattle.ent_protocol.specs.Job.{Asking, Done, Single, Outcome, Shown, Changed, Bound, Choice, Fault}
+use Rattle.ent_protocol.specs.Job.{Done, Single, Outcome, Shown, Changed, Bound, Choice, Fault}
 use Rattle.ent_protocol.specs.Member.{Next, Ordinary, Asks, Commits, RollsBack, active_member}
 use Rattle.ent_protocol.specs.PoolEvents.{Picks, AnswersBy, JoinsOrIsStale}
 use Rattle.ent_protocol.specs.Reached.{opened, LeadsTo, IsReached, settled}
@@ -115,7 +116,7 @@ module _ {F : Type 0} where
   picks s reply new (inl step) h = as_it_is _ new step.is (relent s _ h)
   picks s reply new (inr step) h = as_it_is s new step.1.1 h
 
-  answers : (s : State) (asked : List Asking) (groundings : Option (List Valuation)) (reply : Reply F)
+  answers : (s : State) (asked : List Posted) (groundings : Option (List Valuation)) (reply : Reply F)
       (new : State) → AnswersBy s asked groundings reply new → IsTidy s → IsTidy new
   answers s asked (Some groundings) reply new step h = as_it_is _ new step.1 (joins s asked groundings h)
   answers s asked None reply new step h =

@@ -68,7 +68,9 @@ posting s member statement =
 
 -- the pool with one statement more
 abbrev pub pool_with : State → Member → Entangled Value → List Posted
-pool_with s member statement = pool s ++ record { tx = member.tx; statement = statement } ∷ []
+pool_with s member statement =
+    pool s
+    ++ record { tx = member.tx; attempt = member.attempt; place = member.place; statement = statement } ∷ []
 
 module _ {F : Type 0} where
   -- a reply, and the state as it was

@@ -22,19 +22,9 @@ pub record Single : Type 0 where
   pub place : ℕ
   pub statement : Statement Value
 
--- a posted statement of a transaction, of this attempt and at this place
-pub record Asking : Type 0 where
-  pub tx : ℕ
-  pub attempt : ℕ
-  pub place : ℕ
-  pub statement : Entangled Value
-
-abbrev pub posted_of : Asking → Posted
-posted_of asking = record { tx = asking.tx; statement = asking.statement }
-
 pub data Work : Type 0 where
   One : (single : Single) → Work
-  Joint : (askings : List Asking) → Work
+  Joint : (posted : List Posted) → Work
 
 -- the table of a number: the kinds of its columns, and its rows
 pub record Seen : Type 0 where
@@ -94,9 +84,9 @@ IsEffect statement tables result outcome = ⊥
 abbrev pub IsOutcome : Work → Tables → Outcome → Type 0
 IsOutcome (One single) tables outcome =
     IsEffect single.statement tables (form_meaning closed_worth single.statement [] tables nothing_bound) outcome
-IsOutcome (Joint askings) tables (Choice groundings) =
-    IsLeastChoiceIfAny tables (map posted_of askings) groundings
-IsOutcome (Joint askings) tables outcome = ⊥
+IsOutcome (Joint posted) tables (Choice groundings) =
+    IsLeastChoiceIfAny tables posted groundings
+IsOutcome (Joint posted) tables outcome = ⊥
 
 -- a job that came back with its outcome
 pub record Done : Type 0 where

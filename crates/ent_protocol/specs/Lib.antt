@@ -20,3 +20,4 @@ pub mod Partners
 pub mod Pairs
 pub mod Tidy
 pub mod Numbers
+pub mod PostedBy

@@ -17,7 +17,7 @@ use Rattle.ent_closed.specs.declared.operand.Known.{Known}
 use Rattle.ent_closed.specs.declared.statement.Statement.{Statement}
 use Rattle.ent_closed.specs.declared.statement.Statement.TheVariants as statements
 use Rattle.ent_coordination.specs.Pool.{Posted}
-use Rattle.ent_protocol.specs.Job.{Job, Work, One, Joint, Asking, Seen, posted_of}
+use Rattle.ent_protocol.specs.Job.{Job, Work, One, Joint, Seen}
 use Rattle.ent_protocol.specs.State.{State, Submitted, Member, Use, first_of}
 
 -- what comes next in a script, closed under what is bound
@@ -68,19 +68,16 @@ is_prepared s tx = list_any (is_tx tx) s.prepared
 -- ---- the pool
 
 -- a posted member's statement
-abbrev pub asking_of : State → Member → List Asking
-asking_of s member = asked member.posted (next_of s member)
+abbrev pub posted_by : State → Member → List Posted
+posted_by s member = asked member.posted (next_of s member)
   where
-    asked : Bool → Next → List Asking
+    asked : Bool → Next → List Posted
     asked true (Asks statement) =
         record { tx = member.tx; attempt = member.attempt; place = member.place; statement = statement } ∷ []
     asked posted next = []
 
-abbrev pub askings : State → List Asking
-askings s = flat_map (asking_of s) s.active
-
 abbrev pub pool : State → List Posted
-pool s = map posted_of (askings s)
+pool s = flat_map (posted_by s) s.active
 
 -- ---- jobs
 
@@ -89,7 +86,7 @@ is_single_of tx job = work_of job.work
   where
     work_of : Work → Bool
     work_of (One single) = single.tx == tx
-    work_of (Joint askings) = false
+    work_of (Joint pool) = false
 
 -- a job of one of the member's statements is lent
 abbrev pub is_lent : State → ℕ → Bool

@@ -23,9 +23,10 @@ use Rattle.ent_closed.specs.declared.operand.Known.TheVariants as known
 use Rattle.ent_closed.specs.declared.operand.Operand.TheVariants as operands
 use Rattle.ent_closed.specs.declared.statement.Statement.{Statement as FormStatement}
 use Rattle.ent_closed.specs.declared.statement.Statement.TheVariants as forms
+use Rattle.ent_coordination.specs.Pool.{Posted}
 use Rattle.ent_protocol.specs.Event.{Event, Reply}
 use Rattle.ent_protocol.specs.Event as events
-use Rattle.ent_protocol.specs.Job.{Job, One, Joint, Asking, Done, Changed, Choice, applied}
+use Rattle.ent_protocol.specs.Job.{Job, One, Joint, Done, Changed, Choice, applied}
 use Rattle.ent_protocol.specs.Run.{Forms}
 use Rattle.ent_protocol.specs.Writers.{named}
 
@@ -125,13 +126,13 @@ pub record Partners {F : Type 0} (resolved : Forms F) : Type 0 where
 
 -- ---- jobs and results
 
-abbrev pub asking : ℕ → Value → Value → Asking
-asking tx own partner =
+abbrev pub query : ℕ → Value → Value → Posted
+query tx own partner =
     record { tx = tx; attempt = 1; place = 1; statement = closed_entangled nothing_bound (asks own partner) }
 
 -- two transactions that ask for each other
-abbrev pub pair : ℕ → ℕ → List Asking
-pair one two = asking one Mickey Minnie ∷ asking two Minnie Mickey ∷ []
+abbrev pub pair : ℕ → ℕ → List Posted
+pair one two = query one Mickey Minnie ∷ query two Minnie Mickey ∷ []
 
 abbrev pub pair_job : ℕ → ℕ → Job
 pair_job one two =

@@ -8,73 +8,73 @@ use Rattle.ent_semantics.specs.declared.book.Member.{Member as JointMember}
 use Rattle.ent_semantics.specs.Entangled.{Valuation}
 use Rattle.ent_closed.specs.Form.{form_heads, form_bound}
 use Rattle.ent_coordination.specs.Component.{IsComponent}
+use Rattle.ent_coordination.specs.Pool.{Posted}
 use Rattle.ent_protocol.specs.Begin.{Refuses}
 use Rattle.ent_protocol.specs.Event.{Reply}
 use Rattle.ent_protocol.specs.Event as replies
 use Rattle.ent_protocol.specs.Finish.{IsTaken, stepped}
-use Rattle.ent_protocol.specs.Job.{Job, Joint, Asking, Done, Choice, IsEvaluated, posted_of}
-use Rattle.ent_protocol.specs.Member.{askings, pool, is_tx, seen_now}
+use Rattle.ent_protocol.specs.Job.{Job, Joint, Done, Choice, IsEvaluated}
+use Rattle.ent_protocol.specs.Member.{pool, is_tx, seen_now}
 use Rattle.ent_protocol.specs.State.{State, Member, Use, members}
 use Rattle.ent_protocol.specs.Begin.{with_uses}
 use Rattle.ent_protocol.specs.Uses.{entangled_uses}
 
 -- posted statements of members, of their attempts and at their places, that are exactly a component of the pool
-pub record IsPresentComponent (s : State) (asked : List Asking) : Type 0 where
-  pub present : All (Contains (askings s)) asked
-  pub component : IsComponent (pool s) (map posted_of asked)
+abbrev pub IsPresentComponent : State → List Posted → Type 0
+IsPresentComponent s asked = IsComponent (pool s) asked
 
 -- ---- what may be picked
 
 -- a joint job of exactly these statements is lent
-abbrev pub IsOut : State → List Asking → Type 0
+abbrev pub IsOut : State → List Posted → Type 0
 IsOut s asked = (job : Job) × Contains s.lent job × (job.work ≡ Joint asked)
 
 -- a component that wasn't tried, and no job of which is out
-pub record CanBePicked (s : State) (asked : List Asking) : Type 0 where
+pub record CanBePicked (s : State) (asked : List Posted) : Type 0 where
   pub component : IsPresentComponent s asked
   pub untried : Contains s.tried asked → ⊥
   pub not_out : IsOut s asked → ⊥
 
 -- the number of the first of them
-abbrev pub first_tx : List Asking → ℕ
+abbrev pub first_tx : List Posted → ℕ
 first_tx [] = 0
-first_tx (asking ∷ more) = asking.tx
+first_tx (query ∷ more) = query.tx
 
 -- the uses of some statements, by table, each once
-abbrev pub joint_uses : List Asking → List Use
-joint_uses asked = with_uses (flat_map (λ asking. entangled_uses asking.statement) asked) []
+abbrev pub joint_uses : List Posted → List Use
+joint_uses asked = with_uses (flat_map (λ query. entangled_uses query.statement) asked) []
 
-abbrev pub joint_job : State → List Asking → Job
+abbrev pub joint_job : State → List Posted → Job
 joint_job s asked = record { work = Joint asked; tables = seen_now s.opening.tables s.tables (joint_uses asked) }
 
 -- ---- what an answer makes of the members
 
 -- a member takes its values: its heads are its answer, and its host variables are bound
-abbrev pub answered_by : Asking → Valuation → Member → Member
-answered_by asking values member =
-    stepped (answers.Heads (form_heads (λ value. value) asking.statement values))
-    (record member { bound = member.bound ++ form_bound (λ value. value) asking.statement values })
+abbrev pub answered_by : Posted → Valuation → Member → Member
+answered_by query values member =
+    stepped (answers.Heads (form_heads (λ value. value) query.statement values))
+    (record member { bound = member.bound ++ form_bound (λ value. value) query.statement values })
 
-abbrev pub answered_among : List Asking → List Valuation → Member → Member
+abbrev pub answered_among : List Posted → List Valuation → Member → Member
 answered_among [] groundings member = member
-answered_among (asking ∷ asked) [] member = member
-answered_among (asking ∷ asked) (values ∷ more) member =
-    if is_tx asking.tx member then answered_by asking values member else answered_among asked more member
+answered_among (query ∷ asked) [] member = member
+answered_among (query ∷ asked) (values ∷ more) member =
+    if is_tx query.tx member then answered_by query values member else answered_among asked more member
 
 -- the members of the joint answer, with their groundings
-abbrev pub joint_members : List Asking → List Valuation → List JointMember
+abbrev pub joint_members : List Posted → List Valuation → List JointMember
 joint_members [] groundings = []
-joint_members (asking ∷ asked) [] = []
-joint_members (asking ∷ asked) (values ∷ more) =
-    record { tx = asking.tx; place = asking.place; grounding = values } ∷ joint_members asked more
+joint_members (query ∷ asked) [] = []
+joint_members (query ∷ asked) (values ∷ more) =
+    record { tx = query.tx; place = query.place; grounding = values } ∷ joint_members asked more
 
-abbrev pub joint_answer : List Asking → List Valuation → JointAnswer
+abbrev pub joint_answer : List Posted → List Valuation → JointAnswer
 joint_answer asked groundings = record { members = joint_members asked groundings }
 
 -- the groups of the members that are answered
-abbrev pub answered_groups : State → List Asking → List ℕ
+abbrev pub answered_groups : State → List Posted → List ℕ
 answered_groups s asked =
-    map (λ member. member.group) (filter (λ member. list_any (λ asking. is_tx asking.tx member) asked) (members s))
+    map (λ member. member.group) (filter (λ member. list_any (λ query. is_tx query.tx member) asked) (members s))
 
 -- the label that their groups get together: that of the first one's
 abbrev pub joined_label : List ℕ → ℕ → ℕ
@@ -85,7 +85,7 @@ abbrev pub in_joined_group : List ℕ → Member → Member
 in_joined_group groups member = record member { group = joined_label groups member.group }
 
 -- the members leave the pool, answered, and their groups are one
-abbrev pub joining : State → List Asking → List Valuation → State
+abbrev pub joining : State → List Posted → List Valuation → State
 joining s asked groundings =
     record s {
       prepared = map (in_joined_group (answered_groups s asked)) s.prepared;
@@ -98,7 +98,7 @@ joining s asked groundings =
 
 -- the job of a result is lent, and its members are exactly a component now
 pub record IsOutstandingJoint (s : State) (done : Done) : Type 0 where
-  pub asked : List Asking
+  pub asked : List Posted
   pub is_joint : done.job.work ≡ Joint asked
   pub left : List Job
   pub taken : IsTaken done.job s.lent left
@@ -107,18 +107,18 @@ pub record IsOutstandingJoint (s : State) (done : Done) : Type 0 where
 module _ {F : Type 0} where
   -- the component with the least first member is lent
   pub record Lends (s : State) (reply : Reply F) (new : State) : Type 0 where
-    pub asked : List Asking
+    pub asked : List Posted
     pub can : CanBePicked s asked
-    pub least : (others : List Asking) → CanBePicked s others → first_tx asked ≤ first_tx others
+    pub least : (others : List Posted) → CanBePicked s others → first_tx asked ≤ first_tx others
     pub replies : reply ≡ replies.Lent (joint_job s asked)
     pub is : new ≡ record s { lent = s.lent ++ joint_job s asked ∷ [] }
 
   abbrev pub Picks : State → Reply F → State → Type 0
   Picks s reply new =
       Lends s reply new
-      ⊎ (((asked : List Asking) → CanBePicked s asked → ⊥) × Refuses s replies.Nothing reply new)
+      ⊎ (((asked : List Posted) → CanBePicked s asked → ⊥) × Refuses s replies.Nothing reply new)
 
-  abbrev pub AnswersBy : State → List Asking → Option (List Valuation) → Reply F → State → Type 0
+  abbrev pub AnswersBy : State → List Posted → Option (List Valuation) → Reply F → State → Type 0
   AnswersBy s asked (Some groundings) reply new = (reply ≡ replies.Answered) × (new ≡ joining s asked groundings)
   AnswersBy s asked None reply new = (reply ≡ replies.NoChoice) × (new ≡ record s { tried = asked ∷ s.tried })
 

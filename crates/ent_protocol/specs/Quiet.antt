@@ -2,10 +2,9 @@
 use Rattle.std.specs.Prelude.{◌≡◌, ◌⊎◌, ◌≤◌, ℕ, ◌||◌, true, false, List, Contains, Option, Some, None}
 use Rattle.ent_value.specs.declared.value.Value.{Value}
 use Rattle.ent_closed.specs.declared.entangled.Entangled.{Entangled}
-use Rattle.ent_coordination.specs.Pool.{IsSafe}
+use Rattle.ent_coordination.specs.Pool.{IsSafe, Posted}
 use Rattle.ent_protocol.specs.Begin.{pool_with}
 use Rattle.ent_protocol.specs.Event.{Reason, JobOut, CanBegin, Untried, Cycle}
-use Rattle.ent_protocol.specs.Job.{Asking}
 use Rattle.ent_protocol.specs.Member.{Next, Ordinary, Asks, Commits, RollsBack, next_of, is_lent}
 use Rattle.ent_protocol.specs.PoolEvents.{IsPresentComponent, IsOut, first_tx}
 use Rattle.ent_protocol.specs.State.{State, Member}
@@ -18,12 +17,12 @@ IsLeast P tx = P tx × ((other : ℕ) → P other → tx ≤ other)
 
 -- a job of a transaction is out: one of its statements, or a joint one whose members are exactly a component
 pub record OutJoint (s : State) (tx : ℕ) : Type 0 where
-  pub asked : List Asking
+  pub asked : List Posted
   pub out : IsOut s asked
   pub component : IsPresentComponent s asked
-  pub asking : Asking
-  pub is_in : Contains asked asking
-  pub own : asking.tx ≡ tx
+  pub query : Posted
+  pub is_in : Contains asked query
+  pub own : query.tx ≡ tx
 
 abbrev pub HasJobOut : State → ℕ → Type 0
 HasJobOut s tx = (is_lent s tx ≡ true) ⊎ OutJoint s tx
@@ -51,7 +50,7 @@ pub record CanMove (s : State) (tx : ℕ) : Type 0 where
 
 -- a component that wasn't tried begins with this transaction
 pub record IsUntried (s : State) (tx : ℕ) : Type 0 where
-  pub asked : List Asking
+  pub asked : List Posted
   pub component : IsPresentComponent s asked
   pub untried : Contains s.tried asked → ⊥
   pub first : first_tx asked ≡ tx

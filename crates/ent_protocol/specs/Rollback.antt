@@ -76,7 +76,7 @@ goes_with gone job = work_of job.work
   where
     work_of : Work → Bool
     work_of (One single) = is_among gone single.tx
-    work_of (Joint askings) = true
+    work_of (Joint posted) = true
 
 -- Members are taken out of the run: what they changed is put back, the newest change first, over all of them together;
 -- their joint answers, uses and posts are dropped, and their jobs and every joint job are lent no more. By number, each

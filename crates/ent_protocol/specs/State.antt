@@ -12,7 +12,8 @@ use Rattle.ent_semantics.specs.Database.{Name, Rows}
 use Rattle.ent_closed.specs.declared.operand.Known.{Known}
 use Rattle.ent_closed.specs.declared.statement.Statement.{Statement}
 use Rattle.ent_closed.specs.Form.{Tables}
-use Rattle.ent_protocol.specs.Job.{Job, Asking}
+use Rattle.ent_coordination.specs.Pool.{Posted}
+use Rattle.ent_protocol.specs.Job.{Job}
 
 -- a script that was submitted, and its statements resolved
 pub record Submitted : Type 0 where
@@ -65,7 +66,7 @@ pub record State : Type 0 where
   -- joint answers in the order in which they were made, without those that were rolled back
   pub joints : List JointAnswer
   -- posted statements for which no choice was found
-  pub tried : List (List Asking)
+  pub tried : List (List Posted)
   pub lent : List Job
   -- the present rows of the tables, in the order of their declaration
   pub tables : Tables

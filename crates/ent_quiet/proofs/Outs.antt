@@ -58,7 +58,7 @@ out_from_state s tx (inr joint) =
       job,
       joint.out.1,
       subst (λ (w : Work). IsWorkOf s w tx) (sym joint.out.2)
-          (joint.component, (joint.asking, joint.is_in, joint.own)),
+          (joint.component, (joint.query, joint.is_in, joint.own)),
     )
 
 out_by : (s : State) (tx : ℕ) (work : Work) (job : Job) → job.work ≡ work → Contains s.lent job → IsWorkOf s work tx
@@ -70,7 +70,7 @@ out_by s tx (Joint asked) job is there own = inr (record {
   asked = asked;
   out = (job, there, is);
   component = own.0;
-  asking = own.1.0;
+  query = own.1.0;
   is_in = own.1.1;
   own = own.1.2;
 })

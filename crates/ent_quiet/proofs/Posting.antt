@@ -14,9 +14,9 @@ use Rattle.ent_protocol.specs.Begin.{pool_with}
 use Rattle.ent_coordination.specs.Pool.{Posted, CanMeet, IsFirstUnsafe, IsSafe, IsUnsafeAt, Unsafe}
 use Rattle.ent_match.specs.Fault.{IsByNumber}
 use Rattle.ent_match.specs.Posting.{HasNone}
-use Rattle.ent_components.specs.Component.{pool_and, pool_of}
-use Rattle.ent_protocol.specs.Job.{Asking, posted_of}
-use Rattle.ent_protocol.specs.Member.{Next, Ordinary, Asks, Commits, RollsBack, asking_of, askings, next_in, next_of}
+use Rattle.ent_protocol.specs.Member.{Next, Ordinary, Asks, Commits, RollsBack, posted_by, next_in, next_of, pool}
+use Rattle.ent_lists.specs.Elements.{contains_in, in_contains}
+use Rattle.ent_protocol.specs.PostedBy.{in_pool}
 use Rattle.ent_protocol.specs.State.{State, Member}
 use Rattle.ent_semantics.specs.Serial.{numbered}
 use Rattle.ent_quiet.specs.Movers.{IsNotAsking, OnlyPostedAsk}
@@ -71,46 +71,21 @@ module _ {X Y : Type 0} where
 
 -- ---- whose posted statements are
 
-posted_next : (s : State) (m : Member) → m.posted ≡ true
-    → next_in (numbered s.submitted m.tx) (record m { posted = true }) ≡ next_of s m
-posted_next s m e = λ i. next_in (numbered s.submitted m.tx) (record m { posted = sym e i })
-
-asks_of : (s : State) (m : Member) (a : Asking) → Contains (asking_of s m) a → (m.posted ≡ true) × (a.tx ≡ m.tx)
-asks_of s m a at = by m.posted refl (next_of s m) refl
-  where
-    by : (b : Bool) → m.posted ≡ b → (n : Next) → next_of s m ≡ n → (m.posted ≡ true) × (a.tx ≡ m.tx)
-    by true posted (Asks statement) next =
-        let own : Asking = record { tx = m.tx; attempt = m.attempt; place = m.place; statement = statement } in
-        let h : Contains (own ∷ []) a = rw (posted, posted_next s m posted ∙ next) at at in
-        elim (contains_cases own a [] h) [
-          | inl same ↦ (posted, sym (ap (λ (x : Asking). x.tx) same))
-          | inr bad ↦ absurd (contains_none a bad)
-        ]
-    by true posted (Ordinary statement) next =
-        let h : Contains [] a = rw (posted, posted_next s m posted ∙ next) at at in absurd (contains_none a h)
-    by true posted Commits next =
-        let h : Contains [] a = rw (posted, posted_next s m posted ∙ next) at at in absurd (contains_none a h)
-    by true posted RollsBack next =
-        let h : Contains [] a = rw (posted, posted_next s m posted ∙ next) at at in absurd (contains_none a h)
-    by false posted n next = let h : Contains [] a = rw posted at at in absurd (contains_none a h)
-
 -- of a member that isn't posted none of the posted statements is
 pub only_posted_ask : (s : State) → AllPairs (λ (one other : Member). one.tx < other.tx) s.active
-    → OnlyPostedAsk (askings s) s.active
-only_posted_ask s ascends member active unposted asking there own =
-    let r = flat_from (asking_of s) s.active asking there in
-    let q = asks_of s r.0 asking r.2 in
-    let same : r.0 ≡ member =
-    same_element (λ (m : Member). m.tx) s.active ascends r.0 member r.1 active (sym q.1 ∙ own) in
-    true≢false (sym q.0 ∙ (ap (λ (m : Member). m.posted) same ∙ unposted))
+    → OnlyPostedAsk (pool s) s.active
+only_posted_ask s ascends member active unposted query there own =
+    let r = in_pool s query (contains_in (pool s) query there) in
+    let same : r.member ≡ member =
+    same_element (λ (m : Member). m.tx) s.active ascends r.member member (in_contains s.active r.member r.at) active
+    (sym r.own ∙ own) in
+    true≢false (sym r.by.posted ∙ (ap (λ (m : Member). m.posted) same ∙ unposted))
 
 -- ---- one statement more
 
-pub has_none : (posted : List Asking) (asking : Asking) (tx : ℕ) → asking.tx ≡ tx → IsNotAsking posted tx
-    → HasNone (pool_of posted) (posted_of asking)
-has_none posted asking tx is none other there same =
-    let r = mapped_from posted_of posted other there in
-    none r.0 r.1 (ap (λ (p : Posted). p.tx) r.2 ∙ (same ∙ is))
+pub has_none : (posted : List Posted) (query : Posted) (tx : ℕ) → query.tx ≡ tx → IsNotAsking posted tx
+    → HasNone posted query
+has_none posted query tx is none other there same = none other there (same ∙ is)
 
 -- two statements of one transaction are one
 one_of_each : (pool : List Posted) (last : Posted) → IsByNumber pool → HasNone pool last → (x y : Posted)
@@ -139,35 +114,35 @@ not_safe pool last ascends none fault (below, one, other) safe =
     omega (arith, below, alike, first, second)
 
 -- the pool is safe where nothing stands in the way
-pub fault_tells : (posted : List Asking) (asking : Asking) → IsByNumber (pool_of posted)
-    → HasNone (pool_of posted) (posted_of asking) → (fault : Option Unsafe) (none_is : Bool)
+pub fault_tells : (posted : List Posted) (query : Posted) → IsByNumber posted
+    → HasNone posted query → (fault : Option Unsafe) (none_is : Bool)
     → is_some fault ≡ not none_is
-    → MatchOption fault (IsSafe (pool_and posted asking)) (IsFirstUnsafe (pool_and posted asking))
-    → IsTrue none_is ↔ IsSafe (pool_and posted asking)
-fault_tells posted asking ascends none None true is safe = (λ yes. safe, λ really. refl)
-fault_tells posted asking ascends none None false is safe = absurd (true≢false (sym is))
-fault_tells posted asking ascends none (Some fault) true is first = absurd (true≢false is)
-fault_tells posted asking ascends none (Some fault) false is first = (
+    → MatchOption fault (IsSafe (posted ++ query ∷ [])) (IsFirstUnsafe (posted ++ query ∷ []))
+    → IsTrue none_is ↔ IsSafe (posted ++ query ∷ [])
+fault_tells posted query ascends none None true is safe = (λ yes. safe, λ really. refl)
+fault_tells posted query ascends none None false is safe = absurd (true≢false (sym is))
+fault_tells posted query ascends none (Some fault) true is first = absurd (true≢false is)
+fault_tells posted query ascends none (Some fault) false is first = (
   λ bad. absurd (true≢false (sym bad)),
-  λ safe. absurd (not_safe (pool_of posted) (posted_of asking) ascends none fault first.0 safe),
+  λ safe. absurd (not_safe posted query ascends none fault first.0 safe),
 )
 
 -- the pool of a state with a member's statement
-pub pool_is : (s : State) (posted : List Asking) (asking : Asking) (member : Member) (statement : Entangled Value)
-    → askings s ≡ posted → asking.tx ≡ member.tx → asking.statement ≡ statement
-    → pool_and posted asking ≡ pool_with s member statement
-pool_is s posted asking member statement same own said =
-    λ i. map posted_of (sym same i) ++ record { tx = own i; statement = said i } ∷ []
+pub pool_is : (s : State) (posted : List Posted) (query : Posted) (member : Member) (statement : Entangled Value)
+    → pool s ≡ posted
+    → query ≡ record { tx = member.tx; attempt = member.attempt; place = member.place; statement = statement }
+    → posted ++ query ∷ [] ≡ pool_with s member statement
+pool_is s posted query member statement same is = λ i. sym same i ++ is i ∷ []
 
 pub asks_same : (one other : Entangled Value) → Asks one ≡ Asks other → one ≡ other
 asks_same one other same = cc
 
 -- ---- of more members and of fewer
 
-pub first_asks : (posted : List Asking) (first : Member) (rest : List Member) → OnlyPostedAsk posted (first ∷ rest)
+pub first_asks : (posted : List Posted) (first : Member) (rest : List Member) → OnlyPostedAsk posted (first ∷ rest)
     → OnlyPostedAsk posted (first ∷ [])
 first_asks posted first rest all member there = all member (Contains-append_left (first ∷ []) rest member there)
 
-pub rest_ask : (posted : List Asking) (first : Member) (rest : List Member) → OnlyPostedAsk posted (first ∷ rest)
+pub rest_ask : (posted : List Posted) (first : Member) (rest : List Member) → OnlyPostedAsk posted (first ∷ rest)
     → OnlyPostedAsk posted rest
 rest_ask posted first rest all member there = all member (Contains-append_right (first ∷ []) rest member there)

@@ -1,11 +1,9 @@
 -- Why a run can't end yet.
 use Rattle.std.proofs.Common.{◌≡◌, ℕ, List, Option, Some, None, sym, subst}
 use Rattle.std.specs.Prelude.{MatchOption}
-use Rattle.ent_components.specs.Component.{pool_of}
-use Rattle.ent_coordination.specs.Pool.{IsSafe}
+use Rattle.ent_coordination.specs.Pool.{IsSafe, Posted}
 use Rattle.ent_match.specs.Fault.{IsByNumber}
-use Rattle.ent_protocol.specs.Job.{Asking}
-use Rattle.ent_protocol.specs.Member.{askings}
+use Rattle.ent_protocol.specs.Member.{pool}
 use Rattle.ent_protocol.specs.Quiet.{CanMove, IsLeast, NoneIs}
 use Rattle.ent_protocol.specs.State.{State, Member, Submitted}
 use Rattle.ent_quiet.specs.Least.{LeastIfAny}
@@ -16,24 +14,24 @@ use Rattle.ent_quiet.proofs.Posting.{only_posted_ask}
 use Rattle.ent_quiet.proofs.Smallest.{least_same}
 
 -- what is posted in a state with these scripts and members
-abbrev pub ArePosted : List Submitted → List Member → List Asking → Type 0
-ArePosted submitted active posted = (s : State) → s.submitted ≡ submitted → s.active ≡ active → posted ≡ askings s
+abbrev pub ArePosted : List Submitted → List Member → List Posted → Type 0
+ArePosted submitted active posted = (s : State) → s.submitted ≡ submitted → s.active ≡ active → posted ≡ pool s
 
-module _ (submitted : List Submitted) (active : List Member) (posted : List Asking) (order : AreInOrder submitted active)
+module _ (submitted : List Submitted) (active : List Member) (posted : List Posted) (order : AreInOrder submitted active)
     (are : ArePosted submitted active posted) where
-  same : askings order.state ≡ posted
+  same : pool order.state ≡ posted
   same = sym (are order.state order.of_submitted order.of_active)
 
-  pub in_order : IsByNumber (pool_of posted)
-  in_order = subst (λ (asked : List Asking). IsByNumber (pool_of asked)) same order.posted
+  pub in_order : IsByNumber posted
+  in_order = subst (λ (asked : List Posted). IsByNumber asked) same order.posted
 
-  pub in_safety : IsSafe (pool_of posted)
-  in_safety = subst (λ (asked : List Asking). IsSafe (pool_of asked)) same order.safe
+  pub in_safety : IsSafe posted
+  in_safety = subst (λ (asked : List Posted). IsSafe asked) same order.safe
 
   pub posted_ask : OnlyPostedAsk posted active
   posted_ask =
-      subst (λ (asked : List Asking). OnlyPostedAsk asked active) same
-      (subst (λ (members : List Member). OnlyPostedAsk (askings order.state) members) order.of_active
+      subst (λ (asked : List Posted). OnlyPostedAsk asked active) same
+      (subst (λ (members : List Member). OnlyPostedAsk (pool order.state) members) order.of_active
       (only_posted_ask order.state order.ascending))
 
 -- of all members that aren't prepared

@@ -1,12 +1,13 @@
 -- Whose jobs are out.
 use Rattle.std.specs.Prelude.{◌≡◌, ℕ, List, Contains}
-use Rattle.ent_protocol.specs.Job.{Job, Work, One, Joint, Asking}
+use Rattle.ent_coordination.specs.Pool.{Posted}
+use Rattle.ent_protocol.specs.Job.{Job, Work, One, Joint}
 use Rattle.ent_protocol.specs.PoolEvents.{IsPresentComponent}
 use Rattle.ent_protocol.specs.State.{State}
 
 -- one of some statements is of a transaction
-abbrev pub HasAsking : List Asking → ℕ → Type 0
-HasAsking asked tx = (asking : Asking) × Contains asked asking × (asking.tx ≡ tx)
+abbrev pub HasAsking : List Posted → ℕ → Type 0
+HasAsking asked tx = (query : Posted) × Contains asked query × (query.tx ≡ tx)
 
 -- work is of a transaction: its statement's, or that of a component which it is in
 abbrev pub IsWorkOf : State → Work → ℕ → Type 0

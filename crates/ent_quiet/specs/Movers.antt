@@ -1,6 +1,6 @@
 -- Who would move.
 use Rattle.std.specs.Prelude.{◌≡◌, ◌≢◌, ℕ, false, List, Contains}
-use Rattle.ent_protocol.specs.Job.{Asking}
+use Rattle.ent_coordination.specs.Pool.{Posted}
 use Rattle.ent_protocol.specs.Member.{next_of}
 use Rattle.ent_protocol.specs.Quiet.{MovesBy}
 use Rattle.ent_protocol.specs.State.{State, Member}
@@ -17,10 +17,10 @@ abbrev pub HasMoverIn : State → List Member → ℕ → Type 0
 HasMoverIn s members tx = (member : Member) × Contains members member × IsMover s member tx
 
 -- none of some posted statements is of a transaction
-abbrev pub IsNotAsking : List Asking → ℕ → Type 0
-IsNotAsking posted tx = (asking : Asking) → Contains posted asking → asking.tx ≢ tx
+abbrev pub IsNotAsking : List Posted → ℕ → Type 0
+IsNotAsking posted tx = (query : Posted) → Contains posted query → query.tx ≢ tx
 
 -- of members that aren't posted none of the posted statements is
-abbrev pub OnlyPostedAsk : List Asking → List Member → Type 0
+abbrev pub OnlyPostedAsk : List Posted → List Member → Type 0
 OnlyPostedAsk posted members =
     (member : Member) → Contains members member → member.posted ≡ false → IsNotAsking posted member.tx

@@ -1,11 +1,11 @@
 -- Why a run can't end yet, in the words of the protocol.
 use Rattle.std.specs.Prelude.{◌≡◌, ◌<◌, AllPairs, List, Option, None, Some}
-use Rattle.ent_coordination.specs.Pool.{IsSafe}
+use Rattle.ent_coordination.specs.Pool.{IsSafe, Posted}
 use Rattle.ent_match.specs.Fault.{IsByNumber}
 use Rattle.ent_members.specs.Run.{Run}
 use Rattle.ent_protocol.specs.Event.{Reason}
 use Rattle.ent_protocol.specs.Event as reasons
-use Rattle.ent_protocol.specs.Job.{Job, Asking}
+use Rattle.ent_protocol.specs.Job.{Job}
 use Rattle.ent_protocol.specs.Member.{pool}
 use Rattle.ent_protocol.specs.Quiet.{IsQuiet, IsReason}
 use Rattle.ent_protocol.specs.State.{State, Member, Submitted}
@@ -20,7 +20,7 @@ reason_seen (why.Untried tx) = reasons.Untried tx
 reason_seen (why.Cycle members) = reasons.Cycle members
 
 -- a state with these members, scripts, tried components and lent jobs
-abbrev pub state_of : Run → List Submitted → List (List Asking) → List Job → State → State
+abbrev pub state_of : Run → List Submitted → List (List Posted) → List Job → State → State
 state_of run submitted tried lent s = record (state_with run submitted lent s) { tried = tried }
 
 -- these are the scripts and the active members of a state where members and posted statements stand by number, and the

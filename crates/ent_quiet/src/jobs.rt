@@ -2,22 +2,22 @@
 ghost use Rattle.std.specs.Prelude.{◌≡◌, IfOk};
 ghost use Rattle.ent_coordination.specs.Pool.{IsSafe};
 ghost use Rattle.ent_match.specs.Fault.{IsByNumber};
-ghost use Rattle.ent_protocol.specs.Member.{askings};
+ghost use Rattle.ent_protocol.specs.Member.{pool};
 ghost use Rattle.ent_protocol.specs.Quiet.{HasJobOut};
 ghost use Rattle.ent_protocol.specs.State.{State};
 ghost use Rattle.ent_job.specs.Work.{work_seen};
-ghost use Rattle.ent_components.specs.Component.{pool_of};
 ghost use Rattle.ent_quiet.specs.Jobs.{HasAsking, HasJobIn, IsWorkOf};
 ghost use Rattle.ent_quiet.specs.Least.{LeastIfAny};
 
 use crate::least::lesser;
 use ent_components::is_present;
 use ent_group::Tx;
-use ent_job::{Asking, Job, Work};
+use ent_job::{Job, Work};
+use ent_match::Posted;
 use std::alloc::{AllocError, Global};
 
 /// The least transaction of some statements.
-fn least_of(asked: &[Asking]) -> Option<Tx>
+fn least_of(asked: &[Posted]) -> Option<Tx>
     ensures { LeastIfAny (HasAsking asked.now) result }
 {
     let Some((first, rest)) = asked.split_first() else {
@@ -27,11 +27,11 @@ fn least_of(asked: &[Asking]) -> Option<Tx>
 }
 
 /// The least transaction that work is of. Posted statements that are no component now are of nobody.
-fn least_at(alloc: Global, posted: &[Asking], work: &Work) -> Result<Option<Tx>, AllocError>
-    requires by_number { IsByNumber (pool_of posted.now) }
-    requires safe { IsSafe (pool_of posted.now) }
+fn least_at(alloc: Global, posted: &[Posted], work: &Work) -> Result<Option<Tx>, AllocError>
+    requires by_number { IsByNumber posted.now }
+    requires safe { IsSafe posted.now }
     ensures { IfOk result (λ least. (s : State)
-        → askings s ≡ posted.now
+        → pool s ≡ posted.now
         → LeastIfAny (IsWorkOf s (work_seen work.now)) least) }
 {
     match work {
@@ -47,10 +47,10 @@ fn least_at(alloc: Global, posted: &[Asking], work: &Work) -> Result<Option<Tx>,
 }
 
 /// The least transaction of which one of some jobs is.
-fn least_out(alloc: Global, posted: &[Asking], lent: &[Job]) -> Result<Option<Tx>, AllocError>
-    requires by_number { IsByNumber (pool_of posted.now) }
-    requires safe { IsSafe (pool_of posted.now) }
-    ensures { IfOk result (λ least. (s : State) → askings s ≡ posted.now → LeastIfAny (HasJobIn s lent.now) least) }
+fn least_out(alloc: Global, posted: &[Posted], lent: &[Job]) -> Result<Option<Tx>, AllocError>
+    requires by_number { IsByNumber posted.now }
+    requires safe { IsSafe posted.now }
+    ensures { IfOk result (λ least. (s : State) → pool s ≡ posted.now → LeastIfAny (HasJobIn s lent.now) least) }
 {
     let Some((job, rest)) = lent.split_first() else {
         return Ok(None);
@@ -62,11 +62,11 @@ fn least_out(alloc: Global, posted: &[Asking], lent: &[Job]) -> Result<Option<Tx
 
 /// The least transaction that has a job out: one of its statements, or posted statements with its own that are a
 /// component now; none where no job is out. Jobs of posted statements that are no component any more don't count.
-pub fn job_out(alloc: Global, posted: &[Asking], lent: &[Job]) -> Result<Option<Tx>, AllocError>
-    requires by_number { IsByNumber (pool_of posted.now) }
-    requires safe { IsSafe (pool_of posted.now) }
+pub fn job_out(alloc: Global, posted: &[Posted], lent: &[Job]) -> Result<Option<Tx>, AllocError>
+    requires by_number { IsByNumber posted.now }
+    requires safe { IsSafe posted.now }
     ensures { IfOk result (λ least. (s : State)
-        → askings s ≡ posted.now
+        → pool s ≡ posted.now
         → s.lent ≡ lent.now
         → LeastIfAny (HasJobOut s) least) }
 {

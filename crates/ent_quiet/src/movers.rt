@@ -5,9 +5,8 @@ ghost use Rattle.ent_closed.specs.declared.entangled.Entangled.{Entangled};
 ghost use Rattle.ent_coordination.specs.Pool.{IsSafe};
 ghost use Rattle.ent_match.specs.Fault.{IsByNumber};
 ghost use Rattle.ent_protocol.specs.Begin.{pool_with};
-ghost use Rattle.ent_protocol.specs.Member.{Asks, askings, next_of};
+ghost use Rattle.ent_protocol.specs.Member.{Asks, next_of, pool};
 ghost use Rattle.ent_protocol.specs.State.{State};
-ghost use Rattle.ent_components.specs.Component.{pool_of};
 ghost use Rattle.ent_waits.specs.Waits.{state_with};
 ghost use Rattle.ent_quiet.specs.Least.{LeastIfAny};
 ghost use Rattle.ent_quiet.specs.Movers.{HasMoverIn, IsMover, IsNotAsking, OnlyPostedAsk};
@@ -15,7 +14,8 @@ ghost use Rattle.ent_quiet.specs.Movers.{HasMoverIn, IsMover, IsNotAsking, OnlyP
 use crate::least::lesser;
 use ent_components::post_fault;
 use ent_group::Tx;
-use ent_job::{Asking, Job};
+use ent_job::Job;
+use ent_match::Posted;
 use ent_members::{Member, Run};
 use ent_next::{Next, SubmittedScript, next_of};
 use ent_waits::{Motion, motion_of};
@@ -25,23 +25,23 @@ use std::alloc::{AllocError, Global};
 fn stays_safe(
     alloc: Global,
     submitted: &[SubmittedScript],
-    posted: &[Asking],
+    posted: &[Posted],
     member: &Member,
 ) -> Result<bool, AllocError>
-    requires by_number { IsByNumber (pool_of posted.now) }
-    requires safe { IsSafe (pool_of posted.now) }
+    requires by_number { IsByNumber posted.now }
+    requires safe { IsSafe posted.now }
     requires none { IsNotAsking posted.now member.now.tx }
     ensures { IfOk result (λ safe. (s : State) (statement : Entangled Value)
         → s.submitted ≡ submitted.now
-        → askings s ≡ posted.now
+        → pool s ≡ posted.now
         → next_of s member.now ≡ Asks statement
         → IsTrue safe ↔ IsSafe (pool_with s member.now statement)) }
 {
     match next_of(alloc, submitted, member)? {
         Next::Asks(statement) => {
             let place = member.place() as u64;
-            let asking = Asking::new(member.tx(), member.attempt(), place, statement);
-            let fault = post_fault(alloc, posted, &asking)?;
+            let query = Posted::new(member.tx(), member.attempt(), place, statement);
+            let fault = post_fault(alloc, posted, &query)?;
             Ok(fault.is_none())
         }
         _ => Ok(false),
@@ -54,14 +54,14 @@ fn mover_of(
     run: &Run,
     submitted: &[SubmittedScript],
     lent: &[Job],
-    posted: &[Asking],
+    posted: &[Posted],
     member: &Member,
 ) -> Result<Option<Tx>, AllocError>
-    requires by_number { IsByNumber (pool_of posted.now) }
-    requires safe { IsSafe (pool_of posted.now) }
+    requires by_number { IsByNumber posted.now }
+    requires safe { IsSafe posted.now }
     requires apart { OnlyPostedAsk posted.now (member.now ∷ []) }
     ensures { IfOk result (λ mover. (s : State)
-        → askings (state_with run.now submitted.now lent.now s) ≡ posted.now
+        → pool (state_with run.now submitted.now lent.now s) ≡ posted.now
         → LeastIfAny (IsMover (state_with run.now submitted.now lent.now s) member.now) mover) }
 {
     match motion_of(run, submitted, lent, member) {
@@ -83,14 +83,14 @@ pub(crate) fn least_mover(
     run: &Run,
     submitted: &[SubmittedScript],
     lent: &[Job],
-    posted: &[Asking],
+    posted: &[Posted],
     members: &[Member],
 ) -> Result<Option<Tx>, AllocError>
-    requires by_number { IsByNumber (pool_of posted.now) }
-    requires safe { IsSafe (pool_of posted.now) }
+    requires by_number { IsByNumber posted.now }
+    requires safe { IsSafe posted.now }
     requires apart { OnlyPostedAsk posted.now members.now }
     ensures { IfOk result (λ least. (s : State)
-        → askings (state_with run.now submitted.now lent.now s) ≡ posted.now
+        → pool (state_with run.now submitted.now lent.now s) ≡ posted.now
         → LeastIfAny (HasMoverIn (state_with run.now submitted.now lent.now s) members.now) least) }
 {
     let Some((member, rest)) = members.split_first() else {

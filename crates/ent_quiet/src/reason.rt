@@ -7,9 +7,10 @@ use crate::jobs::job_out;
 use crate::movers::least_mover;
 use ent_components::first_untried;
 use ent_group::{Members, Tx};
-use ent_job::{Asking, Job};
+use ent_job::Job;
+use ent_match::Posted;
 use ent_members::Run;
-use ent_next::{SubmittedScript, askings};
+use ent_next::{SubmittedScript, posted_statements};
 use ent_value::Sequence;
 use ent_waits::deadlock;
 use std::alloc::{AllocError, Global};
@@ -33,7 +34,7 @@ pub fn reason_of(
     alloc: Global,
     run: &Run,
     submitted: &[SubmittedScript],
-    tried: &[Sequence<Asking>],
+    tried: &[Sequence<Posted>],
     lent: &[Job],
 ) -> Result<Option<Reason>, AllocError>
     requires order { AreInOrder submitted.now run.now.active }
@@ -41,7 +42,7 @@ pub fn reason_of(
         → IsReasonIfAny (state_of run.now submitted.now tried.now lent.now s) reason) }
 {
     let active = run.active();
-    let posted = askings(alloc, submitted, active)?;
+    let posted = posted_statements(alloc, submitted, active)?;
     let pool = posted.as_slice();
     if let Some(tx) = job_out(alloc, pool, lent)? {
         return Ok(Some(Reason::JobOut(tx)));

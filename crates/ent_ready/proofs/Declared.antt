@@ -22,13 +22,14 @@ use Rattle.ent_form.specs.Kinds.{Bound, none_bound}
 use Rattle.ent_form.specs.declared.catalogue.TableSchema.{TableSchema}
 use Rattle.ent_form.specs.declared.fault.FormFault.{FormFault}
 use Rattle.ent_kinded.specs.Kinds.{AreDeclared}
+use Rattle.ent_coordination.specs.Pool.{Posted}
 use Rattle.ent_protocol.specs.Begin.{same_use, use_rank, with_uses}
 use Rattle.ent_protocol.specs.Finish.{table_of}
-use Rattle.ent_protocol.specs.Job.{Asking}
-use Rattle.ent_protocol.specs.Member.{Ordinary, askings, asking_of, end_next, environment_of, next_in, next_of}
+use Rattle.ent_protocol.specs.Member.{Ordinary, posted_by, end_next, environment_of, next_in, next_of, pool}
 use Rattle.ent_protocol.specs.Member.{statement_next}
 use Rattle.ent_protocol.specs.PoolEvents.{IsPresentComponent, joint_uses}
 use Rattle.ent_protocol.specs.Reached.{IsReached}
+use Rattle.ent_protocol.specs.PostedBy.{in_pool, is_present}
 use Rattle.ent_protocol.specs.State.{State, Submitted, Member, Use, inserted}
 use Rattle.ent_protocol.specs.Uses.{entangled_uses, shared, statement_uses}
 use Rattle.ent_protocol.specs.Waits.{next_uses}
@@ -36,7 +37,6 @@ use Rattle.ent_resolved.specs.Resolved.{resolved_forms}
 use Rattle.ent_lists.specs.Elements.{In, contains_in, in_either, in_flat, of_all}
 use Rattle.ent_ready.proofs.Lists.{numbered_in}
 use Rattle.ent_ready.proofs.Places.{statements_given}
-use Rattle.ent_ready.proofs.Posted.{asks_of}
 use Rattle.ent_ready.proofs.Steps.{bind_given, one_answer}
 
 -- ---- lists
@@ -248,19 +248,17 @@ changed_declared laws s reached m statement next =
     (changed_below n statement
     (subst (λ next. AllByRecursion (Below n) (next_uses next)) next (next_used laws s reached m)))
 
-pub joint_declared : DeclaredLaws → (s : State) → IsReached resolved_forms s → (asked : List Asking)
+pub joint_declared : DeclaredLaws → (s : State) → IsReached resolved_forms s → (asked : List Posted)
     → IsPresentComponent s asked → All (BelowIn s.opening.tables) (joint_uses asked)
 joint_declared laws s reached asked present =
     let n = length s.opening.tables in
-    let each = λ (asking : Asking). entangled_uses asking.statement in
+    let each = λ (query : Posted). entangled_uses query.statement in
     index_all (BelowIn s.opening.tables) (joint_uses asked) (λ own at.
     elim (of_uses (flat_map each asked) [] own at) [
       | inl there ↦
           let a = in_flat each asked own there in
-          let m = in_flat (asking_of s) s.active a.0
-          (contains_in (askings s) a.0 (of_index (Contains (askings s)) asked a.0 present.present a.1)) in
-          let q = asks_of s m.0 a.0 m.2 in
+          let m = in_pool s a.0 (is_present (pool s) asked present a.0 a.1) in
           of_all (Below n) (entangled_uses a.0.statement) own
-          (subst (λ next. AllByRecursion (Below n) (next_uses next)) q.0 (next_used laws s reached m.0)) a.2
+          (subst (λ next. AllByRecursion (Below n) (next_uses next)) m.by.next (next_used laws s reached m.member)) a.2
       | inr bad ↦ absurd bad
     ])

@@ -3,9 +3,9 @@ use Rattle.std.proofs.Common.{List, [], ◌∷◌, map, refl, sym, ap, subst, Co
 use Rattle.ent_tree.specs.declared.declaration.Create.{Create}
 use Rattle.ent_closed.specs.Form.{Tables}
 use Rattle.ent_coordination.specs.Pool.{Posted}
-use Rattle.ent_protocol.specs.Job.{Asking, posted_of}
-use Rattle.ent_protocol.specs.Member.{askings, pool, seen_now}
+use Rattle.ent_protocol.specs.Member.{pool, seen_now}
 use Rattle.ent_protocol.specs.PoolEvents.{IsPresentComponent}
+use Rattle.ent_protocol.specs.PostedBy.{is_present}
 use Rattle.ent_protocol.specs.State.{State, Use}
 use Rattle.ent_job.specs.Work.{AreUsed}
 use Rattle.ent_ready.proofs.Declared.{of_index}
@@ -17,10 +17,7 @@ lent_used creates tables [] = refl
 lent_used creates tables (own ∷ uses) = ap (λ numbers. own.table ∷ numbers) (lent_used creates tables uses)
 
 -- posted statements of a component stand in the pool
-pub stand_in_pool : (s : State) (asked : List Asking) → IsPresentComponent s asked → (member : Posted)
-    → In member (map posted_of asked) → In member (pool s)
+pub stand_in_pool : (s : State) (asked : List Posted) → IsPresentComponent s asked → (member : Posted)
+    → In member asked → In member (pool s)
 stand_in_pool s asked present member at =
-    let a = of_map posted_of asked member at in
-    let there = of_index (Contains (askings s)) asked a.0 present.present a.1 in
-    subst (λ (posted : Posted). In posted (pool s)) (sym a.2)
-    (to_map posted_of (askings s) a.0 (contains_in (askings s) a.0 there))
+    is_present (pool s) asked present member at

@@ -19,10 +19,10 @@ use Rattle.ent_form.specs.Form.{script_in}
 use Rattle.ent_form.specs.declared.catalogue.TableSchema.{TableSchema}
 use Rattle.ent_form.specs.declared.fault.FormFault.{FormFault}
 use Rattle.ent_form.specs.declared.script.Plain.{Plain}
-use Rattle.ent_protocol.specs.Job.{Asking, posted_of}
-use Rattle.ent_protocol.specs.Member.{Next, Ordinary, Asks, Commits, RollsBack, next_in, next_of, askings, asking_of}
-use Rattle.ent_protocol.specs.Member.{pool, statement_next, end_next, environment_of}
+use Rattle.ent_protocol.specs.Member.{Next, Ordinary, Asks, Commits, RollsBack, next_in, next_of, posted_by, pool}
+use Rattle.ent_protocol.specs.Member.{statement_next, end_next, environment_of}
 use Rattle.ent_protocol.specs.Reached.{IsReached}
+use Rattle.ent_protocol.specs.PostedBy.{in_pool}
 use Rattle.ent_protocol.specs.State.{State, Submitted, Member}
 use Rattle.ent_resolved.specs.Resolved.{resolved_forms}
 use Rattle.ent_lists.specs.Elements.{In, in_contains, of_map, in_flat}
@@ -38,30 +38,12 @@ pub record IsResolvedPost (tables : List TableSchema) (member : Posted) : Type 0
   pub environment : Environment
   pub resolved : script_in tables script ≡ Ok plain
   pub stands : Contains plain.statements (statements.Entangled entangled)
-  pub is : member ≡ record { tx = member.tx; statement = closed_entangled environment entangled }
-
--- ---- who asks
-
-pub asks_of : (s : State) (m : Member) (a : Asking) → In a (asking_of s m)
-    → (next_of s m ≡ Asks a.statement) × (a.tx ≡ m.tx)
-asks_of s m a at = by m.posted refl (next_of s m) refl
-  where
-    posted_next : m.posted ≡ true → next_in (numbered s.submitted m.tx) (record m { posted = true }) ≡ next_of s m
-    posted_next e = λ i. next_in (numbered s.submitted m.tx) (record m { posted = sym e i })
-
-    by : (b : Bool) → m.posted ≡ b → (n : Next) → next_of s m ≡ n
-        → (next_of s m ≡ Asks a.statement) × (a.tx ≡ m.tx)
-    by true posted (Asks statement) next =
-        let h : In a (record { tx = m.tx; attempt = m.attempt; place = m.place; statement = statement } ∷ []) =
-        rw (posted, posted_next posted ∙ next) at at in
-        elim h [
-          | inl same ↦ (next ∙ ap (λ (x : Asking). Asks x.statement) (sym same), ap (λ (x : Asking). x.tx) same)
-          | inr bad ↦ absurd bad
-        ]
-    by true posted (Ordinary statement) next = let h : ⊥ = rw (posted, posted_next posted ∙ next) at at in absurd h
-    by true posted Commits next = let h : ⊥ = rw (posted, posted_next posted ∙ next) at at in absurd h
-    by true posted RollsBack next = let h : ⊥ = rw (posted, posted_next posted ∙ next) at at in absurd h
-    by false posted n next = let h : ⊥ = rw posted at at in absurd h
+  pub is : member ≡ record {
+    tx = member.tx;
+    attempt = member.attempt;
+    place = member.place;
+    statement = closed_entangled environment entangled;
+  }
 
 -- ---- what it asks
 
@@ -121,26 +103,30 @@ plain_given (Err fault) form e = cc
 pub posted_resolved : (s : State) → IsReached resolved_forms s → (member : Posted) → In member (pool s)
     → IsResolvedPost (schemas_of s.opening.tables) member
 posted_resolved s reached member at =
-    let a = of_map posted_of (askings s) member at in
-    let m = in_flat (asking_of s) s.active a.0 a.1 in
-    let q = asks_of s m.0 a.0 m.2 in
-    let asked = asked_in s.submitted m.0 a.0.statement q.0 in
+    let m = in_pool s member at in
+    let asked = asked_in s.submitted m.member member.statement m.by.next in
     let resolved = submitted_resolved resolved_forms s asked.own reached
-    (in_contains s.submitted asked.own (numbered_in s.submitted m.0.tx asked.own asked.submitted)) in
+    (in_contains s.submitted asked.own (numbered_in s.submitted m.member.tx asked.own asked.submitted)) in
     let p = plain_given (script_in (schemas_of s.opening.tables) asked.own.script) asked.own.form resolved in
     let stands = in_contains p.0.statements (statements.Entangled asked.entangled)
     (subst (In (statements.Entangled asked.entangled)) (sym p.2)
-    (numbered_in asked.own.form m.0.place (statements.Entangled asked.entangled) asked.there)) in
+    (numbered_in asked.own.form m.member.place (statements.Entangled asked.entangled) asked.there)) in
     let is : member ≡ record {
       tx = member.tx;
-      statement = closed_entangled (environment_of m.0) asked.entangled;
-    } = ap (λ (statement : Entangled Value). record { tx = member.tx; statement = statement })
-    (ap (λ (x : Posted). x.statement) a.2 ∙ asked.is) in
+      attempt = member.attempt;
+      place = member.place;
+      statement = closed_entangled (environment_of m.member) asked.entangled;
+    } = ap (λ (statement : Entangled Value). record {
+      tx = member.tx;
+      attempt = member.attempt;
+      place = member.place;
+      statement = statement;
+    }) asked.is in
     record {
       script = asked.own.script;
       plain = p.0;
       entangled = asked.entangled;
-      environment = environment_of m.0;
+      environment = environment_of m.member;
       resolved = p.1;
       stands = stands;
       is = is;

@@ -10,13 +10,14 @@ use Rattle.ent_tree.specs.declared.script.Script.{Script}
 use Rattle.ent_closed.specs.declared.entangled.Entangled.{Entangled}
 use Rattle.ent_closed.specs.declared.operand.Known.{Known}
 use Rattle.ent_closed.specs.declared.statement.Statement.{Statement}
+use Rattle.ent_coordination.specs.Pool.{Posted}
 use Rattle.ent_protocol.specs.Begin.{BeginsOrdinary, Posts, BeginsEntangled, BeginsCommit, BeginsNext, BeginsUnless}
 use Rattle.ent_protocol.specs.Begin.{BeginsMember}
 use Rattle.ent_protocol.specs.Commit.{preparing, is_ready}
 use Rattle.ent_protocol.specs.Event.{Event, Reply}
 use Rattle.ent_protocol.specs.Event as events
 use Rattle.ent_protocol.specs.Finish.{FinishesBy, Finishes}
-use Rattle.ent_protocol.specs.Job.{Outcome, Shown, Changed, Bound, Choice, Fault, Asking, Done}
+use Rattle.ent_protocol.specs.Job.{Outcome, Shown, Changed, Bound, Choice, Fault, Done}
 use Rattle.ent_protocol.specs.Member.{Next, Ordinary, Asks, Commits, RollsBack, active_member, next_of, is_lent}
 use Rattle.ent_protocol.specs.PoolEvents.{Picks, AnswersBy, JoinsOrIsStale}
 use Rattle.ent_protocol.specs.Reached.{opened, LeadsTo, IsReached}
@@ -99,7 +100,7 @@ module _ {F : Type 0} (forms : Forms F) where
       by_outcome (record s { lent = step.2.left }) step.2.member step.0.statement done.outcome reply new step.2.steps h
   finish s done reply new (inr step) h = as_is s new step.1.1 h
 
-  answers_by : (s : State) (asked : List Asking) (groundings : Option (List Valuation)) (reply : Reply F)
+  answers_by : (s : State) (asked : List Posted) (groundings : Option (List Valuation)) (reply : Reply F)
       (new : State) → AnswersBy s asked groundings reply new → AreResolved s → AreResolved new
   answers_by s asked (Some groundings) reply new step h = as_is _ new step.1 h
   answers_by s asked None reply new step h = as_is _ new step.1 h

@@ -4,9 +4,9 @@ ghost use Rattle.ent_value.specs.declared.value.Value.{Value};
 ghost use Rattle.ent_closed.specs.declared.statement.Statement.{Statement};
 ghost use Rattle.ent_job.specs.Work.{IsJoint, IsOne};
 ghost use Rattle.ent_form.specs.OpeningFault.{opening_fault};
+ghost use Rattle.ent_coordination.specs.Pool.{Posted};
 ghost use Rattle.ent_protocol.specs.Begin.{single_job};
 ghost use Rattle.ent_protocol.specs.Finish.{table_of};
-ghost use Rattle.ent_protocol.specs.Job.{Asking};
 ghost use Rattle.ent_protocol.specs.Member.{Ordinary, next_of};
 ghost use Rattle.ent_protocol.specs.PoolEvents.{IsPresentComponent, joint_job, joint_uses};
 ghost use Rattle.ent_protocol.specs.Reached.{IsReached};
@@ -31,7 +31,7 @@ pub fn used_tables_are_declared()
         → IsReached resolved_forms s
         → next_of s member ≡ Ordinary statement
         → All (λ table. table < length s.opening.tables) (table_of statement) }
-    ensures joint { (s : State) (asked : List Asking)
+    ensures joint { (s : State) (asked : List Posted)
         → IsReached resolved_forms s
         → IsPresentComponent s asked
         → All (λ own. own.table < length s.opening.tables) (joint_uses asked) }
@@ -57,7 +57,7 @@ pub fn begun_statements_are_work()
 /// Posted statements that are exactly a component of the pool are the work of a joint job with the present tables that
 /// they use.
 pub fn picked_statements_fit()
-    ensures { (s : State) (asked : List Asking)
+    ensures { (s : State) (asked : List Posted)
         → IsReached resolved_forms s
         → IsPresentComponent s asked
         → IsJoint asked (joint_job s asked).tables }

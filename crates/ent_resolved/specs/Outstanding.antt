@@ -1,7 +1,8 @@
 -- Results that are outstanding: their jobs are lent, and members and tables are as they were when these were made.
 use Rattle.std.specs.Prelude.{◌≡◌, List, Contains}
+use Rattle.ent_coordination.specs.Pool.{Posted}
 use Rattle.ent_protocol.specs.Event.{Reply, Stale}
-use Rattle.ent_protocol.specs.Job.{Single, Asking, Done, One, Joint, tables_of}
+use Rattle.ent_protocol.specs.Job.{Single, Done, One, Joint, tables_of}
 use Rattle.ent_protocol.specs.PoolEvents.{IsPresentComponent}
 use Rattle.ent_protocol.specs.State.{State}
 use Rattle.ent_protocol.specs.Uses.{entangled_uses}
@@ -19,12 +20,12 @@ pub record IsOutstanding (s : State) (done : Done) : Type 0 where
 
 -- of statements together: they are exactly a component of the pool, and the tables that they use are the present ones
 pub record IsOutstandingTogether (s : State) (done : Done) : Type 0 where
-  pub asked : List Asking
+  pub asked : List Posted
   pub is_joint : done.job.work ≡ Joint asked
   pub lent : Contains s.lent done.job
   pub component : IsPresentComponent s asked
-  pub present : (asking : Asking) → Contains asked asking
-      → SameWhereUsed (entangled_uses asking.statement) (tables_of done.job.tables) s.tables
+  pub present : (query : Posted) → Contains asked query
+      → SameWhereUsed (entangled_uses query.statement) (tables_of done.job.tables) s.tables
 
 -- a result is handed back, and the state is as it was
 abbrev pub IsHandedBack : {F : Type 0} → State → Done → Reply F → State → Type 0

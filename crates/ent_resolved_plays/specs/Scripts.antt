@@ -32,8 +32,8 @@ pub asks_resolve : (within : ℕ) (wish : Wish) (end : End)
 unfolding statement_in entangled_in membership_in select_in tests_in test_in item_in post_in
 asks_resolve within wish end = refl
 
-abbrev pub asking : (within : ℕ) (wish : Wish) (end : End) → ScriptOf resolved_forms within (asks_form wish ∷ []) end
-asking within wish end =
+abbrev pub posted : (within : ℕ) (wish : Wish) (end : End) → ScriptOf resolved_forms within (asks_form wish ∷ []) end
+posted within wish end =
     record { statements = asks_written wish ∷ []; resolves = asks_resolve within wish end }
 
 -- and then an INSERT of what it bound

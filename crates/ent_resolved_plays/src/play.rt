@@ -10,7 +10,7 @@ ghost use Rattle.ent_plays.specs.Earlier.{job_outlives, next_attempt};
 ghost use Rattle.ent_plays.specs.Grown.{A_for_B, B_for_A, C_for_A};
 ghost use Rattle.ent_plays.specs.HeldBack.{holds_back, mickey, minnie, posts_later};
 ghost use Rattle.ent_plays.specs.Ring.{B_for_C, ring_closes, ring_commits};
-ghost use Rattle.ent_resolved_plays.specs.Scripts.{LeadTo, asking, booking, partners};
+ghost use Rattle.ent_resolved_plays.specs.Scripts.{LeadTo, posted, booking, partners};
 
 use ent_endings::events_keep_the_input;
 use ent_form::FormFault;
@@ -42,7 +42,7 @@ pub fn a_pair_commits()
 pub fn a_ring_of_three_commits()
     ensures { (last : State)
         × LeadTo
-        (ring_closes (asking 8 A_for_B Commit) (asking 8 B_for_C Commit) (asking 8 C_for_A Commit) ++ ring_commits)
+        (ring_closes (posted 8 A_for_B Commit) (posted 8 B_for_C Commit) (posted 8 C_for_A Commit) ++ ring_commits)
         last
         × (last.fates
         ≡ record { tx = 1; fate = Committed 1 1 } ∷ record { tx = 2; fate = Committed 2 1 }
@@ -62,7 +62,7 @@ pub fn a_ring_of_three_commits()
 pub fn a_rollback_leaves_nobody_committed()
     ensures { (last : State)
         × LeadTo
-        (job_outlives (booking 8 A_for_B (codes "A") Commit) (asking 8 B_for_A Rollback) ++ next_attempt)
+        (job_outlives (booking 8 A_for_B (codes "A") Commit) (posted 8 B_for_A Rollback) ++ next_attempt)
         last
         × (last.fates ≡ record { tx = 2; fate = RolledBack 1 } ∷ [])
         × (last.dormant ≡ record { tx = 1; runs = 2 } ∷ [])
@@ -80,7 +80,7 @@ pub fn a_rollback_leaves_nobody_committed()
 pub fn an_unsafe_third_posts_later()
     ensures { (last : State)
         × LeadTo
-        (holds_back (asking 8 mickey Commit) (asking 8 minnie Commit) (asking 1 minnie Commit) ++ posts_later)
+        (holds_back (posted 8 mickey Commit) (posted 8 minnie Commit) (posted 1 minnie Commit) ++ posts_later)
         last
         × (last.fates
         ≡ record { tx = 1; fate = Committed 1 1 } ∷ record { tx = 2; fate = Committed 2 1 }

@@ -11,7 +11,7 @@ use anyhow::{Context, Result, bail};
 use ent_closed::{Atom, Entangled, Membership, Term};
 use ent_group::Tx;
 use ent_join::first_with;
-use ent_match::{Member, Pool};
+use ent_match::{Pool, Posted};
 use ent_plan::{JoinPlan, combine};
 use ent_rel::Table;
 use ent_value::{Sequence, Ticks, Value};
@@ -57,7 +57,7 @@ fn is_ranged(statement: &Entangled<Value>) -> bool
     true
 }
 
-fn are_ranged(members: &[Member]) -> bool
+fn are_ranged(members: &[Posted]) -> bool
     ensures { IsTrue result → AreRanged members.now }
 {
     if let [first, others @ ..] = members {
@@ -80,7 +80,7 @@ fn is_new(heads: &[Atom<Value>], head: &Atom<Value>) -> bool
 }
 
 /// Whether the heads of a statement are of distinct relations.
-fn has_distinct_heads(member: &Member) -> bool
+fn has_distinct_heads(member: &Posted) -> bool
     ensures { IsTrue result → HasDistinctHeads member.now }
 {
     let heads = member.statement().heads.as_slice();
@@ -92,7 +92,7 @@ fn has_distinct_heads(member: &Member) -> bool
     true
 }
 
-fn have_distinct_heads(members: &[Member]) -> bool
+fn have_distinct_heads(members: &[Posted]) -> bool
     ensures { IsTrue result → HaveDistinctHeads members.now }
 {
     for member in members {
@@ -151,7 +151,7 @@ fn put_grounding(alloc: Global, tx: Tx, grounding: &Sequence<Value>, out: &mut O
 
 fn put_groundings(
     alloc: Global,
-    members: &[Member],
+    members: &[Posted],
     groundings: &[Sequence<Value>],
     out: &mut Out,
 ) -> Result<()> {

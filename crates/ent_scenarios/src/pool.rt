@@ -4,27 +4,28 @@ ghost use Rattle.std.specs.Prelude.{IsTrue};
 ghost use Rattle.ent_match.specs.Posting.{HasNone};
 
 use crate::choice::{put_choice, put_plan};
-use crate::reply::{Out, put, put_list, put_number, put_shown};
+use crate::reply::{Out, put, put_number, put_shown};
 use crate::statement::{entangled, opening_tables};
 use crate::words::{first_word, number, numbers_in};
 use anyhow::{Result, bail};
 use ent_group::Tx;
-use ent_match::{Member, Pool, PostFault};
+use ent_match::{Pool, PostFault, Posted};
 use ent_rel::Table;
+use ent_value::Sequence;
 use std::alloc::Global;
 use std::sync::Arc;
 
 /// A pool, and the tables that its statements are over, with their declarations.
 #[derive(Drop)]
-pub(crate) struct Posted {
+pub(crate) struct PoolStage {
     opening: String,
     tables: Vec<Arc<Table>>,
     pool: Pool,
 }
 
-impl Posted {
+impl PoolStage {
     pub(crate) fn new(alloc: Global) -> Self {
-        Posted {
+        PoolStage {
             opening: String::new(alloc),
             tables: Vec::new(alloc),
             pool: Pool::new(alloc),
@@ -73,12 +74,12 @@ impl Posted {
         let tx = number(tx)?;
         let statement = entangled(alloc, self.opening.as_str(), text)?;
         let statement = Arc::new(alloc, statement)?;
-        post_to(&mut self.pool, Member::new(tx, statement), out)
+        post_to(&mut self.pool, Posted::new(tx, 1, 1, statement), out)
     }
 }
 
 /// Whether no statement of the member's transaction is there.
-fn has_none(members: &[Member], member: &Member) -> bool
+fn has_none(members: &[Posted], member: &Posted) -> bool
     ensures { IsTrue result → HasNone members.now member.now }
 {
     for other in members {
@@ -89,7 +90,7 @@ fn has_none(members: &[Member], member: &Member) -> bool
     true
 }
 
-fn post_to(pool: &mut Pool, member: Member, out: &mut Out) -> Result<()> {
+fn post_to(pool: &mut Pool, member: Posted, out: &mut Out) -> Result<()> {
     if !has_none(pool.members(), &member) {
         put(out, "there already");
         return Ok(());
@@ -130,8 +131,13 @@ fn put_members(pool: &Pool, out: &mut Out) {
     if pool.members().is_empty() {
         return put(out, "nobody");
     }
+    put_transactions(pool.members(), out);
+}
+
+/// The transactions of some statements.
+fn put_transactions(members: &[Posted], out: &mut Out) {
     let mut before = "";
-    for member in pool.members() {
+    for member in members {
         put(out, before);
         put_shown(out, &member.tx());
         before = " ";
@@ -140,18 +146,18 @@ fn put_members(pool: &Pool, out: &mut Out) {
 
 fn put_components(alloc: Global, pool: &Pool, out: &mut Out) -> Result<()> {
     let components = pool.components(alloc)?;
-    put_each_component(alloc, components.as_slice(), out);
+    put_each_component(components.as_slice(), out);
     Ok(())
 }
 
-fn put_each_component(alloc: Global, components: &[Vec<Tx>], out: &mut Out) {
+fn put_each_component(components: &[Sequence<Posted>], out: &mut Out) {
     if components.is_empty() {
         return put(out, "none");
     }
     let mut before = "";
     for component in components {
         put(out, before);
-        put_list(alloc, out, component.as_slice(), " ");
+        put_transactions(component.as_slice(), out);
         before = "; ";
     }
 }

@@ -3,7 +3,7 @@ use crate::atoms::Sides;
 use crate::book::Draft;
 use crate::groups::{reply_to_cycles, reply_to_groups, reply_to_members};
 use crate::lists::Lists;
-use crate::pool::Posted;
+use crate::pool::PoolStage;
 use crate::reply::{Out, put};
 use crate::streams::Streams;
 use crate::undo::Tables;
@@ -33,7 +33,7 @@ enum Stage {
     Locks(LockTable),
     Book(Draft),
     Streams(Streams),
-    Pool(Posted),
+    Pool(PoolStage),
     Atoms(Sides),
     Lists(Lists),
 }
@@ -55,7 +55,7 @@ fn set_stage(alloc: Global, name: &str) -> Result<Stage> {
         "locks" => Stage::Locks(LockTable::new(alloc)),
         "book" => Stage::Book(Draft::new(alloc)),
         "streams" => Stage::Streams(Streams::new(alloc)?),
-        "pool" => Stage::Pool(Posted::new(alloc)),
+        "pool" => Stage::Pool(PoolStage::new(alloc)),
         "atoms" => Stage::Atoms(Sides::new(alloc)),
         "lists" => Stage::Lists(Lists::new(alloc)),
         _ => bail!("nothing is called {name}"),

@@ -10,15 +10,15 @@ use Rattle.ent_closed.specs.declared.operand.Known.{Known}
 use Rattle.ent_closed.specs.declared.statement.Statement.{Statement}
 use Rattle.ent_closed.specs.Form.{Tables}
 use Rattle.ent_coordination.specs.Choice.{AreGroundings, IsLeastChoiceIfAny}
-use Rattle.ent_coordination.specs.Pool.{IsSafe}
+use Rattle.ent_coordination.specs.Pool.{IsSafe, Posted}
 use Rattle.ent_protocol.specs.Begin.{BeginsOrdinary, Posts, BeginsEntangled, BeginsCommit, BeginsNext, BeginsUnless}
 use Rattle.ent_protocol.specs.Begin.{BeginsMember, lending, posting, pool_with}
 use Rattle.ent_protocol.specs.Commit.{preparing, committing, is_ready}
 use Rattle.ent_protocol.specs.Event.{Event, Reply}
 use Rattle.ent_protocol.specs.Event as events
 use Rattle.ent_protocol.specs.Finish.{FinishesBy, Finishes, IsTaken, finished}
-use Rattle.ent_protocol.specs.Job.{Job, One, Joint, Asking, Done, Single, Outcome, Shown, Changed, Bound}
-use Rattle.ent_protocol.specs.Job.{Choice, Fault, IsOutcome, tables_of, posted_of}
+use Rattle.ent_protocol.specs.Job.{Job, One, Joint, Done, Single, Outcome, Shown, Changed, Bound}
+use Rattle.ent_protocol.specs.Job.{Choice, Fault, IsOutcome, tables_of}
 use Rattle.ent_protocol.specs.Member.{Next, Ordinary, Asks, Commits, RollsBack, active_member, next_of, is_lent, is_of}
 use Rattle.ent_protocol.specs.Member.{is_tx}
 use Rattle.ent_protocol.specs.PoolEvents.{Picks, AnswersBy, JoinsOrIsStale, IsPresentComponent, IsOut, joining}
@@ -62,13 +62,13 @@ pub record AreKept (P : State → Type 0) : Type 0 where
       → P (record s { lent = left })
   pub finishes : (s : State) (member : Member) (left : List Job) (statement : Statement Value) (outcome : Outcome)
       → ComesBack s member left → P s → P (finished (record s { lent = left }) member statement outcome)
-  pub picks : (s : State) (asked : List Asking) → IsPresentComponent s asked → (IsOut s asked → ⊥) → P s
+  pub picks : (s : State) (asked : List Posted) → IsPresentComponent s asked → (IsOut s asked → ⊥) → P s
       → P (record s { lent = s.lent ++ joint_job s asked ∷ [] })
-  pub joins : (s : State) (job : Job) (left : List Job) (asked : List Asking) (groundings : List Valuation)
+  pub joins : (s : State) (job : Job) (left : List Job) (asked : List Posted) (groundings : List Valuation)
       → IsTaken job s.lent left → IsPresentComponent s asked
-      → ((tables : Tables) × AreGroundings tables (map posted_of asked) groundings) → P s
+      → ((tables : Tables) × AreGroundings tables asked groundings) → P s
       → P (joining (record s { lent = left }) asked groundings)
-  pub tries : (s : State) (asked : List Asking) → P s → P (record s { tried = asked ∷ s.tried })
+  pub tries : (s : State) (asked : List Posted) → P s → P (record s { tried = asked ∷ s.tried })
   pub ends : (s : State) → P s → P (ending s)
   pub recalls : (s : State) → P s → P (record s { lent = [] })
 
@@ -88,13 +88,13 @@ pub record AreKeptSafe (P : State → Type 0) : Type 0 where
       → P (record s { lent = left })
   pub finishes : (s : State) (member : Member) (left : List Job) (statement : Statement Value) (outcome : Outcome)
       → ComesBack s member left → P s → P (finished (record s { lent = left }) member statement outcome)
-  pub picks : (s : State) (asked : List Asking) → IsPresentComponent s asked → (IsOut s asked → ⊥) → P s
+  pub picks : (s : State) (asked : List Posted) → IsPresentComponent s asked → (IsOut s asked → ⊥) → P s
       → P (record s { lent = s.lent ++ joint_job s asked ∷ [] })
-  pub joins : (s : State) (job : Job) (left : List Job) (asked : List Asking) (groundings : List Valuation)
+  pub joins : (s : State) (job : Job) (left : List Job) (asked : List Posted) (groundings : List Valuation)
       → IsTaken job s.lent left → IsPresentComponent s asked
-      → ((tables : Tables) × AreGroundings tables (map posted_of asked) groundings) → P s
+      → ((tables : Tables) × AreGroundings tables asked groundings) → P s
       → P (joining (record s { lent = left }) asked groundings)
-  pub tries : (s : State) (asked : List Asking) → P s → P (record s { tried = asked ∷ s.tried })
+  pub tries : (s : State) (asked : List Posted) → P s → P (record s { tried = asked ∷ s.tried })
   pub ends : (s : State) → P s → P (ending s)
   pub recalls : (s : State) → P s → P (record s { lent = [] })
 
@@ -208,10 +208,10 @@ module _ {F : Type 0} (forms : Forms F) (P : State → Type 0) (kept : AreKeptSa
       (record { job = done.job; taken = step.2.taken; single = single; is_single = step.1; at = f.0; own = f.1 }) h
   finish s done reply new (inr step) h = as_is s new step.1.1 h
 
-  answers_by : (s : State) (job : Job) (left : List Job) (asked : List Asking) (groundings : Option (List Valuation))
+  answers_by : (s : State) (job : Job) (left : List Job) (asked : List Posted) (groundings : Option (List Valuation))
       (tables : Tables) (reply : Reply F) (new : State)
       → AnswersBy (record s { lent = left }) asked groundings reply new → IsTaken job s.lent left
-      → IsLeastChoiceIfAny tables (map posted_of asked) groundings → IsPresentComponent s asked → P s → P new
+      → IsLeastChoiceIfAny tables asked groundings → IsPresentComponent s asked → P s → P new
   answers_by s job left asked (Some groundings) tables reply new step taken chosen component h =
       as_is _ new step.1 (kept.joins s job left asked groundings taken component (tables, chosen.choice.grounded) h)
   answers_by s job left asked None tables reply new step taken chosen component h =

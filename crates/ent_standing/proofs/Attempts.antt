@@ -10,10 +10,11 @@ use Rattle.ent_semantics.specs.declared.book.Fate.{Fate}
 use Rattle.ent_semantics.specs.Serial.{numbered}
 use Rattle.ent_closed.specs.declared.operand.Known.{Known}
 use Rattle.ent_closed.specs.declared.statement.Statement.{Statement}
+use Rattle.ent_coordination.specs.Pool.{Posted}
 use Rattle.ent_protocol.specs.Begin.{replaced}
 use Rattle.ent_protocol.specs.Commit.{preparing}
 use Rattle.ent_protocol.specs.Finish.{finished}
-use Rattle.ent_protocol.specs.Job.{Asking, Outcome, Shown, Changed, Bound, Choice, Fault}
+use Rattle.ent_protocol.specs.Job.{Outcome, Shown, Changed, Bound, Choice, Fault}
 use Rattle.ent_protocol.specs.Member.{is_of, is_tx}
 use Rattle.ent_protocol.specs.PoolEvents.{answered_among, answered_by, joining}
 use Rattle.ent_protocol.specs.Reached.{IsReached}
@@ -269,18 +270,18 @@ grouped s group m at =
 
 -- ---- all of them
 
-answered_attempt : (asked : List Asking) (groundings : List Valuation) (m : Member)
+answered_attempt : (asked : List Posted) (groundings : List Valuation) (m : Member)
     → (answered_among asked groundings m).attempt ≡ m.attempt
 answered_attempt [] groundings m = refl
-answered_attempt (asking ∷ asked) [] m = refl
-answered_attempt (asking ∷ asked) (values ∷ more) m = by (is_tx asking.tx m) (answered_attempt asked more m)
+answered_attempt (query ∷ asked) [] m = refl
+answered_attempt (query ∷ asked) (values ∷ more) m = by (is_tx query.tx m) (answered_attempt asked more m)
   where
     by : (b : Bool) → (answered_among asked more m).attempt ≡ m.attempt
-        → (cond b (answered_by asking values m) (answered_among asked more m)).attempt ≡ m.attempt
+        → (cond b (answered_by query values m) (answered_among asked more m)).attempt ≡ m.attempt
     by true e = refl
     by false e = e
 
-joins : (s : State) (asked : List Asking) (groundings : List Valuation) → Within s
+joins : (s : State) (asked : List Posted) (groundings : List Valuation) → Within s
     → Within (joining s asked groundings)
 joins s asked groundings h =
     record {

@@ -1,6 +1,6 @@
 -- Every event keeps members by number.
 use Rattle.std.proofs.Common.{◌≡◌, ◌<◌, ◌≤◌, ◌+◌, ℕ, Bool, true, false, cond, List, [], ◌∷◌, map, take, refl, sym}
-use Rattle.std.proofs.Common.{subst, length, inl, inr, arith, nat_eq, nat_lt}
+use Rattle.std.proofs.Common.{ap, subst, length, inl, inr, arith, nat_eq, nat_lt}
 use Rattle.std.specs.List.{AllByRecursion, IsDistinct, flat_map}
 use Rattle.std.proofs.lemmas.Bool.{ltb-true, ltb-false}
 use Rattle.ent_value.specs.declared.value.Value.{Value}
@@ -9,17 +9,18 @@ use Rattle.ent_closed.specs.declared.statement.Statement.{Statement}
 use Rattle.ent_coordination.specs.Pool.{Posted}
 use Rattle.ent_protocol.specs.Begin.{replaced}
 use Rattle.ent_protocol.specs.Finish.{finished}
-use Rattle.ent_protocol.specs.Job.{Asking, Outcome, Shown, Changed, Bound, Choice, Fault, posted_of}
-use Rattle.ent_protocol.specs.Member.{asking_of, askings, pool}
+use Rattle.ent_protocol.specs.Job.{Outcome, Shown, Changed, Bound, Choice, Fault}
+use Rattle.ent_protocol.specs.Member.{posted_by, pool}
 use Rattle.ent_protocol.specs.Reached.{IsReached}
 use Rattle.ent_protocol.specs.Run.{Forms, fresh, starting}
+use Rattle.ent_protocol.specs.PostedBy.{is_posted_by}
 use Rattle.ent_protocol.specs.State.{State, Member, members, inserted, by_number}
 use Rattle.ent_standing.specs.ByNumber.{StandByNumber}
 use Rattle.ent_standing.proofs.Acts.{AreKept, reached}
-use Rattle.ent_standing.proofs.Asked.{asks_of, asks_once, in_flat}
+use Rattle.ent_standing.proofs.Asked.{asks_once}
 use Rattle.ent_standing.proofs.Left.{tx_of, dormant_tx, fated_tx}
 use Rattle.ent_lists.specs.Elements.{Pairs, of_all, to_all, to_map, pairs_filtered, pairs_joined, pairs_mapped}
-use Rattle.ent_lists.specs.Elements.{pairs_short, pairs_index, same_number, not_so}
+use Rattle.ent_lists.specs.Elements.{in_flat, pairs_short, pairs_index, same_number, not_so}
 use Rattle.ent_standing.specs.Numbered.{from_inserted, from_by_number}
 use Rattle.ent_standing.proofs.Placed.{places_kept, places_opened, fresh_counted, answered_tx}
 use Rattle.ent_standing.proofs.Places.{within_once, Stands, members_once, replaced_tx}
@@ -156,20 +157,17 @@ ordered_kept =
 
 -- ---- statements in the pool
 
-abbrev asking_tx : Asking → ℕ
-asking_tx asking = asking.tx
-
 abbrev posted_tx : Posted → ℕ
-posted_tx posted = posted.tx
+posted_tx query = query.tx
 
-asked_ascend : (s : State) (ms : List Member) → Ascend ms → Pairs (Below asking_tx) (flat_map (asking_of s) ms)
+asked_ascend : (s : State) (ms : List Member) → Ascend ms → Pairs (Below posted_tx) (flat_map (posted_by s) ms)
 asked_ascend s [] ascend = tt
 asked_ascend s (m ∷ ms) ascend =
-    pairs_joined (Below asking_tx) (asking_of s m) (flat_map (asking_of s) ms)
-    (pairs_short (Below asking_tx) (asking_of s m) (asks_once s m)) (asked_ascend s ms ascend.1) (λ a b at bt.
-    let own : a.tx ≡ m.tx = (asks_of s m a at).1 in
-    let r = in_flat (asking_of s) ms b bt in
-    let other : b.tx ≡ r.0.tx = (asks_of s r.0 b r.2).1 in
+    pairs_joined (Below posted_tx) (posted_by s m) (flat_map (posted_by s) ms)
+    (pairs_short (Below posted_tx) (posted_by s m) (asks_once s m)) (asked_ascend s ms ascend.1) (λ a b at bt.
+    let own : a.tx ≡ m.tx = ap posted_tx (is_posted_by s m a at).is in
+    let r = in_flat (posted_by s) ms b bt in
+    let other : b.tx ≡ r.0.tx = ap posted_tx (is_posted_by s r.0 b r.2).is in
     let low : m.tx < r.0.tx = of_all (Below tx_of m) ms r.0 ascend.0 r.1 in
     omega (arith, own, other, low))
 
@@ -180,7 +178,5 @@ reached_by_number forms s r =
     record {
       distinct = apart_distinct (map tx_of (members s)) (once_apart (map tx_of (members s)) (members_once s h.0));
       active = pairs_index (Below tx_of) s.active h.1;
-      asked = pairs_index (Below asking_tx) (askings s) asked;
-      pool = pairs_index (Below posted_tx) (pool s)
-          (pairs_mapped posted_of (Below asking_tx) (Below posted_tx) (askings s) asked (λ x y low. low));
+      pool = pairs_index (Below posted_tx) (pool s) asked;
     }

@@ -5,10 +5,11 @@ use Rattle.std.specs.List.{AllByRecursion, filter}
 use Rattle.ent_value.specs.declared.value.Value.{Value}
 use Rattle.ent_semantics.specs.Entangled.{Valuation}
 use Rattle.ent_closed.specs.declared.statement.Statement.{Statement}
+use Rattle.ent_coordination.specs.Pool.{Posted}
 use Rattle.ent_protocol.specs.Begin.{replaced, holding, single_job, lending}
 use Rattle.ent_protocol.specs.Commit.{preparing}
 use Rattle.ent_protocol.specs.Finish.{IsTaken, finished}
-use Rattle.ent_protocol.specs.Job.{Job, Work, One, Joint, Single, Asking, Outcome, Shown, Changed, Bound, Choice, Fault}
+use Rattle.ent_protocol.specs.Job.{Job, Work, One, Joint, Single, Outcome, Shown, Changed, Bound, Choice, Fault}
 use Rattle.ent_protocol.specs.Member.{is_tx, is_lent, is_single_of}
 use Rattle.ent_protocol.specs.PoolEvents.{IsPresentComponent, IsOut, joint_job, joining, in_joined_group}
 use Rattle.ent_protocol.specs.PoolEvents.{answered_among, answered_by, answered_groups}
@@ -262,7 +263,7 @@ finishes s new m left own back h =
 
 -- ---- joint jobs
 
-picks : (s : State) (asked : List Asking) → (IsOut s asked → ⊥) → LentRight s.active s.lent
+picks : (s : State) (asked : List Posted) → (IsOut s asked → ⊥) → LentRight s.active s.lent
     → LentRight s.active (s.lent ++ joint_job s asked ∷ [])
 picks s asked out h =
     record {
@@ -284,16 +285,16 @@ picks s asked out h =
         (λ e. out (other, in_contains s.lent other at, is ∙ ap Joint e))
 
 -- one that isn't asked stays where it stands
-unasked : (asked : List Asking) (groundings : List Valuation) (x : Member)
-    → ((asking : Asking) → In asking asked → asking.tx ≡ x.tx → ⊥) → answered_among asked groundings x ≡ x
+unasked : (asked : List Posted) (groundings : List Valuation) (x : Member)
+    → ((query : Posted) → In query asked → query.tx ≡ x.tx → ⊥) → answered_among asked groundings x ≡ x
 unasked [] groundings x f = refl
-unasked (asking ∷ asked) [] x f = refl
-unasked (asking ∷ asked) (values ∷ more) x f =
-    ap (λ b. cond b (answered_by asking values x) (answered_among asked more x))
-    (not_so (is_tx asking.tx x) (λ e. f asking (inl refl) (sym (same_number x.tx asking.tx e))))
+unasked (query ∷ asked) [] x f = refl
+unasked (query ∷ asked) (values ∷ more) x f =
+    ap (λ b. cond b (answered_by query values x) (answered_among asked more x))
+    (not_so (is_tx query.tx x) (λ e. f query (inl refl) (sym (same_number x.tx query.tx e))))
     ∙ unasked asked more x (λ other at. f other (inr at))
 
-joins : (s : State) (job : Job) (left : List Job) (asked : List Asking) (groundings : List Valuation)
+joins : (s : State) (job : Job) (left : List Job) (asked : List Posted) (groundings : List Valuation)
     → IsTaken job s.lent left → IsPresentComponent s asked → Stands s → LentRight s.active s.lent
     → LentRight (joining (record s { lent = left }) asked groundings).active left
 joins s job left asked groundings taken component stands h =
@@ -304,10 +305,10 @@ joins s job left asked groundings taken component stands h =
       once = less.once;
       before = moved s.active (map become s.active) left (λ j single jt is x xt own unposted.
           let same : become x ≡ label x =
-          ap label (unasked asked groundings x (λ asking at e.
-          let asker = asker_of s asked component asking at in
+          ap label (unasked asked groundings x (λ query at e.
+          let asker = asker_of s asked component query at in
           let one = one_active s stands x asker.member xt asker.at (sym e ∙ asker.own) in
-          clash asker.member.posted asker.posted (ap (λ (m : Member). m.posted) (sym one) ∙ unposted))) in
+          clash asker.member.posted asker.by.posted (ap (λ (m : Member). m.posted) (sym one) ∙ unposted))) in
           record {
             member = label x;
             at = subst (λ y. In y (map become s.active)) same (to_map become s.active x xt);

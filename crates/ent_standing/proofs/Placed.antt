@@ -11,9 +11,10 @@ use Rattle.ent_group.specs.declared.members.TheConstants.{MOST_MEMBERS}
 use Rattle.ent_semantics.specs.Entangled.{Valuation}
 use Rattle.ent_closed.specs.declared.operand.Known.{Known}
 use Rattle.ent_closed.specs.declared.statement.Statement.{Statement}
+use Rattle.ent_coordination.specs.Pool.{Posted}
 use Rattle.ent_protocol.specs.Commit.{preparing, committing, commit_fates}
 use Rattle.ent_protocol.specs.Finish.{finished}
-use Rattle.ent_protocol.specs.Job.{Job, Asking, Outcome, Shown, Changed, Bound, Choice, Fault}
+use Rattle.ent_protocol.specs.Job.{Job, Outcome, Shown, Changed, Bound, Choice, Fault}
 use Rattle.ent_protocol.specs.Member.{is_of, is_tx}
 use Rattle.ent_protocol.specs.PoolEvents.{joining, in_joined_group, answered_among, answered_by, answered_groups}
 use Rattle.ent_protocol.specs.Reached.{opened, IsReached}
@@ -308,18 +309,18 @@ ends s h =
 
 -- ---- members that go on
 
-pub answered_tx : (asked : List Asking) (groundings : List Valuation) (m : Member)
+pub answered_tx : (asked : List Posted) (groundings : List Valuation) (m : Member)
     → (answered_among asked groundings m).tx ≡ m.tx
 answered_tx [] groundings m = refl
-answered_tx (asking ∷ asked) [] m = refl
-answered_tx (asking ∷ asked) (values ∷ more) m = by (is_tx asking.tx m) (answered_tx asked more m)
+answered_tx (query ∷ asked) [] m = refl
+answered_tx (query ∷ asked) (values ∷ more) m = by (is_tx query.tx m) (answered_tx asked more m)
   where
     by : (b : Bool) → (answered_among asked more m).tx ≡ m.tx
-        → (cond b (answered_by asking values m) (answered_among asked more m)).tx ≡ m.tx
+        → (cond b (answered_by query values m) (answered_among asked more m)).tx ≡ m.tx
     by true e = refl
     by false e = e
 
-joins : (s : State) (left : List Job) (asked : List Asking) (groundings : List Valuation) → Stands s
+joins : (s : State) (left : List Job) (asked : List Posted) (groundings : List Valuation) → Stands s
     → Stands (joining (record s { lent = left }) asked groundings)
 joins s left asked groundings h =
     mapped_places s (joining (record s { lent = left }) asked groundings)

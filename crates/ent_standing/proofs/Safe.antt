@@ -16,56 +16,18 @@ use Rattle.ent_closed.specs.declared.statement.Statement.{Statement}
 use Rattle.ent_coordination.specs.Pool.{CanMeet, IsSafe, Posted}
 use Rattle.ent_protocol.specs.Begin.{holding, pool_with, posting, replaced}
 use Rattle.ent_protocol.specs.Finish.{finished}
-use Rattle.ent_protocol.specs.Job.{Asking, Job, Outcome, Shown, Changed, Bound, Choice, Fault, posted_of}
-use Rattle.ent_protocol.specs.Member.{Asks, RollsBack, asking_of, askings, environment_of}
-use Rattle.ent_protocol.specs.Member.{next_in, next_of, pool, statement_next}
+use Rattle.ent_protocol.specs.Job.{Job, Outcome, Shown, Changed, Bound, Choice, Fault}
+use Rattle.ent_protocol.specs.Member.{Asks, RollsBack, posted_by, environment_of, pool}
+use Rattle.ent_protocol.specs.Member.{next_in, next_of, statement_next}
 use Rattle.ent_protocol.specs.PoolEvents.{answered_among, answered_by, answered_groups, in_joined_group, joining}
 use Rattle.ent_protocol.specs.Reached.{IsReached, opened}
 use Rattle.ent_protocol.specs.Run.{Forms, fresh, starting, submitting}
+use Rattle.ent_protocol.specs.PostedBy.{IsPosted, IsPostedBy, in_pool, to_pool, next_same}
 use Rattle.ent_protocol.specs.State.{State, Submitted, Member}
 use Rattle.ent_protocol.specs.Uses.{entangled_uses}
 use Rattle.ent_standing.proofs.Acts.{AreKeptSafe, safely_reached}
-use Rattle.ent_standing.proofs.Asked.{asks_of, in_flat, posted_next}
 use Rattle.ent_lists.specs.Elements.{In, contains_in, in_contains, in_first, in_second, of_filter, of_map, to_map}
 use Rattle.ent_standing.specs.Numbered.{from_by_number}
-
--- ---- who asks
-
--- a posted statement, of a posted member
-record IsAsked (s : State) (x : Posted) : Type 0 where
-  member : Member
-  at : In member s.active
-  posted : member.posted ≡ true
-  own : x.tx ≡ member.tx
-  next : next_of s member ≡ Asks x.statement
-
-to_flat : {X Y : Type 0} (f : X → List Y) (xs : List X) (x : X) (y : Y) → In x xs → In y (f x) → In y (flat_map f xs)
-to_flat f [] x y at there = absurd at
-to_flat f (z ∷ xs) x y (inl same) there =
-    in_first (f z) (flat_map f xs) y (subst (λ (w : _). In y (f w)) same there)
-to_flat f (z ∷ xs) x y (inr at) there = in_second (f z) (flat_map f xs) y (to_flat f xs x y at there)
-
-of_pool : (s : State) (x : Posted) → In x (pool s) → IsAsked s x
-of_pool s x at =
-    let a = of_map posted_of (askings s) x at in
-    let m = in_flat (asking_of s) s.active a.0 a.1 in
-    let q = asks_of s m.0 a.0 m.2 in
-    record {
-      member = m.0;
-      at = m.1;
-      posted = q.0;
-      own = ap (λ (y : Posted). y.tx) a.2 ∙ q.1;
-      next = q.2 ∙ ap (λ (y : Posted). Asks y.statement) (sym a.2);
-    }
-
-to_pool : (s : State) (x : Posted) → IsAsked s x → In x (pool s)
-to_pool s x asked =
-    let m = asked.member in
-    let a : Asking = record { tx = m.tx; attempt = m.attempt; place = m.place; statement = x.statement } in
-    let here : In a (asking_of s m) =
-    rw (asked.posted, posted_next s m asked.posted ∙ asked.next) (inl refl) in
-    subst (λ (tx : ℕ). In (record { tx = tx; statement = x.statement }) (pool s)) (sym asked.own)
-    (to_map posted_of (askings s) a (to_flat (asking_of s) s.active m a asked.at here))
 
 -- ---- what is kept
 
@@ -73,7 +35,7 @@ to_pool s x asked =
 record PoolRight (s : State) : Type 0 where
   asks : (m : Member) → In m s.active → m.posted ≡ true
       → (asked : Entangled Value) × (next_of s m ≡ Asks asked)
-  safe : (asker first second : Posted) (index : ℕ) → IsAsked s asker → IsAsked s first → IsAsked s second
+  safe : (asker first second : Posted) (index : ℕ) → IsPosted s asker → IsPosted s first → IsPosted s second
       → CanMeet asker index first → CanMeet asker index second → first.tx ≡ second.tx
 
 -- a posted member was posted before, at the same statement
@@ -82,21 +44,37 @@ record WasPosted (old new : State) (m : Member) : Type 0 where
   at : In before old.active
   posted : before.posted ≡ true
   own : m.tx ≡ before.tx
+  attempt : m.attempt ≡ before.attempt
+  place : m.place ≡ before.place
   next : next_of new m ≡ next_of old before
+
+-- a statement that a member has in the pool now was in the pool before
+was_in_pool : (old new : State) (m : Member) (was : WasPosted old new m) (x : Posted) → IsPostedBy new m x
+    → IsPosted old x
+was_in_pool old new m was x by =
+    record {
+      member = was.before;
+      at = was.at;
+      by = record {
+        posted = was.posted;
+        next = sym was.next ∙ by.next;
+        is = by.is
+            ∙ (λ i. record {
+              tx = was.own i;
+              attempt = was.attempt i;
+              place = was.place i;
+              statement = x.statement;
+            });
+      };
+      own = ap (λ (y : Posted). y.tx) by.is ∙ was.own;
+    }
 
 abbrev WerePosted : State → State → Type 0
 WerePosted old new = (m : Member) → In m new.active → m.posted ≡ true → WasPosted old new m
 
-back : (old new : State) → WerePosted old new → (x : Posted) → IsAsked new x → IsAsked old x
+back : (old new : State) → WerePosted old new → (x : Posted) → IsPosted new x → IsPosted old x
 back old new were x asked =
-    let w = were asked.member asked.at asked.posted in
-    record {
-      member = w.before;
-      at = w.at;
-      posted = w.posted;
-      own = asked.own ∙ w.own;
-      next = sym w.next ∙ asked.next;
-    }
+    was_in_pool old new asked.member (were asked.member asked.at asked.by.posted) x asked.by
 
 kept_by : (old new : State) → WerePosted old new → PoolRight old → PoolRight new
 kept_by old new were h =
@@ -112,29 +90,8 @@ kept_by old new were h =
 
 itself : (old new : State) (m : Member) → In m old.active → m.posted ≡ true → next_of new m ≡ next_of old m
     → WasPosted old new m
-itself old new m at posted next = record { before = m; at = at; posted = posted; own = refl; next = next }
-
--- ---- what stands next depends on the place and on what is bound
-
-next_there : (script : Script) (form : List (Statement Known)) (one other : Member) (n : ℕ)
-    → one.bound ≡ other.bound
-    → next_in (Some (record { script = script; form = form })) (record one { place = suc n })
-    ≡ next_in (Some (record { script = script; form = form })) (record other { place = suc n })
-next_there script [] one other n bound = refl
-next_there script (f ∷ fs) one other zero bound =
-    ap (λ b. statement_next (closed (environment_of (record one { bound = b })) f)) bound
-next_there script (f ∷ fs) one other (suc n) bound = next_there script fs one other n bound
-
-next_placed : (own : Submitted) (one other : Member) (n : ℕ) → one.bound ≡ other.bound
-    → next_in (Some own) (record one { place = n }) ≡ next_in (Some own) (record other { place = n })
-next_placed own one other zero bound = refl
-next_placed own one other (suc n) bound = next_there own.script own.form one other n bound
-
-next_same : (x : Option Submitted) (one other : Member) → one.place ≡ other.place → one.bound ≡ other.bound
-    → next_in x one ≡ next_in x other
-next_same None one other place bound = refl
-next_same (Some own) one other place bound =
-    (λ i. next_in (Some own) (record one { place = place i })) ∙ next_placed own one other other.place bound
+itself old new m at posted next =
+    record { before = m; at = at; posted = posted; own = refl; attempt = refl; place = refl; next = next }
 
 -- ---- a script is submitted
 
@@ -180,7 +137,7 @@ starts s =
     record {
       asks = λ m at posted. different (sym (unposted m at) ∙ posted);
       safe = λ asker first second index a b c one other.
-          different (sym (unposted a.member a.at) ∙ a.posted);
+          different (sym (unposted a.member a.at) ∙ a.by.posted);
     }
   where
     unposted : (m : Member) → In m (starting s).active → m.posted ≡ false
@@ -268,26 +225,21 @@ posts s m statement next safe h =
             inr (subst (WasPosted s new) (sym same)
             (itself s new x there (ap (λ (y : Member). y.posted) (sym same) ∙ posted) refl))
 
-    there : (x : Posted) → IsAsked new x → Contains (pool_with s m statement) x
+    posted_as : Member → Entangled Value → Posted
+    posted_as n asked =
+        record { tx = n.tx; attempt = n.attempt; place = n.place; statement = asked }
+
+    there : (x : Posted) → IsPosted new x → Contains (pool_with s m statement) x
     there x asked =
-        in_contains (pool_with s m statement) x (elim (known asked.member asked.at asked.posted) [
+        in_contains (pool_with s m statement) x (elim (known asked.member asked.at asked.by.posted) [
           | inl same ↦
               let is : x.statement ≡ statement =
-              one_asked x.statement statement (sym asked.next ∙ ap (next_of s) same ∙ next_own) in
-              in_second (pool s) (record { tx = m.tx; statement = statement } ∷ []) x
-              (inl (λ i. record {
-                tx = (asked.own ∙ ap (λ (y : Member). y.tx) same) i;
-                statement = is i;
-              }))
+              one_asked x.statement statement (sym asked.by.next ∙ ap (next_of s) same ∙ next_own) in
+              in_second (pool s) (posted_as m statement ∷ []) x
+              (inl (asked.by.is ∙ (λ i. posted_as (same i) (is i))))
           | inr was ↦
-              in_first (pool s) (record { tx = m.tx; statement = statement } ∷ []) x
-              (to_pool s x (record {
-                member = was.before;
-                at = was.at;
-                posted = was.posted;
-                own = asked.own ∙ was.own;
-                next = sym was.next ∙ asked.next;
-              }))
+              let old = was_in_pool s new asked.member was x asked.by in
+              in_first (pool s) (posted_as m statement ∷ []) x (to_pool s x old.member old.at old.by)
         ])
       where
         one_asked : (one other : Entangled Value) → Asks one ≡ Asks other → one ≡ other
@@ -306,7 +258,7 @@ finishes s m left statement (Shown rows) h =
 finishes s m left statement (Fault failure) h = same_members s (record s { lent = left }) refl refl h
 finishes s m left statement (Choice groundings) h = same_members s (record s { lent = left }) refl refl h
 
-joins : (s : State) (left : List Job) (asked : List Asking) (groundings : List Valuation) → PoolRight s
+joins : (s : State) (left : List Job) (asked : List Posted) (groundings : List Valuation) → PoolRight s
     → PoolRight (joining (record s { lent = left }) asked groundings)
 joins s left asked groundings h =
     mapped s new (λ m. in_joined_group groups (answered_among asked groundings m)) refl refl
@@ -330,24 +282,26 @@ joins s left asked groundings h =
               at = at;
               posted = posted;
               own = refl;
+              attempt = refl;
+              place = refl;
               next = next_same (numbered s.submitted m.tx) (in_joined_group groups m) m refl refl;
             })
         by false posted = inl posted
 
-    becomes : (asks : List Asking) (given : List Valuation) (m : Member) → In m s.active
+    becomes : (asks : List Posted) (given : List Valuation) (m : Member) → In m s.active
         → ((in_joined_group groups (answered_among asks given m)).posted ≡ false)
         ⊎ WasPosted s new (in_joined_group groups (answered_among asks given m))
     becomes [] given m at = as_it_was m at
-    becomes (asking ∷ asks) [] m at = as_it_was m at
-    becomes (asking ∷ asks) (values ∷ more) m at = by (m.tx == asking.tx) (becomes asks more m at)
+    becomes (query ∷ asks) [] m at = as_it_was m at
+    becomes (query ∷ asks) (values ∷ more) m at = by (m.tx == query.tx) (becomes asks more m at)
       where
         by : (b : Bool)
             → ((in_joined_group groups (answered_among asks more m)).posted ≡ false)
             ⊎ WasPosted s new (in_joined_group groups (answered_among asks more m))
             → ((in_joined_group groups
-            (cond b (answered_by asking values m) (answered_among asks more m))).posted ≡ false)
+            (cond b (answered_by query values m) (answered_among asks more m))).posted ≡ false)
             ⊎ WasPosted s new
-            (in_joined_group groups (cond b (answered_by asking values m) (answered_among asks more m)))
+            (in_joined_group groups (cond b (answered_by query values m) (answered_among asks more m)))
         by true rest = inl refl
         by false rest = rest
 
@@ -383,5 +337,5 @@ reached_safe forms s r =
           safe = λ asker first second index a b c one other. absurd a.at;
         }
 
-    asked : (x : Posted) → Contains (pool s) x → IsAsked s x
-    asked x there = of_pool s x (contains_in (pool s) x there)
+    asked : (x : Posted) → Contains (pool s) x → IsPosted s x
+    asked x there = in_pool s x (contains_in (pool s) x there)

@@ -6,7 +6,8 @@ use Rattle.ent_semantics.specs.declared.book.JointAnswer.{JointAnswer}
 use Rattle.ent_semantics.specs.Entangled.{Valuation}
 use Rattle.ent_closed.specs.Form.{Tables}
 use Rattle.ent_coordination.specs.Choice.{AreGroundings}
-use Rattle.ent_protocol.specs.Job.{Job, Asking, posted_of}
+use Rattle.ent_coordination.specs.Pool.{Posted}
+use Rattle.ent_protocol.specs.Job.{Job}
 use Rattle.ent_protocol.specs.Member.{is_tx}
 use Rattle.ent_protocol.specs.PoolEvents.{IsPresentComponent, joining, in_joined_group, answered_among, answered_by}
 use Rattle.ent_protocol.specs.PoolEvents.{answered_groups, joint_answer}
@@ -23,14 +24,14 @@ use Rattle.ent_standing.proofs.Times.{count, count_in}
 use Rattle.ent_standing.proofs.Groups.{label_of, labels, GroupsRight, joined_map, of_labels}
 use Rattle.ent_standing.proofs.Places.{within, there_within}
 
-answered_label : (asked : List Asking) (groundings : List Valuation) (m : Member)
+answered_label : (asked : List Posted) (groundings : List Valuation) (m : Member)
     → label_of (answered_among asked groundings m) ≡ label_of m
 answered_label [] groundings m = refl
-answered_label (asking ∷ asked) [] m = refl
-answered_label (asking ∷ asked) (values ∷ more) m = by (is_tx asking.tx m) (answered_label asked more m)
+answered_label (query ∷ asked) [] m = refl
+answered_label (query ∷ asked) (values ∷ more) m = by (is_tx query.tx m) (answered_label asked more m)
   where
     by : (b : Bool) → label_of (answered_among asked more m) ≡ label_of m
-        → label_of (cond b (answered_by asking values m) (answered_among asked more m)) ≡ label_of m
+        → label_of (cond b (answered_by query values m) (answered_among asked more m)) ≡ label_of m
     by true e = refl
     by false e = e
 
@@ -43,32 +44,32 @@ relabelled_members groups f (m ∷ ms) same =
     λ i. relabelled groups (same m i) ∷ rest i
 
 -- who takes part in a joint answer asked for it
-part_asked : (asked : List Asking) (groundings : List Valuation) (n : ℕ)
-    → takes_part (joint_answer asked groundings) n ≡ true → (asking : Asking) × In asking asked × (asking.tx ≡ n)
+part_asked : (asked : List Posted) (groundings : List Valuation) (n : ℕ)
+    → takes_part (joint_answer asked groundings) n ≡ true → (query : Posted) × In query asked × (query.tx ≡ n)
 part_asked [] groundings n is = cc
-part_asked (asking ∷ asked) [] n is = cc
-part_asked (asking ∷ asked) (values ∷ more) n is =
-    elim (or_cases (asking.tx == n) (takes_part (joint_answer asked more) n) is) [
-      | inl here ↦ (asking, inl refl, same_number asking.tx n here)
+part_asked (query ∷ asked) [] n is = cc
+part_asked (query ∷ asked) (values ∷ more) n is =
+    elim (or_cases (query.tx == n) (takes_part (joint_answer asked more) n) is) [
+      | inl here ↦ (query, inl refl, same_number query.tx n here)
       | inr there ↦ let r = part_asked asked more n there in (r.0, inr r.1, r.2)
     ]
 
 -- and each who asked takes part
-asked_part : (tables : Tables) (asked : List Asking) (groundings : List Valuation)
-    → AreGroundings tables (map posted_of asked) groundings → (asking : Asking) → In asking asked
-    → takes_part (joint_answer asked groundings) asking.tx ≡ true
-asked_part tables [] groundings grounded asking at = absurd at
-asked_part tables (first ∷ asked) [] grounded asking at = absurd grounded
-asked_part tables (first ∷ asked) (values ∷ more) grounded asking (inl same) =
-    or_first (first.tx == asking.tx) (takes_part (joint_answer asked more) asking.tx)
-    (ap (λ (a : Asking). first.tx == a.tx) same ∙ number_itself first.tx)
-asked_part tables (first ∷ asked) (values ∷ more) grounded asking (inr at) =
-    or_second (first.tx == asking.tx) (takes_part (joint_answer asked more) asking.tx)
-    (asked_part tables asked more grounded.1 asking at)
+asked_part : (tables : Tables) (asked : List Posted) (groundings : List Valuation)
+    → AreGroundings tables asked groundings → (query : Posted) → In query asked
+    → takes_part (joint_answer asked groundings) query.tx ≡ true
+asked_part tables [] groundings grounded query at = absurd at
+asked_part tables (first ∷ asked) [] grounded query at = absurd grounded
+asked_part tables (first ∷ asked) (values ∷ more) grounded query (inl same) =
+    or_first (first.tx == query.tx) (takes_part (joint_answer asked more) query.tx)
+    (ap (λ (a : Posted). first.tx == a.tx) same ∙ number_itself first.tx)
+asked_part tables (first ∷ asked) (values ∷ more) grounded query (inr at) =
+    or_second (first.tx == query.tx) (takes_part (joint_answer asked more) query.tx)
+    (asked_part tables asked more grounded.1 query at)
 
-module _ (s : State) (left : List Job) (asked : List Asking) (groundings : List Valuation)
+module _ (s : State) (left : List Job) (asked : List Posted) (groundings : List Valuation)
     (component : IsPresentComponent s asked) (tables : Tables)
-    (grounded : AreGroundings tables (map posted_of asked) groundings) (h : GroupsRight s) where
+    (grounded : AreGroundings tables asked groundings) (h : GroupsRight s) where
   abbrev groups : List ℕ
   groups = answered_groups s asked
 
@@ -76,7 +77,7 @@ module _ (s : State) (left : List Job) (asked : List Asking) (groundings : List 
   joint = joint_answer asked groundings
 
   abbrev answers : Member → Bool
-  answers member = list_any (λ asking. is_tx asking.tx member) asked
+  answers member = list_any (λ query. is_tx query.tx member) asked
 
   group_in : (m : Member) → In m (members s) → takes_part joint m.tx ≡ true → is_joined groups m.group ≡ true
   group_in m at is =
@@ -84,7 +85,7 @@ module _ (s : State) (left : List Job) (asked : List Asking) (groundings : List 
       any_in (λ joined. joined == m.group) groups m.group
       (to_map (λ (x : Member). x.group) (filter answers (members s)) m
       (to_filter answers (members s) m at
-      (any_in (λ (asking : Asking). is_tx asking.tx m) asked a.0 a.1
+      (any_in (λ (query : Posted). is_tx query.tx m) asked a.0 a.1
       (ap (λ n. m.tx == n) a.2 ∙ number_itself m.tx))))
       (number_itself m.group)
 
@@ -99,7 +100,7 @@ module _ (s : State) (left : List Job) (asked : List Asking) (groundings : List 
   owner group at =
       let r = of_map (λ (x : Member). x.group) (filter answers (members s)) group at in
       let q = of_filter answers (members s) r.0 r.1 in
-      let a = any_some (λ (asking : Asking). is_tx asking.tx r.0) asked q.1 in (
+      let a = any_some (λ (query : Posted). is_tx query.tx r.0) asked q.1 in (
         label_of r.0,
         to_map label_of (members s) r.0 q.0,
         sym r.2,

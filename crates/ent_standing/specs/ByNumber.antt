@@ -2,8 +2,7 @@
 use Rattle.std.specs.Prelude.{◌<◌, map, AllPairs, nat_eq}
 use Rattle.std.specs.List.{IsDistinct}
 use Rattle.ent_coordination.specs.Pool.{Posted}
-use Rattle.ent_protocol.specs.Job.{Asking}
-use Rattle.ent_protocol.specs.Member.{askings, pool}
+use Rattle.ent_protocol.specs.Member.{pool}
 use Rattle.ent_protocol.specs.State.{State, Member, members}
 
 pub record StandByNumber (s : State) : Type 0 where
@@ -11,5 +10,4 @@ pub record StandByNumber (s : State) : Type 0 where
   pub distinct : IsDistinct nat_eq (map (λ member. member.tx) (members s))
   -- those that aren't prepared stand by number, and so do their statements in the pool
   pub active : AllPairs (λ (one other : Member). one.tx < other.tx) s.active
-  pub asked : AllPairs (λ (one other : Asking). one.tx < other.tx) (askings s)
   pub pool : AllPairs (λ (one other : Posted). one.tx < other.tx) (pool s)

@@ -8,13 +8,14 @@ use Rattle.ent_semantics.specs.Entangled.{Valuation}
 use Rattle.ent_closed.specs.declared.entangled.Entangled.{Entangled}
 use Rattle.ent_closed.specs.declared.operand.Known.{Known}
 use Rattle.ent_closed.specs.declared.statement.Statement.{Statement}
+use Rattle.ent_coordination.specs.Pool.{Posted}
 use Rattle.ent_protocol.specs.Begin.{BeginsOrdinary, Posts, BeginsEntangled, BeginsCommit, BeginsNext, BeginsUnless}
 use Rattle.ent_protocol.specs.Begin.{BeginsMember, pool_with}
 use Rattle.ent_protocol.specs.Commit.{preparing, is_ready}
 use Rattle.ent_protocol.specs.Event.{Event, Reason, Reply}
 use Rattle.ent_protocol.specs.Event as events
 use Rattle.ent_protocol.specs.Finish.{FinishesBy, Finishes, FinishesSingle, IsOutstandingSingle}
-use Rattle.ent_protocol.specs.Job.{Asking, Choice, Done, Fault, Job, Joint, One, Outcome, Shown, Changed, Bound, Single}
+use Rattle.ent_protocol.specs.Job.{Choice, Done, Fault, Job, Joint, One, Outcome, Shown, Changed, Bound, Single}
 use Rattle.ent_protocol.specs.Member.{Next, Ordinary, Asks, Commits, RollsBack, active_member, is_lent}
 use Rattle.ent_protocol.specs.Member.{is_tx, next_of}
 use Rattle.ent_protocol.specs.PoolEvents.{AnswersBy, JoinsOrIsStale, Picks, first_tx, joint_job}
@@ -47,7 +48,7 @@ same_member m n e = cc
 same_single : (one other : Single) → One one ≡ One other → one ≡ other
 same_single one other e = cc
 
-same_asked : (one other : List Asking) → Joint one ≡ Joint other → one ≡ other
+same_asked : (one other : List Posted) → Joint one ≡ Joint other → one ≡ other
 same_asked one other e = cc
 
 same_choice : (one other : Option (List Valuation)) → Choice one ≡ Choice other → one ≡ other
@@ -155,7 +156,7 @@ module _ {F : Type 0} where
       absurd (h.0 (outstanding s done k.0 other another k.1 k.2))
   finish s done reply other new another once (inr h) (inr k) = both _ _ _ _ _ _ h.1.0 h.1.1 k.1.0 k.1.1
 
-  answers : (s : State) (asked : List Asking) (groundings : Option (List Valuation)) (reply other : Reply F)
+  answers : (s : State) (asked : List Posted) (groundings : Option (List Valuation)) (reply other : Reply F)
       (new another : State) → AnswersBy s asked groundings reply new → AnswersBy s asked groundings other another
       → Same reply other new another
   answers s asked (Some groundings) reply other new another h k = both _ _ _ _ _ _ h.0 h.1 k.0 k.1

@@ -9,13 +9,14 @@ use Rattle.ent_semantics.specs.Entangled.{Valuation}
 use Rattle.ent_closed.specs.declared.entangled.Entangled.{Entangled}
 use Rattle.ent_closed.specs.declared.operand.Known.{Known}
 use Rattle.ent_closed.specs.declared.statement.Statement.{Statement}
+use Rattle.ent_coordination.specs.Pool.{Posted}
 use Rattle.ent_protocol.specs.Begin.{BeginsOrdinary, Posts, BeginsEntangled, BeginsCommit, BeginsNext, BeginsUnless}
 use Rattle.ent_protocol.specs.Begin.{BeginsMember, lending, posting, single_job}
 use Rattle.ent_protocol.specs.Commit.{preparing, committing, is_ready}
 use Rattle.ent_protocol.specs.Event.{Event, Reply}
 use Rattle.ent_protocol.specs.Event as events
 use Rattle.ent_protocol.specs.Finish.{FinishesBy, Finishes, finished}
-use Rattle.ent_protocol.specs.Job.{Job, Asking, Done, Outcome, Shown, Changed, Bound, Choice, Fault}
+use Rattle.ent_protocol.specs.Job.{Job, Done, Outcome, Shown, Changed, Bound, Choice, Fault}
 use Rattle.ent_protocol.specs.Member.{Next, Ordinary, Asks, Commits, RollsBack, active_member, is_prepared, is_tx}
 use Rattle.ent_protocol.specs.Member.{next_of}
 use Rattle.ent_protocol.specs.PoolEvents.{Picks, AnswersBy, JoinsOrIsStale, joining, joint_job}
@@ -45,9 +46,9 @@ pub record Leaves (s : State) (P : Bool → State → Type 0) : Type 0 where
   pub finishes : (left : List Job) (member : Member) (statement : Statement Value) (outcome : Outcome)
       → In member s.active → P false (finished (record s { lent = left }) member statement outcome)
   pub lent : (jobs : List Job) → P false (record s { lent = jobs })
-  pub joins : (left : List Job) (asked : List Asking) (groundings : List Valuation)
+  pub joins : (left : List Job) (asked : List Posted) (groundings : List Valuation)
       → P false (joining (record s { lent = left }) asked groundings)
-  pub tries : (left : List Job) (asked : List Asking) → P false (record s { lent = left; tried = asked ∷ s.tried })
+  pub tries : (left : List Job) (asked : List Posted) → P false (record s { lent = left; tried = asked ∷ s.tried })
   pub ends : P true (ending s)
 
 first_in : {X : Type 0} (xs : List X) (x : X) → first_of xs ≡ Some x → In x xs
@@ -144,7 +145,7 @@ module _ {F : Type 0} (s : State) (P : Bool → State → Type 0) (leaves : Leav
       (found s step.0.tx h.member h.is_member).0
   finish done reply new (inr step) = told reply (events.Stale done) new s step.1.0 step.1.1 leaves.same
 
-  answers_by : (left : List Job) (asked : List Asking) (groundings : Option (List Valuation)) (reply : Reply F)
+  answers_by : (left : List Job) (asked : List Posted) (groundings : Option (List Valuation)) (reply : Reply F)
       (new : State) → AnswersBy (record s { lent = left }) asked groundings reply new
       → P (rolls_back reply) new
   answers_by left asked (Some groundings) reply new step =

@@ -9,8 +9,8 @@ use Rattle.ent_value.specs.declared.value.Value.{Value}
 use Rattle.ent_closed.specs.declared.entangled.Entangled.{Entangled}
 use Rattle.ent_coordination.specs.Pool.{Posted, Unsafe, IsSafe, IsFirstUnsafe, CanMeet, unsafe_cmp}
 use Rattle.ent_protocol.specs.Begin.{pool_with}
-use Rattle.ent_protocol.specs.Job.{Asking}
-use Rattle.ent_protocol.specs.Member.{Next, Ordinary, Asks, Commits, RollsBack, asking_of, askings, next_of, pool}
+use Rattle.ent_protocol.specs.Member.{Next, Ordinary, Asks, Commits, RollsBack, posted_by, next_of, pool}
+use Rattle.ent_protocol.specs.PostedBy.{in_pool}
 use Rattle.ent_protocol.specs.State.{State, Member}
 use Rattle.ent_standing.specs.ByNumber.{StandByNumber}
 use Rattle.ent_lists.specs.Elements.{In, Pairs, clash, index_pairs, pairs_behind, contains_in, in_flat, of_map}
@@ -21,23 +21,6 @@ tx_of member = member.tx
 
 -- ---- who asks is posted
 
-asks_posted : (s : State) (m : Member) (asking : Asking) → In asking (asking_of s m)
-    → (m.posted ≡ true) × (asking.tx ≡ m.tx)
-asks_posted s m asking at = by m.posted refl (next_of s m) refl
-  where
-    posted_next : m.posted ≡ true → next_of s (record m { posted = true }) ≡ next_of s m
-    posted_next e = λ i. next_of s (record m { posted = sym e i })
-
-    by : (b : Bool) → m.posted ≡ b → (n : Next) → next_of s m ≡ n → (m.posted ≡ true) × (asking.tx ≡ m.tx)
-    by true posted (Asks statement) next =
-        let h : In asking (record { tx = m.tx; attempt = m.attempt; place = m.place; statement = statement } ∷ []) =
-        rw (posted, posted_next posted ∙ next) at at in
-        elim h [ inl same ↦ (posted, ap (λ (x : Asking). x.tx) same) | inr bad ↦ absurd bad ]
-    by true posted (Ordinary statement) next = let h : ⊥ = rw (posted, posted_next posted ∙ next) at at in absurd h
-    by true posted Commits next = let h : ⊥ = rw (posted, posted_next posted ∙ next) at at in absurd h
-    by true posted RollsBack next = let h : ⊥ = rw (posted, posted_next posted ∙ next) at at in absurd h
-    by false posted n next = let h : ⊥ = rw posted at at in absurd h
-
 abbrev posted_tx : Posted → ℕ
 posted_tx posted = posted.tx
 
@@ -45,15 +28,13 @@ posted_tx posted = posted.tx
 pub pool_apart : (s : State) (by_number : StandByNumber s) (m : Member) (asked : Entangled Value) → In m s.active
     → m.posted ≡ false → Pairs (Apart posted_tx) (pool_with s m asked)
 pool_apart s by_number m asked at unposted =
-    pairs_behind (Apart posted_tx) (pool s) (record { tx = m.tx; statement = asked })
+    pairs_behind (Apart posted_tx) (pool s)
+    (record { tx = m.tx; attempt = m.attempt; place = m.place; statement = asked })
     (below_apart posted_tx (pool s) (index_pairs (Below posted_tx) (pool s) by_number.pool)) (λ p there same.
-    let r = of_map _ (askings s) p there in
-    let f = in_flat (asking_of s) s.active r.0 r.1 in
-    let q = asks_posted s f.0 r.0 f.2 in
-    let own : f.0.tx ≡ m.tx = sym q.1 ∙ ap posted_tx (sym r.2) ∙ same in
-    let one = one_of tx_of s.active f.0 m
-    (below_apart tx_of s.active (index_pairs (Below tx_of) s.active by_number.active)) f.1 at own in
-    clash f.0.posted q.0 (ap (λ (x : Member). x.posted) one ∙ unposted))
+    let r = in_pool s p there in
+    let one = one_of tx_of s.active r.member m
+    (below_apart tx_of s.active (index_pairs (Below tx_of) s.active by_number.active)) r.at at (sym r.own ∙ same) in
+    clash r.member.posted r.by.posted (ap (λ (x : Member). x.posted) one ∙ unposted))
 
 -- where no two are of one transaction a safe pool has no unsafe post
 pub never_unsafe : (those : List Posted) (fault : Unsafe) → Pairs (Apart posted_tx) those → IsSafe those

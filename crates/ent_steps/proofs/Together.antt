@@ -5,11 +5,12 @@ use Rattle.std.specs.List.{filter, list_any}
 use Rattle.ent_value.specs.declared.value.Value.{Value}
 use Rattle.ent_semantics.specs.Entangled.{Valuation}
 use Rattle.ent_closed.specs.declared.statement.Statement.{Statement}
+use Rattle.ent_coordination.specs.Pool.{Posted}
 use Rattle.ent_protocol.specs.Begin.{lending, posting, replaced}
 use Rattle.ent_protocol.specs.Commit.{committing, is_ready, preparing}
 use Rattle.ent_protocol.specs.Event.{Event, Reply}
 use Rattle.ent_protocol.specs.Finish.{finished}
-use Rattle.ent_protocol.specs.Job.{Asking, Job, Outcome, Shown, Changed, Bound, Choice, Fault}
+use Rattle.ent_protocol.specs.Job.{Job, Outcome, Shown, Changed, Bound, Choice, Fault}
 use Rattle.ent_protocol.specs.Member.{is_of, is_tx}
 use Rattle.ent_protocol.specs.PoolEvents.{answered_among, answered_by, answered_groups, in_joined_group, joining}
 use Rattle.ent_protocol.specs.Rollback.{Cause, group_members, is_among, rolled_back}
@@ -91,18 +92,18 @@ finishes s m c (Shown rows) = one_replaced s (finished s m c (Shown rows)) _ fal
 finishes s m c (Choice groundings) = all_stay s s false (λ x at. (x, at, refl))
 finishes s m c (Fault failure) = all_stay s s false (λ x at. (x, at, refl))
 
-answered_tx : (asked : List Asking) (groundings : List Valuation) (m : Member)
+answered_tx : (asked : List Posted) (groundings : List Valuation) (m : Member)
     → (answered_among asked groundings m).tx ≡ m.tx
 answered_tx [] groundings m = refl
-answered_tx (asking ∷ asked) [] m = refl
-answered_tx (asking ∷ asked) (values ∷ more) m = by (is_tx asking.tx m) (answered_tx asked more m)
+answered_tx (query ∷ asked) [] m = refl
+answered_tx (query ∷ asked) (values ∷ more) m = by (is_tx query.tx m) (answered_tx asked more m)
   where
     by : (b : Bool) → (answered_among asked more m).tx ≡ m.tx
-        → (cond b (answered_by asking values m) (answered_among asked more m)).tx ≡ m.tx
+        → (cond b (answered_by query values m) (answered_among asked more m)).tx ≡ m.tx
     by true e = refl
     by false e = e
 
-joins : (s : State) (left : List Job) (asked : List Asking) (groundings : List Valuation)
+joins : (s : State) (left : List Job) (asked : List Posted) (groundings : List Valuation)
     → LeaveTogether s false (joining (record s { lent = left }) asked groundings)
 joins s left asked groundings =
     let groups = answered_groups (record s { lent = left }) asked in

@@ -2,7 +2,6 @@ use Rattle.std.proofs.Common.{List, [], ◌∷◌, ◌++◌, ap, subst, ◌∙�
 use Rattle.std.specs.Prelude.{Contains}
 use Rattle.ent_coordination.specs.Pool.{IsFirstUnsafe, IsSafe, Posted}
 use Rattle.ent_match.specs.Posting.{IsWhyWith}
-use Rattle.ent_protocol.specs.Job.{posted_of}
 use Rattle.ent_components.proofs.Pooled.{added, put_before}
 use Rattle.ent_components.proofs.fault.post_fault.Goals as goal
 
@@ -16,7 +15,7 @@ returns-in-Ok c =
     let pool = c.in_ok-pool.pool in
     let member = c.in_ok-member.member in
     let new = c.post.new.self in
-    subst (λ (pool : List Posted). IsSafe (pool ++ posted_of c.args.asking.now ∷ [])) c.in_ok-pool.ensures
+    subst (λ (pool : List Posted). IsSafe (pool ++ c.args.query.now ∷ [])) c.in_ok-pool.ensures
     (subst (λ (last : Posted). IsSafe (pool ++ last ∷ [])) c.in_ok-member.ensures
     (c.same_statements_are_alike.ensures.safe new (pool ++ member ∷ [])
     (added pool new member c.in-Ok.ensures.posted.adds) c.in-Ok.ensures.posted.safe))
@@ -27,7 +26,7 @@ returns c =
     let member = c.in_ok-member.member in
     let fault = c.in_ok-fault-in-Err.fault in
     let why = subst (IsWhyWith pool member) c.in_ok-fault-in-Err.ensures c.in-Err.ensures.why in
-    subst (λ (pool : List Posted). IsFirstUnsafe (pool ++ posted_of c.args.asking.now ∷ []) fault) c.in_ok-pool.ensures
+    subst (λ (pool : List Posted). IsFirstUnsafe (pool ++ c.args.query.now ∷ []) fault) c.in_ok-pool.ensures
     (subst (λ (last : Posted). IsFirstUnsafe (pool ++ last ∷ []) fault) c.in_ok-member.ensures
     (c.same_statements_are_alike.ensures.first_unsafe (member ∷ pool) (pool ++ member ∷ []) fault
     (put_before pool member) why.1))

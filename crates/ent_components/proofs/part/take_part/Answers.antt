@@ -1,4 +1,3 @@
-use Rattle.ent_match.specs.Components.{lists_in}
 use Rattle.ent_components.proofs.Exact.{components_of_part}
 use Rattle.ent_components.proofs.part.take_part.Goals as goal
 
@@ -12,7 +11,6 @@ returns c =
       split = split;
       rest_is = λ whole is. laws.part_of_part whole _ c.in_ok-part.rest is split.rest_is;
       components = λ posted ascends is.
-          components_of_part c.components_are_classes.ensures c.component_is_named.ensures posted ascends laws.remainder
-          laws.component part (lists_in c.in_ok-lists.lists.items)
-          (laws.part_of_part _ _ part is split.part_is) c.in_ok-lists.ensures.components;
+          components_of_part c.components_are_classes.ensures laws.remainder laws.component posted ascends part
+          c.in_ok-lists.lists.items (laws.part_of_part _ _ part is split.part_is) c.in_ok-lists.ensures.components;
     }

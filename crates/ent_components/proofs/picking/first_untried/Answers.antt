@@ -1,5 +1,5 @@
 use Rattle.std.proofs.Common.{[], List, Option, sym, ap, subst, ◌∙◌}
-use Rattle.ent_protocol.specs.Job.{Asking}
+use Rattle.ent_coordination.specs.Pool.{Posted}
 use Rattle.ent_protocol.specs.PoolEvents.{first_tx}
 use Rattle.ent_protocol.specs.Quiet.{IsLeast, IsUntried}
 use Rattle.ent_components.specs.Component.{IsPick}
@@ -12,7 +12,7 @@ returns-in-Some c = λ s posted_is tried_is.
     let tried = c.args.tried.now in
     subst (IsLeast (IsUntried s)) (sym (c.first_tx.ensures ∙ ap first_tx c.as_slice.ensures))
     (least_untried posted tried c.in-Some.asked
-    (subst (λ (first : Option (List Asking)). IsPick posted tried [] first) c.in-Some.is c.in_ok-first.ensures)
+    (subst (λ (first : Option (List Posted)). IsPick posted tried [] first) c.in-Some.is c.in_ok-first.ensures)
     s posted_is tried_is)
 
 pub returns-in-None : goal.returns-in-None
@@ -20,4 +20,4 @@ returns-in-None c =
     let posted = c.args.posted.now in
     let tried = c.args.tried.now in
     no_untried posted tried
-    (subst (λ (first : Option (List Asking)). IsPick posted tried [] first) c.in-None.is c.in_ok-first.ensures)
+    (subst (λ (first : Option (List Posted)). IsPick posted tried [] first) c.in-None.is c.in_ok-first.ensures)

@@ -1,7 +1,6 @@
 use Rattle.std.proofs.Common.{◌∙◌, ◌≡◌, ◌<◌, ℕ, List, Option, Some, length, sym, ap, subst}
 use Rattle.std.specs.Prelude.{MatchBool, nat_lt, slice_get}
 use Rattle.ent_coordination.specs.Pool.{Posted}
-use Rattle.ent_protocol.specs.Job.{Asking}
 use Rattle.ent_protocol.specs.PoolEvents.{first_tx}
 use Rattle.ent_components.specs.Part.{AreBehind}
 use Rattle.ent_components.proofs.Picked.{may_be}
@@ -18,5 +17,5 @@ returns-in-Some-first c =
     (sym c.tx.ensures)
     (subst (λ (tx : ℕ). MatchBool (nat_lt next.tx tx) (0 < length rest) (AreBehind rest c.args.first.now))
     (sym (c.first_tx.ensures ∙ ap first_tx c.as_slice.ensures))
-    (subst (λ (first : Option (List Asking)). MatchBool (nat_lt next.tx (first_tx asked)) (0 < length rest)
+    (subst (λ (first : Option (List Posted)). MatchBool (nat_lt next.tx (first_tx asked)) (0 < length rest)
     (AreBehind rest first)) (sym c.in-Some-first.is) (may_be rest c.members.ensures.by_number next asked is)))

@@ -1,6 +1,5 @@
 use Rattle.std.proofs.Common.{List, None, sym, subst}
 use Rattle.ent_coordination.specs.Pool.{Posted}
-use Rattle.ent_match.specs.Components.{lists_in}
 use Rattle.ent_components.proofs.Picked.{IsFirstSoFar, begins, ends, goes_on, pick_is}
 use Rattle.ent_components.proofs.picking.pick.Goals as goal
 
@@ -15,8 +14,8 @@ parts-init c =
 pub parts-preserved : goal.parts-preserved
 parts-preserved c =
     goes_on c.args.posted.now c.args.tried.now c.args.lent.now c.requires.by_number c.parts.rest c.in_ok-lists.others
-    (lists_in c.in_ok-lists.lists.items) c.parts.first c.in_ok-found.found c.earlier-first.result c.parts.invariant
-    c.in_ok-lists.ensures c.in_ok-found.ensures c.earlier-first.ensures
+    c.in_ok-lists.lists.items c.parts.first c.first_open-found.result c.earlier-first.result c.parts.invariant
+    c.in_ok-lists.ensures c.first_open-found.ensures c.earlier-first.ensures
 
 pub returns : goal.returns
 returns c =

@@ -6,14 +6,14 @@ use Rattle.ent_protocol.specs.Uses.{entangled_uses}
 use Rattle.ent_components.proofs.Used.{uses_more}
 use Rattle.ent_components.proofs.uses.joint_uses.Goals as goal
 
-pub loop-asking-preserved : goal.loop-asking-preserved
-loop-asking-preserved c =
-    let asking = c.asking-item.result in
+pub loop-query-preserved : goal.loop-query-preserved
+loop-query-preserved c =
+    let query = c.query-item.result in
     let own =
-    c.as_slice-in-loop-asking.ensures.list
+    c.as_slice-in-loop-query.ensures.list
     ∙ (c.entangled_uses-own.ensures
-    ∙ (ap uses_of_entangled c.statement.ensures ∙ c.uses_are_kept_by_closing.ensures.entangled asking.statement)) in
+    ∙ (ap uses_of_entangled c.statement.ensures ∙ c.uses_are_kept_by_closing.ensures.entangled query.statement)) in
     c.in_ok-uses.ensures
     ∙ (ap (λ (uses : List Use). with_uses uses c.as_slice.result.now) own
-    ∙ (ap (with_uses (entangled_uses asking.statement)) (c.as_slice.ensures.value ∙ c.loop-asking.invariant)
-    ∙ uses_more c.args.asked.now c.loop-asking.asking-index asking c.loop-asking-test.true c.asking-item.is))
+    ∙ (ap (with_uses (entangled_uses query.statement)) (c.as_slice.ensures.value ∙ c.loop-query.invariant)
+    ∙ uses_more c.args.asked.now c.loop-query.query-index query c.loop-query-test.true c.query-item.is))

@@ -3,5 +3,5 @@ use Rattle.ent_protocol.specs.PoolEvents.{joint_uses}
 use Rattle.ent_components.proofs.uses.joint_uses.Given as goal
 
 -- the uses of the statements so far
-abbrev pub invariant-loop-asking : goal.invariant-loop-asking
-invariant-loop-asking l = l.uses.items ≡ joint_uses (take l.asking-index l.asked)
+abbrev pub invariant-loop-query : goal.invariant-loop-query
+invariant-loop-query l = l.uses.items ≡ joint_uses (take l.query-index l.asked)

@@ -18,7 +18,7 @@ post-requires c =
 pub returns-in-Posts-clause-rolls_back : goal.returns-in-Posts-clause-rolls_back
 returns-in-Posts-clause-rolls_back c = λ member there rolls.
     let P : Plan → Type 0 = Follows c.args.store.now c.args.tx in
-    absurd (plans_no_post c.args.store.now c.args.tx member there rolls c.in-Posts.asking
+    absurd (plans_no_post c.args.store.now c.args.tx member there rolls c.in-Posts.query
     (subst P c.in-Posts.is c.requires.follows).1)
 
 pub returns-in-Lends-clause-rolls_back : goal.returns-in-Lends-clause-rolls_back

@@ -1,9 +1,7 @@
 use Rattle.std.proofs.Common.{◌≡◌, ◌∙◌, List, ap, sym, subst}
-use Rattle.ent_components.specs.Component.{pool_of}
-use Rattle.ent_coordination.specs.Pool.{IsSafe}
+use Rattle.ent_coordination.specs.Pool.{IsSafe, Posted}
 use Rattle.ent_match.specs.Fault.{IsByNumber}
-use Rattle.ent_protocol.specs.Job.{Asking}
-use Rattle.ent_protocol.specs.Member.{askings}
+use Rattle.ent_protocol.specs.Member.{pool}
 use Rattle.ent_protocol.specs.State.{State}
 use Rattle.ent_resolved.specs.Resolved.{resolved_forms}
 use Rattle.ent_core.specs.contracts.store.Store.{the_view}
@@ -12,28 +10,28 @@ use Rattle.ent_core.proofs.join_answer.is_component.Goals as goal
 pub is_present-requires-clause-by_number : goal.is_present-requires-clause-by_number
 is_present-requires-clause-by_number c =
     let s : State = c.args.store.now in
-    let posted : c.as_slice-2.result.now ≡ askings s =
+    let posted : c.as_slice-2.result.now ≡ pool s =
     c.as_slice-2.ensures
-    ∙ c.in_ok-posted.ensures.askings (the_view c.store.inside) (sym c.as_slice.ensures.value) (sym c.active.ensures.list)
-    ∙ ap askings c.store.view_is in
-    subst (λ (all : List Asking). IsByNumber (pool_of all)) (sym posted)
+    ∙ c.in_ok-posted.ensures.pool (the_view c.store.inside) (sym c.as_slice.ensures.value) (sym c.active.ensures.list)
+    ∙ ap pool c.store.view_is in
+    subst (λ (all : List Posted). IsByNumber all) (sym posted)
     (c.members_stand_by_number.ensures resolved_forms s c.requires.kept.reached).pool
 
 pub is_present-requires-clause-safe : goal.is_present-requires-clause-safe
 is_present-requires-clause-safe c =
     let s : State = c.args.store.now in
-    let posted : c.as_slice-2.result.now ≡ askings s =
+    let posted : c.as_slice-2.result.now ≡ pool s =
     c.as_slice-2.ensures
-    ∙ c.in_ok-posted.ensures.askings (the_view c.store.inside) (sym c.as_slice.ensures.value) (sym c.active.ensures.list)
-    ∙ ap askings c.store.view_is in
-    subst (λ (all : List Asking). IsSafe (pool_of all)) (sym posted)
+    ∙ c.in_ok-posted.ensures.pool (the_view c.store.inside) (sym c.as_slice.ensures.value) (sym c.active.ensures.list)
+    ∙ ap pool c.store.view_is in
+    subst (λ (all : List Posted). IsSafe all) (sym posted)
     (c.pools_are_safe.ensures resolved_forms s c.requires.kept.reached)
 
 pub returns : goal.returns
 returns c =
     let s : State = c.args.store.now in
-    let posted : c.as_slice-2.result.now ≡ askings s =
+    let posted : c.as_slice-2.result.now ≡ pool s =
     c.as_slice-2.ensures
-    ∙ c.in_ok-posted.ensures.askings (the_view c.store.inside) (sym c.as_slice.ensures.value) (sym c.active.ensures.list)
-    ∙ ap askings c.store.view_is in
+    ∙ c.in_ok-posted.ensures.pool (the_view c.store.inside) (sym c.as_slice.ensures.value) (sym c.active.ensures.list)
+    ∙ ap pool c.store.view_is in
     c.in_ok-is.ensures s (sym posted)

@@ -29,7 +29,7 @@ carry_out-requires-clause-distinct c =
     let work : Joint asked ≡ c.args.done.now.job.work =
     sym (ap (λ (own : Work). work_seen own) c.in-Joint.is) ∙ c.work.ensures.work
     ∙ ap (λ (job : Job). job.work) c.job.ensures in
-    distinct_by_number asked (c.requires.component asked (sym work)).component.ascending
+    distinct_by_number asked (c.requires.component asked (sym work)).ascending
 
 pub returns-clause-ok : goal.returns-clause-ok
 returns-clause-ok c =

@@ -6,14 +6,14 @@ use Rattle.ent_semantics.specs.Database.{Rows}
 use Rattle.ent_coordination.specs.Choice.{IsLeastChoiceIfAny}
 use Rattle.ent_coordination.specs.Pool.{Posted}
 use Rattle.ent_join.specs.Plans.{HaveNoPlan, Plan, tables_named}
-use Rattle.ent_protocol.specs.Job.{posted_of, tables_of}
+use Rattle.ent_protocol.specs.Job.{tables_of}
 use Rattle.ent_select.specs.Tables.{rows_in}
 use Rattle.ent_eval.proofs.Chosen.{no_choice, stand_planned}
 use Rattle.ent_eval.proofs.joint.choice.Goals as goal
 
 pub returns-in-None : goal.returns-in-None
 returns-in-None c =
-    let members = map posted_of c.args.asked.now in
+    let members = c.args.asked.now in
     let P : Option Plan → Type 0 = λ plan. MatchOption plan (HaveNoPlan members) (λ plan. plan.members ≡ members) in
     no_choice (tables_of c.args.tables.now) members (subst P c.in-None.is c.in_ok-planned.ensures)
 
@@ -22,9 +22,8 @@ returns-in_ok-choice-in-Some c =
     let asked = c.args.asked.now in
     let tables = c.args.tables.now in
     let at : ℕ → Rows = λ number. slice_index_or (tables_of tables) number set.empty in
-    let members = map posted_of asked in
-    let P : Option Plan → Type 0 = λ plan. MatchOption plan (HaveNoPlan members) (λ plan. plan.members ≡ members) in
-    let named : c.in-Some.plan.members ≡ members = subst P c.in-Some.is c.in_ok-planned.ensures in
+    let P : Option Plan → Type 0 = λ plan. MatchOption plan (HaveNoPlan asked) (λ plan. plan.members ≡ asked) in
+    let named : c.in-Some.plan.members ≡ asked = subst P c.in-Some.is c.in_ok-planned.ensures in
     let laid =
     ap (λ (members : List Posted). map at (tables_named members)) named
     ∙ stand_planned asked tables c.requires

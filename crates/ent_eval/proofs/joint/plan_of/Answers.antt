@@ -14,5 +14,6 @@ of-requires-clause-safe c = subst IsSafe (sym c.in_ok-members.ensures) c.require
 
 pub returns : goal.returns
 returns c =
-    subst (λ (members : List Posted). MatchOption c.in_ok-plan.plan (HaveNoPlan members) (λ plan. plan.members ≡ members))
+    subst (λ (members : List Posted).
+    MatchOption c.in_ok-plan.plan (HaveNoPlan members) (λ plan. plan.members ≡ members))
     c.in_ok-members.ensures c.in_ok-plan.ensures

@@ -3,8 +3,8 @@ use Rattle.std.specs.Prelude.{vec_len, slice_index_or}
 use Rattle.ent_join.specs.Dead.{IsDead}
 use Rattle.ent_join.specs.Reason.{AreMarkedIn}
 use Rattle.ent_join.proofs.Steps.{searched_with, searched_none, exhausted, pushed_is}
-use Rattle.ent_join.proofs.Steps.{popped, no_dead_end, ends_on, search_ends, ticked_with, ticked_one, jumped, guide_on, begun_on}
-use Rattle.ent_join.proofs.Steps.{pushed_count, going_on}
+use Rattle.ent_join.proofs.Steps.{popped, no_dead_end, ends_on, search_ends, ticked_with, ticked_one, jumped, guide_on}
+use Rattle.ent_join.proofs.Steps.{begun_on, pushed_count, going_on}
 use Rattle.ent_join.proofs.Skipped.{dead_on, dead_learnt, skipping}
 use Rattle.ent_value.specs.Ticks.{ticked}
 use Rattle.ent_join.proofs.search.+search.Goals as goal

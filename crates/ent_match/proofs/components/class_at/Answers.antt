@@ -1,13 +1,12 @@
-use Rattle.std.proofs.Common.{◌≡◌, ◌<◌, ◌+◌, ◌⊎◌, ℕ, length, length-set, map}
+use Rattle.std.proofs.Common.{◌≡◌, ◌<◌, ◌+◌, ◌⊎◌, ℕ, length, length-set}
 use Rattle.std.proofs.Common.{arith, sym, ap, subst, ◌∙◌, true}
-use Rattle.std.proofs.Common.{Vec, Global}
 use Rattle.std.proofs.lemmas.List.{take_all, get_or-set_same}
-use Rattle.ent_coordination.specs.Pool.{Posted}
 use Rattle.ent_match.specs.Links.{IsMarked}
 use Rattle.ent_match.specs.Components.{marked_in}
-use Rattle.ent_match.proofs.Joins.{class_pushed, class_same, from_one, seen_more, unseen_more}
+use Rattle.ent_match.proofs.Joins.{class_same, from_one, seen_more, unseen_more}
+use Rattle.ent_match.proofs.Marked.{put_more}
 use Rattle.ent_match.proofs.components.class_at.Goals as goal
-use Rattle.ent_match.proofs.components.class_at.Goals.{then-reached-i+in_ok-push, else-reached-i}
+use Rattle.ent_match.proofs.components.class_at.Goals.{then-reached-i+in_ok-member+in_ok-push, else-reached-i}
 
 pub mark_all-requires : goal.mark_all-requires
 mark_all-requires c =
@@ -27,13 +26,13 @@ loop-i-preserved c =
     c.mark_all.ensures.grows.room
     ∙ (length-set c.args.reached.now c.args.place true ∙ c.requires.reached.length_is) in
     elim c.if-reached-i.branch [
-      | then-reached-i+in_ok-push w ↦
+      | then-reached-i+in_ok-member+in_ok-push w ↦
           let more = seen_more old cur marks i (omega arith) w.if-reached-i.true inv.seen inv.kept inv.added in
-          let pushed = class_pushed marks pool i w.index-members-i.result room c.loop-i-test.true w.index-members-i.is
-          w.if-reached-i.true c.loop-i.class.items _ w.tx.result inv.class_is w.tx.ensures
-          w.in_ok-push.ensures.items in
+          let pushed = put_more marks pool i w.index-members-i.result w.in_ok-member.member c.loop-i.class _ room
+          c.loop-i-test.true w.index-members-i.is w.if-reached-i.true w.in_ok-member.ensures inv.class_is
+          w.in_ok-push.ensures.ok in
           record {
-            class_is = ap (λ (v : Vec ℕ Global). v.items) w.class-is ∙ pushed;
+            class_is = w.class-is ∙ pushed;
             room = ap length w.seen-is ∙ (length-set cur i true ∙ inv.room);
             seen = subst (λ xs. (k : ℕ) → IsMarked xs k → IsMarked old k ⊎ IsMarked marks k) (sym w.seen-is) more.0;
             kept = subst (λ xs. (k : ℕ) → IsMarked old k → IsMarked xs k) (sym w.seen-is) more.1;
@@ -41,8 +40,7 @@ loop-i-preserved c =
           }
       | else-reached-i w ↦
           record {
-            class_is = ap (λ (v : Vec ℕ Global). v.items) w.class-is
-                ∙ (inv.class_is ∙ ap (map (λ (m : Posted). m.tx)) (sym (class_same marks pool i w.if-reached-i.false)));
+            class_is = w.class-is ∙ (inv.class_is ∙ sym (class_same marks pool i w.if-reached-i.false));
             room = ap length w.seen-is ∙ inv.room;
             seen = subst (λ xs. (k : ℕ) → IsMarked xs k → IsMarked old k ⊎ IsMarked marks k) (sym w.seen-is) inv.seen;
             kept = subst (λ xs. (k : ℕ) → IsMarked old k → IsMarked xs k) (sym w.seen-is) inv.kept;
@@ -65,8 +63,8 @@ returns c =
       here = c.mark_all.ensures.grows.kept c.args.place (get_or-set_same reached c.args.place true _ below);
       reached = from_one c.args.joins.now reached marks c.args.place c.requires.reached.none c.mark_all.ensures.grows;
       closed = c.mark_all.ensures.closed;
-      class_is = c.loop-i.invariant.class_is ∙ (λ j. map (λ (m : Posted). m.tx)
-          (marked_in (take_all c.loop-i.i marks (omega arith) j) (take_all c.loop-i.i pool (omega arith) j)));
+      class_is = c.loop-i.invariant.class_is ∙ (λ j.
+          marked_in (take_all c.loop-i.i marks (omega arith) j) (take_all c.loop-i.i pool (omega arith) j));
       room = c.loop-i.invariant.room;
       seen = c.loop-i.invariant.seen;
       kept = c.loop-i.invariant.kept;

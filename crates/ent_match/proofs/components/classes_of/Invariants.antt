@@ -1,7 +1,6 @@
-use Rattle.ent_match.specs.Components.{lists_in}
 use Rattle.ent_match.proofs.Listing.{AreListed}
 use Rattle.ent_match.proofs.components.classes_of.Given as goal
 
 -- the classes of the statements so far
 abbrev pub invariant-loop-place : goal.invariant-loop-place
-invariant-loop-place l = AreListed l.members l.joins l.fn.seen l.seen l.place (lists_in l.classes.items)
+invariant-loop-place l = AreListed l.members l.joins l.fn.seen l.seen l.place l.classes.items

@@ -16,7 +16,8 @@ returns-then-is_in_way c =
     let first = c.in-Some.first.now in
     let later = c.in-Some.later.now in
     let ascending : IsAscending (map tx_of (first ∷ later)) =
-    subst (λ (ms : List Member). IsAscending (map tx_of ms)) c.in-Some.ensures.cases.0 c.loop-first.invariant.ascending in
+    subst (λ (ms : List Member). IsAscending (map tx_of ms)) c.in-Some.ensures.cases.0
+    c.loop-first.invariant.ascending in
     let in_way : stands first ≡ true = ap (λ b. not b && is_in_way asked first) (sym c.is_passed.ensures)
     ∙ ap (λ b. not c.is_passed.result && b) (sym c.is_in_way.ensures)
     ∙ ap (λ b. not b && c.is_in_way.result) c.if-not-is_passed.true

@@ -1,7 +1,7 @@
 use Rattle.std.proofs.Common.{List, sym, subst, ◌∙◌, true≢false}
 use Rattle.ent_job.specs.Work.{work_seen}
 use Rattle.ent_job.specs.declared.work.Work.{Work}
-use Rattle.ent_protocol.specs.Job.{Asking}
+use Rattle.ent_coordination.specs.Pool.{Posted}
 use Rattle.ent_protocol.specs.PoolEvents.{IsPresentComponent}
 use Rattle.ent_quiet.specs.Jobs.{HasAsking, IsWorkOf}
 use Rattle.ent_quiet.specs.Least.{LeastIfAny}
@@ -18,7 +18,7 @@ returns-then-branch c = λ s same.
     subst (λ (work : Work). LeastIfAny (IsWorkOf s (work_seen work)) found) (sym c.in-Joint.is)
     (least_same (HasAsking asked) (λ tx. IsPresentComponent s asked × HasAsking asked tx) (λ n h. (present, h))
     (λ n h. h.1) found
-    (subst (λ (xs : List Asking). LeastIfAny (HasAsking xs) found) c.as_slice-then-branch.ensures
+    (subst (λ (xs : List Posted). LeastIfAny (HasAsking xs) found) c.as_slice-then-branch.ensures
     c.least_of.ensures))
 
 pub returns-else-branch : goal.returns-else-branch

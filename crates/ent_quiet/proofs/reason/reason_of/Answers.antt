@@ -1,7 +1,7 @@
 use Rattle.std.proofs.Common.{◌≡◌, ℕ, List, Option, refl, sym, ap, subst, ◌∙◌}
 use Rattle.std.specs.Prelude.{IfSome}
 use Rattle.std.specs.Option.{is_some}
-use Rattle.ent_protocol.specs.Member.{askings}
+use Rattle.ent_protocol.specs.Member.{pool}
 use Rattle.ent_protocol.specs.Quiet.{CanMove, HasJobOut, IsUntried}
 use Rattle.ent_protocol.specs.State.{Member}
 use Rattle.ent_protocol.specs.Waits.{IsDeadlock}
@@ -15,7 +15,7 @@ pub job_out-requires-clause-by_number : goal.job_out-requires-clause-by_number
 job_out-requires-clause-by_number c =
     let posted = c.as_slice-pool.result.now in
     let are : ArePosted c.args.submitted.now c.args.run.now.active posted =
-    (λ t of_submitted of_active. c.as_slice-pool.ensures ∙ c.in_ok-posted.ensures.askings t of_submitted
+    (λ t of_submitted of_active. c.as_slice-pool.ensures ∙ c.in_ok-posted.ensures.pool t of_submitted
     (of_active ∙ sym c.active-active.ensures.list)) in
     in_order c.args.submitted.now c.args.run.now.active posted c.requires.order are
 
@@ -23,7 +23,7 @@ pub job_out-requires-clause-safe : goal.job_out-requires-clause-safe
 job_out-requires-clause-safe c =
     let posted = c.as_slice-pool.result.now in
     let are : ArePosted c.args.submitted.now c.args.run.now.active posted =
-    (λ t of_submitted of_active. c.as_slice-pool.ensures ∙ c.in_ok-posted.ensures.askings t of_submitted
+    (λ t of_submitted of_active. c.as_slice-pool.ensures ∙ c.in_ok-posted.ensures.pool t of_submitted
     (of_active ∙ sym c.active-active.ensures.list)) in
     in_safety c.args.submitted.now c.args.run.now.active posted c.requires.order are
 
@@ -31,17 +31,17 @@ pub returns-in-Some : goal.returns-in-Some
 returns-in-Some c = λ s.
     let posted = c.as_slice-pool.result.now in
     let are : ArePosted c.args.submitted.now c.args.run.now.active posted =
-    (λ t of_submitted of_active. c.as_slice-pool.ensures ∙ c.in_ok-posted.ensures.askings t of_submitted
+    (λ t of_submitted of_active. c.as_slice-pool.ensures ∙ c.in_ok-posted.ensures.pool t of_submitted
     (of_active ∙ sym c.active-active.ensures.list)) in
     let here = state_of c.args.run.now c.args.submitted.now c.args.tried.now c.args.lent.now s in
-    let same : askings here ≡ posted = sym (are here refl refl) in
+    let same : pool here ≡ posted = sym (are here refl refl) in
     is_least (HasJobOut here) c.in_ok-tx.field-0 c.in-Some.tx c.in-Some.is (c.in_ok-tx.ensures here same refl)
 
 pub least_mover-requires-clause-by_number : goal.least_mover-requires-clause-by_number
 least_mover-requires-clause-by_number c =
     let posted = c.as_slice-pool.result.now in
     let are : ArePosted c.args.submitted.now c.args.run.now.active posted =
-    (λ t of_submitted of_active. c.as_slice-pool.ensures ∙ c.in_ok-posted.ensures.askings t of_submitted
+    (λ t of_submitted of_active. c.as_slice-pool.ensures ∙ c.in_ok-posted.ensures.pool t of_submitted
     (of_active ∙ sym c.active-active.ensures.list)) in
     in_order c.args.submitted.now c.args.run.now.active posted c.requires.order are
 
@@ -49,7 +49,7 @@ pub least_mover-requires-clause-safe : goal.least_mover-requires-clause-safe
 least_mover-requires-clause-safe c =
     let posted = c.as_slice-pool.result.now in
     let are : ArePosted c.args.submitted.now c.args.run.now.active posted =
-    (λ t of_submitted of_active. c.as_slice-pool.ensures ∙ c.in_ok-posted.ensures.askings t of_submitted
+    (λ t of_submitted of_active. c.as_slice-pool.ensures ∙ c.in_ok-posted.ensures.pool t of_submitted
     (of_active ∙ sym c.active-active.ensures.list)) in
     in_safety c.args.submitted.now c.args.run.now.active posted c.requires.order are
 
@@ -57,7 +57,7 @@ pub least_mover-requires-clause-apart : goal.least_mover-requires-clause-apart
 least_mover-requires-clause-apart c =
     let posted = c.as_slice-pool.result.now in
     let are : ArePosted c.args.submitted.now c.args.run.now.active posted =
-    (λ t of_submitted of_active. c.as_slice-pool.ensures ∙ c.in_ok-posted.ensures.askings t of_submitted
+    (λ t of_submitted of_active. c.as_slice-pool.ensures ∙ c.in_ok-posted.ensures.pool t of_submitted
     (of_active ∙ sym c.active-active.ensures.list)) in
     subst (λ (members : List Member). OnlyPostedAsk posted members) (sym c.active-active.ensures.list)
     (posted_ask c.args.submitted.now c.args.run.now.active posted c.requires.order are)
@@ -66,10 +66,10 @@ pub returns-in-Some-2 : goal.returns-in-Some-2
 returns-in-Some-2 c = λ s.
     let posted = c.as_slice-pool.result.now in
     let are : ArePosted c.args.submitted.now c.args.run.now.active posted =
-    (λ t of_submitted of_active. c.as_slice-pool.ensures ∙ c.in_ok-posted.ensures.askings t of_submitted
+    (λ t of_submitted of_active. c.as_slice-pool.ensures ∙ c.in_ok-posted.ensures.pool t of_submitted
     (of_active ∙ sym c.active-active.ensures.list)) in
     let here = state_of c.args.run.now c.args.submitted.now c.args.tried.now c.args.lent.now s in
-    let same : askings here ≡ posted = sym (are here refl refl) in
+    let same : pool here ≡ posted = sym (are here refl refl) in
     let nothing = is_none (HasJobOut here) c.in_ok-tx.field-0 c.in_default.is
     (c.in_ok-tx.ensures here same refl) in
     let mover = is_least (CanMove here) c.in_ok-tx-2.field-0 c.in-Some-2.tx c.in-Some-2.is
@@ -81,7 +81,7 @@ pub first_untried-requires-clause-by_number : goal.first_untried-requires-clause
 first_untried-requires-clause-by_number c =
     let posted = c.as_slice-pool.result.now in
     let are : ArePosted c.args.submitted.now c.args.run.now.active posted =
-    (λ t of_submitted of_active. c.as_slice-pool.ensures ∙ c.in_ok-posted.ensures.askings t of_submitted
+    (λ t of_submitted of_active. c.as_slice-pool.ensures ∙ c.in_ok-posted.ensures.pool t of_submitted
     (of_active ∙ sym c.active-active.ensures.list)) in
     in_order c.args.submitted.now c.args.run.now.active posted c.requires.order are
 
@@ -89,7 +89,7 @@ pub first_untried-requires-clause-safe : goal.first_untried-requires-clause-safe
 first_untried-requires-clause-safe c =
     let posted = c.as_slice-pool.result.now in
     let are : ArePosted c.args.submitted.now c.args.run.now.active posted =
-    (λ t of_submitted of_active. c.as_slice-pool.ensures ∙ c.in_ok-posted.ensures.askings t of_submitted
+    (λ t of_submitted of_active. c.as_slice-pool.ensures ∙ c.in_ok-posted.ensures.pool t of_submitted
     (of_active ∙ sym c.active-active.ensures.list)) in
     in_safety c.args.submitted.now c.args.run.now.active posted c.requires.order are
 
@@ -97,10 +97,10 @@ pub returns-in-Some-3 : goal.returns-in-Some-3
 returns-in-Some-3 c = λ s.
     let posted = c.as_slice-pool.result.now in
     let are : ArePosted c.args.submitted.now c.args.run.now.active posted =
-    (λ t of_submitted of_active. c.as_slice-pool.ensures ∙ c.in_ok-posted.ensures.askings t of_submitted
+    (λ t of_submitted of_active. c.as_slice-pool.ensures ∙ c.in_ok-posted.ensures.pool t of_submitted
     (of_active ∙ sym c.active-active.ensures.list)) in
     let here = state_of c.args.run.now c.args.submitted.now c.args.tried.now c.args.lent.now s in
-    let same : askings here ≡ posted = sym (are here refl refl) in
+    let same : pool here ≡ posted = sym (are here refl refl) in
     let nothing = is_none (HasJobOut here) c.in_ok-tx.field-0 c.in_default.is
     (c.in_ok-tx.ensures here same refl) in
     let nobody = is_none (CanMove here) c.in_ok-tx-2.field-0 c.in_default-2.is
@@ -114,10 +114,10 @@ pub returns-in-Some-deadlock : goal.returns-in-Some-deadlock
 returns-in-Some-deadlock c = λ s.
     let posted = c.as_slice-pool.result.now in
     let are : ArePosted c.args.submitted.now c.args.run.now.active posted =
-    (λ t of_submitted of_active. c.as_slice-pool.ensures ∙ c.in_ok-posted.ensures.askings t of_submitted
+    (λ t of_submitted of_active. c.as_slice-pool.ensures ∙ c.in_ok-posted.ensures.pool t of_submitted
     (of_active ∙ sym c.active-active.ensures.list)) in
     let here = state_of c.args.run.now c.args.submitted.now c.args.tried.now c.args.lent.now s in
-    let same : askings here ≡ posted = sym (are here refl refl) in
+    let same : pool here ≡ posted = sym (are here refl refl) in
     let nothing = is_none (HasJobOut here) c.in_ok-tx.field-0 c.in_default.is
     (c.in_ok-tx.ensures here same refl) in
     let nobody = is_none (CanMove here) c.in_ok-tx-2.field-0 c.in_default-2.is
@@ -133,10 +133,10 @@ pub returns : goal.returns
 returns c = λ s.
     let posted = c.as_slice-pool.result.now in
     let are : ArePosted c.args.submitted.now c.args.run.now.active posted =
-    (λ t of_submitted of_active. c.as_slice-pool.ensures ∙ c.in_ok-posted.ensures.askings t of_submitted
+    (λ t of_submitted of_active. c.as_slice-pool.ensures ∙ c.in_ok-posted.ensures.pool t of_submitted
     (of_active ∙ sym c.active-active.ensures.list)) in
     let here = state_of c.args.run.now c.args.submitted.now c.args.tried.now c.args.lent.now s in
-    let same : askings here ≡ posted = sym (are here refl refl) in
+    let same : pool here ≡ posted = sym (are here refl refl) in
     let nothing = is_none (HasJobOut here) c.in_ok-tx.field-0 c.in_default.is
     (c.in_ok-tx.ensures here same refl) in
     let nobody = is_none (CanMove here) c.in_ok-tx-2.field-0 c.in_default-2.is

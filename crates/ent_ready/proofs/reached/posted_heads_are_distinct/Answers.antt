@@ -11,4 +11,4 @@ returns c s reached member there =
     let r = posted_resolved s reached member (contains_in (pool s) member there) in
     subst HasDistinctHeads (sym r.is)
     (c.resolved_heads_are_distinct.ensures (schemas_of s.opening.tables) r.script r.plain r.entangled r.resolved
-    r.stands member.tx r.environment)
+    r.stands member.tx member.attempt member.place r.environment)

@@ -1,7 +1,6 @@
 use Rattle.std.proofs.Common.{map}
 use Rattle.ent_coordination.specs.Pool.{Posted}
 use Rattle.ent_plan.specs.Ranged.{IsRanged}
-use Rattle.ent_protocol.specs.Job.{posted_of}
 use Rattle.ent_protocol.specs.Member.{pool}
 use Rattle.ent_protocol.specs.PoolEvents.{joint_uses}
 use Rattle.ent_resolved.specs.Resolved.{resolved_forms}
@@ -11,10 +10,10 @@ use Rattle.ent_ready.proofs.work.picked_statements_fit.Goals as goal
 
 pub returns : goal.returns
 returns c s asked reached present =
-    let members = map posted_of asked in
+    let members = asked in
     record {
-      component = c.components_stand_alone.ensures.component (pool s) members present.component;
-      safe = c.components_stand_alone.ensures.safe (pool s) members present.component
+      component = c.components_stand_alone.ensures.component (pool s) members present;
+      safe = c.components_stand_alone.ensures.safe (pool s) members present
           (c.pools_are_safe.ensures resolved_forms s reached);
       heads = λ member there.
           c.posted_heads_are_distinct.ensures s reached member

@@ -4,15 +4,15 @@ use Rattle.ent_protocol.specs.Partners.{partners_opening}
 use Rattle.ent_plays.specs.Grown.{A_for_B, C_for_A}
 use Rattle.ent_plays.specs.Ring.{B_for_C, ring_closes, ring_commits}
 use Rattle.ent_resolved.specs.Resolved.{resolved_forms}
-use Rattle.ent_resolved_plays.specs.Scripts.{asking}
+use Rattle.ent_resolved_plays.specs.Scripts.{posted}
 use Rattle.ent_resolved_plays.proofs.Led.{led}
 use Rattle.ent_resolved_plays.proofs.play.a_ring_of_three_commits.Goals as goal
 
 pub returns : goal.returns
 returns c =
-    let one = asking 8 A_for_B Commit in
-    let two = asking 8 B_for_C Commit in
-    let three = asking 8 C_for_A Commit in
+    let one = posted 8 A_for_B Commit in
+    let two = posted 8 B_for_C Commit in
+    let three = posted 8 C_for_A Commit in
     let events = ring_closes one two three ++ ring_commits in
     let found = c.ring_commits_together.ensures resolved_forms one two three in
     let here = led (c.events_keep_the_input.ensures.opening resolved_forms) events found.0 found.1

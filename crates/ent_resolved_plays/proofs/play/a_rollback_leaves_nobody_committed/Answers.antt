@@ -4,14 +4,14 @@ use Rattle.ent_protocol.specs.Partners.{partners_opening}
 use Rattle.ent_plays.specs.Earlier.{job_outlives, next_attempt}
 use Rattle.ent_plays.specs.Grown.{A_for_B, B_for_A}
 use Rattle.ent_resolved.specs.Resolved.{resolved_forms}
-use Rattle.ent_resolved_plays.specs.Scripts.{asking, booking}
+use Rattle.ent_resolved_plays.specs.Scripts.{posted, booking}
 use Rattle.ent_resolved_plays.proofs.Led.{led}
 use Rattle.ent_resolved_plays.proofs.play.a_rollback_leaves_nobody_committed.Goals as goal
 
 pub returns : goal.returns
 returns c =
     let one = booking 8 A_for_B (codes "A") Commit in
-    let two = asking 8 B_for_A Rollback in
+    let two = posted 8 B_for_A Rollback in
     let events = job_outlives one two ++ next_attempt in
     let found = c.job_outlives_its_attempt.ensures resolved_forms one two in
     let here = led (c.events_keep_the_input.ensures.opening resolved_forms) events found.0 found.1

@@ -3,15 +3,15 @@ use Rattle.ent_tree.specs.declared.script.End.TheVariants.{Commit}
 use Rattle.ent_protocol.specs.Partners.{partners_opening}
 use Rattle.ent_plays.specs.HeldBack.{holds_back, mickey, minnie, posts_later}
 use Rattle.ent_resolved.specs.Resolved.{resolved_forms}
-use Rattle.ent_resolved_plays.specs.Scripts.{asking}
+use Rattle.ent_resolved_plays.specs.Scripts.{posted}
 use Rattle.ent_resolved_plays.proofs.Led.{led}
 use Rattle.ent_resolved_plays.proofs.play.an_unsafe_third_posts_later.Goals as goal
 
 pub returns : goal.returns
 returns c =
-    let one = asking 8 mickey Commit in
-    let two = asking 8 minnie Commit in
-    let third = asking 1 minnie Commit in
+    let one = posted 8 mickey Commit in
+    let two = posted 8 minnie Commit in
+    let third = posted 1 minnie Commit in
     let events = holds_back one two third ++ posts_later in
     let found = c.third_is_held_back.ensures resolved_forms one two third in
     let here = led (c.events_keep_the_input.ensures.opening resolved_forms) events found.0 found.1

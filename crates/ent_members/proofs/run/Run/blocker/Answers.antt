@@ -12,6 +12,12 @@ returns c = λ s.
     let asked = c.args.asked.now in
     let others = map tx_of (filter (stands_in_way asked (Itself c.tx.result)) c.as_slice.result.now) in
     c.least_in_way.ensures others c.first_in_way-least.ensures
-    ∙ rw (c.group.ensures, c.tx.ensures, c.as_slice.ensures.value, ap (λ (run : Run). run.active) c.self.view_is, c.prepared.ensures)
+    ∙ rw (
+      c.group.ensures,
+      c.tx.ensures,
+      c.as_slice.ensures.value,
+      ap (λ (run : Run). run.active) c.self.view_is,
+      c.prepared.ensures,
+    )
     (ap least (in_way_of asked c.args.asker.now.group c.args.asker.now.tx c.args.self.now.prepared
     c.args.self.now.active))

@@ -1,11 +1,9 @@
-//! Posted statements of transactions.
+//! Posted statements.
 ghost use Rattle.std.specs.Prelude.{◌≡◌, IfOk};
 ghost use Rattle.std.specs.Arc.{arc_value};
-ghost use Rattle.ent_protocol.specs.Job.{posted_of};
 
 use ent_closed::Entangled;
 use ent_group::Tx;
-use ent_match::Member;
 use ent_tree::{Duplicate, Same};
 use ent_value::Value;
 use std::alloc::{AllocError, Global};
@@ -14,7 +12,7 @@ use std::sync::Arc;
 
 /// A closed entangled statement at a place of a transaction, in one of its attempts, which is posted. Copies share
 /// the statement.
-pub struct Asking {
+pub struct Posted {
     tx: Tx,
     attempt: u64,
     place: u64,
@@ -22,9 +20,9 @@ pub struct Asking {
 }
 
 /// Written out, so that the crates above call it, and none makes and compiles it anew.
-impl Drop for Asking {
+impl Drop for Posted {
     fn drop(self) {
-        let Asking {
+        let Posted {
             tx: _tx,
             attempt: _attempt,
             place: _place,
@@ -33,25 +31,38 @@ impl Drop for Asking {
     }
 }
 
-impl Model for Asking {
+impl Model for Posted {
     ghost use Rattle.std.specs.Arc.{arc_value};
-    ghost use Rattle.ent_protocol.specs.Job.{Asking as Work};
+    ghost use Rattle.ent_coordination.specs.Pool.{Posted as PostedStatement};
 
-    ghost Value = { Work };
+    ghost Value = { PostedStatement };
 
-    ghost view = { λ w. record { tx = w.tx; attempt = w.attempt; place = w.place; statement = arc_value w.statement } };
+    ghost view = { λ p. record { tx = p.tx; attempt = p.attempt; place = p.place; statement = arc_value p.statement } };
 }
 
-impl Asking {
+impl Posted {
     pub fn new(tx: Tx, attempt: u64, place: u64, statement: Arc<Entangled<Value>>) -> Self
         ensures { result ≡ record { tx = tx; attempt = attempt; place = place; statement = arc_value statement } }
     {
-        Asking {
+        Posted {
             tx,
             attempt,
             place,
             statement,
         }
+    }
+
+    /// The same once more. The statement is shared, so that nothing is copied.
+    pub fn shared(&self) -> Result<Posted, AllocError>
+        ensures { IfOk result (λ shared. shared ≡ self.now) }
+    {
+        let statement = self.statement.clone()?;
+        Ok(Posted {
+            tx: self.tx,
+            attempt: self.attempt,
+            place: self.place,
+            statement,
+        })
     }
 
     /// The transaction's number.
@@ -80,30 +91,16 @@ impl Asking {
     {
         &self.statement
     }
-
-    /// The statement as a pool has it, which is shared.
-    pub fn member(&self) -> Result<Member, AllocError>
-        ensures { IfOk result (λ member. member ≡ posted_of self.now) }
-    {
-        let statement = self.statement.clone()?;
-        Ok(Member::new(self.tx, statement))
-    }
 }
 
-impl Duplicate for Asking {
+impl Duplicate for Posted {
     fn copy(&self, _alloc: Global) -> Result<Self, AllocError> {
-        let statement = self.statement.clone()?;
-        Ok(Asking {
-            tx: self.tx,
-            attempt: self.attempt,
-            place: self.place,
-            statement,
-        })
+        self.shared()
     }
 }
 
-impl Same for Asking {
-    fn is_same(&self, other: &Asking) -> bool {
+impl Same for Posted {
+    fn is_same(&self, other: &Posted) -> bool {
         self.tx == other.tx
             && self.attempt == other.attempt
             && self.place == other.place
