@@ -7,7 +7,8 @@
 //!   once with their scripts submitted one by one, and once with a manager that is opened over them;
 //! - an ordinary service's load: eight sessions in threads, each of which submits 50 scripts while all work.
 //!
-//! `memory` runs the second alone: `./check-refusals --sessions` refuses its allocations in turn. On standard error it
+//! `memory` runs the second alone: `tools/check refusals --sessions` refuses its allocations in turn. On standard
+//! error it
 //! says which call was made again, if any was. Where memory runs out in nothing of the manager's, but while the text
 //! is read or a report is made, it ends with status 1 and writes nothing. `load [COUNT]` runs the third alone, with so
 //! many scripts a session. How long it took, and how long a submit waited at most, goes to standard error.
