@@ -2,6 +2,8 @@
 use Rattle.std.proofs.Common.{◌≡◌, ◌⊎◌, inl, inr, ℕ, Bool, true, false, cond, not, ◌||◌, ◌==◌, List, [], ◌∷◌}
 use Rattle.std.proofs.Common.{map, length, refl, sym, ap, subst, ◌∙◌, arith, Contains}
 use Rattle.std.specs.List.{list_any}
+use Rattle.ent_standing.proofs.ByNumber.{posted_tx}
+use Rattle.ent_standing.specs.Numbered.{Below}
 use Rattle.ent_semantics.specs.Entangled.{Valuation}
 use Rattle.ent_semantics.specs.Serial.{numbered}
 use Rattle.ent_coordination.specs.Component.{IsInRemainder, AreJoined}
@@ -12,11 +14,10 @@ use Rattle.ent_protocol.specs.PoolEvents.{IsPresentComponent, answered_among, an
 use Rattle.ent_protocol.specs.PoolEvents.{in_joined_group, joining}
 use Rattle.ent_protocol.specs.PostedBy.{IsPostedBy, in_pool, to_pool, next_same}
 use Rattle.ent_protocol.specs.State.{State, Member}
-use Rattle.ent_bounds.proofs.Askings.{AreAsked, posted_tx, pool_distinct}
+use Rattle.ent_bounds.proofs.Askings.{AreAsked, pool_distinct}
 use Rattle.ent_bounds.proofs.Askings.{present_in_all}
 use Rattle.ent_lists.specs.Elements.{In, Pairs, any_in, any_some, clash, contains_in, in_contains, number_itself}
 use Rattle.ent_lists.specs.Elements.{of_map, same_number, to_map, turned}
-use Rattle.ent_bounds.proofs.Lists.{Below}
 use Rattle.ent_bounds.proofs.Pools.{joined_in, swapped}
 
 -- a number is that of one of these statements

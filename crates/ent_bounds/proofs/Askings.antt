@@ -1,28 +1,19 @@
 -- Posted statements of a state, and how its components compare with those of another state.
-use Rattle.std.proofs.Common.{◌≡◌, ◌<◌, inl, inr, ℕ, zero, suc, Bool, true, false, List, [], ◌∷◌, map, refl, sym, ap}
-use Rattle.std.proofs.Common.{subst, ◌∙◌, Option, Some, None, Contains}
+use Rattle.std.proofs.Common.{◌≡◌, ◌<◌, zero, true, List, [], refl, sym}
+use Rattle.std.proofs.Common.{subst, Contains}
 use Rattle.std.specs.Prelude.{◌↔◌}
-use Rattle.ent_tree.specs.declared.script.Script.{Script}
-use Rattle.ent_semantics.specs.Serial.{numbered}
+use Rattle.ent_standing.proofs.ByNumber.{posted_tx}
+use Rattle.ent_standing.specs.Numbered.{Below, one_of, same_lists, below_apart}
 use Rattle.ent_closed.specs.Closing.{closed}
-use Rattle.ent_closed.specs.declared.operand.Known.{Known}
-use Rattle.ent_closed.specs.declared.statement.Statement.{Statement}
 use Rattle.ent_coordination.specs.Component.{SetOfTransactions, IsComponent, IsInRemainder, AreJoined}
 use Rattle.ent_coordination.specs.Pool.{Posted}
-use Rattle.ent_protocol.specs.Member.{Next, Ordinary, Asks, Commits, RollsBack, posted_by, environment_of, pool}
-use Rattle.ent_protocol.specs.Member.{next_in, next_of, statement_next}
+use Rattle.ent_protocol.specs.Member.{pool}
 use Rattle.ent_protocol.specs.PoolEvents.{IsPresentComponent}
 use Rattle.ent_protocol.specs.PostedBy.{is_present}
-use Rattle.ent_protocol.specs.State.{State, Submitted, Member}
-use Rattle.ent_lists.specs.Elements.{In, Pairs, of_map, to_map, in_flat, to_flat, contains_in, in_contains, nth_in}
-use Rattle.ent_lists.specs.Elements.{index_pairs, pairs_unmapped}
-use Rattle.ent_bounds.proofs.Lists.{one_of, same_lists, Below}
+use Rattle.ent_protocol.specs.State.{State}
+use Rattle.ent_lists.specs.Elements.{In, Pairs, contains_in, in_contains}
+use Rattle.ent_lists.specs.Elements.{index_pairs}
 use Rattle.ent_bounds.proofs.Pools.{IsPart, component_of_all, component_of_part}
-
--- ---- who asks
-
-abbrev pub posted_tx : Posted → ℕ
-posted_tx query = query.tx
 
 -- ---- present components
 
@@ -56,7 +47,8 @@ module _ (classes : (pool members others : List Posted) (shared member : Posted)
       → (a b : Posted) → In a one → In b other → a.tx ≡ b.tx → one ≡ other
   one_component one other first second a b at bt own =
       let same : a ≡ b =
-      one_of posted_tx (pool s) ascend a b (asked_there s one first a at) (asked_there s other second b bt) own in
+      one_of posted_tx (pool s) a b (below_apart posted_tx (pool s) ascend) (asked_there s one first a at)
+      (asked_there s other second b bt) own in
       let here = in_contains one a at in
       let there : Contains other a = in_contains other a (subst (λ (x : Posted). In x other) (sym same) bt) in
       let over = λ (member : Posted).
@@ -69,7 +61,8 @@ module _ (classes : (pool members others : List Posted) (shared member : Posted)
 pub pool_distinct : (s : State) → Pairs (Below posted_tx) (pool s) → (x y : Posted) → Contains (pool s) x
     → Contains (pool s) y → x.tx ≡ y.tx → x ≡ y
 pool_distinct s ascend x y at bt same =
-    one_of posted_tx (pool s) ascend x y (contains_in (pool s) x at) (contains_in (pool s) y bt) same
+    one_of posted_tx (pool s) x y (below_apart posted_tx (pool s) ascend) (contains_in (pool s) x at)
+    (contains_in (pool s) y bt) same
 
 -- ---- the components of two states
 

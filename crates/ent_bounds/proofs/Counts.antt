@@ -5,6 +5,7 @@ use Rattle.std.proofs.Common.{sum_by}
 use Rattle.std.proofs.lemmas.List.{length-append}
 use Rattle.std.proofs.lemmas.List.Sums.{sum_by-append}
 use Rattle.std.specs.List.{filter}
+use Rattle.ent_standing.specs.Numbered.{Below, one_of, below_apart}
 use Rattle.ent_semantics.specs.Entangled.{Valuation}
 use Rattle.ent_semantics.specs.Serial.{numbered}
 use Rattle.ent_coordination.specs.Pool.{Posted}
@@ -19,7 +20,7 @@ use Rattle.ent_bounds.specs.Within.{begun, statements_behind, statements_in_run,
 use Rattle.ent_bounds.proofs.LentJobs.{IsPlaced}
 use Rattle.ent_lists.specs.Elements.{In, Pairs, to_filter, any_in, in_second, shorter, same_number, number_itself}
 use Rattle.ent_lists.specs.Elements.{clash}
-use Rattle.ent_bounds.proofs.Lists.{Below, one_of, shorter_without, sum_filtered, sum_without, sum_mapped_less}
+use Rattle.ent_bounds.proofs.Lists.{shorter_without, sum_filtered, sum_without, sum_mapped_less}
 use Rattle.ent_bounds.proofs.Lists.{sum_below}
 use Rattle.ent_bounds.proofs.ReachedStates.{member_tx}
 
@@ -93,7 +94,7 @@ one_begins all m own ms ascend at tx k less =
         by : (b : Bool) → (y.tx == own.tx) ≡ b → unbegun_of all (cond b own y) ≤ unbegun_of all y
         by true is =
             let same : m ≡ y =
-            one_of member_tx ms ascend m y at there (sym (same_number y.tx own.tx is ∙ tx)) in
+            one_of member_tx ms m y (below_apart member_tx ms ascend) at there (sym (same_number y.tx own.tx is ∙ tx)) in
             subst (λ (x : Member). unbegun_of all own ≤ unbegun_of all x) same (fewer _ _ k less)
         by false is = omega arith
 

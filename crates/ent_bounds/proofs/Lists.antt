@@ -1,7 +1,7 @@
 -- Lengths and sums of lists, and lists in order.
-use Rattle.std.proofs.Common.{◌≡◌, ◌⊎◌, ◌<◌, ◌≤◌, ◌+◌, ℕ, suc, Bool, true, false, cond, List, [], ◌∷◌, ◌++◌, map, length}
+use Rattle.std.proofs.Common.{◌≡◌, ◌⊎◌, ◌≤◌, ◌+◌, ℕ, suc, Bool, true, false, cond, List, [], ◌∷◌, ◌++◌, map, length}
 use Rattle.std.proofs.Common.{sym, ap, subst, ◌∙◌, inl, inr, refl, arith, sum_by}
-use Rattle.std.specs.List.{AllByRecursion, filter}
+use Rattle.std.specs.List.{filter}
 use Rattle.std.proofs.lemmas.List.Sums.{sum_by-cons}
 use Rattle.ent_lists.specs.Elements.{In, Pairs, clash, of_all, in_second, shorter}
 
@@ -107,56 +107,3 @@ module _ {X : Type 0} where
     sum_below g (x ∷ xs) low =
         added _ _ (g x) (f x) _ _ (sum_by-cons g x xs) (sum_by-cons f x xs) (low x (inl refl))
         (sum_below g xs (λ y at. low y (inr at)))
-
--- ---- ascending lists
-
-module _ {X : Type 0} (number : X → ℕ) where
-  abbrev pub Below : X → X → Type 0
-  Below one other = number one < number other
-
-  -- elements are told by their numbers
-  pub one_of : (xs : List X) → Pairs Below xs → (x y : X) → In x xs → In y xs → number x ≡ number y → x ≡ y
-  one_of [] pairs x y at bt same = absurd at
-  one_of (z ∷ zs) pairs x y (inl here) (inl there) same = here ∙ sym there
-  one_of (z ∷ zs) pairs x y (inl here) (inr there) same =
-      let low : number z < number y = of_all (Below z) zs y pairs.0 there in
-      let e : number x ≡ number z = ap number here in
-      absurd (omega (arith, low, e, same))
-  one_of (z ∷ zs) pairs x y (inr here) (inl there) same =
-      let low : number z < number x = of_all (Below z) zs x pairs.0 here in
-      let e : number y ≡ number z = ap number there in
-      absurd (omega (arith, low, e, same))
-  one_of (z ∷ zs) pairs x y (inr here) (inr there) same = one_of zs pairs.1 x y here there same
-
-  behind : (x : X) (xs : List X) (y : X) (ys : List X) → x ≡ y → AllByRecursion (Below x) xs
-      → ((z : X) → In z (x ∷ xs) → In z (y ∷ ys)) → (z : X) → In z xs → In z ys
-  behind x xs y ys same low f z at =
-      elim (f z (inr at)) [
-        | inl here ↦
-            let high : number x < number z = of_all (Below x) xs z low at in
-            let e : number z ≡ number y = ap number here in
-            let d : number x ≡ number y = ap number same in
-            absurd (omega (arith, high, e, d))
-        | inr there ↦ there
-      ]
-
-  first_same : (x : X) (xs : List X) (y : X) (ys : List X) → AllByRecursion (Below x) xs
-      → AllByRecursion (Below y) ys → In x (y ∷ ys) → In y (x ∷ xs) → x ≡ y
-  first_same x xs y ys low high (inl same) there = same
-  first_same x xs y ys low high (inr here) (inl same) = sym same
-  first_same x xs y ys low high (inr here) (inr there) =
-      let a : number x < number y = of_all (Below x) xs y low there in
-      let b : number y < number x = of_all (Below y) ys x high here in
-      absurd (omega (arith, a, b))
-
-  -- lists in order of the same elements are the same
-  pub same_lists : (xs ys : List X) → Pairs Below xs → Pairs Below ys → ((z : X) → In z xs → In z ys)
-      → ((z : X) → In z ys → In z xs) → xs ≡ ys
-  same_lists [] [] low high f g = refl
-  same_lists [] (y ∷ ys) low high f g = absurd (g y (inl refl))
-  same_lists (x ∷ xs) [] low high f g = absurd (f x (inl refl))
-  same_lists (x ∷ xs) (y ∷ ys) low high f g =
-      let same : x ≡ y = first_same x xs y ys low.0 high.0 (f x (inl refl)) (g y (inl refl)) in
-      let rest : xs ≡ ys =
-      same_lists xs ys low.1 high.1 (behind x xs y ys same low.0 f) (behind y ys x xs (sym same) high.0 g) in
-      λ i. same i ∷ rest i

@@ -1,6 +1,7 @@
 -- Another stands in the place of a member that isn't posted: what is asked then.
 use Rattle.std.proofs.Common.{◌≡◌, ◌⊎◌, inl, inr, ℕ, Bool, true, false, cond, not, ◌==◌, List, map, refl, sym, ap}
 use Rattle.std.proofs.Common.{subst, ◌∙◌}
+use Rattle.ent_standing.specs.Numbered.{Below, one_of, below_apart}
 use Rattle.ent_coordination.specs.Pool.{Posted}
 use Rattle.ent_protocol.specs.Begin.{replaced}
 use Rattle.ent_protocol.specs.Commit.{preparing}
@@ -10,7 +11,6 @@ use Rattle.ent_protocol.specs.State.{State, Submitted, Member}
 use Rattle.ent_semantics.specs.Serial.{numbered}
 use Rattle.ent_bounds.proofs.Askings.{AreAsked, AskTheSame}
 use Rattle.ent_lists.specs.Elements.{In, Pairs, clash, number_itself, of_filter, of_map, same_number, to_filter, to_map}
-use Rattle.ent_bounds.proofs.Lists.{Below, one_of}
 use Rattle.ent_bounds.proofs.ReachedStates.{member_tx}
 
 -- what a member asks depends on the scripts alone
@@ -50,7 +50,7 @@ module _ (s new : State) (m own : Member) (active : new.active ≡ map (replaced
       by : (b : Member) → In b s.active → IsPostedBy s b a → a.tx ≡ b.tx → (is : Bool) → (b.tx == own.tx) ≡ is
           → In a (pool new) × ((a.tx == m.tx) ≡ false)
       by b here asks same true is =
-          let one : b ≡ m = one_of member_tx s.active ascend b m here at (same_number b.tx own.tx is ∙ tx) in
+          let one : b ≡ m = one_of member_tx s.active b m (below_apart member_tx s.active ascend) here at (same_number b.tx own.tx is ∙ tx) in
           clash b.posted asks.posted (ap (λ (x : Member). x.posted) one ∙ unposted)
       by b here asks same false is = (
         to_pool new a b
@@ -128,6 +128,6 @@ prepared_asks s m ascend at unposted =
       where
         by : (is : Bool) → (b.tx == m.tx) ≡ is → not is ≡ true
         by true is =
-            let one : b ≡ m = one_of member_tx s.active ascend b m here at (same_number b.tx m.tx is) in
+            let one : b ≡ m = one_of member_tx s.active b m (below_apart member_tx s.active ascend) here at (same_number b.tx m.tx is) in
             clash b.posted posted (ap (λ (x : Member). x.posted) one ∙ unposted)
         by false is = refl

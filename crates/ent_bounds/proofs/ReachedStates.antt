@@ -1,5 +1,7 @@
 -- What is known of each state that is reached.
 use Rattle.std.proofs.Common.{◌≡◌, zero, suc, ℕ, sym, subst, ◌∙◌}
+use Rattle.ent_standing.proofs.ByNumber.{posted_tx}
+use Rattle.ent_standing.specs.Numbered.{Below}
 use Rattle.ent_tree.specs.declared.declaration.Opening.{Opening}
 use Rattle.ent_protocol.specs.Event.{Event, Reply}
 use Rattle.ent_protocol.specs.Member.{pool}
@@ -10,11 +12,9 @@ use Rattle.ent_protocol.specs.Step.{Step}
 use Rattle.ent_standing.specs.ByNumber.{StandByNumber}
 use Rattle.ent_standing.specs.Lent.{LentStandOnce}
 use Rattle.ent_standing.specs.Standing.{GoesOn}
-use Rattle.ent_bounds.proofs.Askings.{posted_tx}
 use Rattle.ent_bounds.proofs.Changes.{act_of}
 use Rattle.ent_bounds.proofs.LentJobs.{LentRight, kept_right}
 use Rattle.ent_lists.specs.Elements.{Pairs, index_pairs}
-use Rattle.ent_bounds.proofs.Lists.{Below}
 
 abbrev pub member_tx : Member → ℕ
 member_tx member = member.tx

@@ -3,6 +3,8 @@ use Rattle.std.proofs.Common.{◌≡◌, ◌≤◌, ◌+◌, ◌*◌, inl, inr, 
 use Rattle.std.proofs.Common.{map, length, refl, sym, ap, subst, arith, Contains, mul-le-mul_left, mul-suc}
 use Rattle.std.proofs.lemmas.List.{length-map}
 use Rattle.std.specs.List.{filter, list_any}
+use Rattle.ent_standing.proofs.ByNumber.{posted_tx}
+use Rattle.ent_standing.specs.Numbered.{Below}
 use Rattle.ent_value.specs.declared.value.Value.{Value}
 use Rattle.ent_closed.specs.declared.entangled.Entangled.{Entangled}
 use Rattle.ent_coordination.specs.Pool.{Posted}
@@ -12,12 +14,12 @@ use Rattle.ent_protocol.specs.PoolEvents.{IsPresentComponent}
 use Rattle.ent_protocol.specs.PostedBy.{in_pool}
 use Rattle.ent_protocol.specs.State.{State, Member, members}
 use Rattle.ent_bounds.specs.Within.{HasOneOf, HitUntried, IsWithin, unbegun}
-use Rattle.ent_bounds.proofs.Askings.{AreAsked, AskTheSame, asked_there, posted_tx, present_in_other}
+use Rattle.ent_bounds.proofs.Askings.{AreAsked, AskTheSame, asked_there, present_in_other}
 use Rattle.ent_bounds.proofs.Askings.{present_in_part, some_asked}
 use Rattle.ent_bounds.proofs.Counts.{members_counted}
 use Rattle.ent_lists.specs.Elements.{In, Pairs, any_in, any_some, clash, contains_in, in_contains, number_itself}
 use Rattle.ent_lists.specs.Elements.{same_number, to_filter, to_map}
-use Rattle.ent_bounds.proofs.Lists.{Below, shorter_without}
+use Rattle.ent_bounds.proofs.Lists.{shorter_without}
 use Rattle.ent_bounds.proofs.Posting.{part_asked}
 use Rattle.ent_bounds.proofs.ReachedStates.{member_tx}
 

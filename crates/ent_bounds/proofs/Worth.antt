@@ -4,6 +4,7 @@ use Rattle.std.proofs.Common.{List, [], ◌∷◌, ◌++◌, length, refl, sym, 
 use Rattle.std.proofs.Common.{sum_by}
 use Rattle.std.proofs.lemmas.List.{length-append, length-map}
 use Rattle.std.specs.Prelude.{◌↔◌}
+use Rattle.ent_standing.specs.Numbered.{one_of, below_apart}
 use Rattle.ent_value.specs.declared.value.Value.{Value}
 use Rattle.ent_semantics.specs.Entangled.{Valuation}
 use Rattle.ent_semantics.specs.Serial.{numbered}
@@ -31,7 +32,7 @@ use Rattle.ent_bounds.proofs.Counts.{gone_begun, group_leaves, one_begins, prepa
 use Rattle.ent_bounds.proofs.LentJobs.{IsPlaced, placed_next, taken_there}
 use Rattle.ent_lists.specs.Elements.{In, any_in, clash, contains_in, in_contains, number_itself, filter_empty}
 use Rattle.ent_lists.specs.Elements.{in_first, in_second, turned}
-use Rattle.ent_bounds.proofs.Lists.{one_of, sum_mapped}
+use Rattle.ent_bounds.proofs.Lists.{sum_mapped}
 use Rattle.ent_bounds.proofs.Posting.{prepared_asks, same_asked, same_members}
 use Rattle.ent_bounds.proofs.ReachedStates.{IsKnown, member_tx}
 use Rattle.ent_bounds.proofs.UsedUp.{IsUsed, kept, leaving, posted, settled}
@@ -88,7 +89,8 @@ stands_there s m left back known =
     let lent = taken_there s back.job left back.taken in
     let b = known.once.before back.job back.single (in_contains s.lent back.job lent) back.is_single in
     let same : b.member ≡ m =
-    one_of member_tx s.active known.active b.member m (contains_in s.active b.member b.active) back.at
+    one_of member_tx s.active b.member m (below_apart member_tx s.active known.active)
+    (contains_in s.active b.member b.active) back.at
     (b.tx ∙ sym back.own) in
     let at = known.lent.placed back.job back.single lent back.is_single in
     record {

@@ -2,9 +2,8 @@
 use Rattle.std.proofs.Common.{◌≡◌, ◌⊎◌, inl, inr, ◌≤◌, List, [], ◌∷◌, ◌++◌, sym, subst, arith}
 use Rattle.std.specs.Prelude.{Contains, MatchOption, Option, Some, None}
 use Rattle.std.proofs.lemmas.List.Elements.{Contains-append_left, Contains-push, Contains-push_cases}
-use Rattle.ent_coordination.specs.Pool.{Posted}
+use Rattle.ent_coordination.specs.Pool.{Posted, first_tx}
 use Rattle.ent_protocol.specs.Job.{Job}
-use Rattle.ent_protocol.specs.PoolEvents.{first_tx}
 use Rattle.ent_components.specs.Open.{IsBefore, IsFirstOpen, IsOpen, NoneIsOpen}
 
 -- ---- one list after the other

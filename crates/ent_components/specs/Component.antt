@@ -1,9 +1,9 @@
 -- The components that may be picked, in the words of the states in which their statements are posted.
 use Rattle.std.specs.Prelude.{◌≡◌, ◌≤◌, List, Option, Some, None}
-use Rattle.ent_coordination.specs.Pool.{Posted}
+use Rattle.ent_coordination.specs.Pool.{Posted, first_tx}
 use Rattle.ent_protocol.specs.Job.{Job}
 use Rattle.ent_protocol.specs.Member.{pool}
-use Rattle.ent_protocol.specs.PoolEvents.{CanBePicked, first_tx}
+use Rattle.ent_protocol.specs.PoolEvents.{CanBePicked}
 use Rattle.ent_protocol.specs.State.{State}
 
 -- a component that may be picked, with the least first member

@@ -1,8 +1,7 @@
 -- Of some lists of statements the first that is neither tried nor out.
 use Rattle.std.specs.Prelude.{◌≡◌, ◌<◌, ◌≤◌, List, Contains, Option, Some, None}
-use Rattle.ent_coordination.specs.Pool.{Posted}
+use Rattle.ent_coordination.specs.Pool.{Posted, first_tx}
 use Rattle.ent_protocol.specs.Job.{Job, Joint}
-use Rattle.ent_protocol.specs.PoolEvents.{first_tx}
 
 -- a joint job of exactly these statements is one of those lent
 abbrev pub IsOutAmong : List Job → List Posted → Type 0

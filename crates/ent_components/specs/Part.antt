@@ -2,10 +2,9 @@
 use Rattle.std.specs.Prelude.{◌≡◌, ◌≢◌, ◌<◌, ◌≤◌, ◌⊎◌, ℕ, List, length, Contains, Option, Some, None}
 use Rattle.std.specs.Prelude.{slice_index_or}
 use Rattle.ent_coordination.specs.Component.{IsComponent}
-use Rattle.ent_coordination.specs.Pool.{Posted}
+use Rattle.ent_coordination.specs.Pool.{Posted, first_tx}
 use Rattle.ent_match.specs.Fault.{IsByNumber}
 use Rattle.ent_match.specs.Parts.{AreSplit, IsPart}
-use Rattle.ent_protocol.specs.PoolEvents.{first_tx}
 
 -- no statement of a pool is of a transaction
 abbrev pub HasNoneOf : List Posted → ℕ → Type 0

@@ -1,7 +1,7 @@
 //! Components that are neither tried nor out.
 ghost use Rattle.std.specs.Prelude.{◌≡◌, ◌↔◌, Contains, IsTrue, MatchOption};
+ghost use Rattle.ent_coordination.specs.Pool.{first_tx};
 ghost use Rattle.ent_protocol.specs.Job.{Joint};
-ghost use Rattle.ent_protocol.specs.PoolEvents.{first_tx};
 ghost use Rattle.ent_components.specs.Open.{IsBefore, IsFirstOpen, IsOpen, IsOutAmong, NoneIsOpen};
 
 use ent_group::Tx;

@@ -20,6 +20,11 @@ pub record Posted : Type 0 where
   pub place : ℕ
   pub statement : Entangled Value
 
+-- the transaction of a list's first statement
+abbrev pub first_tx : List Posted → ℕ
+first_tx [] = 0
+first_tx (query ∷ more) = query.tx
+
 -- at most one statement of each transaction
 abbrev pub IsPool : List Posted → Type 0
 IsPool pool = AllPairs (λ (first second : Posted). first.tx ≢ second.tx) pool

@@ -1,14 +1,19 @@
 -- Who is dormant was submitted, and stands once in the list.
-use Rattle.std.proofs.Common.{◌≡◌, ◌<◌, ◌≤◌, ℕ, ◌+◌, false, Bool, List, [], ◌∷◌, ◌++◌, length, map, sym, ap, subst, ◌∙◌, arith, nat_eq, length-append}
+use Rattle.std.proofs.Common.{◌≡◌, ◌<◌, ◌≤◌, ℕ, ◌+◌, false, Bool, List, [], ◌∷◌, ◌++◌, length, map, sym, ap, subst}
+use Rattle.std.proofs.Common.{◌∙◌, arith, nat_eq, length-append}
 use Rattle.std.specs.List.{AllByRecursion, IsDistinct}
 use Rattle.std.proofs.lemmas.Bool.Decides.{nat_tests}
 use Rattle.ent_tree.specs.declared.declaration.Opening.{Opening}
 use Rattle.ent_form.specs.declared.catalogue.TableSchema.{TableSchema}
-use Rattle.ent_protocol.specs.State.{Submitted, Dormant}
+use Rattle.ent_protocol.specs.State.{State, Submitted, Dormant, Member, members}
 use Rattle.ent_members.specs.Run.{Run}
 use Rattle.ent_roster.specs.Roster.{Roster}
 use Rattle.ent_standing.specs.Attempts.{AsksForRun}
+use Rattle.ent_coordination.specs.Pool.{Posted}
 use Rattle.ent_tables.specs.Stored.{Stored}
+use Rattle.ent_lists.specs.Elements.{in_contains, in_first, in_second, to_all, to_map}
+use Rattle.ent_standing.specs.Standing.{StandOnce, standing}
+use Rattle.ent_pool_laws.specs.Pooled.{IsPoolOf}
 use Rattle.ent_core.specs.Store.{IsKept}
 
 abbrev IsWithin : ℕ → Dormant → Type 0
@@ -31,7 +36,8 @@ apart : (n m : ℕ) → n < m → nat_eq n m ≡ false
 apart n m less = grind (arith, nat_tests)
 
 -- one that stood before the last stands there no more than once
-once_more : (n : ℕ) (dormant : List Dormant) (last : Dormant) → AllByRecursion (λ m. nat_eq n m ≡ false) (numbers dormant)
+once_more : (n : ℕ) (dormant : List Dormant) (last : Dormant)
+    → AllByRecursion (λ m. nat_eq n m ≡ false) (numbers dormant)
     → n < last.tx → AllByRecursion (λ m. nat_eq n m ≡ false) (numbers (dormant ++ last ∷ []))
 once_more n [] last all less = (apart n last.tx less, tt)
 once_more n (own ∷ more) last all less = (all.0, once_more n more last all.1 less)
@@ -52,13 +58,14 @@ asks_last (first ∷ more) own all asks = (all.0, asks_last more own all.1 asks)
 
 -- one script more, and who waits for a run with it
 pub kept_submitted : (schemas : List TableSchema) (opening : Opening) (submitted submitted' : List Submitted)
-    (roster roster' : Roster) (running : Bool) (run : Run) (stored : Stored) (own : Submitted) (last : Dormant)
-    → IsKept schemas opening submitted roster running run stored → AsksForRun own
+    (roster roster' : Roster) (running : Bool) (run : Run) (stored : Stored) (posted : List Posted) (own : Submitted)
+    (last : Dormant) → IsKept schemas opening submitted roster running run stored posted → AsksForRun own
     → submitted' ≡ submitted ++ own ∷ []
     → roster' ≡ record roster { dormant = roster.dormant ++ last ∷ []; known = roster.known + 1 }
-    → last.tx ≡ length submitted + 1
-    → IsKept schemas opening submitted' roster' running run stored
-kept_submitted schemas opening submitted submitted' roster roster' running run stored own last kept asks more is next =
+    → last.tx ≡ length submitted + 1 → IsPoolOf submitted' run.active posted
+    → IsKept schemas opening submitted' roster' running run stored posted
+kept_submitted schemas opening submitted submitted' roster roster' running run stored posted own last kept asks more is
+    next pooled =
     let dormant = roster.dormant in
     let now : roster'.dormant ≡ dormant ++ last ∷ [] = ap (λ (r : Roster). r.dormant) is in
     let counted : roster'.known ≡ roster.known + 1 = ap (λ (r : Roster). r.known) is in
@@ -66,7 +73,8 @@ kept_submitted schemas opening submitted submitted' roster roster' running run s
     let A : List Dormant → Type 0 = λ all. AllByRecursion (λ (one : Dormant). one.tx ≤ length submitted') all in
     let D : List Dormant → Type 0 = λ all. IsDistinct nat_eq (numbers all) in
     let within : AllByRecursion (IsWithin (length submitted')) dormant =
-    subst (λ (most : ℕ). AllByRecursion (IsWithin most) dormant) (sym n) (later (length submitted) dormant kept.arrived) in
+    subst (λ (most : ℕ). AllByRecursion (IsWithin most) dormant) (sym n) (later (length submitted) dormant
+    kept.arrived) in
     record {
       declared = kept.declared;
       formed = kept.formed;
@@ -74,7 +82,17 @@ kept_submitted schemas opening submitted submitted' roster roster' running run s
       asks = subst (λ all. AllByRecursion AsksForRun all) (sym more) (asks_last submitted own kept.asks asks);
       known = counted ∙ ap (λ k. k + 1) kept.known ∙ sym n;
       arrived = subst A (sym now) (arrived_last (length submitted') dormant last within (omega arith));
-      distinct = subst D (sym now) (distinct_last (length submitted) dormant last kept.arrived (omega arith) kept.distinct);
+      distinct = subst D (sym now) (distinct_last (length submitted) dormant last kept.arrived (omega arith)
+          kept.distinct);
       idle_prepared = kept.idle_prepared;
       idle_active = kept.idle_active;
+      posted = pooled;
     }
+
+-- where transactions stand once, each member was submitted
+pub active_arrived : (s : State) → StandOnce s → AllByRecursion (λ (m : Member). m.tx ≤ length s.submitted) s.active
+active_arrived s once =
+    to_all (λ (m : Member). m.tx ≤ length s.submitted) s.active (λ m at.
+    ((once.submitted m.tx).0 (in_contains (standing s) m.tx
+    (in_first (map (λ (x : Member). x.tx) (members s)) _ m.tx
+    (to_map (λ (x : Member). x.tx) (members s) m (in_second s.prepared s.active m at))))).1)

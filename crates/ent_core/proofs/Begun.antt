@@ -1,10 +1,9 @@
 -- A member begins: what is planned and done is the begin.
 use Rattle.std.proofs.Common.{◌≡◌, ◌||◌, ℕ, Bool, true, false, List, [], ◌∷◌, ◌++◌, refl, sym, ap, subst, ◌∙◌}
-use Rattle.std.proofs.Common.{inl, inr}
+use Rattle.std.proofs.Common.{inl, inr, ◌≤◌, ◌<◌, length, map, nat_eq}
 use Rattle.std.proofs.Common.{Option, Some, None, cond, if◌then◌else◌, arith, suc, Result, Ok, Err}
-use Rattle.std.specs.List.{filter}
+use Rattle.std.specs.List.{AllByRecursion, IsDistinct, filter}
 use Rattle.std.specs.Prelude.{IfOk, IsSome, Contains, is_some}
-use Rattle.ent_members.specs.Changes.{posting}
 use Rattle.std.proofs.lemmas.Bool.Decides.{nat_tests}
 use Rattle.ent_value.specs.declared.value.Value.{Value}
 use Rattle.ent_closed.specs.declared.entangled.Entangled.{Entangled}
@@ -14,7 +13,7 @@ use Rattle.ent_form.specs.declared.catalogue.TableSchema.{TableSchema}
 use Rattle.ent_form.specs.declared.fault.FormFault.{FormFault}
 use Rattle.ent_protocol.specs.Begin.{Begins, BeginsCommit, BeginsEntangled, BeginsMember, BeginsNext, BeginsOrdinary}
 use Rattle.ent_protocol.specs.Begin.{BeginsUnless}
-use Rattle.ent_protocol.specs.Begin.{holding, pool_with, single_job, with_member}
+use Rattle.ent_protocol.specs.Begin.{holding, pool_with, posting, single_job, with_member}
 use Rattle.ent_protocol.specs.Commit.{is_ready, preparing}
 use Rattle.ent_protocol.specs.Event.{Reply}
 use Rattle.ent_protocol.specs.Event as replies
@@ -23,18 +22,22 @@ use Rattle.ent_protocol.specs.Member.{Asks, Commits, Next, Ordinary, RollsBack, 
 use Rattle.ent_protocol.specs.Member.{is_tx}
 use Rattle.ent_protocol.specs.Member.{next_of}
 use Rattle.ent_protocol.specs.Rollback.{Asked, group_numbers, rolled_back}
-use Rattle.ent_protocol.specs.State.{State, Member, first_of}
+use Rattle.ent_protocol.specs.State.{State, Dormant, Member, first_of}
 use Rattle.ent_protocol.specs.Uses.{blocker, entangled_uses, is_in_way, not_passed, statement_uses}
 use Rattle.ent_protocol.specs.Waits.{next_uses}
 use Rattle.ent_tree.specs.declared.declaration.Opening.{Opening}
 use Rattle.ent_members.specs.Run.{Run}
 use Rattle.ent_protocol.specs.State.{Submitted}
 use Rattle.ent_roster.specs.Roster.{Roster}
+use Rattle.ent_pool_laws.specs.Pooled.{IsPoolOf}
 use Rattle.ent_core.specs.Store.{IsKept}
 use Rattle.ent_tables.specs.Stored.{Stored}
 use Rattle.ent_core.specs.Reply.{reply_seen}
 use Rattle.ent_core.specs.declared.reply.Reply.{Reply as Given}
-use Rattle.ent_core.specs.Begin.{IsGroupOf, IsToBegin, LendsTo, MayBegin, PostsTo, job_uses}
+use Rattle.ent_lists.specs.Elements.{contains_in, index_pairs}
+use Rattle.ent_standing.specs.ByNumber.{StandByNumber}
+use Rattle.ent_standing.specs.Numbered.{below_apart, one_of}
+use Rattle.ent_core.specs.Begin.{IsGroupOf, IsIdle, IsToBegin, IsToPost, LendsTo, MayBegin, job_uses}
 
 -- ---- the member of a number
 
@@ -82,6 +85,31 @@ one_member x y e = cc
 
 abbrev absent_unless : Bool → Reply FormFault
 absent_unless b = if b then replies.NotNow else replies.Absent
+
+pub is_there : (members : List Member) (tx : ℕ) → IsSome (first_of (filter (is_tx tx) members))
+    → (member : Member) × (first_of (filter (is_tx tx) members) ≡ Some member)
+is_there members tx some = by (first_of (filter (is_tx tx) members)) some
+  where
+    by : (o : Option Member) → IsSome o → (member : Member) × (o ≡ Some member)
+    by (Some member) some = (member, refl)
+    by None some = absurd cc
+
+-- where members stand by number, one that may begin is the only one of its number, and hasn't posted
+pub one_idle : (s : State) (tx : ℕ) (member : Member) → StandByNumber s → Contains s.active member → member.tx ≡ tx
+    → member.posted ≡ false → IsIdle s tx
+one_idle s tx member stand at own off other there same =
+    let one : other ≡ member =
+    one_of (λ (m : Member). m.tx) s.active other member
+    (below_apart (λ (m : Member). m.tx) s.active
+    (index_pairs (λ (x y : Member). x.tx < y.tx) s.active stand.active))
+    (contains_in s.active other there) (contains_in s.active member at) (same ∙ sym own) in
+    ap (λ (m : Member). m.posted) one ∙ off
+
+pub idle_at_turn : (s : State) (tx : ℕ) (member : Member) (next : Next) → StandByNumber s → MayBegin s tx member next
+    → IsIdle s tx
+idle_at_turn s tx member next stand may =
+    one_idle s tx member stand (member_found tx s.active member may.there) (number_found tx s.active member may.there)
+    (or_first member.posted (is_lent s tx) may.free)
 
 -- ---- who asks for nothing
 
@@ -171,15 +199,9 @@ module _ (s : State) (tx : ℕ) where
         entangled None none (replies.HeldBack fault) s (inr (fault, first, (refl, refl)))
 
     pub entangled_posted : blocker s member (entangled_uses statement) ≡ None
-        → IsSafe (pool_with s member statement)
-        → (query : Posted) → query.statement ≡ statement → (new : State) → PostsTo tx query s new
+        → IsSafe (pool_with s member statement) → (new : State) → new ≡ posting s member statement
         → Begins {F = FormFault} s tx replies.Posted new
-    entangled_posted none safe query same new posts =
-        let as_posted : new
-        ≡ with_member (record (holding member (entangled_uses statement)) { posted = true }) s =
-        posts member begun.there
-        ∙ (λ i. with_member (record (holding member (entangled_uses (same i))) { posted = true }) s) in
-        entangled None none replies.Posted new (inl (safe, refl, as_posted))
+    entangled_posted none safe new is = entangled None none replies.Posted new (inl (safe, refl, is))
 
   -- whatever comes next, who is in the way of what it asks for is in its way
   pub begun_blocked : (member : Member) (next : Next) → MayBegin s tx member next → (holder : ℕ)
@@ -226,15 +248,6 @@ module _ (s : State) (tx : ℕ) where
             let R : Next → Type 0 = λ n. BeginsNext {F = FormFault} s member n (replies.Lent job) new in
             let e = (subst R rolls begun).0 in cc
 
-    pub posts_not : (new : State) → Begins {F = FormFault} s tx replies.Posted new → ⊥
-    posts_not new h = by (member.posted || is_lent s tx) (seen_in replies.Posted new h)
-      where
-        by : (b : Bool) → BeginsUnless {F = FormFault} b s member replies.Posted new → ⊥
-        by true refused = let e = refused.0 in cc
-        by false begun =
-            let R : Next → Type 0 = λ n. BeginsNext {F = FormFault} s member n replies.Posted new in
-            let e = (subst R rolls begun).0 in cc
-
     pub commits_not : IsToBegin s tx Commits → ⊥
     commits_not begun =
         let same : begun.member ≡ member = one_member begun.member member (sym begun.may.there ∙ there) in
@@ -249,19 +262,65 @@ module _ (s : State) (tx : ℕ) where
         λ m. record (with_member (holding m (job_uses job)) s) { lent = s.lent ++ job ∷ [] } in
         lends_not job (done member) (plan (done member) (λ m at. ap done (one_member member m (sym there ∙ at))))
 
-    pub plans_no_post : (query : Posted)
-        → ((new : State) → PostsTo tx query s new → Begins {F = FormFault} s tx replies.Posted new) → ⊥
+    pub plans_no_post : (query : Posted) → IsToPost s tx query → ⊥
     plans_no_post query plan =
-        let done : Member → State = λ m. with_member (posting (entangled_uses query.statement) m) s in
-        posts_not (done member) (plan (done member) (λ m at. ap done (one_member member m (sym there ∙ at))))
+        let same : plan.member ≡ member = one_member plan.member member (sym plan.may.there ∙ there) in
+        let e : RollsBack ≡ Asks query.statement = sym rolls ∙ ap (next_of s) (sym same) ∙ plan.may.is_next in
+        cc
 
 -- ---- what the store keeps
 
-pub kept_changed : (schemas : List TableSchema) (opening : Opening) (submitted : List Submitted) (roster : Roster) (running : Bool)
-    (run run' : Run) (stored : Stored) (tx : ℕ) → IsKept schemas opening submitted roster running run stored
-    → IsSome (first_of (filter (is_tx tx) run.active)) → run'.prepared ≡ run.prepared
-    → IsKept schemas opening submitted roster running run' stored
-kept_changed schemas opening submitted roster running run run' stored tx kept some same =
+-- somebody is a member, so that a run is on
+pub kept_with : (schemas : List TableSchema) (opening : Opening) (submitted : List Submitted) (roster roster' : Roster)
+    (running : Bool) (run run' : Run) (stored stored' : Stored) (posted posted' : List Posted) (tx : ℕ)
+    → IsKept schemas opening submitted roster running run stored posted
+    → IsSome (first_of (filter (is_tx tx) run.active)) → roster'.dormant ≡ roster.dormant
+    → roster'.known ≡ roster.known → stored'.kinds ≡ stored.kinds → IsPoolOf submitted run'.active posted'
+    → IsKept schemas opening submitted roster' running run' stored' posted'
+kept_with schemas opening submitted roster roster' running run run' stored stored' posted posted' tx kept some
+    dormant known
+    kinds pooled =
+    record {
+      declared = kept.declared;
+      formed = kept.formed;
+      kinds = kinds ∙ kept.kinds;
+      asks = kept.asks;
+      known = known ∙ kept.known;
+      arrived = subst (λ (all : List Dormant). AllByRecursion (λ (own : Dormant). own.tx ≤ length submitted) all)
+          (sym dormant) kept.arrived;
+      distinct = subst (λ (all : List Dormant). IsDistinct nat_eq (map (λ (own : Dormant). own.tx) all)) (sym dormant)
+          kept.distinct;
+      idle_prepared = λ off. absurd (somebody off);
+      idle_active = λ off. absurd (somebody off);
+      posted = pooled;
+    }
+  where
+    nobody : false ≡ true → ⊥
+    nobody e = cc
+
+    somebody : running ≡ false → ⊥
+    somebody off =
+        let P : List Member → Type 0 = λ members. IsSome (first_of (filter (is_tx tx) members)) in
+        nobody (subst P (kept.idle_active off) some)
+
+-- the same where the run alone changes
+pub kept_changed : (schemas : List TableSchema) (opening : Opening) (submitted : List Submitted) (roster : Roster)
+    (running : Bool) (run run' : Run) (stored : Stored) (posted posted' : List Posted) (tx : ℕ)
+    → IsKept schemas opening submitted roster running run stored posted
+    → IsSome (first_of (filter (is_tx tx) run.active)) → IsPoolOf submitted run'.active posted'
+    → IsKept schemas opening submitted roster running run' stored posted'
+kept_changed schemas opening submitted roster running run run' stored posted posted' tx kept some pooled =
+    kept_with schemas opening submitted roster roster running run run' stored stored posted posted' tx kept some refl
+    refl
+    refl pooled
+
+-- members become others
+pub kept_answered : (schemas : List TableSchema) (opening : Opening) (submitted : List Submitted) (roster : Roster)
+    (running : Bool) (run run' : Run) (stored : Stored) (posted posted' : List Posted) (f g : Member → Member)
+    → IsKept schemas opening submitted roster running run stored posted → run'.prepared ≡ map f run.prepared
+    → run'.active ≡ map g run.active → IsPoolOf submitted run'.active posted'
+    → IsKept schemas opening submitted roster running run' stored posted'
+kept_answered schemas opening submitted roster running run run' stored posted posted' f g kept prepared active pooled =
     record {
       declared = kept.declared;
       formed = kept.formed;
@@ -270,10 +329,7 @@ kept_changed schemas opening submitted roster running run run' stored tx kept so
       known = kept.known;
       arrived = kept.arrived;
       distinct = kept.distinct;
-      idle_prepared = λ off. same ∙ kept.idle_prepared off;
-      idle_active = λ off. absurd (nobody (let P : List Member → Type 0 =
-          λ members. IsSome (first_of (filter (is_tx tx) members)) in subst P (kept.idle_active off) some));
+      idle_prepared = λ off. prepared ∙ ap (map f) (kept.idle_prepared off);
+      idle_active = λ off. active ∙ ap (map g) (kept.idle_active off);
+      posted = pooled;
     }
-  where
-    nobody : false ≡ true → ⊥
-    nobody e = cc

@@ -1,5 +1,6 @@
 -- The tables of a book, and the book of a state in which no run is on.
-use Rattle.std.proofs.Common.{◌≡◌, ◌≤◌, ◌⊎◌, inl, inr, ℕ, zero, suc, false, cond, List, [], ◌∷◌, ◌++◌, length, map, take, refl, sym, ap, ◌∙◌, arith, not}
+use Rattle.std.proofs.Common.{◌≡◌, ◌≤◌, ◌⊎◌, inl, inr, ℕ, zero, suc, false, cond, List, [], ◌∷◌, ◌++◌, length, map}
+use Rattle.std.proofs.Common.{take, refl, sym, ap, ◌∙◌, arith, not}
 use Rattle.std.specs.List.{filter, list_any}
 use Rattle.std.specs.Arc.{arc_value}
 use Rattle.std.specs.declared.sync.Arc.{Arc}
@@ -27,7 +28,8 @@ relation_of entry = arc_value entry.table
 
 -- tables under their names, from the two lists
 listed : (entries : List NamedTable) (name : Name)
-    → tables_database entries name ≡ named_tables (map (λ entry. entry.name) entries) (rows_in (map relation_of entries)) name
+    → tables_database entries name ≡ named_tables (map (λ entry. entry.name) entries) (rows_in (map relation_of
+    entries)) name
 listed [] name = refl
 listed (entry ∷ more) name =
     ap (λ (rest : Rows). cond (same_name entry.name name) (relation_of entry).rows rest) (listed more name)
@@ -56,16 +58,23 @@ module _ {Z : Type 0} where
   named_so_far entries schemas arcs n names tables short =
       let f : TableSchema → Name = λ schema. schema.name in
       let rows : List Relation → Tables = rows_in in
-      let names_cut : map (λ entry. entry.name) entries ≡ take n (names_of schemas) = names ∙ sym (take-map f n schemas) in
+      let names_cut : map (λ entry. entry.name) entries ≡ take n (names_of schemas) = names
+      ∙ sym (take-map f n schemas) in
       let tables_cut : rows_in (map relation_of entries) ≡ take n (rows_in (map arc_value arcs)) =
-      ap rows tables ∙ ap rows (sym (take-map arc_value n arcs)) ∙ sym (take-map (λ (t : Relation). t.rows) n (map arc_value arcs)) in
+      ap rows tables ∙ ap rows (sym (take-map arc_value n arcs))
+      ∙ sym (take-map (λ (t : Relation). t.rows) n (map arc_value arcs)) in
       λ i name.
       (listed entries name ∙ (λ j. named_tables (names_cut j) (tables_cut j) name)
       ∙ cut (names_of schemas) (rows_in (map arc_value arcs)) n name (either short)) i
     where
       either : (length arcs ≤ n) ⊎ (length schemas ≤ n)
           → (length (rows_in (map arc_value arcs)) ≤ n) ⊎ (length (names_of schemas) ≤ n)
-      either (inl few) = inl (omega (arith, length-map (map arc_value arcs) (λ (t : Relation). t.rows), length-map arcs (arc_value {X = Relation} {Z = Z})))
+      either (inl few) = inl (omega (
+        arith,
+        length-map (map arc_value arcs) (λ (t : Relation). t.rows),
+        length-map
+            arcs (arc_value {X = Relation} {Z = Z}),
+      ))
       either (inr few) = inr (omega (arith, length-map schemas (λ (schema : TableSchema). schema.name)))
 
 -- the names of a catalogue are those that the opening declares

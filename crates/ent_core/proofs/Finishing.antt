@@ -1,5 +1,6 @@
 -- A result of one statement: what the laws say of its job, and what is made of it.
-use Rattle.std.proofs.Common.{◌≡◌, ◌<◌, ◌∙◌, ◌==◌, ◌||◌, ℕ, zero, suc, Bool, true, false, cond, List, [], ◌∷◌, length, map, refl, sym, ap, subst, arith, rules, Option, Some, None}
+use Rattle.std.proofs.Common.{◌≡◌, ◌<◌, ◌∙◌, ◌==◌, ◌||◌, ℕ, zero, suc, Bool, true, false, cond, List, [], ◌∷◌, length}
+use Rattle.std.proofs.Common.{map, refl, sym, ap, subst, arith, rules, Option, Some, None}
 use Rattle.std.specs.Prelude.{All, Contains, IsSome, slice_get, slice_index_or}
 use Rattle.std.specs.List.{AllByRecursion, filter}
 use Rattle.std.proofs.lemmas.Bool.Decides.{nat_tests}
@@ -20,10 +21,11 @@ use Rattle.ent_members.specs.Run.{Run}
 use Rattle.ent_protocol.specs.Event as replies
 use Rattle.ent_protocol.specs.Begin.{replaced}
 use Rattle.ent_protocol.specs.Finish.{FinishesBy, FinishesSingle, IsTaken, noted, stepped, table_of, with_change}
-use Rattle.ent_protocol.specs.Job.{Done, Job, One, Outcome, Work, Shown, Changed, Bound, Choice, Fault, IsEvaluated, Seen, Single, tables_of}
+use Rattle.ent_protocol.specs.Job.{Done, Job, One, Outcome, Work, Shown, Changed, Bound, Choice, Fault, IsEvaluated}
+use Rattle.ent_protocol.specs.Job.{Seen, Single, tables_of}
 use Rattle.ent_protocol.specs.Member.{Ordinary, active_member, declared_kinds, is_tx, next_of}
 use Rattle.ent_protocol.specs.Rollback.{Failing, group_numbers, rolled_back}
-use Rattle.ent_protocol.specs.State.{State, Member, first_of}
+use Rattle.ent_protocol.specs.State.{State, Submitted, Member, first_of}
 use Rattle.ent_protocol.specs.Uses.{exclusive, statement_uses}
 use Rattle.ent_rel.specs.Relation.{Relation}
 use Rattle.ent_rel.specs.declared.change.Delta.{Delta}
@@ -31,13 +33,18 @@ use Rattle.ent_semantics.specs.declared.answer.Answer.{Answer}
 use Rattle.ent_semantics.specs.declared.answer.Answer.TheVariants as answers
 use Rattle.ent_semantics.specs.declared.answer.Failure.{Failure}
 use Rattle.ent_semantics.specs.Database.{Rows}
+use Rattle.ent_standing.specs.ByNumber.{StandByNumber}
 use Rattle.ent_standing.specs.Declared.{LentIsDeclared, SeesDeclared}
 use Rattle.ent_tables.specs.Stored.{Stored}
 use Rattle.ent_core.specs.Advance.{Advances, binding}
 use Rattle.ent_core.specs.Finish.{Accepts, CanChange, CarriesOut, MayCarryOut}
 use Rattle.ent_core.specs.Reply.{reply_seen}
 use Rattle.ent_core.specs.declared.reply.Reply.{Reply as Given}
-use Rattle.ent_core.proofs.Begun.{number_found, one_member}
+use Rattle.ent_core.specs.Begin.{IsIdle}
+use Rattle.ent_coordination.specs.Pool.{Posted}
+use Rattle.ent_pool_laws.specs.Pooled.{IsPoolOf}
+use Rattle.ent_core.proofs.Begun.{number_found, one_idle, one_member}
+use Rattle.ent_core.proofs.Pooled.{kept_changing}
 
 -- ---- the member of a statement
 
@@ -94,11 +101,13 @@ can_change s seen delta table applicable used stand kinds same there =
     sym stands ∙ ap (λ n. slice_index_or (tables_of (seen ∷ [])) n set.empty) number ∙ same table itself in
     record {
       declared = there;
-      applicable = subst (λ (r : Relation). IsApplicable r delta) (λ i. record { kinds = declared i; rows = rows i }) applicable;
+      applicable = subst (λ (r : Relation). IsApplicable r delta) (λ i. record { kinds = declared i; rows = rows i })
+          applicable;
     }
 
 changes_one : (s : State) (seen : Seen) (delta : Delta) (statement : Statement Value)
-    → IsApplicable (relation_of seen) delta → AreUsed (statement_uses statement) (seen ∷ []) → StandAtNumbers (seen ∷ [])
+    → IsApplicable (relation_of seen) delta → AreUsed (statement_uses statement) (seen ∷ [])
+    → StandAtNumbers (seen ∷ [])
     → seen.kinds ≡ declared_kinds s.opening.tables seen.table
     → SameWhereUsed (statement_uses statement) (tables_of (seen ∷ [])) s.tables
     → All (λ table. table < length s.opening.tables) (table_of statement)
@@ -134,7 +143,8 @@ may_carry_out s job single (Changed count removed added) one made declared same 
 
 -- ---- what is made of it
 
-pub went_on : (s : State) (run run' : Run) (stored stored' : Stored) (single : Single) (member : Member) (left : List Job)
+pub went_on : (s : State) (run run' : Run) (stored stored' : Stored) (single : Single) (member : Member) (left : List
+    Job)
     (outcome : Outcome) (answer : Answer)
     → s.prepared ≡ run.prepared → s.active ≡ run.active → s.tables ≡ stored.tables → s.changes ≡ stored.changes
     → active_member s single.tx ≡ Some member → Advances single outcome answer run stored run' stored'
@@ -162,7 +172,8 @@ went_on s run run' stored stored' single member left (Shown rows) answer prepare
         changes = (ap (λ (x : Stored). x.changes) rest ∙ sym changes) i;
       },
     )
-went_on s run run' stored stored' single member left (Changed count removed added) answer prepared active tables changes there h =
+went_on s run run' stored stored' single member left (Changed count removed added) answer prepared active tables
+    changes there h =
     let is : found run.active single.tx ≡ Some member =
     ap (λ (ms : List Member). found ms single.tx) (sym active) ∙ there in
     let own : single.tx ≡ member.tx = sym (number_found single.tx s.active member there) in
@@ -199,8 +210,10 @@ went_on s run run' stored stored' single member left (Bound value) answer prepar
         changes = (ap (λ (x : Stored). x.changes) rest ∙ sym changes) i;
       },
     )
-went_on s run run' stored stored' single member left (Choice groundings) answer prepared active tables changes there h = absurd h
-went_on s run run' stored stored' single member left (Fault failure) answer prepared active tables changes there h = absurd h
+went_on s run run' stored stored' single member left (Choice groundings) answer prepared active tables changes there
+    h = absurd h
+went_on s run run' stored stored' single member left (Fault failure) answer prepared active tables changes there h =
+    absurd h
 
 -- ---- a failure
 
@@ -237,6 +250,13 @@ out_member s job single index present there work =
     let p = present.single job single (contains_at s.lent index job there) work in
     is_found single.tx s.active p.member p.active p.own
 
+-- nobody of its number has posted
+pub out_idle : (s : State) (job : Job) (single : Single) (index : ℕ) → LentIsPresent s → StandByNumber s
+    → slice_get s.lent index ≡ Some job → job.work ≡ One single → IsIdle s single.tx
+out_idle s job single index present stand there work =
+    let p = present.single job single (contains_at s.lent index job there) work in
+    one_idle s single.tx p.member stand p.active p.own p.unposted
+
 -- its change can be made
 pub out_change : (s : State) (job : Job) (single : Single) (index : ℕ) (outcome : Outcome) → LentIsPresent s
     → LentIsDeclared s
@@ -270,3 +290,32 @@ accepted s done single index outcome reply new meant there work out is carried =
       steps = subst P is h.2;
     } in
     (single, work, finished)
+
+-- ---- the store that goes on
+
+-- the kinds of the tables stay
+pub advanced_kinds : (single : Single) (outcome : Outcome) (answer : Answer) (run run' : Run) (stored stored' : Stored)
+    → Advances single outcome answer run stored run' stored' → stored'.kinds ≡ stored.kinds
+advanced_kinds single (Shown rows) answer run run' stored stored' h = ap (λ (x : Stored). x.kinds) h.2
+advanced_kinds single (Changed count removed added) answer run run' stored stored' h = ap (λ (x : Stored). x.kinds) h.2
+advanced_kinds single (Bound value) answer run run' stored stored' h = ap (λ (x : Stored). x.kinds) h.2
+advanced_kinds single (Choice groundings) answer run run' stored stored' h = absurd h
+advanced_kinds single (Fault failure) answer run run' stored stored' h = absurd h
+
+-- and so does the pool, where nobody of the statement's number has posted
+pub advanced_pool : (submitted : List Submitted) (posted : List Posted) (single : Single) (outcome : Outcome)
+    (answer : Answer) (run run' : Run) (stored stored' : Stored) → IsPoolOf submitted run.active posted
+    → Advances single outcome answer run stored run' stored' → IsSome (found run.active single.tx)
+    → ((m : Member) → Contains run.active m → m.tx ≡ single.tx → m.posted ≡ false)
+    → IsPoolOf submitted run'.active posted
+advanced_pool submitted posted single (Shown rows) answer run run' stored stored' old h some idle =
+    kept_changing submitted run.active posted old (stepped (answers.Rows rows)) single.tx run'.active h.1.active some
+    (λ m. refl) (λ m off. refl) idle
+advanced_pool submitted posted single (Changed count removed added) answer run run' stored stored' old h some idle =
+    kept_changing submitted run.active posted old (stepped (answers.Count count)) single.tx run'.active h.1.active some
+    (λ m. refl) (λ m off. refl) idle
+advanced_pool submitted posted single (Bound value) answer run run' stored stored' old h some idle =
+    kept_changing submitted run.active posted old (binding single.statement value) single.tx run'.active h.1.active some
+    (λ m. refl) (λ m off. refl) idle
+advanced_pool submitted posted single (Choice groundings) answer run run' stored stored' old h some idle = absurd h
+advanced_pool submitted posted single (Fault failure) answer run run' stored stored' old h some idle = absurd h

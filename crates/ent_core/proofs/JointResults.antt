@@ -1,10 +1,9 @@
 -- Results of joint jobs that are outstanding.
 use Rattle.std.proofs.Common.{◌≡◌, ◌<◌, ℕ, suc, false, List, [], ◌∷◌, length, map, refl, sym}
-use Rattle.std.proofs.Common.{ap, subst, ◌∙◌, arith, nat_eq, Option, Some, None, slice_get, slice_index_or}
+use Rattle.std.proofs.Common.{ap, subst, arith, nat_eq, Option, Some, None, slice_get, slice_index_or}
 use Rattle.std.specs.Prelude.{AllPairs, IfSome}
 use Rattle.std.specs.List.{AllByRecursion, IsDistinct}
 use Rattle.std.proofs.lemmas.Bool.Decides.{nat_tests}
-use Rattle.std.proofs.lemmas.List.{length-map}
 use Rattle.ent_semantics.specs.Entangled.{Valuation}
 use Rattle.ent_closed.specs.Form.{Tables}
 use Rattle.ent_coordination.specs.Choice.{AreGroundings, IsLeastChoiceIfAny}

@@ -30,7 +30,8 @@ kept_next law s new event reply kept step =
     }
 
 -- what a call left that made a step, or changed nothing
-pub kept_after : {R E : Type 0} → StepsGoOn → (seen : R → Reply FormFault) (s new : State) (event : Event) (result : Result R E)
+pub kept_after : {R E : Type 0} → StepsGoOn → (seen : R → Reply FormFault) (s new : State) (event : Event) (result :
+    Result R E)
     → IsKeptState s → IfOk result (λ reply. Step resolved_forms s event (seen reply) new) → OnErr result (new ≡ s)
     → IsKeptState new
 kept_after law seen s new event (Ok reply) kept ok err = kept_next law s new event (seen reply) kept ok

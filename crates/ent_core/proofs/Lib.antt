@@ -14,9 +14,10 @@ pub mod Opening
 pub mod Outstanding
 pub mod Picked
 pub mod Playing
+pub mod Pooled
+pub mod Posting
 pub mod Sorted
 pub mod Starting
 pub mod TakenOut
 pub mod Told
-pub mod Unposted
 pub mod Whereabouts

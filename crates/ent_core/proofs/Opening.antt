@@ -1,5 +1,5 @@
 -- A core that is opened.
-use Rattle.std.proofs.Common.{◌≡◌, false, List, [], map, refl, sym, ap, ◌∙◌, Option, Some, None, Ok}
+use Rattle.std.proofs.Common.{◌≡◌, false, List, [], map, refl, sym, ap, ◌∙◌, Option, Some, None, Ok, flat_map}
 use Rattle.std.proofs.lemmas.Simd.{map-map}
 use Rattle.std.specs.List.{IsDistinct}
 use Rattle.ent_tree.specs.declared.declaration.Create.{Create}
@@ -11,9 +11,11 @@ use Rattle.ent_form.specs.Catalogue.{schemas_of}
 use Rattle.ent_form.specs.OpeningFault.{opening_fault, unless}
 use Rattle.ent_kinded.specs.Opened.{opening_tables}
 use Rattle.ent_protocol.specs.Reached.{opened, table_names}
-use Rattle.ent_protocol.specs.State.{State, Submitted}
+use Rattle.ent_protocol.specs.Member.{posted_by}
+use Rattle.ent_protocol.specs.State.{State, Submitted, Member}
 use Rattle.ent_members.specs.Run.{Run}
 use Rattle.ent_roster.specs.Roster.{Roster}
+use Rattle.ent_coordination.specs.Pool.{Posted}
 use Rattle.ent_tables.specs.Stored.{Stored, kinds_declared}
 use Rattle.ent_core.specs.Store.{IsKept}
 
@@ -28,14 +30,14 @@ abbrev pub nobody : Roster
 nobody = record { dormant = []; fates = []; known = 0 }
 
 pub kept_opened_store : (opening : Opening) (schemas : List TableSchema) (submitted : List Submitted) (roster : Roster)
-    (run : Run) (stored : Stored)
+    (run : Run) (stored : Stored) (posted : List Posted)
     → unless (opening_fault opening) (schemas_of opening.tables) ≡ Ok schemas → submitted ≡ [] → roster ≡ nobody
     → run.prepared ≡ [] → run.active ≡ [] → stored.kinds ≡ kinds_declared opening.tables
-    → IsKept schemas opening submitted roster false run stored
+    → posted ≡ [] → IsKept schemas opening submitted roster false run stored posted
 unfolding IsDistinct
-kept_opened_store opening schemas submitted roster run stored e none empty no_prepared no_active kinds =
+kept_opened_store opening schemas submitted roster run stored posted e none empty no_prepared no_active kinds no_posts =
     let h = catalogued (opening_fault opening) (schemas_of opening.tables) schemas e in
-    let first : IsKept schemas opening [] nobody false run stored =
+    let first : IsKept schemas opening [] nobody false run stored posted =
     record {
       declared = h.1;
       formed = h.0;
@@ -46,6 +48,8 @@ kept_opened_store opening schemas submitted roster run stored e none empty no_pr
       distinct = tt;
       idle_prepared = λ off. no_prepared;
       idle_active = λ off. no_active;
+      posted = λ s of_submitted of_active.
+          ap (λ (ms : List Member). flat_map (posted_by s) ms) (of_active ∙ no_active) ∙ sym no_posts;
     } in
     rw (none, empty) first
 

@@ -1,5 +1,6 @@
 -- Members by number, and how often a number stands in a list.
-use Rattle.std.proofs.Common.{◌≡◌, ◌≢◌, ◌≤◌, ◌<◌, ◌+◌, ◌==◌, ◌||◌, ℕ, suc, Bool, true, false, cond, List, [], ◌∷◌, ◌++◌, length, map, refl, sym, ap, ◌∙◌, arith, nat_eq, nat_lt}
+use Rattle.std.proofs.Common.{◌≡◌, ◌≢◌, ◌≤◌, ◌<◌, ◌+◌, ◌==◌, ◌||◌, ℕ, suc, Bool, true, false, cond, List, [], ◌∷◌}
+use Rattle.std.proofs.Common.{◌++◌, length, map, refl, sym, ap, ◌∙◌, arith, nat_eq, nat_lt}
 use Rattle.std.specs.Prelude.{All, AllPairs}
 use Rattle.std.specs.List.{AllByRecursion, IsDistinct, filter, list_any}
 use Rattle.std.proofs.lemmas.Bool.Decides.{nat_tests}
@@ -69,7 +70,8 @@ nowhere : (n : ℕ) (xs : List ℕ) → times n xs ≤ 0 → AllByRecursion (λ 
 nowhere n [] none = tt
 nowhere n (x ∷ xs) none = by (nat_eq x n) refl none (nowhere n xs)
   where
-    by : (b : Bool) → nat_eq x n ≡ b → one_if b (times n xs) ≤ 0 → (times n xs ≤ 0 → AllByRecursion (λ m. nat_eq n m ≡ false) xs)
+    by : (b : Bool) → nat_eq x n ≡ b → one_if b (times n xs) ≤ 0 → (times n xs ≤ 0
+        → AllByRecursion (λ m. nat_eq n m ≡ false) xs)
         → AllByRecursion (λ m. nat_eq n m ≡ false) (x ∷ xs)
     by true is low rest = absurd (omega (arith, low))
     by false is low rest = (turned x n is, rest low)
@@ -121,7 +123,8 @@ distinct_if_apart (x ∷ xs) all = (
 
 -- ---- of members
 
-pub times_filter : (n : ℕ) (p : Member → Bool) (ms : List Member) → times n (map tx_of (filter p ms)) ≤ times n (map tx_of ms)
+pub times_filter : (n : ℕ) (p : Member → Bool) (ms : List Member)
+    → times n (map tx_of (filter p ms)) ≤ times n (map tx_of ms)
 times_filter n p [] = omega arith
 times_filter n p (m ∷ ms) = by (p m) (times_filter n p ms)
   where
@@ -130,7 +133,8 @@ times_filter n p (m ∷ ms) = by (p m) (times_filter n p ms)
     by true le = one_kept (nat_eq m.tx n) (times n (map tx_of (filter p ms))) (times n (map tx_of ms)) le
     by false le = let more = one_more (nat_eq m.tx n) (times n (map tx_of ms)) in omega (arith, le, more)
 
-times_inserted : (n : ℕ) (m : Member) (ms : List Member) → times n (map tx_of (inserted tx_of m ms)) ≡ times n (map tx_of (m ∷ ms))
+times_inserted : (n : ℕ) (m : Member) (ms : List Member) → times n (map tx_of (inserted tx_of m ms)) ≡ times n (map
+    tx_of (m ∷ ms))
 times_inserted n m [] = refl
 times_inserted n m (o ∷ os) = by (nat_lt m.tx o.tx) (times_inserted n m os)
   where
@@ -146,19 +150,23 @@ times_by_number n (m ∷ ms) =
 
 -- ---- put in by number
 
-pub all_inserted : (P : Member → Type 0) (m : Member) (ms : List Member) → P m → AllByRecursion P ms → AllByRecursion P (inserted tx_of m ms)
+pub all_inserted : (P : Member → Type 0) (m : Member) (ms : List Member) → P m → AllByRecursion P ms
+    → AllByRecursion P (inserted tx_of m ms)
 all_inserted P m [] here all = (here, tt)
 all_inserted P m (o ∷ os) here all = by (nat_lt m.tx o.tx) (all_inserted P m os here all.1)
   where
-    by : (b : Bool) → AllByRecursion P (inserted tx_of m os) → AllByRecursion P (cond b (m ∷ o ∷ os) (o ∷ inserted tx_of m os))
+    by : (b : Bool) → AllByRecursion P (inserted tx_of m os)
+        → AllByRecursion P (cond b (m ∷ o ∷ os) (o ∷ inserted tx_of m os))
     by true rest = (here, all)
     by false rest = (all.0, rest)
 
-pub all_by_number : (P : Member → Type 0) (ms : List Member) → AllByRecursion P ms → AllByRecursion P (by_number tx_of ms)
+pub all_by_number : (P : Member → Type 0) (ms : List Member) → AllByRecursion P ms
+    → AllByRecursion P (by_number tx_of ms)
 all_by_number P [] all = tt
 all_by_number P (m ∷ ms) all = all_inserted P m (by_number tx_of ms) all.0 (all_by_number P ms all.1)
 
-pub all_filter : (P : Member → Type 0) (p : Member → Bool) (ms : List Member) → AllByRecursion P ms → AllByRecursion P (filter p ms)
+pub all_filter : (P : Member → Type 0) (p : Member → Bool) (ms : List Member) → AllByRecursion P ms
+    → AllByRecursion P (filter p ms)
 all_filter P p [] all = tt
 all_filter P p (m ∷ ms) all = by (p m) (all_filter P p ms all.1)
   where
@@ -170,7 +178,8 @@ length_inserted : (m : Member) (ms : List Member) → length (inserted tx_of m m
 length_inserted m [] = refl
 length_inserted m (o ∷ os) = by (nat_lt m.tx o.tx) (length_inserted m os)
   where
-    by : (b : Bool) → length (inserted tx_of m os) ≡ suc (length os) → length (cond b (m ∷ o ∷ os) (o ∷ inserted tx_of m os)) ≡ suc (suc (length os))
+    by : (b : Bool) → length (inserted tx_of m os) ≡ suc (length os)
+        → length (cond b (m ∷ o ∷ os) (o ∷ inserted tx_of m os)) ≡ suc (suc (length os))
     by true e = refl
     by false e = ap suc e
 
@@ -182,7 +191,8 @@ pub length_filter : (p : Member → Bool) (ms : List Member) → length (filter 
 length_filter p [] = omega arith
 length_filter p (m ∷ ms) = by (p m) (length_filter p ms)
   where
-    by : (b : Bool) → length (filter p ms) ≤ length ms → length (cond b (m ∷ filter p ms) (filter p ms)) ≤ suc (length ms)
+    by : (b : Bool) → length (filter p ms) ≤ length ms → length (cond b (m ∷ filter p ms) (filter p ms)) ≤ suc
+        (length ms)
     by true le = omega (arith, le)
     by false le = omega (arith, le)
 
@@ -192,7 +202,8 @@ or_swapped true false c = refl
 or_swapped false true c = refl
 or_swapped false false c = refl
 
-any_inserted : (p : Member → Bool) (m : Member) (ms : List Member) → list_any p (inserted tx_of m ms) ≡ (p m || list_any p ms)
+any_inserted : (p : Member → Bool) (m : Member) (ms : List Member)
+    → list_any p (inserted tx_of m ms) ≡ (p m || list_any p ms)
 any_inserted p m [] = refl
 any_inserted p m (o ∷ os) = by (nat_lt m.tx o.tx) (any_inserted p m os)
   where
@@ -214,15 +225,18 @@ abbrev IsAscending : List Member → Type 0
 IsAscending [] = Unit {0}
 IsAscending (m ∷ ms) = AllByRecursion (λ (o : Member). m.tx < o.tx) ms × IsAscending ms
 
-further : (m o : Member) (os : List Member) → m.tx < o.tx → AllByRecursion (λ (x : Member). o.tx < x.tx) os → AllByRecursion (λ (x : Member). m.tx < x.tx) os
+further : (m o : Member) (os : List Member) → m.tx < o.tx → AllByRecursion (λ (x : Member). o.tx < x.tx) os
+    → AllByRecursion (λ (x : Member). m.tx < x.tx) os
 further m o [] lt all = tt
 further m o (x ∷ os) lt all = (let h = all.0 in omega (arith, lt, h), further m o os lt all.1)
 
-ascending_inserted : (m : Member) (ms : List Member) → AllByRecursion (λ (o : Member). nat_eq m.tx o.tx ≡ false) ms → IsAscending ms → IsAscending (inserted tx_of m ms)
+ascending_inserted : (m : Member) (ms : List Member) → AllByRecursion (λ (o : Member). nat_eq m.tx o.tx ≡ false) ms
+    → IsAscending ms → IsAscending (inserted tx_of m ms)
 ascending_inserted m [] apart asc = (tt, tt)
 ascending_inserted m (o ∷ os) apart asc = by (nat_lt m.tx o.tx) refl (ascending_inserted m os apart.1 asc.1)
   where
-    by : (b : Bool) → nat_lt m.tx o.tx ≡ b → IsAscending (inserted tx_of m os) → IsAscending (cond b (m ∷ o ∷ os) (o ∷ inserted tx_of m os))
+    by : (b : Bool) → nat_lt m.tx o.tx ≡ b → IsAscending (inserted tx_of m os)
+        → IsAscending (cond b (m ∷ o ∷ os) (o ∷ inserted tx_of m os))
     by true is rest =
         let lt : m.tx < o.tx = grind (arith, nat_tests) in
         ((lt, further m o os lt asc.0), asc)
@@ -231,7 +245,8 @@ ascending_inserted m (o ∷ os) apart asc = by (nat_lt m.tx o.tx) refl (ascendin
         let gt : o.tx < m.tx = grind (arith, nat_tests) in
         (all_inserted (λ (x : Member). o.tx < x.tx) m os gt asc.0, rest)
 
-unmapped : (n : ℕ) (ms : List Member) → AllByRecursion (λ m. nat_eq n m ≡ false) (map tx_of ms) → AllByRecursion (λ (o : Member). nat_eq n o.tx ≡ false) ms
+unmapped : (n : ℕ) (ms : List Member) → AllByRecursion (λ m. nat_eq n m ≡ false) (map tx_of ms)
+    → AllByRecursion (λ (o : Member). nat_eq n o.tx ≡ false) ms
 unmapped n [] all = tt
 unmapped n (m ∷ ms) all = (all.0, unmapped n ms all.1)
 
@@ -243,7 +258,8 @@ ascending_by_number (m ∷ ms) distinct =
     (all_by_number (λ (o : Member). nat_eq m.tx o.tx ≡ false) ms (unmapped m.tx ms distinct.0))
     (ascending_by_number ms distinct.1)
 
-stays_first : (m : Member) (ms : List Member) → AllByRecursion (λ (o : Member). m.tx < o.tx) ms → inserted tx_of m ms ≡ m ∷ ms
+stays_first : (m : Member) (ms : List Member) → AllByRecursion (λ (o : Member). m.tx < o.tx) ms
+    → inserted tx_of m ms ≡ m ∷ ms
 stays_first m [] all = refl
 stays_first m (o ∷ os) all =
     let lt = all.0 in
@@ -254,5 +270,6 @@ stays : (ms : List Member) → IsAscending ms → by_number tx_of ms ≡ ms
 stays [] asc = refl
 stays (m ∷ ms) asc = ap (inserted tx_of m) (stays ms asc.1) ∙ stays_first m ms asc.0
 
-pub by_number_again : (ms : List Member) → IsDistinct nat_eq (map tx_of ms) → by_number tx_of (by_number tx_of ms) ≡ by_number tx_of ms
+pub by_number_again : (ms : List Member) → IsDistinct nat_eq (map tx_of ms)
+    → by_number tx_of (by_number tx_of ms) ≡ by_number tx_of ms
 by_number_again ms distinct = stays (by_number tx_of ms) (ascending_by_number ms distinct)

@@ -1,5 +1,6 @@
 -- A run that starts.
-use Rattle.std.proofs.Common.{◌≡◌, ◌<◌, ◌≤◌, ℕ, zero, suc, Bool, true, false, List, [], ◌∷◌, ◌++◌, length, map, take, drop, min, refl, sym, ap, subst, ◌∙◌, arith, nat_eq}
+use Rattle.std.proofs.Common.{◌≡◌, ◌<◌, ◌≤◌, ℕ, zero, suc, Bool, true, false, List, [], ◌∷◌, ◌++◌, length, map, take}
+use Rattle.std.proofs.Common.{drop, min, refl, sym, ap, subst, ◌∙◌, arith, nat_eq}
 use Rattle.std.specs.List.{AllByRecursion, IsDistinct}
 use Rattle.ent_group.specs.declared.members.TheConstants.{MOST_MEMBERS}
 use Rattle.ent_semantics.specs.declared.book.Fated.{Fated}
@@ -12,6 +13,7 @@ use Rattle.ent_protocol.specs.Run.{Starts, StartsWith, fresh, numbers_of, starti
 use Rattle.ent_protocol.specs.State.{State, Submitted, Dormant, Member, by_number}
 use Rattle.ent_roster.specs.Roster.{Roster}
 use Rattle.ent_tables.specs.Stored.{Stored}
+use Rattle.ent_pool_laws.specs.Pooled.{IsPoolOf}
 use Rattle.ent_core.specs.Store.{IsKept}
 
 abbrev numbers : List Dormant → List ℕ
@@ -47,11 +49,11 @@ all_dropped P (suc n) [] all = tt
 all_dropped P (suc n) (own ∷ more) all = all_dropped P n more all.1
 
 pub kept_started : (schemas : List TableSchema) (opening : Opening) (submitted : List Submitted)
-    (roster roster' : Roster) (running : Bool) (run run' : Run) (stored : Stored) (n : ℕ)
-    → IsKept schemas opening submitted roster running run stored
+    (roster roster' : Roster) (running : Bool) (run run' : Run) (stored : Stored) (posted posted' : List Posted) (n : ℕ)
+    → IsKept schemas opening submitted roster running run stored posted
     → roster' ≡ record roster { dormant = drop n roster.dormant }
-    → IsKept schemas opening submitted roster' true run' stored
-kept_started schemas opening submitted roster roster' running run run' stored n kept now =
+    → IsPoolOf submitted run'.active posted' → IsKept schemas opening submitted roster' true run' stored posted'
+kept_started schemas opening submitted roster roster' running run run' stored posted posted' n kept now pooled =
     let dormant = roster.dormant in
     let left : roster'.dormant ≡ drop n dormant = ap (λ (r : Roster). r.dormant) now in
     let A : List Dormant → Type 0 = λ all. AllByRecursion (λ (one : Dormant). one.tx ≤ length submitted) all in
@@ -66,6 +68,7 @@ kept_started schemas opening submitted roster roster' running run run' stored n 
       distinct = subst D (sym left) (distinct_dropped n dormant kept.distinct);
       idle_prepared = λ off. absurd (different off);
       idle_active = λ off. absurd (different off);
+      posted = pooled;
     }
   where
     different : true ≡ false → ⊥
@@ -110,20 +113,49 @@ starts_with s true dormant reply new off some replies is = absurd (different off
 starts_with s false [] reply new off some replies is = absurd (omega arith)
 starts_with s false (first ∷ more) reply new off some replies is = (replies, is)
 
-pub started : (F : Type 0) (s now : State) (count : ℕ) (dormant' : List Dormant) (fates' : List Fated) (prepared' active' : List Member)
-    (members : List ℕ) (tried' : List (List Posted)) → s ≡ now → s.running ≡ false → tried' ≡ [] → s.prepared ≡ [] → 0 < length s.dormant
+pub started : (F : Type 0) (s now : State) (count : ℕ) (dormant' : List Dormant) (fates' : List Fated) (prepared'
+    active' : List Member)
+    (members : List ℕ) (tried' : List (List Posted)) → s ≡ now → s.running ≡ false → tried' ≡ [] → s.prepared ≡ []
+    → 0 < length s.dormant
     → count ≡ min (length s.dormant) MOST_MEMBERS → prepared' ≡ []
-    → active' ≡ by_number (λ member. member.tx) (map fresh (take count s.dormant)) → dormant' ≡ drop count s.dormant → fates' ≡ s.fates
+    → active' ≡ by_number (λ member. member.tx) (map fresh (take count s.dormant)) → dormant' ≡ drop count s.dormant
+    → fates' ≡ s.fates
     → members ≡ numbers_of (prepared' ++ active')
     → Starts {F = F} now (Started members)
-    (record s { running = true; prepared = prepared'; active = active'; dormant = dormant'; tried = tried'; fates = fates' })
-started F s now count dormant' fates' prepared' active' members tried' same off untried none some least no_prepared actives left finished numbered =
-    let new : State = record s { running = true; prepared = prepared'; active = active'; dormant = dormant'; tried = tried'; fates = fates' } in
+    (record s {
+      running = true;
+      prepared = prepared';
+      active = active';
+      dormant = dormant';
+      tried = tried';
+      fates =
+          fates';
+    })
+started F s now count dormant' fates' prepared' active' members tried' same off untried none some least no_prepared
+    actives left finished numbered =
+    let new : State = record s {
+      running = true;
+      prepared = prepared';
+      active = active';
+      dormant = dormant';
+      tried =
+          tried';
+      fates = fates';
+    } in
     let first : active' ≡ (starting s).active =
-    actives ∙ ap (λ (all : List Dormant). by_number (λ (member : Member). member.tx) (map fresh all)) (taken_most MOST_MEMBERS count s.dormant least) in
+    actives ∙ ap (λ (all : List Dormant). by_number (λ (member : Member). member.tx) (map fresh all)) (taken_most
+    MOST_MEMBERS count s.dormant least) in
     let rest : dormant' ≡ drop MOST_MEMBERS s.dormant = left ∙ left_most MOST_MEMBERS count s.dormant least in
     let is : new ≡ starting s =
-    λ i. record s { running = true; prepared = (no_prepared ∙ sym none) i; active = first i; dormant = rest i; tried = untried i; fates = finished i } in
+    λ i. record s {
+      running = true;
+      prepared = (no_prepared ∙ sym none) i;
+      active = first i;
+      dormant = rest i;
+      tried
+          = untried i;
+      fates = finished i;
+    } in
     let replied : members ≡ numbers_of (starting s).active =
     numbered ∙ (λ i. numbers_of (no_prepared i ++ active')) ∙ ap numbers_of first in
     let P : State → Type 0 = λ x. Starts {F = F} x (Started members) new in

@@ -1,5 +1,6 @@
 -- Members that are taken out of the run.
-use Rattle.std.proofs.Common.{◌≡◌, ◌≤◌, ◌+◌, ◌==◌, ◌||◌, ℕ, zero, suc, Bool, true, false, cond, not, List, [], ◌∷◌, ◌++◌, length, map, refl, sym, ap, subst, ◌∙◌, arith, rules, nat_eq, Option, Some, None}
+use Rattle.std.proofs.Common.{◌≡◌, ◌≤◌, ◌+◌, ◌==◌, ◌||◌, ℕ, zero, suc, Bool, true, false, cond, not, List, [], ◌∷◌}
+use Rattle.std.proofs.Common.{◌++◌, length, map, refl, sym, ap, subst, ◌∙◌, arith, rules, nat_eq, Option, Some, None}
 use Rattle.std.specs.List.{AllByRecursion, IsDistinct, cons_option, filter, filter_map, list_any}
 use Rattle.std.proofs.lemmas.List.{length-map, map-append}
 use Rattle.ent_tree.specs.declared.declaration.Opening.{Opening}
@@ -9,7 +10,8 @@ use Rattle.ent_members.specs.declared.leavers.Leaver.{Leaver}
 use Rattle.ent_members.specs.Leavers.{leaver_of, numbers_in}
 use Rattle.ent_members.specs.Run.{Run, tx_of}
 use Rattle.ent_protocol.specs.Job.{Job, Work, One, Joint}
-use Rattle.ent_protocol.specs.Rollback.{Cause, dormant_by, fate_of, fated_by, goes_with, is_among, is_joint_of, put_back, taken_out}
+use Rattle.ent_protocol.specs.Rollback.{Cause, dormant_by, fate_of, fated_by, goes_with, is_among, is_joint_of}
+use Rattle.ent_protocol.specs.Rollback.{put_back, taken_out}
 use Rattle.ent_protocol.specs.State.{State, Submitted, Dormant, Member, Change, by_number, members}
 use Rattle.ent_roster.specs.ByNumber.{IsNumbered}
 use Rattle.ent_roster.specs.Leaving.{IsWithin, as_member}
@@ -20,10 +22,13 @@ use Rattle.ent_semantics.specs.declared.book.JointAnswer.{JointAnswer}
 use Rattle.ent_semantics.specs.Serial.{numbered}
 use Rattle.ent_standing.specs.Attempts.{MayTakePart}
 use Rattle.ent_standing.specs.Standing.{StandOnce, standing}
+use Rattle.ent_coordination.specs.Pool.{Posted}
 use Rattle.ent_tables.specs.Stored.{Stored}
+use Rattle.ent_pool_laws.specs.Pooled.{IsPoolOf}
 use Rattle.ent_core.specs.Store.{IsKept}
 use Rattle.ent_core.specs.TakeOut.{MayLeave, is_joint_of_others}
-use Rattle.ent_core.proofs.Sorted.{all_by_number, among_by_number, distinct_if_apart, distinct_if_once, length_by_number, once, one_if, times, times_by_number, times_filter, times_joined}
+use Rattle.ent_core.proofs.Sorted.{all_by_number, among_by_number, distinct_if_apart, distinct_if_once}
+use Rattle.ent_core.proofs.Sorted.{length_by_number, once, one_if, times, times_by_number, times_filter, times_joined}
 
 -- ---- who goes to the dormant list
 
@@ -40,6 +45,9 @@ waiting_tx submitted cause m own h = by (fate_of submitted cause m) refl
 abbrev waiting : List Dormant → List ℕ
 waiting dormant = map (λ own. own.tx) dormant
 
+abbrev finished : List Fated → List ℕ
+finished fates = map (λ fated. fated.tx) fates
+
 one_less : (b : Bool) (j k : ℕ) → j ≤ k → j ≤ one_if b k
 one_less true j k le = omega (arith, le)
 one_less false j k le = le
@@ -55,17 +63,21 @@ times_waiting n submitted cause (m ∷ ms) = by (dormant_by submitted cause m) r
   where
     by : (o : Option Dormant) → dormant_by submitted cause m ≡ o
         → times n (waiting (filter_map (dormant_by submitted cause) ms)) ≤ times n (map tx_of ms)
-        → times n (waiting (cons_option o (filter_map (dormant_by submitted cause) ms))) ≤ one_if (nat_eq m.tx n) (times n (map tx_of ms))
-    by None e le = one_less (nat_eq m.tx n) (times n (waiting (filter_map (dormant_by submitted cause) ms))) (times n (map tx_of ms)) le
+        → times n (waiting (cons_option o (filter_map (dormant_by submitted cause) ms))) ≤ one_if (nat_eq m.tx n)
+        (times n (map tx_of ms))
+    by None e le = one_less (nat_eq m.tx n) (times n (waiting (filter_map (dormant_by submitted cause) ms))) (times n
+        (map tx_of ms)) le
     by (Some own) e le =
         let same = waiting_tx submitted cause m own e in
-        rw same (one_same (nat_eq m.tx n) (times n (waiting (filter_map (dormant_by submitted cause) ms))) (times n (map tx_of ms)) le)
+        rw same (one_same (nat_eq m.tx n) (times n (waiting (filter_map (dormant_by submitted cause) ms))) (times n
+        (map tx_of ms)) le)
 
 arrived_waiting : (most : ℕ) (submitted : List Submitted) (cause : Cause) (ms : List Member)
     → AllByRecursion (λ (m : Member). m.tx ≤ most) ms
     → AllByRecursion (λ (own : Dormant). own.tx ≤ most) (filter_map (dormant_by submitted cause) ms)
 arrived_waiting most submitted cause [] all = tt
-arrived_waiting most submitted cause (m ∷ ms) all = by (dormant_by submitted cause m) refl (arrived_waiting most submitted cause ms all.1)
+arrived_waiting most submitted cause (m ∷ ms) all = by (dormant_by submitted cause m) refl (arrived_waiting most
+    submitted cause ms all.1)
   where
     by : (o : Option Dormant) → dormant_by submitted cause m ≡ o
         → AllByRecursion (λ (own : Dormant). own.tx ≤ most) (filter_map (dormant_by submitted cause) ms)
@@ -73,7 +85,8 @@ arrived_waiting most submitted cause (m ∷ ms) all = by (dormant_by submitted c
     by None e rest = rest
     by (Some own) e rest = (rw (waiting_tx submitted cause m own e) all.0, rest)
 
-pub all_joined : {A : Type 0} (P : A → Type 0) (xs ys : List A) → AllByRecursion P xs → AllByRecursion P ys → AllByRecursion P (xs ++ ys)
+pub all_joined : {A : Type 0} (P : A → Type 0) (xs ys : List A) → AllByRecursion P xs → AllByRecursion P ys
+    → AllByRecursion P (xs ++ ys)
 all_joined P [] ys left right = right
 all_joined P (x ∷ xs) ys left right = (left.0, all_joined P xs ys left.1 right)
 
@@ -87,7 +100,8 @@ pub as_leavers : (leavers : List Leaver) → leavers ≡ map leaver_of (map as_m
 as_leavers [] = refl
 as_leavers (leaver ∷ leavers) = ap (λ ls. leaver ∷ ls) (as_leavers leavers)
 
-as_arrived : (most : ℕ) (leavers : List Leaver) → AllByRecursion (λ (leaver : Leaver). IsNumbered most leaver.tx) leavers
+as_arrived : (most : ℕ) (leavers : List Leaver) → AllByRecursion (λ (leaver : Leaver). IsNumbered most leaver.tx)
+    leavers
     → AllByRecursion (λ (m : Member). m.tx ≤ most) (map as_member leavers)
 as_arrived most [] all = tt
 as_arrived most (leaver ∷ leavers) all = (all.0.1, as_arrived most leavers all.1)
@@ -102,24 +116,29 @@ distinct_waiting submitted cause dormant leavers distinct =
     distinct_if_once (waiting (dormant ++ behind submitted cause leavers)) (λ n.
     let low = once (waiting dormant ++ numbers_in leavers) distinct n in
     let before = times_joined n (waiting dormant) (numbers_in leavers) in
-    let after : times n (waiting (dormant ++ behind submitted cause leavers)) ≡ times n (waiting dormant) + times n (waiting (behind submitted cause leavers)) =
+    let after : times n (waiting (dormant ++ behind submitted cause leavers)) ≡ times n (waiting dormant) + times n
+    (waiting (behind submitted cause leavers)) =
     ap (times n) (map-append (λ (own : Dormant). own.tx) dormant (behind submitted cause leavers))
     ∙ times_joined n (waiting dormant) (waiting (behind submitted cause leavers)) in
-    let fewer : times n (waiting (behind submitted cause leavers)) ≤ times n (map tx_of (map as_member leavers)) = times_waiting n submitted cause (map as_member leavers) in
-    let same : times n (map tx_of (map as_member leavers)) ≡ times n (numbers_in leavers) = ap (times n) (as_numbers leavers) in
+    let fewer : times n (waiting (behind submitted cause leavers)) ≤ times n (map tx_of (map as_member leavers)) =
+    times_waiting n submitted cause (map as_member leavers) in
+    let same : times n (map tx_of (map as_member leavers)) ≡ times n (numbers_in leavers) = ap (times n) (as_numbers
+    leavers) in
     omega (arith, low, before, after, fewer, same))
 
 pub kept_taken : (schemas : List TableSchema) (opening : Opening) (submitted : List Submitted) (roster roster' : Roster)
-    (running : Bool) (run run' : Run) (stored stored' : Stored) (leavers : List Leaver) (cause : Cause) (p : Member → Bool)
-    → IsKept schemas opening submitted roster running run stored
+    (running : Bool) (run run' : Run) (stored stored' : Stored) (posted posted' : List Posted) (leavers : List
+    Leaver) (cause : Cause)
+    (p : Member → Bool) → IsKept schemas opening submitted roster running run stored posted
     → AllByRecursion (λ (leaver : Leaver). IsNumbered (length submitted) leaver.tx) leavers
     → IsDistinct nat_eq (map (λ own. own.tx) roster.dormant ++ numbers_in leavers)
     → roster'.dormant ≡ roster.dormant ++ filter_map (dormant_by submitted cause) (map as_member leavers)
     → roster'.known ≡ roster.known
     → run'.prepared ≡ filter p run.prepared → run'.active ≡ filter p run.active
-    → stored'.kinds ≡ stored.kinds
-    → IsKept schemas opening submitted roster' running run' stored'
-kept_taken schemas opening submitted roster roster' running run run' stored stored' leavers cause p kept arrived distinct dormant known prepared active kinds =
+    → stored'.kinds ≡ stored.kinds → IsPoolOf submitted run'.active posted'
+    → IsKept schemas opening submitted roster' running run' stored' posted'
+kept_taken schemas opening submitted roster roster' running run run' stored stored' posted posted' leavers cause p kept
+    arrived distinct dormant known prepared active kinds pooled =
     let A : List Dormant → Type 0 = λ all. AllByRecursion (λ (own : Dormant). own.tx ≤ length submitted) all in
     let D : List Dormant → Type 0 = λ all. IsDistinct nat_eq (waiting all) in
     record {
@@ -129,11 +148,14 @@ kept_taken schemas opening submitted roster roster' running run run' stored stor
       asks = kept.asks;
       known = known ∙ kept.known;
       arrived = subst A (sym dormant)
-          (all_joined (λ (own : Dormant). own.tx ≤ length submitted) roster.dormant (filter_map (dormant_by submitted cause) (map as_member leavers))
-          kept.arrived (arrived_waiting (length submitted) submitted cause (map as_member leavers) (as_arrived (length submitted) leavers arrived)));
+          (all_joined (λ (own : Dormant). own.tx ≤ length submitted) roster.dormant (filter_map (dormant_by submitted
+          cause) (map as_member leavers))
+          kept.arrived (arrived_waiting (length submitted) submitted cause (map as_member leavers) (as_arrived
+          (length submitted) leavers arrived)));
       distinct = subst D (sym dormant) (distinct_waiting submitted cause roster.dormant leavers distinct);
       idle_prepared = λ off. prepared ∙ ap (filter p) (kept.idle_prepared off);
       idle_active = λ off. active ∙ ap (filter p) (kept.idle_active off);
+      posted = pooled;
     }
 
 -- ---- the state that is left
@@ -164,7 +186,8 @@ goes_same gone job = by job.work refl
     by (Joint posted) e = rw e refl
 
 pub taken : (s : State) (gone : List Member) (cause : Cause) (dormant : List Dormant) (fates : List Fated)
-    (prepared active : List Member) (joints : List JointAnswer) (lent : List Job) (tables : Tables) (changes : List Change)
+    (prepared active : List Member) (joints : List JointAnswer) (lent : List Job) (tables : Tables) (changes : List
+    Change)
     → dormant ≡ s.dormant ++ filter_map (dormant_by s.submitted cause) (by_number tx_of gone)
     → fates ≡ s.fates ++ filter_map (fated_by s.submitted cause) (by_number tx_of gone)
     → prepared ≡ filter (λ member. not (is_among (by_number tx_of gone) member.tx)) s.prepared
@@ -204,7 +227,8 @@ taken s gone cause dormant fates prepared active joints lent tables changes d f 
 
 -- ---- who may leave
 
-below : (submitted : List Submitted) (tx : ℕ) (own : Submitted) → numbered submitted tx ≡ Some own → tx ≤ length submitted
+below : (submitted : List Submitted) (tx : ℕ) (own : Submitted) → numbered submitted tx ≡ Some own
+    → tx ≤ length submitted
 below submitted zero own is = omega arith
 below [] (suc n) own is = let e : None ≡ Some own = is in absurd (different e)
   where
@@ -242,7 +266,8 @@ pub room_for : (s : State) (gone : List Member) (leavers : List Leaver)
     → leavers ≡ map leaver_of (by_number tx_of gone) → length gone ≤ length (members s)
     → length s.dormant + length s.fates + length leavers ≤ length s.submitted
 room_for s gone leavers counted is fewer =
-    let long : length leavers ≡ length gone = ap length is ∙ length-map (by_number tx_of gone) leaver_of ∙ length_by_number gone in
+    let long : length leavers ≡ length gone = ap length is ∙ length-map (by_number tx_of gone) leaver_of
+    ∙ length_by_number gone in
     omega (arith, counted, long, fewer)
 
 pub may_leave : (s : State) (gone : List Member) → StandOnce s → AllByRecursion (MayTakePart s.submitted) gone
@@ -253,6 +278,8 @@ may_leave s gone stand part fewer =
       arrived = leaving_arrived s.submitted (by_number tx_of gone) sorted;
       within = leaving_within s.submitted (by_number tx_of gone) sorted;
       distinct = distinct_if_once (waiting s.dormant ++ numbers_in (map leaver_of (by_number tx_of gone))) low;
+      unfinished = distinct_if_once (finished s.fates ++ numbers_in (map leaver_of (by_number tx_of gone)))
+          low_finished;
     }
   where
     sorted : AllByRecursion (MayTakePart s.submitted) (by_number tx_of gone)
@@ -261,9 +288,21 @@ may_leave s gone stand part fewer =
     low : (n : ℕ) → times n (waiting s.dormant ++ numbers_in (map leaver_of (by_number tx_of gone))) ≤ 1
     low n =
         let all = once (standing s) (distinct_if_apart (standing s) stand.distinct) n in
-        let joined = times_joined n (map tx_of (members s)) (waiting s.dormant ++ map (λ (fated : Fated). fated.tx) s.fates) in
+        let joined = times_joined n (map tx_of (members s)) (waiting s.dormant ++ map (λ (fated : Fated). fated.tx)
+        s.fates) in
         let behind = times_joined n (waiting s.dormant) (map (λ (fated : Fated). fated.tx) s.fates) in
         let here = times_joined n (waiting s.dormant) (numbers_in (map leaver_of (by_number tx_of gone))) in
+        let same : times n (numbers_in (map leaver_of (by_number tx_of gone))) ≡ times n (map tx_of gone) =
+        ap (times n) (numbers_of_leavers (by_number tx_of gone)) ∙ times_by_number n gone in
+        let few = fewer n in
+        omega (arith, all, joined, behind, here, same, few)
+
+    low_finished : (n : ℕ) → times n (finished s.fates ++ numbers_in (map leaver_of (by_number tx_of gone))) ≤ 1
+    low_finished n =
+        let all = once (standing s) (distinct_if_apart (standing s) stand.distinct) n in
+        let joined = times_joined n (map tx_of (members s)) (waiting s.dormant ++ finished s.fates) in
+        let behind = times_joined n (waiting s.dormant) (finished s.fates) in
+        let here = times_joined n (finished s.fates) (numbers_in (map leaver_of (by_number tx_of gone))) in
         let same : times n (numbers_in (map leaver_of (by_number tx_of gone))) ≡ times n (map tx_of gone) =
         ap (times n) (numbers_of_leavers (by_number tx_of gone)) ∙ times_by_number n gone in
         let few = fewer n in
@@ -273,10 +312,12 @@ pub members_are_distinct : (s : State) → StandOnce s → IsDistinct nat_eq (ma
 members_are_distinct s stand =
     distinct_if_once (map tx_of (members s)) (λ n.
     let all = once (standing s) (distinct_if_apart (standing s) stand.distinct) n in
-    let joined = times_joined n (map tx_of (members s)) (waiting s.dormant ++ map (λ (fated : Fated). fated.tx) s.fates) in
+    let joined = times_joined n (map tx_of (members s)) (waiting s.dormant ++ map (λ (fated : Fated). fated.tx)
+    s.fates) in
     omega (arith, all, joined))
 
-pub part_is_distinct : (p : Member → Bool) (ms : List Member) → IsDistinct nat_eq (map tx_of ms) → IsDistinct nat_eq (map tx_of (filter p ms))
+pub part_is_distinct : (p : Member → Bool) (ms : List Member) → IsDistinct nat_eq (map tx_of ms)
+    → IsDistinct nat_eq (map tx_of (filter p ms))
 part_is_distinct p ms distinct =
     distinct_if_once (map tx_of (filter p ms)) (λ n.
     let low = once (map tx_of ms) distinct n in
@@ -300,13 +341,16 @@ is_there m (o ∷ before) others = by (o.tx == m.tx) (is_there m before others)
     by true e = refl
     by false e = e
 
-none_of : (before ms others : List Member) → filter (λ member. not (is_among (before ++ (ms ++ others)) member.tx)) ms ≡ []
+none_of : (before ms others : List Member) → filter (λ member. not (is_among (before ++ (ms ++ others)) member.tx))
+    ms ≡ []
 none_of before [] others = refl
 none_of before (m ∷ ms) others =
     let all : List Member = before ++ ((m ∷ ms) ++ others) in
-    let moved : before ++ ((m ∷ ms) ++ others) ≡ (before ++ m ∷ []) ++ (ms ++ others) = regrouped before m (ms ++ others) in
+    let moved : before ++ ((m ∷ ms) ++ others) ≡ (before ++ m ∷ []) ++ (ms ++ others) = regrouped before m (ms ++
+    others) in
     let here : is_among all m.tx ≡ true = is_there m before (ms ++ others) in
-    ap (λ b. cond (not b) (m ∷ filter (λ member. not (is_among all member.tx)) ms) (filter (λ member. not (is_among all member.tx)) ms)) here
+    ap (λ b. cond (not b) (m ∷ filter (λ member. not (is_among all member.tx)) ms) (filter (λ member. not (is_among
+    all member.tx)) ms)) here
     ∙ ap (λ (whole : List Member). filter (λ member. not (is_among whole member.tx)) ms) moved
     ∙ none_of (before ++ m ∷ []) ms others
   where
@@ -319,7 +363,8 @@ no_prepared_left s cause = none_of [] s.prepared s.active
 
 pub no_active_left : (s : State) (cause : Cause) → (taken_out (members s) cause s).active ≡ []
 no_active_left s cause =
-    ap (λ (all : List Member). filter (λ member. not (is_among (s.prepared ++ all) member.tx)) s.active) (sym (nothing_behind s.active))
+    ap (λ (all : List Member). filter (λ member. not (is_among (s.prepared ++ all) member.tx)) s.active) (sym
+    (nothing_behind s.active))
     ∙ none_of s.prepared s.active []
   where
     nothing_behind : (ms : List Member) → ms ++ [] ≡ ms
@@ -328,9 +373,10 @@ no_active_left s cause =
 
 -- the store is kept when nobody is left, and no run is on
 pub kept_ended : (schemas : List TableSchema) (opening : Opening) (submitted : List Submitted) (roster : Roster)
-    (running : Bool) (run : Run) (stored : Stored) → IsKept schemas opening submitted roster running run stored
-    → run.prepared ≡ [] → run.active ≡ [] → IsKept schemas opening submitted roster false run stored
-kept_ended schemas opening submitted roster running run stored kept prepared active =
+    (running : Bool) (run : Run) (stored : Stored) (posted : List Posted)
+    → IsKept schemas opening submitted roster running run stored posted
+    → run.prepared ≡ [] → run.active ≡ [] → IsKept schemas opening submitted roster false run stored posted
+kept_ended schemas opening submitted roster running run stored posted kept prepared active =
     record {
       declared = kept.declared;
       formed = kept.formed;
@@ -341,4 +387,5 @@ kept_ended schemas opening submitted roster running run stored kept prepared act
       distinct = kept.distinct;
       idle_prepared = λ off. prepared;
       idle_active = λ off. active;
+      posted = kept.posted;
     }

@@ -1,5 +1,6 @@
 -- What is told of tables and of members.
-use Rattle.std.proofs.Common.{◌≡◌, ℕ, suc, true, false, cond, List, [], ◌∷◌, refl, ap, ◌∙◌, Option, Some, None, slice_get}
+use Rattle.std.proofs.Common.{◌≡◌, ℕ, suc, true, false, cond, List, [], ◌∷◌, refl, ap, ◌∙◌, Option, Some, None}
+use Rattle.std.proofs.Common.{slice_get}
 use Rattle.std.specs.Option.{option_map}
 use Rattle.ent_semantics.specs.Database.{Name, same_name}
 use Rattle.ent_closed.specs.Form.{Tables}
@@ -59,7 +60,8 @@ rows_under_name (first ∷ names) (rows ∷ tables) name =
 
 -- ---- members
 
-pub answers_found : (s : State) (tx : ℕ) (member : Member) → Some member ≡ member_of s tx → member.answers ≡ answers_of s tx
+pub answers_found : (s : State) (tx : ℕ) (member : Member) → Some member ≡ member_of s tx
+    → member.answers ≡ answers_of s tx
 answers_found s tx member e = rw (← e) refl
 
 pub answers_none : (s : State) (tx : ℕ) → None ≡ member_of s tx → [] ≡ answers_of s tx

@@ -1,13 +1,12 @@
 -- What a begin comes to, before anything is changed.
-use Rattle.std.specs.Prelude.{◌≡◌, ◌||◌, ℕ, false, List, [], ◌∷◌, ◌++◌, None, Some, IsSome}
+use Rattle.std.specs.Prelude.{◌≡◌, ◌||◌, ℕ, false, List, [], ◌∷◌, ◌++◌, None, Some, IsSome, Contains}
 use Rattle.ent_form.specs.declared.fault.FormFault.{FormFault}
-use Rattle.ent_members.specs.Changes.{posting}
 use Rattle.ent_coordination.specs.Pool.{Posted}
 use Rattle.ent_protocol.specs.Begin.{Begins, holding, with_member}
 use Rattle.ent_protocol.specs.Event.{Reply}
 use Rattle.ent_protocol.specs.Event as replies
 use Rattle.ent_protocol.specs.Job.{Job, Joint, One, Work}
-use Rattle.ent_protocol.specs.Member.{Commits, Next, RollsBack, active_member, is_lent, next_of}
+use Rattle.ent_protocol.specs.Member.{Asks, Commits, Next, RollsBack, active_member, is_lent, next_of, posted_as}
 use Rattle.ent_protocol.specs.State.{State, Member, Use}
 use Rattle.ent_protocol.specs.Uses.{blocker, entangled_uses, statement_uses}
 use Rattle.ent_protocol.specs.Waits.{next_uses}
@@ -15,6 +14,10 @@ use Rattle.ent_core.specs.declared.begin.Hindrance.{Hindrance}
 use Rattle.ent_core.specs.declared.begin.Hindrance.TheVariants as hindrances
 use Rattle.ent_core.specs.declared.begin.Plan.{Plan}
 use Rattle.ent_core.specs.declared.begin.Plan.TheVariants as plans
+
+-- no member of a number that isn't prepared has posted
+abbrev pub IsIdle : State → ℕ → Type 0
+IsIdle s tx = (member : Member) → Contains s.active member → member.tx ≡ tx → member.posted ≡ false
 
 -- the member of a number may begin, and this comes next
 pub record MayBegin (s : State) (tx : ℕ) (member : Member) (next : Next) : Type 0 where
@@ -51,11 +54,12 @@ LendsTo tx job old new =
     (member : Member) → active_member old tx ≡ Some member
     → new ≡ record (with_member (holding member (job_uses job)) old) { lent = old.lent ++ job ∷ [] }
 
--- a member's statement is posted, and it holds the uses of the statement
-abbrev pub PostsTo : ℕ → Posted → State → State → Type 0
-PostsTo tx query old new =
-    (member : Member) → active_member old tx ≡ Some member
-    → new ≡ with_member (posting (entangled_uses query.statement) member) old
+-- the member of a number may begin, nobody is in the way, and this is its statement, which comes next
+pub record IsToPost (s : State) (tx : ℕ) (query : Posted) : Type 0 where
+  pub member : Member
+  pub may : MayBegin s tx member (Asks query.statement)
+  pub unblocked : blocker s member (entangled_uses query.statement) ≡ None
+  pub is : query ≡ posted_as member query.statement
 
 -- the label of the group of the member of a number
 abbrev pub IsGroupOf : State → ℕ → ℕ → Type 0
@@ -63,12 +67,9 @@ IsGroupOf s tx group = (member : Member) → active_member s tx ≡ Some member 
 
 -- doing what is planned is the begin
 abbrev pub Follows : State → ℕ → Plan → Type 0
-Follows s tx (plans.HeldBack fault) = Begins {F = FormFault} s tx (replies.HeldBack fault) s
 Follows s tx (plans.Lends job) =
-    IsSome (active_member s tx)
+    IsSome (active_member s tx) × IsIdle s tx
     × ((new : State) → LendsTo tx job s new → Begins {F = FormFault} s tx (replies.Lent job) new)
-Follows s tx (plans.Posts query) =
-    IsSome (active_member s tx)
-    × ((new : State) → PostsTo tx query s new → Begins {F = FormFault} s tx replies.Posted new)
+Follows s tx (plans.Posts query) = IsToPost s tx query
 Follows s tx plans.Commits = IsToBegin s tx Commits
 Follows s tx (plans.RollsBack group) = IsToBegin s tx RollsBack × IsGroupOf s tx group

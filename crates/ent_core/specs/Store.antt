@@ -5,6 +5,8 @@ use Rattle.ent_tree.specs.declared.declaration.Opening.{Opening}
 use Rattle.ent_form.specs.declared.catalogue.TableSchema.{TableSchema}
 use Rattle.ent_form.specs.Catalogue.{schemas_of}
 use Rattle.ent_form.specs.OpeningFault.{opening_fault}
+use Rattle.ent_coordination.specs.Pool.{Posted}
+use Rattle.ent_pool_laws.specs.Pooled.{IsPoolOf}
 use Rattle.ent_protocol.specs.State.{Submitted}
 use Rattle.ent_members.specs.Run.{Run}
 use Rattle.ent_roster.specs.Roster.{Roster}
@@ -12,7 +14,7 @@ use Rattle.ent_standing.specs.Attempts.{AsksForRun}
 use Rattle.ent_tables.specs.Stored.{Stored, kinds_declared}
 
 pub record IsKept (schemas : List TableSchema) (opening : Opening) (submitted : List Submitted) (roster : Roster)
-    (running : Bool) (run : Run) (stored : Stored) : Type 0 where
+    (running : Bool) (run : Run) (stored : Stored) (pool : List Posted) : Type 0 where
   -- the catalogue is the opening's, which has no fault, and so are the kinds of the tables' columns
   pub declared : schemas ≡ schemas_of opening.tables
   pub formed : opening_fault opening ≡ None
@@ -26,3 +28,5 @@ pub record IsKept (schemas : List TableSchema) (opening : Opening) (submitted : 
   -- where no run is on nobody is a member
   pub idle_prepared : running ≡ false → run.prepared ≡ []
   pub idle_active : running ≡ false → run.active ≡ []
+  -- the pool that is kept is that of the members
+  pub posted : IsPoolOf submitted run.active pool

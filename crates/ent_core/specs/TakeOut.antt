@@ -17,8 +17,9 @@ abbrev pub is_joint_of_others : List ℕ → JointAnswer → Bool
 is_joint_of_others numbers joint = not (is_joint_of_any numbers joint)
 
 -- Those who leave were submitted, and took part in no more runs than their scripts ask for; none of them waits for a
--- run, or stands there twice.
+-- run, is finished, or stands there twice.
 pub record MayLeave (leavers : List Leaver) (s : State) : Type 0 where
   pub arrived : AllByRecursion (λ (leaver : Leaver). IsNumbered (length s.submitted) leaver.tx) leavers
   pub within : AllByRecursion (IsWithin s.submitted) leavers
   pub distinct : IsDistinct nat_eq (map (λ own. own.tx) s.dormant ++ numbers_in leavers)
+  pub unfinished : IsDistinct nat_eq (map (λ fated. fated.tx) s.fates ++ numbers_in leavers)

@@ -6,8 +6,8 @@ ghost use Rattle.ent_members.specs.Places.{Changes, found};
 ghost use Rattle.ent_protocol.specs.Finish.{stepped, table_of, variable_of, with_bound};
 ghost use Rattle.ent_semantics.specs.declared.answer.Answer.TheVariants as answers;
 
-use crate::copies::rows_copy;
 use ent_closed::Statement;
+use ent_eval::rows_copy;
 use ent_group::Tx;
 use ent_job::Single;
 use ent_members::Run;

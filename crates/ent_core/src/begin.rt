@@ -1,16 +1,18 @@
 //! A member begins its next statement.
 ghost use Rattle.std.specs.Prelude.{◌≡◌, ℕ, Some, None, true, IfErr, IfOk, IsOk, OnErr, IsSome};
 ghost use Rattle.std.specs.Arc.{arc_value};
-ghost use Rattle.ent_core.specs.Begin.{Follows, IsFree, LendsTo, MayBegin, PostsTo, hindrance_seen, job_uses};
+ghost use Rattle.ent_coordination.specs.Pool.{Unsafe as UnsafePost};
+ghost use Rattle.ent_core.specs.Begin.{Follows, IsFree, IsIdle, IsToPost, LendsTo, MayBegin, hindrance_seen, job_uses};
 ghost use Rattle.ent_core.specs.Kept.{IsKeptState};
 ghost use Rattle.ent_core.specs.Reply.{reply_seen};
 ghost use Rattle.ent_form.specs.declared.fault.FormFault.{FormFault as Form};
+ghost use Rattle.ent_match.specs.declared.fault.PostFault.TheVariants as post_faults;
 ghost use Rattle.ent_members.specs.Places.{found};
+ghost use Rattle.ent_protocol.specs.Member.{Ordinary, RollsBack, active_member, next_of, posted_as};
 ghost use Rattle.ent_protocol.specs.Begin.{Begins};
 ghost use Rattle.ent_protocol.specs.Event as replies;
-ghost use Rattle.ent_protocol.specs.Member.{Asks, Ordinary, RollsBack, active_member, next_of};
 ghost use Rattle.ent_protocol.specs.State.{Member};
-ghost use Rattle.ent_protocol.specs.Uses.{blocker, entangled_uses, statement_uses};
+ghost use Rattle.ent_protocol.specs.Uses.{blocker, statement_uses};
 ghost use Rattle.ent_protocol.specs.Waits.{next_uses};
 
 use crate::commit::commit;
@@ -18,17 +20,16 @@ use crate::reply::Reply;
 use crate::store::Store;
 use crate::take_out::roll_back;
 use ent_closed::{Entangled, Statement};
-use ent_components::post_fault;
 use ent_form::FormFault;
 use ent_group::Tx;
 use ent_job::{Job, Single, Work};
-use ent_match::{Posted, Unsafe};
+use ent_match::{PostFault, Posted, same_statements_are_alike};
 use ent_members::{Member, Uses, entangled_uses, statement_uses, uses_are_kept_by_closing};
-use ent_next::{Next, next_form, next_of, posted_statements};
+use ent_next::{Next, next_form, next_of};
 use ent_ready::{begun_statements_are_work, used_tables_are_declared};
 use ent_roster::Cause;
 use ent_standing::{
-    attempts_stay_within, members_stand_by_number, pools_are_safe, transactions_are_counted,
+    attempts_stay_within, members_stand_by_number, transactions_are_counted,
     transactions_stand_once,
 };
 use ent_value::Value;
@@ -61,11 +62,10 @@ impl Hindrance {
 /// What a begin that nothing hinders comes to, before anything is changed.
 #[derive(Drop)]
 enum Plan {
-    /// Nothing changes, since a post of the pool would have heads of two statements.
-    HeldBack(Unsafe),
     /// The job is lent, and the member holds the uses of its statement too.
     Lends(Job),
-    /// The statement is in the pool, and the member holds its uses too.
+    /// The statement is in the pool, and the member holds its uses too; or nothing changes, since a post of the pool
+    /// would have heads of two statements.
     Posts(Posted),
     Commits,
     /// The group with this label is rolled back.
@@ -83,7 +83,8 @@ fn plan_ordinary(
     requires unblocked { blocker store.now member.now (statement_uses statement) ≡ None }
     ensures { IfOk result (λ plan. Follows store.now member.now.tx plan) }
 {
-    // Laws: the tables that it uses are there, and it fits them.
+    // Laws: the tables that it uses are there, it fits them, and nobody else is of its number.
+    members_stand_by_number::<FormFault>();
     uses_are_kept_by_closing();
     used_tables_are_declared();
     begun_statements_are_work();
@@ -95,27 +96,12 @@ fn plan_ordinary(
     Ok(Plan::Lends(Job::one(single, tables)))
 }
 
-/// What an entangled statement comes to that nobody is in the way of.
-fn plan_entangled(
-    store: &Store,
-    member: &Member,
-    statement: Arc<Entangled<Value>>,
-) -> Result<Plan, AllocError>
-    requires kept { IsKeptState store.now }
-    requires next { MayBegin store.now member.now.tx member.now (Asks (arc_value statement)) }
-    requires unblocked { blocker store.now member.now (entangled_uses (arc_value statement)) ≡ None }
-    ensures { IfOk result (λ plan. Follows store.now member.now.tx plan) }
+/// A member's statement, as it is to be posted.
+fn query_of(member: &Member, statement: Arc<Entangled<Value>>) -> Posted
+    ensures { result ≡ posted_as member.now (arc_value statement) }
 {
-    // Laws: the pool is safe and stands by number.
-    members_stand_by_number::<FormFault>();
-    pools_are_safe::<FormFault>();
-    let posted = posted_statements(store.alloc, store.submitted.as_slice(), store.run.active())?;
     let place = member.place() as u64;
-    let query = Posted::new(member.tx(), member.attempt(), place, statement);
-    match post_fault(store.alloc, posted.as_slice(), &query)? {
-        Some(fault) => Ok(Plan::HeldBack(fault)),
-        None => Ok(Plan::Posts(query)),
-    }
+    Posted::new(member.tx(), member.attempt(), place, statement)
 }
 
 /// The least member that is in the way of what a member does next. It takes no memory, so that it is asked for before
@@ -186,7 +172,7 @@ fn plan_of(store: &Store, member: &Member) -> Result<Plan, AllocError>
 {
     match next_of(store.alloc, store.submitted.as_slice(), member)? {
         Next::Ordinary(statement) => plan_ordinary(store, member, statement),
-        Next::Asks(statement) => plan_entangled(store, member, statement),
+        Next::Asks(statement) => Ok(Plan::Posts(query_of(member, statement))),
         Next::Commits => Ok(Plan::Commits),
         Next::RollsBack => Ok(Plan::RollsBack(member.group())),
     }
@@ -205,7 +191,8 @@ fn job_uses(job: &Job) -> Uses
 
 /// A job is lent, and the member holds the uses of its statement. Where memory runs out nothing changes.
 fn lend(store: &mut Store, tx: Tx, job: Job) -> Result<Reply, AllocError>
-    requires { IsSome (found store.old.active tx) }
+    requires there { IsSome (found store.old.active tx) }
+    requires idle { IsIdle store.old tx }
     ensures reply { IfOk result (λ reply. reply_seen reply ≡ replies.Lent job) }
     ensures ok { IfOk result (λ reply. LendsTo tx job store.old store.new) }
     ensures err { OnErr result (store.new ≡ store.old) }
@@ -232,16 +219,37 @@ fn lend(store: &mut Store, tx: Tx, job: Job) -> Result<Reply, AllocError>
     }
 }
 
-/// A statement is posted, and the member holds its uses. Where memory runs out nothing changes.
-fn post(store: &mut Store, tx: Tx, query: &Posted) -> Result<Reply, AllocError>
-    requires { IsSome (found store.old.active tx) }
-    ensures reply { IfOk result (λ reply. reply_seen reply ≡ replies.Posted) }
-    ensures ok { IfOk result (λ reply. PostsTo tx query.now store.old store.new) }
+/// What is replied where a statement isn't posted.
+fn held_back(why: PostFault) -> Result<Reply, AllocError>
+    ensures { IfOk result (λ reply. (fault : UnsafePost)
+        × (why ≡ post_faults.Unsafe fault)
+        × (reply_seen reply ≡ replies.HeldBack fault)) }
+{
+    match why {
+        PostFault::Memory => Err(AllocError),
+        PostFault::Unsafe(fault) => Ok(Reply::HeldBack(fault)),
+    }
+}
+
+/// A statement is posted, and the member holds its uses; or it is held back. Where memory runs out nothing changes.
+fn post(store: &mut Store, tx: Tx, query: Posted) -> Result<Reply, AllocError>
+    requires kept { IsKeptState store.old }
+    requires asks { IsToPost store.old tx query }
+    ensures ok { IfOk result (λ reply. Begins store.old tx (reply_seen reply) store.new) }
     ensures err { OnErr result (store.new ≡ store.old) }
 {
     uses_are_kept_by_closing();
+    same_statements_are_alike();
+    members_stand_by_number::<FormFault>();
     let uses = entangled_uses(query.statement());
-    store.run.post(tx, uses.as_slice())?;
+    if let Err((query, why)) = store.pool.post(query) {
+        drop(query);
+        return held_back(why);
+    }
+    if let Err(fault) = store.run.post(tx, uses.as_slice()) {
+        store.pool.withdraw(tx);
+        return Err(fault);
+    }
     Ok(Reply::Posted)
 }
 
@@ -255,14 +263,14 @@ fn carry_out(store: &mut Store, tx: Tx, plan: Plan) -> Result<Reply, AllocError>
         → next_of store.old member ≡ RollsBack → IsOk result }
 {
     // Laws: there is room for those who leave, each stands once, and each asked for the run that it leaves.
+    members_stand_by_number::<FormFault>();
     transactions_are_counted::<FormFault>();
     attempts_stay_within::<FormFault>();
     transactions_stand_once::<FormFault>();
     store.asks_for_runs();
     match plan {
-        Plan::HeldBack(fault) => Ok(Reply::HeldBack(fault)),
         Plan::Lends(job) => lend(store, tx, job),
-        Plan::Posts(query) => post(store, tx, &query),
+        Plan::Posts(query) => post(store, tx, query),
         Plan::Commits => commit(store, tx),
         Plan::RollsBack(group) => {
             Ok(Reply::RolledBack(roll_back(store, group, Cause::Asked(tx))))

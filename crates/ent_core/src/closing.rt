@@ -43,7 +43,7 @@ pub(crate) struct BookParts {
 pub(crate) fn can_close(store: &Store) -> bool
     ensures { IsTrue result ↔ CanClose store.now }
 {
-    !store.running && store.roster.dormant().is_empty()
+    !store.running && store.roster.dormant_len() == 0
 }
 
 /// Tables under the names of the catalogue; none is copied row by row.

@@ -1,19 +1,10 @@
 //! Copies of answers.
 ghost use Rattle.std.specs.Prelude.{◌≡◌, IfOk};
 
+use ent_eval::rows_copy;
 use ent_semantics::{Answer, Fact};
-use ent_value::{Row, Sequence};
+use ent_value::Sequence;
 use std::alloc::{AllocError, Global};
-
-pub(crate) fn rows_copy(alloc: Global, rows: &[Row]) -> Result<Sequence<Row>, AllocError>
-    ensures { IfOk result (λ copies. copies ≡ rows.now) }
-{
-    let mut copies = Vec::with_capacity(alloc, rows.len())?;
-    for row in rows {
-        copies.push(row.copy(alloc)?)?;
-    }
-    Ok(Sequence::from_vec(copies))
-}
 
 fn fact_copy(alloc: Global, fact: &Fact) -> Result<Fact, AllocError>
     ensures { IfOk result (λ copy. copy ≡ fact.now) }

@@ -27,6 +27,7 @@ fn reason_now(store: &Store) -> Result<Option<Reason>, AllocError>
         store.alloc,
         &store.run,
         store.submitted.as_slice(),
+        store.pool.members(),
         store.tried.as_slice(),
         store.lent.as_slice(),
     )?;

@@ -2,6 +2,7 @@
 ghost use Rattle.std.specs.Prelude.{◌≡◌, ◌<◌, ◌∷◌, [], IfErr, IfOk, IfSome, IsNone, IsOk, IsSome, OnErr, Some};
 ghost use Rattle.std.specs.Prelude.{length, slice_get};
 ghost use Rattle.ent_core.specs.Advance.{Advances, MayAdvance};
+ghost use Rattle.ent_core.specs.Begin.{IsIdle};
 ghost use Rattle.ent_core.specs.Finish.{Accepts, CarriesOut, MayCarryOut, StandsAt};
 ghost use Rattle.ent_core.specs.Kept.{IsKeptState};
 ghost use Rattle.ent_core.specs.Reply.{reply_seen};
@@ -28,8 +29,8 @@ use ent_resolved::resolved_jobs_are_present;
 use ent_roster::Cause;
 use ent_semantics::{Answer, Failure};
 use ent_standing::{
-    attempts_stay_within, lent_tables_are_declared, transactions_are_counted,
-    transactions_stand_once,
+    attempts_stay_within, lent_tables_are_declared, members_stand_by_number,
+    transactions_are_counted, transactions_stand_once,
 };
 use ent_tables::StoredTables;
 use ent_value::Refusal;
@@ -127,6 +128,7 @@ fn carry_out(
     requires kept { IsKeptState store.old }
     requires lent { index < length store.old.lent }
     requires there { IsSome (active_member store.old single.now.tx) }
+    requires idle { IsIdle store.old single.now.tx }
     requires may { MayCarryOut store.old single.now.statement (alone_seen outcome.now) }
     ensures ok { IfOk result (λ reply.
         CarriesOut store.old index single.now (alone_seen outcome.now) (reply_seen reply) store.new) }
@@ -159,6 +161,7 @@ fn accept(store: &mut Store, place: Option<usize>, done: &Done) -> Result<Option
     ensures failure { (failure : Failure) → done.now.outcome ≡ jobs.Fault failure → IsOk result }
 {
     // Laws: a lent job's member stands before its statement, and its tables are the present ones, as declared.
+    members_stand_by_number::<FormFault>();
     resolved_jobs_are_present();
     lent_tables_are_declared::<FormFault>();
     used_tables_are_declared();

@@ -15,24 +15,17 @@ use crate::reply::Reply;
 use crate::store::Store;
 use ent_components::is_present;
 use ent_eval::{Done, JobOutcome};
-use ent_form::FormFault;
 use ent_job::Work;
 use ent_match::Posted;
-use ent_next::posted_statements;
-use ent_standing::{members_stand_by_number, pools_are_safe};
 use ent_tree::Duplicate;
 use ent_value::{Sequence, Value};
 use std::alloc::{AllocError, AllocFailed};
 
 /// Whether statements are posted just so, and exactly a component of the pool.
 fn is_component(store: &Store, asked: &[Posted]) -> Result<bool, AllocError>
-    requires kept { IsKeptState store.now }
     ensures { IfOk result (λ is. IsTrue is ↔ IsPresentComponent store.now asked.now) }
 {
-    members_stand_by_number::<FormFault>();
-    pools_are_safe::<FormFault>();
-    let posted = posted_statements(store.alloc, store.submitted.as_slice(), store.run.active())?;
-    let is = is_present(store.alloc, posted.as_slice(), asked)?;
+    let is = is_present(store.alloc, store.pool.members(), asked)?;
     Ok(is)
 }
 

@@ -1,11 +1,12 @@
 //! Posted statements are answered together.
-ghost use Rattle.std.specs.Prelude.{◌≡◌, ◌++◌, OnErr, OnOk, length, map, nat_eq};
+ghost use Rattle.std.specs.Prelude.{◌≡◌, ◌++◌, OnErr, OnOk, filter, length, map, nat_eq};
 ghost use Rattle.std.specs.List.{IsDistinct};
 ghost use Rattle.ent_members.specs.Answered.{member_answers};
+ghost use Rattle.ent_pool_laws.specs.Pooled.{is_of_none};
 ghost use Rattle.ent_protocol.specs.PoolEvents.{joining, joint_members};
 
 use crate::store::Store;
-use ent_match::Posted;
+use ent_match::{Pool, Posted};
 use ent_members::MemberAnswer;
 use ent_semantics::{JointAnswer, Member};
 use ent_tree::Duplicate;
@@ -56,6 +57,16 @@ fn push_members(
     push_members(alloc, others, more, members)
 }
 
+/// Statements that are answered leave the pool.
+fn withdraw_answered(pool: &mut Pool, asked: &[Posted])
+    ensures { pool.new ≡ filter (is_of_none (map (λ query. query.tx) asked.now)) pool.old }
+{
+    if let Some((query, others)) = asked.split_first() {
+        pool.withdraw(query.tx());
+        withdraw_answered(pool, others);
+    }
+}
+
 /// The members with these statements take their answers under these groundings, and their groups become one. Where
 /// memory runs out nothing changes.
 pub(crate) fn join(
@@ -74,6 +85,7 @@ pub(crate) fn join(
     push_members(store.alloc, asked, groundings, &mut members)?;
     store.joints.reserve(1)?;
     store.run.answer(given)?;
+    withdraw_answered(&mut store.pool, asked);
     store.joints.push_reserved(JointAnswer {
         members: Sequence::from_vec(members),
     });

@@ -10,34 +10,27 @@ ghost use Rattle.ent_semantics.specs.Serial.{numbered};
 use crate::store::Store;
 use ent_group::{Members, Tx};
 use ent_members::Entrant;
-use ent_next::script_of;
+use ent_next::{script_of, with_number};
 use ent_rel::Table;
 use ent_semantics::{Answer, Entry};
 use ent_tree::Script;
 use ent_value::Name;
 
-/// The element of a number, from 1.
-pub(crate) fn numbered<T>(list: &[T], number: usize) -> Option<&T>
-    ensures { option_copied result ≡ numbered list.now number }
-{
-    if number == 0 {
-        return None;
-    }
-    list.get(number - 1)
-}
-
 /// The transaction at a place of the dormant list, from 1.
 pub(crate) fn dormant(store: &Store, place: usize) -> Option<&Entrant>
     ensures { option_copied result ≡ dormant_at store.now place }
 {
-    numbered(store.roster.dormant(), place)
+    if place == 0 {
+        return None;
+    }
+    store.roster.dormant_at(place - 1)
 }
 
 /// The journal's entry of a number, from 1.
 pub(crate) fn entry(store: &Store, number: usize) -> Option<&Entry>
     ensures { option_copied result ≡ entry_at store.now number }
 {
-    numbered(store.journal.as_slice(), number)
+    with_number(store.journal.as_slice(), number)
 }
 
 /// The script of a transaction, as it was submitted.

@@ -7,6 +7,7 @@ ghost use Rattle.ent_protocol.specs.Reached.{opened};
 use crate::store::Store;
 use ent_form::{Catalogue, FormFault};
 use ent_lent::LentJobs;
+use ent_match::Pool;
 use ent_members::Run;
 use ent_roster::Roster;
 use ent_tables::StoredTables;
@@ -28,6 +29,7 @@ pub(crate) fn open(alloc: Global, opening: Opening) -> Result<Store, Refusal<For
         roster: Roster::new(alloc),
         running: false,
         run: Run::new(alloc),
+        pool: Pool::new(alloc),
         joints: Vec::new(alloc),
         tried: Vec::new(alloc),
         lent: LentJobs::new(alloc),

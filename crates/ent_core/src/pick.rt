@@ -8,12 +8,9 @@ ghost use Rattle.ent_protocol.specs.PoolEvents.{IsPresentComponent, Picks, joint
 use crate::reply::Reply;
 use crate::store::Store;
 use ent_components::{joint_uses, pick as first_to_pick};
-use ent_form::FormFault;
 use ent_job::Job;
 use ent_match::Posted;
-use ent_next::posted_statements;
 use ent_ready::{picked_statements_fit, used_tables_are_declared};
-use ent_standing::{members_stand_by_number, pools_are_safe};
 use ent_value::Sequence;
 use std::alloc::AllocError;
 
@@ -36,12 +33,9 @@ fn picked_job(store: &Store) -> Result<Option<Job>, AllocError>
     requires kept { IsKeptState store.now }
     ensures { IfOk result (λ job. MatchOption job (NoneCanBePicked store.now) (IsPickedJob store.now)) }
 {
-    members_stand_by_number::<FormFault>();
-    pools_are_safe::<FormFault>();
-    let posted = posted_statements(store.alloc, store.submitted.as_slice(), store.run.active())?;
     let picked = first_to_pick(
         store.alloc,
-        posted.as_slice(),
+        store.pool.members(),
         store.tried.as_slice(),
         store.lent.as_slice(),
     )?;

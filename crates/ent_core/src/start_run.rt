@@ -17,12 +17,13 @@ pub(crate) fn start_run(store: &mut Store) -> Result<Reply, AllocError>
     if store.running {
         return Ok(Reply::NotNow);
     }
-    let waiting = store.roster.dormant().len();
+    let waiting = store.roster.dormant_len();
     if waiting == 0 {
         return Ok(Reply::Absent);
     }
     let count = waiting.min(MOST_MEMBERS);
-    let run = Run::start(store.alloc, &store.roster.dormant()[..count])?;
+    let entrants = store.roster.first_dormant(store.alloc, count)?;
+    let run = Run::start(store.alloc, entrants.as_slice())?;
     let members = run.numbers();
     store.roster.take_first(count);
     store.tried.clear();

@@ -4,7 +4,7 @@ ghost use Rattle.ent_standing.specs.Attempts.{AsksForRun};
 
 use ent_form::Catalogue;
 use ent_lent::LentJobs;
-use ent_match::Posted;
+use ent_match::{Pool, Posted};
 use ent_members::Run;
 use ent_next::SubmittedScript;
 use ent_roster::Roster;
@@ -26,6 +26,8 @@ pub(crate) struct Store {
     pub(crate) roster: Roster,
     pub(crate) running: bool,
     pub(crate) run: Run,
+    /// What members posted, by number.
+    pub(crate) pool: Pool,
     pub(crate) joints: Vec<JointAnswer>,
     pub(crate) tried: Vec<Sequence<Posted>>,
     pub(crate) lent: LentJobs,
@@ -60,7 +62,7 @@ impl Model for Store {
     } };
 
     ghost invariant = { λ s.
-        IsKept s.catalogue.tables s.opening s.submitted.items s.roster s.running s.run s.tables };
+        IsKept s.catalogue.tables s.opening s.submitted.items s.roster s.running s.run s.tables s.pool };
 }
 
 impl Store {

@@ -1,6 +1,7 @@
 //! A script is submitted.
 ghost use Rattle.std.specs.Prelude.{◌≡◌, ◌<◌, IfOk, IfErr, OnErr, OnOk, length};
 ghost use Rattle.ent_value.specs.Refusal.{Gives};
+ghost use Rattle.ent_core.specs.Kept.{IsKeptState};
 ghost use Rattle.ent_core.specs.Reply.{reply_seen};
 ghost use Rattle.ent_resolved.specs.Resolved.{resolved_forms};
 ghost use Rattle.ent_form.specs.Catalogue.{schemas_of};
@@ -11,6 +12,7 @@ use crate::store::Store;
 use ent_closed::{Known, Statement};
 use ent_form::{Catalogue, FormFault, resolve};
 use ent_next::SubmittedScript;
+use ent_standing::transactions_stand_once;
 use ent_tree::{MOST_SCRIPTS, MOST_STATEMENTS, Opening, Script};
 use ent_value::{Limited, Refusal};
 use std::alloc::{AllocError, AllocFailed, Global};
@@ -31,10 +33,13 @@ fn resolved(
 
 /// Takes a script that may be taken.
 pub(crate) fn submit(store: &mut Store, script: Script) -> Result<Reply, AllocFailed<Script>>
+    requires kept { IsKeptState store.old }
     ensures ok { IfOk result (λ reply. Submits resolved_forms store.old script (reply_seen reply) store.new) }
     ensures err { OnErr result (store.new ≡ store.old) }
     ensures returned { IfErr result (λ refused. refused.value ≡ script) }
 {
+    // Law: each member's script was submitted.
+    transactions_stand_once::<FormFault>();
     let before = store.submitted.len();
     if before >= MOST_SCRIPTS {
         return Ok(Reply::Full(script));

@@ -3,6 +3,7 @@ ghost use Rattle.std.specs.Prelude.{◌≡◌, ◌+◌, ◌≤◌, List, filter,
 ghost use Rattle.ent_core.specs.TakeOut.{MayLeave, is_joint_of_any, is_joint_of_others};
 ghost use Rattle.ent_members.specs.Leavers.{leaver_of};
 ghost use Rattle.ent_members.specs.Run.{tx_of};
+ghost use Rattle.ent_pool_laws.specs.Pooled.{is_of_none};
 ghost use Rattle.ent_protocol.specs.Rollback.{group_numbers, rolled_back, taken_out};
 ghost use Rattle.ent_protocol.specs.Run.{ending, numbers_of};
 ghost use Rattle.ent_protocol.specs.State.{Member as Seen, by_number, members};
@@ -12,6 +13,7 @@ ghost use Rattle.ent_standing.specs.Standing.{StandOnce};
 
 use crate::store::Store;
 use ent_group::{Members, Tx};
+use ent_match::Pool;
 use ent_members::Leavers;
 use ent_roster::Cause;
 use ent_semantics::JointAnswer;
@@ -33,6 +35,16 @@ fn remove_joints(joints: &mut Vec<JointAnswer>, numbers: &Members)
     joints.retain(|joint| !is_joint_of(numbers, joint));
 }
 
+/// Takes the statements of these transactions out of the pool.
+fn withdraw_each(pool: &mut Pool, numbers: &[Tx])
+    ensures { pool.new ≡ filter (is_of_none numbers.now) pool.old }
+{
+    if let Some((tx, others)) = numbers.split_first() {
+        pool.withdraw(*tx);
+        withdraw_each(pool, others);
+    }
+}
+
 /// Takes members out of the run, whatever they did. Each has a fate, or waits for another run.
 fn take_out(store: &mut Store, leavers: &Leavers, cause: Cause)
     requires room { length store.old.dormant + length store.old.fates + length leavers.now
@@ -46,6 +58,7 @@ fn take_out(store: &mut Store, leavers: &Leavers, cause: Cause)
         .roster
         .leave(leavers.as_slice(), store.submitted.as_slice(), cause);
     store.run.remove(&numbers);
+    withdraw_each(&mut store.pool, numbers.as_slice());
     remove_joints(&mut store.joints, &numbers);
     store.lent.remove_with(&numbers);
     store.tables.roll_back(&numbers);

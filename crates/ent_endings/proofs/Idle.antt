@@ -2,11 +2,12 @@
 use Rattle.std.proofs.Common.{◌≡◌, inl, inr, ℕ, Bool, true, false, cond, ◌||◌, ◌==◌, List, [], ◌∷◌, ◌++◌, map}
 use Rattle.std.proofs.Common.{refl, sym, ap, subst, ◌∙◌, arith, Option, Some, None}
 use Rattle.std.specs.List.{filter, list_any}
+use Rattle.ent_standing.proofs.Pooled.{pool_apart, never_unsafe}
 use Rattle.ent_value.specs.declared.value.Value.{Value}
 use Rattle.ent_group.specs.Cycle.{Closes, IsInRing}
 use Rattle.ent_closed.specs.declared.entangled.Entangled.{Entangled}
 use Rattle.ent_closed.specs.declared.statement.Statement.{Statement}
-use Rattle.ent_coordination.specs.Pool.{Posted, Unsafe, IsSafe, IsFirstUnsafe, CanMeet}
+use Rattle.ent_coordination.specs.Pool.{Posted, IsSafe}
 use Rattle.ent_semantics.specs.declared.book.Fated.{Fated}
 use Rattle.ent_protocol.specs.Begin.{BeginsCommit, BeginsEntangled, BeginsNext, BeginsOrdinary, Posts, pool_with}
 use Rattle.ent_protocol.specs.Commit.{preparing, is_ready}
@@ -14,13 +15,12 @@ use Rattle.ent_protocol.specs.Event.{Reason, Reply}
 use Rattle.ent_protocol.specs.Event as events
 use Rattle.ent_protocol.specs.Lookup.{active_standing, running_members, standing, turn_of}
 use Rattle.ent_protocol.specs.Lookup as lookups
-use Rattle.ent_protocol.specs.Member.{Next, Ordinary, Asks, Commits, RollsBack, active_member, posted_by, pool}
+use Rattle.ent_protocol.specs.Member.{Next, Ordinary, Asks, Commits, RollsBack, active_member}
 use Rattle.ent_protocol.specs.Member.{is_lent, is_single_of, is_tx, next_of}
 use Rattle.ent_protocol.specs.Play.{is_idle}
 use Rattle.ent_protocol.specs.PoolEvents.{CanBePicked, IsOut, Picks}
 use Rattle.ent_protocol.specs.Quiet.{CanMove, CanPost, HasJobOut, IsQuiet, IsReason, IsUntried, MovesBy, NoneIs}
 use Rattle.ent_protocol.specs.Run.{BreaksIfAny, Ends, EndsWhileRunning, Forms, ending}
-use Rattle.ent_protocol.specs.PostedBy.{in_pool}
 use Rattle.ent_protocol.specs.State.{State, Dormant, Member, first_of, members}
 use Rattle.ent_protocol.specs.Uses.{statement_uses, entangled_uses, blocker}
 use Rattle.ent_protocol.specs.Waits.{NoDeadlock, waits}
@@ -28,9 +28,8 @@ use Rattle.ent_standing.specs.ByNumber.{StandByNumber}
 use Rattle.ent_standing.specs.Standing.{StandOnce}
 use Rattle.ent_endings.specs.Idle.{IsHeldUp, IsIdleRound}
 use Rattle.ent_lists.specs.Elements.{In, Pairs, of_all, in_first, in_second, clash, neither, not_so, same_number}
-use Rattle.ent_lists.specs.Elements.{filter_empty, index_pairs, pairs_across, pairs_behind, contains_in, to_map}
-use Rattle.ent_lists.specs.Elements.{in_flat, of_map}
-use Rattle.ent_standing.specs.Numbered.{Apart, Below, below_apart, one_of, one_passes}
+use Rattle.ent_lists.specs.Elements.{filter_empty, index_pairs, pairs_across, contains_in, to_map}
+use Rattle.ent_standing.specs.Numbered.{Apart, Below, below_apart, one_passes}
 use Rattle.ent_endings.proofs.Numbers.{tx_of, is_running, members_apart}
 use Rattle.ent_endings.proofs.Ready.{begins_next}
 
@@ -97,39 +96,6 @@ module _ (s : State) (once : StandOnce s) (by_number : StandByNumber s) (m : Mem
       let two = neither m.posted (is_lent s m.tx) waiting in
       stands_active ∙ (λ i. Some (cond (two.0 i) lookups.Posted
       (cond (two.1 i) lookups.Out (lookups.Ready (turn_of (next_of s m))))))
-
--- ---- who asks is posted
-
-abbrev posted_tx : Posted → ℕ
-posted_tx posted = posted.tx
-
--- in the pool with a statement of a member that isn't posted, no two are of one transaction
-pool_apart : (s : State) (by_number : StandByNumber s) (m : Member) (asked : Entangled Value) → In m s.active
-    → m.posted ≡ false → Pairs (Apart posted_tx) (pool_with s m asked)
-pool_apart s by_number m asked at unposted =
-    pairs_behind (Apart posted_tx) (pool s)
-    (record { tx = m.tx; attempt = m.attempt; place = m.place; statement = asked })
-    (below_apart posted_tx (pool s) (index_pairs (Below posted_tx) (pool s) by_number.pool)) (λ p there same.
-    let r = in_pool s p there in
-    let one = one_of tx_of s.active r.member m
-    (below_apart tx_of s.active (index_pairs (Below tx_of) s.active by_number.active)) r.at at (sym r.own ∙ same) in
-    clash r.member.posted r.by.posted (ap (λ (x : Member). x.posted) one ∙ unposted))
-
--- where no two are of one transaction a safe pool has no unsafe post
-never_unsafe : (those : List Posted) (fault : Unsafe) → Pairs (Apart posted_tx) those → IsSafe those
-    → IsFirstUnsafe those fault → ⊥
-never_unsafe those fault apart safe unsafe =
-    let one = unsafe.0.1 in
-    let two = unsafe.0.2 in
-    let asker = one_of posted_tx those two.asker one.asker apart (contains_in those two.asker two.asks)
-    (contains_in those one.asker one.asks) (two.asker_is ∙ sym one.asker_is) in
-    let meets : CanMeet one.asker fault.index two.partner =
-    subst (λ (asker : Posted). CanMeet asker fault.index two.partner) asker two.meets in
-    let same : fault.first ≡ fault.second =
-    sym one.partner_is ∙ safe one.asker one.partner two.partner fault.index one.asks one.offers two.offers one.meets
-    meets ∙ two.partner_is in
-    let low = unsafe.0.0 in
-    absurd (omega (arith, low, same))
 
 -- ---- a quiet run has no reason to go on
 

@@ -76,17 +76,6 @@ impl Done {
     {
         &self.outcome
     }
-
-    /// The job, and what it came to.
-    pub fn into_parts(self) -> (Job, JobOutcome)
-        ensures job { result.0 ≡ self.job }
-        ensures outcome { outcome_seen result.1 ≡ self.outcome }
-        ensures meaning { IsEvaluated self }
-        ensures change { CanBeMade self.job.tables self.outcome }
-    {
-        let Done { job, outcome } = self;
-        (job, outcome)
-    }
 }
 
 /// What the statement of one transaction comes to.

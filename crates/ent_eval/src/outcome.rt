@@ -36,7 +36,8 @@ impl Outcome {
     }
 }
 
-fn rows_copy(alloc: Global, rows: &[Row]) -> Result<Sequence<Row>, AllocError>
+/// The same rows.
+pub fn rows_copy(alloc: Global, rows: &[Row]) -> Result<Sequence<Row>, AllocError>
     ensures { IfOk result (λ copies. copies ≡ rows.now) }
 {
     let mut copies = Vec::with_capacity(alloc, rows.len())?;

@@ -1,11 +1,13 @@
 //! Jobs.
 ghost use Rattle.std.specs.Prelude.{◌≡◌, ◌↔◌, IfOk, IsTrue};
 ghost use Rattle.ent_protocol.specs.Job as jobs;
+ghost use Rattle.ent_protocol.specs.Member.{is_single_of};
 ghost use Rattle.ent_job.specs.Work.{IsOne, IsJoint, IsWork, work_seen};
 
 use crate::seen::Seen;
 use crate::single::Single;
 use crate::work::Work;
+use ent_group::Tx;
 use ent_match::Posted;
 use ent_tree::{Duplicate, Same};
 use ent_value::Sequence;
@@ -73,6 +75,16 @@ impl Job {
         ensures fits { IsWork self.now.work self.now.tables }
     {
         &self.work
+    }
+
+    /// Whether it is of one statement of a transaction.
+    pub fn is_single_of(&self, tx: Tx) -> bool
+        ensures { result ≡ is_single_of tx self.now }
+    {
+        match self.work() {
+            Work::One(single) => single.tx() == tx,
+            Work::Joint(_) => false,
+        }
     }
 
     pub fn tables(&self) -> &[Seen]

@@ -5,9 +5,9 @@ ghost use Rattle.std.specs.Option.{option_copied};
 ghost use Rattle.ent_join.specs.Alone.{is_slot_of, is_test_of, may_hold_in, slot_in};
 ghost use Rattle.ent_join.specs.Keyed.{is_class};
 
-use crate::frame::compares;
 use crate::keyed::{is_class, slot_copy, value_under};
 use ent_plan::Slot;
+use ent_select::compares;
 use ent_tree::Test;
 use ent_value::Value;
 use std::alloc::{AllocError, Global};

@@ -2,7 +2,6 @@
 ghost use Rattle.std.specs.Prelude.{◌≡◌, ◌≤◌, false, length, slice_get};
 ghost use Rattle.std.specs.List.{list_all};
 ghost use Rattle.std.specs.Option.{option_copied};
-ghost use Rattle.ent_semantics.specs.Selection.{compares};
 ghost use Rattle.ent_join.specs.Frame.{are_of_kinds, candidates_of, fits, lets_through, may_hold, slot_there};
 ghost use Rattle.ent_join.specs.Index.{candidates_in, goes_on};
 ghost use Rattle.ent_join.specs.Reason.{AreMarkedIn, IsBegun, IsFollowedFor, IsRefusedFor};
@@ -14,9 +13,9 @@ use crate::keyed::is_class;
 use crate::reason::mark;
 use crate::search::Guide;
 use ent_plan::Slot;
-use ent_tree::{Comparison, Test};
+use ent_select::compares;
+use ent_tree::Test;
 use ent_value::{Kind, Sequence, Value};
-use std::cmp::Ordering;
 
 /// Indexes of the results of sub-selects, and tests.
 #[derive(Drop)]
@@ -192,19 +191,5 @@ fn slot_there<'a>(beginning: &'a [Value], slot: &'a Slot) -> Option<&'a Value>
     match slot {
         Slot::Fixed(value) => Some(value),
         Slot::Class(number) => beginning.get(*number),
-    }
-}
-
-/// Whether values in this order compare so.
-pub(crate) fn compares(comparison: Comparison, order: Ordering) -> bool
-    ensures { result ≡ compares comparison order }
-{
-    match comparison {
-        Comparison::Equal => order.is_eq(),
-        Comparison::NotEqual => order.is_ne(),
-        Comparison::Less => order.is_lt(),
-        Comparison::LessOrEqual => order.is_le(),
-        Comparison::Greater => order.is_gt(),
-        Comparison::GreaterOrEqual => order.is_ge(),
     }
 }

@@ -7,7 +7,7 @@ ghost use Rattle.ent_protocol.specs.Finish.{IsTaken};
 ghost use Rattle.ent_protocol.specs.Job.{Job as Seen};
 ghost use Rattle.ent_protocol.specs.Member.{is_single_of};
 
-use crate::job::{goes_with, is_single_of};
+use crate::job::goes_with;
 use ent_group::{Members, Tx};
 use ent_job::Job;
 
@@ -15,7 +15,7 @@ use ent_job::Job;
 pub(crate) fn is_lent(jobs: &[Job], tx: Tx) -> bool
     ensures { result ≡ list_any (is_single_of tx) jobs.now }
 {
-    jobs.iter().any(|job| is_single_of(job, tx))
+    jobs.iter().any(|job| job.is_single_of(tx))
 }
 
 /// The index of the first job that is the same as another.

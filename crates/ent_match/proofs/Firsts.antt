@@ -3,11 +3,11 @@ use Rattle.std.proofs.Common.{◌≡◌, ℕ, zero, suc, ◌<◌, ◌≤◌, Boo
 use Rattle.std.proofs.Common.{◌∙◌, arith, inl, inr, length, true≢false}
 use Rattle.std.specs.Prelude.{Contains}
 use Rattle.ent_coordination.specs.Component.{AreJoined}
-use Rattle.ent_coordination.specs.Pool.{Posted}
+use Rattle.ent_coordination.specs.Pool.{Posted, first_tx}
 use Rattle.ent_match.specs.declared.link.Link.{Link}
 use Rattle.ent_match.specs.Links.{Closed, IsMarked, PathIn}
 use Rattle.ent_match.specs.Remainder.{At}
-use Rattle.ent_match.specs.Components.{AreLinkedBy, first_of, flipped, marked_in}
+use Rattle.ent_match.specs.Components.{AreLinkedBy, flipped, marked_in}
 
 pub some_at : (pool : List Posted) (n : ℕ) → n < length pool → (a : Posted) × At pool n a
 some_at [] n below = absurd (omega arith)
@@ -17,7 +17,7 @@ some_at (m ∷ pool) (suc n) below = let r = some_at pool n (omega arith) in (r.
 -- of statements at marked places the one at the least place is the first
 pub first_is : (marks : List Bool) (pool : List Posted) (n : ℕ) (a : Posted) → At pool n a → IsMarked marks n
     → ((p : ℕ) → IsMarked marks p → n ≤ p)
-    → first_of (marked_in marks pool) ≡ a.tx
+    → first_tx (marked_in marks pool) ≡ a.tx
 first_is [] pool n a at marked least = absurd (true≢false (sym marked))
 first_is (b ∷ marks) [] n a (below, is) marked least = absurd (omega arith)
 first_is (true ∷ marks) (m ∷ pool) zero a (below, is) marked least = ap (λ (z : Posted). z.tx) is

@@ -2,21 +2,20 @@
 use Rattle.std.proofs.Common.{◌≡◌, ℕ, zero, suc, ◌+◌, ◌<◌, ◌≤◌, Bool, true, false, not, cond, List, [], ◌∷◌}
 use Rattle.std.proofs.Common.{◌++◌}
 use Rattle.std.proofs.Common.{length, get_or, refl, sym, ◌∙◌, ap, subst, arith, inl, inr, true≢false}
-use Rattle.std.proofs.Common.{Vec, Global}
-use Rattle.std.specs.Prelude.{AllPairs, Contains, IfOk, Result, Ok, Err, ◌==◌, ◌≢◌, if◌then◌else◌}
+use Rattle.std.specs.Prelude.{Contains, ◌==◌, ◌≢◌, if◌then◌else◌}
 use Rattle.std.proofs.lemmas.Bool.{cases_lt, cases_Bool, eq-eqb, eqb-true}
 use Rattle.std.proofs.lemmas.List.Elements.{Contains-push_cases, Contains-push, Contains-append_left, Contains-get_or}
 use Rattle.std.proofs.lemmas.List.Quantifiers.{all_pairs_push}
 use Rattle.std.proofs.lemmas.Option.{slice_get_within}
 use Rattle.ent_coordination.specs.Component.{IsComponent, IsInRemainder, IsSupported}
 use Rattle.ent_coordination.specs.Component.{SetOfTransactions}
-use Rattle.ent_coordination.specs.Pool.{Posted, CanMeet, IsSafe}
+use Rattle.ent_coordination.specs.Pool.{Posted, CanMeet, IsSafe, first_tx}
 use Rattle.ent_match.specs.declared.link.Link.{Link}
 use Rattle.ent_match.specs.Fault.{IsByNumber}
 use Rattle.ent_match.specs.Links.{Closed, IsMarked, PathIn, Closes}
 use Rattle.ent_match.specs.Remainder.{At, HasOffers, IsAsked, IsStart}
 use Rattle.ent_match.specs.Components.{flipped, AreJoinsOf, marked_in, IsClassAt, AreLinkedBy, AreComponents}
-use Rattle.ent_match.specs.Components.{AscendByFirst, first_of}
+use Rattle.ent_match.specs.Components.{AscendByFirst}
 use Rattle.ent_match.proofs.Numbered.{at_place, same_member}
 use Rattle.ent_match.proofs.Firsts.{first_is, marked_before, removed_closed}
 use Rattle.ent_match.proofs.Offered.{one_place}
@@ -35,7 +34,7 @@ pub record AreListed (pool : List Posted) (joins : List Link) (removed seen : Li
   pub covers : (p : ℕ) (member : Posted) → At pool p member → IsMarked seen p → get_or removed p false ≡ false
       → (list : List Posted) × Contains lists list × Contains list member
   pub begins : (list : List Posted) → Contains lists list
-      → (p : ℕ) × (first : Posted) × (p < n) × At pool p first × (first_of list ≡ first.tx)
+      → (p : ℕ) × (first : Posted) × (p < n) × At pool p first × (first_tx list ≡ first.tx)
   pub ascending : AscendByFirst lists
 
 pub none_listed : (pool : List Posted) (joins : List Link) (removed : List Bool) → AreLinkedBy pool joins removed
@@ -99,10 +98,10 @@ module _ (pool : List Posted) (joins : List Link) (removed seen new : List Bool)
         | inr not_before ↦ omega arith
       ]
 
-  class_begins : first_of class ≡ a.tx
-  class_begins = ap first_of is_class.class_is ∙ first_is is_class.marks pool n a at is_class.here none_before
+  class_begins : first_tx class ≡ a.tx
+  class_begins = ap first_tx is_class.class_is ∙ first_is is_class.marks pool n a at is_class.here none_before
 
-  begins_before : (list : List Posted) → Contains lists list → first_of list < first_of class
+  begins_before : (list : List Posted) → Contains lists list → first_tx list < first_tx class
   begins_before list inside =
       let b = are.begins list inside in
       let p : At pool b.0 b.1 = b.3 in
@@ -111,8 +110,8 @@ module _ (pool : List Posted) (joins : List Link) (removed seen new : List Bool)
       let one : b.1.tx < a.tx =
       subst (λ (z : Posted). b.1.tx < z.tx) at.1
       (subst (λ (z : Posted). z.tx < (get_or pool n a).tx) first less) in
-      let e : first_of list ≡ b.1.tx = b.4 in
-      let f : first_of class ≡ a.tx = class_begins in
+      let e : first_tx list ≡ b.1.tx = b.4 in
+      let f : first_tx class ≡ a.tx = class_begins in
       omega arith
 
   within_new : (p : ℕ) → p < length pool → p < length seen
@@ -159,10 +158,10 @@ module _ (pool : List Posted) (joins : List Link) (removed seen new : List Bool)
               let b = are.begins list old in
               let less : b.0 < n = b.2 in
               (b.0, b.1, omega arith, b.3, b.4)
-          | inr last ↦ (n, a, omega arith, at, ap first_of (sym last) ∙ class_begins)
+          | inr last ↦ (n, a, omega arith, at, ap first_tx (sym last) ∙ class_begins)
         ];
     ascending = subst AscendByFirst (sym pushed)
-        (all_pairs_push (λ (one other : List Posted). first_of one < first_of other) lists class are.ascending
+        (all_pairs_push (λ (one other : List Posted). first_tx one < first_tx other) lists class are.ascending
         (λ k d below. begins_before (get_or lists k d) (Contains-get_or lists k d below)));
   }
 
@@ -178,16 +177,6 @@ all_listed pool joins removed seen n lists s all are =
           are.covers inside.0 member at (are.so_far inside.0 (let b = inside.1 in omega arith))
           (not_marked removed inside.0 (λ gone. s.gone inside.0 member at gone remains));
     }
-
--- lists in the order of their first transactions are different ones
-pub different : (lists : List (List Posted)) → AscendByFirst lists → AllPairs ◌≢◌ lists
-different lists ascending i j d less below =
-    λ same. let apart = ascending i j d less below in let e = ap first_of same in omega arith
-
-pub different_if : {E : Type 0} (result : Result (Vec (List Posted) Global) E)
-    → IfOk result (λ lists. AscendByFirst lists.items) → IfOk result (λ lists. AllPairs ◌≢◌ lists.items)
-different_if (Ok lists) ascending = different lists.items ascending
-different_if (Err e) ascending = tt
 
 -- ---- the remainder
 

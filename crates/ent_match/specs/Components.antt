@@ -2,7 +2,7 @@
 use Rattle.std.specs.Prelude.{◌≡◌, ◌<◌, ◌⊎◌, ℕ, Bool, true, false, List, [], ◌∷◌, length, AllPairs, Contains}
 use Rattle.std.specs.Prelude.{slice_index_or}
 use Rattle.ent_coordination.specs.Component.{IsComponent, IsInRemainder, AreJoined}
-use Rattle.ent_coordination.specs.Pool.{Posted}
+use Rattle.ent_coordination.specs.Pool.{Posted, first_tx}
 use Rattle.ent_match.specs.Fault.{IsByNumber}
 use Rattle.ent_match.specs.declared.link.Link.{Link}
 use Rattle.ent_match.specs.Links.{IsMarked, PathIn, Closed}
@@ -68,11 +68,6 @@ pub record AreComponents (pool : List Posted) (lists : List (List Posted)) : Typ
   pub covers : (member : Posted) → IsInRemainder pool member
       → (list : List Posted) × Contains lists list × Contains list member
 
--- the transaction of a list's first statement
-abbrev pub first_of : List Posted → ℕ
-first_of [] = 0
-first_of (member ∷ list) = member.tx
-
 -- the lists stand in the order of the transactions of their first statements
 abbrev pub AscendByFirst : List (List Posted) → Type 0
-AscendByFirst lists = AllPairs (λ (one other : List Posted). first_of one < first_of other) lists
+AscendByFirst lists = AllPairs (λ (one other : List Posted). first_tx one < first_tx other) lists

@@ -79,7 +79,6 @@ impl Pool {
     pub fn components(&self, alloc: Global) -> Result<Vec<Sequence<Posted>>, AllocError>
         ensures components { IfOk result (λ lists. AreComponents self.now lists.items) }
         ensures by_first { IfOk result (λ lists. AscendByFirst lists.items) }
-        ensures once { IfOk result (λ lists. AllPairs ◌≢◌ lists.items) }
     {
         let members = self.members();
         components_of(alloc, members)

@@ -1,22 +1,19 @@
-//! What comes next in submitted scripts: what a member begins, what it posted, and what its statement asks for.
+//! What comes next in submitted scripts: what a member begins, and what its statement asks for.
 //!
 //! A [`SubmittedScript`] is a script with its statements resolved, and the script of a transaction is found by its
 //! number. A caller may rely on it that [`next_of`] is what the protocol says comes next, closed under what the member
-//! bound; that [`next_form`], which takes no memory, asks for the same uses; and that [`posted_statements`] are the posted
-//! statements of a state with these scripts and members.
+//! bound; and that [`next_form`], which takes no memory, asks for the same uses.
 #![tactic(auto)]
 
 mod first_asked;
 mod form;
 mod next;
 mod numbered;
-mod posted;
 mod submitted;
 mod turn;
 
 pub use form::next_form;
 pub use next::{Next, next_of};
 pub use numbered::{script_of, with_number};
-pub use posted::posted_statements;
 pub use submitted::SubmittedScript;
 pub use turn::{Turn, turn_of};

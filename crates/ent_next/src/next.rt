@@ -1,10 +1,9 @@
 //! What a member does next.
-ghost use Rattle.std.specs.Prelude.{◌≡◌, Some, IfOk, IfSome, IsOk};
-ghost use Rattle.std.specs.Arc.{arc_value};
+ghost use Rattle.std.specs.Prelude.{◌≡◌, Some, IfOk, IsOk};
 ghost use Rattle.ent_semantics.specs.Serial.{numbered};
 ghost use Rattle.ent_closed.specs.Closing.{closed};
 ghost use Rattle.ent_closing.specs.Environment.{environment_of};
-ghost use Rattle.ent_protocol.specs.Member.{Asks, Commits, RollsBack, end_next, next_in, statement_next};
+ghost use Rattle.ent_protocol.specs.Member.{Commits, RollsBack, end_next, next_in, statement_next};
 ghost use Rattle.ent_next.specs.Next.{next_seen};
 
 use crate::numbered::{script_of, with_number};
@@ -97,19 +96,5 @@ pub fn next_of(
     match script_of(submitted, member.tx()) {
         Some(own) => next_in(alloc, own, member),
         None => Ok(Next::RollsBack),
-    }
-}
-
-/// The statement that a member asks for next, where that was closed when its script was submitted.
-pub(crate) fn kept_next<'a>(
-    submitted: &'a [SubmittedScript],
-    member: &Member,
-) -> Option<&'a Arc<Entangled<Value>>>
-    ensures { IfSome result (λ asked.
-        next_in (numbered submitted.now member.now.tx) member.now ≡ Asks (arc_value asked.now)) }
-{
-    match script_of(submitted, member.tx()) {
-        Some(own) => own.asked_at(member.place(), member.environment()),
-        None => None,
     }
 }

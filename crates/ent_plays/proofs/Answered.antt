@@ -4,24 +4,23 @@ use Rattle.std.proofs.Common.{refl, sym, ap, subst, ◌∙◌, arith, rules, inl
 use Rattle.std.specs.Prelude.{Contains, nat_le, ◌==◌, if◌then◌else◌}
 use Rattle.std.specs.List.{list_all}
 use Rattle.ent_coordination.specs.Component.{IsComponent, IsInRemainder, AreJoined}
-use Rattle.ent_coordination.specs.Choice.{IsLeastChoice}
-use Rattle.ent_coordination.specs.Pool.{Posted}
+use Rattle.ent_coordination.specs.Pool.{Posted, first_tx}
 use Rattle.ent_protocol.specs.Event.{Reply}
 use Rattle.ent_protocol.specs.Event as replies
 use Rattle.ent_protocol.specs.Finish.{IsOutstandingSingle, IsTaken}
 use Rattle.ent_protocol.specs.Job.{Job, One, Joint, Single, Done}
 use Rattle.ent_protocol.specs.Member.{pool}
-use Rattle.ent_protocol.specs.PoolEvents.{joining, joint_job, first_tx, CanBePicked, IsOut, IsOutstandingJoint}
+use Rattle.ent_protocol.specs.PoolEvents.{joining, joint_job, CanBePicked, IsOut, IsOutstandingJoint}
 use Rattle.ent_protocol.specs.PoolEvents.{IsPresentComponent, Lends, Joins}
 use Rattle.ent_lists.specs.Elements.{in_contains}
 use Rattle.ent_protocol.specs.PostedBy.{is_present}
 use Rattle.ent_protocol.specs.State.{State}
 use Rattle.ent_plays.specs.Wish.{Friend, posted, joint_done}
 use Rattle.ent_plays.specs.Wish as wishes
-use Rattle.ent_plays.proofs.Choice.{seen, taken, least_taken, have_partners}
+use Rattle.ent_plays.proofs.Choice.{taken, least_taken, have_partners}
 use Rattle.ent_plays.proofs.Component.{chosen, are_served, are_closed, joined, ascends, component, remains, linked_on}
 use Rattle.ent_plays.proofs.Component.{joined_by}
-use Rattle.ent_plays.proofs.Listed.{none_there, by_first, image_of, image_there, filtered_of, all_where, each_passes}
+use Rattle.ent_plays.proofs.Listed.{none_there, by_first, image_of, image_there, filtered_of, each_passes}
 
 pub at_most : (n m : ℕ) → nat_le n m ≡ true → n ≤ m
 at_most n m h = grind (arith, rules)

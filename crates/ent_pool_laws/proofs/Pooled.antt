@@ -1,7 +1,8 @@
 -- What events do to the pool.
 use Rattle.std.proofs.Common.{◌≡◌, ◌⊎◌, inl, inr, ℕ, suc, ◌≤◌, ◌<◌, Bool, true, false, cond, not, ◌==◌, ◌||◌, List, [], ◌∷◌}
-use Rattle.std.proofs.Common.{◌++◌, map, length, refl, sym, ap, subst, ◌∙◌, arith, rules, Option, Some, None, flat_map, slice_get, zero, AllPairs, Contains}
+use Rattle.std.proofs.Common.{◌++◌, map, length, refl, sym, ap, subst, ◌∙◌, arith, rules, Option, flat_map, slice_get, zero, AllPairs, Contains}
 use Rattle.std.specs.List.{AllByRecursion, filter, list_any}
+use Rattle.ent_standing.proofs.ByNumber.{pool_ascends, posted_tx}
 use Rattle.ent_value.specs.declared.value.Value.{Value}
 use Rattle.ent_tree.specs.declared.script.Script.{Script}
 use Rattle.ent_semantics.specs.Entangled.{Valuation}
@@ -10,20 +11,18 @@ use Rattle.ent_closed.specs.declared.entangled.Entangled.{Entangled}
 use Rattle.ent_closed.specs.declared.operand.Known.{Known}
 use Rattle.ent_closed.specs.declared.statement.Statement.{Statement}
 use Rattle.ent_coordination.specs.Pool.{Posted}
-use Rattle.ent_lists.specs.Elements.{In, Pairs, clash, of_all, to_all, of_map, to_map, of_filter, to_filter, in_flat}
-use Rattle.ent_lists.specs.Elements.{contains_in, filter_empty, filter_joined, filter_same, filter_whole, in_contains, index_pairs, same_number, number_itself, turned, pairs_joined, pairs_mapped, pairs_short}
+use Rattle.ent_lists.specs.Elements.{In, Pairs, clash, of_all, of_map, to_map}
+use Rattle.ent_lists.specs.Elements.{contains_in, filter_empty, filter_joined, filter_same, filter_whole, in_contains, index_pairs, same_number, number_itself, pairs_mapped}
 use Rattle.ent_protocol.specs.Begin.{holding, posting, replaced, with_member}
-use Rattle.ent_protocol.specs.Member.{Asks, Commits, Next, Ordinary, RollsBack, is_tx, next_in, next_of, pool, posted_by}
+use Rattle.ent_protocol.specs.Member.{Asks, Commits, Next, Ordinary, RollsBack, is_tx, next_in, next_of, pool, posted_by, posted_as}
 use Rattle.ent_protocol.specs.PoolEvents.{answered_among, answered_by, answered_groups, in_joined_group, joining}
 use Rattle.ent_protocol.specs.PostedBy.{IsPostedBy, in_pool, is_posted_by, next_same, posted_next, to_pool}
-use Rattle.ent_protocol.specs.Rollback.{Cause, is_among, taken_out}
-use Rattle.ent_protocol.specs.Run.{ending, submitting}
+use Rattle.ent_protocol.specs.Run.{submitting}
 use Rattle.ent_protocol.specs.State.{State, Submitted, Member, members}
 use Rattle.ent_protocol.specs.Uses.{entangled_uses}
 use Rattle.ent_match.specs.Posting.{Adds}
-use Rattle.ent_standing.specs.Numbered.{below_apart, one_of}
-use Rattle.ent_steps.proofs.Picked.{ascend_alike}
-use Rattle.ent_pool_laws.specs.Pooled.{is_of_none, posted_as}
+use Rattle.ent_standing.specs.Numbered.{below_apart, one_of, same_lists}
+use Rattle.ent_pool_laws.specs.Pooled.{is_of_none}
 
 -- ---- lists of lists
 
@@ -228,33 +227,6 @@ submitted_more s script form within =
         ap (λ (own : Option Submitted). next_in own m)
         (numbered_before s.submitted (record { script = script; form = form }) m.tx low)
 
--- ---- the pool stands by number
-
-abbrev Below : Posted → Posted → Type 0
-Below one other = one.tx < other.tx
-
-at_most_one : (s : State) (m : Member) → length (posted_by s m) ≤ 1
-at_most_one s m = subst (λ xs. length xs ≤ 1) (sym (posted_is s m)) (short m.posted (next_of s m))
-  where
-    short : (b : Bool) (n : Next) → length (asked_as b m.tx m.attempt m.place n) ≤ 1
-    short true (Asks statement) = omega arith
-    short true (Ordinary statement) = omega arith
-    short true Commits = omega arith
-    short true RollsBack = omega arith
-    short false n = omega arith
-
-pool_ascends : (s : State) (ms : List Member) → Pairs (λ (one other : Member). one.tx < other.tx) ms
-    → Pairs (λ (one other : Posted). one.tx < other.tx) (flat_map (posted_by s) ms)
-pool_ascends s [] ascend = tt
-pool_ascends s (m ∷ ms) ascend =
-    pairs_joined Below (posted_by s m) (flat_map (posted_by s) ms)
-    (pairs_short Below (posted_by s m) (at_most_one s m)) (pool_ascends s ms ascend.1) (λ a b at bt.
-    let own : a.tx ≡ m.tx = ap (λ (x : Posted). x.tx) (is_posted_by s m a at).is in
-    let r = in_flat (posted_by s) ms b bt in
-    let other : b.tx ≡ r.0.tx = ap (λ (x : Posted). x.tx) (is_posted_by s r.0 b r.2).is in
-    let low : m.tx < r.0.tx = of_all (λ (other : Member). m.tx < other.tx) ms r.0 ascend.0 r.1 in
-    omega (arith, own, other, low))
-
 -- ---- a statement is posted
 
 module _ (s : State) (m : Member) (statement : Entangled Value) (at : In m s.active) (off : m.posted ≡ false)
@@ -322,7 +294,7 @@ module _ (s : State) (m : Member) (statement : Entangled Value) (at : In m s.act
       → ((x : Posted) → In x posted → In x (pool s) ⊎ (x ≡ query))
       → ((x : Posted) → In x (pool s) ⊎ (x ≡ query) → In x posted) → pool new ≡ posted
   posted_more posted by_number of_posted to_posted =
-      ascend_alike (pool new) posted (pool_ascends new new.active new_ascends) by_number
+      same_lists posted_tx (pool new) posted (pool_ascends new new.active new_ascends) by_number
       (λ x there. to_posted x (of_new x there)) (λ x there. to_new x (of_posted x there))
     where
       kept_tx : (x : Member) (b : Bool) → (x.tx == own.tx) ≡ b → (cond b own x).tx ≡ x.tx

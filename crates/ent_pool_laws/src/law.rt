@@ -11,12 +11,12 @@ ghost use Rattle.ent_coordination.specs.Pool.{Posted};
 ghost use Rattle.ent_match.specs.Fault.{IsByNumber};
 ghost use Rattle.ent_match.specs.Posting.{Adds};
 ghost use Rattle.ent_protocol.specs.Begin.{posting, with_member};
-ghost use Rattle.ent_protocol.specs.Member.{Asks, is_tx, next_of, pool};
+ghost use Rattle.ent_protocol.specs.Member.{Asks, is_tx, next_of, pool, posted_as};
 ghost use Rattle.ent_protocol.specs.PoolEvents.{joining};
 ghost use Rattle.ent_protocol.specs.Rollback.{Cause, is_among, taken_out};
 ghost use Rattle.ent_protocol.specs.Run.{submitting};
 ghost use Rattle.ent_protocol.specs.State.{Member, State};
-ghost use Rattle.ent_pool_laws.specs.Pooled.{is_of_none, posted_as};
+ghost use Rattle.ent_pool_laws.specs.Pooled.{is_of_none};
 
 /// A member that posts its statement: the pool has that statement more, and stands by number.
 pub fn posting_adds_a_statement()

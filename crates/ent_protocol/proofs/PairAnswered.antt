@@ -1,14 +1,14 @@
 -- Two who ask for each other are picked, and answered together.
-use Rattle.std.proofs.Common.{◌≡◌, ◌⊎◌, inl, inr, ℕ, zero, suc, ◌<◌, ◌≤◌, List, [], ◌∷◌, ◌++◌, map, refl}
+use Rattle.std.proofs.Common.{◌≡◌, ◌⊎◌, inl, inr, ℕ, zero, ◌<◌, ◌≤◌, List, [], ◌∷◌, ◌++◌, refl}
 use Rattle.std.proofs.Common.{sym, ap, subst, arith, Some}
-use Rattle.std.specs.Prelude.{All, Contains}
+use Rattle.std.specs.Prelude.{Contains}
 use Rattle.ent_coordination.specs.Component.{IsComponent}
-use Rattle.ent_coordination.specs.Pool.{Posted}
+use Rattle.ent_coordination.specs.Pool.{Posted, first_tx}
 use Rattle.ent_protocol.specs.Event.{Reply}
 use Rattle.ent_protocol.specs.Event as events
 use Rattle.ent_protocol.specs.Member.{pool}
 use Rattle.ent_protocol.specs.Partners.{Mickey, Minnie, query, pair, pair_job, pair_done}
-use Rattle.ent_protocol.specs.PoolEvents.{joining, joint_job, first_tx, CanBePicked, IsPresentComponent, Lends, Joins}
+use Rattle.ent_protocol.specs.PoolEvents.{joining, joint_job, CanBePicked, IsPresentComponent, Lends, Joins}
 use Rattle.ent_lists.specs.Elements.{in_contains}
 use Rattle.ent_protocol.specs.PostedBy.{is_present}
 use Rattle.ent_protocol.specs.State.{State}

@@ -11,7 +11,7 @@ use Rattle.ent_protocol.specs.Commit.{preparing, is_ready, committing, committin
 use Rattle.ent_protocol.specs.Event.{Reply}
 use Rattle.ent_protocol.specs.Event as replies
 use Rattle.ent_protocol.specs.Job.{Job, One}
-use Rattle.ent_protocol.specs.Member.{Next, Ordinary, Asks, Commits, RollsBack, next_of, is_prepared, is_lent}
+use Rattle.ent_protocol.specs.Member.{Next, Ordinary, Asks, Commits, RollsBack, next_of, is_prepared, is_lent, posted_as}
 use Rattle.ent_protocol.specs.Member.{active_member, pool, seen_now}
 use Rattle.ent_protocol.specs.Rollback.{Asked, rolled_back, group_numbers}
 use Rattle.ent_protocol.specs.State.{State, Member, Use, inserted}
@@ -69,8 +69,7 @@ posting s member statement =
 -- the pool with one statement more
 abbrev pub pool_with : State → Member → Entangled Value → List Posted
 pool_with s member statement =
-    pool s
-    ++ record { tx = member.tx; attempt = member.attempt; place = member.place; statement = statement } ∷ []
+    pool s ++ posted_as member statement ∷ []
 
 module _ {F : Type 0} where
   -- a reply, and the state as it was

@@ -67,13 +67,17 @@ is_prepared s tx = list_any (is_tx tx) s.prepared
 
 -- ---- the pool
 
+-- a member's statement as it is posted
+abbrev pub posted_as : Member → Entangled Value → Posted
+posted_as member statement =
+    record { tx = member.tx; attempt = member.attempt; place = member.place; statement = statement }
+
 -- a posted member's statement
 abbrev pub posted_by : State → Member → List Posted
 posted_by s member = asked member.posted (next_of s member)
   where
     asked : Bool → Next → List Posted
-    asked true (Asks statement) =
-        record { tx = member.tx; attempt = member.attempt; place = member.place; statement = statement } ∷ []
+    asked true (Asks statement) = posted_as member statement ∷ []
     asked posted next = []
 
 abbrev pub pool : State → List Posted

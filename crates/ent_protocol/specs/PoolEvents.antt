@@ -1,5 +1,5 @@
 -- Components are picked, answered together, or left without a choice.
-use Rattle.std.specs.Prelude.{◌≡◌, ◌⊎◌, ◌≤◌, ℕ, ◌==◌, List, [], ◌∷◌, ◌++◌, map, Contains, All}
+use Rattle.std.specs.Prelude.{◌≡◌, ◌⊎◌, ◌≤◌, ℕ, ◌==◌, List, [], ◌∷◌, ◌++◌, map, Contains}
 use Rattle.std.specs.Prelude.{Option, Some, None, if◌then◌else◌}
 use Rattle.std.specs.List.{flat_map, list_any, filter}
 use Rattle.ent_semantics.specs.declared.answer.Answer.TheVariants as answers
@@ -8,7 +8,7 @@ use Rattle.ent_semantics.specs.declared.book.Member.{Member as JointMember}
 use Rattle.ent_semantics.specs.Entangled.{Valuation}
 use Rattle.ent_closed.specs.Form.{form_heads, form_bound}
 use Rattle.ent_coordination.specs.Component.{IsComponent}
-use Rattle.ent_coordination.specs.Pool.{Posted}
+use Rattle.ent_coordination.specs.Pool.{Posted, first_tx}
 use Rattle.ent_protocol.specs.Begin.{Refuses}
 use Rattle.ent_protocol.specs.Event.{Reply}
 use Rattle.ent_protocol.specs.Event as replies
@@ -34,11 +34,6 @@ pub record CanBePicked (s : State) (asked : List Posted) : Type 0 where
   pub component : IsPresentComponent s asked
   pub untried : Contains s.tried asked → ⊥
   pub not_out : IsOut s asked → ⊥
-
--- the number of the first of them
-abbrev pub first_tx : List Posted → ℕ
-first_tx [] = 0
-first_tx (query ∷ more) = query.tx
 
 -- the uses of some statements, by table, each once
 abbrev pub joint_uses : List Posted → List Use

@@ -1,5 +1,5 @@
 -- Whose a statement in the pool is: the member that posted it, and what comes next in its script.
-use Rattle.std.proofs.Common.{◌≡◌, ℕ, zero, suc, Contains, Option, Some, None, Bool, true, false, List, [], ◌∷◌}
+use Rattle.std.proofs.Common.{◌≡◌, ℕ, zero, suc, Option, Some, None, Bool, true, false, List, [], ◌∷◌}
 use Rattle.std.proofs.Common.{refl, sym, ap, subst, ◌∙◌, inl, inr}
 use Rattle.ent_tree.specs.declared.script.Script.{Script}
 use Rattle.ent_semantics.specs.Serial.{numbered}
@@ -9,7 +9,7 @@ use Rattle.ent_closed.specs.declared.statement.Statement.{Statement}
 use Rattle.ent_coordination.specs.Component.{IsComponent}
 use Rattle.ent_coordination.specs.Pool.{Posted}
 use Rattle.ent_lists.specs.Elements.{In, contains_in, in_contains, in_flat, to_flat}
-use Rattle.ent_protocol.specs.Member.{Next, Ordinary, Asks, Commits, RollsBack, next_in, next_of, pool, posted_by}
+use Rattle.ent_protocol.specs.Member.{Next, Ordinary, Asks, Commits, RollsBack, next_in, next_of, pool, posted_as, posted_by}
 use Rattle.ent_protocol.specs.Member.{environment_of, statement_next}
 use Rattle.ent_protocol.specs.State.{State, Submitted, Member}
 
@@ -41,7 +41,7 @@ next_same (Some own) one other place bound =
 pub record IsPostedBy (s : State) (m : Member) (query : Posted) : Type 0 where
   pub posted : m.posted ≡ true
   pub next : next_of s m ≡ Asks query.statement
-  pub is : query ≡ record { tx = m.tx; attempt = m.attempt; place = m.place; statement = query.statement }
+  pub is : query ≡ posted_as m query.statement
 
 pub posted_next : (s : State) (m : Member) → m.posted ≡ true
     → next_in (numbered s.submitted m.tx) (record m { posted = true }) ≡ next_of s m
@@ -52,7 +52,7 @@ is_posted_by s m query at = by m.posted refl (next_of s m) refl
   where
     by : (b : Bool) → m.posted ≡ b → (n : Next) → next_of s m ≡ n → IsPostedBy s m query
     by true posted (Asks statement) next =
-        let h : In query (record { tx = m.tx; attempt = m.attempt; place = m.place; statement = statement } ∷ []) =
+        let h : In query (posted_as m statement ∷ []) =
         rw (posted, posted_next s m posted ∙ next) at at in
         elim h [
           | inl same ↦
@@ -60,12 +60,7 @@ is_posted_by s m query at = by m.posted refl (next_of s m) refl
                 posted = posted;
                 next = next ∙ ap (λ (x : Posted). Asks x.statement) (sym same);
                 is = same
-                    ∙ ap (λ (x : Posted). record {
-                      tx = m.tx;
-                      attempt = m.attempt;
-                      place = m.place;
-                      statement = x.statement;
-                    }) (sym same);
+                    ∙ ap (λ (x : Posted). posted_as m x.statement) (sym same);
               }
           | inr bad ↦ absurd bad
         ]
@@ -77,7 +72,7 @@ is_posted_by s m query at = by m.posted refl (next_of s m) refl
 
 pub has_posted : (s : State) (m : Member) (query : Posted) → IsPostedBy s m query → In query (posted_by s m)
 has_posted s m query is =
-    let own : Posted = record { tx = m.tx; attempt = m.attempt; place = m.place; statement = query.statement } in
+    let own = posted_as m query.statement in
     let here : In own (posted_by s m) = rw (is.posted, posted_next s m is.posted ∙ is.next) (inl refl) in
     subst (λ (x : Posted). In x (posted_by s m)) (sym is.is) here
 

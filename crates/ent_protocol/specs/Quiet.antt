@@ -2,11 +2,11 @@
 use Rattle.std.specs.Prelude.{◌≡◌, ◌⊎◌, ◌≤◌, ℕ, ◌||◌, true, false, List, Contains, Option, Some, None}
 use Rattle.ent_value.specs.declared.value.Value.{Value}
 use Rattle.ent_closed.specs.declared.entangled.Entangled.{Entangled}
-use Rattle.ent_coordination.specs.Pool.{IsSafe, Posted}
+use Rattle.ent_coordination.specs.Pool.{IsSafe, Posted, first_tx}
 use Rattle.ent_protocol.specs.Begin.{pool_with}
 use Rattle.ent_protocol.specs.Event.{Reason, JobOut, CanBegin, Untried, Cycle}
 use Rattle.ent_protocol.specs.Member.{Next, Ordinary, Asks, Commits, RollsBack, next_of, is_lent}
-use Rattle.ent_protocol.specs.PoolEvents.{IsPresentComponent, IsOut, first_tx}
+use Rattle.ent_protocol.specs.PoolEvents.{IsPresentComponent, IsOut}
 use Rattle.ent_protocol.specs.State.{State, Member}
 use Rattle.ent_protocol.specs.Uses.{statement_uses, entangled_uses, blocker}
 use Rattle.ent_protocol.specs.Waits.{IsDeadlock, NoDeadlock}

@@ -14,13 +14,12 @@ use Rattle.ent_protocol.specs.Begin.{pool_with}
 use Rattle.ent_coordination.specs.Pool.{Posted, CanMeet, IsFirstUnsafe, IsSafe, IsUnsafeAt, Unsafe}
 use Rattle.ent_match.specs.Fault.{IsByNumber}
 use Rattle.ent_match.specs.Posting.{HasNone}
-use Rattle.ent_protocol.specs.Member.{Next, Ordinary, Asks, Commits, RollsBack, posted_by, next_in, next_of, pool}
+use Rattle.ent_protocol.specs.Member.{Asks, pool, posted_as}
 use Rattle.ent_lists.specs.Elements.{contains_in, in_contains}
 use Rattle.ent_protocol.specs.PostedBy.{in_pool}
 use Rattle.ent_protocol.specs.State.{State, Member}
-use Rattle.ent_semantics.specs.Serial.{numbered}
 use Rattle.ent_quiet.specs.Movers.{IsNotAsking, OnlyPostedAsk}
-use Rattle.ent_quiet.proofs.Smallest.{contains_cases, contains_none}
+use Rattle.ent_quiet.proofs.Smallest.{contains_none}
 
 -- ---- lists by ascending numbers
 
@@ -130,7 +129,7 @@ fault_tells posted query ascends none (Some fault) false is first = (
 -- the pool of a state with a member's statement
 pub pool_is : (s : State) (posted : List Posted) (query : Posted) (member : Member) (statement : Entangled Value)
     → pool s ≡ posted
-    → query ≡ record { tx = member.tx; attempt = member.attempt; place = member.place; statement = statement }
+    → query ≡ posted_as member statement
     → posted ++ query ∷ [] ≡ pool_with s member statement
 pool_is s posted query member statement same is = λ i. sym same i ++ is i ∷ []
 

@@ -1,8 +1,9 @@
 -- Why a run can't end yet.
-use Rattle.std.proofs.Common.{◌≡◌, ℕ, List, Option, Some, None, sym, subst}
+use Rattle.std.proofs.Common.{◌≡◌, ℕ, List, Option, Some, None, subst}
 use Rattle.std.specs.Prelude.{MatchOption}
 use Rattle.ent_coordination.specs.Pool.{IsSafe, Posted}
 use Rattle.ent_match.specs.Fault.{IsByNumber}
+use Rattle.ent_pool_laws.specs.Pooled.{IsPoolOf}
 use Rattle.ent_protocol.specs.Member.{pool}
 use Rattle.ent_protocol.specs.Quiet.{CanMove, IsLeast, NoneIs}
 use Rattle.ent_protocol.specs.State.{State, Member, Submitted}
@@ -13,14 +14,11 @@ use Rattle.ent_quiet.proofs.Moving.{can_move, has_mover}
 use Rattle.ent_quiet.proofs.Posting.{only_posted_ask}
 use Rattle.ent_quiet.proofs.Smallest.{least_same}
 
--- what is posted in a state with these scripts and members
-abbrev pub ArePosted : List Submitted → List Member → List Posted → Type 0
-ArePosted submitted active posted = (s : State) → s.submitted ≡ submitted → s.active ≡ active → posted ≡ pool s
-
-module _ (submitted : List Submitted) (active : List Member) (posted : List Posted) (order : AreInOrder submitted active)
-    (are : ArePosted submitted active posted) where
+module _ (submitted : List Submitted) (active : List Member) (posted : List Posted) (order : AreInOrder submitted
+    active)
+    (are : IsPoolOf submitted active posted) where
   same : pool order.state ≡ posted
-  same = sym (are order.state order.of_submitted order.of_active)
+  same = are order.state order.of_submitted order.of_active
 
   pub in_order : IsByNumber posted
   in_order = subst (λ (asked : List Posted). IsByNumber asked) same order.posted

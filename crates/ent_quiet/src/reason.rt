@@ -1,5 +1,6 @@
 //! Why a run can't end yet.
 ghost use Rattle.std.specs.Prelude.{◌≡◌, IfOk};
+ghost use Rattle.ent_pool_laws.specs.Pooled.{IsPoolOf};
 ghost use Rattle.ent_protocol.specs.State.{State};
 ghost use Rattle.ent_quiet.specs.Quiet.{AreInOrder, IsReasonIfAny, state_of};
 
@@ -10,7 +11,7 @@ use ent_group::{Members, Tx};
 use ent_job::Job;
 use ent_match::Posted;
 use ent_members::Run;
-use ent_next::{SubmittedScript, posted_statements};
+use ent_next::SubmittedScript;
 use ent_value::Sequence;
 use ent_waits::deadlock;
 use std::alloc::{AllocError, Global};
@@ -28,29 +29,29 @@ pub enum Reason {
     Cycle(Members),
 }
 
-/// Why the run can't end yet; no reason where it may. The members that aren't prepared have to stand by number, as do
-/// their posted statements, in a safe pool.
+/// Why the run can't end yet, with what its members posted; no reason where it may. The members that aren't prepared
+/// have to stand by number, as do their posted statements, in a safe pool.
 pub fn reason_of(
     alloc: Global,
     run: &Run,
     submitted: &[SubmittedScript],
+    posted: &[Posted],
     tried: &[Sequence<Posted>],
     lent: &[Job],
 ) -> Result<Option<Reason>, AllocError>
+    requires posted { IsPoolOf submitted.now run.now.active posted.now }
     requires order { AreInOrder submitted.now run.now.active }
     ensures { IfOk result (λ reason. (s : State)
         → IsReasonIfAny (state_of run.now submitted.now tried.now lent.now s) reason) }
 {
     let active = run.active();
-    let posted = posted_statements(alloc, submitted, active)?;
-    let pool = posted.as_slice();
-    if let Some(tx) = job_out(alloc, pool, lent)? {
+    if let Some(tx) = job_out(alloc, posted, lent)? {
         return Ok(Some(Reason::JobOut(tx)));
     }
-    if let Some(tx) = least_mover(alloc, run, submitted, lent, pool, active)? {
+    if let Some(tx) = least_mover(alloc, run, submitted, lent, posted, active)? {
         return Ok(Some(Reason::CanBegin(tx)));
     }
-    if let Some(tx) = first_untried(alloc, pool, tried)? {
+    if let Some(tx) = first_untried(alloc, posted, tried)? {
         return Ok(Some(Reason::Untried(tx)));
     }
     match deadlock(run, submitted, lent) {

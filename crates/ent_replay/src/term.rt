@@ -2,14 +2,14 @@
 ghost use Rattle.std.specs.Prelude.{◌≡◌, IfOk, map};
 ghost use Rattle.ent_closed.specs.Form.{term_worth};
 ghost use Rattle.ent_select.specs.Worth.{itself};
-ghost use Rattle.ent_semantics.specs.Selection.{compares, holds};
+ghost use Rattle.ent_semantics.specs.Selection.{holds};
 ghost use Rattle.ent_semantics.specs.Term.{no_value};
 
 use ent_closed::Term;
-use ent_tree::{Comparison, MOST_PARTS, Test};
+use ent_select::compares;
+use ent_tree::{MOST_PARTS, Test};
 use ent_value::{Limited, Row, Value};
 use std::alloc::{AllocError, Global};
-use std::cmp::Ordering;
 
 /// The value of a term under a grounding; a variable that has none stands for `none`.
 pub(crate) fn term_value<'a>(
@@ -40,20 +40,6 @@ pub(crate) fn terms_row(
         values.push(term_value(grounding, term, &none).copy(alloc)?)?;
     }
     Ok(Row::from_vec(values))
-}
-
-/// Whether two values in this order compare so.
-fn compares(comparison: Comparison, order: Ordering) -> bool
-    ensures { result ≡ compares comparison order }
-{
-    match comparison {
-        Comparison::Equal => order.is_eq(),
-        Comparison::NotEqual => order.is_ne(),
-        Comparison::Less => order.is_lt(),
-        Comparison::LessOrEqual => order.is_le(),
-        Comparison::Greater => order.is_gt(),
-        Comparison::GreaterOrEqual => order.is_ge(),
-    }
 }
 
 /// Whether a test between terms is true under a grounding.

@@ -22,7 +22,3 @@ SameBut tx old new = (n : ℕ) → n ≢ tx → under new n ≡ under old n
 -- a value stands under a number, where nothing stood there
 abbrev pub IsFilled : {A : Type 0} → A → ℕ → List (Option A) → List (Option A) → Type 0
 IsFilled value tx old new = (under new tx ≡ Some (unwrap_or (under old tx) value)) × SameBut tx old new
-
--- nothing stands under a number
-abbrev pub IsEmptied : {A : Type 0} → ℕ → List (Option A) → List (Option A) → Type 0
-IsEmptied tx old new = (under new tx ≡ None) × SameBut tx old new

@@ -1,11 +1,10 @@
 //! What is kept under the numbers of transactions, from 1.
-ghost use Rattle.std.specs.Prelude.{◌≡◌, ◌≤◌, drop, length, map, nat_eq};
-ghost use Rattle.std.specs.List.{IsDistinct};
+ghost use Rattle.std.specs.Prelude.{◌≡◌, ◌≤◌, is_some, length};
+ghost use Rattle.std.specs.List.{list_all};
 ghost use Rattle.std.specs.Option.{option_copied};
-ghost use Rattle.ent_roster.specs.ByNumber.{IsEmptied, IsFilled, ShowsFirst, under};
+ghost use Rattle.ent_roster.specs.ByNumber.{IsFilled, under};
 
 use ent_group::Tx;
-use ent_members::Entrant;
 
 /// What stands under a number.
 pub(crate) fn under<T>(slots: &[Option<T>], tx: Tx) -> Option<&T>
@@ -20,6 +19,13 @@ pub(crate) fn under<T>(slots: &[Option<T>], tx: Tx) -> Option<&T>
     }
 }
 
+/// Whether something stands under each of these numbers.
+pub(crate) fn are_under<T>(slots: &[Option<T>], numbers: &[Tx]) -> bool
+    ensures { result ≡ list_all (λ tx. is_some (under slots.now tx)) numbers.now }
+{
+    numbers.iter().all(|tx| under(slots, *tx).is_some())
+}
+
 /// Puts it under this number, unless something stands there.
 pub(crate) fn fill<T: Copy>(slots: &mut [Option<T>], tx: Tx, value: T)
     requires first { 1 ≤ tx }
@@ -30,28 +36,5 @@ pub(crate) fn fill<T: Copy>(slots: &mut [Option<T>], tx: Tx, value: T)
     let place = (tx - 1) as usize;
     if slots[place].is_none() {
         slots[place] = Some(value);
-    }
-}
-
-/// Leaves nothing under this number.
-fn empty<T: Copy>(slots: &mut [Option<T>], tx: Tx)
-    requires first { 1 ≤ tx }
-    requires last { tx ≤ length slots.old }
-    ensures emptied { IsEmptied tx slots.old slots.new }
-    ensures same { length slots.new ≡ length slots.old }
-{
-    slots[(tx - 1) as usize] = None;
-}
-
-/// The first of those who wait, as many as are told, stand under their numbers no more.
-pub(crate) fn forget_first(slots: &mut [Option<Entrant>], dormant: &[Entrant], count: usize)
-    requires count { count ≤ length dormant.now }
-    requires distinct { IsDistinct nat_eq (map (λ own. own.tx) dormant.now) }
-    requires shown { ShowsFirst (λ own. own.tx) dormant.now slots.old }
-    ensures shown { ShowsFirst (λ own. own.tx) (drop count dormant.now) slots.new }
-    ensures same { length slots.new ≡ length slots.old }
-{
-    for place in 0..count {
-        empty(slots, dormant[place].tx());
     }
 }

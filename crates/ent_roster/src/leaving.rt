@@ -1,17 +1,41 @@
-//! Those who leave a run go to the end of one list or the other.
-ghost use Rattle.std.specs.Prelude.{◌≡◌, ◌+◌, ◌≤◌, ◌<◌, ◌^◌, ◌++◌, length};
-ghost use Rattle.std.specs.List.{AllByRecursion, filter_map};
+//! Those who leave a run get their fates, or go to the end of those who wait.
+ghost use Rattle.std.specs.Prelude.{◌≡◌, ◌+◌, ◌≤◌, ◌<◌, ◌^◌, ◌++◌, ◌∷◌, [], length, map, nat_eq};
+ghost use Rattle.std.specs.List.{AllByRecursion, IsDistinct, filter_map};
+ghost use Rattle.ent_members.specs.Leavers.{numbers_in};
 ghost use Rattle.ent_protocol.specs.Commit.{commit_fates};
 ghost use Rattle.ent_protocol.specs.Rollback.{dormant_by, fated_by};
 ghost use Rattle.ent_roster.specs.ByNumber.{IsNumbered};
 ghost use Rattle.ent_roster.specs.Cause.{cause_seen};
 ghost use Rattle.ent_roster.specs.Leaving.{IsWithin, as_member};
+ghost use Rattle.ent_roster.specs.Roster.{IsAway};
 
 use crate::cause::{Cause, fate_of};
 use crate::roster::Roster;
 use ent_members::{Entrant, Leaver, Member};
 use ent_next::SubmittedScript;
 use ent_semantics::{Fate, Fated};
+
+/// One who leaves gets its fate, or goes to the end of the dormant list.
+fn leave_one(roster: &mut Roster, leaver: Leaver, submitted: &[SubmittedScript], cause: Cause)
+    requires room { length roster.old.dormant + length roster.old.fates < roster.old.known }
+    requires away { IsAway leaver.tx roster.old }
+    requires within { IsWithin submitted.now leaver }
+    ensures dormant { roster.new.dormant ≡ roster.old.dormant
+        ++ filter_map (λ leaver. dormant_by submitted.now (cause_seen cause) (as_member leaver)) (leaver ∷ []) }
+    ensures fates { roster.new.fates ≡ roster.old.fates
+        ++ filter_map (λ leaver. fated_by submitted.now (cause_seen cause) (as_member leaver)) (leaver ∷ []) }
+    ensures known { roster.new.known ≡ roster.old.known }
+    ensures room { length roster.new.dormant + length roster.new.fates
+        ≤ length roster.old.dormant + length roster.old.fates + 1 }
+{
+    match fate_of(submitted, cause, leaver) {
+        Some(fate) => roster.finish(Fated {
+            tx: leaver.tx,
+            fate,
+        }),
+        None => roster.go_back(Entrant::new(leaver.tx, leaver.attempt)),
+    }
+}
 
 /// Each who leaves gets its fate, or goes to the end of the dormant list.
 pub(crate) fn leave(
@@ -23,6 +47,8 @@ pub(crate) fn leave(
     requires room { length roster.old.dormant + length roster.old.fates + length leavers.now ≤ roster.old.known }
     requires numbers { AllByRecursion (λ leaver. IsNumbered roster.old.known leaver.tx) leavers.now }
     requires within { AllByRecursion (IsWithin submitted.now) leavers.now }
+    requires awake { IsDistinct nat_eq (map (λ own. own.tx) roster.old.dormant ++ numbers_in leavers.now) }
+    requires unfinished { IsDistinct nat_eq (map (λ fated. fated.tx) roster.old.fates ++ numbers_in leavers.now) }
     ensures dormant { roster.new.dormant ≡ roster.old.dormant
         ++ filter_map (λ leaver. dormant_by submitted.now (cause_seen cause) (as_member leaver)) leavers.now }
     ensures fates { roster.new.fates ≡ roster.old.fates
@@ -32,14 +58,7 @@ pub(crate) fn leave(
     let Some((first, rest)) = leavers.split_first() else {
         return;
     };
-    let leaver = *first;
-    match fate_of(submitted, cause, leaver) {
-        Some(fate) => roster.finish(Fated {
-            tx: leaver.tx,
-            fate,
-        }),
-        None => roster.go_back(Entrant::new(leaver.tx, leaver.attempt)),
-    }
+    leave_one(roster, *first, submitted, cause);
     leave(roster, rest, submitted, cause);
 }
 

@@ -10,6 +10,7 @@ mod by_number;
 mod cause;
 mod fates;
 mod leaving;
+mod live;
 mod roster;
 
 pub use cause::Cause;

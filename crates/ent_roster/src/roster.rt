@@ -1,23 +1,26 @@
 //! The roster.
 ghost use Rattle.std.specs.Prelude.{◌≡◌, ◌==◌, ◌+◌, ◌<◌, ◌≤◌, ◌^◌, ◌++◌, ◌∷◌, [], List, drop, filter, length, map};
-ghost use Rattle.std.specs.Prelude.{IfOk, OnErr, OnOk, nat_eq};
+ghost use Rattle.std.specs.Prelude.{IfOk, OnErr, OnOk, false, nat_eq, slice_get, take};
 ghost use Rattle.std.specs.List.{AllByRecursion, IsDistinct, filter_map};
 ghost use Rattle.std.specs.Option.{option_copied};
 ghost use Rattle.ent_tree.specs.declared.limits.TheConstants.{MOST_SCRIPTS};
-ghost use Rattle.ent_members.specs.Leavers.{leaver_of};
+ghost use Rattle.ent_members.specs.Leavers.{leaver_of, numbers_in};
 ghost use Rattle.ent_protocol.specs.Commit.{commit_fates};
 ghost use Rattle.ent_protocol.specs.Rollback.{dormant_by, fated_by};
 ghost use Rattle.ent_protocol.specs.State.{Member as Seen, by_number, first_of};
 ghost use Rattle.ent_roster.specs.ByNumber.{IsNumbered};
 ghost use Rattle.ent_roster.specs.Cause.{cause_seen};
 ghost use Rattle.ent_roster.specs.Leaving.{IsWithin};
+ghost use Rattle.ent_roster.specs.Roster.{IsAway};
 
 use crate::cause::Cause;
-use crate::{by_number, fates, leaving};
+use crate::{by_number, fates, leaving, live};
 use ent_group::Tx;
 use ent_members::{Entrant, Leaver, Member};
 use ent_next::SubmittedScript;
 use ent_semantics::Fated;
+use indexmap::IndexMap;
+use slab::Slab;
 use std::alloc::{AllocError, Global};
 use std::marker::Model;
 
@@ -25,10 +28,14 @@ use std::marker::Model;
 /// that were submitted; no more transactions stand in the lists together.
 #[derive(Drop)]
 pub struct Roster {
-    dormant: Vec<Entrant>,
+    /// Who isn't finished, under keys that don't move.
+    live: Slab<Entrant>,
+    /// Their numbers and keys: the members of the run, and behind them who waits, in order of arrival. A member that is
+    /// finished stays until all members are or wait again.
+    order: IndexMap<Tx, usize>,
+    /// How many at the front entered the run.
+    in_run: usize,
     fates: Vec<Fated>,
-    /// Who waits, by number from 1.
-    waiting: Vec<Option<Entrant>>,
     /// Who is finished, by number from 1.
     finished: Vec<Option<Fated>>,
     known: usize,
@@ -36,15 +43,14 @@ pub struct Roster {
 
 impl Model for Roster {
     ghost use Rattle.std.specs.Vec.{vec_capacity};
-    ghost use Rattle.ent_roster.specs.Roster.{IsKept, Roster as Seen};
+    ghost use Rattle.ent_roster.specs.Roster.{IsKept, Roster as Seen, waiting};
 
     ghost Value = { Seen };
 
-    ghost view = { λ r. record { dormant = r.dormant.items; fates = r.fates.items; known = r.known } };
+    ghost view = { λ r. record { dormant = waiting r.live r.order r.in_run; fates = r.fates.items; known = r.known } };
 
     ghost invariant = { λ r.
-        IsKept r.dormant.items r.fates.items r.waiting.items r.finished.items r.known
-        (vec_capacity r.dormant) (vec_capacity r.fates) };
+        IsKept r.live r.order r.in_run r.finished.items r.fates.items r.known (vec_capacity r.fates) };
 }
 
 impl Roster {
@@ -53,19 +59,45 @@ impl Roster {
         ensures { result ≡ record { dormant = []; fates = []; known = 0 } }
     {
         Roster {
-            dormant: Vec::new(alloc),
+            live: Slab::new(alloc),
+            order: IndexMap::new(alloc),
+            in_run: 0,
             fates: Vec::new(alloc),
-            waiting: Vec::new(alloc),
             finished: Vec::new(alloc),
             known: 0,
         }
     }
 
-    /// Who waits for a run, in order of arrival.
-    pub fn dormant(&self) -> &[Entrant]
-        ensures { result.now ≡ self.now.dormant }
+    /// How many wait for a run.
+    pub fn dormant_len(&self) -> usize
+        ensures { result ≡ length self.now.dormant }
     {
-        self.dormant.as_slice()
+        self.order.len() - self.in_run
+    }
+
+    /// Who waits for a run at a place of the order of arrival, from 0.
+    pub fn dormant_at(&self, place: usize) -> Option<&Entrant>
+        ensures { option_copied result ≡ slice_get self.now.dormant place }
+    {
+        if place >= self.order.len() - self.in_run {
+            return None;
+        }
+        match self.order.get_index(self.in_run + place) {
+            Some((_tx, key)) => self.live.get(*key),
+            None => None,
+        }
+    }
+
+    /// The first of those who wait, as many as are asked for.
+    pub fn first_dormant(&self, alloc: Global, count: usize) -> Result<Vec<Entrant>, AllocError>
+        requires { count ≤ length self.now.dormant }
+        ensures { IfOk result (λ first. first.items ≡ take count self.now.dormant) }
+    {
+        let mut first = Vec::with_capacity(alloc, count)?;
+        for place in 0..count {
+            first.push_reserved(*self.dormant_at(place).unwrap());
+        }
+        Ok(first)
     }
 
     /// Who is finished, in the order in which they were.
@@ -87,7 +119,13 @@ impl Roster {
     pub fn dormant_of(&self, tx: Tx) -> Option<&Entrant>
         ensures { option_copied result ≡ first_of (filter (λ own. own.tx == tx) self.now.dormant) }
     {
-        by_number::under(self.waiting.as_slice(), tx)
+        let Some(at) = self.order.get_index_of(&tx) else {
+            return None;
+        };
+        if at < self.in_run {
+            return None;
+        }
+        self.live.get(self.order[at])
     }
 
     /// The fate of a transaction. It takes no longer where more are finished.
@@ -116,14 +154,12 @@ impl Roster {
         ensures err { OnErr result (self.new ≡ self.old) }
     {
         let fates_room = self.known + 1 - self.fates.len();
-        let dormant_room = self.known + 1 - self.dormant.len();
         self.fates.reserve(fates_room)?;
-        self.dormant.reserve(dormant_room)?;
-        self.waiting.reserve(1)?;
+        self.live.reserve(1)?;
+        self.order.reserve(1)?;
         self.finished.reserve(1)?;
-        let own = Entrant::new(tx, 0);
-        self.dormant.push_reserved(own);
-        self.waiting.push_reserved(Some(own));
+        let key = self.live.insert_reserved(Entrant::new(tx, 0));
+        let _old = self.order.insert(tx, key).unwrap();
         self.finished.push_reserved(None);
         self.known += 1;
         Ok(())
@@ -132,13 +168,9 @@ impl Roster {
     /// The first of those who wait, as many as are asked for, wait no more: they enter a run. It takes no memory.
     pub fn take_first(&mut self, count: usize)
         requires count { count ≤ length self.old.dormant }
-        requires distinct { IsDistinct nat_eq (map (λ own. own.tx) self.old.dormant) }
         ensures { self.new ≡ record self.old { dormant = drop count self.old.dormant } }
     {
-        by_number::forget_first(self.waiting.as_mut_slice(), self.dormant.as_slice(), count);
-        let kept = self.dormant.len() - count;
-        self.dormant.rotate_left(count);
-        self.dormant.truncate(kept);
+        self.in_run += count;
     }
 
     /// Members leave the run, which are rolled back: each gets a fate where the cause gives it one or its runs are
@@ -147,6 +179,8 @@ impl Roster {
         requires room { length self.old.dormant + length self.old.fates + length leavers.now ≤ self.old.known }
         requires numbers { AllByRecursion (λ leaver. IsNumbered self.old.known leaver.tx) leavers.now }
         requires within { AllByRecursion (IsWithin submitted.now) leavers.now }
+        requires awake { IsDistinct nat_eq (map (λ own. own.tx) self.old.dormant ++ numbers_in leavers.now) }
+        requires unfinished { IsDistinct nat_eq (map (λ fated. fated.tx) self.old.fates ++ numbers_in leavers.now) }
         ensures dormant { (gone : List Seen) → leavers.now ≡ map leaver_of gone → self.new.dormant
             ≡ self.old.dormant ++ filter_map (dormant_by submitted.now (cause_seen cause)) gone }
         ensures fates { (gone : List Seen) → leavers.now ≡ map leaver_of gone → self.new.fates
@@ -154,6 +188,7 @@ impl Roster {
         ensures known { self.new.known ≡ self.old.known }
     {
         leaving::leave(self, leavers, submitted, cause);
+        self.let_go();
     }
 
     /// Members commit, the first with this number and each with the one behind that of the one before. It takes no
@@ -167,7 +202,7 @@ impl Roster {
         leaving::commit(self, first_number, members);
     }
 
-    /// One that stood in neither list is finished.
+    /// One that doesn't wait is finished.
     pub(crate) fn finish(&mut self, fated: Fated)
         requires room { length self.old.dormant + length self.old.fates < self.old.known }
         requires number { IsNumbered self.old.known fated.tx }
@@ -177,13 +212,35 @@ impl Roster {
         self.fates.push_reserved(fated);
     }
 
-    /// One that stood in neither list waits for another run, behind the others.
+    /// A member of the run waits for another run, behind the others.
     pub(crate) fn go_back(&mut self, own: Entrant)
         requires room { length self.old.dormant + length self.old.fates < self.old.known }
-        requires number { IsNumbered self.old.known own.tx }
+        requires away { IsAway own.tx self.old }
         ensures { self.new ≡ record self.old { dormant = self.old.dormant ++ own ∷ [] } }
     {
-        by_number::fill(self.waiting.as_mut_slice(), own.tx(), own);
-        self.dormant.push_reserved(own);
+        let tx = own.tx();
+        let at = self.order.get_index_of(&tx).unwrap();
+        let last = self.order.len() - 1;
+        let key = self.order[at];
+        self.live[key] = own;
+        self.order.move_index(at, last);
+        self.in_run -= 1;
+    }
+
+    /// Where all members of the run are finished or wait again, those at the front leave the order, in one pass.
+    fn let_go(&mut self)
+        ensures { self.new ≡ self.old }
+    {
+        if by_number::are_under(
+            self.finished.as_slice(),
+            &self.order.keys().as_slice()[..self.in_run],
+        ) {
+            live::remove_each(
+                &mut self.live,
+                &self.order.values().as_slice()[..self.in_run],
+            );
+            self.order.drain(..self.in_run);
+            self.in_run = 0;
+        }
     }
 }

@@ -10,7 +10,7 @@ use ent_value::Value;
 use std::cmp::Ordering;
 
 /// Whether two values in this order compare so.
-pub(crate) fn compares(comparison: Comparison, order: Ordering) -> bool
+pub fn compares(comparison: Comparison, order: Ordering) -> bool
     ensures { result ≡ compares comparison order }
 {
     match comparison {

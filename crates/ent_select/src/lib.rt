@@ -12,6 +12,7 @@ mod row;
 mod select;
 mod term;
 
+pub use condition::compares;
 pub use first::first_values;
 pub use prepared::PreparedTests;
 pub use select::all;

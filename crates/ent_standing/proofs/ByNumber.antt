@@ -1,8 +1,7 @@
 -- Every event keeps members by number.
-use Rattle.std.proofs.Common.{◌≡◌, ◌<◌, ◌≤◌, ◌+◌, ℕ, Bool, true, false, cond, List, [], ◌∷◌, map, take, refl, sym}
-use Rattle.std.proofs.Common.{ap, subst, length, inl, inr, arith, nat_eq, nat_lt}
-use Rattle.std.specs.List.{AllByRecursion, IsDistinct, flat_map}
-use Rattle.std.proofs.lemmas.Bool.{ltb-true, ltb-false}
+use Rattle.std.proofs.Common.{◌≡◌, ◌<◌, ◌≤◌, ◌+◌, ℕ, false, List, [], ◌∷◌, map, take}
+use Rattle.std.proofs.Common.{ap, length, arith, nat_eq}
+use Rattle.std.specs.List.{IsDistinct, flat_map}
 use Rattle.ent_value.specs.declared.value.Value.{Value}
 use Rattle.ent_group.specs.declared.members.TheConstants.{MOST_MEMBERS}
 use Rattle.ent_closed.specs.declared.statement.Statement.{Statement}
@@ -14,14 +13,14 @@ use Rattle.ent_protocol.specs.Member.{posted_by, pool}
 use Rattle.ent_protocol.specs.Reached.{IsReached}
 use Rattle.ent_protocol.specs.Run.{Forms, fresh, starting}
 use Rattle.ent_protocol.specs.PostedBy.{is_posted_by}
-use Rattle.ent_protocol.specs.State.{State, Member, members, inserted, by_number}
+use Rattle.ent_protocol.specs.State.{State, Member, members}
 use Rattle.ent_standing.specs.ByNumber.{StandByNumber}
 use Rattle.ent_standing.proofs.Acts.{AreKept, reached}
 use Rattle.ent_standing.proofs.Asked.{asks_once}
 use Rattle.ent_standing.proofs.Left.{tx_of, dormant_tx, fated_tx}
-use Rattle.ent_lists.specs.Elements.{Pairs, of_all, to_all, to_map, pairs_filtered, pairs_joined, pairs_mapped}
+use Rattle.ent_lists.specs.Elements.{Pairs, of_all, to_all, pairs_filtered, pairs_joined, pairs_mapped}
 use Rattle.ent_lists.specs.Elements.{in_flat, pairs_short, pairs_index, same_number, not_so}
-use Rattle.ent_standing.specs.Numbered.{from_inserted, from_by_number}
+use Rattle.ent_standing.specs.Numbered.{Below, by_number_ascends, keys_apart}
 use Rattle.ent_standing.proofs.Placed.{places_kept, places_opened, fresh_counted, answered_tx}
 use Rattle.ent_standing.proofs.Places.{within_once, Stands, members_once, replaced_tx}
 use Rattle.ent_standing.proofs.Times.{times, once_apart, count, count_split}
@@ -39,55 +38,6 @@ apart_distinct (n ∷ ns) apart = (
       (λ m at. not_so (nat_eq n m) (λ e. of_all (Differ n) ns m apart.0 at (same_number n m e))),
   apart_distinct ns apart.1,
 )
-
-module _ {X : Type 0} (number : X → ℕ) where
-  abbrev Below : X → X → Type 0
-  Below one other = number one < number other
-
-  abbrev Apart : X → X → Type 0
-  Apart one other = number one ≡ number other → ⊥
-
-  inserted_ascends : (x : X) (xs : List X) → Pairs Below xs → AllByRecursion (Apart x) xs
-      → Pairs Below (inserted number x xs)
-  inserted_ascends x [] ascend apart = (tt, tt)
-  inserted_ascends x (y ∷ ys) ascend apart =
-      by (nat_lt (number x) (number y)) refl (inserted_ascends x ys ascend.1 apart.1)
-    where
-      by : (b : Bool) → nat_lt (number x) (number y) ≡ b → Pairs Below (inserted number x ys)
-          → Pairs Below (cond b (x ∷ y ∷ ys) (y ∷ inserted number x ys))
-      by true is rest =
-          let low = ltb-true (number x) (number y) is in (
-            (
-              low,
-              to_all (Below x) ys
-                  (λ z at. let high = of_all (Below y) ys z ascend.0 at in omega (arith, low, high)),
-            ),
-            ascend,
-          )
-      by false is rest =
-          let least = ltb-false (number x) (number y) is in
-          let differ = apart.0 in
-          let below : Below y x = omega (arith, least, differ) in (
-            to_all (Below y) (inserted number x ys) (λ z at. elim (from_inserted number x ys z at) [
-              | inl same ↦ subst (Below y) (sym same) below
-              | inr there ↦ of_all (Below y) ys z ascend.0 there
-            ]),
-            rest,
-          )
-
-  by_number_ascends : (xs : List X) → Pairs Apart xs → Pairs Below (by_number number xs)
-  by_number_ascends [] apart = tt
-  by_number_ascends (x ∷ xs) apart =
-      inserted_ascends x (by_number number xs) (by_number_ascends xs apart.1)
-      (to_all (Apart x) (by_number number xs)
-      (λ y at. of_all (Apart x) xs y apart.0 (from_by_number number xs y at)))
-
-  keys_apart : (xs : List X) → Pairs Differ (map number xs) → Pairs Apart xs
-  keys_apart [] apart = tt
-  keys_apart (x ∷ xs) apart = (
-    to_all (Apart x) xs (λ y at. of_all (Differ (number x)) (map number xs) (number y) apart.0 (to_map number xs y at)),
-    keys_apart xs apart.1,
-  )
 
 -- ---- members
 
@@ -157,14 +107,14 @@ ordered_kept =
 
 -- ---- statements in the pool
 
-abbrev posted_tx : Posted → ℕ
+abbrev pub posted_tx : Posted → ℕ
 posted_tx query = query.tx
 
-asked_ascend : (s : State) (ms : List Member) → Ascend ms → Pairs (Below posted_tx) (flat_map (posted_by s) ms)
-asked_ascend s [] ascend = tt
-asked_ascend s (m ∷ ms) ascend =
+pub pool_ascends : (s : State) (ms : List Member) → Ascend ms → Pairs (Below posted_tx) (flat_map (posted_by s) ms)
+pool_ascends s [] ascend = tt
+pool_ascends s (m ∷ ms) ascend =
     pairs_joined (Below posted_tx) (posted_by s m) (flat_map (posted_by s) ms)
-    (pairs_short (Below posted_tx) (posted_by s m) (asks_once s m)) (asked_ascend s ms ascend.1) (λ a b at bt.
+    (pairs_short (Below posted_tx) (posted_by s m) (asks_once s m)) (pool_ascends s ms ascend.1) (λ a b at bt.
     let own : a.tx ≡ m.tx = ap posted_tx (is_posted_by s m a at).is in
     let r = in_flat (posted_by s) ms b bt in
     let other : b.tx ≡ r.0.tx = ap posted_tx (is_posted_by s r.0 b r.2).is in
@@ -174,7 +124,7 @@ asked_ascend s (m ∷ ms) ascend =
 pub reached_by_number : {F : Type 0} (forms : Forms F) (s : State) → IsReached forms s → StandByNumber s
 reached_by_number forms s r =
     let h = reached forms Ordered ordered_kept s (places_opened s.opening, tt) r in
-    let asked = asked_ascend s s.active h.1 in
+    let asked = pool_ascends s s.active h.1 in
     record {
       distinct = apart_distinct (map tx_of (members s)) (once_apart (map tx_of (members s)) (members_once s h.0));
       active = pairs_index (Below tx_of) s.active h.1;

@@ -6,6 +6,7 @@ pub mod Places
 pub mod Placed
 pub mod Counted
 pub mod ByNumber
+pub mod Pooled
 pub mod Attempts
 pub mod Asked
 pub mod Lent

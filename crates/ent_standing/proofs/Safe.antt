@@ -2,14 +2,13 @@
 use Rattle.std.proofs.Common.{◌≡◌, ◌⊎◌, ℕ, zero, suc, Bool, true, false, cond, ◌==◌, List, [], ◌∷◌, ◌++◌, map, take}
 use Rattle.std.proofs.Common.{refl, sym, ap, subst, ◌∙◌, inl, inr, Option, Some, None, Contains}
 use Rattle.std.specs.Prelude.{slice_get}
-use Rattle.std.specs.List.{filter, flat_map}
+use Rattle.std.specs.List.{filter}
 use Rattle.ent_value.specs.declared.value.Value.{Value}
 use Rattle.ent_tree.specs.declared.declaration.Opening.{Opening}
 use Rattle.ent_tree.specs.declared.script.Script.{Script}
 use Rattle.ent_group.specs.declared.members.TheConstants.{MOST_MEMBERS}
 use Rattle.ent_semantics.specs.Entangled.{Valuation}
 use Rattle.ent_semantics.specs.Serial.{numbered}
-use Rattle.ent_closed.specs.Closing.{closed}
 use Rattle.ent_closed.specs.declared.entangled.Entangled.{Entangled}
 use Rattle.ent_closed.specs.declared.operand.Known.{Known}
 use Rattle.ent_closed.specs.declared.statement.Statement.{Statement}
@@ -17,8 +16,8 @@ use Rattle.ent_coordination.specs.Pool.{CanMeet, IsSafe, Posted}
 use Rattle.ent_protocol.specs.Begin.{holding, pool_with, posting, replaced}
 use Rattle.ent_protocol.specs.Finish.{finished}
 use Rattle.ent_protocol.specs.Job.{Job, Outcome, Shown, Changed, Bound, Choice, Fault}
-use Rattle.ent_protocol.specs.Member.{Asks, RollsBack, posted_by, environment_of, pool}
-use Rattle.ent_protocol.specs.Member.{next_in, next_of, statement_next}
+use Rattle.ent_protocol.specs.Member.{Asks, RollsBack, pool, posted_as}
+use Rattle.ent_protocol.specs.Member.{next_in, next_of}
 use Rattle.ent_protocol.specs.PoolEvents.{answered_among, answered_by, answered_groups, in_joined_group, joining}
 use Rattle.ent_protocol.specs.Reached.{IsReached, opened}
 use Rattle.ent_protocol.specs.Run.{Forms, fresh, starting, submitting}
@@ -26,7 +25,7 @@ use Rattle.ent_protocol.specs.PostedBy.{IsPosted, IsPostedBy, in_pool, to_pool, 
 use Rattle.ent_protocol.specs.State.{State, Submitted, Member}
 use Rattle.ent_protocol.specs.Uses.{entangled_uses}
 use Rattle.ent_standing.proofs.Acts.{AreKeptSafe, safely_reached}
-use Rattle.ent_lists.specs.Elements.{In, contains_in, in_contains, in_first, in_second, of_filter, of_map, to_map}
+use Rattle.ent_lists.specs.Elements.{In, contains_in, in_contains, in_first, in_second, of_filter, of_map}
 use Rattle.ent_standing.specs.Numbered.{from_by_number}
 
 -- ---- what is kept
@@ -224,10 +223,6 @@ posts s m statement next safe h =
         by false x there same =
             inr (subst (WasPosted s new) (sym same)
             (itself s new x there (ap (λ (y : Member). y.posted) (sym same) ∙ posted) refl))
-
-    posted_as : Member → Entangled Value → Posted
-    posted_as n asked =
-        record { tx = n.tx; attempt = n.attempt; place = n.place; statement = asked }
 
     there : (x : Posted) → IsPosted new x → Contains (pool_with s m statement) x
     there x asked =

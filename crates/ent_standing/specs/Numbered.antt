@@ -145,3 +145,36 @@ module _ {X : Type 0} (number : X → ℕ) where
         subst (λ k. number x < k) (sym r.2) low),
     keys_ascend xs ascend.1,
   )
+
+  behind : (x : X) (xs : List X) (y : X) (ys : List X) → x ≡ y → AllByRecursion (Below x) xs
+      → ((z : X) → In z (x ∷ xs) → In z (y ∷ ys)) → (z : X) → In z xs → In z ys
+  behind x xs y ys same low f z at =
+      elim (f z (inr at)) [
+        | inl here ↦
+            let high : number x < number z = of_all (Below x) xs z low at in
+            let e : number z ≡ number y = ap number here in
+            let d : number x ≡ number y = ap number same in
+            absurd (omega (arith, high, e, d))
+        | inr there ↦ there
+      ]
+
+  first_same : (x : X) (xs : List X) (y : X) (ys : List X) → AllByRecursion (Below x) xs
+      → AllByRecursion (Below y) ys → In x (y ∷ ys) → In y (x ∷ xs) → x ≡ y
+  first_same x xs y ys low high (inl same) there = same
+  first_same x xs y ys low high (inr here) (inl same) = sym same
+  first_same x xs y ys low high (inr here) (inr there) =
+      let a : number x < number y = of_all (Below x) xs y low there in
+      let b : number y < number x = of_all (Below y) ys x high here in
+      absurd (omega (arith, a, b))
+
+  -- lists in order of the same elements are the same
+  pub same_lists : (xs ys : List X) → Pairs Below xs → Pairs Below ys → ((z : X) → In z xs → In z ys)
+      → ((z : X) → In z ys → In z xs) → xs ≡ ys
+  same_lists [] [] low high f g = refl
+  same_lists [] (y ∷ ys) low high f g = absurd (g y (inl refl))
+  same_lists (x ∷ xs) [] low high f g = absurd (f x (inl refl))
+  same_lists (x ∷ xs) (y ∷ ys) low high f g =
+      let same : x ≡ y = first_same x xs y ys low.0 high.0 (f x (inl refl)) (g y (inl refl)) in
+      let rest : xs ≡ ys =
+      same_lists xs ys low.1 high.1 (behind x xs y ys same low.0 f) (behind y ys x xs (sym same) high.0 g) in
+      λ i. same i ∷ rest i

@@ -8,7 +8,7 @@ use Rattle.ent_semantics.specs.Entangled.{Valuation}
 use Rattle.ent_closed.specs.declared.entangled.Entangled.{Entangled}
 use Rattle.ent_closed.specs.declared.operand.Known.{Known}
 use Rattle.ent_closed.specs.declared.statement.Statement.{Statement}
-use Rattle.ent_coordination.specs.Pool.{Posted}
+use Rattle.ent_coordination.specs.Pool.{Posted, first_tx}
 use Rattle.ent_protocol.specs.Begin.{BeginsOrdinary, Posts, BeginsEntangled, BeginsCommit, BeginsNext, BeginsUnless}
 use Rattle.ent_protocol.specs.Begin.{BeginsMember, pool_with}
 use Rattle.ent_protocol.specs.Commit.{preparing, is_ready}
@@ -18,7 +18,7 @@ use Rattle.ent_protocol.specs.Finish.{FinishesBy, Finishes, FinishesSingle, IsOu
 use Rattle.ent_protocol.specs.Job.{Choice, Done, Fault, Job, Joint, One, Outcome, Shown, Changed, Bound, Single}
 use Rattle.ent_protocol.specs.Member.{Next, Ordinary, Asks, Commits, RollsBack, active_member, is_lent}
 use Rattle.ent_protocol.specs.Member.{is_tx, next_of}
-use Rattle.ent_protocol.specs.PoolEvents.{AnswersBy, JoinsOrIsStale, Picks, first_tx, joint_job}
+use Rattle.ent_protocol.specs.PoolEvents.{AnswersBy, JoinsOrIsStale, Picks, joint_job}
 use Rattle.ent_protocol.specs.Rollback.{NoOne, group_numbers, rolled_back}
 use Rattle.ent_protocol.specs.Run.{BreaksIfAny, EndsWhileRunning, Forms, StartsWith, SubmitsForm, SubmitsUnless}
 use Rattle.ent_protocol.specs.State.{State, Dormant, Member, first_of}
@@ -30,7 +30,8 @@ use Rattle.ent_steps.specs.Alike.{AreAlike}
 use Rattle.ent_lists.specs.Elements.{In, neither, of_filter}
 use Rattle.ent_steps.proofs.Picked.{AreClasses, same_component}
 use Rattle.ent_steps.proofs.Places.{taken_alike}
-use Rattle.ent_steps.proofs.Pooled.{never_unsafe, one_fault, pool_apart}
+use Rattle.ent_standing.proofs.Pooled.{never_unsafe, pool_apart}
+use Rattle.ent_steps.proofs.Pooled.{one_fault}
 use Rattle.ent_steps.proofs.Reasons.{BothCycles, begin_alike, no_reason, none_stands, reasons_alike}
 
 -- ---- parts that are equal

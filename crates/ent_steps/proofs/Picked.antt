@@ -1,16 +1,16 @@
 -- Components that begin with the same transaction are one.
-use Rattle.std.proofs.Common.{◌≡◌, ◌↔◌, ◌<◌, inl, inr, ℕ, List, [], ◌∷◌, map, refl, sym, ap, subst, ◌∙◌, arith}
+use Rattle.std.proofs.Common.{◌≡◌, ◌↔◌, ◌<◌, inl, List, [], ◌∷◌, refl, sym, subst, ◌∙◌}
 use Rattle.std.proofs.Common.{Contains}
+use Rattle.ent_standing.proofs.ByNumber.{posted_tx}
 use Rattle.ent_coordination.specs.Component.{IsComponent}
-use Rattle.ent_coordination.specs.Pool.{Posted}
+use Rattle.ent_coordination.specs.Pool.{Posted, first_tx}
 use Rattle.ent_protocol.specs.Member.{pool}
-use Rattle.ent_protocol.specs.PoolEvents.{IsPresentComponent, first_tx}
+use Rattle.ent_protocol.specs.PoolEvents.{IsPresentComponent}
 use Rattle.ent_protocol.specs.PostedBy.{is_present}
 use Rattle.ent_protocol.specs.State.{State}
 use Rattle.ent_standing.specs.ByNumber.{StandByNumber}
-use Rattle.ent_lists.specs.Elements.{In, Pairs, of_all, to_all, all_index, index_pairs, contains_in, in_contains}
-use Rattle.ent_lists.specs.Elements.{of_map, to_map}
-use Rattle.ent_standing.specs.Numbered.{Apart, Below, below_apart, one_of}
+use Rattle.ent_lists.specs.Elements.{In, Pairs, index_pairs, contains_in, in_contains}
+use Rattle.ent_standing.specs.Numbered.{Apart, Below, below_apart, one_of, same_lists}
 
 -- components that share a statement have the same statements
 abbrev pub AreClasses : Type 0
@@ -18,41 +18,6 @@ AreClasses =
     (those members others : List Posted) (shared member : Posted) → IsComponent those members
     → IsComponent those others → Contains members shared → Contains others shared
     → Contains members member ↔ Contains others member
-
-abbrev posted_tx : Posted → ℕ
-posted_tx query = query.tx
-
--- ---- lists that ascend and have the same elements
-
-behind_other : (x y : Posted) (ys : List Posted) → In x (y ∷ ys) → (x ≡ y → ⊥) → In x ys
-behind_other x y ys (inl same) differ = absurd (differ same)
-behind_other x y ys (inr at) differ = at
-
-same_first : (x y : Posted) (xs ys : List Posted) → Pairs (Below posted_tx) (x ∷ xs)
-    → Pairs (Below posted_tx) (y ∷ ys) → In x (y ∷ ys) → In y (x ∷ xs) → x ≡ y
-same_first x y xs ys first second (inl same) bt = same
-same_first x y xs ys first second (inr at) (inl same) = sym same
-same_first x y xs ys first second (inr at) (inr bt) =
-    let low = of_all (Below posted_tx y) ys x second.0 at in
-    let high = of_all (Below posted_tx x) xs y first.0 bt in
-    absurd (omega (arith, low, high))
-
-pub ascend_alike : (xs ys : List Posted) → Pairs (Below posted_tx) xs → Pairs (Below posted_tx) ys
-    → ((a : Posted) → In a xs → In a ys) → ((a : Posted) → In a ys → In a xs) → xs ≡ ys
-ascend_alike [] [] first second to from = refl
-ascend_alike [] (y ∷ ys) first second to from = absurd (from y (inl refl))
-ascend_alike (x ∷ xs) [] first second to from = absurd (to x (inl refl))
-ascend_alike (x ∷ xs) (y ∷ ys) first second to from =
-    let same = same_first x y xs ys first second (to x (inl refl)) (from y (inl refl)) in
-    let rest = ascend_alike xs ys first.1 second.1
-    (λ a at. behind_other a y ys (to a (inr at)) (λ e.
-    apart a x (of_all (Below posted_tx x) xs a first.0 at) (e ∙ sym same)))
-    (λ a at. behind_other a x xs (from a (inr at)) (λ e.
-    apart a y (of_all (Below posted_tx y) ys a second.0 at) (e ∙ same))) in
-    λ i. same i ∷ rest i
-  where
-    apart : (a b : Posted) → b.tx < a.tx → a ≡ b → ⊥
-    apart a b low same = let e : a.tx ≡ b.tx = ap posted_tx same in absurd (omega (arith, low, e))
 
 -- ---- components
 
@@ -88,5 +53,5 @@ module _ (s : State) (by_number : StandByNumber s) (classes : AreClasses) where
       let one = one_of posted_tx (pool s) a.0 b.0 apart (posted asked h a.0 a.1) (posted others k b.0 b.1)
       (sym a.2 ∙ same ∙ b.2) in
       let shared : In a.0 others = subst (λ x. In x others) (sym one) b.1 in
-      ascend_alike asked others (ascends asked h) (ascends others k) (within asked others h k a.0 a.1 shared)
+      same_lists posted_tx asked others (ascends asked h) (ascends others k) (within asked others h k a.0 a.1 shared)
       (within others asked k h a.0 shared a.1)

@@ -4,24 +4,14 @@ ghost use Rattle.std.specs.List.{list_any};
 ghost use Rattle.ent_protocol.specs.Member.{is_single_of};
 
 use ent_group::Tx;
-use ent_job::{Job, Work};
+use ent_job::Job;
 use ent_members::Member;
-
-/// Whether a job is of one statement of a transaction.
-fn is_single_of(job: &Job, tx: Tx) -> bool
-    ensures { result ≡ is_single_of tx job.now }
-{
-    match job.work() {
-        Work::One(single) => single.tx() == tx,
-        Work::Joint(_) => false,
-    }
-}
 
 /// Whether a job of one statement of a transaction is lent.
 fn is_lent(lent: &[Job], tx: Tx) -> bool
     ensures { result ≡ list_any (is_single_of tx) lent.now }
 {
-    lent.iter().any(|job| is_single_of(job, tx))
+    lent.iter().any(|job| job.is_single_of(tx))
 }
 
 /// Whether a member is neither posted nor has a job out.

@@ -1,7 +1,6 @@
 use Rattle.std.proofs.Common.{◌∙◌, ◌≡◌, ◌<◌, ℕ, List, Option, Some, length, sym, ap, subst}
 use Rattle.std.specs.Prelude.{MatchBool, nat_lt, slice_get}
-use Rattle.ent_coordination.specs.Pool.{Posted}
-use Rattle.ent_protocol.specs.PoolEvents.{first_tx}
+use Rattle.ent_coordination.specs.Pool.{Posted, first_tx}
 use Rattle.ent_components.specs.Part.{AreBehind}
 use Rattle.ent_components.proofs.Picked.{may_be}
 use Rattle.ent_components.proofs.picking.may_go_before.Goals as goal

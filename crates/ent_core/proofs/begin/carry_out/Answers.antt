@@ -1,31 +1,45 @@
 use Rattle.std.proofs.Common.{subst}
+use Rattle.ent_protocol.specs.Member.{Commits}
 use Rattle.ent_resolved.specs.Resolved.{resolved_forms}
 use Rattle.ent_core.specs.Begin.{Follows}
 use Rattle.ent_core.specs.declared.begin.Plan.{Plan}
-use Rattle.ent_core.proofs.Begun.{begun_commits, begun_rolls_back, plans_no_job, plans_no_post, some_found}
+use Rattle.ent_core.proofs.Begun.{begun_commits, begun_rolls_back, idle_at_turn, plans_no_job, plans_no_post}
+use Rattle.ent_core.proofs.Begun.{some_found}
 use Rattle.ent_core.proofs.begin.carry_out.Goals as goal
 
-pub lend-requires : goal.lend-requires
-lend-requires c =
+pub lend-requires-clause-there : goal.lend-requires-clause-there
+lend-requires-clause-there c =
     let P : Plan → Type 0 = Follows c.args.store.now c.args.tx in
     (subst P c.in-Lends.is c.requires.follows).0
 
-pub post-requires : goal.post-requires
-post-requires c =
+pub lend-requires-clause-idle : goal.lend-requires-clause-idle
+lend-requires-clause-idle c =
     let P : Plan → Type 0 = Follows c.args.store.now c.args.tx in
-    (subst P c.in-Posts.is c.requires.follows).0
+    (subst P c.in-Lends.is c.requires.follows).1
+
+pub commit-requires-clause-idle : goal.commit-requires-clause-idle
+commit-requires-clause-idle c =
+    let s = c.args.store.now in
+    let P : Plan → Type 0 = Follows s c.args.tx in
+    let begun = subst P c.in-Commits.is c.requires.follows in
+    idle_at_turn s c.args.tx begun.member Commits
+    (c.members_stand_by_number.ensures resolved_forms s c.requires.kept.reached) begun.may
+
+pub post-requires-clause-asks : goal.post-requires-clause-asks
+post-requires-clause-asks c =
+    let P : Plan → Type 0 = Follows c.args.store.now c.args.tx in subst P c.in-Posts.is c.requires.follows
 
 pub returns-in-Posts-clause-rolls_back : goal.returns-in-Posts-clause-rolls_back
 returns-in-Posts-clause-rolls_back c = λ member there rolls.
     let P : Plan → Type 0 = Follows c.args.store.now c.args.tx in
     absurd (plans_no_post c.args.store.now c.args.tx member there rolls c.in-Posts.query
-    (subst P c.in-Posts.is c.requires.follows).1)
+    (subst P c.in-Posts.is c.requires.follows))
 
 pub returns-in-Lends-clause-rolls_back : goal.returns-in-Lends-clause-rolls_back
 returns-in-Lends-clause-rolls_back c = λ member there rolls.
     let P : Plan → Type 0 = Follows c.args.store.now c.args.tx in
     absurd (plans_no_job c.args.store.now c.args.tx member there rolls c.in-Lends.job
-    (subst P c.in-Lends.is c.requires.follows).1)
+    (subst P c.in-Lends.is c.requires.follows).2)
 
 pub returns-in-RollsBack-clause-ok : goal.returns-in-RollsBack-clause-ok
 returns-in-RollsBack-clause-ok c =

@@ -5,11 +5,12 @@ use Rattle.std.proofs.lemmas.List.Elements.{recursion_from_All}
 use Rattle.ent_job.specs.Work.{IsOne}
 use Rattle.ent_tree.specs.declared.declaration.Create.{Create}
 use Rattle.ent_protocol.specs.Job.{Seen, Single, One}
-use Rattle.ent_protocol.specs.Member.{seen_now}
+use Rattle.ent_protocol.specs.Member.{Ordinary, seen_now}
+use Rattle.ent_resolved.specs.Resolved.{resolved_forms}
 use Rattle.ent_protocol.specs.State.{State, Use}
 use Rattle.ent_protocol.specs.Uses.{statement_uses}
 use Rattle.ent_protocol.specs.Waits.{next_uses}
-use Rattle.ent_core.proofs.Begun.{member_found, ordinary_lent, some_found}
+use Rattle.ent_core.proofs.Begun.{idle_at_turn, member_found, ordinary_lent, some_found}
 use Rattle.ent_core.proofs.begin.plan_ordinary.Goals as goal
 
 pub seen-requires : goal.seen-requires
@@ -75,5 +76,8 @@ returns c =
     ∙ ap (seen_now inside.opening.tables inside.tables.tables) (c.as_slice.ensures.list ∙ uses)
     ∙ ap (λ (x : State). seen_now x.opening.tables x.tables (statement_uses statement)) c.store.view_is in (
       some_found member.tx now.active member c.requires.next.there,
-      ordinary_lent now member.tx member statement c.requires.next c.requires.unblocked c.one.result (c.one.ensures ∙ (λ i. record { work = One (single i); tables = seen i })),
+      idle_at_turn now member.tx member (Ordinary statement)
+          (c.members_stand_by_number.ensures resolved_forms now c.requires.kept.reached) c.requires.next,
+      ordinary_lent now member.tx member statement c.requires.next c.requires.unblocked c.one.result (c.one.ensures
+          ∙ (λ i. record { work = One (single i); tables = seen i })),
     )

@@ -1,5 +1,6 @@
-use Rattle.std.proofs.Common.{◌≡◌, ◌+◌, ◌++◌, ◌∙◌, ℕ, suc, List, Some, ap, arith, length, map, subst, sym}
+use Rattle.std.proofs.Common.{◌≡◌, ◌+◌, ◌++◌, ◌∙◌, ℕ, suc, List, Some, ap, arith, length, map, refl, subst, sym}
 use Rattle.std.specs.List.{AllByRecursion}
+use Rattle.std.specs.Prelude.{IsSome}
 use Rattle.ent_form.specs.declared.fault.FormFault.{FormFault}
 use Rattle.ent_members.specs.Places.{found}
 use Rattle.ent_members.specs.Run.{Run, tx_of, with_run}
@@ -14,9 +15,12 @@ use Rattle.ent_standing.specs.Attempts.{MayTakePart, StayWithin}
 use Rattle.ent_tables.specs.Stored.{Stored}
 use Rattle.ent_core.specs.Reply.{numbered_from}
 use Rattle.ent_core.specs.contracts.store.Store.{the_view}
-use Rattle.ent_core.proofs.Begun.{one_member}
+use Rattle.ent_pool_laws.specs.Pooled.{IsPoolOf}
+use Rattle.ent_core.specs.Begin.{IsIdle}
+use Rattle.ent_core.proofs.Begun.{kept_changed, kept_with, one_member}
 use Rattle.ent_core.proofs.Committing.{commits, committed_all, committed_few, first_part, last_part, nobody_there}
 use Rattle.ent_core.proofs.Committing.{parts_numbered, waits}
+use Rattle.ent_core.proofs.Pooled.{kept_prepared}
 use Rattle.ent_core.proofs.commit.commit.Goals as goal
 
 pub returns-in_default-clause-ok : goal.returns-in_default-clause-ok
@@ -112,3 +116,29 @@ returns-clause-ok c = λ member there.
     c.enter.new.journal.items c.commit.new.self.fates c.settle.new.self.changes c.store.view_is c.if-not-is_ready.false
     (c.commit-committed.ensures.committed s) c.commit-committed.ensures.prepared c.commit-committed.ensures.active
     numbers_are first_is entered fated (ap (λ (stored : Stored). stored.changes) settled))
+
+pub invariant_of-store-then-not-is_ready : goal.invariant_of-store-then-not-is_ready
+invariant_of-store-then-not-is_ready c =
+    let inside = c.store.inside in
+    let there = subst (λ (x : State). IsSome (found x.active c.args.tx)) (sym c.store.view_is) c.requires.there in
+    let idle = subst (λ (x : State). IsIdle x c.args.tx) (sym c.store.view_is) c.requires.idle in
+    kept_changed inside.catalogue.tables inside.opening inside.submitted.items inside.roster inside.running inside.run
+    c.prepare.new.self inside.tables inside.pool inside.pool c.args.tx c.store.invariant there
+    (kept_prepared inside.submitted.items inside.run.active inside.pool c.store.invariant.posted c.args.tx inside.run
+    c.prepare.new.self refl c.in_ok-prepare.ensures.ok there idle)
+
+pub invariant_of-store-2 : goal.invariant_of-store-2
+invariant_of-store-2 c =
+    let inside = c.store.inside in
+    let there = subst (λ (x : State). IsSome (found x.active c.args.tx)) (sym c.store.view_is) c.requires.there in
+    let idle = subst (λ (x : State). IsIdle x c.args.tx) (sym c.store.view_is) c.requires.idle in
+    let pooled = kept_prepared inside.submitted.items inside.run.active inside.pool c.store.invariant.posted c.args.tx
+    inside.run c.prepare.new.self refl c.in_ok-prepare.ensures.ok there idle in
+    kept_with inside.catalogue.tables inside.opening inside.submitted.items inside.roster c.commit.new.self
+    inside.running
+    inside.run c.commit-committed.new.self inside.tables c.settle.new.self inside.pool inside.pool c.args.tx
+    c.store.invariant there (ap (λ (roster : Roster). roster.dormant) c.commit.ensures)
+    (ap (λ (roster : Roster). roster.known) c.commit.ensures)
+    (ap (λ (stored : Stored). stored.kinds) c.settle.ensures.numbers)
+    (subst (λ (ms : List Member). IsPoolOf inside.submitted.items ms inside.pool)
+    (sym c.commit-committed.ensures.active) pooled)

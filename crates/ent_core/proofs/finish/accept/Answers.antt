@@ -5,10 +5,9 @@ use Rattle.ent_eval.specs.Result.{CanBeMade, alone_seen, outcome_seen}
 use Rattle.ent_eval.specs.declared.outcome.JobOutcome.{JobOutcome}
 use Rattle.ent_job.specs.declared.work.Work.{Work}
 use Rattle.ent_protocol.specs.Job.{Job, One, Outcome}
-use Rattle.ent_protocol.specs.State.{State}
 use Rattle.ent_resolved.specs.Resolved.{resolved_forms}
 use Rattle.ent_core.specs.Finish.{StandsAt}
-use Rattle.ent_core.proofs.Finishing.{accepted, out_change, out_member}
+use Rattle.ent_core.proofs.Finishing.{accepted, out_change, out_idle, out_member}
 use Rattle.ent_core.proofs.finish.accept.Goals as goal
 
 pub returns-in_default-clause-ok : goal.returns-in_default-clause-ok
@@ -35,6 +34,19 @@ carry_out-requires-clause-there c =
     let present = c.resolved_jobs_are_present.ensures.present s c.requires.kept.formed c.requires.kept.reached in
     out_member s job c.in-One.single c.in-Some.index present there work
 
+pub carry_out-requires-clause-idle : goal.carry_out-requires-clause-idle
+carry_out-requires-clause-idle c =
+    let s = c.args.store.now in
+    let job = c.args.done.now.job in
+    let stands : StandsAt s c.args.done.now (Some c.in-Some.index) =
+    subst (StandsAt s c.args.done.now) c.in-Some.is c.requires.stands in
+    let work : job.work ≡ One c.in-One.single =
+    ap (λ (j : Job). j.work) (sym c.job.ensures) ∙ sym c.work.ensures.work
+    ∙ ap (λ (w : Work). work_seen w) c.in-One.is in
+    let present = c.resolved_jobs_are_present.ensures.present s c.requires.kept.formed c.requires.kept.reached in
+    out_idle s job c.in-One.single c.in-Some.index present
+    (c.members_stand_by_number.ensures resolved_forms s c.requires.kept.reached) stands.0 work
+
 pub carry_out-requires-clause-may : goal.carry_out-requires-clause-may
 carry_out-requires-clause-may c =
     let s = c.args.store.now in
@@ -54,7 +66,8 @@ carry_out-requires-clause-may c =
     let made : CanBeMade job.tables (alone_seen c.in-One-outcome.outcome) =
     subst (λ (o : Outcome). CanBeMade job.tables o) is c.outcome.ensures.change in
     out_change s job c.in-One.single c.in-Some.index (alone_seen c.in-One-outcome.outcome) present declared
-    (λ member statement next. c.used_tables_are_declared.ensures.changed s member statement c.requires.kept.reached next)
+    (λ member statement next. c.used_tables_are_declared.ensures.changed s member statement c.requires.kept.reached
+    next)
     there work fits made
 
 pub returns-clause-ok : goal.returns-clause-ok

@@ -1,4 +1,5 @@
 use Rattle.std.proofs.Common.{◌≡◌, ◌∙◌, List, Some, ap, refl, subst, sym, slice_get}
+use Rattle.std.specs.Prelude.{IsSome}
 use Rattle.ent_eval.specs.Result.{alone_seen}
 use Rattle.ent_form.specs.declared.fault.FormFault.{FormFault}
 use Rattle.ent_protocol.specs.Event as replies
@@ -6,10 +7,12 @@ use Rattle.ent_protocol.specs.Finish.{FinishesBy, IsTaken}
 use Rattle.ent_protocol.specs.Job.{Fault, Job, Outcome}
 use Rattle.ent_protocol.specs.Member.{active_member}
 use Rattle.ent_protocol.specs.State.{State}
+use Rattle.ent_core.specs.Begin.{IsIdle}
 use Rattle.ent_core.specs.Finish.{CarriesOut}
 use Rattle.ent_core.specs.Reply.{reply_seen}
 use Rattle.ent_core.specs.contracts.store.Store.{the_view}
-use Rattle.ent_core.proofs.Finishing.{went_on}
+use Rattle.ent_core.proofs.Begun.{kept_with}
+use Rattle.ent_core.proofs.Finishing.{advanced_kinds, advanced_pool, went_on}
 use Rattle.ent_core.proofs.finish.carry_out.Goals as goal
 
 pub returns-in-Ok-clause-ok : goal.returns-in-Ok-clause-ok
@@ -68,3 +71,18 @@ returns-in-Err-Fault-clause-ok c =
     λ o. CarriesOut c.args.store.now c.args.index single o (reply_seen c.fail.result) c.fail.new.store in
     let told : P before = c.fail.ensures in
     subst Q (sym outcome) (subst P (same ∙ c.store.view_is) told)
+
+pub invariant_of-store : goal.invariant_of-store
+invariant_of-store c =
+    let inside = c.store.inside in
+    let single = c.args.single.now in
+    let outcome : Outcome = alone_seen c.args.outcome.now in
+    let there = subst (λ (x : State). IsSome (active_member x single.tx)) (sym c.store.view_is) c.requires.there in
+    let idle = subst (λ (x : State). IsIdle x single.tx) (sym c.store.view_is) c.requires.idle in
+    let run = c.advance.new.run in
+    let stored = c.advance.new.tables in
+    kept_with inside.catalogue.tables inside.opening inside.submitted.items inside.roster inside.roster inside.running
+    inside.run run inside.tables stored inside.pool inside.pool single.tx c.store.invariant there refl refl
+    (advanced_kinds single outcome c.in-Ok.answer inside.run run inside.tables stored c.in-Ok.ensures.ok)
+    (advanced_pool inside.submitted.items inside.pool single outcome c.in-Ok.answer inside.run run inside.tables stored
+    c.store.invariant.posted c.in-Ok.ensures.ok there idle)

@@ -66,4 +66,5 @@ returns c = λ job member at there.
     (replies.Failed failure c.roll_back-members.result) c.roll_back-members.new.store in
     subst P c.store.view_is
     (failed v now single job member left c.group-group.result c.tx-tx.result failure c.roll_back-members.result
-    c.roll_back-members.new.store refl taken own group c.roll_back-members.ensures.group c.roll_back-members.ensures.state)
+    c.roll_back-members.new.store refl taken own group c.roll_back-members.ensures.group
+    c.roll_back-members.ensures.state)

@@ -1,5 +1,4 @@
-use Rattle.std.proofs.Common.{◌≡◌, Option, Some, IfSome, IsNone, ℕ, List, ap, subst, sym, slice_get}
-use Rattle.ent_protocol.specs.Finish.{IsOutstandingSingle}
+use Rattle.std.proofs.Common.{◌≡◌, Some, IfSome, List, ap, subst, sym, slice_get}
 use Rattle.ent_protocol.specs.Job.{Job, One, Single}
 use Rattle.ent_protocol.specs.State.{State}
 use Rattle.ent_core.proofs.Outstanding.{stands_at}

@@ -1,4 +1,4 @@
-use Rattle.std.proofs.Common.{◌≡◌, ◌∙◌, ◌∷◌, [], List, Some, ap, refl, sym, slice_get}
+use Rattle.std.proofs.Common.{◌∙◌, List, ap, sym, slice_get}
 use Rattle.ent_job.specs.Work.{work_seen}
 use Rattle.ent_job.specs.declared.work.Work.{Work}
 use Rattle.ent_protocol.specs.Job.{Job}

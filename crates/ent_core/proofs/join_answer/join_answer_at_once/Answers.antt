@@ -1,4 +1,4 @@
-use Rattle.std.proofs.Common.{◌≡◌, ◌∙◌, List, Some, ap, sym, subst, slice_get}
+use Rattle.std.proofs.Common.{◌∙◌, List, ap, sym, subst, slice_get}
 use Rattle.ent_protocol.specs.Job.{Job}
 use Rattle.ent_protocol.specs.PoolEvents.{IsPresentComponent}
 use Rattle.ent_core.proofs.Outstanding.{same_asked}

@@ -16,4 +16,5 @@ returns-in-Some c =
 pub returns-in-None : goal.returns-in-None
 returns-in-None c =
     let s : State = the_view c.store.inside in
-    c.new.ensures ∙ group_none s c.args.tx (c.in-None.ensures s) ∙ ap (λ (x : State). group_of x c.args.tx) c.store.view_is
+    c.new.ensures ∙ group_none s c.args.tx (c.in-None.ensures s)
+    ∙ ap (λ (x : State). group_of x c.args.tx) c.store.view_is

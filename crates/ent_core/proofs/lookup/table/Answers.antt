@@ -13,7 +13,8 @@ returns-in-Some-clause-rows c =
     let tables = inside.tables.tables in
     let name = c.args.name.now in
     c.table.ensures.rows ∙ ap (found_in tables) c.in-Some.ensures ∙ found_under inside.catalogue.tables tables name
-    ∙ (λ i. under (names_declared inside.catalogue.tables inside.opening.tables c.store.invariant.declared i) tables name)
+    ∙ (λ i. under (names_declared inside.catalogue.tables inside.opening.tables c.store.invariant.declared i) tables
+    name)
     ∙ rows_under_name (table_names inside.opening) tables name ∙ ap (λ (s : State). present_rows s name) c.store.view_is
 
 pub returns-in-None-clause-rows : goal.returns-in-None-clause-rows
@@ -22,7 +23,8 @@ returns-in-None-clause-rows c =
     let tables = inside.tables.tables in
     let name = c.args.name.now in
     ap (found_in tables) c.in-None.ensures ∙ found_under inside.catalogue.tables tables name
-    ∙ (λ i. under (names_declared inside.catalogue.tables inside.opening.tables c.store.invariant.declared i) tables name)
+    ∙ (λ i. under (names_declared inside.catalogue.tables inside.opening.tables c.store.invariant.declared i) tables
+    name)
     ∙ rows_under_name (table_names inside.opening) tables name ∙ ap (λ (s : State). present_rows s name) c.store.view_is
 
 pub returns-in-Some-clause-kinds : goal.returns-in-Some-clause-kinds

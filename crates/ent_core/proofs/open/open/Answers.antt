@@ -17,8 +17,9 @@ open-requires-clause-formed c =
 pub invariant_of-result : goal.invariant_of-result
 invariant_of-result c =
     kept_opened_store c.args.opening c.in_ok-catalogue.catalogue.tables c.new.result.items c.new-2.result c.new-3.result
-    c.in_ok-tables.tables c.in_ok-catalogue.ensures.tables c.new.ensures.items c.new-2.ensures c.new-3.ensures.prepared
-    c.new-3.ensures.active c.in_ok-tables.ensures.kinds
+    c.in_ok-tables.tables c.new-4.result c.in_ok-catalogue.ensures.tables c.new.ensures.items c.new-2.ensures
+    c.new-3.ensures.prepared
+    c.new-3.ensures.active c.in_ok-tables.ensures.kinds c.new-4.ensures
 
 pub returns : goal.returns
 returns c =
@@ -28,11 +29,11 @@ returns c =
       dormant = (c.new-2.ensures i).dormant;
       prepared = c.new-3.ensures.prepared i;
       active = c.new-3.ensures.active i;
-      joints = c.new-4.ensures.items i;
+      joints = c.new-5.ensures.items i;
       tables = c.in_ok-tables.ensures.tables i;
       changes = c.in_ok-tables.ensures.changes i;
-      journal = c.new-7.ensures.items i;
+      journal = c.new-8.ensures.items i;
       fates = (c.new-2.ensures i).fates;
-      tried = c.new-5.ensures.items i;
-      lent = c.new-6.ensures i;
+      tried = c.new-6.ensures.items i;
+      lent = c.new-7.ensures i;
     })

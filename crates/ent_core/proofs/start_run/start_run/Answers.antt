@@ -1,34 +1,48 @@
-use Rattle.std.proofs.Common.{◌≡◌, ◌<◌, ◌∙◌, ap, arith, length, take, List, min}
+use Rattle.std.proofs.Common.{◌≡◌, ◌<◌, ◌∙◌, ap, arith, length, nat_eq, subst, sym, List, map, min, take}
+use Rattle.std.specs.List.{IsDistinct}
 use Rattle.ent_form.specs.declared.fault.FormFault.{FormFault}
 use Rattle.ent_group.specs.declared.members.TheConstants.{MOST_MEMBERS}
 use Rattle.ent_protocol.specs.State.{State, Dormant, by_number}
 use Rattle.ent_protocol.specs.Run.{fresh}
 use Rattle.ent_members.specs.Run.{tx_of}
-use Rattle.std.proofs.Common.{map}
 use Rattle.ent_core.specs.contracts.store.Store.{the_view}
 use Rattle.ent_roster.specs.Roster.{Roster}
+use Rattle.ent_core.proofs.Pooled.{kept_fresh}
 use Rattle.ent_core.proofs.Starting.{distinct_taken, kept_started, started}
 use Rattle.ent_core.proofs.start_run.start_run.Goals as goal
 
 pub start-requires-clause-distinct : goal.start-requires-clause-distinct
-start-requires-clause-distinct c = rw c.dormant.ensures (distinct_taken c.min-count.result c.store.inside.roster.dormant c.store.invariant.distinct)
-
-pub take_first-requires-clause-distinct : goal.take_first-requires-clause-distinct
-take_first-requires-clause-distinct c = c.store.invariant.distinct
+start-requires-clause-distinct c =
+    subst (λ (all : List Dormant). IsDistinct nat_eq (map (λ own. own.tx) all)) (sym (c.as_slice.ensures.value
+    ∙ c.in_ok-entrants.ensures))
+    (distinct_taken c.min-count.result c.store.inside.roster.dormant c.store.invariant.distinct)
 
 pub invariant_of-store : goal.invariant_of-store
 invariant_of-store c =
     let inside = c.store.inside in
-    kept_started inside.catalogue.tables inside.opening inside.submitted.items inside.roster _ inside.running _ c.in_ok-run.run'
-    inside.tables c.min-count.result c.store.invariant c.take_first.ensures
+    kept_started inside.catalogue.tables inside.opening inside.submitted.items inside.roster _ inside.running _
+    c.in_ok-run.run'
+    inside.tables inside.pool inside.pool c.min-count.result c.store.invariant c.take_first.ensures
+    (kept_fresh inside.submitted.items inside.run.active inside.pool c.store.invariant.posted
+    (take c.min-count.result inside.roster.dormant) c.in_ok-run.run'.active
+    (c.store.invariant.idle_active c.if-store.false)
+    (c.in_ok-run.ensures.active
+    ∙ ap (λ (all : List Dormant). by_number tx_of (map fresh all)) (c.as_slice.ensures.value
+    ∙ c.in_ok-entrants.ensures)))
 
 pub returns-clause-ok : goal.returns-clause-ok
 returns-clause-ok c =
     let s : State = the_view c.store.inside in
-    let waiting : length c.dormant-waiting.result.now ≡ length c.store.inside.roster.dormant = ap length c.dormant-waiting.ensures in
+    let waiting = c.dormant_len-waiting.ensures in
     let some : 0 < length c.store.inside.roster.dormant = omega (arith, waiting) in
-    let least : c.min-count.result ≡ min (length c.store.inside.roster.dormant) MOST_MEMBERS = c.min-count.ensures ∙ ap (λ n. min n 64) waiting in
-    started FormFault s c.args.store.now c.min-count.result c.take_first.new.self.dormant c.take_first.new.self.fates c.in_ok-run.run'.prepared c.in_ok-run.run'.active c.numbers-members.result c.clear.new.self.items
-    c.store.view_is c.if-store.false c.clear.ensures.items (c.store.invariant.idle_prepared c.if-store.false) some least c.in_ok-run.ensures.prepared
-    (c.in_ok-run.ensures.active ∙ ap (λ (all : List Dormant). by_number tx_of (map fresh (take c.min-count.result all))) c.dormant.ensures)
-    (ap (λ (r : Roster). r.dormant) c.take_first.ensures) (ap (λ (r : Roster). r.fates) c.take_first.ensures) (c.numbers-members.ensures s)
+    let least : c.min-count.result ≡ min (length c.store.inside.roster.dormant) MOST_MEMBERS = c.min-count.ensures
+    ∙ ap (λ n. min n 64) waiting in
+    started FormFault s c.args.store.now c.min-count.result c.take_first.new.self.dormant c.take_first.new.self.fates
+    c.in_ok-run.run'.prepared c.in_ok-run.run'.active c.numbers-members.result c.clear.new.self.items
+    c.store.view_is c.if-store.false c.clear.ensures.items (c.store.invariant.idle_prepared c.if-store.false) some
+    least c.in_ok-run.ensures.prepared
+    (c.in_ok-run.ensures.active
+    ∙ ap (λ (all : List Dormant). by_number tx_of (map fresh all)) (c.as_slice.ensures.value
+    ∙ c.in_ok-entrants.ensures))
+    (ap (λ (r : Roster). r.dormant) c.take_first.ensures) (ap (λ (r : Roster). r.fates) c.take_first.ensures)
+    (c.numbers-members.ensures s)

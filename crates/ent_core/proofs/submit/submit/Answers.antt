@@ -1,12 +1,21 @@
-use Rattle.std.proofs.Common.{◌∙◌, ap, arith, List, ◌++◌, ◌∷◌, []}
+use Rattle.std.proofs.Common.{◌∙◌, ap, subst, sym, arith, List, ◌++◌, ◌∷◌, []}
 use Rattle.ent_protocol.specs.State.{Submitted}
-use Rattle.ent_core.proofs.Arrivals.{kept_submitted}
+use Rattle.ent_resolved.specs.Resolved.{resolved_forms}
+use Rattle.ent_standing.specs.Standing.{StandOnce}
+use Rattle.ent_core.specs.contracts.store.Store.{the_view}
+use Rattle.ent_core.proofs.Arrivals.{active_arrived, kept_submitted}
+use Rattle.ent_core.proofs.Pooled.{kept_more}
 use Rattle.ent_core.proofs.submit.submit.Goals as goal
 
 pub invariant_of-store-in-Ok-admit : goal.invariant_of-store-in-Ok-admit
 invariant_of-store-in-Ok-admit c =
     let inside = c.store.inside in
-    kept_submitted inside.catalogue.tables inside.opening inside.submitted.items _ inside.roster _ inside.running inside.run
-    inside.tables c.in_ok-own.own _ c.store.invariant c.within-asked.ensures.least
-    (c.push_reserved.ensures.items ∙ ap (λ (xs : List Submitted). xs ++ c.in_ok-own.own ∷ []) c.reserve.ensures.items)
+    let more = c.push_reserved.ensures.items
+    ∙ ap (λ (xs : List Submitted). xs ++ c.in_ok-own.own ∷ []) c.reserve.ensures.items in
+    kept_submitted inside.catalogue.tables inside.opening inside.submitted.items _ inside.roster _ inside.running
+    inside.run
+    inside.tables inside.pool c.in_ok-own.own _ c.store.invariant c.within-asked.ensures.least more
     c.in-Ok-admit.ensures.ok (omega arith)
+    (kept_more inside.submitted.items inside.run.active inside.pool c.store.invariant.posted _ c.in_ok-own.own more
+    (active_arrived (the_view inside) (subst StandOnce (sym c.store.view_is)
+    (c.transactions_stand_once.ensures.once resolved_forms c.args.store.now c.requires.kept.reached))))

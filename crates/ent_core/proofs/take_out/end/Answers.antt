@@ -13,14 +13,16 @@ pub take_out-requires-clause-room : goal.take_out-requires-clause-room
 take_out-requires-clause-room c =
     let s : State = c.args.store.now in
     let are : c.all_leavers-leavers.result ≡ map leaver_of (by_number tx_of (members s)) =
-    c.all_leavers-leavers.ensures (the_view c.store.inside) ∙ ap (λ (x : State). map leaver_of (by_number tx_of (members x))) c.store.view_is in
+    c.all_leavers-leavers.ensures (the_view c.store.inside) ∙ ap (λ (x : State). map leaver_of (by_number tx_of
+    (members x))) c.store.view_is in
     room_for s (members s) c.all_leavers-leavers.result c.requires.counted are (omega arith)
 
 pub take_out-requires-clause-leaving : goal.take_out-requires-clause-leaving
 take_out-requires-clause-leaving c =
     let s : State = c.args.store.now in
     let are : c.all_leavers-leavers.result ≡ map leaver_of (by_number tx_of (members s)) =
-    c.all_leavers-leavers.ensures (the_view c.store.inside) ∙ ap (λ (x : State). map leaver_of (by_number tx_of (members x))) c.store.view_is in
+    c.all_leavers-leavers.ensures (the_view c.store.inside) ∙ ap (λ (x : State). map leaver_of (by_number tx_of
+    (members x))) c.store.view_is in
     subst (λ (leavers : List Leaver). MayLeave leavers s) (sym are)
     (may_leave s (members s) c.requires.once c.requires.within.members (λ n. omega arith))
 
@@ -29,9 +31,12 @@ invariant_of-store c =
     let s : State = c.args.store.now in
     let inside = c.store-2.inside in
     let are : c.all_leavers-leavers.result ≡ map leaver_of (by_number tx_of (members s)) =
-    c.all_leavers-leavers.ensures (the_view c.store.inside) ∙ ap (λ (x : State). map leaver_of (by_number tx_of (members x))) c.store.view_is in
-    let left : the_view inside ≡ taken_out (members s) NoOne s = c.store-2.view_is ∙ c.take_out.ensures (members s) are in
-    kept_ended inside.catalogue.tables inside.opening inside.submitted.items inside.roster inside.running inside.run inside.tables
+    c.all_leavers-leavers.ensures (the_view c.store.inside) ∙ ap (λ (x : State). map leaver_of (by_number tx_of
+    (members x))) c.store.view_is in
+    let left : the_view inside ≡ taken_out (members s) NoOne s = c.store-2.view_is
+    ∙ c.take_out.ensures (members s) are in
+    kept_ended inside.catalogue.tables inside.opening inside.submitted.items inside.roster inside.running inside.run
+    inside.tables inside.pool
     c.store-2.invariant (ap (λ (x : State). x.prepared) left ∙ no_prepared_left s NoOne)
     (ap (λ (x : State). x.active) left ∙ no_active_left s NoOne)
 
@@ -39,13 +44,17 @@ pub returns-clause-members : goal.returns-clause-members
 returns-clause-members c =
     let s : State = c.args.store.now in
     let are : c.all_leavers-leavers.result ≡ map leaver_of (by_number tx_of (members s)) =
-    c.all_leavers-leavers.ensures (the_view c.store.inside) ∙ ap (λ (x : State). map leaver_of (by_number tx_of (members x))) c.store.view_is in
-    numbers_leaving c.numbers-members.result c.all_leavers-leavers.result (by_number tx_of (members s)) c.numbers-members.ensures are
+    c.all_leavers-leavers.ensures (the_view c.store.inside) ∙ ap (λ (x : State). map leaver_of (by_number tx_of
+    (members x))) c.store.view_is in
+    numbers_leaving c.numbers-members.result c.all_leavers-leavers.result (by_number tx_of (members s))
+    c.numbers-members.ensures are
 
 pub returns-clause-state : goal.returns-clause-state
 returns-clause-state c =
     let s : State = c.args.store.now in
     let are : c.all_leavers-leavers.result ≡ map leaver_of (by_number tx_of (members s)) =
-    c.all_leavers-leavers.ensures (the_view c.store.inside) ∙ ap (λ (x : State). map leaver_of (by_number tx_of (members x))) c.store.view_is in
-    let left : the_view c.store-2.inside ≡ taken_out (members s) NoOne s = c.store-2.view_is ∙ c.take_out.ensures (members s) are in
+    c.all_leavers-leavers.ensures (the_view c.store.inside) ∙ ap (λ (x : State). map leaver_of (by_number tx_of
+    (members x))) c.store.view_is in
+    let left : the_view c.store-2.inside ≡ taken_out (members s) NoOne s = c.store-2.view_is
+    ∙ c.take_out.ensures (members s) are in
     λ i. record (left i) { running = false; tried = c.clear.ensures.items i; lent = c.clear-2.ensures i }

@@ -17,15 +17,18 @@ take_out-requires-clause-room c =
     let s : State = c.args.store.now in
     let group = c.args.group in
     let are : c.leavers-leavers.result ≡ map leaver_of (group_members s group) =
-    c.leavers-leavers.ensures (the_view c.store.inside) ∙ ap (λ (x : State). map leaver_of (group_members x group)) c.store.view_is in
-    room_for s (filter (is_of group) (members s)) c.leavers-leavers.result c.requires.counted are (length_filter (is_of group) (members s))
+    c.leavers-leavers.ensures (the_view c.store.inside) ∙ ap (λ (x : State). map leaver_of (group_members x group))
+    c.store.view_is in
+    room_for s (filter (is_of group) (members s)) c.leavers-leavers.result c.requires.counted are (length_filter
+    (is_of group) (members s))
 
 pub take_out-requires-clause-leaving : goal.take_out-requires-clause-leaving
 take_out-requires-clause-leaving c =
     let s : State = c.args.store.now in
     let group = c.args.group in
     let are : c.leavers-leavers.result ≡ map leaver_of (group_members s group) =
-    c.leavers-leavers.ensures (the_view c.store.inside) ∙ ap (λ (x : State). map leaver_of (group_members x group)) c.store.view_is in
+    c.leavers-leavers.ensures (the_view c.store.inside) ∙ ap (λ (x : State). map leaver_of (group_members x group))
+    c.store.view_is in
     subst (λ (leavers : List Leaver). MayLeave leavers s) (sym are)
     (may_leave s (filter (is_of group) (members s)) c.requires.once
     (all_filter (MayTakePart s.submitted) (is_of group) (members s) c.requires.within.members)
@@ -36,15 +39,18 @@ returns-clause-group c =
     let s : State = c.args.store.now in
     let group = c.args.group in
     let are : c.leavers-leavers.result ≡ map leaver_of (group_members s group) =
-    c.leavers-leavers.ensures (the_view c.store.inside) ∙ ap (λ (x : State). map leaver_of (group_members x group)) c.store.view_is in
-    numbers_leaving c.numbers-members.result c.leavers-leavers.result (group_members s group) c.numbers-members.ensures are
+    c.leavers-leavers.ensures (the_view c.store.inside) ∙ ap (λ (x : State). map leaver_of (group_members x group))
+    c.store.view_is in
+    numbers_leaving c.numbers-members.result c.leavers-leavers.result (group_members s group)
+    c.numbers-members.ensures are
 
 pub returns-clause-state : goal.returns-clause-state
 returns-clause-state c =
     let s : State = c.args.store.now in
     let group = c.args.group in
     let are : c.leavers-leavers.result ≡ map leaver_of (group_members s group) =
-    c.leavers-leavers.ensures (the_view c.store.inside) ∙ ap (λ (x : State). map leaver_of (group_members x group)) c.store.view_is in
+    c.leavers-leavers.ensures (the_view c.store.inside) ∙ ap (λ (x : State). map leaver_of (group_members x group))
+    c.store.view_is in
     let again = by_number_again (filter (is_of group) (members s))
     (part_is_distinct (is_of group) (members s) (members_are_distinct s c.requires.once)) in
     c.take_out.ensures (group_members s group) (are ∙ ap (map leaver_of) (sym again))

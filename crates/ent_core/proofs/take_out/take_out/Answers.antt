@@ -1,9 +1,12 @@
-use Rattle.std.proofs.Common.{◌≡◌, ◌∙◌, ◌++◌, ℕ, List, ap, length, sym, subst, map}
-use Rattle.std.specs.List.{AllByRecursion, filter_map}
+use Rattle.std.proofs.Common.{◌≡◌, ◌∙◌, ◌++◌, ℕ, List, ap, length, nat_eq, sym, subst, map}
+use Rattle.std.specs.List.{AllByRecursion, IsDistinct, filter, filter_map}
+use Rattle.ent_pool_laws.specs.Pooled.{IsPoolOf, is_of_none}
+use Rattle.ent_core.proofs.Pooled.{kept_gone}
 use Rattle.ent_core.proofs.TakenOut.{as_leavers, joints_left, kept_taken, numbers_leaving, taken}
 use Rattle.ent_core.specs.TakeOut.{MayLeave}
 use Rattle.ent_core.specs.contracts.store.Store.{the_view}
 use Rattle.ent_members.specs.declared.leavers.Leaver.{Leaver}
+use Rattle.ent_members.specs.Leavers.{numbers_in}
 use Rattle.ent_members.specs.Moves.{is_not_of}
 use Rattle.ent_members.specs.Run.{tx_of}
 use Rattle.ent_protocol.specs.Rollback.{dormant_by, fated_by, taken_out}
@@ -23,6 +26,22 @@ leave-requires-clause-numbers c =
     subst (λ known. N known c.as_slice.result.now) (sym c.store.invariant.known)
     (subst (N (length inside.submitted.items)) (sym c.as_slice.ensures.list) leaving.arrived)
 
+pub leave-requires-clause-awake : goal.leave-requires-clause-awake
+leave-requires-clause-awake c =
+    let inside = c.store.inside in
+    let leaving : MayLeave c.args.leavers.now (the_view inside) =
+    subst (λ (s : State). MayLeave c.args.leavers.now s) (sym c.store.view_is) c.requires.leaving in
+    subst (λ (all : List Leaver). IsDistinct nat_eq (map (λ own. own.tx) inside.roster.dormant ++ numbers_in all))
+    (sym c.as_slice.ensures.list) leaving.distinct
+
+pub leave-requires-clause-unfinished : goal.leave-requires-clause-unfinished
+leave-requires-clause-unfinished c =
+    let inside = c.store.inside in
+    let leaving : MayLeave c.args.leavers.now (the_view inside) =
+    subst (λ (s : State). MayLeave c.args.leavers.now s) (sym c.store.view_is) c.requires.leaving in
+    subst (λ (all : List Leaver). IsDistinct nat_eq (map (λ fated. fated.tx) inside.roster.fates ++ numbers_in all))
+    (sym c.as_slice.ensures.list) leaving.unfinished
+
 pub invariant_of-store : goal.invariant_of-store
 invariant_of-store c =
     let inside = c.store.inside in
@@ -30,13 +49,21 @@ invariant_of-store c =
     let cause = cause_seen c.args.cause in
     let leaving : MayLeave leavers (the_view inside) =
     subst (λ (s : State). MayLeave leavers s) (sym c.store.view_is) c.requires.leaving in
-    kept_taken inside.catalogue.tables inside.opening inside.submitted.items inside.roster c.leave.new.self inside.running
-    inside.run c.remove.new.self inside.tables c.roll_back.new.self leavers cause (is_not_of c.numbers-numbers.result)
+    kept_taken inside.catalogue.tables inside.opening inside.submitted.items inside.roster c.leave.new.self
+    inside.running
+    inside.run c.remove.new.self inside.tables c.roll_back.new.self inside.pool c.withdraw_each.new.pool leavers cause
+    (is_not_of c.numbers-numbers.result)
     c.store.invariant leaving.arrived leaving.distinct
     (c.leave.ensures.dormant (map as_member leavers) (c.as_slice.ensures.list ∙ as_leavers leavers)
-    ∙ (λ i. inside.roster.dormant ++ filter_map (dormant_by (c.as_slice-2.ensures.value i) cause) (map as_member leavers)))
+    ∙ (λ i. inside.roster.dormant ++ filter_map (dormant_by (c.as_slice-2.ensures.value i) cause) (map as_member
+    leavers)))
     c.leave.ensures.known c.remove.ensures.prepared c.remove.ensures.active
     (ap (λ (stored : Stored). stored.kinds) c.roll_back.ensures.numbers)
+    (subst (IsPoolOf inside.submitted.items c.remove.new.self.active) (sym c.withdraw_each.ensures)
+    (subst (λ (numbers : List ℕ). IsPoolOf inside.submitted.items c.remove.new.self.active
+    (filter (is_of_none numbers) inside.pool)) (sym c.as_slice-3.ensures.list)
+    (kept_gone inside.submitted.items inside.run.active inside.pool c.store.invariant.posted c.numbers-numbers.result
+    c.remove.new.self.active c.remove.ensures.active)))
 
 pub returns : goal.returns
 returns c = λ gone is.

@@ -30,5 +30,6 @@ pub returns-else-branch : goal.returns-else-branch
 returns-else-branch c = λ s same tx moves.
     let here = state_with c.args.run.now c.args.submitted.now c.args.lent.now s in
     let asks = c.in-Asks.ensures s in
-    let is = (c.in_ok-stays_safe-in-Asks.ensures here asks.statement refl same asks.next).1 (asks.moves.0 moves.moves) in
+    let is = (c.in_ok-stays_safe-in-Asks.ensures here asks.statement refl same asks.next).1 (asks.moves.0
+    moves.moves) in
     true≢false (sym is ∙ c.if-branch.false)

@@ -3,7 +3,7 @@ use Rattle.std.specs.Prelude.{IsTrue}
 use Rattle.std.specs.Arc.{arc_value}
 use Rattle.ent_coordination.specs.Pool.{IsSafe, Posted}
 use Rattle.ent_next.specs.Next.{next_seen}
-use Rattle.ent_protocol.specs.Member.{Asks, next_in}
+use Rattle.ent_protocol.specs.Member.{Asks, next_in, posted_as}
 use Rattle.ent_protocol.specs.State.{Submitted}
 use Rattle.ent_semantics.specs.Serial.{numbered}
 use Rattle.ent_quiet.proofs.Posting.{asks_same, fault_tells, has_none, pool_is}
@@ -24,8 +24,7 @@ returns-in-Asks c = λ s statement same posted next.
     let asks : Asks (arc_value c.in-Asks.statement) ≡ Asks statement =
     sym (ap next_seen c.in-Asks.is) ∙ c.in_ok-statement.ensures.next
     ∙ (ap (λ (scripts : List Submitted). next_in (numbered scripts member.tx) member) (sym same) ∙ next) in
-    let is : query
-    ≡ record { tx = member.tx; attempt = member.attempt; place = member.place; statement = statement } =
+    let is : query ≡ posted_as member statement =
     c.new-query.ensures
     ∙ (λ i. record {
       tx = c.tx.ensures i;

@@ -1,4 +1,4 @@
-use Rattle.std.proofs.Common.{◌≡◌, ℕ, List, Option, refl, sym, ap, subst, ◌∙◌}
+use Rattle.std.proofs.Common.{◌≡◌, ℕ, List, Option, refl, sym, ap, subst}
 use Rattle.std.specs.Prelude.{IfSome}
 use Rattle.std.specs.Option.{is_some}
 use Rattle.ent_protocol.specs.Member.{pool}
@@ -7,69 +7,55 @@ use Rattle.ent_protocol.specs.State.{Member}
 use Rattle.ent_protocol.specs.Waits.{IsDeadlock}
 use Rattle.ent_quiet.specs.Movers.{OnlyPostedAsk}
 use Rattle.ent_quiet.specs.Quiet.{state_of}
-use Rattle.ent_quiet.proofs.Reasons.{ArePosted, in_order, in_safety, is_least, is_none, least_if_any, least_of_all}
+use Rattle.ent_quiet.proofs.Reasons.{in_order, in_safety, is_least, is_none, least_if_any, least_of_all}
 use Rattle.ent_quiet.proofs.Reasons.{posted_ask}
 use Rattle.ent_quiet.proofs.reason.reason_of.Goals as goal
 
 pub job_out-requires-clause-by_number : goal.job_out-requires-clause-by_number
 job_out-requires-clause-by_number c =
-    let posted = c.as_slice-pool.result.now in
-    let are : ArePosted c.args.submitted.now c.args.run.now.active posted =
-    (λ t of_submitted of_active. c.as_slice-pool.ensures ∙ c.in_ok-posted.ensures.pool t of_submitted
-    (of_active ∙ sym c.active-active.ensures.list)) in
+    let posted = c.args.posted.now in
+    let are = c.requires.posted in
     in_order c.args.submitted.now c.args.run.now.active posted c.requires.order are
 
 pub job_out-requires-clause-safe : goal.job_out-requires-clause-safe
 job_out-requires-clause-safe c =
-    let posted = c.as_slice-pool.result.now in
-    let are : ArePosted c.args.submitted.now c.args.run.now.active posted =
-    (λ t of_submitted of_active. c.as_slice-pool.ensures ∙ c.in_ok-posted.ensures.pool t of_submitted
-    (of_active ∙ sym c.active-active.ensures.list)) in
+    let posted = c.args.posted.now in
+    let are = c.requires.posted in
     in_safety c.args.submitted.now c.args.run.now.active posted c.requires.order are
 
 pub returns-in-Some : goal.returns-in-Some
 returns-in-Some c = λ s.
-    let posted = c.as_slice-pool.result.now in
-    let are : ArePosted c.args.submitted.now c.args.run.now.active posted =
-    (λ t of_submitted of_active. c.as_slice-pool.ensures ∙ c.in_ok-posted.ensures.pool t of_submitted
-    (of_active ∙ sym c.active-active.ensures.list)) in
+    let posted = c.args.posted.now in
+    let are = c.requires.posted in
     let here = state_of c.args.run.now c.args.submitted.now c.args.tried.now c.args.lent.now s in
-    let same : pool here ≡ posted = sym (are here refl refl) in
+    let same : pool here ≡ posted = are here refl refl in
     is_least (HasJobOut here) c.in_ok-tx.field-0 c.in-Some.tx c.in-Some.is (c.in_ok-tx.ensures here same refl)
 
 pub least_mover-requires-clause-by_number : goal.least_mover-requires-clause-by_number
 least_mover-requires-clause-by_number c =
-    let posted = c.as_slice-pool.result.now in
-    let are : ArePosted c.args.submitted.now c.args.run.now.active posted =
-    (λ t of_submitted of_active. c.as_slice-pool.ensures ∙ c.in_ok-posted.ensures.pool t of_submitted
-    (of_active ∙ sym c.active-active.ensures.list)) in
+    let posted = c.args.posted.now in
+    let are = c.requires.posted in
     in_order c.args.submitted.now c.args.run.now.active posted c.requires.order are
 
 pub least_mover-requires-clause-safe : goal.least_mover-requires-clause-safe
 least_mover-requires-clause-safe c =
-    let posted = c.as_slice-pool.result.now in
-    let are : ArePosted c.args.submitted.now c.args.run.now.active posted =
-    (λ t of_submitted of_active. c.as_slice-pool.ensures ∙ c.in_ok-posted.ensures.pool t of_submitted
-    (of_active ∙ sym c.active-active.ensures.list)) in
+    let posted = c.args.posted.now in
+    let are = c.requires.posted in
     in_safety c.args.submitted.now c.args.run.now.active posted c.requires.order are
 
 pub least_mover-requires-clause-apart : goal.least_mover-requires-clause-apart
 least_mover-requires-clause-apart c =
-    let posted = c.as_slice-pool.result.now in
-    let are : ArePosted c.args.submitted.now c.args.run.now.active posted =
-    (λ t of_submitted of_active. c.as_slice-pool.ensures ∙ c.in_ok-posted.ensures.pool t of_submitted
-    (of_active ∙ sym c.active-active.ensures.list)) in
+    let posted = c.args.posted.now in
+    let are = c.requires.posted in
     subst (λ (members : List Member). OnlyPostedAsk posted members) (sym c.active-active.ensures.list)
     (posted_ask c.args.submitted.now c.args.run.now.active posted c.requires.order are)
 
 pub returns-in-Some-2 : goal.returns-in-Some-2
 returns-in-Some-2 c = λ s.
-    let posted = c.as_slice-pool.result.now in
-    let are : ArePosted c.args.submitted.now c.args.run.now.active posted =
-    (λ t of_submitted of_active. c.as_slice-pool.ensures ∙ c.in_ok-posted.ensures.pool t of_submitted
-    (of_active ∙ sym c.active-active.ensures.list)) in
+    let posted = c.args.posted.now in
+    let are = c.requires.posted in
     let here = state_of c.args.run.now c.args.submitted.now c.args.tried.now c.args.lent.now s in
-    let same : pool here ≡ posted = sym (are here refl refl) in
+    let same : pool here ≡ posted = are here refl refl in
     let nothing = is_none (HasJobOut here) c.in_ok-tx.field-0 c.in_default.is
     (c.in_ok-tx.ensures here same refl) in
     let mover = is_least (CanMove here) c.in_ok-tx-2.field-0 c.in-Some-2.tx c.in-Some-2.is
@@ -79,28 +65,22 @@ returns-in-Some-2 c = λ s.
 
 pub first_untried-requires-clause-by_number : goal.first_untried-requires-clause-by_number
 first_untried-requires-clause-by_number c =
-    let posted = c.as_slice-pool.result.now in
-    let are : ArePosted c.args.submitted.now c.args.run.now.active posted =
-    (λ t of_submitted of_active. c.as_slice-pool.ensures ∙ c.in_ok-posted.ensures.pool t of_submitted
-    (of_active ∙ sym c.active-active.ensures.list)) in
+    let posted = c.args.posted.now in
+    let are = c.requires.posted in
     in_order c.args.submitted.now c.args.run.now.active posted c.requires.order are
 
 pub first_untried-requires-clause-safe : goal.first_untried-requires-clause-safe
 first_untried-requires-clause-safe c =
-    let posted = c.as_slice-pool.result.now in
-    let are : ArePosted c.args.submitted.now c.args.run.now.active posted =
-    (λ t of_submitted of_active. c.as_slice-pool.ensures ∙ c.in_ok-posted.ensures.pool t of_submitted
-    (of_active ∙ sym c.active-active.ensures.list)) in
+    let posted = c.args.posted.now in
+    let are = c.requires.posted in
     in_safety c.args.submitted.now c.args.run.now.active posted c.requires.order are
 
 pub returns-in-Some-3 : goal.returns-in-Some-3
 returns-in-Some-3 c = λ s.
-    let posted = c.as_slice-pool.result.now in
-    let are : ArePosted c.args.submitted.now c.args.run.now.active posted =
-    (λ t of_submitted of_active. c.as_slice-pool.ensures ∙ c.in_ok-posted.ensures.pool t of_submitted
-    (of_active ∙ sym c.active-active.ensures.list)) in
+    let posted = c.args.posted.now in
+    let are = c.requires.posted in
     let here = state_of c.args.run.now c.args.submitted.now c.args.tried.now c.args.lent.now s in
-    let same : pool here ≡ posted = sym (are here refl refl) in
+    let same : pool here ≡ posted = are here refl refl in
     let nothing = is_none (HasJobOut here) c.in_ok-tx.field-0 c.in_default.is
     (c.in_ok-tx.ensures here same refl) in
     let nobody = is_none (CanMove here) c.in_ok-tx-2.field-0 c.in_default-2.is
@@ -112,12 +92,10 @@ returns-in-Some-3 c = λ s.
 
 pub returns-in-Some-deadlock : goal.returns-in-Some-deadlock
 returns-in-Some-deadlock c = λ s.
-    let posted = c.as_slice-pool.result.now in
-    let are : ArePosted c.args.submitted.now c.args.run.now.active posted =
-    (λ t of_submitted of_active. c.as_slice-pool.ensures ∙ c.in_ok-posted.ensures.pool t of_submitted
-    (of_active ∙ sym c.active-active.ensures.list)) in
+    let posted = c.args.posted.now in
+    let are = c.requires.posted in
     let here = state_of c.args.run.now c.args.submitted.now c.args.tried.now c.args.lent.now s in
-    let same : pool here ≡ posted = sym (are here refl refl) in
+    let same : pool here ≡ posted = are here refl refl in
     let nothing = is_none (HasJobOut here) c.in_ok-tx.field-0 c.in_default.is
     (c.in_ok-tx.ensures here same refl) in
     let nobody = is_none (CanMove here) c.in_ok-tx-2.field-0 c.in_default-2.is
@@ -129,14 +107,12 @@ returns-in-Some-deadlock c = λ s.
     (c.deadlock.ensures.found (record s { tried = c.args.tried.now })) in
     (nothing, nobody, tried, cycle)
 
-pub returns : goal.returns
-returns c = λ s.
-    let posted = c.as_slice-pool.result.now in
-    let are : ArePosted c.args.submitted.now c.args.run.now.active posted =
-    (λ t of_submitted of_active. c.as_slice-pool.ensures ∙ c.in_ok-posted.ensures.pool t of_submitted
-    (of_active ∙ sym c.active-active.ensures.list)) in
+pub returns-in-None : goal.returns-in-None
+returns-in-None c = λ s.
+    let posted = c.args.posted.now in
+    let are = c.requires.posted in
     let here = state_of c.args.run.now c.args.submitted.now c.args.tried.now c.args.lent.now s in
-    let same : pool here ≡ posted = sym (are here refl refl) in
+    let same : pool here ≡ posted = are here refl refl in
     let nothing = is_none (HasJobOut here) c.in_ok-tx.field-0 c.in_default.is
     (c.in_ok-tx.ensures here same refl) in
     let nobody = is_none (CanMove here) c.in_ok-tx-2.field-0 c.in_default-2.is

@@ -5,7 +5,8 @@ use Rattle.ent_core.proofs.reached.Core.break_cycle.Goals as goal
 
 pub invariant_of-self : goal.invariant_of-self
 invariant_of-self c =
-    kept_next c.steps_go_on.ensures c.self.inside.store c.break_cycle.new.store BreakCycle (reply_seen c.break_cycle.result)
+    kept_next c.steps_go_on.ensures c.self.inside.store c.break_cycle.new.store BreakCycle (reply_seen
+    c.break_cycle.result)
     c.self.invariant c.break_cycle.ensures
 
 pub returns-clause-step : goal.returns-clause-step

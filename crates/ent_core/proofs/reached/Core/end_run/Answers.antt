@@ -5,11 +5,13 @@ use Rattle.ent_core.proofs.reached.Core.end_run.Goals as goal
 
 pub invariant_of-self : goal.invariant_of-self
 invariant_of-self c =
-    kept_after c.steps_go_on.ensures reply_seen c.self.inside.store c.end_run.new.store EndRun c.end_run.result c.self.invariant
+    kept_after c.steps_go_on.ensures reply_seen c.self.inside.store c.end_run.new.store EndRun c.end_run.result
+    c.self.invariant
     c.end_run.ensures.ok c.end_run.ensures.err
 
 pub returns-clause-legal : goal.returns-clause-legal
 returns-clause-legal c =
-    let kept = kept_after c.steps_go_on.ensures reply_seen c.self.inside.store c.end_run.new.store EndRun c.end_run.result c.self.invariant
+    let kept = kept_after c.steps_go_on.ensures reply_seen c.self.inside.store c.end_run.new.store EndRun
+    c.end_run.result c.self.invariant
     c.end_run.ensures.ok c.end_run.ensures.err in
     c.resolved_runs_are_legal.ensures c.end_run.new.store kept.formed kept.reached

@@ -5,11 +5,13 @@ use Rattle.ent_core.proofs.reached.Core.finish.Goals as goal
 
 pub invariant_of-self : goal.invariant_of-self
 invariant_of-self c =
-    kept_after c.steps_go_on.ensures reply_seen c.self.inside.store c.finish.new.store (Finish c.args.done) c.finish.result c.self.invariant
+    kept_after c.steps_go_on.ensures reply_seen c.self.inside.store c.finish.new.store (Finish c.args.done)
+    c.finish.result c.self.invariant
     c.finish.ensures.ok c.finish.ensures.err
 
 pub returns-clause-legal : goal.returns-clause-legal
 returns-clause-legal c =
-    let kept = kept_after c.steps_go_on.ensures reply_seen c.self.inside.store c.finish.new.store (Finish c.args.done) c.finish.result c.self.invariant
+    let kept = kept_after c.steps_go_on.ensures reply_seen c.self.inside.store c.finish.new.store (Finish
+    c.args.done) c.finish.result c.self.invariant
     c.finish.ensures.ok c.finish.ensures.err in
     c.resolved_runs_are_legal.ensures c.finish.new.store kept.formed kept.reached

@@ -6,13 +6,14 @@ use Rattle.ent_protocol.specs.Rollback.{dormant_by, fated_by}
 use Rattle.ent_protocol.specs.State.{Dormant}
 use Rattle.ent_roster.specs.Cause.{cause_seen}
 use Rattle.ent_roster.specs.Leaving.{as_member}
+use Rattle.ent_roster.specs.Roster.{Roster}
 use Rattle.ent_roster.proofs.Gone.{dormant_of_gone, fates_of_gone}
 use Rattle.ent_roster.proofs.roster.Roster.leave.Goals as goal
 
 pub returns-clause-dormant : goal.returns-clause-dormant
 returns-clause-dormant c = λ gone is.
     let cause = cause_seen c.args.cause in
-    c.leave.ensures.dormant
+    ap (λ (roster : Roster). roster.dormant) c.let_go.ensures ∙ c.leave.ensures.dormant
     ∙ ap (λ (leavers : List Leaver). c.args.self.now.dormant
     ++ filter_map (λ leaver. dormant_by c.args.submitted.now cause (as_member leaver)) leavers) is
     ∙ ap (λ (more : List Dormant). c.args.self.now.dormant ++ more) (dormant_of_gone c.args.submitted.now cause gone)
@@ -20,7 +21,7 @@ returns-clause-dormant c = λ gone is.
 pub returns-clause-fates : goal.returns-clause-fates
 returns-clause-fates c = λ gone is.
     let cause = cause_seen c.args.cause in
-    c.leave.ensures.fates
+    ap (λ (roster : Roster). roster.fates) c.let_go.ensures ∙ c.leave.ensures.fates
     ∙ ap (λ (leavers : List Leaver). c.args.self.now.fates
     ++ filter_map (λ leaver. fated_by c.args.submitted.now cause (as_member leaver)) leavers) is
     ∙ ap (λ (more : List Fated). c.args.self.now.fates ++ more) (fates_of_gone c.args.submitted.now cause gone)
