@@ -1,0 +1,12 @@
+use Rattle.ent_picture.proofs.Rising.{rising_once, same_members}
+use Rattle.ent_picture.proofs.met.each_once.Goals as goal
+
+pub returns-clause-rising : goal.returns-clause-rising
+returns-clause-rising c =
+    rising_once c.sort_unstable.new.self.items c.dedup.new.self.items c.sort_unstable.ensures.sorted
+    c.dedup.ensures.filtered
+
+pub returns-clause-exact : goal.returns-clause-exact
+returns-clause-exact c =
+    same_members c.args.members.items c.sort_unstable.new.self.items c.dedup.new.self.items
+    c.sort_unstable.ensures.permutation c.dedup.ensures.filtered

@@ -1,0 +1,168 @@
+//! What stands around the lanes: head, patterns, runs, events, names and fates.
+use crate::place::{Place, colour, pattern};
+use crate::sheet::Sheet;
+use ent_picture::{Fate, Lane, Picture, Run};
+use ent_semantics::Failure;
+
+/// How the texts and the lines of a picture look.
+const STYLE: &str = "<style>\
+    text{font-family:'DejaVu Sans','Segoe UI',Helvetica,Arial,sans-serif;font-size:12px;fill:#222}\
+    .h{font-size:16px;font-weight:bold}.s{font-size:10px;fill:#555}.b{font-weight:bold}.m{text-anchor:middle}\
+    .e{text-anchor:end}.o{paint-order:stroke;stroke:#fff;stroke-width:4px;stroke-linejoin:round}\
+    .w{fill:#fff;stroke:#333;stroke-width:1.3}.d{stroke-dasharray:4 3}\
+    .k{fill:none;stroke:#222;stroke-width:2;stroke-linecap:round}.c{fill:#fff;stroke:#222;stroke-width:2}\
+    </style>\n";
+
+/// The patterns of waiting.
+const WAITING: &str =
+    "<pattern id=\"blocked\" width=\"7\" height=\"7\" patternUnits=\"userSpaceOnUse\">\
+    <rect width=\"7\" height=\"7\" fill=\"#f4f4f4\"/>\
+    <path d=\"M-2 5L5 -2M0 10L10 0\" stroke=\"#777\" stroke-width=\"1.4\"/></pattern>\
+    <pattern id=\"held\" width=\"6\" height=\"6\" patternUnits=\"userSpaceOnUse\">\
+    <rect width=\"6\" height=\"6\" fill=\"#f4f4f4\"/><circle cx=\"3\" cy=\"3\" r=\"1.3\" fill=\"#666\"/></pattern>\
+    <pattern id=\"sample\" width=\"10\" height=\"10\" patternUnits=\"userSpaceOnUse\">\
+    <rect width=\"10\" height=\"10\" fill=\"#E69F00\"/>\
+    <path d=\"M-2 8L8 -2M2 12L12 2\" stroke=\"#fff\" stroke-width=\"3\"/></pattern>\n";
+
+/// The beginning of a picture of this height.
+pub(crate) fn put_head(sheet: &mut Sheet, picture: &Picture, place: Place, height: u64) {
+    let width = place.width();
+    sheet.put(format_args!(
+        "<svg xmlns=\"http://www.w3.org/2000/svg\" width=\"{width}\" height=\"{height}\" \
+         viewBox=\"0 0 {width} {height}\">\n"
+    ));
+    sheet.put("<title>A run of entangled transactions</title>\n");
+    sheet.put(STYLE);
+    sheet.put("<defs>");
+    sheet.put(WAITING);
+    for group in 0..picture.groups.min(42) {
+        put_pattern(sheet, group);
+    }
+    sheet.put("</defs>\n");
+    sheet.put(format_args!("<rect width=\"{width}\" height=\"{height}\" fill=\"#fff\"/>\n"));
+    put_counts(sheet, picture);
+}
+
+fn put_pattern(sheet: &mut Sheet, group: u64) {
+    let colour = colour(group);
+    let lines = pattern(group);
+    sheet.put(format_args!(
+        "<pattern id=\"g{group}\" width=\"10\" height=\"10\" patternUnits=\"userSpaceOnUse\">\
+         <rect width=\"10\" height=\"10\" fill=\"{colour}\"/>{lines}</pattern>\n"
+    ));
+}
+
+fn put_counts(sheet: &mut Sheet, picture: &Picture) {
+    sheet.put("<text class=\"h\" x=\"20\" y=\"32\">");
+    put_count(sheet, picture.lanes.len() as u64, "transaction");
+    sheet.put(", ");
+    put_count(sheet, picture.runs.len() as u64, "run");
+    sheet.put(", ");
+    put_count(sheet, picture.events, "event");
+    sheet.put("</text>\n");
+}
+
+fn put_count(sheet: &mut Sheet, count: u64, what: &str) {
+    let ending = if count == 1 { "" } else { "s" };
+    sheet.put(format_args!("{count} {what}{ending}"));
+}
+
+/// The bands of the runs, with their numbers above the lanes.
+pub(crate) fn put_runs(sheet: &mut Sheet, picture: &Picture, place: Place) {
+    for run in &picture.runs {
+        put_run(sheet, *run, place);
+    }
+}
+
+fn put_run(sheet: &mut Sheet, run: Run, place: Place) {
+    let number = run.number;
+    let ground = if number % 2 == 1 {
+        "#f3f5f7"
+    } else {
+        "#eae6df"
+    };
+    let left = place.edge(run.from);
+    let width = place.edge(run.to.saturating_add(1)).saturating_sub(left);
+    let top = place.top().saturating_sub(44);
+    let height = place.bottom().saturating_sub(top);
+    sheet.put(format_args!(
+        "<rect x=\"{left}\" y=\"{top}\" width=\"{width}\" height=\"{height}\" fill=\"{ground}\"/>\n"
+    ));
+    let text = left.saturating_add(6);
+    let line = top.saturating_add(16);
+    let class = if width < 52 { "s" } else { "b" };
+    let word = if width < 40 { "" } else { "run " };
+    sheet.put(format_args!(
+        "<text class=\"{class}\" x=\"{text}\" y=\"{line}\">{word}{number}<title>run {number}</title></text>\n"
+    ));
+}
+
+/// The numbers of the events, as many as there is room for.
+pub(crate) fn put_events(sheet: &mut Sheet, picture: &Picture, place: Place) {
+    let height = place.top().saturating_sub(8);
+    sheet.put(format_args!("<text class=\"s\" x=\"20\" y=\"{height}\">event</text>\n"));
+    let step = if place.column < 36 { 2 } else { 1 };
+    let mut column = 0u64;
+    for event in &picture.columns {
+        if column % step == 0 {
+            let middle = place.middle(column);
+            sheet.put(format_args!(
+                "<text class=\"s m\" x=\"{middle}\" y=\"{height}\">{event}</text>\n"
+            ));
+        }
+        column = column.saturating_add(1);
+    }
+}
+
+/// The lanes with the numbers of their transactions and what became of them.
+pub(crate) fn put_lanes(sheet: &mut Sheet, picture: &Picture, place: Place) {
+    let mut number = 0u64;
+    for lane in &picture.lanes {
+        put_lane(sheet, *lane, number, place);
+        number = number.saturating_add(1);
+    }
+    let bottom = place.bottom();
+    put_border(sheet, bottom, place);
+}
+
+/// The line between two lanes.
+fn put_border(sheet: &mut Sheet, height: u64, place: Place) {
+    let right = place.right().saturating_add(110);
+    sheet.put(format_args!("<path d=\"M20 {height}H{right}\" stroke=\"#ccc\"/>\n"));
+}
+
+fn put_lane(sheet: &mut Sheet, lane: Lane, number: u64, place: Place) {
+    put_border(sheet, place.lane_top(number), place);
+    let tx = lane.tx;
+    let line = place.text(number);
+    let right = place.right().saturating_add(12);
+    sheet.put(format_args!(
+        "<text x=\"20\" y=\"{line}\">tx <tspan class=\"b\">{tx}</tspan></text>\n<text x=\"{right}\" y=\"{line}\">"
+    ));
+    put_fate(sheet, lane.fate);
+    sheet.put("</text>\n");
+}
+
+/// What became of a transaction.
+fn put_fate(sheet: &mut Sheet, fate: Fate) {
+    match fate {
+        Fate::Open => sheet.put("has no fate yet"),
+        Fate::Committed(number) => sheet.put(format_args!(
+            "committed <tspan class=\"b\">{number}</tspan>"
+        )),
+        Fate::RolledBack => sheet.put("rolled back"),
+        Fate::Failed(failure) => {
+            let name = failure_name(failure);
+            sheet.put(format_args!("failed {name}"));
+        }
+        Fate::GaveUp => sheet.put("gave up"),
+    }
+}
+
+/// A failure's name in a report.
+pub(crate) fn failure_name(failure: Failure) -> &'static str {
+    match failure {
+        Failure::Overflow => "F1",
+        Failure::TableFull => "F2",
+    }
+}

@@ -1,0 +1,58 @@
+//! The SVG of a picture.
+use crate::bars::{put_bars, put_lives, put_shades};
+use crate::frame::{put_events, put_head, put_lanes, put_runs};
+use crate::legend::{HEIGHT, put_legend};
+use crate::links::put_links;
+use crate::marks::put_marks;
+use crate::place::Place;
+use crate::sheet::Sheet;
+use ent_group::Tx;
+use ent_picture::{Picture, all_members, joint_answers, members_met, picture_of};
+use ent_trace_reader::{Exchange, StrangeLine, read_trace};
+use ent_value::Refusal;
+use std::alloc::Global;
+
+/// The SVG of a picture of a trace. Where memory runs out there is none.
+pub fn svg_of(alloc: Global, picture: &Picture, trace: &[Exchange]) -> Option<Vec<u8>> {
+    let place = Place::new(picture.columns.len() as u64, picture.lanes.len() as u64);
+    let mut sheet = Sheet::new(alloc);
+    put_head(
+        &mut sheet,
+        picture,
+        place,
+        place.bottom().saturating_add(HEIGHT),
+    );
+    put_runs(&mut sheet, picture, place);
+    put_events(&mut sheet, picture, place);
+    put_lanes(&mut sheet, picture, place);
+    put_shades(&mut sheet, picture, place);
+    put_lives(&mut sheet, picture, place);
+    put_links(&mut sheet, picture, place);
+    put_bars(&mut sheet, picture, trace, place);
+    put_marks(&mut sheet, picture, place);
+    put_legend(&mut sheet, place);
+    sheet.put("</svg>\n");
+    sheet.into_whole()
+}
+
+/// The SVG of the trace that a text is: of all its lanes, or where transactions are picked, of these and those that
+/// they met. Else the first line that isn't one of a trace.
+pub fn draw(alloc: Global, text: &str, picked: &[Tx]) -> Result<Vec<u8>, Refusal<StrangeLine>> {
+    let trace = read_trace(alloc, text)?;
+    let joints = joint_answers(alloc, trace.as_slice())?;
+    let members = if picked.is_empty() {
+        all_members(alloc, trace.as_slice())?
+    } else {
+        members_met(alloc, trace.as_slice(), joints.as_slice(), picked)?
+    };
+    let picture = picture_of(
+        alloc,
+        trace.as_slice(),
+        joints.as_slice(),
+        members.as_slice(),
+    )?;
+    match svg_of(alloc, &picture, trace.as_slice()) {
+        Some(svg) => Ok(svg),
+        None => Err(Refusal::Memory),
+    }
+}
