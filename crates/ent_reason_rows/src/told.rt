@@ -1,0 +1,103 @@
+//! What was told of transactions, a line each: their numbers, a colon, and what changes for all of them.
+use anyhow::{Result, anyhow, bail};
+use ent_group::{Members, Tx};
+use ent_notes::{Change, Hindrance, Notes};
+use ent_reasons::Reasons;
+use ent_semantics::Failure;
+use std::alloc::Global;
+
+/// Stands between the input and what was told.
+const TOLD: &str = "== told\n";
+
+/// Why transactions didn't commit, by an input and by what was told behind it.
+pub(crate) fn reasons_of(alloc: Global, text: &str) -> Result<Reasons> {
+    let Some((input, told)) = text.split_once(TOLD) else {
+        bail!("nothing is told");
+    };
+    let mut notes = Notes::new(alloc);
+    for line in told.lines() {
+        take(alloc, &mut notes, line)?;
+    }
+    Ok(Reasons::of(alloc, input, notes)?)
+}
+
+/// Takes a line, as `1 2: starts`; or the line `lost`.
+fn take(alloc: Global, notes: &mut Notes, line: &str) -> Result<()> {
+    if line == "lost" {
+        notes.lose();
+        return Ok(());
+    }
+    let Some((members, change)) = line.split_once(": ") else {
+        bail!("no line of what is told: {line}");
+    };
+    let members = members_of(members)?;
+    let words: Vec<&str> = change.split(' ').collect(alloc)?;
+    let change = change_of(words.as_slice())?;
+    notes.change_each(members.as_slice(), &change);
+    Ok(())
+}
+
+/// What changes.
+fn change_of(words: &[&str]) -> Result<Change> {
+    match words {
+        ["starts"] => Ok(Change::Starts),
+        ["passes"] => Ok(Change::Passes),
+        _ => Ok(Change::Stands(hindrance_of(words)?)),
+    }
+}
+
+/// What stands in the way.
+fn hindrance_of(words: &[&str]) -> Result<Hindrance> {
+    match words {
+        ["free"] => Ok(Hindrance::Free),
+        ["posted"] => Ok(Hindrance::Posted),
+        ["prepared"] => Ok(Hindrance::Prepared),
+        ["committed"] => Ok(Hindrance::Committed),
+        ["blocked", holder] => Ok(Hindrance::Blocked(number_of(holder)?)),
+        ["held_back", asker, post, first, second] => Ok(Hindrance::HeldBack {
+            asker: number_of(asker)?,
+            post: number_of(post)? as usize,
+            first: number_of(first)?,
+            second: number_of(second)?,
+        }),
+        ["rolled_back", tx] => Ok(Hindrance::RolledBack(number_of(tx)?)),
+        ["F1", tx] => Ok(Hindrance::Failed(number_of(tx)?, Failure::Overflow)),
+        ["F2", tx] => Ok(Hindrance::Failed(number_of(tx)?, Failure::TableFull)),
+        ["no_choice", partners @ ..] => Ok(Hindrance::NoChoice(listed(partners)?)),
+        ["broken", cycle @ ..] => Ok(Hindrance::Broken(listed(cycle)?)),
+        _ => Err(anyhow!("nothing that can be told")),
+    }
+}
+
+fn number_of(word: &str) -> Result<Tx> {
+    match word.parse::<Tx>() {
+        Ok(number) => Ok(number),
+        Err(_) => bail!("no number: {word}"),
+    }
+}
+
+/// Transactions, a number each.
+fn members_of(text: &str) -> Result<Members> {
+    let mut members = Members::new();
+    for word in text.split(' ') {
+        put(&mut members, number_of(word)?)?;
+    }
+    Ok(members)
+}
+
+/// Transactions, a word each.
+fn listed(words: &[&str]) -> Result<Members> {
+    let mut members = Members::new();
+    for word in words {
+        put(&mut members, number_of(word)?)?;
+    }
+    Ok(members)
+}
+
+fn put(members: &mut Members, tx: Tx) -> Result<()> {
+    if members.is_full() {
+        bail!("too many transactions");
+    }
+    members.push(tx);
+    Ok(())
+}

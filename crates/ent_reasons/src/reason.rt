@@ -1,0 +1,153 @@
+//! Why a transaction didn't commit.
+use crate::script_lines::ScriptLines;
+use crate::waiting::{Others, Ring};
+use ent_group::{Members, Tx};
+use ent_notes::{Hindrance, Note};
+use ent_semantics::Failure;
+use std::fmt;
+
+/// Why a transaction didn't commit, from the notes of all, by number. Printed it is two lines without an end of the
+/// last: its fate, as the report has it; and where it stood in its last run and what stopped it there.
+#[derive(Clone, Copy)]
+pub(crate) struct Reason<'a> {
+    tx: Tx,
+    notes: &'a [Note],
+    lines: &'a ScriptLines,
+}
+
+impl<'a> Reason<'a> {
+    /// None of a transaction that committed.
+    pub(crate) fn of(tx: Tx, notes: &'a [Note], lines: &'a ScriptLines) -> Option<Self> {
+        let note = notes.get(tx as usize)?;
+        match note.hindrance {
+            Hindrance::Committed => None,
+            _ => Some(Reason { tx, notes, lines }),
+        }
+    }
+
+    /// Begins a line with where a transaction stood last.
+    fn put_spot<W: fmt::Write>(&self, f: &mut fmt::Formatter<W>, tx: Tx) -> fmt::Result {
+        let passed = match self.notes.get(tx as usize) {
+            Some(note) => note.passed.count(),
+            None => 0,
+        };
+        match self.lines.spot(tx, passed) {
+            Some(spot) => write!(f, "{spot}"),
+            None => write!(f, "its script"),
+        }
+    }
+
+    /// That it was rolled back for the sake of another one, and where that one stood.
+    fn put_other<W: fmt::Write>(&self, f: &mut fmt::Formatter<W>, other: Tx) -> fmt::Result {
+        write!(f, "rolled back with tx {other} of its group (")?;
+        self.put_spot(f, other)?;
+        write!(f, "): ")
+    }
+
+    fn put_rolled_back<W: fmt::Write>(&self, f: &mut fmt::Formatter<W>, by: Tx) -> fmt::Result {
+        if by != self.tx {
+            self.put_other(f, by)?;
+        }
+        write!(f, "the script ends so")
+    }
+
+    fn put_failed<W: fmt::Write>(
+        &self,
+        f: &mut fmt::Formatter<W>,
+        by: Tx,
+        failure: Failure,
+    ) -> fmt::Result {
+        if by != self.tx {
+            self.put_other(f, by)?;
+        }
+        match failure {
+            Failure::Overflow => write!(f, "a sum or a difference went beyond 64 bits"),
+            Failure::TableFull => write!(f, "more than 65,536 rows would have stood in a table"),
+        }
+    }
+
+    fn put_broken<W: fmt::Write>(&self, f: &mut fmt::Formatter<W>, cycle: &Members) -> fmt::Result {
+        let ring = Ring(cycle);
+        let victim = cycle.get(0).unwrap_or(0);
+        if victim == self.tx {
+            return write!(f, "rolled back to break a deadlock: {ring}");
+        }
+        write!(
+            f,
+            "rolled back with tx {victim} of its group, to break a deadlock: {ring}"
+        )
+    }
+
+    fn put_no_choice<W: fmt::Write>(
+        &self,
+        f: &mut fmt::Formatter<W>,
+        all: &Members,
+    ) -> fmt::Result {
+        let others = Others { all, but: self.tx };
+        if others.is_empty() {
+            return write!(f, "posted, and not answered: no values serve it");
+        }
+        write!(
+            f,
+            "posted, and not answered: no values serve it together with {others}"
+        )
+    }
+
+    fn put_hindrance<W: fmt::Write>(
+        &self,
+        f: &mut fmt::Formatter<W>,
+        hindrance: &Hindrance,
+    ) -> fmt::Result {
+        match hindrance {
+            Hindrance::Free | Hindrance::Committed => write!(f, "nothing stood in its way"),
+            Hindrance::Blocked(holder) => {
+                write!(f, "blocked by tx {holder}, which held a table that it uses")
+            }
+            Hindrance::HeldBack {
+                asker,
+                post,
+                first,
+                second,
+            } => write!(
+                f,
+                "held back, since demand {post} of tx {asker} would meet offers of two, tx {first} and tx {second}"
+            ),
+            Hindrance::Posted => write!(
+                f,
+                "posted, and not answered: nobody offered what it, or a partner, demands"
+            ),
+            Hindrance::NoChoice(all) => self.put_no_choice(f, all),
+            Hindrance::Prepared => {
+                write!(f, "it asked to commit, and others of its group never did")
+            }
+            Hindrance::RolledBack(by) => self.put_rolled_back(f, *by),
+            Hindrance::Failed(by, failure) => self.put_failed(f, *by, *failure),
+            Hindrance::Broken(cycle) => self.put_broken(f, cycle),
+        }
+    }
+}
+
+/// The fate of a transaction with such a note, as the report names it.
+fn fate_of(tx: Tx, note: &Note) -> &'static str {
+    match &note.hindrance {
+        Hindrance::RolledBack(by) if *by == tx => "rolled back",
+        Hindrance::Failed(by, Failure::Overflow) if *by == tx => "failed F1",
+        Hindrance::Failed(by, Failure::TableFull) if *by == tx => "failed F2",
+        _ => "gave up",
+    }
+}
+
+impl fmt::Display for Reason<'_> {
+    fn fmt<W: fmt::Write>(&self, f: &mut fmt::Formatter<W>) -> fmt::Result {
+        let Some(note) = self.notes.get(self.tx as usize) else {
+            return Ok(());
+        };
+        let tx = self.tx;
+        let fate = fate_of(tx, note);
+        let runs = note.runs.count();
+        write!(f, "tx {tx} {fate} after {runs}\n")?;
+        self.put_spot(f, tx)?;
+        write!(f, ": ")?;
+        self.put_hindrance(f, &note.hindrance)
+    }
+}

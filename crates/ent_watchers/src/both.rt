@@ -1,0 +1,62 @@
+//! Two watchers that are told the same.
+ghost use Rattle.ent_core.specs.Reply.{reply_seen};
+ghost use Rattle.ent_protocol.specs.Event.{Event};
+ghost use Rattle.ent_sched.specs.Watching.{TellsOf};
+
+use ent_core::Reply;
+use ent_eval::Done;
+use ent_sched::{Told, Watcher};
+
+/// Two watchers, each of which is told all.
+#[derive(Drop)]
+pub struct Both<A, B> {
+    pub first: A,
+    pub second: B,
+}
+
+/// What is told, with the mark of each of two watchers.
+fn parted<A: Watcher, B: Watcher>(told: Told<(A::Mark, B::Mark)>) -> (Told<A::Mark>, Told<B::Mark>)
+    ensures { (event : Event)
+        → TellsOf (λ mark done. A.marks mark.0 done × B.marks mark.1 done) told event
+        → TellsOf A.marks result.0 event × TellsOf B.marks result.1 event }
+{
+    match told {
+        Told::StartRun => (Told::StartRun, Told::StartRun),
+        Told::Begin(tx) => (Told::Begin(tx), Told::Begin(tx)),
+        Told::Finish((first, second)) => (Told::Finish(first), Told::Finish(second)),
+        Told::Pick => (Told::Pick, Told::Pick),
+        Told::JoinAnswer((first, second)) => (Told::JoinAnswer(first), Told::JoinAnswer(second)),
+        Told::BreakCycle => (Told::BreakCycle, Told::BreakCycle),
+        Told::EndRun => (Told::EndRun, Told::EndRun),
+        Told::Recall => (Told::Recall, Told::Recall),
+    }
+}
+
+impl<A: Watcher, B: Watcher> Watcher for Both<A, B> {
+    type Mark = (A::Mark, B::Mark);
+
+    ghost hears = { λ old one new. A.hears old.first one new.first × B.hears old.second one new.second };
+
+    ghost marks = { λ mark done. A.marks mark.0 done × B.marks mark.1 done };
+
+    fn listens(&self) -> bool {
+        let first = self.first.listens();
+        let second = self.second.listens();
+        first || second
+    }
+
+    fn mark(&self, done: &Done) -> (A::Mark, B::Mark) {
+        (self.first.mark(done), self.second.mark(done))
+    }
+
+    fn tell(&mut self, told: Told<(A::Mark, B::Mark)>, reply: &Reply)
+        ensures { (event : Event)
+            → TellsOf (λ mark done. A.marks mark.0 done × B.marks mark.1 done) told event
+            → A.hears self.old.first (event, reply_seen reply.now) self.new.first
+            × B.hears self.old.second (event, reply_seen reply.now) self.new.second }
+    {
+        let (first, second) = parted::<A, B>(told);
+        self.first.tell(first, reply);
+        self.second.tell(second, reply);
+    }
+}

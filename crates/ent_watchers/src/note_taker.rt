@@ -1,0 +1,123 @@
+//! A watcher that notes what each transaction was told last.
+ghost use Rattle.std.specs.Prelude.{◌≡◌, [], map, true};
+ghost use Rattle.ent_job.specs.Work.{work_seen};
+ghost use Rattle.ent_core.specs.Reply.{reply_seen};
+ghost use Rattle.ent_notes.specs.News.{IsHeard, parties, workers};
+ghost use Rattle.ent_protocol.specs.Event.{Event};
+ghost use Rattle.ent_sched.specs.Watching.{TellsOf};
+ghost use Rattle.ent_watchers.specs.Marking.{AreHeld, Marks};
+
+use crate::news::{News, news_of};
+use ent_core::Reply;
+use ent_eval::{Done, Work};
+use ent_group::Members;
+use ent_match::Posted;
+use ent_notes::Notes;
+use ent_sched::{Told, Watcher};
+use std::alloc::Global;
+
+/// Notes what each transaction was told last in its run.
+#[derive(Drop)]
+pub struct NoteTaker {
+    notes: Notes,
+}
+
+impl NoteTaker {
+    /// One that was told nothing yet.
+    pub fn new(alloc: Global) -> Self
+        ensures notes { result.notes.notes ≡ [] }
+        ensures whole { result.notes.is_whole ≡ true }
+    {
+        NoteTaker {
+            notes: Notes::new(alloc),
+        }
+    }
+
+    /// What it has noted.
+    pub fn into_notes(self) -> Notes
+        ensures { result ≡ self.notes }
+    {
+        let NoteTaker { notes } = self;
+        notes
+    }
+}
+
+/// The transactions of posted statements; none where they are more than a list of members holds.
+fn posters(asked: &[Posted]) -> Option<Members>
+    ensures { AreHeld result (map (λ query. query.tx) asked.now) }
+{
+    let mut members = Members::new();
+    for posted in asked {
+        if members.is_full() {
+            return None;
+        }
+        members.push(posted.tx());
+    }
+    Some(members)
+}
+
+/// The transactions of some work; none where they are more than a list of members holds.
+fn workers(work: &Work) -> Option<Members>
+    ensures { AreHeld result (workers (work_seen work.now)) }
+{
+    match work {
+        Work::One(single) => Some(Members::of(single.tx())),
+        Work::Joint(asked) => posters(asked.as_slice()),
+    }
+}
+
+/// Those whom an event is of; none where they are more than a list of members holds.
+fn parties(told: Told<Option<Members>>) -> Option<Members>
+    ensures { (event : Event) → TellsOf Marks told event → AreHeld result (parties event) }
+{
+    match told {
+        Told::Begin(tx) => Some(Members::of(tx)),
+        Told::Finish(own) => own,
+        Told::JoinAnswer(own) => own,
+        Told::StartRun => Some(Members::new()),
+        Told::Pick => Some(Members::new()),
+        Told::BreakCycle => Some(Members::new()),
+        Told::EndRun => Some(Members::new()),
+        Told::Recall => Some(Members::new()),
+    }
+}
+
+/// Notes what an event and its reply tell.
+fn hear(notes: &mut Notes, told: Told<Option<Members>>, reply: &Reply)
+    ensures { (event : Event)
+        → TellsOf Marks told event
+        → IsHeard notes.old (event, reply_seen reply.now) notes.new }
+{
+    match parties(told) {
+        Some(own) => {
+            let News { of, change } = news_of(&own, reply);
+            notes.change_each(of, &change);
+        }
+        None => notes.lose(),
+    }
+}
+
+impl Watcher for NoteTaker {
+    type Mark = Option<Members>;
+
+    ghost hears = { λ old one new. IsHeard old.notes one new.notes };
+
+    ghost marks = { Marks };
+
+    fn listens(&self) -> bool {
+        true
+    }
+
+    /// The transactions of the result.
+    fn mark(&self, done: &Done) -> Option<Members> {
+        workers(done.job().work())
+    }
+
+    fn tell(&mut self, told: Told<Option<Members>>, reply: &Reply)
+        ensures { (event : Event)
+            → TellsOf Marks told event
+            → IsHeard self.old.notes (event, reply_seen reply.now) self.new.notes }
+    {
+        hear(&mut self.notes, told, reply);
+    }
+}
