@@ -1,4 +1,5 @@
 //! What the program does: it reads its command line, and runs what that asks for.
+use crate::drawing::draw_trace;
 use crate::ending::Ending;
 use crate::running::run;
 use crate::words::{Asked, asked_of, command};
@@ -13,9 +14,10 @@ use std::sync::Wait;
 use std::thread::Threads;
 use std::{env, io};
 
-/// The program: reads its command line, and runs the scripts of standard input or checks the report of standard input,
-/// as that asks; where it asks for workers, in threads that `threads` starts. A fault is one line on standard error.
-/// How it ended says what `main` ends with. Where standard input is a terminal, it says first what it waits for.
+/// The program: reads its command line, and runs the scripts of standard input, checks the report of standard input or
+/// draws the trace of standard input, as that asks; where it asks for workers, in threads that `threads` starts. A
+/// fault is one line on standard error. How it ended says what `main` ends with. Where standard input is a terminal, it
+/// says first what it waits for.
 pub fn entangle<R, T>(rt: &R, threads: &T, is_terminal: bool) -> Ending
 where
     R: Env + AllocGlobal + Input + Print + Eprint,
@@ -33,6 +35,10 @@ where
         Ok(Asked::Check) => {
             say_what_is_read(rt, is_terminal, "a report of version 2");
             said(rt, check(rt))
+        }
+        Ok(Asked::Draw(picked)) => {
+            say_what_is_read(rt, is_terminal, "a trace");
+            draw_trace(rt, picked.as_slice())
         }
         Err(fault) => said(rt, show_command_line(rt, &fault)),
     }
@@ -68,7 +74,7 @@ fn words_of<R: Env + AllocGlobal + Eprint>(rt: &R) -> Result<Vec<String>, Ending
 /// What the command line asks for; else its fault, or the help that it asks for.
 fn read_command_line<'a>(alloc: Global, words: &'a [String]) -> Result<Asked, Error> {
     let matches = command(alloc)?.try_get_matches_from(words)?;
-    Ok(asked_of(&matches))
+    Ok(asked_of(alloc, &matches)?)
 }
 
 /// Shows what is wrong with the command line, or the help that it asks for; where the help can't be written, that is a

@@ -4,6 +4,7 @@
 #![tactic(auto)]
 
 mod command;
+mod drawing;
 mod ending;
 mod running;
 mod words;

@@ -1,11 +1,16 @@
-//! Runs of scripts: with workers or without, with a trace, and with a word of why an input is refused.
+//! Runs of scripts: with workers or without, with a trace, and with a word of why an input is refused, or why
+//! transactions didn't commit.
 use crate::command::said;
 use crate::ending::Ending;
 use crate::words::AskedRun;
 use ent_engine::{RunFault, read_whole, run_watched, run_workers};
 use ent_fault_text::{InputFault, explain_fault, valid_text};
+use ent_notes::Notes;
+use ent_reasons::Reasons;
 use ent_trace::Trace;
 use ent_value::Watched;
+use ent_watchers::{Both, NoteTaker};
+use std::alloc::AllocError;
 use std::io;
 use std::io::Read;
 use std::sync::Wait;
@@ -24,7 +29,8 @@ where
     said(rt, Ending::from(run_over(rt, threads, rt.reader(), asked)))
 }
 
-/// Reads all of standard input and runs its scripts, so that a fault of the input can be explained.
+/// Reads all of standard input and runs its scripts, so that a fault of the input can be explained, and why
+/// transactions didn't commit.
 fn run_explained<R, T>(rt: &R, threads: &T, asked: AskedRun) -> Ending
 where
     R: AllocGlobal + Input + Print + Eprint,
@@ -35,13 +41,53 @@ where
         Ok(input) => input,
         Err(fault) => return said(rt, Ending::Faulty(fault)),
     };
-    let ran = run_over(rt, threads, input.as_slice(), asked);
+    let ran = if asked.workers == 0 {
+        run_noted(rt, input.as_slice(), asked)
+    } else {
+        run_over(rt, threads, input.as_slice(), asked)
+    };
     if let Err(fault) = ran {
         let ending = said(rt, Ending::Faulty(fault));
         explain(rt, input.as_slice(), fault);
         return ending;
     }
+    if asked.workers > 0 {
+        let _ = eprintln!(rt; "why transactions don't commit is told without --workers");
+    }
     Ending::Done
+}
+
+/// Runs the scripts of an input on one thread, and says behind their report why transactions didn't commit.
+fn run_noted<R>(rt: &R, input: &[u8], asked: AskedRun) -> Result<(), RunFault>
+where
+    R: AllocGlobal + Print + Eprint,
+{
+    let mut reader = Watched::new(input);
+    let mut writer = Watched::new(io::writer(rt));
+    let options = asked.options;
+    if !asked.is_traced {
+        let mut taker = NoteTaker::new(rt.alloc());
+        run_watched(rt.alloc(), &mut reader, &mut writer, options, &mut taker)?;
+        tell_reasons(rt, input, taker.into_notes());
+        return Ok(());
+    }
+    let mut both = Both {
+        first: Trace::new(rt.alloc(), rt),
+        second: NoteTaker::new(rt.alloc()),
+    };
+    let ran = run_watched(rt.alloc(), &mut reader, &mut writer, options, &mut both);
+    let Both { first, second } = both;
+    traced(ran, first.close())?;
+    tell_reasons(rt, input, second.into_notes());
+    Ok(())
+}
+
+/// Says why transactions didn't commit. Where memory runs out for that, this is what is said.
+fn tell_reasons<R: AllocGlobal + Eprint>(rt: &R, input: &[u8], notes: Notes) {
+    let _ = match Reasons::of(rt.alloc(), valid_text(input), notes) {
+        Ok(reasons) => eprint!(rt; "{reasons}"),
+        Err(AllocError) => eprintln!(rt; "memory ran out for why transactions didn't commit"),
+    };
 }
 
 /// Says of a fault of an input where it stands, what is wrong there, and what helps. Where memory runs out for that,

@@ -14,6 +14,9 @@ const HIGHEST_REPORT: u64 = 2;
 /// The most tries.
 const MOST_TRIES: u64 = 9;
 
+/// The greatest number of a transaction.
+const MOST_SCRIPTS: u64 = 10_000;
+
 /// What `--version` tells: the version, and the logic of the kit that the program is proved by.
 const VERSION: &str = "0.9.0, proved by logic dac8208d650f15bf";
 
@@ -25,8 +28,13 @@ const EXAMPLE: &str = "Example:
 const CHECK_EXAMPLE: &str = "Example:
   entangle run --report 2 < friends.sql | entangle check";
 
+/// What stands below what a picture is for.
+const DRAW_EXAMPLE: &str = "Example:
+  entangle run --trace < friends.sql 2> friends.trace
+  entangle draw < friends.trace > friends.svg";
+
 /// The program's words: the subcommand `run` with its options, each a whole number in its range but for `--trace`
-/// and `--explain`, and `check`.
+/// and `--explain`; `check`; and `draw`, with the transactions whose lanes are wanted.
 pub(crate) fn command<'a>(alloc: Global) -> Result<Command<'a>, AllocError> {
     let run = Command::new(alloc, "run")
         .about(
@@ -49,7 +57,25 @@ pub(crate) fn command<'a>(alloc: Global) -> Result<Command<'a>, AllocError> {
         .version(VERSION)
         .subcommand_required(true)
         .subcommand(run)?
-        .subcommand(check)
+        .subcommand(check)?
+        .subcommand(drawing(alloc)?)
+}
+
+fn drawing<'a>(alloc: Global) -> Result<Command<'a>, AllocError> {
+    let only = Arg::new(alloc, "only")
+        .long("only")
+        .value_name("N,N..")
+        .value_delimiter(',')
+        .value_parser(ValueParser::unsigned(1, MOST_SCRIPTS))
+        .help("Draws the lanes of these transactions alone, and of those that they met");
+    Ok(
+        Command::new(alloc, "draw")
+            .about(
+                "Reads a trace from standard input, as `run --trace` writes it, and writes a picture of it, an SVG",
+            )
+            .arg(only)?
+            .after_help(DRAW_EXAMPLE),
+    )
 }
 
 fn workers<'a>(alloc: Global) -> Arg<'a> {
@@ -98,16 +124,20 @@ fn explain<'a>(alloc: Global) -> Arg<'a> {
         .long("explain")
         .action(ArgAction::SetTrue)
         .help(
-            "Says where an input that is refused has its fault, what is wrong there, and what helps",
+            "Says where an input that is refused has its fault, what is wrong there, and what helps; \
+             and without --workers, why transactions didn't commit",
         )
 }
 
 /// What the words ask for.
+#[derive(Drop)]
 pub(crate) enum Asked {
     /// A run of the scripts of standard input.
     Run(AskedRun),
     /// A check of the report of standard input.
     Check,
+    /// A picture of the trace of standard input; where transactions are picked, of these and those that they met.
+    Draw(Vec<u64>),
 }
 
 /// What the words of a run ask for.
@@ -117,13 +147,34 @@ pub(crate) struct AskedRun {
     pub(crate) workers: usize,
     /// Whether events and replies are written to standard error.
     pub(crate) is_traced: bool,
-    /// Whether a fault of the input is explained.
+    /// Whether a fault of the input is explained, and why transactions didn't commit.
     pub(crate) is_explained: bool,
     pub(crate) options: RunOptions,
 }
 
 /// What the words ask for.
-pub(crate) fn asked_of<'a>(matches: &ArgMatches<'a>) -> Asked {
+pub(crate) fn asked_of<'a>(alloc: Global, matches: &ArgMatches<'a>) -> Result<Asked, AllocError> {
+    match matches.subcommand_matches("draw") {
+        Some(draw) => Ok(Asked::Draw(picked(alloc, draw)?)),
+        None => Ok(asked_without_picture(matches)),
+    }
+}
+
+/// The transactions that are picked; none where all are wanted.
+fn picked<'a>(alloc: Global, draw: &ArgMatches<'a>) -> Result<Vec<u64>, AllocError> {
+    let mut picked = Vec::new(alloc);
+    if let Some(numbers) = draw.get_many::<u64>("only") {
+        for number in numbers {
+            if let Ok(number) = number {
+                picked.push(number)?;
+            }
+        }
+    }
+    Ok(picked)
+}
+
+/// What the words ask for, where that is no picture.
+fn asked_without_picture<'a>(matches: &ArgMatches<'a>) -> Asked {
     if matches.subcommand_matches("check").is_some() {
         return Asked::Check;
     }
