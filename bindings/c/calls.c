@@ -1,0 +1,136 @@
+/* Makes each call in the ways that the header allows, and ends with status 0, or at the first check that fails. With
+ * -DREFUSING -Wl,--wrap=malloc,--wrap=realloc it also lets each allocation of a call fail in turn. */
+#include "entangle.h"
+
+#include <stdio.h>
+#include <stdlib.h>
+#include <string.h>
+
+#define CHECK(holds)                                                                                                   \
+    do {                                                                                                               \
+        if (!(holds)) {                                                                                                \
+            fprintf(stderr, "line %d: %s\n", __LINE__, #holds);                                                        \
+            exit(1);                                                                                                   \
+        }                                                                                                              \
+    } while (0)
+
+static const char INPUT[] = "CREATE TABLE T (a INT);\nBEGIN TRANSACTION;\nINSERT INTO T VALUES (1);\nCOMMIT;\n";
+static const char REPORT[] = "report 1\ntx 1 committed 1 after 1\n1 count 1\ntable T 1\n(1)\nend\n";
+static const char WRONG[] = "CREATE TABLE T (a INT);\nINSERT INTO T VALUES ('\xe6\x9d\xb1', b);";
+static const char SAID[] = "E201 at 53\nline 2, column 28: ";
+static const size_t LENGTH = sizeof INPUT - 1, WHOLE = sizeof REPORT - 1, WRONG_LENGTH = sizeof WRONG - 1;
+
+/* Whether nothing but a text of so many bytes is told. */
+static bool tells_text(const entangle_told *told, size_t needed) {
+    return told->needed == needed && !told->offset && !told->line && !told->column && !told->code && !told->has_place;
+}
+
+/* Whether the fault of WRONG is told beside a text of so many bytes. */
+static bool tells_fault(const entangle_told *told, size_t needed) {
+    return told->needed == needed && told->code == 201 && told->has_place && told->offset == 53 && told->line == 2 &&
+           told->column == 28;
+}
+
+/* Buffers of each length take what fits them of a report, and no byte behind that is touched. */
+static void reports(void) {
+    char buffer[sizeof REPORT + 8];
+    for (size_t capacity = 0; capacity <= WHOLE + 4; capacity++) {
+        entangle_told told;
+        size_t written = capacity < WHOLE ? capacity : WHOLE;
+        memset(&told, 0xff, sizeof told);
+        memset(buffer, '#', sizeof buffer);
+        CHECK(entangle_report(INPUT, LENGTH, 1, buffer, capacity, &told) == ENTANGLE_DONE);
+        CHECK(tells_text(&told, WHOLE) && !memcmp(buffer, REPORT, written));
+        for (size_t at = written; at < sizeof buffer; at++) CHECK(buffer[at] == '#');
+    }
+}
+
+/* A fault is told, and what is said of it; without one there is nothing to say. */
+static void faults(void) {
+    char buffer[512];
+    entangle_told told;
+    memset(buffer, '#', sizeof buffer);
+    CHECK(entangle_report(WRONG, WRONG_LENGTH, 1, buffer, sizeof buffer, &told) == ENTANGLE_REFUSED);
+    CHECK(tells_fault(&told, 0) && buffer[0] == '#');
+    CHECK(entangle_explain(WRONG, WRONG_LENGTH, buffer, sizeof buffer, &told) == ENTANGLE_REFUSED);
+    CHECK(tells_fault(&told, told.needed) && told.needed < sizeof buffer && buffer[told.needed] == '#');
+    CHECK(!memcmp(buffer, SAID, sizeof SAID - 1) && buffer[told.needed - 1] == '\n');
+    CHECK(entangle_explain(INPUT, LENGTH, buffer, sizeof buffer, &told) == ENTANGLE_DONE && tells_text(&told, 0));
+}
+
+/* A report of version 2 is right; one with a line too few isn't. */
+static void checks(void) {
+    char report[1024], verdict[32];
+    entangle_told told;
+    CHECK(entangle_report(INPUT, LENGTH, 2, report, sizeof report, &told) == ENTANGLE_DONE);
+    size_t length = told.needed;
+    CHECK(length < sizeof report && entangle_check(report, length, verdict, 32, &told) == ENTANGLE_DONE);
+    CHECK(tells_text(&told, 3) && !memcmp(verdict, "yes", 3));
+    CHECK(entangle_check(report, length - 4, verdict, 32, &told) == ENTANGLE_REFUSED);
+    CHECK(told.code == 0 && told.needed > 3 && !memcmp(verdict, "no ", 3));
+    CHECK(entangle_check(REPORT, WHOLE, verdict, 32, &told) == ENTANGLE_REFUSED && told.code == 0);
+    CHECK(tells_text(&told, 9) && !memcmp(verdict, "no 1 form", 9));
+}
+
+/* Null pointers are told, where something stands behind them; and so is a version that isn't there. */
+static void misuse(void) {
+    char buffer[64] = "#";
+    entangle_told told;
+    CHECK(entangle_report(NULL, 1, 1, buffer, 64, &told) == ENTANGLE_MISUSED);
+    CHECK(entangle_report(INPUT, LENGTH, 1, NULL, 1, &told) == ENTANGLE_MISUSED);
+    CHECK(entangle_report(INPUT, LENGTH, 1, buffer, 64, NULL) == ENTANGLE_MISUSED);
+    CHECK(entangle_explain(NULL, 1, buffer, 64, &told) == ENTANGLE_MISUSED);
+    CHECK(entangle_check(NULL, 1, buffer, 64, &told) == ENTANGLE_MISUSED && buffer[0] == '#');
+    uint32_t versions[] = {0, 3, 257, UINT32_MAX};
+    for (size_t at = 0; at < sizeof versions / sizeof *versions; at++)
+        CHECK(entangle_report(INPUT, LENGTH, versions[at], buffer, 64, &told) == ENTANGLE_MISUSED &&
+              tells_text(&told, 0) && buffer[0] == '#');
+    CHECK(entangle_report(INPUT, LENGTH, 1, NULL, 0, &told) == ENTANGLE_DONE && tells_text(&told, WHOLE));
+    CHECK(entangle_report(NULL, 0, 1, NULL, 0, &told) == ENTANGLE_DONE && tells_text(&told, 13));
+}
+
+#ifdef REFUSING
+/* The allocation with this number fails, where it isn't below 0. */
+static long until = -1;
+void *__real_malloc(size_t size);
+void *__real_realloc(void *block, size_t size);
+void *__wrap_malloc(size_t size) { return until >= 0 && until-- == 0 ? NULL : __real_malloc(size); }
+void *__wrap_realloc(void *block, size_t size) {
+    return until >= 0 && until-- == 0 ? NULL : __real_realloc(block, size);
+}
+
+/* Makes a call in which the allocation of this number fails, if there are so many. */
+static int32_t refused(bool explains, long number, char *buffer, size_t capacity, entangle_told *told) {
+    memset(buffer, '#', capacity);
+    until = number;
+    int32_t status = explains ? entangle_explain(WRONG, WRONG_LENGTH, buffer, capacity, told)
+                              : entangle_report(INPUT, LENGTH, 2, buffer, capacity, told);
+    until = -1;
+    return status;
+}
+
+/* Each allocation of a call fails in turn: the call tells E900, and no report is begun, until none of them fails. */
+static void refusals(bool explains, int32_t whole) {
+    char buffer[512];
+    entangle_told told;
+    long count = 0;
+    while (refused(explains, count, buffer, sizeof buffer, &told) != whole) {
+        CHECK(told.code == 900 && (explains || (told.needed == 0 && buffer[0] == '#')));
+        count++;
+    }
+    CHECK(count > 0 && told.code == (explains ? 201 : 0));
+    printf("%ld allocations refused\n", count);
+}
+#endif
+
+int main(void) {
+    reports();
+    faults();
+    checks();
+    misuse();
+#ifdef REFUSING
+    refusals(false, ENTANGLE_DONE);
+    refusals(true, ENTANGLE_REFUSED);
+#endif
+    return 0;
+}

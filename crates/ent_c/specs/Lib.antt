@@ -1,0 +1,4 @@
+pub mod Text
+pub mod Version
+pub mod Told
+pub mod Calls

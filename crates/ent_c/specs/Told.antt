@@ -1,0 +1,32 @@
+-- What is told beside a text.
+use Rattle.std.specs.Prelude.{◌≡◌, ℕ, List, true, false, take, Option, Some, None}
+use Rattle.std.specs.Str.{IsCharBoundary}
+use Rattle.std.specs.Str.Lossy.{utf8_valid_len}
+use Rattle.ent_engine.specs.Fault.{code_of, place_of}
+use Rattle.ent_engine.specs.declared.fault.RunFault.{RunFault}
+use Rattle.ent_fault_text.specs.Place.{IsPlaceAt}
+use Rattle.ent_c.specs.declared.told.Told.{Told}
+
+-- beside a text of so many bytes, where there is no fault
+abbrev pub told_of_text : ℕ → Told
+told_of_text count =
+    record { needed = count; offset = 0; line = 0; column = 0; code = 0; has_place = false }
+
+-- the longest beginning of some bytes that is UTF-8, over which a place is counted
+abbrev pub text_of : List ℕ → List ℕ
+text_of bytes = take (utf8_valid_len bytes) bytes
+
+-- where a fault stands is told: its offset, its line and its column
+abbrev pub TellsPlace : Option ℕ → List ℕ → Told → Type 0
+TellsPlace None bytes told =
+    (told.has_place ≡ false) × (told.offset ≡ 0) × (told.line ≡ 0) × (told.column ≡ 0)
+TellsPlace (Some offset) bytes told =
+    (told.has_place ≡ true) × (told.offset ≡ offset)
+    × (IsCharBoundary (text_of bytes) offset
+    → IsPlaceAt (text_of bytes) offset (record { line = told.line; column = told.column }))
+
+-- a fault of these bytes is told, beside a text of so many
+pub record TellsFault (fault : RunFault) (bytes : List ℕ) (count : ℕ) (told : Told) : Type 0 where
+  pub counted : told.needed ≡ count
+  pub number : told.code ≡ code_of fault
+  pub place : TellsPlace (place_of fault) bytes told

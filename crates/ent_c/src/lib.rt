@@ -1,0 +1,108 @@
+//! Entangle for C, as a static library: the report of an input, what is said of its fault, and the check of a report.
+//!
+//! `include/entangle.h` declares the calls, and says of each what it asks of its caller. A text goes into a buffer of
+//! the caller's, as far as that reaches; what is told beside it goes into a [`Told`]. No call keeps anything: what it
+//! allocates it frees.
+#![tactic(auto)]
+
+ghost use Rattle.std.specs.Prelude.{MatchOption};
+ghost use Rattle.ent_c.specs.Calls.{Checks, Explains, IsMisused, Reports};
+ghost use Rattle.ent_c.specs.Version.{version_numbered};
+
+mod buffer;
+mod explanation;
+mod report;
+mod told;
+mod verdict;
+mod version;
+
+use crate::buffer::lay_over;
+use crate::explanation::explanation_of;
+use crate::report::report_of;
+use crate::verdict::{Judged, judge, status_after};
+use crate::version::version_numbered;
+use ent_engine::{ReportVersion, RunFault, status_of};
+use std::alloc::Global;
+pub use told::Told;
+
+/// The report was handed out, or the input has no fault to explain.
+const DONE: i32 = 0;
+
+/// An argument isn't in its range.
+const MISUSED: i32 = 2;
+
+/// Hands out the report of an input, or tells the fault for which there is none.
+#[unsafe(no_mangle)]
+pub extern "C" fn ent_c_report(
+    alloc: Global,
+    input: &[u8],
+    version: u32,
+    buffer: &mut [u8],
+    told: &mut Told,
+) -> i32
+    ensures { MatchOption (version_numbered version) (IsMisused buffer.old buffer.new told.new result)
+        (λ version. Reports version input.now buffer.old buffer.new told.new result) }
+{
+    let Some(version) = version_numbered(version) else {
+        *told = Told::text(0);
+        return MISUSED;
+    };
+    match report_of(alloc, input, version) {
+        Ok(report) => {
+            *told = Told::text(report.len());
+            lay_over(report.as_slice(), buffer);
+            DONE
+        }
+        Err(fault) => {
+            *told = Told::fault(input, fault, 0);
+            status_of(&fault) as i32
+        }
+    }
+}
+
+/// Hands out what is said of the fault of an input, as `entangle run --explain` says it.
+#[unsafe(no_mangle)]
+pub extern "C" fn ent_c_explain(
+    alloc: Global,
+    input: &[u8],
+    buffer: &mut [u8],
+    told: &mut Told,
+) -> i32
+    ensures { Explains input.now buffer.old buffer.new told.new result }
+{
+    let Err(fault) = report_of(alloc, input, ReportVersion::One) else {
+        *told = Told::text(0);
+        return DONE;
+    };
+    let Ok(text) = explanation_of(alloc, input, fault) else {
+        *told = Told::fault(input, RunFault::Memory, 0);
+        return status_of(&RunFault::Memory) as i32;
+    };
+    *told = Told::fault(input, fault, text.len());
+    lay_over(text.as_bytes(), buffer);
+    status_of(&fault) as i32
+}
+
+/// Hands out the verdict on a report, as `entangle check` prints it, without the end of its line.
+#[unsafe(no_mangle)]
+pub extern "C" fn ent_c_check(
+    alloc: Global,
+    report: &[u8],
+    buffer: &mut [u8],
+    told: &mut Told,
+) -> i32
+    ensures { Checks report.now buffer.old buffer.new told.new result }
+{
+    match judge(alloc, report) {
+        Ok(Judged { verdict, text }) => {
+            *told = Told::text(text.len());
+            lay_over(text.as_bytes(), buffer);
+            status_after(verdict)
+        }
+        Err(fault) => {
+            let fault = RunFault::Check(fault);
+            *told = Told::fault(report, fault, 0);
+            status_of(&fault) as i32
+        }
+    }
+}

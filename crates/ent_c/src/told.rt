@@ -1,0 +1,61 @@
+//! What C is told beside a text.
+ghost use Rattle.std.specs.Prelude.{◌≡◌};
+ghost use Rattle.ent_c.specs.Told.{TellsFault, told_of_text};
+
+use ent_engine::RunFault;
+use ent_fault_text::{Place, valid_text};
+
+/// What a call tells beside its status. C calls it `struct entangle_told`.
+#[repr(C)]
+#[derive(Clone, Copy, Debug)]
+pub struct Told {
+    /// How many bytes the text has, also where the buffer holds fewer; 0 where there is none.
+    pub needed: usize,
+    /// Where the fault stands, in bytes from the input's start; 0 where it has no place.
+    pub offset: usize,
+    /// Its line, which counts from 1; 0 where it has no place.
+    pub line: usize,
+    /// Its column in characters, which counts from 1; 0 where it has no place.
+    pub column: usize,
+    /// The fault's number, as 302; 0 where there is no fault.
+    pub code: u16,
+    /// Whether the fault has a place.
+    pub has_place: bool,
+}
+
+impl Told {
+    /// What is told beside a text of so many bytes, where there is no fault.
+    pub(crate) fn text(needed: usize) -> Self
+        ensures { result ≡ told_of_text needed }
+    {
+        Told {
+            needed,
+            offset: 0,
+            line: 0,
+            column: 0,
+            code: 0,
+            has_place: false,
+        }
+    }
+
+    /// What is told of a fault of some bytes, beside a text of so many bytes.
+    pub(crate) fn fault(input: &[u8], fault: RunFault, needed: usize) -> Self
+        ensures { TellsFault fault input.now needed result }
+    {
+        let nowhere = Told {
+            code: fault.code(),
+            ..Told::text(needed)
+        };
+        let Some(offset) = fault.place() else {
+            return nowhere;
+        };
+        let place = Place::of(valid_text(input), offset);
+        Told {
+            offset,
+            line: place.line,
+            column: place.column,
+            has_place: true,
+            ..nowhere
+        }
+    }
+}
