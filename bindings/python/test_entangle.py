@@ -36,8 +36,8 @@ class Rows(unittest.TestCase):
         print(f"{count} rows of a run")
         self.assertGreater(count, 100)
 
-    def test_explanations_are_those_of_the_program(self):
-        wanted = [name for name, _, _, line in rows("run --explain") if line == "@"]
+    def test_explanations_of_faults_are_those_of_the_program(self):
+        wanted = [name for name, _, status, line in rows("run --explain") if status == 1 and line == "@"]
         for name in wanted:
             with self.subTest(name):
                 self.assertEqual((entangle.explain(file(name, "in")) or "").encode(), file(name, "err"))

@@ -55,9 +55,10 @@ fn runs_are_those_of_the_program() {
 }
 
 #[test]
-fn explanations_are_those_of_the_program() {
+fn explanations_of_faults_are_those_of_the_program() {
     let mut count = 0;
-    for row in rows().iter().filter(|row| row.arguments == "run --explain" && row.line == "@") {
+    let is_wanted = |row: &&Row| row.arguments == "run --explain" && row.status == "1" && row.line == "@";
+    for row in rows().iter().filter(is_wanted) {
         let wanted = fs::read_to_string(folder().join(format!("{}.err", row.name))).expect("the row has its lines");
         assert_eq!(explain_bytes(&row.input).expect("memory is there").unwrap_or_default(), wanted, "{}", row.name);
         count += 1;
