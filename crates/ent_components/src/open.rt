@@ -7,23 +7,8 @@ ghost use Rattle.ent_components.specs.Open.{IsBefore, IsFirstOpen, IsOpen, IsOut
 use ent_group::Tx;
 use ent_job::{Job, Work};
 use ent_match::Posted;
-use ent_tree::Same;
+use ent_tree::are_same;
 use ent_value::Sequence;
-
-/// Whether two lists are equal, statement by statement.
-fn are_same(mine: &[Posted], theirs: &[Posted]) -> bool
-    ensures { IsTrue result ↔ (mine.now ≡ theirs.now) }
-{
-    if mine.len() != theirs.len() {
-        return false;
-    }
-    for index in 0..mine.len() {
-        if !mine[index].is_same(&theirs[index]) {
-            return false;
-        }
-    }
-    true
-}
 
 /// Whether a list is one of some.
 pub(crate) fn is_among(lists: &[Sequence<Posted>], asked: &[Posted]) -> bool

@@ -11,5 +11,6 @@ mod members;
 mod waits;
 
 pub use groups::{Groups, Membership};
+pub use marks::{Row, with_mark};
 pub use members::{MOST_MEMBERS, Members, Tx};
 pub use waits::{cycle, few_pairs_name_few};

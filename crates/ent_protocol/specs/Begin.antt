@@ -11,7 +11,8 @@ use Rattle.ent_protocol.specs.Commit.{preparing, is_ready, committing, committin
 use Rattle.ent_protocol.specs.Event.{Reply}
 use Rattle.ent_protocol.specs.Event as replies
 use Rattle.ent_protocol.specs.Job.{Job, One}
-use Rattle.ent_protocol.specs.Member.{Next, Ordinary, Asks, Commits, RollsBack, next_of, is_prepared, is_lent, posted_as}
+use Rattle.ent_protocol.specs.Member.{Next, Ordinary, Asks, Commits, RollsBack}
+use Rattle.ent_protocol.specs.Member.{next_of, is_prepared, is_lent, posted_as}
 use Rattle.ent_protocol.specs.Member.{active_member, pool, seen_now}
 use Rattle.ent_protocol.specs.Rollback.{Asked, rolled_back, group_numbers}
 use Rattle.ent_protocol.specs.State.{State, Member, Use, inserted}

@@ -9,7 +9,8 @@ use Rattle.ent_closed.specs.declared.statement.Statement.{Statement}
 use Rattle.ent_coordination.specs.Component.{IsComponent}
 use Rattle.ent_coordination.specs.Pool.{Posted}
 use Rattle.ent_lists.specs.Elements.{In, contains_in, in_contains, in_flat, to_flat}
-use Rattle.ent_protocol.specs.Member.{Next, Ordinary, Asks, Commits, RollsBack, next_in, next_of, pool, posted_as, posted_by}
+use Rattle.ent_protocol.specs.Member.{Next, Ordinary, Asks, Commits, RollsBack}
+use Rattle.ent_protocol.specs.Member.{next_in, next_of, pool, posted_as, posted_by}
 use Rattle.ent_protocol.specs.Member.{environment_of, statement_next}
 use Rattle.ent_protocol.specs.State.{State, Submitted, Member}
 

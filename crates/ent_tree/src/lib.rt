@@ -27,7 +27,7 @@ pub use limits::{
 pub use operand::{
     ColumnReference, Comparison, Expression, Identifier, Literal, Operand, Test, ValueSpecification,
 };
-pub use same::Same;
+pub use same::{Same, are_same};
 pub use script::{End, Input, Script, Statement};
 pub use select::{Items, Select, Source};
 pub use statement::{Assignment, Delete, Insert, Set, Update};

@@ -59,7 +59,7 @@ impl<T: Same, const LIMIT: usize> Same for Limited<T, LIMIT> {
 }
 
 /// Whether two lists are equal, element by element.
-fn are_same<T: Same>(mine: &[T], theirs: &[T]) -> bool
+pub fn are_same<T: Same>(mine: &[T], theirs: &[T]) -> bool
     ensures { IsTrue result ↔ (mine.now ≡ theirs.now) }
 {
     if mine.len() != theirs.len() {

@@ -1,13 +1,12 @@
 -- Who stands in a ring is stuck: each of a ring waits for one of it.
-use Rattle.std.proofs.Common.{◌≡◌, ◌≢◌, ℕ, zero, suc, ◌+◌, ◌*◌, ◌%◌, ◌^◌, ◌<◌, ◌≤◌, ◌==◌, ◌⊎◌, inl, inr, Bool, true, false}
+use Rattle.std.proofs.Common.{◌≡◌, ◌≢◌, ℕ, zero, suc, ◌+◌, ◌<◌, ◌≤◌, ◌==◌, ◌⊎◌, inl, inr, Bool, true, false}
 use Rattle.std.proofs.Common.{not, ◌||◌, List, [], ◌∷◌, length, nat_eq, bit_and, refl, sym, ap, subst, ◌∙◌, arith}
 use Rattle.std.proofs.Common.{true≢false}
 use Rattle.std.specs.Prelude.{All, AllPairs, Contains, nat_lt, slice_index}
-use Rattle.std.specs.Int.{bit_at, w64}
-use Rattle.std.specs.Int.RustNames.{bit_or}
-use Rattle.std.proofs.lemmas.Bool.{eqb-true, eqb-false, ltb-true, ltb-false}
+use Rattle.std.specs.Int.{bit_at}
+use Rattle.std.proofs.lemmas.Bool.{eqb-true, ltb-true, ltb-false}
 use Rattle.std.proofs.lemmas.Bool.Decides.{nat_tests}
-use Rattle.std.proofs.lemmas.Nat.Bits.{bit_at-zero, bit_at_and, bit_at_set_same, bit_at_set_other}
+use Rattle.std.proofs.lemmas.Nat.Bits.{bit_at-zero, bit_at_and}
 use Rattle.std.proofs.lemmas.List.Elements.{All-contains, All-head, All-tail, Contains-append_right}
 use Rattle.ent_group.specs.Cycle.{IsInRing, links_to}
 use Rattle.ent_group.specs.Marks.{IsMarked, has_mark}
@@ -25,16 +24,6 @@ below_or i j = elim (nat_lt i j) as (λ b. nat_lt i j ≡ b → (i < j) ⊎ (j �
 no_mark : (at : ℕ) → has_mark 0 at ≡ false
 unfolding has_mark
 no_mark at = ap (λ n. n == 1) (bit_at-zero at)
-
-pub with_bit : (row at i : ℕ) → at < 64 → has_mark (bit_or row (1 * 2 ^ at % 2 ^ 64)) i ≡ ((i == at) || has_mark row i)
-unfolding has_mark
-with_bit row at i within =
-    elim (i == at) as (λ b. (i == at) ≡ b
-    → (bit_at (bit_or row (1 * 2 ^ at % 2 ^ 64)) i == 1) ≡ (b || (bit_at row i == 1))) [
-      | true ↦ λ e. ap (λ n. n == 1) (ap (bit_at (bit_or row (1 * 2 ^ at % 2 ^ 64))) (eqb-true i at e)
-          ∙ bit_at_set_same w64 row at within)
-      | false ↦ λ e. ap (λ n. n == 1) (bit_at_set_other w64 row at within i (eqb-false i at e))
-    ] refl
 
 -- two rows with a mark at one place have bits together
 pub share_bit : (left right i : ℕ) → has_mark left i ≡ true → has_mark right i ≡ true

@@ -6,9 +6,9 @@ ghost use Rattle.ent_protocol.specs.Uses.{exclusive};
 ghost use Rattle.ent_waits.specs.Rows.{HasMarksOf, IsOfChangers, IsRowOfAny, MarksAll, MarksGroups, goes_with};
 ghost use Rattle.ent_waits.specs.Waits.{nothing};
 
-use crate::marks::{Row, share_mark, with_mark};
+use crate::marks::share_mark;
 use crate::rows::row_of;
-use ent_group::MOST_MEMBERS;
+use ent_group::{MOST_MEMBERS, Row, with_mark};
 use ent_members::{Member, Run, Use, is_in_way};
 
 /// A table, and the row of whoever changes it: marks at those for whom any such member waits, and maybe at others of

@@ -1,17 +1,8 @@
-//! Rows of up to 64 marks, each a bit.
-ghost use Rattle.std.specs.Prelude.{◌≡◌, ℕ, ◌<◌, ◌≤◌, ◌==◌, ◌||◌, true};
+//! What rows of marks have in common.
+ghost use Rattle.std.specs.Prelude.{◌≡◌, ℕ, ◌<◌, ◌≤◌, true};
 ghost use Rattle.ent_group.specs.Marks.{has_mark};
 
-/// Up to 64 marks.
-pub(crate) type Row = u64;
-
-/// A row with a mark at a place too.
-pub(crate) fn with_mark(row: Row, at: usize) -> Row
-    requires { at < 64 }
-    ensures { (i : ℕ) → has_mark result i ≡ (i == at || has_mark row i) }
-{
-    row | 1 << at
-}
+use ent_group::{Row, with_mark};
 
 /// Whether two rows have a mark at one place; it is so wherever they have.
 pub(crate) fn share_mark(left: Row, right: Row) -> bool

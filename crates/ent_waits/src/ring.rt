@@ -4,7 +4,8 @@ ghost use Rattle.ent_group.specs.Cycle.{IsInRing};
 ghost use Rattle.ent_group.specs.Marks.{IsMarked, has_mark};
 ghost use Rattle.ent_waits.specs.Rows.{IsMarkedPair};
 
-use crate::marks::{Row, first_marks, share_mark, with_mark};
+use crate::marks::{first_marks, share_mark};
+use ent_group::{Row, with_mark};
 
 /// The places whose rows have a mark where a row of those who are stuck has one too.
 fn still_stuck(rows: &[Row], stuck: Row) -> Row

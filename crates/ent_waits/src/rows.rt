@@ -8,10 +8,9 @@ ghost use Rattle.ent_waits.specs.Rows.{HasMarksOf, IsOfChangers, MarksAll, Marks
 ghost use Rattle.ent_waits.specs.Waits.{awaits_now, nothing};
 
 use crate::changers::{ChangersRow, row_of_changer};
-use crate::marks::{Row, with_mark};
 use crate::waiting::is_waiting;
 use ent_closed::{Known, Statement};
-use ent_group::{MOST_MEMBERS, Tx};
+use ent_group::{MOST_MEMBERS, Row, Tx, with_mark};
 use ent_job::Job;
 use ent_members::{Member, Run, Use, changed_table, is_in_way, statement_uses, waits_over};
 use ent_next::{SubmittedScript, next_form};
