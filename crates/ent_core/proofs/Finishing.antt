@@ -12,12 +12,13 @@ use Rattle.ent_closed.specs.declared.statement.Statement.TheVariants as statemen
 use Rattle.ent_eval.specs.Change.{IsApplicable}
 use Rattle.ent_job.specs.Seen.{relation_of}
 use Rattle.ent_job.specs.Work.{AreUsed, IsOne, IsWork, StandAtNumbers}
-use Rattle.ent_eval.specs.Result.{CanBeMade}
+use Rattle.ent_eval.specs.Result.{CanBeMade, answer_of}
 use Rattle.ent_form.specs.declared.fault.FormFault.{FormFault}
 use Rattle.ent_legal.specs.Faithful.{is_used}
 use Rattle.ent_legal.specs.Present.{LentIsPresent, SameWhereUsed}
 use Rattle.ent_members.specs.Places.{found}
 use Rattle.ent_members.specs.Run.{Run}
+use Rattle.ent_protocol.specs.Event.{Reply}
 use Rattle.ent_protocol.specs.Event as replies
 use Rattle.ent_protocol.specs.Begin.{replaced}
 use Rattle.ent_protocol.specs.Finish.{FinishesBy, FinishesSingle, IsTaken, noted, stepped, table_of, with_change}
@@ -37,9 +38,9 @@ use Rattle.ent_standing.specs.ByNumber.{StandByNumber}
 use Rattle.ent_standing.specs.Declared.{LentIsDeclared, SeesDeclared}
 use Rattle.ent_tables.specs.Stored.{Stored}
 use Rattle.ent_core.specs.Advance.{Advances, binding}
-use Rattle.ent_core.specs.Finish.{Accepts, CanChange, CarriesOut, MayCarryOut}
-use Rattle.ent_core.specs.Reply.{reply_seen}
-use Rattle.ent_core.specs.declared.reply.Reply.{Reply as Given}
+use Rattle.ent_core.specs.Finish.{Accepts, CanChange, CarriesOut, IsReplyTo, MayCarryOut}
+use Rattle.ent_core.specs.declared.finish.Carried.{Carried}
+use Rattle.ent_core.specs.declared.finish.Carried.TheVariants as carried
 use Rattle.ent_core.specs.Begin.{IsIdle}
 use Rattle.ent_coordination.specs.Pool.{Posted}
 use Rattle.ent_pool_laws.specs.Pooled.{IsPoolOf}
@@ -143,11 +144,22 @@ may_carry_out s job single (Changed count removed added) one made declared same 
 
 -- ---- what is made of it
 
-pub went_on : (s : State) (run run' : Run) (stored stored' : Stored) (single : Single) (member : Member) (left : List
-    Job)
-    (outcome : Outcome) (answer : Answer)
+one_answer : (x y : Answer) → Some x ≡ Some y → y ≡ x
+one_answer x y e = cc
+
+-- an outcome that is no failure has an answer
+pub has_answer : (single : Single) (outcome : Outcome) (run run' : Run) (stored stored' : Stored)
+    → Advances single outcome run stored run' stored' → (answer : Answer) × (answer_of outcome ≡ Some answer)
+has_answer single (Shown rows) run run' stored stored' h = (answers.Rows rows, refl)
+has_answer single (Changed count removed added) run run' stored stored' h = (answers.Count count, refl)
+has_answer single (Bound value) run run' stored stored' h = (answers.Value value, refl)
+has_answer single (Choice groundings) run run' stored stored' h = absurd h
+has_answer single (Fault failure) run run' stored stored' h = absurd h
+
+pub went_on : (s : State) (run run' : Run) (stored stored' : Stored) (single : Single) (member : Member)
+    (left : List Job) (outcome : Outcome) (answer : Answer) → answer_of outcome ≡ Some answer
     → s.prepared ≡ run.prepared → s.active ≡ run.active → s.tables ≡ stored.tables → s.changes ≡ stored.changes
-    → active_member s single.tx ≡ Some member → Advances single outcome answer run stored run' stored'
+    → active_member s single.tx ≡ Some member → Advances single outcome run stored run' stored'
     → FinishesBy {F = FormFault} (record s { lent = left }) member single.statement outcome (replies.Stepped answer)
     (record s {
       prepared = run'.prepared;
@@ -156,14 +168,14 @@ pub went_on : (s : State) (run run' : Run) (stored stored' : Stored) (single : S
       tables = stored'.tables;
       changes = stored'.changes;
     })
-went_on s run run' stored stored' single member left (Shown rows) answer prepared active tables changes there h =
+went_on s run run' stored stored' single member left (Shown rows) answer shown prepared active tables changes there h =
     let is : found run.active single.tx ≡ Some member =
     ap (λ (ms : List Member). found ms single.tx) (sym active) ∙ there in
-    let steps = h.1 in
+    let steps = h.0 in
     let members = steps.active member is ∙ ap (map (replaced (stepped (answers.Rows rows) member))) (sym active) in
     let before = steps.prepared ∙ sym prepared in
-    let rest = h.2 in (
-      ap (λ (a : Answer). replies.Stepped a) h.0,
+    let rest = h.1 in (
+      ap (λ (a : Answer). replies.Stepped a) (one_answer (answers.Rows rows) answer shown),
       λ i. record s {
         prepared = before i;
         active = members i;
@@ -172,20 +184,20 @@ went_on s run run' stored stored' single member left (Shown rows) answer prepare
         changes = (ap (λ (x : Stored). x.changes) rest ∙ sym changes) i;
       },
     )
-went_on s run run' stored stored' single member left (Changed count removed added) answer prepared active tables
+went_on s run run' stored stored' single member left (Changed count removed added) answer shown prepared active tables
     changes there h =
     let is : found run.active single.tx ≡ Some member =
     ap (λ (ms : List Member). found ms single.tx) (sym active) ∙ there in
     let own : single.tx ≡ member.tx = sym (number_found single.tx s.active member there) in
-    let steps = h.1 in
+    let steps = h.0 in
     let members = steps.active member is ∙ ap (map (replaced (stepped (answers.Count count) member))) (sym active) in
     let before = steps.prepared ∙ sym prepared in
-    let rest = h.2 in
+    let rest = h.1 in
     let rows = ap (λ (x : Stored). x.tables) rest
     ∙ ap (with_change (table_of single.statement) removed added) (sym tables) in
     let notes = ap (λ (x : Stored). x.changes) rest
     ∙ (λ i. noted (own i) (table_of single.statement) (sym tables i) (sym changes i)) in (
-      ap (λ (a : Answer). replies.Stepped a) h.0,
+      ap (λ (a : Answer). replies.Stepped a) (one_answer (answers.Count count) answer shown),
       λ i. record s {
         prepared = before i;
         active = members i;
@@ -194,14 +206,14 @@ went_on s run run' stored stored' single member left (Changed count removed adde
         changes = notes i;
       },
     )
-went_on s run run' stored stored' single member left (Bound value) answer prepared active tables changes there h =
+went_on s run run' stored stored' single member left (Bound value) answer shown prepared active tables changes there h =
     let is : found run.active single.tx ≡ Some member =
     ap (λ (ms : List Member). found ms single.tx) (sym active) ∙ there in
-    let steps = h.1 in
+    let steps = h.0 in
     let members = steps.active member is ∙ ap (map (replaced (binding single.statement value member))) (sym active) in
     let before = steps.prepared ∙ sym prepared in
-    let rest = h.2 in (
-      ap (λ (a : Answer). replies.Stepped a) h.0,
+    let rest = h.1 in (
+      ap (λ (a : Answer). replies.Stepped a) (one_answer (answers.Value value) answer shown),
       λ i. record s {
         prepared = before i;
         active = members i;
@@ -210,10 +222,10 @@ went_on s run run' stored stored' single member left (Bound value) answer prepar
         changes = (ap (λ (x : Stored). x.changes) rest ∙ sym changes) i;
       },
     )
-went_on s run run' stored stored' single member left (Choice groundings) answer prepared active tables changes there
-    h = absurd h
-went_on s run run' stored stored' single member left (Fault failure) answer prepared active tables changes there h =
-    absurd h
+went_on s run run' stored stored' single member left (Choice groundings) answer shown prepared active tables changes
+    there h = absurd h
+went_on s run run' stored stored' single member left (Fault failure) answer shown prepared active tables changes
+    there h = absurd h
 
 -- ---- a failure
 
@@ -271,16 +283,17 @@ out_change s job single index outcome present declared changed there work fits m
     may_carry_out s job single outcome one made (declared job lent) p.same (changed p.member single.statement p.next)
 
 -- it is accepted
-pub accepted : (s : State) (done : Done) (single : Single) (index : ℕ) (outcome : Outcome) (reply : Given) (new : State)
+pub accepted : (s : State) (done : Done) (single : Single) (index : ℕ) (outcome : Outcome) (how : Carried) (new : State)
     → IsEvaluated done → slice_get s.lent index ≡ Some done.job → done.job.work ≡ One single
     → IsSome (active_member s single.tx) → outcome ≡ done.outcome
-    → CarriesOut s index single outcome (reply_seen reply) new → Accepts s done (Some reply) new
-accepted s done single index outcome reply new meant there work out is carried =
+    → (reply : Reply FormFault) × IsReplyTo outcome how reply × CarriesOut s index single outcome reply new
+    → Accepts s done (Some how) new
+accepted s done single index outcome how new meant there work out is (reply, replied, carried) =
     let m = the_found (active_member s single.tx) out in
     let h = carried done.job m.0 there m.1 in
     let P : Outcome → Type 0 =
-    λ o. FinishesBy {F = FormFault} (record s { lent = h.0 }) m.0 single.statement o (reply_seen reply) new in
-    let finished : FinishesSingle {F = FormFault} s done single (reply_seen reply) new =
+    λ o. FinishesBy {F = FormFault} (record s { lent = h.0 }) m.0 single.statement o reply new in
+    let finished : FinishesSingle {F = FormFault} s done single reply new =
     record {
       meant = meant;
       left = h.0;
@@ -289,33 +302,39 @@ accepted s done single index outcome reply new meant there work out is carried =
       is_member = m.1;
       steps = subst P is h.2;
     } in
-    (single, work, finished)
+    (reply, subst (λ (o : Outcome). IsReplyTo o how reply) is replied, (single, work, finished))
+
+-- the reply to it
+pub replied_to : (outcome : Outcome) (answer : Answer) (reply : Reply FormFault) → answer_of outcome ≡ Some answer
+    → IsReplyTo outcome carried.Stepped reply → replies.Stepped answer ≡ reply
+replied_to outcome answer reply shown (other, told, is) =
+    ap (λ (a : Answer). replies.Stepped a) (sym (one_answer answer other (sym shown ∙ told))) ∙ sym is
 
 -- ---- the store that goes on
 
 -- the kinds of the tables stay
-pub advanced_kinds : (single : Single) (outcome : Outcome) (answer : Answer) (run run' : Run) (stored stored' : Stored)
-    → Advances single outcome answer run stored run' stored' → stored'.kinds ≡ stored.kinds
-advanced_kinds single (Shown rows) answer run run' stored stored' h = ap (λ (x : Stored). x.kinds) h.2
-advanced_kinds single (Changed count removed added) answer run run' stored stored' h = ap (λ (x : Stored). x.kinds) h.2
-advanced_kinds single (Bound value) answer run run' stored stored' h = ap (λ (x : Stored). x.kinds) h.2
-advanced_kinds single (Choice groundings) answer run run' stored stored' h = absurd h
-advanced_kinds single (Fault failure) answer run run' stored stored' h = absurd h
+pub advanced_kinds : (single : Single) (outcome : Outcome) (run run' : Run) (stored stored' : Stored)
+    → Advances single outcome run stored run' stored' → stored'.kinds ≡ stored.kinds
+advanced_kinds single (Shown rows) run run' stored stored' h = ap (λ (x : Stored). x.kinds) h.1
+advanced_kinds single (Changed count removed added) run run' stored stored' h = ap (λ (x : Stored). x.kinds) h.1
+advanced_kinds single (Bound value) run run' stored stored' h = ap (λ (x : Stored). x.kinds) h.1
+advanced_kinds single (Choice groundings) run run' stored stored' h = absurd h
+advanced_kinds single (Fault failure) run run' stored stored' h = absurd h
 
 -- and so does the pool, where nobody of the statement's number has posted
 pub advanced_pool : (submitted : List Submitted) (posted : List Posted) (single : Single) (outcome : Outcome)
-    (answer : Answer) (run run' : Run) (stored stored' : Stored) → IsPoolOf submitted run.active posted
-    → Advances single outcome answer run stored run' stored' → IsSome (found run.active single.tx)
+    (run run' : Run) (stored stored' : Stored) → IsPoolOf submitted run.active posted
+    → Advances single outcome run stored run' stored' → IsSome (found run.active single.tx)
     → ((m : Member) → Contains run.active m → m.tx ≡ single.tx → m.posted ≡ false)
     → IsPoolOf submitted run'.active posted
-advanced_pool submitted posted single (Shown rows) answer run run' stored stored' old h some idle =
-    kept_changing submitted run.active posted old (stepped (answers.Rows rows)) single.tx run'.active h.1.active some
+advanced_pool submitted posted single (Shown rows) run run' stored stored' old h some idle =
+    kept_changing submitted run.active posted old (stepped (answers.Rows rows)) single.tx run'.active h.0.active some
     (λ m. refl) (λ m off. refl) idle
-advanced_pool submitted posted single (Changed count removed added) answer run run' stored stored' old h some idle =
-    kept_changing submitted run.active posted old (stepped (answers.Count count)) single.tx run'.active h.1.active some
+advanced_pool submitted posted single (Changed count removed added) run run' stored stored' old h some idle =
+    kept_changing submitted run.active posted old (stepped (answers.Count count)) single.tx run'.active h.0.active some
     (λ m. refl) (λ m off. refl) idle
-advanced_pool submitted posted single (Bound value) answer run run' stored stored' old h some idle =
-    kept_changing submitted run.active posted old (binding single.statement value) single.tx run'.active h.1.active some
+advanced_pool submitted posted single (Bound value) run run' stored stored' old h some idle =
+    kept_changing submitted run.active posted old (binding single.statement value) single.tx run'.active h.0.active some
     (λ m. refl) (λ m off. refl) idle
-advanced_pool submitted posted single (Choice groundings) answer run run' stored stored' old h some idle = absurd h
-advanced_pool submitted posted single (Fault failure) answer run run' stored stored' old h some idle = absurd h
+advanced_pool submitted posted single (Choice groundings) run run' stored stored' old h some idle = absurd h
+advanced_pool submitted posted single (Fault failure) run run' stored stored' old h some idle = absurd h

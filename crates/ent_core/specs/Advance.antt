@@ -7,7 +7,6 @@ use Rattle.ent_eval.specs.Change.{IsApplicable}
 use Rattle.ent_rel.specs.declared.change.Delta.{Delta}
 use Rattle.ent_members.specs.Places.{Changes}
 use Rattle.ent_members.specs.Run.{Run}
-use Rattle.ent_semantics.specs.declared.answer.Answer.{Answer}
 use Rattle.ent_semantics.specs.declared.answer.Answer.TheVariants as answers
 use Rattle.ent_protocol.specs.Finish.{noted, stepped, table_of, variable_of, with_bound, with_change}
 use Rattle.ent_protocol.specs.Job.{Outcome, Shown, Changed, Bound, Choice, Fault, Single}
@@ -47,14 +46,14 @@ pub record Steps (change : Member → Member) (tx : ℕ) (old new : Run) : Type 
   pub prepared : new.prepared ≡ old.prepared
   pub active : Changes change tx old.active new.active
 
--- the answer of an outcome that is no failure, and what the outcome makes of the statement's member and of the tables
-abbrev pub Advances : Single → Outcome → Answer → Run → Stored → Run → Stored → Type 0
-Advances single (Shown rows) answer run stored run' stored' =
-    (answer ≡ answers.Rows rows) × Steps (stepped (answers.Rows rows)) single.tx run run' × (stored' ≡ stored)
-Advances single (Changed count removed added) answer run stored run' stored' =
-    (answer ≡ answers.Count count) × Steps (stepped (answers.Count count)) single.tx run run'
+-- what an outcome that is no failure makes of the statement's member and of the tables
+abbrev pub Advances : Single → Outcome → Run → Stored → Run → Stored → Type 0
+Advances single (Shown rows) run stored run' stored' =
+    Steps (stepped (answers.Rows rows)) single.tx run run' × (stored' ≡ stored)
+Advances single (Changed count removed added) run stored run' stored' =
+    Steps (stepped (answers.Count count)) single.tx run run'
     × (stored' ≡ changing single (record { removed = removed; added = added }) stored)
-Advances single (Bound value) answer run stored run' stored' =
-    (answer ≡ answers.Value value) × Steps (binding single.statement value) single.tx run run' × (stored' ≡ stored)
-Advances single (Choice groundings) answer run stored run' stored' = ⊥
-Advances single (Fault failure) answer run stored run' stored' = ⊥
+Advances single (Bound value) run stored run' stored' =
+    Steps (binding single.statement value) single.tx run run' × (stored' ≡ stored)
+Advances single (Choice groundings) run stored run' stored' = ⊥
+Advances single (Fault failure) run stored run' stored' = ⊥

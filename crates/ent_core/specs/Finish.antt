@@ -5,15 +5,18 @@ use Rattle.ent_set.specs.Sets as set
 use Rattle.ent_value.specs.declared.value.Value.{Value}
 use Rattle.ent_closed.specs.declared.statement.Statement.{Statement}
 use Rattle.ent_eval.specs.Change.{IsApplicable}
+use Rattle.ent_eval.specs.Result.{answer_of}
 use Rattle.ent_form.specs.declared.fault.FormFault.{FormFault}
 use Rattle.ent_protocol.specs.Event.{Reply}
+use Rattle.ent_protocol.specs.Event as replies
 use Rattle.ent_protocol.specs.Finish.{FinishesBy, FinishesSingle, IsOutstandingSingle, IsTaken, table_of}
 use Rattle.ent_protocol.specs.Job.{Done, Job, One, Outcome, Shown, Changed, Bound, Choice, Fault, Single}
 use Rattle.ent_protocol.specs.Member.{active_member, declared_kinds}
 use Rattle.ent_protocol.specs.State.{State, Member}
 use Rattle.ent_rel.specs.declared.change.Delta.{Delta}
-use Rattle.ent_core.specs.Reply.{reply_seen}
-use Rattle.ent_core.specs.declared.reply.Reply.{Reply as Given}
+use Rattle.ent_semantics.specs.declared.answer.Answer.{Answer}
+use Rattle.ent_core.specs.declared.finish.Carried.{Carried}
+use Rattle.ent_core.specs.declared.finish.Carried.TheVariants as carried
 
 -- a table is declared, and a change can be made in it as it stands
 pub record CanChange (s : State) (delta : Delta) (table : ℕ) : Type 0 where
@@ -47,8 +50,15 @@ StandsAt s done None = IsOutstandingSingle s done → ⊥
 StandsAt s done (Some place) =
     (slice_get s.lent place ≡ Some done.job) × ((single : Single) × (done.job.work ≡ One single))
 
--- a result that is outstanding is carried out; where there is no reply, it isn't outstanding
-abbrev pub Accepts : State → Done → Option Given → State → Type 0
+-- the reply to an outcome: what the statement answers, or that it failed
+abbrev pub IsReplyTo : Outcome → Carried → Reply FormFault → Type 0
+IsReplyTo outcome carried.Stepped reply =
+    (answer : Answer) × (answer_of outcome ≡ Some answer) × (reply ≡ replies.Stepped answer)
+IsReplyTo outcome (carried.Failed failure group) reply = reply ≡ replies.Failed failure group
+
+-- a result that is outstanding is carried out; where nothing is, it isn't outstanding
+abbrev pub Accepts : State → Done → Option Carried → State → Type 0
 Accepts s done None new = (IsOutstandingSingle s done → ⊥) × (new ≡ s)
-Accepts s done (Some reply) new =
-    (single : Single) × (done.job.work ≡ One single) × FinishesSingle s done single (reply_seen reply) new
+Accepts s done (Some how) new =
+    (reply : Reply FormFault) × IsReplyTo done.outcome how reply
+    × ((single : Single) × (done.job.work ≡ One single) × FinishesSingle s done single reply new)

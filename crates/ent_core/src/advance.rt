@@ -44,19 +44,16 @@ fn bound_by(
     Ok(bound)
 }
 
-/// The member of a number takes the rows of its SELECT, and is at the next statement. The answer is theirs too. Where
-/// memory runs out nothing changes.
-pub(crate) fn show(alloc: Global, run: &mut Run, tx: Tx, rows: &[Row]) -> Result<Answer, AllocError>
+/// The member of a number takes the rows of its SELECT, and is at the next statement. Where memory runs out nothing
+/// changes.
+pub(crate) fn show(alloc: Global, run: &mut Run, tx: Tx, rows: &[Row]) -> Result<(), AllocError>
     requires { IsSome (found run.old.active tx) }
-    ensures answer { IfOk result (λ answer. answer ≡ answers.Rows rows.now) }
     ensures ok { OnOk result (Changes (stepped (answers.Rows rows.now)) tx run.old.active run.new.active) }
     ensures prepared { run.new.prepared ≡ run.old.prepared }
     ensures err { OnErr result (run.new ≡ run.old) }
 {
-    let shown = Answer::Rows(rows_copy(alloc, rows)?);
     let answer = Answer::Rows(rows_copy(alloc, rows)?);
-    run.step(tx, answer)?;
-    Ok(shown)
+    run.step(tx, answer)
 }
 
 /// The member of a statement binds a value, and is at the next statement. Where memory runs out nothing changes.
@@ -65,19 +62,17 @@ pub(crate) fn bind(
     run: &mut Run,
     single: &Single,
     value: &Value,
-) -> Result<Answer, AllocError>
+) -> Result<(), AllocError>
     requires { IsSome (found run.old.active single.now.tx) }
-    ensures answer { IfOk result (λ answer. answer ≡ answers.Value value.now) }
     ensures ok { OnOk result (Changes (binding single.now.statement value.now) single.now.tx run.old.active
         run.new.active) }
     ensures prepared { run.new.prepared ≡ run.old.prepared }
     ensures err { OnErr result (run.new ≡ run.old) }
 {
-    let shown = Answer::Value(value.copy(alloc)?);
     let answer = Answer::Value(value.copy(alloc)?);
     let bound = bound_by(alloc, single.statement(), value)?;
     run.step_bound(single.tx(), answer, bound)?;
-    Ok(shown)
+    Ok(())
 }
 
 /// The member of a statement changes the statement's table, and is at the next statement. Where memory runs out nothing

@@ -3,11 +3,13 @@ ghost use Rattle.std.specs.Prelude.{◌≡◌, ◌<◌, ◌∷◌, [], IfErr, If
 ghost use Rattle.std.specs.Prelude.{length, slice_get};
 ghost use Rattle.ent_core.specs.Advance.{Advances, MayAdvance};
 ghost use Rattle.ent_core.specs.Begin.{IsIdle};
-ghost use Rattle.ent_core.specs.Finish.{Accepts, CarriesOut, MayCarryOut, StandsAt};
+ghost use Rattle.ent_core.specs.Finish.{Accepts, CarriesOut, IsReplyTo, MayCarryOut, StandsAt};
 ghost use Rattle.ent_core.specs.Kept.{IsKeptState};
 ghost use Rattle.ent_core.specs.Reply.{reply_seen};
 ghost use Rattle.ent_eval.specs.Result.{alone_seen};
 ghost use Rattle.ent_members.specs.Places.{found};
+ghost use Rattle.ent_protocol.specs.Event.{Reply as Replied};
+ghost use Rattle.ent_protocol.specs.Event as replies;
 ghost use Rattle.ent_protocol.specs.Finish.{Finishes, IsOutstandingSingle};
 ghost use Rattle.ent_protocol.specs.Job as jobs;
 ghost use Rattle.ent_protocol.specs.Member.{active_member};
@@ -21,13 +23,14 @@ use crate::store::Store;
 use crate::take_out::roll_back;
 use ent_eval::{Done, JobOutcome, Outcome};
 use ent_form::FormFault;
+use ent_group::Members;
 use ent_job::{Job, Single, Work};
 use ent_lent::LentJobs;
 use ent_members::Run;
 use ent_ready::used_tables_are_declared;
 use ent_resolved::resolved_jobs_are_present;
 use ent_roster::Cause;
-use ent_semantics::{Answer, Failure};
+use ent_semantics::Failure;
 use ent_standing::{
     attempts_stay_within, lent_tables_are_declared, members_stand_by_number,
     transactions_are_counted, transactions_stand_once,
@@ -63,6 +66,13 @@ fn outstanding_alone(lent: &LentJobs, job: &Job) -> Option<usize>
     }
 }
 
+/// What became of a statement's member: it goes on, or the statement failed, and these were rolled back with it.
+#[derive(Drop)]
+pub(crate) enum Carried {
+    Stepped,
+    Failed(Failure, Members),
+}
+
 /// The member of a statement goes on with what the statement comes to. Where this is a failure, and where memory runs
 /// out, nothing changes.
 fn advance(
@@ -71,11 +81,11 @@ fn advance(
     tables: &mut StoredTables,
     single: &Single,
     outcome: &Outcome,
-) -> Result<Answer, Refusal<Failure>>
+) -> Result<(), Refusal<Failure>>
     requires member { IsSome (found run.old.active single.now.tx) }
     requires may { MayAdvance tables.old single.now.statement (alone_seen outcome.now) }
-    ensures ok { IfOk result (λ answer.
-        Advances single.now (alone_seen outcome.now) answer run.old tables.old run.new tables.new) }
+    ensures ok { OnOk result
+        (Advances single.now (alone_seen outcome.now) run.old tables.old run.new tables.new) }
     ensures failure { IfErr result (λ refusal. (failure : Failure)
         → refusal ≡ Fault failure
         → alone_seen outcome.now ≡ jobs.Fault failure) }
@@ -89,20 +99,19 @@ fn advance(
         Outcome::Rows(rows) => Ok(show(alloc, run, single.tx(), rows.as_slice())?),
         Outcome::Value(value) => Ok(bind(alloc, run, single, value)?),
         Outcome::Changed { count, delta } => {
-            change(alloc, run, tables, single, *count, delta)?;
-            Ok(Answer::Count(*count))
+            Ok(change(alloc, run, tables, single, *count, delta)?)
         }
         Outcome::Fault(failure) => Err(Refusal::Fault(*failure)),
     }
 }
 
-/// The statement of a lent job fails: the job is lent no more, and the group of its member is rolled back. It takes no
-/// memory.
-fn fail(store: &mut Store, index: usize, single: &Single, failure: Failure) -> Reply
+/// The statement of a lent job fails: the job is lent no more, and the group of its member, which it tells by number, is
+/// rolled back. It takes no memory.
+fn fail(store: &mut Store, index: usize, single: &Single, failure: Failure) -> Members
     requires kept { IsKeptState store.old }
     requires lent { index < length store.old.lent }
     requires there { IsSome (active_member store.old single.now.tx) }
-    ensures { CarriesOut store.old index single.now (jobs.Fault failure) (reply_seen result) store.new }
+    ensures { CarriesOut store.old index single.now (jobs.Fault failure) (replies.Failed failure result) store.new }
 {
     // Laws: what rolling back asks for.
     transactions_are_counted::<FormFault>();
@@ -110,12 +119,11 @@ fn fail(store: &mut Store, index: usize, single: &Single, failure: Failure) -> R
     attempts_stay_within::<FormFault>();
     let tx = single.tx();
     let Some(member) = store.run.active_member(tx) else {
-        return Reply::Absent;
+        return Members::new();
     };
     let group = member.group();
     store.lent.take(index);
-    let members = roll_back(store, group, Cause::Failing(tx, failure));
-    Reply::Failed(failure, members)
+    roll_back(store, group, Cause::Failing(tx, failure))
 }
 
 /// Carries out what the statement of a lent job comes to. Where memory runs out nothing changes; a failure takes none.
@@ -124,14 +132,14 @@ fn carry_out(
     index: usize,
     single: &Single,
     outcome: &Outcome,
-) -> Result<Reply, AllocError>
+) -> Result<Carried, AllocError>
     requires kept { IsKeptState store.old }
     requires lent { index < length store.old.lent }
     requires there { IsSome (active_member store.old single.now.tx) }
     requires idle { IsIdle store.old single.now.tx }
     requires may { MayCarryOut store.old single.now.statement (alone_seen outcome.now) }
-    ensures ok { IfOk result (λ reply.
-        CarriesOut store.old index single.now (alone_seen outcome.now) (reply_seen reply) store.new) }
+    ensures ok { IfOk result (λ how. (reply : Replied FormFault) × IsReplyTo (alone_seen outcome.now) how reply
+        × CarriesOut store.old index single.now (alone_seen outcome.now) reply store.new) }
     ensures err { OnErr result (store.new ≡ store.old) }
     ensures failure { (failure : Failure) → alone_seen outcome.now ≡ jobs.Fault failure → IsOk result }
 {
@@ -143,20 +151,27 @@ fn carry_out(
         single,
         outcome,
     ) {
-        Ok(answer) => {
+        Ok(()) => {
             store.lent.take(index);
-            Ok(Reply::Stepped(answer))
+            Ok(Carried::Stepped)
         }
-        Err(Refusal::Fault(failure)) => Ok(fail(store, index, single, failure)),
+        Err(Refusal::Fault(failure)) => {
+            let members = fail(store, index, single, failure);
+            Ok(Carried::Failed(failure, members))
+        }
         Err(Refusal::Memory) => Err(AllocError),
     }
 }
 
-/// Carries out a result whose job stands at a place. One that is nowhere changes nothing, and gets no reply here.
-fn accept(store: &mut Store, place: Option<usize>, done: &Done) -> Result<Option<Reply>, AllocError>
+/// Carries out a result whose job stands at a place. One that is nowhere changes nothing.
+fn accept(
+    store: &mut Store,
+    place: Option<usize>,
+    done: &Done,
+) -> Result<Option<Carried>, AllocError>
     requires kept { IsKeptState store.old }
     requires stands { StandsAt store.old done.now place }
-    ensures ok { IfOk result (λ reply. Accepts store.old done.now reply store.new) }
+    ensures ok { IfOk result (λ how. Accepts store.old done.now how store.new) }
     ensures err { OnErr result (store.new ≡ store.old) }
     ensures failure { (failure : Failure) → done.now.outcome ≡ jobs.Fault failure → IsOk result }
 {
@@ -174,8 +189,21 @@ fn accept(store: &mut Store, place: Option<usize>, done: &Done) -> Result<Option
     let JobOutcome::One(outcome) = done.outcome() else {
         return Ok(None);
     };
-    let reply = carry_out(store, index, single, outcome)?;
-    Ok(Some(reply))
+    let how = carry_out(store, index, single, outcome)?;
+    Ok(Some(how))
+}
+
+/// The reply to a result that was carried out. What the statement answers is moved.
+fn reply_to(how: Carried, done: Done) -> Reply
+    ensures { (reply : Replied FormFault) → IsReplyTo done.outcome how reply → reply_seen result ≡ reply }
+{
+    match how {
+        Carried::Failed(failure, members) => Reply::Failed(failure, members),
+        Carried::Stepped => match done.into_answer() {
+            Some(answer) => Reply::Stepped(answer),
+            None => Reply::Absent,
+        },
+    }
 }
 
 /// A result comes in whose job stands at a place, or nowhere: then it is stale, and comes back.
@@ -188,10 +216,7 @@ fn take(store: &mut Store, place: Option<usize>, done: Done) -> Result<Reply, Al
     ensures failure { (failure : Failure) → done.outcome ≡ jobs.Fault failure → IsOk result }
 {
     match accept(store, place, &done) {
-        Ok(Some(reply)) => {
-            drop(done);
-            Ok(reply)
-        }
+        Ok(Some(how)) => Ok(reply_to(how, done)),
         Ok(None) => Ok(Reply::Stale(done)),
         Err(AllocError) => Err(AllocFailed { value: done }),
     }

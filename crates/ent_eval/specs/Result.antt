@@ -1,5 +1,7 @@
 -- What the results of jobs promise.
-use Rattle.std.specs.Prelude.{◌≡◌, List, [], ◌∷◌}
+use Rattle.std.specs.Prelude.{◌≡◌, List, [], ◌∷◌, Option, Some, None}
+use Rattle.ent_semantics.specs.declared.answer.Answer.{Answer}
+use Rattle.ent_semantics.specs.declared.answer.Answer.TheVariants as answers
 use Rattle.ent_protocol.specs.Job.{Seen, Done, IsEvaluated}
 use Rattle.ent_protocol.specs.Job as jobs
 use Rattle.ent_job.specs.Seen.{relation_of}
@@ -18,6 +20,14 @@ alone_seen (alone.Fault failure) = jobs.Fault failure
 abbrev pub outcome_seen : JobOutcome → jobs.Outcome
 outcome_seen (outcomes.One outcome) = alone_seen outcome
 outcome_seen (outcomes.Choice groundings) = jobs.Choice groundings
+
+-- what a statement answers; a choice answers several statements, and a failure none
+abbrev pub answer_of : jobs.Outcome → Option Answer
+answer_of (jobs.Shown rows) = Some (answers.Rows rows)
+answer_of (jobs.Changed count removed added) = Some (answers.Count count)
+answer_of (jobs.Bound value) = Some (answers.Value value)
+answer_of (jobs.Choice groundings) = None
+answer_of (jobs.Fault failure) = None
 
 -- a change that an outcome tells can be made in the one table
 abbrev pub CanBeMade : List Seen → jobs.Outcome → Type 0

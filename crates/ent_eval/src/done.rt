@@ -3,13 +3,14 @@ ghost use Rattle.std.specs.Prelude.{◌≡◌, IfOk, IfErr};
 ghost use Rattle.ent_protocol.specs.Job.{IsEvaluated};
 ghost use Rattle.ent_protocol.specs.Job as jobs;
 ghost use Rattle.ent_job.specs.Work.{IsOne};
-ghost use Rattle.ent_eval.specs.Result.{CanBeMade, IsRight, alone_seen, outcome_seen};
+ghost use Rattle.ent_eval.specs.Result.{CanBeMade, IsRight, alone_seen, answer_of, outcome_seen};
 
 use crate::evaluation::statement_outcome;
 use crate::joint::choice;
 use crate::outcome::{JobOutcome, Outcome};
 use crate::shared::tables_shared;
 use ent_job::{Job, Seen, Single, Work};
+use ent_semantics::Answer;
 use std::alloc::{AllocError, Global};
 use std::marker::Model;
 
@@ -75,6 +76,15 @@ impl Done {
         ensures change { CanBeMade self.now.job.tables self.now.outcome }
     {
         &self.outcome
+    }
+
+    /// What the statement answers, moved out: rows aren't copied. None where it can't be carried out, and where the job
+    /// is one of several statements.
+    pub fn into_answer(self) -> Option<Answer>
+        ensures { result ≡ answer_of self.outcome }
+    {
+        let Done { job: _job, outcome } = self;
+        outcome.into_answer()
     }
 }
 

@@ -1,8 +1,9 @@
 //! What evaluation answers.
 ghost use Rattle.std.specs.Prelude.{◌≡◌, IfOk};
+ghost use Rattle.ent_eval.specs.Result.{alone_seen, answer_of, outcome_seen};
 
 use ent_rel::Delta;
-use ent_semantics::Failure;
+use ent_semantics::{Answer, Failure};
 use ent_tree::Duplicate;
 use ent_value::{Row, Sequence, Value};
 use std::alloc::{AllocError, Global};
@@ -32,6 +33,21 @@ impl Outcome {
             }),
             Outcome::Value(value) => Ok(Outcome::Value(value.copy(alloc)?)),
             Outcome::Fault(failure) => Ok(Outcome::Fault(*failure)),
+        }
+    }
+
+    /// What the statement answers, moved out; None where it can't be carried out.
+    pub fn into_answer(self) -> Option<Answer>
+        ensures { result ≡ answer_of (alone_seen self) }
+    {
+        match self {
+            Outcome::Rows(rows) => Some(Answer::Rows(rows)),
+            Outcome::Changed {
+                count,
+                delta: _delta,
+            } => Some(Answer::Count(count)),
+            Outcome::Value(value) => Some(Answer::Value(value)),
+            Outcome::Fault(_failure) => None,
         }
     }
 }
@@ -64,6 +80,16 @@ impl JobOutcome {
         match self {
             JobOutcome::One(outcome) => Ok(JobOutcome::One(outcome.copy(alloc)?)),
             JobOutcome::Choice(groundings) => Ok(JobOutcome::Choice(groundings.copy(alloc)?)),
+        }
+    }
+
+    /// What the statement answers, moved out; None where it can't be carried out, and where there are several.
+    pub fn into_answer(self) -> Option<Answer>
+        ensures { result ≡ answer_of (outcome_seen self) }
+    {
+        match self {
+            JobOutcome::One(outcome) => outcome.into_answer(),
+            JobOutcome::Choice(_groundings) => None,
         }
     }
 }

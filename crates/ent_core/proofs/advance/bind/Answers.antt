@@ -12,5 +12,5 @@ returns-clause-ok c = λ member there.
     subst (λ (n : ℕ). found active n ≡ Some member) (sym c.tx.ensures) there in
     c.in_ok-step_bound.ensures.ok member own
     ∙ ap (λ (new : Member). map (replaced new) active)
-    (bound_to c.args.single.now.statement c.statement.result.now c.args.value.now c.in_ok-copy-2.field-0
-    c.in_ok-bound.bound.items member c.in_ok-bound.ensures c.statement.ensures c.in_ok-copy-2.ensures)
+    (bound_to c.args.single.now.statement c.statement.result.now c.args.value.now c.in_ok-copy.field-0
+    c.in_ok-bound.bound.items member c.in_ok-bound.ensures c.statement.ensures c.in_ok-copy.ensures)

@@ -9,14 +9,13 @@ use Rattle.ent_protocol.specs.Member.{active_member}
 use Rattle.ent_protocol.specs.State.{State}
 use Rattle.ent_core.specs.Begin.{IsIdle}
 use Rattle.ent_core.specs.Finish.{CarriesOut}
-use Rattle.ent_core.specs.Reply.{reply_seen}
 use Rattle.ent_core.specs.contracts.store.Store.{the_view}
 use Rattle.ent_core.proofs.Begun.{kept_with}
-use Rattle.ent_core.proofs.Finishing.{advanced_kinds, advanced_pool, went_on}
+use Rattle.ent_core.proofs.Finishing.{advanced_kinds, advanced_pool, has_answer, went_on}
 use Rattle.ent_core.proofs.finish.carry_out.Goals as goal
 
 pub returns-in-Ok-clause-ok : goal.returns-in-Ok-clause-ok
-returns-in-Ok-clause-ok c = λ job member at there.
+returns-in-Ok-clause-ok c =
     let inside = c.store.inside in
     let v : State = the_view inside in
     let single = c.args.single.now in
@@ -31,18 +30,22 @@ returns-in-Ok-clause-ok c = λ job member at there.
       tables = stored.tables;
       changes = stored.changes;
     } in
+    let answer = has_answer single outcome inside.run run inside.tables stored c.in-Ok.ensures.ok in
+    let carries : CarriesOut c.args.store.now c.args.index single outcome (replies.Stepped answer.0) new =
+    λ job member at there.
     let taken : IsTaken job v.lent left =
     c.take.ensures job (ap (λ (x : State). slice_get x.lent c.args.index) c.store.view_is ∙ at) in
     let is : active_member v single.tx ≡ Some member =
     ap (λ (x : State). active_member x single.tx) c.store.view_is ∙ there in
-    let steps = went_on v inside.run run inside.tables stored single member left outcome c.in-Ok.answer refl refl refl
-    refl is c.in-Ok.ensures.ok in
+    let steps = went_on v inside.run run inside.tables stored single member left outcome answer.0 answer.1 refl refl
+    refl refl is c.in-Ok.ensures.ok in
     let P : State → Type 0 =
     λ s. (others : List Job) × IsTaken job s.lent others
     × FinishesBy {F = FormFault} (record s { lent = others }) member single.statement outcome
-    (replies.Stepped c.in-Ok.answer) new in
+    (replies.Stepped answer.0) new in
     let done : P v = (left, taken, steps) in
-    subst P c.store.view_is done
+    subst P c.store.view_is done in
+    (replies.Stepped answer.0, (answer.0, answer.1, refl), carries)
 
 pub returns-in-Err-Fault-clause-ok : goal.returns-in-Err-Fault-clause-ok
 returns-in-Err-Fault-clause-ok c =
@@ -66,11 +69,16 @@ returns-in-Err-Fault-clause-ok c =
       changes = (stored i).changes;
     } in
     let P : State → Type 0 =
-    λ s. CarriesOut s c.args.index single (Fault failure) (reply_seen c.fail.result) c.fail.new.store in
+    λ s. CarriesOut s c.args.index single (Fault failure) (replies.Failed failure c.fail-members.result)
+    c.fail-members.new.store in
     let Q : Outcome → Type 0 =
-    λ o. CarriesOut c.args.store.now c.args.index single o (reply_seen c.fail.result) c.fail.new.store in
-    let told : P before = c.fail.ensures in
-    subst Q (sym outcome) (subst P (same ∙ c.store.view_is) told)
+    λ o. CarriesOut c.args.store.now c.args.index single o (replies.Failed failure c.fail-members.result)
+    c.fail-members.new.store in
+    let told : P before = c.fail-members.ensures in (
+      replies.Failed failure c.fail-members.result,
+      refl,
+      subst Q (sym outcome) (subst P (same ∙ c.store.view_is) told),
+    )
 
 pub invariant_of-store : goal.invariant_of-store
 invariant_of-store c =
@@ -83,6 +91,6 @@ invariant_of-store c =
     let stored = c.advance.new.tables in
     kept_with inside.catalogue.tables inside.opening inside.submitted.items inside.roster inside.roster inside.running
     inside.run run inside.tables stored inside.pool inside.pool single.tx c.store.invariant there refl refl
-    (advanced_kinds single outcome c.in-Ok.answer inside.run run inside.tables stored c.in-Ok.ensures.ok)
-    (advanced_pool inside.submitted.items inside.pool single outcome c.in-Ok.answer inside.run run inside.tables stored
+    (advanced_kinds single outcome inside.run run inside.tables stored c.in-Ok.ensures.ok)
+    (advanced_pool inside.submitted.items inside.pool single outcome inside.run run inside.tables stored
     c.store.invariant.posted c.in-Ok.ensures.ok there idle)

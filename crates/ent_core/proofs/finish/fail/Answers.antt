@@ -22,14 +22,14 @@ returns-in_default c = λ job member at there.
     ∙ ap (λ (x : State). active_member x c.args.single.now.tx) c.store.view_is ∙ there in
     absurd cc
 
-pub roll_back-members-requires-clause-counted : goal.roll_back-members-requires-clause-counted
-roll_back-members-requires-clause-counted c =
+pub roll_back-requires-clause-counted : goal.roll_back-requires-clause-counted
+roll_back-requires-clause-counted c =
     let C : State → Type 0 = λ s. length s.fates + length s.dormant + length (members s) ≡ length s.submitted in
     subst C (sym c.store.view_is)
     (c.transactions_are_counted.ensures resolved_forms c.args.store.now c.requires.kept.reached)
 
-pub roll_back-members-requires-clause-within : goal.roll_back-members-requires-clause-within
-roll_back-members-requires-clause-within c =
+pub roll_back-requires-clause-within : goal.roll_back-requires-clause-within
+roll_back-requires-clause-within c =
     let A : State → Type 0 = λ s. AllByRecursion AsksForRun s.submitted in
     let w : StayWithin (the_view c.store.inside) =
     subst StayWithin (sym c.store.view_is)
@@ -37,8 +37,8 @@ roll_back-members-requires-clause-within c =
     (subst A c.store.view_is c.store.invariant.asks)) in
     record { dormant = w.dormant; members = w.members }
 
-pub roll_back-members-requires-clause-once : goal.roll_back-members-requires-clause-once
-roll_back-members-requires-clause-once c =
+pub roll_back-requires-clause-once : goal.roll_back-requires-clause-once
+roll_back-requires-clause-once c =
     let w : StandOnce (the_view c.store.inside) =
     subst StandOnce (sym c.store.view_is)
     (c.transactions_stand_once.ensures.once resolved_forms c.args.store.now c.requires.kept.reached) in
@@ -63,8 +63,8 @@ returns c = λ job member at there.
     let P : State → Type 0 =
     λ s. (others : List Job) × IsTaken job s.lent others
     × FinishesBy {F = FormFault} (record s { lent = others }) member single.statement (Fault failure)
-    (replies.Failed failure c.roll_back-members.result) c.roll_back-members.new.store in
+    (replies.Failed failure c.roll_back.result) c.roll_back.new.store in
     subst P c.store.view_is
-    (failed v now single job member left c.group-group.result c.tx-tx.result failure c.roll_back-members.result
-    c.roll_back-members.new.store refl taken own group c.roll_back-members.ensures.group
-    c.roll_back-members.ensures.state)
+    (failed v now single job member left c.group-group.result c.tx-tx.result failure c.roll_back.result
+    c.roll_back.new.store refl taken own group c.roll_back.ensures.group
+    c.roll_back.ensures.state)
