@@ -57,7 +57,7 @@ fn append_answer(alloc: Global, out: &mut Vec<u8>, answer: &Answer) -> Result<()
 }
 
 /// Answers in order of their statements, each behind its place, from 1.
-pub(crate) fn append_answers(
+pub fn append_answers(
     alloc: Global,
     out: &mut Vec<u8>,
     answers: &[Answer],

@@ -1,7 +1,7 @@
 //! The report of a book: what scripts came to, as text.
 //!
 //! A caller may rely on the exact text: what [`write_report`] and [`write_report_2`] write is the report of the book,
-//! whole, and after a fault of the writer a beginning of it.
+//! whole, and after a fault of the writer a beginning of it. [`append_answers`] and [`append_table`] give parts of it.
 #![tactic(auto)]
 
 mod answer;
@@ -17,5 +17,6 @@ mod transaction;
 mod variables;
 mod write;
 
-pub use table::NamedTable;
+pub use answer::append_answers;
+pub use table::{NamedTable, append_table};
 pub use write::{WriteFault, write_report, write_report_2};

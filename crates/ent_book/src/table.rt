@@ -31,7 +31,8 @@ fn table_named<'a>(tables: &'a [NamedTable], name: &Name) -> Option<&'a Table>
     None
 }
 
-fn append_table(
+/// A table as the report has it: a line with its name and how many rows it has, and a line for each row, ascending.
+pub fn append_table(
     alloc: Global,
     out: &mut Vec<u8>,
     name: &Name,

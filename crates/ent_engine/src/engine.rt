@@ -6,7 +6,7 @@ ghost use Rattle.ent_engine.specs.Io.{IsReaderMarkedBy, IsWriterMarkedBy, IsSile
 
 use crate::fault::RunFault;
 use crate::options::RunOptions;
-use crate::parse::parse;
+use crate::parse::parse_bytes;
 use crate::reader::read_whole;
 use crate::runs::{run_out, submit_all};
 use crate::writer::write_book;
@@ -40,7 +40,7 @@ pub fn run_watched<R: Read, W: Write, T: Watcher>(
         WritesBeginning options.report bytes (W.contents writer.old.inner) (W.contents writer.new.inner) fault)) }
 {
     let bytes = read_whole(alloc, reader)?;
-    let input = parse(alloc, bytes.as_slice())?;
+    let input = parse_bytes(alloc, bytes.as_slice())?;
     drop(bytes);
     let core = submit_all(alloc, input)?;
     let book = run_out(alloc, core, options.tries, watcher)?;

@@ -12,7 +12,7 @@ use std::alloc::Global;
 use std::str;
 
 /// The input that bytes are, or the first fault of their text.
-pub(crate) fn parse(alloc: Global, bytes: &[u8]) -> Result<Input, RunFault>
+pub fn parse_bytes(alloc: Global, bytes: &[u8]) -> Result<Input, RunFault>
     requires { length bytes.now ≤ MOST_BYTES }
     ensures input { IfOk result (λ input. IsRead bytes.now input) }
     ensures refused { IfErr result (λ fault. IsRefusedForText bytes.now fault) }

@@ -20,7 +20,7 @@ use std::alloc::{AllocError, AllocFailed, Global};
 
 /// A core over an input's opening, to which its scripts were submitted, in order, and nothing else was done; else the
 /// input's first fault of form.
-pub(crate) fn submit_all(alloc: Global, input: Input) -> Result<Core, RunFault>
+pub fn submit_all(alloc: Global, input: Input) -> Result<Core, RunFault>
     ensures submitted { IfOk result (λ core. AreSubmitted input.opening input.scripts core) }
     ensures formed { IfOk result (λ core. input_fault input.opening input.scripts ≡ None) }
     ensures refused { IfErr result (λ fault. IsRefusedForForm input fault) }

@@ -6,7 +6,7 @@ ghost use Rattle.ent_engine.specs.Io.{IsReaderMarkedBy, IsWriterMarkedBy, IsSile
 
 use crate::fault::RunFault;
 use crate::options::ReportVersion;
-use crate::parse::parse;
+use crate::parse::parse_bytes;
 use crate::reader::read_whole;
 use crate::threads::run_in_threads;
 use crate::writer::write_book;
@@ -43,7 +43,7 @@ pub fn run_workers<T: Threads + Wait + Sync, R: Read, W: Write>(
         WritesBeginning version bytes (W.contents writer.old.inner) (W.contents writer.new.inner) fault)) }
 {
     let bytes = read_whole(alloc, reader)?;
-    let input = parse(alloc, bytes.as_slice())?;
+    let input = parse_bytes(alloc, bytes.as_slice())?;
     drop(bytes);
     let book = run_in_threads(rt, alloc, input, workers)?;
     match write_book(alloc, &book, version, writer) {

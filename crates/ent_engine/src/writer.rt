@@ -15,7 +15,7 @@ use std::alloc::Global;
 use std::io::Write;
 
 /// Writes the report of a book, of this version. Its promises are those of [`write_report`].
-pub(crate) fn write_book<W: Write>(
+pub fn write_book<W: Write>(
     alloc: Global,
     book: &Book<Sequence<NamedTable>>,
     version: ReportVersion,

@@ -29,5 +29,5 @@ pub use counted::{Counted, CountedBook};
 pub use ent_core::{Core, Played};
 pub use law::{events_add_up, events_use_up_tries};
 pub use one_round::round;
-pub use one_run::run;
+pub use one_run::{run, run_watched};
 pub use watcher::{Silent, Told, Watcher};

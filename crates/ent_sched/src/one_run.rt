@@ -57,7 +57,7 @@ fn end<W: Watcher>(counted: &mut Counted, watcher: &mut W) -> Result<(), AllocEr
 
 /// One run: it starts, unless one is on; then come rounds, until nothing moves in one; then it ends. Where no run is on
 /// and nothing is dormant, nothing happens. Where memory runs out the events that were made stand. A watcher is told.
-pub(crate) fn run_watched<W: Watcher>(
+pub fn run_watched<W: Watcher>(
     alloc: Global,
     counted: &mut Counted,
     watcher: &mut W,
