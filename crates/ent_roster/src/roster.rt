@@ -107,14 +107,6 @@ impl Roster {
         self.fates.as_slice()
     }
 
-    /// How many scripts were submitted.
-    pub fn known(&self) -> usize
-        ensures number { result ≡ self.now.known }
-        ensures bound { length self.now.dormant + length self.now.fates ≤ self.now.known }
-    {
-        self.known
-    }
-
     /// The place of a transaction among those who wait. It takes no longer where more do.
     pub fn dormant_of(&self, tx: Tx) -> Option<&Entrant>
         ensures { option_copied result ≡ first_of (filter (λ own. own.tx == tx) self.now.dormant) }
