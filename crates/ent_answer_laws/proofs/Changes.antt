@@ -12,7 +12,7 @@ use Rattle.ent_semantics.specs.Change.{assigned_value, assigned_values, image, m
 use Rattle.ent_semantics.specs.Database.{Rows, same_name}
 use Rattle.ent_semantics.specs.Term.{SourceColumn, Worth, expression_value}
 use Rattle.ent_history_form.specs.Parts.{IsRow, IsValue}
-use Rattle.ent_kinded.proofs.Rows.{each_ascending}
+use Rattle.ent_form_laws.proofs.KindedRows.{each_ascending}
 use Rattle.ent_answer_laws.proofs.Read.{AreRead}
 use Rattle.ent_answer_laws.proofs.Rows.{EachRow, all_inserted_rows, retained_rows}
 use Rattle.ent_answer_laws.proofs.Values.{AreValues, all_there_are, expression_is_value}

@@ -44,10 +44,10 @@ use Rattle.ent_form.specs.declared.fault.FormFault.{FormFault}
 use Rattle.ent_form.specs.declared.fault.FormFault.TheVariants.{Arity}
 use Rattle.ent_form.specs.declared.script.Plain.{Plain}
 use Rattle.ent_plan.specs.Ranged.{is_variable, stands_in}
-use Rattle.ent_round_trip.specs.Fits.{ConditionFits, Each, EntangledFits, SelectFits}
-use Rattle.ent_meant.specs.Tables.{database_of}
+use Rattle.ent_sql_laws.specs.Fits.{ConditionFits, Each, EntangledFits, SelectFits}
+use Rattle.ent_form_laws.specs.Tables.{database_of}
 use Rattle.ent_history_form.specs.Parts.{IsRow, IsValue}
-use Rattle.ent_kinded.proofs.Steps.{bound_given, demand_given, one_answer}
+use Rattle.ent_form_laws.proofs.KindedSteps.{bound_given, demand_given, one_answer}
 use Rattle.ent_lists.specs.Elements.{all_first, all_joined, all_second, and_both, or_cases, same_number}
 use Rattle.ent_answer_laws.specs.Held.{HoldsValuesOf}
 use Rattle.ent_answer_laws.specs.Laws.{Laws}

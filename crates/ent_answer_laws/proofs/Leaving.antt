@@ -26,11 +26,11 @@ use Rattle.ent_semantics.specs.Entangled.{Valuation, bound_values}
 use Rattle.ent_semantics.specs.Selection.{meets, select_rows}
 use Rattle.ent_semantics.specs.Statement.{statement_meaning, table_worth}
 use Rattle.ent_semantics.specs.Term.{expression_value, known_value, table_columns}
-use Rattle.ent_round_trip.specs.Fits.{StatementFits}
+use Rattle.ent_sql_laws.specs.Fits.{StatementFits}
 use Rattle.ent_history_form.specs.Answers.{IsOfSort}
 use Rattle.ent_history_form.specs.Parts.{IsRow}
-use Rattle.ent_kinded.proofs.Rows.{each_ascending}
-use Rattle.ent_kinded.proofs.Steps.{one_answer}
+use Rattle.ent_form_laws.proofs.KindedRows.{each_ascending}
+use Rattle.ent_form_laws.proofs.KindedSteps.{one_answer}
 use Rattle.ent_lists.specs.Elements.{all_first}
 use Rattle.ent_report_laws.specs.Tellable.{IsAnswerTold}
 use Rattle.ent_answer_laws.specs.Answered.{CanBeCounted}

@@ -20,7 +20,7 @@ use Rattle.ent_text.specs.declared.token.TokenKind.TheVariants.{Number}
 use Rattle.ent_semantics.specs.Database.{Environment, Name, same_name}
 use Rattle.ent_semantics.specs.Entangled.{Valuation, bound_values, facts, head_terms, heads, item_binds, term_worth}
 use Rattle.ent_semantics.specs.Entangled.{variable_value, written_variables}
-use Rattle.ent_round_trip.specs.Fits.{EntangledFits}
+use Rattle.ent_sql_laws.specs.Fits.{EntangledFits}
 use Rattle.ent_history_form.specs.Answers.{IsFact}
 use Rattle.ent_history_form.specs.Parts.{IsRow, IsValue}
 use Rattle.ent_lists.specs.Elements.{all_first, all_joined, all_second}

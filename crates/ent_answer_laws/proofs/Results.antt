@@ -18,8 +18,8 @@ use Rattle.ent_semantics.specs.Term.{source_columns}
 use Rattle.ent_text.specs.declared.keyword.Keyword.TheVariants as keywords
 use Rattle.ent_text.specs.declared.symbol.Symbol.TheVariants as symbols
 use Rattle.ent_history_form.specs.Parts.{IsRow, IsValue}
-use Rattle.ent_round_trip.specs.Fits.{ItemsFit, SelectFits}
-use Rattle.ent_kinded.proofs.Rows.{each_ascending}
+use Rattle.ent_sql_laws.specs.Fits.{ItemsFit, SelectFits}
+use Rattle.ent_form_laws.proofs.KindedRows.{each_ascending}
 use Rattle.ent_lists.specs.Elements.{In, all_first, all_filtered, all_joined, to_all, of_map, of_all, in_flat}
 use Rattle.ent_answer_laws.proofs.Read.{AreRead, separated_are_read}
 use Rattle.ent_answer_laws.proofs.Rows.{EachRow, listed_rows}

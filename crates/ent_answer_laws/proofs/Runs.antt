@@ -27,8 +27,8 @@ use Rattle.ent_form.specs.Form.{script_in, statement_in}
 use Rattle.ent_form.specs.Kinds.{Bound}
 use Rattle.ent_form.specs.OpeningFault.{declarations_fault}
 use Rattle.ent_form.specs.declared.script.Plain.{Plain}
-use Rattle.ent_round_trip.specs.Fits.{Each, StatementFits}
-use Rattle.ent_kinded.specs.Kinds.{AnswersInKind}
+use Rattle.ent_sql_laws.specs.Fits.{Each, StatementFits}
+use Rattle.ent_form_laws.specs.Kinds.{AnswersInKind}
 use Rattle.ent_lists.specs.Elements.{In, got_in, in_contains, in_either, in_first, in_second}
 use Rattle.ent_report_laws.specs.Tellable.{AreAnswersTo}
 use Rattle.ent_answer_laws.specs.Answered.{CanBeCounted}

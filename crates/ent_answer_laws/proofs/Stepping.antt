@@ -15,10 +15,10 @@ use Rattle.ent_form.specs.Catalogue.{schemas_of}
 use Rattle.ent_form.specs.Form.{statement_in}
 use Rattle.ent_form.specs.Kinds.{Bound}
 use Rattle.ent_form.specs.OpeningFault.{declarations_fault}
-use Rattle.ent_round_trip.specs.Fits.{StatementFits}
-use Rattle.ent_kinded.specs.Kinds.{HasKinds}
-use Rattle.ent_kinded.proofs.Steps.{one_answer}
-use Rattle.ent_meant.specs.Tables.{database_of, effect_of}
+use Rattle.ent_sql_laws.specs.Fits.{StatementFits}
+use Rattle.ent_form_laws.specs.Kinds.{HasKinds}
+use Rattle.ent_form_laws.proofs.KindedSteps.{one_answer}
+use Rattle.ent_form_laws.specs.Tables.{database_of, effect_of}
 use Rattle.ent_history_form.specs.Answers.{IsOfSort}
 use Rattle.ent_report_laws.specs.Tellable.{IsAnswerTold}
 use Rattle.ent_answer_laws.specs.Answered.{CanBeCounted}

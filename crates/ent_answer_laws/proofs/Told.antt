@@ -25,7 +25,7 @@ use Rattle.ent_history.specs.Told.{shown_table, told_member}
 use Rattle.ent_history.specs.declared.history.History.{History}
 use Rattle.ent_history_form.specs.Joints.{Binds, BindsRight, binds_of, member_binds, resolved_at, script_binds}
 use Rattle.ent_history_form.specs.Parts.{IsRow}
-use Rattle.ent_kinded.proofs.Rows.{each_ascending}
+use Rattle.ent_form_laws.proofs.KindedRows.{each_ascending}
 use Rattle.ent_lists.specs.Elements.{In}
 use Rattle.ent_report_laws.specs.Tellable.{AreRowsOf, AreTablesOf, IsMemberTold}
 use Rattle.ent_answer_laws.specs.Held.{HoldsRowsOf}

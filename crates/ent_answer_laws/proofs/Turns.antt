@@ -22,7 +22,7 @@ use Rattle.ent_form.specs.Kinds.{none_bound}
 use Rattle.ent_form.specs.OpeningFault.{declarations_fault}
 use Rattle.ent_form.specs.declared.fault.FormFault.{FormFault}
 use Rattle.ent_form.specs.declared.script.Plain.{Plain}
-use Rattle.ent_round_trip.specs.Fits.{Each, StatementFits}
+use Rattle.ent_sql_laws.specs.Fits.{Each, StatementFits}
 use Rattle.ent_rules.proofs.Deeds.{mapped_some, then_some}
 use Rattle.ent_lists.specs.Elements.{In, all_first, all_index, all_second, in_either, in_first, in_second}
 use Rattle.ent_report_laws.specs.Tellable.{AreAnswersTo}

@@ -13,7 +13,7 @@ use Rattle.ent_semantics.specs.Serial.{Sight, Turn}
 use Rattle.ent_form.specs.Catalogue.{schemas_of}
 use Rattle.ent_form.specs.Kinds.{Bound}
 use Rattle.ent_form.specs.ScriptFaults.{script_faults}
-use Rattle.ent_round_trip.specs.Fits.{ScriptFits}
+use Rattle.ent_sql_laws.specs.Fits.{ScriptFits}
 use Rattle.ent_history_form.specs.Answers.{IsOfSort}
 use Rattle.ent_history_form.specs.Parts.{IsNumber}
 use Rattle.ent_report_laws.specs.Tellable.{AreAnswersTo, IsAnswerTold}

@@ -12,8 +12,8 @@ use Rattle.ent_semantics.specs.Entangled.{Valuation}
 use Rattle.ent_closed.specs.declared.operand.Known.{Known}
 use Rattle.ent_closed.specs.declared.statement.Statement.{Statement}
 use Rattle.ent_form.specs.Kinds.{Bound}
-use Rattle.ent_kinded.specs.Kinds.{AnswersInKind, HasKinds}
-use Rattle.ent_meant.specs.Tables.{Answers}
+use Rattle.ent_form_laws.specs.Kinds.{AnswersInKind, HasKinds}
+use Rattle.ent_form_laws.specs.Tables.{Answers}
 use Rattle.ent_history_form.specs.Parts.{IsRow, IsValue}
 use Rattle.ent_rules.specs.Formed.{is_declared}
 

@@ -31,8 +31,8 @@ use Rattle.ent_form.specs.Ordinary.{select_in}
 use Rattle.ent_form.specs.ScriptFaults.{script_faults}
 use Rattle.ent_form.specs.declared.catalogue.TableSchema.{TableSchema}
 use Rattle.ent_form.specs.declared.script.Plain.{Plain}
-use Rattle.ent_kinded.specs.Kinds.{AnswersInKind, AreKinded, HasKinds, kinds_numbered}
-use Rattle.ent_meant.specs.Tables.{Answers, AreWide, HaveDistinctColumns, database_of, effect_of}
+use Rattle.ent_form_laws.specs.Kinds.{AnswersInKind, AreKinded, HasKinds, kinds_numbered}
+use Rattle.ent_form_laws.specs.Tables.{Answers, AreWide, HaveDistinctColumns, database_of, effect_of}
 use Rattle.ent_plan.specs.Ranged.{IsRanged}
 
 pub record Laws : Type 0 where

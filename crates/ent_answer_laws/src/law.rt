@@ -20,7 +20,7 @@ ghost use Rattle.ent_print.specs.Reading.{CanBeRead};
 ghost use Rattle.ent_print.specs.Spelling.{entangled_spelling, statement_spelling};
 ghost use Rattle.ent_report_laws.specs.Tellable.{AreAnswersTo, AreRowsOf, AreTablesOf, IsMemberTold};
 ghost use Rattle.ent_report_laws.specs.Tellable.{IsOpeningTold};
-ghost use Rattle.ent_round_trip.specs.Fits.{EntangledFits, StatementFits};
+ghost use Rattle.ent_sql_laws.specs.Fits.{EntangledFits, StatementFits};
 ghost use Rattle.ent_semantics.specs.Database.{Database, Environment, opening_database};
 ghost use Rattle.ent_semantics.specs.Effect.{Effect};
 ghost use Rattle.ent_semantics.specs.Entangled.{Valuation, is_grounding};
@@ -38,16 +38,13 @@ ghost use Rattle.ent_tree.specs.declared.script.Statement.TheVariants as trees;
 ghost use Rattle.ent_value.specs.declared.limits.TheConstants.{MOST_ROWS};
 
 use ent_closed::closing_keeps_the_meaning;
-use ent_faults::first_fault_is_first;
-use ent_kinded::{
-    effects_keep_kinds, groundings_are_of_their_kinds, kinded_tables_are_wide,
-    resolved_statements_fit,
+use ent_form_laws::{
+    declared_columns_are_distinct, effects_keep_kinds, first_fault_is_first,
+    groundings_are_of_their_kinds, kinded_tables_are_wide, resolved_grounds_the_same,
+    resolved_means_the_same, resolved_selects_the_same, resolved_statements_fit,
+    variables_are_the_written_ones,
 };
-use ent_meant::{
-    declared_columns_are_distinct, resolved_grounds_the_same, resolved_means_the_same,
-    resolved_selects_the_same, variables_are_the_written_ones,
-};
-use ent_offers::resolved_variables_are_ranged;
+use ent_offer_laws::resolved_variables_are_ranged;
 
 /// What a statement means, its form does; and that keeps kinds.
 pub(crate) fn forms_run_as_statements()

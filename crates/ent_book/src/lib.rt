@@ -1,7 +1,8 @@
 //! The report of a book: what scripts came to, as text.
 //!
 //! A caller may rely on the exact text: what [`write_report`] and [`write_report_2`] write is the report of the book,
-//! whole, and after a fault of the writer a beginning of it. [`append_answers`] and [`append_table`] give parts of it.
+//! whole, and after a fault of the writer a beginning of it. And [`written_variables`] gives the written variables of
+//! an entangled statement, in the order of the definition.
 #![tactic(auto)]
 
 mod answer;
@@ -16,7 +17,9 @@ mod table;
 mod transaction;
 mod variables;
 mod write;
+mod written;
 
 pub use answer::append_answers;
 pub use table::{NamedTable, append_table};
 pub use write::{WriteFault, write_report, write_report_2};
+pub use written::written_variables;

@@ -5,10 +5,10 @@ ghost use Rattle.ent_semantics.specs.Serial.{numbered};
 ghost use Rattle.ent_book.specs.Report2.{member_variables, script_statement};
 
 use crate::numbered::element;
+use crate::written::written_variables;
 use ent_semantics::Member;
 use ent_tree::{Script, Statement};
 use ent_value::Name;
-use ent_written::written_variables;
 use std::alloc::{AllocError, Global};
 
 /// The statement of a member.

@@ -12,3 +12,14 @@ mod Literals
 mod Selects
 mod Entangling
 mod Read
+pub mod Written
+pub mod Worth
+pub mod Tables
+pub mod Selected
+pub mod Changed
+pub mod Offered
+pub mod Leaving
+pub mod Ranged
+pub mod Grounding
+pub mod Runs
+pub mod Turns

@@ -20,7 +20,7 @@ use Rattle.ent_print.specs.Spelling.{in_parentheses, name, operand_spelling, qua
 use Rattle.ent_print.specs.Spelling.{specification_spelling, term_spelling, test_spelling, value_spelling}
 use Rattle.ent_print.specs.Spelling.{where_clause, word}
 use Rattle.ent_lists.specs.Elements.{all_joined}
-use Rattle.ent_value_laws.specs.Values.{IsOfCharacters}
+use Rattle.ent_character_laws.specs.Values.{IsOfCharacters}
 use Rattle.ent_character_laws.specs.Characters.{IsKindOfCharacters, IsLexemeOfCharacters}
 use Rattle.ent_character_laws.proofs.Carrying.{Carries, carry_behind, carry_either, carry_give, carry_then}
 use Rattle.ent_character_laws.proofs.Carrying.{carry_token}

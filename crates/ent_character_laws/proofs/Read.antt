@@ -22,9 +22,9 @@ use Rattle.ent_sql.specs.Tables as tables
 use Rattle.ent_print.specs.Spelling.{end_word, line_spelling, operand_spelling, sign}
 use Rattle.ent_print.specs.Spelling.{statement_spelling, word}
 use Rattle.ent_semantics.specs.Database.{row_of}
-use Rattle.ent_round_trip.proofs.KeptScripts.{ReadingIsSaid, TokensAreFound}
+use Rattle.ent_sql_laws.proofs.KeptScripts.{ReadingIsSaid, TokensAreFound}
 use Rattle.ent_lists.specs.Elements.{all_map}
-use Rattle.ent_value_laws.specs.Values.{IsOfCharacters}
+use Rattle.ent_character_laws.specs.Values.{IsOfCharacters}
 use Rattle.ent_character_laws.specs.Characters.{IsOpeningOfCharacters, IsRowOfCharacters}
 use Rattle.ent_character_laws.specs.Characters.{IsScriptOfCharacters}
 use Rattle.ent_character_laws.proofs.Carrying.{Carries, carry_behind, carry_either, carry_give, carry_if, carry_listed}

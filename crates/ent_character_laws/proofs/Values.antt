@@ -9,7 +9,7 @@ use Rattle.ent_value.specs.Print.{more_text, row_text, value_text, values_text}
 use Rattle.ent_value.specs.declared.value.Value.{Value}
 use Rattle.ent_value.specs.declared.value.Value.TheVariants.{Int, Text}
 use Rattle.ent_book.specs.Report.{line, row_line, rows_text}
-use Rattle.ent_value_laws.specs.Values.{IsOfCharacters}
+use Rattle.ent_character_laws.specs.Values.{IsOfCharacters}
 use Rattle.ent_character_laws.specs.Characters.{IsRowOfCharacters}
 use Rattle.ent_character_laws.proofs.Quoting.{quoted_text}
 use Rattle.ent_character_laws.proofs.Texts.{behind_byte, joined, number_text, of_ascii, one_byte}

@@ -12,7 +12,7 @@ use Rattle.ent_print.specs.Spelling.{script_spelling}
 use Rattle.ent_semantics.specs.declared.answer.Answer.{Answer}
 use Rattle.ent_semantics.specs.Database.{row_of}
 use Rattle.ent_history.specs.declared.history.History.{History}
-use Rattle.ent_value_laws.specs.Values.{AnswersValues, IsOfCharacters}
+use Rattle.ent_character_laws.specs.Values.{AnswersValues, IsOfCharacters}
 
 abbrev pub IsRowOfCharacters : List Value → Type 0
 IsRowOfCharacters row = AllByRecursion IsOfCharacters row

@@ -23,7 +23,7 @@ use Rattle.ent_rules.proofs.Found.{unless_holds}
 use Rattle.ent_rules.proofs.Joints.{stands_there}
 use Rattle.ent_lists.specs.Elements.{all_by, and_both, any_some, clash, not_so, number_itself, other_number, turned}
 use Rattle.ent_rules.proofs.Lists.{every, none_first, none_second}
-use Rattle.ent_replay.proofs.Found.{first_behind, first_here}
+use Rattle.ent_check.proofs.Found.{first_behind, first_here}
 use Rattle.ent_check.specs.Offers.{joint_of, offer_of}
 use Rattle.ent_check.specs.Seats.{AreSeatsOf, place_cmp, seat_of}
 use Rattle.ent_check.specs.declared.offer.Offer.{Offer}

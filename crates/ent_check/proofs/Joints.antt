@@ -18,7 +18,7 @@ use Rattle.ent_rules.specs.Verdict.{first_of}
 use Rattle.ent_rules.specs.declared.finding.Rule.TheVariants as rule
 use Rattle.ent_rules.specs.declared.finding.Thing.TheVariants as thing
 use Rattle.ent_lists.specs.Elements.{all_by, all_joined, map_joined}
-use Rattle.ent_replay.proofs.Found.{first_behind, first_here}
+use Rattle.ent_check.proofs.Found.{first_behind, first_here}
 use Rattle.ent_check.specs.Above.{is_above}
 use Rattle.ent_check.specs.Seats.{AreSeatsOf, place_cmp, seat_of}
 use Rattle.ent_check.proofs.Lists.{here, none_behind}

@@ -10,3 +10,7 @@ pub mod Posts
 pub mod Seats
 pub mod Sums
 pub mod Taken
+pub mod Found
+pub mod Places
+pub mod ByNumber
+pub mod Told

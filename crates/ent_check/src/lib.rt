@@ -1,9 +1,15 @@
 //! Parts of a check of what a report tells, against the definitions of ent_rules.
 //!
 //! The rules of the journal, of joint answers and of postconditions are checked whole, and the commits are put in
-//! order. What is found has a line.
+//! order. What is found has a line. A grounding is looked up by the place of its statement, and tested: each tuple is
+//! looked for among the rows of its sub-select's result, and each test is made. What a statement answers is compared
+//! with what is told. Nothing is searched for.
 #![tactic(auto)]
 
+mod alike;
+mod facts;
+mod ground;
+mod groundings;
 mod joint;
 mod journal;
 mod line;
@@ -13,7 +19,13 @@ mod order;
 mod post;
 mod seat;
 mod seating;
+mod table;
+mod term;
 
+pub use alike::{same_answer, same_fact, same_rows};
+pub use facts::{bindings_of, facts_of};
+pub use ground::{is_grounding, tables_of};
+pub use groundings::{Groundings, Seat};
 pub use joint::joint_finding;
 pub use journal::journal_finding;
 pub use line::line_of;
@@ -23,3 +35,4 @@ pub use order::commit_order;
 pub use post::post_finding;
 pub use seat::{Seats, take_seat};
 pub use seating::{seat_at, seats_of};
+pub use table::tables_finding;

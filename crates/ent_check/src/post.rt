@@ -14,11 +14,11 @@ ghost use Rattle.ent_rules.specs.Verdict.{first_of};
 ghost use Rattle.ent_semantics.specs.Book.{all_members};
 ghost use Rattle.ent_semantics.specs.Serial.{Sight};
 
+use crate::alike::same_fact;
 use crate::offer::Offer;
 use crate::seat::Seats;
 use crate::seating::seat_at;
 use ent_history::ToldJoint;
-use ent_replay::same_fact;
 use ent_rules::{Finding, Rule, Thing};
 use ent_semantics::Fact;
 use std::alloc::{AllocError, Global};

@@ -13,9 +13,9 @@ ghost use Rattle.ent_rules.specs.declared.finding.Finding.{Finding};
 ghost use Rattle.ent_value.specs.Watched.{IsUnmarked};
 
 use crate::fault::CheckFault;
+use crate::first::first_finding;
 use crate::verdict::Verdict;
 use ent_check::line_of;
-use ent_findings::first_finding;
 use ent_history::History;
 use ent_report_laws::{found_lines_fit, told_histories_are_formed};
 use ent_report_reader::read_report;

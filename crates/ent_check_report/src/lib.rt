@@ -7,10 +7,12 @@
 
 mod check;
 mod fault;
+mod first;
 mod law;
 mod verdict;
 
 pub use check::{MOST_REPORT_BYTES, check_report};
 pub use fault::{CheckFault, status_of};
+pub use first::first_finding;
 pub use law::reports_that_are_right_tell_of_legal_books;
 pub use verdict::Verdict;

@@ -32,8 +32,8 @@ use Rattle.ent_form.specs.Kinds.{Bound, none_bound}
 use Rattle.ent_form.specs.declared.catalogue.TableSchema.{TableSchema}
 use Rattle.ent_form.specs.declared.fault.FormFault.{FormFault}
 use Rattle.ent_form.specs.declared.script.Plain.{Plain}
-use Rattle.ent_kinded.specs.Kinds.{AreDeclared, HasKinds, column_kinds}
-use Rattle.ent_meant.specs.Tables.{database_of, HaveDistinctColumns}
+use Rattle.ent_form_laws.specs.Kinds.{AreDeclared, HasKinds, column_kinds}
+use Rattle.ent_form_laws.specs.Tables.{database_of, HaveDistinctColumns}
 use Rattle.ent_rules.specs.Placed.{Placed, member_at, told_deeds}
 use Rattle.ent_rules.specs.Replay.{deeds_findings, found_after, is_answered, later, ungrounded}
 use Rattle.ent_rules.specs.Verdict.{first_of}

@@ -19,7 +19,7 @@ use Rattle.ent_rules.specs.Verdict.{first_of}
 use Rattle.ent_rules.specs.declared.finding.Finding.{Finding}
 use Rattle.ent_rules.specs.declared.finding.Rule.TheVariants as rules
 use Rattle.ent_rules.specs.declared.finding.Thing.TheVariants as things
-use Rattle.ent_groundings.specs.Told.{told_seat}
+use Rattle.ent_check.specs.Told.{told_seat}
 use Rattle.ent_select.specs.Worth.{itself}
 use Rattle.ent_check_run.specs.Closed.{answer_in, closed_findings, is_told}
 

@@ -20,7 +20,7 @@ use Rattle.ent_closed.specs.Form.{closed_worth, form_meaning}
 use Rattle.ent_closed.specs.Kinds.{tables_named}
 use Rattle.ent_closed.specs.declared.operand.Known.{Known}
 use Rattle.ent_closed.specs.declared.statement.Statement.{Statement}
-use Rattle.ent_meant.specs.Tables.{database_of, HaveDistinctColumns}
+use Rattle.ent_form_laws.specs.Tables.{database_of, HaveDistinctColumns}
 use Rattle.ent_rules.specs.Placed.{Placed, member_at}
 use Rattle.ent_rules.specs.Replay.{later}
 use Rattle.ent_rules.specs.Verdict.{first_of}

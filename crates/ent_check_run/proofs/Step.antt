@@ -31,8 +31,8 @@ use Rattle.ent_form.specs.Entangled.{entangled_in}
 use Rattle.ent_form.specs.Form.{statement_in}
 use Rattle.ent_form.specs.Kinds.{Bound}
 use Rattle.ent_form.specs.declared.fault.FormFault.{FormFault}
-use Rattle.ent_kinded.specs.Kinds.{AreKinded, AnswersInKind, HasKinds}
-use Rattle.ent_meant.specs.Tables.{database_of, effect_of, Answers, HaveDistinctColumns}
+use Rattle.ent_form_laws.specs.Kinds.{AreKinded, AnswersInKind, HasKinds}
+use Rattle.ent_form_laws.specs.Tables.{database_of, effect_of, Answers, HaveDistinctColumns}
 use Rattle.ent_rules.specs.Placed.{Placed, grounding_of, member_at}
 use Rattle.ent_rules.specs.Replay.{ground_finding, is_answered, ungrounded}
 use Rattle.ent_rules.specs.Verdict.{first_of}

@@ -10,8 +10,8 @@ use Rattle.ent_semantics.specs.Serial.{Run, sights}
 use Rattle.ent_form.specs.Catalogue.{schemas_of}
 use Rattle.ent_form.specs.ScriptFaults.{script_faults}
 use Rattle.ent_form.specs.declared.catalogue.TableSchema.{TableSchema}
-use Rattle.ent_meant.specs.Tables.{HaveDistinctColumns}
-use Rattle.ent_kinded.specs.Kinds.{AreKinded, column_kinds}
+use Rattle.ent_form_laws.specs.Tables.{HaveDistinctColumns}
+use Rattle.ent_form_laws.specs.Kinds.{AreKinded, column_kinds}
 use Rattle.ent_history.specs.declared.history.Told.{Told}
 use Rattle.ent_rules.specs.Account.{Account}
 use Rattle.ent_rules.specs.Placed.{Placed, member_at}

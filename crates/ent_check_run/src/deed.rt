@@ -18,12 +18,10 @@ ghost use Rattle.ent_select.specs.Tables.{kinds_in, rows_in};
 
 use crate::offer::offer_under;
 use crate::statement::carry_out;
-use ent_check::Offer;
+use ent_check::{Groundings, Offer, Seat, is_grounding, same_answer};
 use ent_closed::Statement;
 use ent_closing::Environment;
-use ent_groundings::{Groundings, Seat};
 use ent_rel::Table;
-use ent_replay::{is_grounding, same_answer};
 use ent_rules::{Finding, Rule, Thing};
 use ent_semantics::Answer;
 use ent_value::{Refusal, Value};

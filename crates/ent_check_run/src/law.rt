@@ -12,20 +12,17 @@ ghost use Rattle.ent_closed.specs.declared.statement.Statement.{Statement};
 ghost use Rattle.ent_form.specs.Catalogue.{schemas_of};
 ghost use Rattle.ent_form.specs.Form.{statement_in};
 ghost use Rattle.ent_form.specs.Kinds.{Bound};
-ghost use Rattle.ent_kinded.specs.Kinds.{AreKinded, HasKinds};
-ghost use Rattle.ent_meant.specs.Tables.{HaveDistinctColumns};
+ghost use Rattle.ent_form_laws.specs.Kinds.{AreKinded, HasKinds};
+ghost use Rattle.ent_form_laws.specs.Tables.{HaveDistinctColumns};
 ghost use Rattle.ent_rules.specs.Placed.{Placed, member_at};
 ghost use Rattle.ent_semantics.specs.Database.{Environment};
 ghost use Rattle.ent_semantics.specs.declared.answer.Answer.{Answer};
 
 use ent_closed::closing_keeps_the_meaning;
-use ent_kinded::{
+use ent_form_laws::{
     effects_keep_kinds, groundings_are_of_their_kinds, kinded_tables_are_wide,
-    resolved_statements_fit,
-};
-use ent_meant::{
     resolved_grounds_the_same, resolved_means_the_same, resolved_offers_and_demands_the_same,
-    variables_are_the_written_ones,
+    resolved_statements_fit, variables_are_the_written_ones,
 };
 
 /// What a resolved statement comes to, its statement does; and it keeps kinds.

@@ -3,9 +3,8 @@ ghost use Rattle.std.specs.Prelude.{◌≡◌, IfOk};
 ghost use Rattle.ent_closed.specs.Form.{form_heads, form_posts};
 ghost use Rattle.ent_select.specs.Worth.{itself};
 
-use ent_check::Offer;
+use ent_check::{Offer, facts_of};
 use ent_closed::Entangled;
-use ent_replay::facts_of;
 use ent_value::Value;
 use std::alloc::{AllocError, Global};
 

@@ -4,15 +4,15 @@ ghost use Rattle.std.specs.Arc.{arc_value};
 ghost use Rattle.ent_check_run.specs.Alone.{AreSeated, IsReplayed, IsResolved, StandAsDeclared, account_at};
 ghost use Rattle.ent_form.specs.Form.{script_in};
 ghost use Rattle.ent_form.specs.ScriptFaults.{script_faults};
-ghost use Rattle.ent_meant.specs.Tables.{database_of};
+ghost use Rattle.ent_form_laws.specs.Tables.{database_of};
 ghost use Rattle.ent_select.specs.Tables.{rows_in};
 
 use crate::declared::Declared;
 use crate::deed::{Place, Stage, deed_finding};
 use crate::law::forms_run_as_statements;
+use ent_check::Groundings;
 use ent_closing::{Environment, closed};
 use ent_form::{Catalogue, Plain, resolve};
-use ent_groundings::Groundings;
 use ent_history::Told;
 use ent_rules::Finding;
 use ent_tree::Script;

@@ -35,8 +35,8 @@ use Rattle.ent_tables.specs.Stored.{Stored}
 use Rattle.ent_core.specs.Reply.{reply_seen}
 use Rattle.ent_core.specs.declared.reply.Reply.{Reply as Given}
 use Rattle.ent_lists.specs.Elements.{contains_in, index_pairs}
-use Rattle.ent_standing.specs.ByNumber.{StandByNumber}
-use Rattle.ent_standing.specs.Numbered.{below_apart, one_of}
+use Rattle.ent_protocol_laws.specs.ByNumber.{StandByNumber}
+use Rattle.ent_protocol_laws.specs.Numbered.{below_apart, one_of}
 use Rattle.ent_core.specs.Begin.{IsGroupOf, IsIdle, IsToBegin, IsToPost, LendsTo, MayBegin, job_uses}
 
 -- ---- the member of a number

@@ -5,8 +5,8 @@ use Rattle.ent_protocol.specs.Event as replies
 use Rattle.ent_protocol.specs.Quiet.{IsQuiet, IsReason}
 use Rattle.ent_protocol.specs.Run.{Ends, EndsWhileRunning, ending, numbers_of}
 use Rattle.ent_protocol.specs.State.{State, members}
-use Rattle.ent_quiet.specs.Quiet.{reason_seen}
-use Rattle.ent_quiet.specs.declared.reason.Reason.{Reason}
+use Rattle.ent_waits.specs.Quiet.{reason_seen}
+use Rattle.ent_waits.specs.declared.reason.Reason.{Reason}
 
 pub none_on : (s : State) → s.running ≡ false → Ends {F = FormFault} s replies.NotNow s
 none_on s off = subst (λ (on : Bool). EndsWhileRunning {F = FormFault} s on replies.NotNow s) (sym off) (refl, refl)

@@ -14,8 +14,8 @@ use Rattle.ent_job.specs.Seen.{relation_of}
 use Rattle.ent_job.specs.Work.{AreUsed, IsOne, IsWork, StandAtNumbers}
 use Rattle.ent_eval.specs.Result.{CanBeMade, answer_of}
 use Rattle.ent_form.specs.declared.fault.FormFault.{FormFault}
-use Rattle.ent_legal.specs.Faithful.{is_used}
-use Rattle.ent_legal.specs.Present.{LentIsPresent, SameWhereUsed}
+use Rattle.ent_serializability.specs.Faithful.{is_used}
+use Rattle.ent_serializability.specs.Present.{LentIsPresent, SameWhereUsed}
 use Rattle.ent_members.specs.Places.{found}
 use Rattle.ent_members.specs.Run.{Run}
 use Rattle.ent_protocol.specs.Event.{Reply}
@@ -34,8 +34,8 @@ use Rattle.ent_semantics.specs.declared.answer.Answer.{Answer}
 use Rattle.ent_semantics.specs.declared.answer.Answer.TheVariants as answers
 use Rattle.ent_semantics.specs.declared.answer.Failure.{Failure}
 use Rattle.ent_semantics.specs.Database.{Rows}
-use Rattle.ent_standing.specs.ByNumber.{StandByNumber}
-use Rattle.ent_standing.specs.Declared.{LentIsDeclared, SeesDeclared}
+use Rattle.ent_protocol_laws.specs.ByNumber.{StandByNumber}
+use Rattle.ent_protocol_laws.specs.Declared.{LentIsDeclared, SeesDeclared}
 use Rattle.ent_tables.specs.Stored.{Stored}
 use Rattle.ent_core.specs.Advance.{Advances, binding}
 use Rattle.ent_core.specs.Finish.{Accepts, CanChange, CarriesOut, IsReplyTo, MayCarryOut}

@@ -10,8 +10,8 @@ use Rattle.ent_protocol.specs.Run.{Forms}
 use Rattle.ent_protocol.specs.State.{State}
 use Rattle.ent_protocol.specs.Step.{Step}
 use Rattle.ent_core.specs.Kept.{IsKeptState}
-use Rattle.ent_resolved.specs.Resolved.{resolved_forms}
-use Rattle.ent_standing.specs.Standing.{GoesOn}
+use Rattle.ent_headline.specs.Resolved.{resolved_forms}
+use Rattle.ent_protocol_laws.specs.Standing.{GoesOn}
 
 -- what the law of steps says
 abbrev pub StepsGoOn : Type 0

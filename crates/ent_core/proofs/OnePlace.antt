@@ -7,7 +7,7 @@ use Rattle.ent_semantics.specs.declared.book.Fated.{Fated}
 use Rattle.ent_members.specs.Run.{tx_of}
 use Rattle.ent_protocol.specs.Member.{is_tx}
 use Rattle.ent_protocol.specs.State.{State, Dormant, Member, first_of, members}
-use Rattle.ent_standing.specs.Standing.{StandOnce, standing}
+use Rattle.ent_protocol_laws.specs.Standing.{StandOnce, standing}
 use Rattle.ent_core.proofs.Sorted.{distinct_if_apart, once, one_if, times, times_joined}
 
 -- ---- how often a number stands among the numbers of a list

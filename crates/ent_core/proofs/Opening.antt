@@ -9,7 +9,7 @@ use Rattle.ent_form.specs.declared.catalogue.TableSchema.{TableSchema}
 use Rattle.ent_form.specs.declared.fault.FormFault.{FormFault}
 use Rattle.ent_form.specs.Catalogue.{schemas_of}
 use Rattle.ent_form.specs.OpeningFault.{opening_fault, unless}
-use Rattle.ent_kinded.specs.Opened.{opening_tables}
+use Rattle.ent_form_laws.specs.Opened.{opening_tables}
 use Rattle.ent_protocol.specs.Reached.{opened, table_names}
 use Rattle.ent_protocol.specs.Member.{posted_by}
 use Rattle.ent_protocol.specs.State.{State, Submitted, Member}

@@ -18,7 +18,7 @@ use Rattle.ent_protocol.specs.Run.{SubmitsForm, SubmitsUnless}
 use Rattle.ent_protocol.specs.State.{State}
 use Rattle.ent_protocol.specs.State.{Submitted as OneSubmitted}
 use Rattle.ent_protocol.specs.Step.{Step}
-use Rattle.ent_resolved.specs.Resolved.{resolved_forms}
+use Rattle.ent_headline.specs.Resolved.{resolved_forms}
 use Rattle.ent_core.specs.Play.{AreMade, AreSubmitted, fault_in, scripts_fault}
 
 -- ---- faults of a list of scripts

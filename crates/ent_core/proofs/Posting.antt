@@ -25,8 +25,8 @@ use Rattle.ent_protocol.specs.PostedBy.{in_pool}
 use Rattle.ent_protocol.specs.State.{State, Member, Use}
 use Rattle.ent_protocol.specs.Uses.{blocker, entangled_uses}
 use Rattle.ent_protocol.specs.Waits.{next_uses}
-use Rattle.ent_standing.specs.ByNumber.{StandByNumber}
-use Rattle.ent_standing.specs.Numbered.{same_lists}
+use Rattle.ent_protocol_laws.specs.ByNumber.{StandByNumber}
+use Rattle.ent_protocol_laws.specs.Numbered.{same_lists}
 use Rattle.ent_core.specs.Begin.{IsFree, IsIdle, IsToPost}
 use Rattle.ent_core.specs.Reply.{reply_seen}
 use Rattle.ent_core.specs.declared.reply.Reply.{Reply as Given}

@@ -20,8 +20,8 @@ use Rattle.ent_semantics.specs.declared.book.Fate.{Fate}
 use Rattle.ent_semantics.specs.declared.book.Fated.{Fated}
 use Rattle.ent_semantics.specs.declared.book.JointAnswer.{JointAnswer}
 use Rattle.ent_semantics.specs.Serial.{numbered}
-use Rattle.ent_standing.specs.Attempts.{MayTakePart}
-use Rattle.ent_standing.specs.Standing.{StandOnce, standing}
+use Rattle.ent_protocol_laws.specs.Attempts.{MayTakePart}
+use Rattle.ent_protocol_laws.specs.Standing.{StandOnce, standing}
 use Rattle.ent_coordination.specs.Pool.{Posted}
 use Rattle.ent_tables.specs.Stored.{Stored}
 use Rattle.ent_pool_laws.specs.Pooled.{IsPoolOf}

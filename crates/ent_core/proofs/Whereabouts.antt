@@ -7,7 +7,7 @@ use Rattle.ent_protocol.specs.Lookup.{Standing, active_standing, standing}
 use Rattle.ent_protocol.specs.Lookup as lookups
 use Rattle.ent_protocol.specs.Member.{is_tx}
 use Rattle.ent_protocol.specs.State.{State, Dormant, Member, first_of}
-use Rattle.ent_standing.specs.Standing.{StandOnce}
+use Rattle.ent_protocol_laws.specs.Standing.{StandOnce}
 use Rattle.ent_core.proofs.OnePlace.{active_has_no_fate, active_is_not_dormant, fated_not_dormant}
 use Rattle.ent_core.proofs.OnePlace.{prepared_has_no_fate, prepared_is_not_dormant}
 

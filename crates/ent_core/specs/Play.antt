@@ -10,7 +10,7 @@ use Rattle.ent_protocol.specs.Event as replies
 use Rattle.ent_protocol.specs.Play.{Plays}
 use Rattle.ent_protocol.specs.Reached.{IsGatheredState, scripts_of}
 use Rattle.ent_protocol.specs.State.{State}
-use Rattle.ent_resolved.specs.Resolved.{resolved_forms}
+use Rattle.ent_headline.specs.Resolved.{resolved_forms}
 
 -- the first fault of form of scripts over an opening
 abbrev pub scripts_fault : Opening → List Script → Check

@@ -3,7 +3,7 @@ use Rattle.std.specs.Prelude.{ℕ, suc, List, [], ◌∷◌}
 use Rattle.ent_form.specs.declared.fault.FormFault.{FormFault}
 use Rattle.ent_protocol.specs.Event.{Reply}
 use Rattle.ent_protocol.specs.Event as replies
-use Rattle.ent_quiet.specs.Quiet.{reason_seen}
+use Rattle.ent_waits.specs.Quiet.{reason_seen}
 use Rattle.ent_core.specs.declared.reply.Reply.{Reply as Given}
 use Rattle.ent_core.specs.declared.reply.Reply.TheVariants as given
 

@@ -10,7 +10,7 @@ use Rattle.ent_pool_laws.specs.Pooled.{IsPoolOf}
 use Rattle.ent_protocol.specs.State.{Submitted}
 use Rattle.ent_members.specs.Run.{Run}
 use Rattle.ent_roster.specs.Roster.{Roster}
-use Rattle.ent_standing.specs.Attempts.{AsksForRun}
+use Rattle.ent_protocol_laws.specs.Attempts.{AsksForRun}
 use Rattle.ent_tables.specs.Stored.{Stored, kinds_declared}
 
 pub record IsKept (schemas : List TableSchema) (opening : Opening) (submitted : List Submitted) (roster : Roster)

@@ -22,16 +22,16 @@ use crate::take_out::roll_back;
 use ent_closed::{Entangled, Statement};
 use ent_form::FormFault;
 use ent_group::Tx;
+use ent_headline::{begun_statements_are_work, used_tables_are_declared};
 use ent_job::{Job, Single, Work};
 use ent_match::{PostFault, Posted, same_statements_are_alike};
 use ent_members::{Member, Uses, entangled_uses, statement_uses, uses_are_kept_by_closing};
 use ent_next::{Next, next_form, next_of};
-use ent_ready::{begun_statements_are_work, used_tables_are_declared};
-use ent_roster::Cause;
-use ent_standing::{
+use ent_protocol_laws::{
     attempts_stay_within, members_stand_by_number, transactions_are_counted,
     transactions_stand_once,
 };
+use ent_roster::Cause;
 use ent_value::Value;
 use std::alloc::AllocError;
 use std::sync::Arc;

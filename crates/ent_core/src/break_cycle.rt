@@ -7,9 +7,9 @@ use crate::reply::Reply;
 use crate::store::Store;
 use crate::take_out::roll_back;
 use ent_form::FormFault;
-use ent_quiet::victim_of;
+use ent_protocol_laws::{attempts_stay_within, transactions_are_counted, transactions_stand_once};
 use ent_roster::Cause;
-use ent_standing::{attempts_stay_within, transactions_are_counted, transactions_stand_once};
+use ent_waits::victim_of;
 
 /// Rolls back the group of the first member of the deadlock, where there is one. It takes no memory.
 pub(crate) fn break_cycle(store: &mut Store) -> Reply

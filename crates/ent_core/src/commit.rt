@@ -7,7 +7,7 @@ ghost use Rattle.ent_protocol.specs.Begin.{BeginsCommit};
 ghost use Rattle.ent_protocol.specs.Commit.{entry_of, is_ready, preparing};
 ghost use Rattle.ent_protocol.specs.Member.{active_member};
 ghost use Rattle.ent_protocol.specs.State.{Member as Seen, members};
-ghost use Rattle.ent_standing.specs.Attempts.{StayWithin};
+ghost use Rattle.ent_protocol_laws.specs.Attempts.{StayWithin};
 
 use crate::reply::Reply;
 use crate::store::Store;

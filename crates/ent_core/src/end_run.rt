@@ -3,17 +3,17 @@ ghost use Rattle.std.specs.Prelude.{◌≡◌, IfOk, OnErr};
 ghost use Rattle.ent_core.specs.Kept.{IsKeptState};
 ghost use Rattle.ent_core.specs.Reply.{reply_seen};
 ghost use Rattle.ent_protocol.specs.Run.{Ends};
-ghost use Rattle.ent_quiet.specs.Quiet.{IsReasonIfAny};
+ghost use Rattle.ent_waits.specs.Quiet.{IsReasonIfAny};
 
 use crate::reply::Reply;
 use crate::store::Store;
 use crate::take_out::end;
 use ent_form::FormFault;
-use ent_quiet::{Reason, reason_of};
-use ent_standing::{
+use ent_protocol_laws::{
     attempts_stay_within, members_stand_by_number, pools_are_safe, transactions_are_counted,
     transactions_stand_once,
 };
+use ent_waits::{Reason, reason_of};
 use std::alloc::AllocError;
 
 /// Why the run can't end yet; no reason where it is quiet.

@@ -24,17 +24,15 @@ use crate::take_out::roll_back;
 use ent_eval::{Done, JobOutcome, Outcome};
 use ent_form::FormFault;
 use ent_group::Members;
-use ent_job::{Job, Single, Work};
-use ent_lent::LentJobs;
+use ent_headline::{resolved_jobs_are_present, used_tables_are_declared};
+use ent_job::{Job, LentJobs, Single, Work};
 use ent_members::Run;
-use ent_ready::used_tables_are_declared;
-use ent_resolved::resolved_jobs_are_present;
-use ent_roster::Cause;
-use ent_semantics::Failure;
-use ent_standing::{
+use ent_protocol_laws::{
     attempts_stay_within, lent_tables_are_declared, members_stand_by_number,
     transactions_are_counted, transactions_stand_once,
 };
+use ent_roster::Cause;
+use ent_semantics::Failure;
 use ent_tables::StoredTables;
 use ent_value::Refusal;
 use std::alloc::{AllocError, AllocFailed, Global};
@@ -105,8 +103,8 @@ fn advance(
     }
 }
 
-/// The statement of a lent job fails: the job is lent no more, and the group of its member, which it tells by number, is
-/// rolled back. It takes no memory.
+/// The statement of a lent job fails: the job is lent no more, and the group of its member, which it tells by number,
+/// is rolled back. It takes no memory.
 fn fail(store: &mut Store, index: usize, single: &Single, failure: Failure) -> Members
     requires kept { IsKeptState store.old }
     requires lent { index < length store.old.lent }

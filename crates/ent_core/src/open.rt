@@ -6,7 +6,7 @@ ghost use Rattle.ent_protocol.specs.Reached.{opened};
 
 use crate::store::Store;
 use ent_form::{Catalogue, FormFault};
-use ent_lent::LentJobs;
+use ent_job::LentJobs;
 use ent_match::Pool;
 use ent_members::Run;
 use ent_roster::Roster;

@@ -8,9 +8,9 @@ ghost use Rattle.ent_protocol.specs.PoolEvents.{IsPresentComponent, Picks, joint
 use crate::reply::Reply;
 use crate::store::Store;
 use ent_components::{joint_uses, pick as first_to_pick};
+use ent_headline::{picked_statements_fit, used_tables_are_declared};
 use ent_job::Job;
 use ent_match::Posted;
-use ent_ready::{picked_statements_fit, used_tables_are_declared};
 use ent_value::Sequence;
 use std::alloc::AllocError;
 

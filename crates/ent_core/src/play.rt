@@ -6,7 +6,7 @@ ghost use Rattle.ent_core.specs.Reply.{reply_seen};
 ghost use Rattle.ent_form.specs.declared.fault.FormFault.{FormFault};
 ghost use Rattle.ent_protocol.specs.Play.{IsPlayed};
 ghost use Rattle.ent_protocol.specs.Reached.{book_of, opened};
-ghost use Rattle.ent_resolved.specs.Resolved.{resolved_forms};
+ghost use Rattle.ent_headline.specs.Resolved.{resolved_forms};
 ghost use Rattle.ent_semantics.specs.Book.{IsLegal};
 ghost use Rattle.ent_value.specs.declared.refusal.Refusal.TheVariants.{Fault};
 
@@ -14,7 +14,7 @@ use crate::event::Event;
 use crate::reached::Core;
 use crate::reply::Reply;
 use ent_form::FormFault;
-use ent_resolved::resolved_runs_are_legal;
+use ent_headline::resolved_runs_are_legal;
 use ent_tree::{Input, MOST_SCRIPTS, Script};
 use ent_value::{Limited, Refusal, Sequence};
 use std::alloc::{AllocError, Global};

@@ -4,9 +4,9 @@ use ent_form::FormFault;
 use ent_group::{Members, Tx};
 use ent_job::Job;
 use ent_match::Unsafe;
-use ent_quiet::Reason;
 use ent_semantics::{Answer, Failure};
 use ent_tree::Script;
+use ent_waits::Reason;
 
 /// What a core replies to an event. After a refusal the core is as it was, and what was handed in comes back.
 #[derive(Drop)]

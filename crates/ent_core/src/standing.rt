@@ -10,8 +10,8 @@ use ent_form::FormFault;
 use ent_group::Tx;
 use ent_members::Member;
 use ent_next::{Turn, turn_of};
+use ent_protocol_laws::transactions_stand_once;
 use ent_semantics::Fate;
-use ent_standing::transactions_stand_once;
 
 /// Where a transaction stands.
 #[derive(Clone, Copy, Debug, PartialEq, Eq)]

@@ -4,7 +4,7 @@ ghost use Rattle.ent_core.specs.Event.{MayWantMemory, event_seen};
 ghost use Rattle.ent_core.specs.Reply.{reply_seen};
 ghost use Rattle.ent_protocol.specs.Reached.{book_of};
 ghost use Rattle.ent_protocol.specs.Step.{Step};
-ghost use Rattle.ent_resolved.specs.Resolved.{resolved_forms};
+ghost use Rattle.ent_headline.specs.Resolved.{resolved_forms};
 ghost use Rattle.ent_semantics.specs.Book.{IsLegal};
 
 use crate::event::Event;

@@ -1,9 +1,9 @@
 //! What a core holds.
 ghost use Rattle.std.specs.List.{AllByRecursion};
-ghost use Rattle.ent_standing.specs.Attempts.{AsksForRun};
+ghost use Rattle.ent_protocol_laws.specs.Attempts.{AsksForRun};
 
 use ent_form::Catalogue;
-use ent_lent::LentJobs;
+use ent_job::LentJobs;
 use ent_match::{Pool, Posted};
 use ent_members::Run;
 use ent_next::SubmittedScript;

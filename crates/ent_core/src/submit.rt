@@ -3,7 +3,7 @@ ghost use Rattle.std.specs.Prelude.{◌≡◌, ◌<◌, IfOk, IfErr, OnErr, OnOk
 ghost use Rattle.ent_value.specs.Refusal.{Gives};
 ghost use Rattle.ent_core.specs.Kept.{IsKeptState};
 ghost use Rattle.ent_core.specs.Reply.{reply_seen};
-ghost use Rattle.ent_resolved.specs.Resolved.{resolved_forms};
+ghost use Rattle.ent_headline.specs.Resolved.{resolved_forms};
 ghost use Rattle.ent_form.specs.Catalogue.{schemas_of};
 ghost use Rattle.ent_protocol.specs.Run.{Submits};
 
@@ -12,7 +12,7 @@ use crate::store::Store;
 use ent_closed::{Known, Statement};
 use ent_form::{Catalogue, FormFault, resolve};
 use ent_next::SubmittedScript;
-use ent_standing::transactions_stand_once;
+use ent_protocol_laws::transactions_stand_once;
 use ent_tree::{MOST_SCRIPTS, MOST_STATEMENTS, Opening, Script};
 use ent_value::{Limited, Refusal};
 use std::alloc::{AllocError, AllocFailed, Global};

@@ -8,8 +8,8 @@ ghost use Rattle.ent_protocol.specs.Rollback.{group_numbers, rolled_back, taken_
 ghost use Rattle.ent_protocol.specs.Run.{ending, numbers_of};
 ghost use Rattle.ent_protocol.specs.State.{Member as Seen, by_number, members};
 ghost use Rattle.ent_roster.specs.Cause.{cause_seen};
-ghost use Rattle.ent_standing.specs.Attempts.{StayWithin};
-ghost use Rattle.ent_standing.specs.Standing.{StandOnce};
+ghost use Rattle.ent_protocol_laws.specs.Attempts.{StayWithin};
+ghost use Rattle.ent_protocol_laws.specs.Standing.{StandOnce};
 
 use crate::store::Store;
 use ent_group::{Members, Tx};

@@ -1,6 +1,8 @@
 -- What events add to the scripts and the journal.
-use Rattle.std.proofs.Common.{◌≡◌, ◌⊎◌, inl, inr, ◌+◌, ℕ, suc, Bool, true, false, List, [], ◌∷◌, ◌++◌, map, length, refl}
-use Rattle.std.proofs.Common.{sym, ap, subst, ◌∙◌, arith, Option, Some, None, Result, Ok, Err, nat_le, length-append, if◌then◌else◌}
+use Rattle.std.proofs.Common.{◌≡◌, ◌⊎◌, inl, inr, ◌+◌, ℕ, suc, Bool, true, false, List, [], ◌∷◌, ◌++◌, map, length}
+use Rattle.std.proofs.Common.{refl}
+use Rattle.std.proofs.Common.{sym, ap, subst, ◌∙◌, arith, Option, Some, None, Result, Ok, Err, nat_le, length-append}
+use Rattle.std.proofs.Common.{if◌then◌else◌}
 use Rattle.std.proofs.lemmas.List.{length-map}
 use Rattle.ent_value.specs.declared.value.Value.{Value}
 use Rattle.ent_tree.specs.declared.limits.TheConstants.{MOST_SCRIPTS}
@@ -28,7 +30,7 @@ use Rattle.ent_protocol.specs.State.{State, Member, Dormant}
 use Rattle.ent_protocol.specs.Step.{Step}
 use Rattle.ent_protocol.specs.Uses.{blocker, entangled_uses, statement_uses}
 use Rattle.ent_form.specs.declared.fault.FormFault.{FormFault}
-use Rattle.ent_resolved.specs.Resolved.{resolved_forms}
+use Rattle.ent_headline.specs.Resolved.{resolved_forms}
 use Rattle.ent_core.specs.Reply.{reply_seen}
 use Rattle.ent_core.specs.declared.reply.Reply.{Reply as Given}
 use Rattle.ent_core.specs.declared.reply.Reply.TheVariants as given

@@ -14,10 +14,10 @@ use crate::naming::Naming;
 use crate::session::Session;
 use ent_book::NamedTable;
 use ent_core::Core;
-use ent_endings::finished_scripts_have_fates;
 use ent_form::FormFault;
-use ent_resolved::resolved_runs_are_legal;
+use ent_headline::resolved_runs_are_legal;
 use ent_semantics::Book;
+use ent_termination::finished_scripts_have_fates;
 use ent_value::{Refusal, Sequence};
 use thiserror::Error;
 

@@ -9,7 +9,7 @@ ghost use Rattle.ent_protocol.specs.Event.{BreakCycle, EndRun, Finish, JoinAnswe
 ghost use Rattle.ent_protocol.specs.Lookup.{standing};
 ghost use Rattle.ent_protocol.specs.Reached.{IsGatheredAt, IsGatheredState, IsReached, LeadsTo, book_of};
 ghost use Rattle.ent_protocol.specs.Step.{Step};
-ghost use Rattle.ent_resolved.specs.Resolved.{resolved_forms};
+ghost use Rattle.ent_headline.specs.Resolved.{resolved_forms};
 ghost use Rattle.ent_semantics.specs.Book.{IsLegal};
 ghost use Rattle.ent_value.specs.declared.refusal.Refusal.TheVariants.{Fault};
 
@@ -21,8 +21,8 @@ use ent_core::{Core, Reply, Standing};
 use ent_eval::{Done, Job, Work};
 use ent_form::FormFault;
 use ent_group::{MOST_MEMBERS, Tx};
+use ent_headline::resolved_runs_are_legal;
 use ent_next::Turn;
-use ent_resolved::resolved_runs_are_legal;
 use ent_semantics::Fate;
 use ent_tree::Script;
 use ent_value::Refusal;

@@ -1,2 +1,15 @@
 pub mod Friends
 pub mod Pool
+pub mod Wish
+pub mod Scripts
+pub mod HeldBack
+pub mod Busy
+pub mod Failure
+pub mod Grown
+pub mod Shrunk
+pub mod Earlier
+pub mod Twice
+pub mod Linked
+pub mod Ring
+pub mod Written
+pub mod WrittenScripts

@@ -1,10 +1,24 @@
-//! Examples of the definitions: a legal book, books that aren't, and pools.
+//! Examples of the definitions: a legal book, books that aren't, pools, and plays of a core, event by event.
 //!
-//! Each function has no body: its contract says what holds of an example in `specs/`.
+//! The contract of a play says that its events lead, with these replies, from an opening's own state to a state, and
+//! what is so there. The plays of `play` hold whatever resolves scripts to the statements that they name. In
+//! `resolved_play` the scripts are written out, and resolving gives these statements; so each leads to a state of which
+//! the laws of resolved forms say something. Nothing here has a body that does more than call laws.
 #![tactic(auto)]
 
 mod friends;
+mod play;
 mod pool;
+mod resolved_play;
 
 pub use friends::{friends_may_fly_together, oracle_answers_are_counted, wrong_books_are_refused};
+pub use play::{
+    component_grows, component_shrinks_back, failure_takes_the_group_back,
+    job_outlives_its_attempt, linked_roll_back_together, results_are_taken_once,
+    ring_commits_together, run_is_busy, third_is_held_back,
+};
 pub use pool::{friends_are_safe, third_is_unsafe};
+pub use resolved_play::{
+    a_pair_commits, a_ring_of_three_commits, a_rollback_leaves_nobody_committed,
+    an_unsafe_third_posts_later,
+};

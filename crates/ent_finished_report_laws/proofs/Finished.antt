@@ -19,7 +19,7 @@ use Rattle.ent_form.specs.declared.catalogue.TableSchema.{TableSchema}
 use Rattle.ent_form.specs.declared.fault.FormFault.{FormFault}
 use Rattle.ent_form.specs.declared.script.Plain.{Plain}
 use Rattle.ent_print.specs.Reading.{IsReadable}
-use Rattle.ent_round_trip.specs.Fits.{ScriptFits}
+use Rattle.ent_sql_laws.specs.Fits.{ScriptFits}
 use Rattle.ent_semantics.specs.declared.book.Book.{Book}
 use Rattle.ent_semantics.specs.declared.book.Fated.{Fated}
 use Rattle.ent_semantics.specs.declared.book.JointAnswer.{JointAnswer}
@@ -29,10 +29,10 @@ use Rattle.ent_book.specs.Report2.{report_2_text}
 use Rattle.ent_history_form.specs.Answers.{AreRuns}
 use Rattle.ent_protocol.specs.Reached.{IsFinished, IsFinishedBook, IsReached, book_of, committed_joints, scripts_of}
 use Rattle.ent_protocol.specs.State.{State, Submitted}
-use Rattle.ent_standing.specs.Attempts.{AskForMost, AsksForRun}
-use Rattle.ent_standing.specs.Numbered.{from_by_number}
-use Rattle.ent_endings.specs.Fates.{HaveFates}
-use Rattle.ent_resolved.specs.Resolved.{resolved_forms}
+use Rattle.ent_protocol_laws.specs.Attempts.{AskForMost, AsksForRun}
+use Rattle.ent_protocol_laws.specs.Numbered.{from_by_number}
+use Rattle.ent_termination.specs.Fates.{HaveFates}
+use Rattle.ent_headline.specs.Resolved.{resolved_forms}
 use Rattle.ent_lists.specs.Elements.{In, all_map, contains_in, in_contains, of_all, of_filter, to_all, to_map}
 use Rattle.ent_answer_laws.specs.Answered.{CanRun}
 use Rattle.ent_opening_laws.specs.Read.{IsOpeningRead}

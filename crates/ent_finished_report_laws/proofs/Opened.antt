@@ -17,10 +17,10 @@ use Rattle.ent_print.specs.Reading.{CanBeRead}
 use Rattle.ent_print.specs.Spelling.{value_spelling}
 use Rattle.ent_semantics.specs.Database.{row_of}
 use Rattle.ent_history_form.specs.Parts.{IsName, IsValue}
-use Rattle.ent_round_trip.specs.Fits.{Each, HasParts}
-use Rattle.ent_round_trip.proofs.Keeping.{Keeps, keep_behind, keep_give, keep_listed, keep_many, keep_then}
-use Rattle.ent_round_trip.proofs.KeptOperands.{keep_identifier, keep_literal}
-use Rattle.ent_round_trip.proofs.KeptScripts.{ReadingIsSaid, TokensAreFound, tokens_stand}
+use Rattle.ent_sql_laws.specs.Fits.{Each, HasParts}
+use Rattle.ent_sql_laws.proofs.Keeping.{Keeps, keep_behind, keep_give, keep_listed, keep_many, keep_then}
+use Rattle.ent_sql_laws.proofs.KeptOperands.{keep_identifier, keep_literal}
+use Rattle.ent_sql_laws.proofs.KeptScripts.{ReadingIsSaid, TokensAreFound, tokens_stand}
 use Rattle.ent_lists.specs.Elements.{all_map}
 use Rattle.ent_answer_laws.proofs.Read.{literal_is_value}
 use Rattle.ent_opening_laws.specs.Read.{IsOpeningRead, IsTableRead}

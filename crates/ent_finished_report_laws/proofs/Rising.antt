@@ -13,7 +13,7 @@ use Rattle.ent_protocol.specs.PoolEvents.{IsPresentComponent, joint_answer, join
 use Rattle.ent_protocol.specs.Reached.{IsReached}
 use Rattle.ent_protocol.specs.Run.{Forms}
 use Rattle.ent_protocol.specs.State.{State, Member}
-use Rattle.ent_standing.proofs.Acts.{AreKept, reached}
+use Rattle.ent_protocol_laws.proofs.Acts.{AreKept, reached}
 use Rattle.ent_lists.specs.Elements.{In, Pairs, all_filtered, all_joined, index_pairs, of_all, pairs_unmapped, to_all}
 
 abbrev pub Before : JointMember → JointMember → Type 0

@@ -8,8 +8,8 @@ use Rattle.ent_protocol.specs.Reached.{IsReached, LeadsTo, opened}
 use Rattle.ent_protocol.specs.Run.{Forms}
 use Rattle.ent_protocol.specs.State.{Member, State, Submitted, members}
 use Rattle.ent_protocol.specs.Step.{Step}
-use Rattle.ent_standing.specs.Attempts.{AskForMost, AsksForRun, MayTakePart, StayBelow, StayWithin}
-use Rattle.ent_standing.specs.Standing.{GoesOn}
+use Rattle.ent_protocol_laws.specs.Attempts.{AskForMost, AsksForRun, MayTakePart, StayBelow, StayWithin}
+use Rattle.ent_protocol_laws.specs.Standing.{GoesOn}
 use Rattle.ent_lists.specs.Elements.{In, all_first, of_all, to_all}
 use Rattle.ent_right_report_laws.specs.Reportable.{runs_of}
 use Rattle.ent_finished_report_laws.proofs.Fated.{fates_from}

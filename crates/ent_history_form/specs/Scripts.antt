@@ -6,7 +6,7 @@ use Rattle.ent_tree.specs.Places.{unplaced_script}
 use Rattle.ent_print.specs.Reading.{IsReadable}
 use Rattle.ent_form.specs.Catalogue.{schemas_of}
 use Rattle.ent_form.specs.ScriptFaults.{script_faults}
-use Rattle.ent_round_trip.specs.Fits.{ScriptFits}
+use Rattle.ent_sql_laws.specs.Fits.{ScriptFits}
 use Rattle.ent_book.specs.Report.{line}
 use Rattle.ent_book.specs.Report2.{line_count, numbered_script_text}
 use Rattle.ent_history.specs.declared.history.History.{History}

@@ -1,5 +1,6 @@
 -- Tables that are loaded with their opening rows.
-use Rattle.std.proofs.Common.{◌≡◌, ℕ, zero, suc, ◌+◌, ◌<◌, ◌≤◌, Bool, true, false, cond, ◌||◌, List, [], ◌∷◌, length, map, get_or, Some, Result, Ok, Err, refl, sym, ap, ◌∙◌, arith, subst}
+use Rattle.std.proofs.Common.{◌≡◌, ℕ, zero, suc, ◌+◌, ◌<◌, ◌≤◌, Bool, true, false, cond, ◌||◌, List, [], ◌∷◌, length}
+use Rattle.std.proofs.Common.{map, get_or, Some, Result, Ok, Err, refl, sym, ap, ◌∙◌, arith, subst}
 use Rattle.std.specs.Prelude.{slice_get, slice_index_or, nat_le, All}
 use Rattle.std.specs.List.{filter, list_any}
 use Rattle.std.specs.Ordering.{eq_by_cmp}
@@ -28,8 +29,8 @@ use Rattle.ent_closed.specs.Form.{Tables}
 use Rattle.ent_form.specs.declared.catalogue.TableSchema.{TableSchema}
 use Rattle.ent_form.specs.Catalogue.{table_schema, schemas_of, names_of}
 use Rattle.ent_form.specs.Opening.{rows_named}
-use Rattle.ent_kinded.specs.Kinds.{column_kinds, AreKinded}
-use Rattle.ent_kinded.specs.Opened.{opening_tables}
+use Rattle.ent_form_laws.specs.Kinds.{column_kinds, AreKinded}
+use Rattle.ent_form_laws.specs.Opened.{opening_tables}
 
 -- a place of a list, seen by f
 map_at : {A B : Type 0} (f : A → B) (xs : List A) (i : ℕ) (x : A) (d : B) → i < length xs → x ≡ get_or xs i x

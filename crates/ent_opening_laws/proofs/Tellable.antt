@@ -22,8 +22,8 @@ use Rattle.ent_form.specs.Opening.{rows_named}
 use Rattle.ent_form.specs.OpeningFault.{opening_fault, refused_where, repeated}
 use Rattle.ent_form.specs.declared.fault.FormFault.{FormFault}
 use Rattle.ent_form.specs.declared.fault.FormFault.TheVariants.{Repeated}
-use Rattle.ent_kinded.specs.Kinds.{AreKinded, column_kinds}
-use Rattle.ent_kinded.specs.Opened.{opening_tables}
+use Rattle.ent_form_laws.specs.Kinds.{AreKinded, column_kinds}
+use Rattle.ent_form_laws.specs.Opened.{opening_tables}
 use Rattle.ent_book.specs.Report.{names_by_bytes}
 use Rattle.ent_history.specs.Text.{rows_under}
 use Rattle.ent_history.specs.Told.{declared_under, opening_row, told_opening, told_rows}

@@ -17,7 +17,7 @@ ghost use Rattle.ent_tree.specs.declared.entangled.Entangled.{Entangled};
 ghost use Rattle.ent_tree.specs.declared.script.Script.{Script};
 ghost use Rattle.ent_tree.specs.declared.script.Statement.{Statement};
 
-use ent_declared::resolved_scripts_keep_to_declared_tables;
+use ent_report_laws::resolved_scripts_keep_to_declared_tables;
 
 /// The opening that a report shows has the same table under each name as the one that it is of; and where that one has
 /// no fault of form, the same rows.

@@ -1,8 +1,10 @@
 -- What events do to the pool.
-use Rattle.std.proofs.Common.{◌≡◌, ◌⊎◌, inl, inr, ℕ, suc, ◌≤◌, ◌<◌, Bool, true, false, cond, not, ◌==◌, ◌||◌, List, [], ◌∷◌}
-use Rattle.std.proofs.Common.{◌++◌, map, length, refl, sym, ap, subst, ◌∙◌, arith, rules, Option, flat_map, slice_get, zero, AllPairs, Contains}
+use Rattle.std.proofs.Common.{◌≡◌, ◌⊎◌, inl, inr, ℕ, suc, ◌≤◌, ◌<◌, Bool, true, false, cond, not, ◌==◌, ◌||◌, List, []}
+use Rattle.std.proofs.Common.{◌∷◌}
+use Rattle.std.proofs.Common.{◌++◌, map, length, refl, sym, ap, subst, ◌∙◌, arith, rules, Option, flat_map, slice_get}
+use Rattle.std.proofs.Common.{zero, AllPairs, Contains}
 use Rattle.std.specs.List.{AllByRecursion, filter, list_any}
-use Rattle.ent_standing.proofs.ByNumber.{pool_ascends, posted_tx}
+use Rattle.ent_protocol_laws.proofs.ByNumber.{pool_ascends, posted_tx}
 use Rattle.ent_value.specs.declared.value.Value.{Value}
 use Rattle.ent_tree.specs.declared.script.Script.{Script}
 use Rattle.ent_semantics.specs.Entangled.{Valuation}
@@ -12,16 +14,18 @@ use Rattle.ent_closed.specs.declared.operand.Known.{Known}
 use Rattle.ent_closed.specs.declared.statement.Statement.{Statement}
 use Rattle.ent_coordination.specs.Pool.{Posted}
 use Rattle.ent_lists.specs.Elements.{In, Pairs, clash, of_all, of_map, to_map}
-use Rattle.ent_lists.specs.Elements.{contains_in, filter_empty, filter_joined, filter_same, filter_whole, in_contains, index_pairs, same_number, number_itself, pairs_mapped}
+use Rattle.ent_lists.specs.Elements.{contains_in, filter_empty, filter_joined, filter_same, filter_whole, in_contains}
+use Rattle.ent_lists.specs.Elements.{index_pairs, same_number, number_itself, pairs_mapped}
 use Rattle.ent_protocol.specs.Begin.{holding, posting, replaced, with_member}
-use Rattle.ent_protocol.specs.Member.{Asks, Commits, Next, Ordinary, RollsBack, is_tx, next_in, next_of, pool, posted_by, posted_as}
+use Rattle.ent_protocol.specs.Member.{Asks, Commits, Next, Ordinary, RollsBack, is_tx, next_in, next_of, pool}
+use Rattle.ent_protocol.specs.Member.{posted_by, posted_as}
 use Rattle.ent_protocol.specs.PoolEvents.{answered_among, answered_by, answered_groups, in_joined_group, joining}
 use Rattle.ent_protocol.specs.PostedBy.{IsPostedBy, in_pool, is_posted_by, next_same, posted_next, to_pool}
 use Rattle.ent_protocol.specs.Run.{submitting}
 use Rattle.ent_protocol.specs.State.{State, Submitted, Member, members}
 use Rattle.ent_protocol.specs.Uses.{entangled_uses}
 use Rattle.ent_match.specs.Posting.{Adds}
-use Rattle.ent_standing.specs.Numbered.{below_apart, one_of, same_lists}
+use Rattle.ent_protocol_laws.specs.Numbered.{below_apart, one_of, same_lists}
 use Rattle.ent_pool_laws.specs.Pooled.{is_of_none}
 
 -- ---- lists of lists

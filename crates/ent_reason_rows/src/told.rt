@@ -1,8 +1,7 @@
 //! What was told of transactions, a line each: their numbers, a colon, and what changes for all of them.
 use anyhow::{Result, anyhow, bail};
 use ent_group::{Members, Tx};
-use ent_notes::{Change, Hindrance, Notes};
-use ent_reasons::Reasons;
+use ent_reasons::{Change, Hindrance, Notes, Reasons};
 use ent_semantics::Failure;
 use std::alloc::Global;
 

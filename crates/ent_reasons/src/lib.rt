@@ -1,12 +1,22 @@
-//! Why transactions didn't commit, told to people.
+//! What each transaction was told last in its run, and why transactions didn't commit, told to people.
 //!
-//! What is told rests on the notes of `ent_notes` alone, and on the text of the input for the lines of its statements.
-//! What the sentences say rests on rows of examples, which `ent_rows` plays.
+//! A caller may rely on the notes of [`Notes`], which are kept as a schedule goes on: as long as they are whole, the
+//! note of a transaction is that of all that was told of it. Only memory for more transactions can be wanting; then the
+//! notes say that they aren't whole.
+//!
+//! What [`Reasons`] tells rests on the notes alone, and on the text of the input for the lines of its statements. What
+//! the sentences say rests on rows of examples, which `ent_rows` plays.
 #![tactic(auto)]
 
+mod hindrance;
+mod note;
+mod notes;
 mod reason;
 mod reasons;
 mod script_lines;
 mod waiting;
 
+pub use hindrance::Hindrance;
+pub use note::{Change, Note};
+pub use notes::Notes;
 pub use reasons::Reasons;

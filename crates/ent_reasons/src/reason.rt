@@ -1,8 +1,9 @@
 //! Why a transaction didn't commit.
+use crate::hindrance::Hindrance;
+use crate::note::Note;
 use crate::script_lines::ScriptLines;
 use crate::waiting::{Others, Ring};
 use ent_group::{Members, Tx};
-use ent_notes::{Hindrance, Note};
 use ent_semantics::Failure;
 use std::fmt;
 

@@ -1,10 +1,10 @@
 //! Why transactions didn't commit.
 ghost use Rattle.std.specs.Prelude.{◌≡◌, IfOk};
 
+use crate::notes::Notes;
 use crate::reason::Reason;
 use crate::script_lines::ScriptLines;
 use ent_group::Tx;
-use ent_notes::Notes;
 use std::alloc::{AllocError, Global};
 use std::fmt;
 

@@ -1,5 +1,6 @@
 -- The lines of answers.
-use Rattle.std.proofs.Common.{◌≡◌, ℕ, ◌+◌, List, [], ◌∷◌, ◌++◌, Ok, refl, ap, sym, subst, ◌∙◌, append_assoc, arith, ◌<◌, Some}
+use Rattle.std.proofs.Common.{◌≡◌, ℕ, ◌+◌, List, [], ◌∷◌, ◌++◌, Ok, refl, ap, sym, subst, ◌∙◌, append_assoc, arith, ◌<◌}
+use Rattle.std.proofs.Common.{Some}
 use Rattle.std.specs.Prelude.{codes}
 use Rattle.std.specs.Fmt.{decimal}
 use Rattle.ent_value.specs.Print.{value_text}
@@ -17,7 +18,7 @@ use Rattle.std.proofs.lemmas.Option.{same_Some}
 use Rattle.ent_tree.specs.declared.limits.TheConstants.{MOST_STATEMENTS}
 use Rattle.ent_semantics.specs.declared.answer.Fact.{Fact}
 use Rattle.ent_book.specs.Report.{facts_text}
-use Rattle.ent_section_lines.specs.Heads.{heads_line}
+use Rattle.ent_report_lines.specs.Heads.{heads_line}
 use Rattle.ent_history.specs.declared.history.Told.{Told}
 use Rattle.ent_history_form.specs.Draft.{Draft, Due, AnswerRows, answer_due, on_last, rows_due}
 use Rattle.ent_history_form.specs.Answers.{AnswerStands, answers_so_far, with_answer}

@@ -1,5 +1,6 @@
 -- Variables of any names are read with their values as they are written.
-use Rattle.std.proofs.Common.{◌≡◌, ℕ, ◌<◌, eqb, List, [], ◌∷◌, ◌++◌, length, map, Ok, Result, refl, ap, sym, ◌∙◌, subst, arith, append_assoc, length-append}
+use Rattle.std.proofs.Common.{◌≡◌, ℕ, ◌<◌, eqb, List, [], ◌∷◌, ◌++◌, length, map, Ok, Result, refl, ap, sym, ◌∙◌, subst}
+use Rattle.std.proofs.Common.{arith, append_assoc, length-append}
 use Rattle.std.specs.Prelude.{codes, slice_index}
 use Rattle.std.specs.Char.{is_ascii_digit}
 use Rattle.std.specs.List.{AllByRecursion, flat_map}
@@ -18,10 +19,10 @@ use Rattle.ent_line.proofs.Values.{bind_ok, value_found, value_again}
 use Rattle.ent_line.proofs.Rows.{behind_found, behind_again}
 use Rattle.ent_report_lines.specs.Bindings.{member_line}
 use Rattle.ent_report_lines.proofs.Steps.{bind_with, same_ok, no_bytes}
-use Rattle.ent_section_lines.specs.Listing.{listed_at}
-use Rattle.ent_section_lines.specs.Names.{IsName, name_at}
-use Rattle.ent_section_lines.proofs.Listing.{listed_found, listed_again, shorter_than_text}
-use Rattle.ent_section_lines.proofs.Names.{name_found, name_again}
+use Rattle.ent_report_lines.specs.Listing.{listed_at}
+use Rattle.ent_report_lines.specs.Names.{IsName, name_at}
+use Rattle.ent_report_lines.proofs.Listing.{listed_found, listed_again, shorter_than_text}
+use Rattle.ent_report_lines.proofs.Names.{name_found, name_again}
 use Rattle.ent_history_form.specs.Parts as parts
 use Rattle.ent_report_draft.specs.declared.bindings.Bound.{Bound}
 use Rattle.ent_report_draft.specs.Bindings.{all_bound_at, any_member_at, bound_at, bound_of, values_of, variables_of}

@@ -1,11 +1,12 @@
 -- No line ends inside a number or inside the line above a script.
-use Rattle.std.proofs.Common.{◌≡◌, ◌+◌, ℕ, zero, suc, Bool, true, false, not, ◌&&◌, ◌==◌, List, [], ◌∷◌, ◌++◌, refl, ap, arith, if◌then◌else◌}
+use Rattle.std.proofs.Common.{◌≡◌, ◌+◌, ℕ, zero, suc, Bool, true, false, not, ◌&&◌, ◌==◌, List, [], ◌∷◌, ◌++◌, refl, ap}
+use Rattle.std.proofs.Common.{arith, if◌then◌else◌}
 use Rattle.std.specs.Prelude.{codes, nat_lt, ◌/◌, ◌%◌}
 use Rattle.std.specs.List.{list_all}
 use Rattle.std.specs.Fmt.{decimal, digit_glyph, digits, digits_onto}
 use Rattle.std.proofs.lemmas.Bool.{ne_eqb}
 use Rattle.ent_text.specs.Spelling.{is_in_line}
-use Rattle.ent_section_lines.specs.Scripts.{script_text}
+use Rattle.ent_report_lines.specs.Scripts.{script_text}
 use Rattle.ent_script_reader.proofs.InLine.{IsInLine, both, in_line_append}
 
 other_byte : (b : ℕ) → (b ≡ 10 → ⊥) → is_in_line b ≡ true

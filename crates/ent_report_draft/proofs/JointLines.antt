@@ -2,7 +2,7 @@
 use Rattle.std.proofs.Common.{◌≡◌, ℕ, ◌+◌, ◌<◌, List, [], ◌∷◌, ◌++◌, length, ap, ◌∙◌, arith}
 use Rattle.ent_book.specs.Report.{line}
 use Rattle.ent_history.specs.declared.history.ToldJoint.{ToldJoint}
-use Rattle.ent_section_lines.specs.Joints.{joint_text}
+use Rattle.ent_report_lines.specs.Joints.{joint_text}
 use Rattle.ent_history_form.specs.Draft.{Draft, Due, members_due}
 use Rattle.ent_history_form.specs.Joints.{JointStands}
 use Rattle.ent_report_draft.specs.Due.{TablesAreNext}

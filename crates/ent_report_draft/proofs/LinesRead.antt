@@ -1,5 +1,6 @@
 -- What is read of a line is what stands there.
-use Rattle.std.proofs.Common.{◌≡◌, ℕ, Bool, true, false, cond, eqb, List, [], ◌∷◌, ◌++◌, length, Ok, Err, Result, refl, ap, sym, subst, ◌∙◌, arith}
+use Rattle.std.proofs.Common.{◌≡◌, ℕ, Bool, true, false, cond, eqb, List, [], ◌∷◌, ◌++◌, length, Ok, Err, Result, refl}
+use Rattle.std.proofs.Common.{ap, sym, subst, ◌∙◌, arith}
 use Rattle.std.proofs.lemmas.Bool.{eqb-true}
 use Rattle.std.proofs.lemmas.List.{append-nil}
 use Rattle.std.specs.List.{AllByRecursion}
@@ -14,10 +15,10 @@ use Rattle.ent_line.specs.declared.fault.LineFault.TheVariants.{Misfit}
 use Rattle.ent_line.specs.Pieces.{Read, row_at}
 use Rattle.ent_line.specs.Written as written
 use Rattle.ent_tree.specs.declared.declaration.Create.{Create}
-use Rattle.ent_section_lines.specs.Openings.{IsDeclared}
+use Rattle.ent_report_lines.specs.Openings.{IsDeclared}
 use Rattle.ent_history_form.specs.Opening.{IsDeclaration}
-use Rattle.ent_section_lines.specs.Joints as sections
-use Rattle.ent_section_lines.specs.Heads as heads
+use Rattle.ent_report_lines.specs.Joints as sections
+use Rattle.ent_report_lines.specs.Heads as heads
 use Rattle.ent_semantics.specs.declared.answer.Fact.{Fact}
 use Rattle.ent_history_form.specs.Answers as answers
 use Rattle.ent_history_form.specs.Joints as joints

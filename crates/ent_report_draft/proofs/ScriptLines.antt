@@ -7,7 +7,7 @@ use Rattle.ent_print.specs.Printing.{script_text}
 use Rattle.ent_book.specs.Report.{line}
 use Rattle.ent_book.specs.Report2.{line_count}
 use Rattle.ent_line.specs.declared.fault.LineFault.{LineFault}
-use Rattle.ent_section_lines.specs.Scripts as sections
+use Rattle.ent_report_lines.specs.Scripts as sections
 use Rattle.ent_history_form.specs.Draft.{Draft}
 use Rattle.ent_history_form.specs.Scripts.{IsScript, ScriptIsNext, ScriptStands}
 use Rattle.ent_script_reader.specs.Begins.{script_line}

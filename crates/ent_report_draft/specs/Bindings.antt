@@ -7,8 +7,8 @@ use Rattle.ent_semantics.specs.Database.{Name}
 use Rattle.ent_line.specs.declared.fault.LineFault.{LineFault}
 use Rattle.ent_line.specs.Pieces.{Read, behind, number_at, value_at, wanted}
 use Rattle.ent_report_lines.specs.Bindings.{member_line}
-use Rattle.ent_section_lines.specs.Listing.{listed_at}
-use Rattle.ent_section_lines.specs.Names.{name_at}
+use Rattle.ent_report_lines.specs.Listing.{listed_at}
+use Rattle.ent_report_lines.specs.Names.{name_at}
 use Rattle.ent_history_form.specs.Parts.{IsName, IsNumber, IsValue}
 use Rattle.ent_report_draft.specs.declared.bindings.Bound.{Bound}
 

@@ -18,9 +18,9 @@ use Rattle.ent_line.specs.declared.fault.LineFault.TheVariants.{Misfit}
 use Rattle.ent_line.specs.Pieces.{row_at}
 use Rattle.ent_report_lines.specs.Counts.{placed_line, set_line, table_line}
 use Rattle.ent_report_lines.specs.Fates.{transaction_text}
-use Rattle.ent_section_lines.specs.Heads.{heads_line}
-use Rattle.ent_section_lines.specs.Joints.{joint_text}
-use Rattle.ent_section_lines.specs.Openings.{opening_text}
+use Rattle.ent_report_lines.specs.Heads.{heads_line}
+use Rattle.ent_report_lines.specs.Joints.{joint_text}
+use Rattle.ent_report_lines.specs.Openings.{opening_text}
 use Rattle.ent_history_form.specs.Opening.{IsDeclaration}
 use Rattle.ent_history_form.specs.Joints.{PlacesRise}
 use Rattle.ent_history_form.specs.Parts.{IsNumber, IsRow, IsValue}

@@ -1,6 +1,6 @@
 -- The line above a script.
 use Rattle.std.specs.Prelude.{◌≡◌, ℕ, ◌+◌, List, length}
-use Rattle.ent_section_lines.specs.Scripts.{script_text}
+use Rattle.ent_report_lines.specs.Scripts.{script_text}
 use Rattle.ent_history_form.specs.Draft.{Draft}
 use Rattle.ent_history_form.specs.Parts.{IsNumber}
 use Rattle.ent_history_form.specs.Scripts.{ScriptIsNext}

@@ -18,6 +18,7 @@ use crate::due::Due;
 use crate::kinds::are_of_kinds;
 use crate::lists::{element, take_last};
 use crate::reading::{any_member_line, known_member_line};
+use ent_book::written_variables;
 use ent_closed::{Entangled as ResolvedEntangled, Known, Statement as Resolved};
 use ent_form::resolve;
 use ent_history::{ToldJoint, ToldMember};
@@ -25,7 +26,6 @@ use ent_line::LineFault;
 use ent_semantics::Member;
 use ent_tree::{Entangled, Statement};
 use ent_value::{Kind, Name, Refusal, Sequence, Value};
-use ent_written::written_variables;
 use std::alloc::{AllocError, Global};
 use std::mem::replace;
 

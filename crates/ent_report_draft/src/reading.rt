@@ -13,12 +13,10 @@ ghost use Rattle.ent_report_draft.specs.Scripts.{IsNumberedLine};
 use crate::bindings::{Bound, any_member};
 use ent_line::{LineFault, row, rows_are_read_as_written};
 use ent_report_lines::{
-    counts_are_read_as_written, member, members_are_read_as_written, placed, set, table,
+    counts_are_read_as_written, heads, heads_are_read_as_written, joint,
+    joints_are_read_as_written, member, members_are_read_as_written, opening,
+    openings_are_read_as_written, placed, script, scripts_are_read_as_written, set, table,
     transaction, transactions_are_read_as_written,
-};
-use ent_section_lines::{
-    heads, heads_are_read_as_written, joint, joints_are_read_as_written, opening,
-    openings_are_read_as_written, script, scripts_are_read_as_written,
 };
 use ent_semantics::{Fact, Fate};
 use ent_tree::Create;

@@ -24,3 +24,4 @@ pub mod OfScripts
 pub mod OfJoints
 pub mod OfTables
 pub mod OfTransactions
+pub mod Declared

@@ -7,7 +7,7 @@ use Rattle.ent_tree.specs.declared.script.Script.{Script as Scripted}
 use Rattle.ent_print.specs.Reading.{IsReadable}
 use Rattle.ent_form.specs.Catalogue.{schemas_of}
 use Rattle.ent_form.specs.ScriptFaults.{script_faults}
-use Rattle.ent_round_trip.specs.Fits.{ScriptFits}
+use Rattle.ent_sql_laws.specs.Fits.{ScriptFits}
 use Rattle.ent_history.specs.declared.history.History.{History}
 use Rattle.ent_history_form.specs.Draft.{Draft, Ended, blank}
 use Rattle.ent_history_form.specs.Scripts.{IsScript}

@@ -1,3 +1,9 @@
 pub mod Fates
 pub mod Bindings
 pub mod Counts
+pub mod Listing
+pub mod Names
+pub mod Openings
+pub mod Scripts
+pub mod Heads
+pub mod Joints

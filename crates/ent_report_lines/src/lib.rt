@@ -1,17 +1,32 @@
-//! Lines of a report of version 2, each read as a whole.
+//! Lines of a report of version 2, each read as a whole: those of its parts, and those that begin a part.
 //!
 //! A line is given without its end. A caller may rely on it that a call reads just the lines of its sort, and what they
 //! say.
 #![tactic(auto)]
 
 mod binding;
+mod column;
 mod count;
+mod fact;
 mod fate;
 mod laws;
+mod place;
+mod script_line;
+mod section_laws;
+mod word;
 
 pub use binding::member;
+pub use column::opening;
 pub use count::{placed, set, table};
+pub use fact::heads;
 pub use fate::transaction;
 pub use laws::{
     counts_are_read_as_written, members_are_read_as_written, transactions_are_read_as_written,
 };
+pub use place::joint;
+pub use script_line::script;
+pub use section_laws::{
+    heads_are_read_as_written, joints_are_read_as_written, names_are_read_as_written,
+    openings_are_read_as_written, scripts_are_read_as_written,
+};
+pub use word::{first_byte, name};

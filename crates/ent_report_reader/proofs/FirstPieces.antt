@@ -1,5 +1,6 @@
 -- The first piece of a text, or none.
-use Rattle.std.proofs.Common.{◌≡◌, ℕ, ◌+◌, List, [], ◌∷◌, ◌++◌, length, Option, Some, None, Result, Ok, Err, refl, ap, sym, ◌∙◌, subst, inl, inr, arith, append_assoc, length-append}
+use Rattle.std.proofs.Common.{◌≡◌, ℕ, ◌+◌, List, [], ◌∷◌, ◌++◌, length, Option, Some, None, Result, Ok, Err, refl, ap}
+use Rattle.std.proofs.Common.{sym, ◌∙◌, subst, inl, inr, arith, append_assoc, length-append}
 use Rattle.std.proofs.lemmas.List.{append-nil}
 use Rattle.std.specs.Prelude.{IfOk, codes}
 use Rattle.std.specs.Fmt.{decimal}
@@ -8,7 +9,7 @@ use denote.Ref.{Bor}
 use Rattle.ent_print.specs.Printing.{script_text}
 use Rattle.ent_book.specs.Report.{line}
 use Rattle.ent_book.specs.Report2.{line_count}
-use Rattle.ent_section_lines.specs.Scripts as sections
+use Rattle.ent_report_lines.specs.Scripts as sections
 use Rattle.ent_history_form.specs.Draft.{Draft}
 use Rattle.ent_history_form.specs.Scripts.{ScriptStands}
 use Rattle.ent_history_form.specs.Stands.{Stands}
@@ -18,7 +19,9 @@ use Rattle.ent_script_reader.proofs.BreaksOff.{is_numbered, no_more, same_line}
 use Rattle.ent_report_draft.specs.Taking.{NoLine}
 use Rattle.ent_report_reader.specs.Lines.{IsFirstLine}
 use Rattle.ent_report_reader.specs.Steps.{NoScript, Steps, StepsScript, TakesPiece}
-use Rattle.ent_report_reader.proofs.OneLine.{IsOneLine, NextTableIsWord, answer_line, answer_row_line, end_line, heading_line, joint_line, one_line_or_script, opening_line, opening_row_line, table_row_line, tx_line}
+use Rattle.ent_report_reader.proofs.OneLine.{IsOneLine, NextTableIsWord, answer_line, answer_row_line, end_line}
+use Rattle.ent_report_reader.proofs.OneLine.{heading_line, joint_line, one_line_or_script, opening_line}
+use Rattle.ent_report_reader.proofs.OneLine.{opening_row_line, table_row_line, tx_line}
 
 -- ---- a text that ends no line
 

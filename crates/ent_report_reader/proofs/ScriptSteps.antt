@@ -1,10 +1,11 @@
 -- A script in front of a text, or none.
-use Rattle.std.proofs.Common.{◌≡◌, ◌≢◌, ℕ, ◌+◌, ◌≤◌, Bool, true, false, cond, ◌==◌, List, [], ◌∷◌, ◌++◌, length, Result, Ok, Err, refl, ap, sym, ◌∙◌, subst, inl, inr, arith, append_assoc, length-append}
+use Rattle.std.proofs.Common.{◌≡◌, ◌≢◌, ℕ, ◌+◌, ◌≤◌, Bool, true, false, cond, ◌==◌, List, [], ◌∷◌, ◌++◌, length, Result}
+use Rattle.std.proofs.Common.{Ok, Err, refl, ap, sym, ◌∙◌, subst, inl, inr, arith, append_assoc, length-append}
 use Rattle.ent_tree.specs.declared.script.Script.{Script}
 use Rattle.ent_print.specs.Printing.{script_text}
 use Rattle.ent_book.specs.Report.{line}
 use Rattle.ent_book.specs.Report2.{line_count, numbered_script_text}
-use Rattle.ent_section_lines.specs.Scripts as sections
+use Rattle.ent_report_lines.specs.Scripts as sections
 use Rattle.ent_history.specs.declared.history.History.{History}
 use Rattle.ent_history_form.specs.Draft.{Draft}
 use Rattle.ent_history_form.specs.Scripts.{IsScript, ScriptBreaksOff, ScriptIsNext, ScriptStands}

@@ -22,15 +22,16 @@ use ent_answer_laws::{
     runs_answer_what_can_be_told, sights_can_be_told, tables_can_be_told, told_openings_hold_rows,
 };
 use ent_check_report::reports_that_are_right_tell_of_legal_books;
-use ent_declared::resolved_scripts_keep_to_declared_tables;
-use ent_faults::first_fault_is_first;
+use ent_form_laws::first_fault_is_first;
 use ent_history::reports_tell_of_books;
 use ent_opening_laws::{
     books_over_told_openings_are_legal, read_openings_can_be_told, scripts_have_the_same_faults,
     told_openings_are_alike,
 };
 use ent_print::places_do_not_show;
-use ent_report_laws::reports_of_tellable_books_are_told;
+use ent_report_laws::{
+    reports_of_tellable_books_are_told, resolved_scripts_keep_to_declared_tables,
+};
 use ent_semantics::statements_keep_to_their_uses;
 use ent_unplaced_laws::{
     faults_are_the_same_without_places, legal_books_are_legal_without_places,

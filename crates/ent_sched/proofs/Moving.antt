@@ -6,9 +6,9 @@ use Rattle.ent_protocol.specs.Play.{is_idle}
 use Rattle.ent_protocol.specs.PoolEvents.{Picks}
 use Rattle.ent_protocol.specs.Run.{BreaksIfAny}
 use Rattle.ent_protocol.specs.State.{State}
-use Rattle.ent_bounds.specs.Progress.{is_progress}
-use Rattle.ent_endings.specs.Idle.{IsTurnTaken}
-use Rattle.ent_endings.specs.Lending.{IsJointTaken, IsSingleTaken, lent_by}
+use Rattle.ent_termination.specs.Progress.{is_progress}
+use Rattle.ent_termination.specs.Idle.{IsTurnTaken}
+use Rattle.ent_termination.specs.Lending.{IsJointTaken, IsSingleTaken, lent_by}
 use Rattle.ent_sched.specs.Progress.{UsesUp}
 
 -- fewer than before are left, and then fewer still

@@ -11,10 +11,10 @@ use Rattle.ent_protocol.specs.Reached.{IsReached, LeadsTo}
 use Rattle.ent_protocol.specs.Run.{EndsWhileRunning, Forms, SubmitsForm, SubmitsUnless}
 use Rattle.ent_protocol.specs.State.{State}
 use Rattle.ent_protocol.specs.Step.{Step}
-use Rattle.ent_standing.specs.Attempts.{AsksForRun}
-use Rattle.ent_standing.specs.Standing.{GoesOn}
-use Rattle.ent_endings.specs.Input.{adds_script}
-use Rattle.ent_endings.specs.Tries.{tries_left}
+use Rattle.ent_protocol_laws.specs.Attempts.{AsksForRun}
+use Rattle.ent_protocol_laws.specs.Standing.{GoesOn}
+use Rattle.ent_termination.specs.Input.{adds_script}
+use Rattle.ent_termination.specs.Tries.{tries_left}
 use Rattle.ent_sched.specs.Tries.{UsesTries}
 use Rattle.ent_sched.proofs.Staying.{clash, goes_within, stays_on}
 

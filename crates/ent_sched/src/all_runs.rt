@@ -1,9 +1,9 @@
 //! All runs of a core.
 ghost use Rattle.std.specs.Prelude.{◌≡◌, ℕ, IfErr, IfOk};
 ghost use Rattle.ent_book.specs.Tables.{book_seen};
-ghost use Rattle.ent_endings.specs.Fates.{HaveFates};
+ghost use Rattle.ent_termination.specs.Fates.{HaveFates};
 ghost use Rattle.ent_protocol.specs.Reached.{IsFinishedBook, book_of, scripts_of};
-ghost use Rattle.ent_resolved.specs.Resolved.{resolved_forms};
+ghost use Rattle.ent_headline.specs.Resolved.{resolved_forms};
 ghost use Rattle.ent_sched.specs.Onward.{LeadsOn};
 ghost use Rattle.ent_sched.specs.RunOut.{IsRunOut};
 ghost use Rattle.ent_sched.specs.Runs.{RunsInto, RunsOut};
@@ -17,9 +17,9 @@ use crate::one_run::run_watched;
 use crate::watcher::{Silent, Watcher};
 use ent_book::NamedTable;
 use ent_core::Core;
-use ent_endings::{events_keep_the_input, events_lead_on, finished_scripts_have_fates};
 use ent_form::FormFault;
 use ent_semantics::Book;
+use ent_termination::{events_keep_the_input, events_lead_on, finished_scripts_have_fates};
 use ent_value::{Refusal, Sequence};
 use std::alloc::{AllocFailed, Global};
 

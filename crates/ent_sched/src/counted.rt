@@ -11,10 +11,10 @@ ghost use Rattle.ent_protocol.specs.Event.{Recall, StartRun};
 ghost use Rattle.ent_protocol.specs.Lookup.{running_members, standing};
 ghost use Rattle.ent_protocol.specs.PoolEvents.{IsOutstandingJoint};
 ghost use Rattle.ent_protocol.specs.Reached.{CanClose, IsFinishedBook, IsReached, book_of, scripts_of};
-ghost use Rattle.ent_resolved.specs.Resolved.{resolved_forms};
+ghost use Rattle.ent_headline.specs.Resolved.{resolved_forms};
 ghost use Rattle.ent_sched.specs.Tally.{MakesEvent};
 ghost use Rattle.ent_semantics.specs.Book.{IsLegal};
-ghost use Rattle.ent_standing.specs.Attempts.{AsksForRun};
+ghost use Rattle.ent_protocol_laws.specs.Attempts.{AsksForRun};
 ghost use Rattle.ent_value.specs.declared.refusal.Refusal.TheVariants.{Fault};
 
 use crate::watcher::{Silent, Told, Watcher};

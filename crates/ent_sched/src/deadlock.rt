@@ -1,8 +1,8 @@
 //! A deadlock is broken.
 ghost use Rattle.std.specs.Prelude.{◌≡◌, [], false, true};
-ghost use Rattle.ent_endings.specs.Idle.{IsAnswered};
+ghost use Rattle.ent_termination.specs.Idle.{IsAnswered};
 ghost use Rattle.ent_protocol.specs.Event.{BreakCycle, NoCycle};
-ghost use Rattle.ent_resolved.specs.Resolved.{resolved_forms};
+ghost use Rattle.ent_headline.specs.Resolved.{resolved_forms};
 ghost use Rattle.ent_sched.specs.Onward.{TicksOn};
 ghost use Rattle.ent_sched.specs.Progress.{UsesUp};
 ghost use Rattle.ent_sched.specs.Watching.{IsWatched};
@@ -11,9 +11,8 @@ use crate::counted::Counted;
 use crate::law::events_add_up;
 use crate::progress::told_of_progress;
 use crate::watcher::Watcher;
-use ent_bounds::progress_uses_up;
-use ent_endings::jobs_are_lent_by_replies;
 use ent_form::FormFault;
+use ent_termination::{jobs_are_lent_by_replies, progress_uses_up};
 
 /// A deadlock is broken, where there is one. Whether there was one.
 pub(crate) fn break_deadlock<W: Watcher>(counted: &mut Counted, watcher: &mut W) -> bool

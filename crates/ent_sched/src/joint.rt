@@ -1,8 +1,8 @@
 //! A component of what is posted is answered.
 ghost use Rattle.std.specs.Prelude.{◌≡◌, [], false, true, IfOk, OnOk};
-ghost use Rattle.ent_endings.specs.Idle.{IsAnswered};
+ghost use Rattle.ent_termination.specs.Idle.{IsAnswered};
 ghost use Rattle.ent_protocol.specs.Event.{Nothing, Pick};
-ghost use Rattle.ent_resolved.specs.Resolved.{resolved_forms};
+ghost use Rattle.ent_headline.specs.Resolved.{resolved_forms};
 ghost use Rattle.ent_sched.specs.Onward.{TicksOn};
 ghost use Rattle.ent_sched.specs.Progress.{IsJustLent, UsesUp};
 ghost use Rattle.ent_sched.specs.Watching.{IsWatched};
@@ -10,12 +10,13 @@ ghost use Rattle.ent_sched.specs.Watching.{IsWatched};
 use crate::counted::Counted;
 use crate::law::events_add_up;
 use crate::watcher::Watcher;
-use ent_bounds::{progress_uses_up, steps_stay_within};
 use ent_core::Reply;
-use ent_endings::{jobs_are_lent_by_replies, results_are_taken_at_once};
 use ent_eval::{Done, evaluate};
 use ent_form::FormFault;
 use ent_job::Job;
+use ent_termination::{
+    jobs_are_lent_by_replies, progress_uses_up, results_are_taken_at_once, steps_stay_within,
+};
 use std::alloc::{AllocError, Global};
 
 /// Hands in the result of the job of the component that was just picked: the members have their answers, or there is

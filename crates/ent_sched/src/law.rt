@@ -1,7 +1,7 @@
 //! Laws of schedules. Nothing here does anything; what holds is in the contracts.
 ghost use Rattle.std.specs.Prelude.{◌≡◌, ◌≤◌, ◌<◌, ℕ, ◌+◌, ◌^◌, false};
 ghost use Rattle.std.specs.List.{AllByRecursion};
-ghost use Rattle.ent_endings.specs.Input.{adds_script};
+ghost use Rattle.ent_termination.specs.Input.{adds_script};
 ghost use Rattle.ent_protocol.specs.Event.{Event, Reply};
 ghost use Rattle.ent_protocol.specs.Reached.{IsReached};
 ghost use Rattle.ent_protocol.specs.Run.{Forms};
@@ -9,10 +9,10 @@ ghost use Rattle.ent_protocol.specs.State.{State};
 ghost use Rattle.ent_sched.specs.Onward.{LeadsOn, TicksOn};
 ghost use Rattle.ent_sched.specs.Tally.{MakesEvent, Tally};
 ghost use Rattle.ent_sched.specs.Tries.{UsesTries};
-ghost use Rattle.ent_standing.specs.Attempts.{AsksForRun};
+ghost use Rattle.ent_protocol_laws.specs.Attempts.{AsksForRun};
 
-use ent_endings::{ended_runs_use_up_tries, events_keep_the_input, events_lead_on};
-use ent_standing::steps_go_on;
+use ent_protocol_laws::steps_go_on;
+use ent_termination::{ended_runs_use_up_tries, events_keep_the_input, events_lead_on};
 
 /// Events and their ticks add up: none leaves all as it was, one that adds no script is one, behind some come others,
 /// and at most so many are at most more.

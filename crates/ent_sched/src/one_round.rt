@@ -1,8 +1,8 @@
 //! One round of a run.
 ghost use Rattle.std.specs.Prelude.{◌≡◌, ℕ, [], false, true, IfOk, OnOk};
-ghost use Rattle.ent_bounds.specs.Within.{IsBelow, IsWithin};
-ghost use Rattle.ent_endings.specs.Idle.{IsIdleRound};
-ghost use Rattle.ent_resolved.specs.Resolved.{resolved_forms};
+ghost use Rattle.ent_termination.specs.Within.{IsBelow, IsWithin};
+ghost use Rattle.ent_termination.specs.Idle.{IsIdleRound};
+ghost use Rattle.ent_headline.specs.Resolved.{resolved_forms};
 ghost use Rattle.ent_sched.specs.Onward.{TicksOn, events_of_round};
 ghost use Rattle.ent_sched.specs.Watching.{IsWatched};
 
@@ -12,8 +12,8 @@ use crate::joint::answer_component;
 use crate::law::events_add_up;
 use crate::turn::take_turns;
 use crate::watcher::{Silent, Watcher};
-use ent_endings::members_come_by_number;
 use ent_form::FormFault;
+use ent_termination::members_come_by_number;
 use std::alloc::{AllocError, Global};
 
 /// One round: each member that is ready at its turn, by number, begins its next statement, and a job that is lent is

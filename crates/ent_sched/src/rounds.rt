@@ -1,7 +1,7 @@
 //! The rounds of a run.
 ghost use Rattle.std.specs.Prelude.{◌≡◌, [], OnOk};
-ghost use Rattle.ent_endings.specs.Idle.{IsIdleRound};
-ghost use Rattle.ent_resolved.specs.Resolved.{resolved_forms};
+ghost use Rattle.ent_termination.specs.Idle.{IsIdleRound};
+ghost use Rattle.ent_headline.specs.Resolved.{resolved_forms};
 ghost use Rattle.ent_sched.specs.Onward.{TicksOn};
 ghost use Rattle.ent_sched.specs.Bounds.{events_of_rounds};
 ghost use Rattle.ent_sched.specs.Watching.{IsWatched};
@@ -10,8 +10,8 @@ use crate::counted::Counted;
 use crate::law::events_add_up;
 use crate::one_round::round_watched;
 use crate::watcher::Watcher;
-use ent_bounds::runs_are_within;
 use ent_form::FormFault;
+use ent_termination::runs_are_within;
 use std::alloc::{AllocError, Global};
 use std::marker::Brand;
 use std::sync::ledger::{Blank, Ledger};

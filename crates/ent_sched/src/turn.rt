@@ -1,10 +1,10 @@
 //! Turns of members.
 ghost use Rattle.std.specs.Prelude.{◌≡◌, ◌*◌, ℕ, [], false, true, IfOk, OnOk, Some, length};
 ghost use Rattle.std.specs.List.{AllByRecursion};
-ghost use Rattle.ent_endings.specs.Idle.{IsHeldUp};
+ghost use Rattle.ent_termination.specs.Idle.{IsHeldUp};
 ghost use Rattle.ent_protocol.specs.Event.{Begin};
 ghost use Rattle.ent_protocol.specs.Lookup.{Ready, Turn, running_members, standing};
-ghost use Rattle.ent_resolved.specs.Resolved.{resolved_forms};
+ghost use Rattle.ent_headline.specs.Resolved.{resolved_forms};
 ghost use Rattle.ent_sched.specs.Onward.{TicksOn};
 ghost use Rattle.ent_sched.specs.Progress.{IsJustLent, UsesUp};
 ghost use Rattle.ent_sched.specs.Watching.{IsWatched};
@@ -13,16 +13,16 @@ use crate::counted::Counted;
 use crate::law::events_add_up;
 use crate::progress::told_of_progress;
 use crate::watcher::Watcher;
-use ent_bounds::{progress_uses_up, steps_stay_within};
 use ent_core::{Reply, Standing};
-use ent_endings::{
-    jobs_are_lent_by_replies, ready_members_are_answered, results_are_taken_at_once,
-};
 use ent_eval::{Done, evaluate};
 use ent_form::FormFault;
 use ent_group::Tx;
 use ent_job::Job;
 use ent_protocol::refusals_change_nothing;
+use ent_termination::{
+    jobs_are_lent_by_replies, progress_uses_up, ready_members_are_answered,
+    results_are_taken_at_once, steps_stay_within,
+};
 use std::alloc::{AllocError, Global};
 
 /// Hands in the result of the job that was just lent to a member: its statement is done, or its group is rolled back.

@@ -9,8 +9,8 @@ use Rattle.ent_print.specs.Lexeme.{Lexeme}
 use Rattle.ent_print.specs.Spelling.{script_spelling}
 use Rattle.ent_print.specs.Printing.{script_text}
 use Rattle.ent_print.specs.Reading.{CanBeRead, IsReadable}
-use Rattle.ent_round_trip.specs.Fits.{ScriptFits}
-use Rattle.ent_round_trip.specs.Itself.{IsAlone}
+use Rattle.ent_sql_laws.specs.Fits.{ScriptFits}
+use Rattle.ent_sql_laws.specs.Itself.{IsAlone}
 use Rattle.ent_script_reader.specs.Only.{IsPrintable, IsOnlyOne}
 use Rattle.ent_script_reader.proofs.Twice.{script_once}
 use Rattle.ent_script_reader.proofs.Kept.{script_kept}

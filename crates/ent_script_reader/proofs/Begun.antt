@@ -18,9 +18,9 @@ use Rattle.ent_print.specs.Spelling.{sign, word, end_word, script_spelling}
 use Rattle.ent_form.specs.Catalogue.{schemas_of}
 use Rattle.ent_form.specs.Kinds.{none_bound}
 use Rattle.ent_form.specs.ScriptFaults.{statements_faults}
-use Rattle.ent_round_trip.specs.Fits.{Each, StatementFits}
-use Rattle.ent_round_trip.proofs.Keeping.{each_append, each_front, each_of, each_at}
-use Rattle.ent_round_trip.proofs.KeptOperands.{word_stands, sign_stands, number_stands}
+use Rattle.ent_sql_laws.specs.Fits.{Each, StatementFits}
+use Rattle.ent_sql_laws.proofs.Keeping.{each_append, each_front, each_of, each_at}
+use Rattle.ent_sql_laws.proofs.KeptOperands.{word_stands, sign_stands, number_stands}
 use Rattle.ent_book.specs.Report.{line}
 use Rattle.ent_book.specs.Report2.{line_count}
 use Rattle.ent_history.specs.declared.history.History.{History}

@@ -20,8 +20,8 @@ use Rattle.ent_form.specs.declared.catalogue.TableSchema.{TableSchema}
 use Rattle.ent_form.specs.declared.fault.FormFault.{FormFault}
 use Rattle.ent_form.specs.Kinds.{Bound}
 use Rattle.ent_form.specs.ScriptFaults.{bound_after, statement_faults, statements_faults}
-use Rattle.ent_round_trip.specs.Fits.{Each, StatementFits}
-use Rattle.ent_round_trip.proofs.KeptOperands.{word_stands, sign_stands, number_stands}
+use Rattle.ent_sql_laws.specs.Fits.{Each, StatementFits}
+use Rattle.ent_sql_laws.proofs.KeptOperands.{word_stands, sign_stands, number_stands}
 use Rattle.ent_script_reader.specs.Filling.{filling}
 use Rattle.ent_script_reader.proofs.Lines.{AreReadable, line_text}
 

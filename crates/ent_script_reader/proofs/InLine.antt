@@ -22,7 +22,7 @@ use Rattle.ent_text.specs.Spelling.{is_in_line}
 use Rattle.ent_print.specs.Lexeme.{Lexeme, Token, Negative, kind_text, lexeme_text, line_end, space, wants_before}
 use Rattle.ent_print.specs.Lexeme.{wants_behind, text_behind}
 use Rattle.ent_print.specs.Reading.{CanStand, CanBeRead}
-use Rattle.ent_round_trip.specs.Fits.{Each}
+use Rattle.ent_sql_laws.specs.Fits.{Each}
 
 -- the text is part of one line
 abbrev pub IsInLine : List ℕ → Type 0

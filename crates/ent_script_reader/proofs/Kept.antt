@@ -15,8 +15,8 @@ use Rattle.ent_tree.specs.Places.{unplaced_identifier, unplaced_specification, u
 use Rattle.ent_tree.specs.Places.{unplaced_source, unplaced_items, unplaced_select, unplaced_term, unplaced_item}
 use Rattle.ent_tree.specs.Places.{unplaced_condition, unplaced_entangled, unplaced_assignment, unplaced_statement}
 use Rattle.ent_tree.specs.Places.{unplaced_script}
-use Rattle.ent_round_trip.specs.Fits.{HasParts, Each, ItemsFit, SelectFits, ConditionFits, EntangledFits}
-use Rattle.ent_round_trip.specs.Fits.{StatementFits, ScriptFits}
+use Rattle.ent_sql_laws.specs.Fits.{HasParts, Each, ItemsFit, SelectFits, ConditionFits, EntangledFits}
+use Rattle.ent_sql_laws.specs.Fits.{StatementFits, ScriptFits}
 
 -- as many things
 parts_kept : {A : Type 0} (f : A → A) (xs : List A) (limit : ℕ) → HasParts xs limit → HasParts (map f xs) limit

@@ -15,8 +15,8 @@ use Rattle.ent_print.specs.Lexeme.{Lexeme, Token, lexeme_text, line_end, space, 
 use Rattle.ent_print.specs.Printing.{script_text}
 use Rattle.ent_print.specs.Reading.{CanBeRead}
 use Rattle.ent_print.specs.Spelling.{word, sign, statement_spelling, line_spelling, end_word}
-use Rattle.ent_round_trip.specs.Fits.{Each}
-use Rattle.ent_round_trip.proofs.Keeping.{each_append, each_front, each_back}
+use Rattle.ent_sql_laws.specs.Fits.{Each}
+use Rattle.ent_sql_laws.proofs.Keeping.{each_append, each_front, each_back}
 use Rattle.ent_book.specs.Report.{line}
 use Rattle.ent_book.specs.Report2.{line_count}
 use Rattle.ent_script_reader.proofs.InLine.{IsInLine, StaysInLine, in_line_append, text_in_line}

@@ -24,8 +24,8 @@ use Rattle.ent_print.specs.Spelling.{source_spelling, items_spelling, tests_clau
 use Rattle.ent_print.specs.Spelling.{binding_spelling, entangled_item_spelling, tuple_spelling, relation_spelling}
 use Rattle.ent_print.specs.Spelling.{condition_spelling, entangled_spelling, assignment_spelling, statement_spelling}
 use Rattle.ent_print.specs.Spelling.{in_parentheses}
-use Rattle.ent_round_trip.specs.Fits.{Each}
-use Rattle.ent_round_trip.proofs.Keeping.{each_append}
+use Rattle.ent_sql_laws.specs.Fits.{Each}
+use Rattle.ent_sql_laws.proofs.Keeping.{each_append}
 use Rattle.ent_script_reader.proofs.InLine.{StaysInLine}
 
 -- no line ends in what spells a thing

@@ -4,7 +4,7 @@ use Rattle.ent_tree.specs.declared.script.Script.{Script}
 use Rattle.ent_tree.specs.Places.{unplaced_script}
 use Rattle.ent_print.specs.Printing.{script_text}
 use Rattle.ent_print.specs.Reading.{IsReadable}
-use Rattle.ent_round_trip.specs.Fits.{ScriptFits}
+use Rattle.ent_sql_laws.specs.Fits.{ScriptFits}
 
 -- a script that its printed text says: without places, within the limits, its names, texts and numbers such as can
 -- stand in a text

@@ -4,8 +4,8 @@ ghost use Rattle.ent_script_reader.specs.Only.{IsOnlyOne};
 
 use crate::unplaced::Unplaced;
 use ent_print::places_do_not_show;
-use ent_round_trip::{printed_text_is_itself, read_scripts_can_be_printed};
 use ent_sql::parse_input;
+use ent_sql_laws::{printed_text_is_itself, read_scripts_can_be_printed};
 use ent_tree::Script;
 use ent_value::Refusal;
 use std::alloc::{AllocError, Global};

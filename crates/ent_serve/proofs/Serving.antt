@@ -1,6 +1,7 @@
 -- What a whole run gives, of sessions that hold the tickets that they were given.
 use Rattle.std.proofs.Common.{◌≡◌, ◌⊎◌, inl, inr, ℕ, zero, suc, ◌+◌, ◌<◌, List, [], ◌∷◌, ◌++◌, length, map, replicate}
-use Rattle.std.proofs.Common.{get_or, slice_get, refl, ap, sym, subst, ◌∙◌, arith, Option, Some, None, Result, Ok, Err, IfOk}
+use Rattle.std.proofs.Common.{get_or, slice_get, refl, ap, sym, subst, ◌∙◌, arith, Option, Some, None, Result, Ok, Err}
+use Rattle.std.proofs.Common.{IfOk}
 use Rattle.std.specs.Prelude.{Contains, IsPermutation}
 use Rattle.std.specs.List.{flat_map}
 use Rattle.std.proofs.lemmas.List.{length-map}
@@ -11,7 +12,7 @@ use Rattle.ent_semantics.specs.Database.{Database}
 use Rattle.ent_semantics.specs.declared.book.Book.{Book}
 use Rattle.ent_protocol.specs.Reached.{IsGatheredAt, scripts_of}
 use Rattle.ent_protocol.specs.State.{State, Submitted}
-use Rattle.ent_resolved.specs.Resolved.{resolved_forms}
+use Rattle.ent_headline.specs.Resolved.{resolved_forms}
 use Rattle.ent_desk.specs.declared.ticket.First.{First}
 use Rattle.ent_desk.specs.declared.ticket.Ticket.{Ticket}
 use Rattle.ent_desk.specs.Closed.{IsClosedBook, IsServed, all_tickets}

@@ -9,7 +9,7 @@ use Rattle.ent_semantics.specs.declared.answer.Answer.{Answer}
 use Rattle.ent_semantics.specs.declared.answer.Answer.TheVariants as answers
 use Rattle.ent_semantics.specs.declared.answer.Fact.{Fact}
 use Rattle.ent_book.specs.Report.{answer_text, facts_text, line}
-use Rattle.ent_section_lines.specs.Heads.{heads_at, heads_line}
+use Rattle.ent_report_lines.specs.Heads.{heads_at, heads_line}
 use Rattle.ent_history_form.specs.Parts.{IsNumber, IsValue}
 use Rattle.ent_history_form.specs.Answers.{HasSoMany, IsAnswer, answer_line_text}
 use Rattle.ent_script_reader.proofs.BreaksOff.{same_behind, same_line}

@@ -12,8 +12,8 @@ use Rattle.ent_line.proofs.Numbers.{read_of, is_first, is_rest, number_again}
 use Rattle.ent_line.proofs.Rows.{row_again}
 use Rattle.ent_line.proofs.Values.{value_again}
 use Rattle.ent_report_lines.proofs.Steps.{same_ok}
-use Rattle.ent_section_lines.specs.Names.{name_at}
-use Rattle.ent_section_lines.proofs.Names.{name_again}
+use Rattle.ent_report_lines.specs.Names.{name_at}
+use Rattle.ent_report_lines.proofs.Names.{name_again}
 use Rattle.ent_history_form.specs.Parts.{IsName, IsNumber, IsRow, IsValue}
 use Rattle.ent_script_reader.proofs.BreaksOff.{same_behind, same_line}
 use Rattle.ent_script_reader.proofs.InLine.{IsInLine}

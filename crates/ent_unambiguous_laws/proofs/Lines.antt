@@ -7,8 +7,8 @@ use Rattle.ent_tree.specs.declared.declaration.Create.{Create}
 use Rattle.ent_semantics.specs.declared.book.Fate.{Fate}
 use Rattle.ent_book.specs.Report.{fate_text}
 use Rattle.ent_report_lines.specs.Fates.{transaction_at, transaction_text}
-use Rattle.ent_section_lines.specs.Joints.{joint_at, joint_text, place_text}
-use Rattle.ent_section_lines.specs.Openings.{opening_at, opening_text}
+use Rattle.ent_report_lines.specs.Joints.{joint_at, joint_text, place_text}
+use Rattle.ent_report_lines.specs.Openings.{opening_at, opening_text}
 use Rattle.ent_history_form.specs.Parts.{IsNumber}
 use Rattle.ent_history_form.specs.Opening.{IsDeclaration}
 use Rattle.ent_history_form.specs.Answers.{IsFate}

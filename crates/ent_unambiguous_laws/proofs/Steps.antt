@@ -17,8 +17,8 @@ use Rattle.ent_book.specs.Report2.{bindings_text, numbered_script_text}
 use Rattle.ent_history.specs.Text.{told_member_text}
 use Rattle.ent_history.specs.Told.{opening_row}
 use Rattle.ent_report_lines.specs.Fates.{transaction_text}
-use Rattle.ent_section_lines.specs.Joints.{joint_text}
-use Rattle.ent_section_lines.specs.Openings.{opening_text}
+use Rattle.ent_report_lines.specs.Joints.{joint_text}
+use Rattle.ent_report_lines.specs.Openings.{opening_text}
 use Rattle.ent_history_form.specs.Parts.{IsNumber, IsRow, IsValue}
 use Rattle.ent_history_form.specs.Draft.{AnswerRows, Draft, Due, Free, Members, OpeningRows, TableRows, members_due}
 use Rattle.ent_history_form.specs.Draft.{on_last, rows_due}

@@ -7,11 +7,11 @@ ghost use Rattle.ent_history.specs.declared.history.History.{History};
 ghost use Rattle.ent_history_form.specs.Fault.{HasFormFault, IsNoReport};
 ghost use Rattle.ent_history_form.specs.Stands.{Tells};
 
-use ent_report_lines::transactions_are_read_as_written;
-use ent_round_trip::printed_text_is_itself;
-use ent_section_lines::{
+use ent_report_lines::{
     heads_are_read_as_written, joints_are_read_as_written, openings_are_read_as_written,
+    transactions_are_read_as_written,
 };
+use ent_sql_laws::printed_text_is_itself;
 
 /// A text tells of one history only.
 pub fn texts_tell_of_one_history()

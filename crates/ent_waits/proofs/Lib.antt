@@ -4,3 +4,8 @@ pub mod Moving
 pub mod Waiters
 pub mod Stuck
 pub mod Marked
+pub mod Smallest
+pub mod Outs
+pub mod Posting
+pub mod WouldMove
+pub mod Reasons

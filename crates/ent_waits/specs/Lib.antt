@@ -2,3 +2,8 @@ pub mod Waits
 pub mod Rows
 pub mod Motion
 pub mod Victim
+pub mod Least
+pub mod Jobs
+pub mod Movers
+pub mod Quiet
+pub mod Deadlock

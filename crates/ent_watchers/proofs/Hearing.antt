@@ -2,9 +2,9 @@
 use Rattle.std.proofs.Common.{◌≡◌, ℕ, suc, List, [], ◌∷◌, refl, sym, ap, subst}
 use Rattle.std.specs.Prelude.{Option}
 use Rattle.ent_core.specs.Reply.{numbered_from}
-use Rattle.ent_notes.specs.News.{IsHeard, entered, news, parties}
-use Rattle.ent_notes.specs.Noted.{IsNoted, Noted}
-use Rattle.ent_notes.specs.declared.note.Change.{Change}
+use Rattle.ent_reasons.specs.News.{IsHeard, entered, news, parties}
+use Rattle.ent_reasons.specs.Noted.{IsNoted, Noted}
+use Rattle.ent_reasons.specs.declared.note.Change.{Change}
 use Rattle.ent_protocol.specs.Event.{Event, Reply}
 use Rattle.ent_watchers.specs.Marking.{AreHeld}
 

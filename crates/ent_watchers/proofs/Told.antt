@@ -1,9 +1,9 @@
 -- What was told, one after the other, makes the notes.
 use Rattle.std.proofs.Common.{◌≡◌, ℕ, true, List, [], ◌∷◌, refl, sym, ap, ◌∙◌, arith}
-use Rattle.ent_notes.specs.declared.note.Note.{Note}
+use Rattle.ent_reasons.specs.declared.note.Note.{Note}
 use Rattle.std.proofs.lemmas.List.{get_or_past}
-use Rattle.ent_notes.specs.News.{noted, noted_from}
-use Rattle.ent_notes.specs.Noted.{no_run, note_of}
+use Rattle.ent_reasons.specs.News.{noted, noted_from}
+use Rattle.ent_reasons.specs.Noted.{no_run, note_of}
 use Rattle.ent_sched.specs.Watching.{Exchange, HearsAll}
 use Rattle.ent_watchers.specs.Hearing.{Hears}
 use Rattle.ent_watchers.specs.declared.note_taker.NoteTaker.{NoteTaker}

@@ -1,5 +1,5 @@
 -- What a taker of notes hears.
-use Rattle.ent_notes.specs.News.{IsHeard}
+use Rattle.ent_reasons.specs.News.{IsHeard}
 use Rattle.ent_sched.specs.Watching.{Exchange}
 use Rattle.ent_watchers.specs.declared.note_taker.NoteTaker.{NoteTaker}
 

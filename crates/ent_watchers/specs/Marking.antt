@@ -1,7 +1,7 @@
 -- What is kept of a result while it is handed in.
 use Rattle.std.specs.Prelude.{◌≡◌, ◌<◌, ℕ, List, Option, length, MatchOption}
 use Rattle.ent_group.specs.declared.members.TheConstants.{MOST_MEMBERS}
-use Rattle.ent_notes.specs.News.{workers}
+use Rattle.ent_reasons.specs.News.{workers}
 use Rattle.ent_protocol.specs.Job.{Done}
 
 -- these transactions; none where they are more than a list of members holds

@@ -1,7 +1,7 @@
 //! Laws of takers of notes. Nothing here does anything; what holds is in the contracts.
 ghost use Rattle.std.specs.Prelude.{◌≡◌, ℕ, List, [], true};
-ghost use Rattle.ent_notes.specs.News.{noted, noted_from};
-ghost use Rattle.ent_notes.specs.Noted.{note_of};
+ghost use Rattle.ent_reasons.specs.News.{noted, noted_from};
+ghost use Rattle.ent_reasons.specs.Noted.{note_of};
 ghost use Rattle.ent_sched.specs.Watching.{Exchange, HearsAll};
 ghost use Rattle.ent_watchers.specs.Hearing.{Hears};
 ghost use Rattle.ent_watchers.specs.declared.note_taker.NoteTaker.{NoteTaker};

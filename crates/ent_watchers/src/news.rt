@@ -1,14 +1,14 @@
 //! What a reply tells, and of whom.
 ghost use Rattle.std.specs.Prelude.{◌≡◌, ◌+◌};
 ghost use Rattle.ent_core.specs.Reply.{reply_seen};
-ghost use Rattle.ent_notes.specs.declared.hindrance.Hindrance.TheVariants.{HeldBack};
-ghost use Rattle.ent_notes.specs.declared.note.Change.TheVariants.{Passes, Stands};
-ghost use Rattle.ent_notes.specs.News.{first_party, news};
+ghost use Rattle.ent_reasons.specs.declared.hindrance.Hindrance.TheVariants.{HeldBack};
+ghost use Rattle.ent_reasons.specs.declared.note.Change.TheVariants.{Passes, Stands};
+ghost use Rattle.ent_reasons.specs.News.{first_party, news};
 
 use ent_core::Reply;
 use ent_group::{Members, Tx};
 use ent_match::Unsafe;
-use ent_notes::{Change, Hindrance};
+use ent_reasons::{Change, Hindrance};
 
 /// What is told of some transactions.
 #[derive(Drop)]

@@ -2,7 +2,7 @@
 ghost use Rattle.std.specs.Prelude.{◌≡◌, [], map, true};
 ghost use Rattle.ent_job.specs.Work.{work_seen};
 ghost use Rattle.ent_core.specs.Reply.{reply_seen};
-ghost use Rattle.ent_notes.specs.News.{IsHeard, parties, workers};
+ghost use Rattle.ent_reasons.specs.News.{IsHeard, parties, workers};
 ghost use Rattle.ent_protocol.specs.Event.{Event};
 ghost use Rattle.ent_sched.specs.Watching.{TellsOf};
 ghost use Rattle.ent_watchers.specs.Marking.{AreHeld, Marks};
@@ -12,7 +12,7 @@ use ent_core::Reply;
 use ent_eval::{Done, Work};
 use ent_group::Members;
 use ent_match::Posted;
-use ent_notes::Notes;
+use ent_reasons::Notes;
 use ent_sched::{Told, Watcher};
 use std::alloc::Global;
 

@@ -1,7 +1,7 @@
 use Rattle.std.proofs.Common.{None, map, take}
 use Rattle.std.specs.Arc.{arc_value}
 use Rattle.ent_check.specs.Order.{accounts_at}
-use Rattle.ent_meant.specs.Tables.{database_of}
+use Rattle.ent_form_laws.specs.Tables.{database_of}
 use Rattle.ent_rules.specs.Account.{accounts_from}
 use Rattle.ent_select.specs.Tables.{rows_in}
 use Rattle.ent_check_run.specs.Alone.{AreReplayed, StandAsDeclared}

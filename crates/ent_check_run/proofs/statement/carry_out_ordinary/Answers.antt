@@ -8,7 +8,7 @@ use Rattle.ent_eval.specs.Change.{IsApplicable}
 use Rattle.ent_eval.specs.Meant.{changed_table, set_variable}
 use Rattle.ent_eval.specs.declared.outcome.Outcome.TheVariants as outcomes
 use Rattle.ent_rel.specs.Change.{changed_rows}
-use Rattle.ent_replay.specs.Places.{no_table}
+use Rattle.ent_check.specs.Places.{no_table}
 use Rattle.ent_select.specs.Tables.{rows_in}
 use Rattle.ent_semantics.specs.Database.{with_value}
 use Rattle.ent_semantics.specs.declared.answer.Answer.TheVariants as answers

@@ -9,7 +9,7 @@ use Rattle.ent_closing.specs.Environment.{environment_of}
 use Rattle.ent_form.specs.Catalogue.{schemas_of}
 use Rattle.ent_form.specs.Form.{script_in}
 use Rattle.ent_form.specs.Kinds.{none_bound}
-use Rattle.ent_meant.specs.Tables.{database_of}
+use Rattle.ent_form_laws.specs.Tables.{database_of}
 use Rattle.ent_select.specs.Tables.{rows_in}
 use Rattle.ent_semantics.specs.declared.answer.Answer.{Answer}
 use Rattle.ent_check_run.proofs.Along.{Midway, Resolves, midway_begun, resolved_so}

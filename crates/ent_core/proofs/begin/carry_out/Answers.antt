@@ -1,6 +1,6 @@
 use Rattle.std.proofs.Common.{subst}
 use Rattle.ent_protocol.specs.Member.{Commits}
-use Rattle.ent_resolved.specs.Resolved.{resolved_forms}
+use Rattle.ent_headline.specs.Resolved.{resolved_forms}
 use Rattle.ent_core.specs.Begin.{Follows}
 use Rattle.ent_core.specs.declared.begin.Plan.{Plan}
 use Rattle.ent_core.proofs.Begun.{begun_commits, begun_rolls_back, idle_at_turn, plans_no_job, plans_no_post}

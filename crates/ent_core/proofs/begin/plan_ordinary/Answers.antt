@@ -6,7 +6,7 @@ use Rattle.ent_job.specs.Work.{IsOne}
 use Rattle.ent_tree.specs.declared.declaration.Create.{Create}
 use Rattle.ent_protocol.specs.Job.{Seen, Single, One}
 use Rattle.ent_protocol.specs.Member.{Ordinary, seen_now}
-use Rattle.ent_resolved.specs.Resolved.{resolved_forms}
+use Rattle.ent_headline.specs.Resolved.{resolved_forms}
 use Rattle.ent_protocol.specs.State.{State, Use}
 use Rattle.ent_protocol.specs.Uses.{statement_uses}
 use Rattle.ent_protocol.specs.Waits.{next_uses}

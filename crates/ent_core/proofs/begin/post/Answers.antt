@@ -10,8 +10,8 @@ use Rattle.ent_protocol.specs.Event as replies
 use Rattle.ent_protocol.specs.Member.{pool}
 use Rattle.ent_protocol.specs.State.{State}
 use Rattle.ent_protocol.specs.Uses.{entangled_uses}
-use Rattle.ent_resolved.specs.Resolved.{resolved_forms}
-use Rattle.ent_standing.specs.ByNumber.{StandByNumber}
+use Rattle.ent_headline.specs.Resolved.{resolved_forms}
+use Rattle.ent_protocol_laws.specs.ByNumber.{StandByNumber}
 use Rattle.ent_core.specs.Begin.{IsToPost}
 use Rattle.ent_core.specs.Reply.{reply_seen}
 use Rattle.ent_core.specs.Store.{IsKept}

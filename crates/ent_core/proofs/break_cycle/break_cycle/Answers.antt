@@ -3,9 +3,9 @@ use Rattle.std.specs.List.{AllByRecursion}
 use Rattle.ent_form.specs.declared.fault.FormFault.{FormFault}
 use Rattle.ent_protocol.specs.State.{State}
 use Rattle.ent_protocol.specs.Waits.{NoDeadlock}
-use Rattle.ent_resolved.specs.Resolved.{resolved_forms}
-use Rattle.ent_standing.specs.Attempts.{AsksForRun}
-use Rattle.ent_quiet.specs.Deadlock.{IsVictim, state_with}
+use Rattle.ent_headline.specs.Resolved.{resolved_forms}
+use Rattle.ent_protocol_laws.specs.Attempts.{AsksForRun}
+use Rattle.ent_waits.specs.Deadlock.{IsVictim, state_with}
 use Rattle.ent_core.specs.contracts.store.Store.{the_view}
 use Rattle.ent_core.proofs.Breaking.{broken}
 use Rattle.ent_core.proofs.break_cycle.break_cycle.Goals as goal

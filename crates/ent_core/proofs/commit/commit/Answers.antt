@@ -11,7 +11,7 @@ use Rattle.ent_protocol.specs.Member.{active_member}
 use Rattle.ent_protocol.specs.State.{State, Member, members}
 use Rattle.ent_roster.specs.Roster.{Roster}
 use Rattle.ent_semantics.specs.declared.book.Entry.{Entry}
-use Rattle.ent_standing.specs.Attempts.{MayTakePart, StayWithin}
+use Rattle.ent_protocol_laws.specs.Attempts.{MayTakePart, StayWithin}
 use Rattle.ent_tables.specs.Stored.{Stored}
 use Rattle.ent_core.specs.Reply.{numbered_from}
 use Rattle.ent_core.specs.contracts.store.Store.{the_view}

@@ -1,10 +1,10 @@
 use Rattle.std.proofs.Common.{◌≡◌, true, Option, sym, ap, subst, ◌∙◌}
 use Rattle.std.specs.List.{AllByRecursion}
 use Rattle.ent_protocol.specs.State.{State}
-use Rattle.ent_quiet.specs.Quiet.{IsReasonIfAny}
-use Rattle.ent_quiet.specs.declared.reason.Reason.{Reason}
-use Rattle.ent_resolved.specs.Resolved.{resolved_forms}
-use Rattle.ent_standing.specs.Attempts.{AsksForRun}
+use Rattle.ent_waits.specs.Quiet.{IsReasonIfAny}
+use Rattle.ent_waits.specs.declared.reason.Reason.{Reason}
+use Rattle.ent_headline.specs.Resolved.{resolved_forms}
+use Rattle.ent_protocol_laws.specs.Attempts.{AsksForRun}
 use Rattle.ent_core.proofs.Ending.{has_ended, kept_busy}
 use Rattle.ent_core.proofs.end_run.end_run.Goals as goal
 

@@ -1,7 +1,7 @@
 use Rattle.std.proofs.Common.{◌≡◌, sym, ap, subst, ◌∙◌}
 use Rattle.ent_protocol.specs.State.{State}
-use Rattle.ent_quiet.specs.Quiet.{IsReasonIfAny, state_of}
-use Rattle.ent_resolved.specs.Resolved.{resolved_forms}
+use Rattle.ent_waits.specs.Quiet.{IsReasonIfAny, state_of}
+use Rattle.ent_headline.specs.Resolved.{resolved_forms}
 use Rattle.ent_core.specs.contracts.store.Store.{the_view}
 use Rattle.ent_core.proofs.end_run.reason_now.Goals as goal
 

@@ -5,7 +5,7 @@ use Rattle.ent_eval.specs.Result.{CanBeMade, alone_seen, outcome_seen}
 use Rattle.ent_eval.specs.declared.outcome.JobOutcome.{JobOutcome}
 use Rattle.ent_job.specs.declared.work.Work.{Work}
 use Rattle.ent_protocol.specs.Job.{Job, One, Outcome}
-use Rattle.ent_resolved.specs.Resolved.{resolved_forms}
+use Rattle.ent_headline.specs.Resolved.{resolved_forms}
 use Rattle.ent_core.specs.Finish.{StandsAt}
 use Rattle.ent_core.proofs.Finishing.{accepted, out_change, out_idle, out_member}
 use Rattle.ent_core.proofs.finish.accept.Goals as goal

@@ -6,9 +6,9 @@ use Rattle.ent_protocol.specs.Finish.{FinishesBy, IsTaken}
 use Rattle.ent_protocol.specs.Job.{Fault, Job}
 use Rattle.ent_protocol.specs.Member.{active_member}
 use Rattle.ent_protocol.specs.State.{Member, State, members}
-use Rattle.ent_resolved.specs.Resolved.{resolved_forms}
-use Rattle.ent_standing.specs.Attempts.{AsksForRun, StayWithin}
-use Rattle.ent_standing.specs.Standing.{StandOnce}
+use Rattle.ent_headline.specs.Resolved.{resolved_forms}
+use Rattle.ent_protocol_laws.specs.Attempts.{AsksForRun, StayWithin}
+use Rattle.ent_protocol_laws.specs.Standing.{StandOnce}
 use Rattle.ent_core.specs.contracts.store.Store.{the_view}
 use Rattle.ent_core.proofs.Begun.{number_found, one_member}
 use Rattle.ent_core.proofs.Finishing.{failed}

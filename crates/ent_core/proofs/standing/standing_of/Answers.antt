@@ -2,8 +2,8 @@ use Rattle.std.proofs.Common.{◌∙◌, ap, subst, sym, Some}
 use Rattle.ent_protocol.specs.Lookup.{Standing, active_standing, standing}
 use Rattle.ent_protocol.specs.Lookup as lookups
 use Rattle.ent_protocol.specs.State.{State}
-use Rattle.ent_resolved.specs.Resolved.{resolved_forms}
-use Rattle.ent_standing.specs.Standing.{StandOnce}
+use Rattle.ent_headline.specs.Resolved.{resolved_forms}
+use Rattle.ent_protocol_laws.specs.Standing.{StandOnce}
 use Rattle.ent_core.specs.contracts.store.Store.{the_view}
 use Rattle.ent_core.proofs.Whereabouts.{stands_active, stands_dormant, stands_nowhere, stands_prepared}
 use Rattle.ent_core.proofs.standing.standing_of.Goals as goal

@@ -1,7 +1,7 @@
 use Rattle.std.proofs.Common.{◌∙◌, ap, subst, sym, arith, List, ◌++◌, ◌∷◌, []}
 use Rattle.ent_protocol.specs.State.{Submitted}
-use Rattle.ent_resolved.specs.Resolved.{resolved_forms}
-use Rattle.ent_standing.specs.Standing.{StandOnce}
+use Rattle.ent_headline.specs.Resolved.{resolved_forms}
+use Rattle.ent_protocol_laws.specs.Standing.{StandOnce}
 use Rattle.ent_core.specs.contracts.store.Store.{the_view}
 use Rattle.ent_core.proofs.Arrivals.{active_arrived, kept_submitted}
 use Rattle.ent_core.proofs.Pooled.{kept_more}

@@ -9,7 +9,7 @@ use Rattle.ent_members.specs.Leavers.{leaver_of}
 use Rattle.ent_protocol.specs.Member.{is_of}
 use Rattle.ent_protocol.specs.Rollback.{group_members}
 use Rattle.ent_protocol.specs.State.{State, members}
-use Rattle.ent_standing.specs.Attempts.{MayTakePart}
+use Rattle.ent_protocol_laws.specs.Attempts.{MayTakePart}
 use Rattle.ent_core.proofs.take_out.roll_back.Goals as goal
 
 pub take_out-requires-clause-room : goal.take_out-requires-clause-room

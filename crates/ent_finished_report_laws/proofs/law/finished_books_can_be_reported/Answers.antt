@@ -1,5 +1,5 @@
 use Rattle.ent_finished_report_laws.proofs.Finished.{Laws, finished_can_be_reported}
-use Rattle.ent_resolved.specs.Resolved.{resolved_forms}
+use Rattle.ent_headline.specs.Resolved.{resolved_forms}
 use Rattle.ent_finished_report_laws.proofs.law.finished_books_can_be_reported.Goals as goal
 
 pub returns : goal.returns

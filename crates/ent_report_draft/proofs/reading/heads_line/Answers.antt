@@ -1,5 +1,5 @@
 use Rattle.std.proofs.Common.{◌∙◌, ap}
-use Rattle.ent_section_lines.specs.Heads.{heads_at}
+use Rattle.ent_report_lines.specs.Heads.{heads_at}
 use Rattle.ent_report_draft.specs.Reading.{IsHeadsLine}
 use Rattle.ent_report_draft.proofs.LinesRead.{from_facts, reads, to_facts}
 use Rattle.ent_report_draft.proofs.reading.heads_line.Goals as goal

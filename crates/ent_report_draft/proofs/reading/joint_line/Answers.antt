@@ -1,5 +1,5 @@
 use Rattle.std.proofs.Common.{◌∙◌, ap}
-use Rattle.ent_section_lines.specs.Joints.{joint_at}
+use Rattle.ent_report_lines.specs.Joints.{joint_at}
 use Rattle.ent_report_draft.specs.Reading.{IsJointLine}
 use Rattle.ent_report_draft.proofs.LinesRead.{from_rise, reads, to_rise}
 use Rattle.ent_report_draft.proofs.reading.joint_line.Goals as goal

@@ -1,5 +1,5 @@
 use Rattle.std.proofs.Common.{◌∙◌, ap}
-use Rattle.ent_section_lines.specs.Openings.{opening_at}
+use Rattle.ent_report_lines.specs.Openings.{opening_at}
 use Rattle.ent_report_draft.specs.Reading.{IsOpeningLine}
 use Rattle.ent_report_draft.proofs.LinesRead.{from_declaration, reads, to_declaration}
 use Rattle.ent_report_draft.proofs.reading.opening_line.Goals as goal

@@ -1,11 +1,11 @@
 use Rattle.std.proofs.Common.{◌≡◌, ◌<◌, ap, false, subst, sym, rules}
 use Rattle.ent_book.specs.Tables.{book_seen}
 use Rattle.ent_core.specs.Reply.{reply_seen}
-use Rattle.ent_endings.specs.Tries.{tries_left}
+use Rattle.ent_termination.specs.Tries.{tries_left}
 use Rattle.ent_protocol.specs.Event.{Recall}
 use Rattle.ent_protocol.specs.Reached.{CanClose, IsFinished}
 use Rattle.ent_protocol.specs.State.{State}
-use Rattle.ent_resolved.specs.Resolved.{resolved_forms}
+use Rattle.ent_headline.specs.Resolved.{resolved_forms}
 use Rattle.ent_sched.specs.Bounds.{events_of_run}
 use Rattle.ent_sched.specs.Onward.{TicksOn}
 use Rattle.ent_sched.specs.Tally.{Tally}

@@ -1,10 +1,10 @@
 use Rattle.std.proofs.Common.{◌≡◌, false, true, subst, ap, refl, ◌∙◌, arith}
-use Rattle.ent_bounds.specs.Progress.{brings_work}
+use Rattle.ent_termination.specs.Progress.{brings_work}
 use Rattle.ent_core.specs.Reply.{reply_seen}
 use Rattle.ent_protocol.specs.Event.{Pick}
 use Rattle.ent_protocol.specs.State.{State}
 use Rattle.ent_protocol.specs.Step.{Step}
-use Rattle.ent_resolved.specs.Resolved.{resolved_forms}
+use Rattle.ent_headline.specs.Resolved.{resolved_forms}
 use Rattle.ent_sched.proofs.Moving.{nothing_picked}
 use Rattle.ent_sched.proofs.NoneLent.{lends_none}
 use Rattle.ent_sched.proofs.Watched.{one_watched, watched_on}

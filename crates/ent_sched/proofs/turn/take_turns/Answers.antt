@@ -1,8 +1,8 @@
 use Rattle.std.proofs.Common.{◌≡◌, ◌≤◌, ◌+◌, ◌*◌, false, true, inl, inr, length, get_or, sym, subst, ap, ◌∙◌, arith}
-use Rattle.ent_endings.specs.Idle.{IsHeldUp}
+use Rattle.ent_termination.specs.Idle.{IsHeldUp}
 use Rattle.ent_protocol.specs.Lookup.{running_members}
 use Rattle.ent_protocol.specs.State.{State}
-use Rattle.ent_resolved.specs.Resolved.{resolved_forms}
+use Rattle.ent_headline.specs.Resolved.{resolved_forms}
 use Rattle.ent_sched.proofs.Moving.{one_moved}
 use Rattle.ent_sched.proofs.Turning.{all_taken}
 use Rattle.ent_sched.proofs.Watched.{watched_on}

@@ -1,7 +1,7 @@
 use Rattle.std.proofs.Common.{refl, ap, ◌∙◌, arith}
 use Rattle.ent_protocol.specs.Event.{Begin, Blocked}
 use Rattle.ent_protocol.specs.State.{State}
-use Rattle.ent_resolved.specs.Resolved.{resolved_forms}
+use Rattle.ent_headline.specs.Resolved.{resolved_forms}
 use Rattle.ent_sched.proofs.Watched.{one_watched}
 use Rattle.ent_sched.proofs.turn.turn.Goals as goal
 

@@ -4,7 +4,7 @@ use Rattle.ent_semantics.specs.Database.{Database}
 use Rattle.ent_semantics.specs.Book.{IsLegal}
 use Rattle.ent_protocol.specs.Reached.{CanClose, book_of}
 use Rattle.ent_book.specs.Tables.{book_seen}
-use Rattle.ent_resolved.specs.Resolved.{resolved_forms}
+use Rattle.ent_headline.specs.Resolved.{resolved_forms}
 use Rattle.ent_protocol.specs.State.{State}
 use Rattle.ent_core.specs.Kept.{IsKeptState}
 use Rattle.ent_core.proofs.Booked.{book_settled}

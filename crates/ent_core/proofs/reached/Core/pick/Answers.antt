@@ -3,7 +3,7 @@ use Rattle.std.specs.Prelude.{IfOk}
 use Rattle.ent_protocol.specs.Event.{Pick}
 use Rattle.ent_protocol.specs.State.{State}
 use Rattle.ent_protocol.specs.Step.{Step}
-use Rattle.ent_resolved.specs.Resolved.{resolved_forms}
+use Rattle.ent_headline.specs.Resolved.{resolved_forms}
 use Rattle.ent_core.specs.Reply.{reply_seen}
 use Rattle.ent_core.proofs.Keeping.{kept_after}
 use Rattle.ent_core.proofs.reached.Core.pick.Goals as goal

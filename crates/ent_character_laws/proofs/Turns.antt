@@ -1,0 +1,192 @@
+-- What scripts that run one after the other see, leave and answer has the property.
+use Rattle.std.proofs.Common.{◌≡◌, ℤ, List, [], ◌∷◌, refl, sym, subst, inl, inr, Option, Some, None}
+use Rattle.std.specs.List.{AllByRecursion, flat_map}
+use Rattle.std.specs.Option.{option_and_then, option_map}
+use Rattle.ent_value.specs.declared.value.Value.{Value}
+use Rattle.ent_value.specs.declared.value.Value.TheVariants.{Int}
+use Rattle.ent_tree.specs.declared.declaration.Create.{Create}
+use Rattle.ent_tree.specs.declared.script.End.{End}
+use Rattle.ent_tree.specs.declared.script.End.TheVariants.{Commit, Rollback}
+use Rattle.ent_tree.specs.declared.script.Script.{Script}
+use Rattle.ent_tree.specs.declared.script.Statement.{Statement}
+use Rattle.ent_print.specs.Spelling.{end_word, line_spelling, sign, statement_spelling, word}
+use Rattle.ent_text.specs.declared.symbol.Symbol.TheVariants as symbols
+use Rattle.ent_semantics.specs.Database.{Database, nothing_bound}
+use Rattle.ent_semantics.specs.Serial.{Deed, Run, Runs, Sight, Turn, deeds_of, ended, ran_first, run, script_run}
+use Rattle.ent_semantics.specs.Serial.{script_sights, scripts_run, scripts_sights, seen_from, sights}
+use Rattle.ent_form.specs.Catalogue.{schemas_of}
+use Rattle.ent_form.specs.Kinds.{none_bound}
+use Rattle.ent_form.specs.ScriptFaults.{script_faults}
+use Rattle.ent_rules.proofs.Deeds.{mapped_some, then_some}
+use Rattle.ent_lists.specs.Elements.{In, all_first, all_second, contains_in, in_contains, in_either, in_first}
+use Rattle.ent_lists.specs.Elements.{in_second}
+use Rattle.ent_answer_laws.proofs.Walking.{deeds_so}
+use Rattle.ent_character_laws.specs.Kept.{CanKeep, RunsKeep, SightsKeep}
+use Rattle.ent_character_laws.specs.Values.{AnswersValues, BindsValues, HoldsValues, IsWritten, ScriptWrites}
+use Rattle.ent_character_laws.specs.Values.{WritesValues}
+use Rattle.ent_character_laws.proofs.Grounding.{IsFaultless, all_faultless}
+use Rattle.ent_character_laws.proofs.Runs.{AllGrounded, AreSeen, IsLeft, IsReady, RunKeeps, run_keeps}
+
+ended_some : (end : End) (o : Option Run) (over : Run) → ended end o ≡ Some over → o ≡ Some over
+ended_some Commit o over e = e
+ended_some Rollback o over e = cc (e)
+
+one_runs : (x y : Runs) → Some x ≡ Some y → x ≡ y
+one_runs x y e = cc
+
+from_run : (o : Option Run) (more : Database → List Sight) (sight : Sight) → In sight (seen_from o more)
+    → (over : Run) × (o ≡ Some over) × In sight (more over.database)
+from_run (Some over) more sight at = (over, refl, at)
+from_run None more sight at = absurd at
+
+module _ (P : Value → Type 0) where
+  -- ---- scripts
+
+  lines_are_written : (all : List Statement) → AllByRecursion (IsWritten P) (flat_map line_spelling all)
+      → AllByRecursion (WritesValues P) all
+  lines_are_written [] writes = tt
+  lines_are_written (statement ∷ more) writes = (
+    all_first (IsWritten P) (statement_spelling statement) (sign symbols.Semicolon ∷ [])
+        (all_first (IsWritten P) (line_spelling statement) (flat_map line_spelling more) writes),
+    lines_are_written more (all_second (IsWritten P) (line_spelling statement) (flat_map line_spelling more) writes),
+  )
+
+  statements_are_written : (script : Script) → ScriptWrites P script
+      → AllByRecursion (WritesValues P) script.statements
+  statements_are_written script writes =
+      lines_are_written script.statements
+      (all_first (IsWritten P) (flat_map line_spelling script.statements)
+      (word (end_word script.end) ∷ sign symbols.Semicolon ∷ []) writes.1.1.1.1.1.1)
+
+  nothing_binds : BindsValues P nothing_bound
+  nothing_binds name value e = cc (e)
+
+  module _ (numbers : (number : ℤ) → P (Int number)) (declared : List Create) where
+    each_ready : (all : List Statement) → AllByRecursion (WritesValues P) all
+        → AllByRecursion (IsFaultless (schemas_of declared)) all
+        → AllByRecursion (IsReady P numbers declared) all
+    each_ready [] writes faultless = tt
+    each_ready (statement ∷ more) writes faultless =
+        ((writes.0, faultless.0), each_ready more writes.1 faultless.1)
+
+    -- ---- one turn
+
+    abbrev deeds_in : Turn → Option (List Deed)
+    deeds_in turn = deeds_of turn.script.statements turn.oracle
+
+    turn_sights : (turn : Turn) (database : Database) (deeds : List Deed) → deeds_in turn ≡ Some deeds
+        → script_sights declared turn database ≡ sights declared turn.tx 1 deeds database nothing_bound
+    turn_sights turn database deeds e = rw e refl
+
+    no_turn_sights : (turn : Turn) (database : Database) → deeds_in turn ≡ None
+        → script_sights declared turn database ≡ []
+    no_turn_sights turn database e = rw e refl
+
+    record TurnKeeps (turn : Turn) (database : Database) : Type 0 where
+      pub sees : AreSeen P numbers declared (script_sights declared turn database)
+      pub leaves : (over : Run) → script_run declared turn.script turn.oracle database ≡ Some over
+          → IsLeft P numbers declared over
+
+    turn_keeps : (turn : Turn) → script_faults (schemas_of declared) turn.script ≡ [] → ScriptWrites P turn.script
+        → (database : Database) → HoldsValues P database
+        → AllGrounded P numbers declared (script_sights declared turn database) → TurnKeeps turn database
+    turn_keeps turn resolved writes database holds grounded =
+        record { sees = sees_so (deeds_in turn) refl; leaves = leaves_so }
+      where
+        onward : (deeds : List Deed) → deeds_in turn ≡ Some deeds
+            → RunKeeps P numbers declared turn.tx 1 deeds database nothing_bound
+        onward deeds is =
+            let so = deeds_so turn.script.statements turn.oracle deeds is in
+            run_keeps P numbers declared turn.tx 1 deeds so.1
+            (subst (λ (all : List Statement). AllByRecursion (IsReady P numbers declared) all) (sym so.0)
+            (each_ready turn.script.statements (statements_are_written turn.script writes)
+            (all_faultless (schemas_of declared) none_bound turn.script.statements resolved)))
+            database holds nothing_bound nothing_binds
+            (λ sight at. grounded sight (subst (λ (all : List Sight). In sight all)
+            (sym (turn_sights turn database deeds is)) at))
+
+        sees_so : (o : Option (List Deed)) → deeds_in turn ≡ o
+            → AreSeen P numbers declared (script_sights declared turn database)
+        sees_so (Some deeds) is sight at =
+            (onward deeds is).sees sight
+            (subst (λ (all : List Sight). In sight all) (turn_sights turn database deeds is) at)
+        sees_so None is sight at =
+            absurd (subst (λ (all : List Sight). In sight all) (no_turn_sights turn database is) at)
+
+        leaves_so : (over : Run) → script_run declared turn.script turn.oracle database ≡ Some over
+            → IsLeft P numbers declared over
+        leaves_so over e =
+            let from = λ (deeds : List Deed). run declared deeds database nothing_bound in
+            let deeds = then_some from (deeds_in turn) over
+            (ended_some turn.script.end (option_and_then from (deeds_in turn)) over e) in
+            (onward deeds.0 deeds.1).leaves over deeds.2
+
+    -- ---- one turn after the other
+
+    record TurnsKeep (turns : List Turn) (database : Database) : Type 0 where
+      pub sees : AreSeen P numbers declared (scripts_sights declared turns database)
+      pub leaves : (over : Runs) → scripts_run declared turns database ≡ Some over
+          → HoldsValues P over.database × AllByRecursion (AllByRecursion (AnswersValues P)) over.answers
+
+    abbrev IsRunLeft : Runs → Type 0
+    IsRunLeft over = HoldsValues P over.database × AllByRecursion (AllByRecursion (AnswersValues P)) over.answers
+
+    turns_keep : (turns : List Turn)
+        → ((turn : Turn) → In turn turns → script_faults (schemas_of declared) turn.script ≡ [])
+        → ((turn : Turn) → In turn turns → ScriptWrites P turn.script) → (database : Database)
+        → HoldsValues P database → AllGrounded P numbers declared (scripts_sights declared turns database)
+        → TurnsKeep turns database
+    turns_keep [] resolved writes database holds grounded =
+        let still : Runs = record { database = database; answers = [] } in
+        record {
+          sees = λ sight nowhere. absurd nowhere;
+          leaves = λ over e. subst IsRunLeft (one_runs still over e) (holds, tt);
+        }
+    turns_keep (turn ∷ more) resolved writes database holds grounded =
+        let alone = script_run declared turn.script turn.oracle database in
+        let here = script_sights declared turn database in
+        let later = seen_from alone (scripts_sights declared more) in
+        let first = turn_keeps turn (resolved turn (inl refl)) (writes turn (inl refl)) database holds
+        (λ sight at. grounded sight (in_first here later sight at)) in
+        let behind : (over : Run) → alone ≡ Some over → TurnsKeep more over.database =
+        λ over is.
+        turns_keep more (λ other at. resolved other (inr at)) (λ other at. writes other (inr at)) over.database
+        (first.leaves over is).0
+        (λ sight at. grounded sight (in_second here later sight
+        (subst (λ (o : Option Run). In sight (seen_from o (scripts_sights declared more))) (sym is) at))) in
+        record {
+          sees = λ sight at. elim (in_either here later sight at) [
+            | inl now ↦ first.sees sight now
+            | inr then ↦
+                let over = from_run alone (scripts_sights declared more) sight then in
+                (behind over.0 over.1).sees sight over.2
+          ];
+          leaves = λ over e.
+              let r = then_some (λ (r : Run). option_map (ran_first r.answers) (scripts_run declared more r.database))
+              alone over e in
+              let m = mapped_some (ran_first r.0.answers) (scripts_run declared more r.0.database) over r.2 in
+              let rest = (behind r.0 r.1).leaves m.0 m.1 in
+              subst IsRunLeft (sym m.2) (rest.0, ((first.leaves r.0 r.1).1, rest.1));
+        }
+
+  -- ---- the laws
+
+  module _ (numbers : (number : ℤ) → P (Int number)) where
+    all_keep : (declared : List Create) (turns : List Turn) (database : Database) → CanKeep P declared turns
+        → HoldsValues P database
+        → AllGrounded P numbers declared (scripts_sights declared turns database)
+        → TurnsKeep numbers declared turns database
+    all_keep declared turns database can holds grounded =
+        turns_keep numbers declared turns (λ turn at. can.resolved turn (in_contains turns turn at))
+        (λ turn at. can.writes turn (in_contains turns turn at)) database holds grounded
+
+    pub runs_keep : RunsKeep P
+    runs_keep declared turns database runs can holds grounded e =
+        (all_keep declared turns database can holds
+        (λ sight at. grounded sight (in_contains (scripts_sights declared turns database) sight at))).leaves runs e
+
+    pub sights_keep : SightsKeep P
+    sights_keep declared turns database sight can holds grounded there =
+        (all_keep declared turns database can holds
+        (λ sight at. grounded sight (in_contains (scripts_sights declared turns database) sight at))).sees sight
+        (contains_in (scripts_sights declared turns database) sight there)

@@ -1,0 +1,10 @@
+use Rattle.std.proofs.Common.{map}
+use Rattle.std.specs.Arc.{arc_value}
+use Rattle.ent_form_laws.specs.Tables.{database_of}
+use Rattle.ent_select.specs.Tables.{rows_in}
+use Rattle.ent_check.proofs.Found.{ShownBehind}
+use Rattle.ent_check.proofs.table.tables_finding.Given as goal
+
+-- the tables so far are shown as they stand
+abbrev pub invariant-loop-index : goal.invariant-loop-index
+invariant-loop-index l = ShownBehind (database_of l.creates (rows_in (map arc_value l.tables))) l.shown l.index

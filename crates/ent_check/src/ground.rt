@@ -1,0 +1,138 @@
+//! Groundings, tested.
+ghost use Rattle.std.specs.Prelude.{◌≡◌, ◌<◌, IfOk, length, map, slice_index_or};
+ghost use Rattle.std.specs.Arc.{arc_value};
+ghost use Rattle.std.specs.List.{AllByRecursion, list_all};
+ghost use Rattle.ent_set.specs.Sets as set;
+ghost use Rattle.ent_closed.specs.Form.{is_form_grounding, membership_holds, term_worth};
+ghost use Rattle.ent_closed.specs.Kinds.{tables_named};
+ghost use Rattle.ent_closed.specs.declared.statement.Statement.TheVariants as statements;
+ghost use Rattle.ent_check.specs.Places.{no_table};
+ghost use Rattle.ent_select.specs.Tables.{rows_in};
+ghost use Rattle.ent_select.specs.Worth.{itself};
+ghost use Rattle.ent_semantics.specs.Selection.{holds};
+ghost use Rattle.ent_value.specs.Value.{row_cmp};
+
+use crate::term::{terms_row, test_holds};
+use ent_closed::{Entangled, Membership, Term};
+use ent_rel::Table;
+use ent_select::all;
+use ent_tree::Test;
+use ent_value::{Row, Value, rows_are_ordered};
+use std::alloc::{AllocError, Global};
+use std::sync::Arc;
+
+/// The table of a number, which is shared.
+pub(crate) fn table_at(tables: &[Arc<Table>], number: usize) -> Result<Arc<Table>, AllocError>
+    requires { number < length tables.now }
+    ensures { IfOk result (λ table. arc_value table ≡ slice_index_or (map arc_value tables.now) number no_table) }
+{
+    let table = tables[number].clone()?;
+    Ok(table)
+}
+
+/// The tables of these numbers, in order, shared.
+pub fn tables_of(
+    alloc: Global,
+    tables: &[Arc<Table>],
+    numbers: &[usize],
+) -> Result<Vec<Arc<Table>>, AllocError>
+    requires { AllByRecursion (λ number. number < length tables.now) numbers.now }
+    ensures { IfOk result (λ named. map arc_value named.items
+        ≡ map (λ number. slice_index_or (map arc_value tables.now) number no_table) numbers.now) }
+{
+    let mut named = Vec::with_capacity(alloc, numbers.len())?;
+    for number in numbers {
+        named.push(table_at(tables, *number)?)?;
+    }
+    Ok(named)
+}
+
+/// The tables of these numbers, shared, as the sources of a SELECT.
+fn sources_of(
+    alloc: Global,
+    tables: &[Arc<Table>],
+    numbers: &[usize],
+) -> Result<Vec<Arc<Table>>, AllocError>
+    requires { AllByRecursion (λ number. number < length tables.now) numbers.now }
+    ensures { IfOk result (λ sources. rows_in (map arc_value sources.items)
+        ≡ map (λ number. slice_index_or (rows_in (map arc_value tables.now)) number set.empty) numbers.now) }
+{
+    let sources = tables_of(alloc, tables, numbers)?;
+    Ok(sources)
+}
+
+/// Whether a row is one of a list.
+fn is_among(rows: &[Row], row: &Row) -> bool
+    ensures { (of : set.Set row_cmp) → rows.now ≡ set.ascending of → result ≡ set.contains of row.now }
+{
+    rows.contains(row)
+}
+
+/// Whether a tuple is a row of its sub-select's result.
+fn membership_holds(
+    alloc: Global,
+    tables: &[Arc<Table>],
+    grounding: &[Value],
+    membership: &Membership<Value>,
+) -> Result<bool, AllocError>
+    requires { AllByRecursion (λ number. number < length tables.now) membership.now.select.sources }
+    ensures { IfOk result (λ holds. holds
+        ≡ membership_holds itself (rows_in (map arc_value tables.now)) grounding.now membership.now) }
+{
+    let sources = sources_of(alloc, tables, membership.select.sources.as_slice())?;
+    let rows = all(alloc, &membership.select, sources.as_slice())?;
+    let row = terms_row(alloc, grounding, &membership.terms)?;
+    Ok(is_among(rows.as_slice(), &row))
+}
+
+/// Whether each tuple is a row of its sub-select's result.
+fn memberships_hold(
+    alloc: Global,
+    tables: &[Arc<Table>],
+    grounding: &[Value],
+    memberships: &[Membership<Value>],
+) -> Result<bool, AllocError>
+    requires { AllByRecursion
+        (λ membership. AllByRecursion (λ number. number < length tables.now) membership.select.sources)
+        memberships.now }
+    ensures { IfOk result (λ hold. hold
+        ≡ list_all (membership_holds itself (rows_in (map arc_value tables.now)) grounding.now) memberships.now) }
+{
+    for membership in memberships {
+        if !membership_holds(alloc, tables, grounding, membership)? {
+            return Ok(false);
+        }
+    }
+    Ok(true)
+}
+
+/// Whether each test between terms is true.
+fn tests_hold(grounding: &[Value], tests: &[Test<Term<Value>>]) -> bool
+    ensures { result ≡ list_all (holds (term_worth itself grounding.now)) tests.now }
+{
+    tests.iter().all(|test| test_holds(grounding, test))
+}
+
+/// Whether values are a grounding of a closed entangled statement over tables, in the order of their declaration: one
+/// for each written variable, under which each tuple is a row of its sub-select's result and each test is true. It is
+/// tested, and nothing is searched for.
+pub fn is_grounding(
+    alloc: Global,
+    statement: &Entangled<Value>,
+    tables: &[Arc<Table>],
+    grounding: &[Value],
+) -> Result<bool, AllocError>
+    requires { AllByRecursion
+        (λ membership. AllByRecursion (λ number. number < length tables.now) membership.select.sources)
+        statement.now.atoms }
+    ensures { IfOk result (λ is. is
+        ≡ is_form_grounding itself (rows_in (map arc_value tables.now)) statement.now grounding.now) }
+{
+    if grounding.len() != statement.variables.len() {
+        return Ok(false);
+    }
+    if !memberships_hold(alloc, tables, grounding, statement.atoms.as_slice())? {
+        return Ok(false);
+    }
+    Ok(tests_hold(grounding, statement.tests.as_slice()))
+}

@@ -1,5 +1,0 @@
-pub mod Input
-pub mod Lending
-pub mod Idle
-pub mod Tries
-pub mod Fates

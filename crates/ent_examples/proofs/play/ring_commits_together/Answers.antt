@@ -1,0 +1,6 @@
+use Rattle.std.proofs.Common.{refl}
+use Rattle.ent_examples.proofs.RingPlay.{last, played}
+use Rattle.ent_examples.proofs.play.ring_commits_together.Goals as goal
+
+pub returns : goal.returns
+returns g c resolved one two three = (last one two three, played one two three, refl, refl, refl)

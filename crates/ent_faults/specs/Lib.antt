@@ -1,4 +1,0 @@
-pub mod Standing
-pub mod EntangledStanding
-pub mod ScriptStanding
-pub mod Demanded

@@ -1,0 +1,264 @@
+-- The tables that statements use are declared.
+use Rattle.std.proofs.Common.{◌≡◌, ◌⊎◌, ◌<◌, ℕ, zero, suc, Bool, true, false, cond, List, [], ◌∷◌, ◌++◌, length, map}
+use Rattle.std.proofs.Common.{refl, sym, ap, subst, inl, inr, arith, nat_lt, All, Contains, Option, Some, None, Ok}
+use Rattle.std.specs.Prelude.{slice_index_or}
+use Rattle.std.specs.List.{AllByRecursion, flat_map, list_any}
+use Rattle.ent_value.specs.declared.value.Value.{Value}
+use Rattle.ent_tree.specs.declared.declaration.Create.{Create}
+use Rattle.ent_tree.specs.declared.script.End.{End}
+use Rattle.ent_tree.specs.declared.script.End.TheVariants.{Commit, Rollback}
+use Rattle.ent_tree.specs.declared.script.Statement.{Statement as TreeStatement}
+use Rattle.ent_semantics.specs.Database.{Environment}
+use Rattle.ent_semantics.specs.Serial.{numbered}
+use Rattle.ent_closed.specs.Closing.{closed}
+use Rattle.ent_closed.specs.Kinds.{tables_named}
+use Rattle.ent_closed.specs.declared.entangled.Membership.{Membership}
+use Rattle.ent_closed.specs.declared.operand.Known.{Known}
+use Rattle.ent_closed.specs.declared.statement.Statement.{Statement}
+use Rattle.ent_closed.specs.declared.statement.Statement.TheVariants as statements
+use Rattle.ent_form.specs.Catalogue.{schemas_of}
+use Rattle.ent_form.specs.Form.{statement_in, statements_from}
+use Rattle.ent_form.specs.Kinds.{Bound, none_bound}
+use Rattle.ent_form.specs.declared.catalogue.TableSchema.{TableSchema}
+use Rattle.ent_form.specs.declared.fault.FormFault.{FormFault}
+use Rattle.ent_form_laws.specs.Kinds.{AreDeclared}
+use Rattle.ent_coordination.specs.Pool.{Posted}
+use Rattle.ent_protocol.specs.Begin.{same_use, use_rank, with_uses}
+use Rattle.ent_protocol.specs.Finish.{table_of}
+use Rattle.ent_protocol.specs.Member.{Ordinary, posted_by, end_next, environment_of, next_in, next_of, pool}
+use Rattle.ent_protocol.specs.Member.{statement_next}
+use Rattle.ent_protocol.specs.PoolEvents.{IsPresentComponent, joint_uses}
+use Rattle.ent_protocol.specs.Reached.{IsReached}
+use Rattle.ent_protocol.specs.PostedBy.{in_pool, is_present}
+use Rattle.ent_protocol.specs.State.{State, Submitted, Member, Use, inserted}
+use Rattle.ent_protocol.specs.Uses.{entangled_uses, shared, statement_uses}
+use Rattle.ent_protocol.specs.Waits.{next_uses}
+use Rattle.ent_headline.specs.Resolved.{resolved_forms}
+use Rattle.ent_lists.specs.Elements.{In, contains_in, in_either, in_flat, of_all}
+use Rattle.ent_headline.proofs.Lists.{numbered_in}
+use Rattle.ent_headline.proofs.Places.{statements_given}
+use Rattle.ent_headline.proofs.Steps.{bound_given, one_answer}
+
+-- ---- lists
+
+nth_in : {X : Type 0} (xs : List X) (k : ℕ) (d : X) → k < length xs → In (slice_index_or xs k d) xs
+nth_in [] k d low = absurd (omega (arith, low))
+nth_in (x ∷ xs) zero d low = inl refl
+nth_in (x ∷ xs) (suc k) d low = inr (nth_in xs k d (omega (arith, low)))
+
+pub index_all : {X : Type 0} (P : X → Type 0) (xs : List X) → ((x : X) → In x xs → P x) → All P xs
+index_all P xs f = λ k d low. f (slice_index_or xs k d) (nth_in xs k d low)
+
+pub of_index : {X : Type 0} (P : X → Type 0) (xs : List X) (x : X) → All P xs → In x xs → P x
+of_index P [] x all at = absurd at
+of_index P (y ∷ ys) x all (inl same) = subst P (sym same) (all 0 x (omega arith))
+of_index P (y ∷ ys) x all (inr at) = of_index P ys x (λ k d low. all (suc k) d (omega (arith, low))) at
+
+from_inserted : (own : Use) (xs : List Use) (y : Use) → In y (inserted use_rank own xs) → (y ≡ own) ⊎ In y xs
+from_inserted own [] y (inl same) = inl same
+from_inserted own [] y (inr bad) = absurd bad
+from_inserted own (z ∷ xs) y at =
+    by (nat_lt (use_rank own) (use_rank z)) at (λ (h : In y (inserted use_rank own xs)). from_inserted own xs y h)
+  where
+    by : (b : Bool) → In y (cond b (own ∷ z ∷ xs) (z ∷ inserted use_rank own xs))
+        → (In y (inserted use_rank own xs) → (y ≡ own) ⊎ In y xs) → (y ≡ own) ⊎ In y (z ∷ xs)
+    by true (inl same) rest = inl same
+    by true (inr more) rest = inr more
+    by false (inl same) rest = inr (inl same)
+    by false (inr more) rest = elim (rest more) [ inl a ↦ inl a | inr b ↦ inr (inr b) ]
+
+-- a use that is held was held before or is asked for
+of_uses : (asked held : List Use) (y : Use) → In y (with_uses asked held) → In y asked ⊎ In y held
+of_uses [] held y at = inr at
+of_uses (own ∷ more) held y at =
+    by (list_any (same_use own) held) at (of_uses more held y)
+    (λ there. elim (of_uses more (inserted use_rank own held) y there) [
+      | inl a ↦ inl (inr a)
+      | inr b ↦ elim (from_inserted own held y b) [ inl same ↦ inl (inl same) | inr before ↦ inr before ]
+    ])
+  where
+    by : (b : Bool) → In y (with_uses more (cond b held (inserted use_rank own held)))
+        → (In y (with_uses more held) → In y more ⊎ In y held)
+        → (In y (with_uses more (inserted use_rank own held)) → In y (own ∷ more) ⊎ In y held)
+        → In y (own ∷ more) ⊎ In y held
+    by true at kept put = elim (kept at) [ inl a ↦ inl (inr a) | inr b ↦ inr b ]
+    by false at kept put = put at
+
+-- ---- statements
+
+abbrev pub BelowIn : List Create → Use → Type 0
+BelowIn creates own = own.table < length creates
+
+abbrev Below : ℕ → Use → Type 0
+Below n own = own.table < n
+
+shared_below : (n : ℕ) (sources : List ℕ) → AllByRecursion (λ number. number < n) sources
+    → AllByRecursion (Below n) (map shared sources)
+shared_below n [] all = tt
+shared_below n (source ∷ sources) all = (all.0, shared_below n sources all.1)
+
+all_joined : {X : Type 0} (P : X → Type 0) (xs ys : List X) → AllByRecursion P xs → AllByRecursion P ys
+    → AllByRecursion P (xs ++ ys)
+all_joined P [] ys h k = k
+all_joined P (x ∷ xs) ys h k = (h.0, all_joined P xs ys h.1 k)
+
+all_parted : {X : Type 0} (P : X → Type 0) (xs ys : List X) → AllByRecursion P (xs ++ ys)
+    → AllByRecursion P xs × AllByRecursion P ys
+all_parted P [] ys h = (tt, h)
+all_parted P (x ∷ xs) ys h = let rest = all_parted P xs ys h.1 in ((h.0, rest.0), rest.1)
+
+atoms_below : (n : ℕ) (atoms : List (Membership Value))
+    → AllByRecursion (λ number. number < n) (flat_map (λ atom. atom.select.sources) atoms)
+    → AllByRecursion (Below n)
+    (flat_map (λ (membership : Membership Value). map shared membership.select.sources) atoms)
+atoms_below n [] all = tt
+atoms_below n (atom ∷ atoms) all =
+    let parts = all_parted (λ (number : ℕ). number < n) atom.select.sources
+    (flat_map (λ (a : Membership Value). a.select.sources) atoms) all in
+    all_joined (Below n) (map shared atom.select.sources) _ (shared_below n atom.select.sources parts.0)
+    (atoms_below n atoms parts.1)
+
+uses_below : (n : ℕ) (statement : Statement Value)
+    → AllByRecursion (λ number. number < n) (tables_named statement)
+    → AllByRecursion (Below n) (statement_uses statement)
+uses_below n (statements.Select select) all = shared_below n select.sources all
+uses_below n (statements.Entangled entangled) all = atoms_below n entangled.atoms all
+uses_below n (statements.Insert table values) all = all
+uses_below n (statements.Delete table tests) all = all
+uses_below n (statements.Update table image tests) all = all
+uses_below n (statements.Set variable expression) all = tt
+
+next_below : (n : ℕ) (statement : Statement Value) → AllByRecursion (Below n) (statement_uses statement)
+    → AllByRecursion (Below n) (next_uses (statement_next statement))
+next_below n (statements.Select select) all = all
+next_below n (statements.Entangled entangled) all = all
+next_below n (statements.Insert table values) all = all
+next_below n (statements.Delete table tests) all = all
+next_below n (statements.Update table image tests) all = all
+next_below n (statements.Set variable expression) all = all
+
+changed_below : (n : ℕ) (statement : Statement Value) → AllByRecursion (Below n) (statement_uses statement)
+    → (table : ℕ) → In table (table_of statement) → table < n
+changed_below n (statements.Select select) all table at = absurd at
+changed_below n (statements.Entangled entangled) all table at = absurd at
+changed_below n (statements.Insert own values) all table (inl same) = subst (λ k. k < n) (sym same) all.0
+changed_below n (statements.Insert own values) all table (inr bad) = absurd bad
+changed_below n (statements.Delete own tests) all table (inl same) = subst (λ k. k < n) (sym same) all.0
+changed_below n (statements.Delete own tests) all table (inr bad) = absurd bad
+changed_below n (statements.Update own image tests) all table (inl same) = subst (λ k. k < n) (sym same) all.0
+changed_below n (statements.Update own image tests) all table (inr bad) = absurd bad
+changed_below n (statements.Set variable expression) all table at = absurd at
+
+-- ---- forms
+
+-- a form that is made is one of a statement
+record IsMade (schemas : List TableSchema) (form : Statement Known) : Type 0 where
+  bound : Bound
+  tree : TreeStatement
+  after : Bound
+  resolved : statement_in schemas bound tree ≡ Ok (form, after)
+
+each_made : (schemas : List TableSchema) (all : List TreeStatement) (bound : Bound)
+    (made out : List (Statement Known)) → statements_from schemas bound made all ≡ Ok out
+    → (form : Statement Known) → In form out → In form made ⊎ IsMade schemas form
+each_made schemas [] bound made out e form at =
+    inl (subst (In form) (sym (one_answer {E = FormFault} made out e)) at)
+each_made schemas (statement ∷ all) bound made out e form at =
+    let w = bound_given (statement_in schemas bound statement) _ out e in
+    elim (each_made schemas all w.0.1 (made ++ w.0.0 ∷ []) out w.2 form at) [
+      | inl a ↦ elim (in_either made (w.0.0 ∷ []) form a) [
+        | inl before ↦ inl before
+        | inr here ↦ elim here [
+          | inl same ↦
+              inr (subst (IsMade schemas) (sym same)
+              (record { bound = bound; tree = statement; after = w.0.1; resolved = w.1 }))
+          | inr bad ↦ absurd bad
+        ]
+      ]
+      | inr b ↦ inr b
+    ]
+
+-- what resolving promises
+pub record DeclaredLaws : Type 0 where
+  pub declared : (schemas : List TableSchema) (bound after : Bound) (statement : TreeStatement)
+      (form : Statement Known) → statement_in schemas bound statement ≡ Ok (form, after)
+      → AreDeclared schemas (tables_named form)
+  pub closes : (form : Statement Known) (environment : Environment)
+      → tables_named (closed environment form) ≡ tables_named form
+
+same_length : {X Y : Type 0} (f : X → Y) (xs : List X) → length (map f xs) ≡ length xs
+same_length f [] = refl
+same_length f (x ∷ xs) = ap suc (same_length f xs)
+
+form_below : DeclaredLaws → (s : State) → IsReached resolved_forms s → (own : Submitted) → In own s.submitted
+    → (form : Statement Known) → In form own.form → (environment : Environment)
+    → AllByRecursion (Below (length s.opening.tables)) (statement_uses (closed environment form))
+form_below laws s reached own there form at environment =
+    let creates = s.opening.tables in
+    let schemas = schemas_of creates in
+    elim (each_made schemas own.script.statements none_bound [] own.form (statements_given s reached own there) form
+    at) [
+      | inl bad ↦ absurd bad
+      | inr made ↦
+          let declared = laws.declared schemas made.bound made.after made.tree form made.resolved in
+          uses_below (length creates) (closed environment form)
+          (subst (λ (n : ℕ). AllByRecursion (λ number. number < n) (tables_named (closed environment form)))
+          (same_length _ creates)
+          (subst (AllByRecursion (λ number. number < length schemas)) (sym (laws.closes form environment)) declared))
+    ]
+
+-- ---- next statements
+
+end_uses : (end : End) → next_uses (end_next end) ≡ []
+end_uses Commit = refl
+end_uses Rollback = refl
+
+next_used : DeclaredLaws → (s : State) → IsReached resolved_forms s → (m : Member)
+    → AllByRecursion (Below (length s.opening.tables)) (next_uses (next_of s m))
+next_used laws s reached m = by (numbered s.submitted m.tx) refl
+  where
+    n : ℕ
+    n = length s.opening.tables
+
+    by : (found : Option Submitted) → numbered s.submitted m.tx ≡ found
+        → AllByRecursion (Below n) (next_uses (next_in found m))
+    by None none = tt
+    by (Some own) there = at (numbered own.form m.place) refl
+      where
+        at : (statement : Option (Statement Known)) → numbered own.form m.place ≡ statement
+            → AllByRecursion (Below n) (next_uses (next_in (Some own) m))
+        at None none = rw (none, end_uses own.script.end) tt
+        at (Some form) is =
+            rw is (next_below n (closed (environment_of m) form)
+            (form_below laws s reached own (numbered_in s.submitted m.tx own there) form
+            (numbered_in own.form m.place form is) (environment_of m)))
+
+pub next_declared : DeclaredLaws → (s : State) → IsReached resolved_forms s → (m : Member)
+    → All (BelowIn s.opening.tables) (next_uses (next_of s m))
+next_declared laws s reached m =
+    index_all (BelowIn s.opening.tables) (next_uses (next_of s m)) (λ own at.
+    of_all (Below (length s.opening.tables)) (next_uses (next_of s m)) own (next_used laws s reached m) at)
+
+pub changed_declared : DeclaredLaws → (s : State) → IsReached resolved_forms s → (m : Member)
+    → (statement : Statement Value) → next_of s m ≡ Ordinary statement
+    → All (λ table. table < length s.opening.tables) (table_of statement)
+changed_declared laws s reached m statement next =
+    let n = length s.opening.tables in
+    index_all (λ (table : ℕ). table < n) (table_of statement)
+    (changed_below n statement
+    (subst (λ next. AllByRecursion (Below n) (next_uses next)) next (next_used laws s reached m)))
+
+pub joint_declared : DeclaredLaws → (s : State) → IsReached resolved_forms s → (asked : List Posted)
+    → IsPresentComponent s asked → All (BelowIn s.opening.tables) (joint_uses asked)
+joint_declared laws s reached asked present =
+    let n = length s.opening.tables in
+    let each = λ (query : Posted). entangled_uses query.statement in
+    index_all (BelowIn s.opening.tables) (joint_uses asked) (λ own at.
+    elim (of_uses (flat_map each asked) [] own at) [
+      | inl there ↦
+          let a = in_flat each asked own there in
+          let m = in_pool s a.0 (is_present (pool s) asked present a.0 a.1) in
+          of_all (Below n) (entangled_uses a.0.statement) own
+          (subst (λ next. AllByRecursion (Below n) (next_uses next)) m.by.next (next_used laws s reached m.member)) a.2
+      | inr bad ↦ absurd bad
+    ])

@@ -1,0 +1,4 @@
+pub mod Resolved
+pub mod Outstanding
+pub mod Setting
+pub mod Kinds

@@ -1,0 +1,31 @@
+//! Runs of scripts that are resolved over their opening: the law of the protocol without a premise on forms.
+//!
+//! The forms that resolving gives mean what their statements mean and use the tables that those use, so every state
+//! that is reached over an opening without a fault of form has a legal book.
+//!
+//! What runs such scripts may rely on more: the form of each script that was submitted is what it resolves to, so the
+//! statements in the pool are what resolving gave, closed; the heads of each are of distinct relations, and its written
+//! variables stand in tuples of sub-selects. The host variables of a member that isn't prepared have values of the
+//! kinds that are known at its place, so its next statement fits the tables that are lent with it. Each law is the
+//! contract of a public function that does nothing but call laws.
+#![tactic(auto)]
+
+mod form;
+mod kinds;
+mod reached;
+mod run;
+mod work;
+
+pub use form::resolved_forms_are_faithful;
+pub use kinds::{host_variables_have_kinds, next_statements_fit};
+pub use reached::{
+    posted_heads_are_distinct, posted_variables_are_ranged, submitted_forms_are_resolved,
+};
+pub use run::{
+    a_resolved_script_commits, accepted_results_are_outstanding, finished_books_are_legal,
+    resolved_answers_are_good, resolved_answers_are_good_in_groups,
+    resolved_asks_are_answered_once, resolved_conflicts_stand_in_groups, resolved_groups_run_alone,
+    resolved_jobs_are_present, resolved_journals_fit_the_fates, resolved_runs_are_legal,
+    resolved_runs_are_serial, resolved_runs_give_the_book,
+};
+pub use work::{begun_statements_are_work, picked_statements_fit, used_tables_are_declared};

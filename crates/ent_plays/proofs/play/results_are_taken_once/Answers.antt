@@ -1,6 +1,0 @@
-use Rattle.std.proofs.Common.{refl}
-use Rattle.ent_plays.proofs.TwicePlay.{last, played}
-use Rattle.ent_plays.proofs.play.results_are_taken_once.Goals as goal
-
-pub returns : goal.returns
-returns g c resolved one two = (last one two, played one two, refl, refl)

@@ -1,0 +1,12 @@
+pub mod Standing
+pub mod Lent
+pub mod Groups
+pub mod Attempts
+pub mod ByNumber
+pub mod Declared
+pub mod Numbered
+pub mod Alike
+pub mod Restored
+pub mod Whole
+pub mod Last
+pub mod Settled

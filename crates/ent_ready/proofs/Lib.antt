@@ -1,9 +1,0 @@
-pub mod Lists
-pub mod Steps
-pub mod Submitted
-pub mod Posted
-pub mod Replayed
-pub mod Places
-pub mod Fitted
-pub mod Declared
-pub mod Lent

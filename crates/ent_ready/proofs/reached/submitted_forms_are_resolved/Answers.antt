@@ -1,5 +1,0 @@
-use Rattle.ent_ready.proofs.Submitted.{submitted_resolved}
-use Rattle.ent_ready.proofs.reached.submitted_forms_are_resolved.Goals as goal
-
-pub returns : goal.returns
-returns c h = submitted_resolved

@@ -1,0 +1,58 @@
+//! What is noted of a transaction.
+ghost use Rattle.std.specs.Prelude.{◌≡◌};
+ghost use Rattle.ent_reasons.specs.Noted.{changed, no_run};
+
+use crate::hindrance::Hindrance;
+use ent_value::Ticks;
+
+/// What is noted of a transaction.
+#[derive(Debug, Drop)]
+pub struct Note {
+    /// In how many runs it was.
+    pub runs: Ticks,
+    /// How many statements it has passed in its last run.
+    pub passed: Ticks,
+    /// What it was told last in that run.
+    pub hindrance: Hindrance,
+}
+
+/// What changes in a note.
+#[derive(Debug, Drop)]
+pub enum Change {
+    /// A run starts.
+    Starts,
+    /// A statement is passed.
+    Passes,
+    /// Something stands in the way.
+    Stands(Hindrance),
+}
+
+impl Note {
+    /// The note of a transaction that was in no run.
+    pub(crate) fn new() -> Self
+        ensures { result ≡ no_run }
+    {
+        Note {
+            runs: Ticks::new(),
+            passed: Ticks::new(),
+            hindrance: Hindrance::Free,
+        }
+    }
+
+    pub(crate) fn change(&mut self, change: &Change)
+        ensures { self.new ≡ changed change.now self.old }
+    {
+        match change {
+            Change::Starts => {
+                self.runs.add();
+                self.passed = Ticks::new();
+                self.hindrance = Hindrance::Free;
+            }
+            Change::Passes => {
+                self.passed.add();
+                self.hindrance = Hindrance::Free;
+            }
+            Change::Stands(hindrance) => self.hindrance = hindrance.copy(),
+        }
+    }
+}

@@ -1,9 +1,0 @@
-use Rattle.std.proofs.Common.{◌∙◌, ap, map}
-use Rattle.std.specs.Arc.{arc_value}
-use Rattle.ent_select.specs.Tables.{rows_in}
-use Rattle.ent_replay.proofs.Places.{rows_of_numbers}
-use Rattle.ent_replay.proofs.ground.sources_of.Goals as goal
-
-pub returns : goal.returns
-returns c =
-    ap rows_in c.in_ok-sources.ensures ∙ rows_of_numbers (map arc_value c.args.tables.now) c.args.numbers.now

@@ -1,6 +1,0 @@
-use Rattle.ent_resolved.specs.Resolved.{resolved_forms}
-use Rattle.ent_resolved.proofs.run.resolved_runs_are_serial.Goals as goal
-
-pub returns : goal.returns
-returns c s e reached =
-    c.reached_states_are_serial.ensures resolved_forms s (c.resolved_forms_are_faithful.ensures s.opening e) reached

@@ -1,3 +1,0 @@
-pub mod Resolved
-pub mod Outstanding
-pub mod Setting

@@ -1,4 +1,0 @@
-pub mod Again
-pub mod Fits
-pub mod Itself
-pub mod Following

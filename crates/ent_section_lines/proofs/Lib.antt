@@ -1,7 +1,0 @@
-pub mod Listing
-pub mod Names
-mod Columns
-mod Openings
-mod Scripts
-mod HeadLines
-mod Joints

@@ -1,6 +1,0 @@
-pub mod Listing
-pub mod Names
-pub mod Openings
-pub mod Scripts
-pub mod Heads
-pub mod Joints

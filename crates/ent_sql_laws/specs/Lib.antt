@@ -1,0 +1,12 @@
+pub mod Phrases
+pub mod Operands
+pub mod Tables
+pub mod Selects
+pub mod Changes
+pub mod Entangling
+pub mod Scripts
+pub mod Says
+pub mod Again
+pub mod Fits
+pub mod Itself
+pub mod Following

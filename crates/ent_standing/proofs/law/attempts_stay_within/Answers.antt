@@ -1,8 +1,0 @@
-use Rattle.ent_standing.proofs.Attempts.{reached_within, stay_below}
-use Rattle.ent_standing.proofs.law.attempts_stay_within.Goals as goal
-
-pub returns-clause-own : goal.returns-clause-own
-returns-clause-own c h = reached_within
-
-pub returns-clause-most : goal.returns-clause-most
-returns-clause-most c h forms s most reached asked few = stay_below most s few (reached_within forms s reached asked)

@@ -1,8 +1,0 @@
-use Rattle.ent_standing.proofs.Placed.{stand_once, reached_stand}
-use Rattle.ent_standing.proofs.law.transactions_stand_once.Goals as goal
-
-pub returns-clause-once : goal.returns-clause-once
-returns-clause-once c h forms s reached = stand_once s (reached_stand forms s reached)
-
-pub returns-clause-few : goal.returns-clause-few
-returns-clause-few c h forms s reached = (reached_stand forms s reached).few

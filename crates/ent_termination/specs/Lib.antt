@@ -1,0 +1,7 @@
+pub mod Progress
+pub mod Within
+pub mod Input
+pub mod Lending
+pub mod Idle
+pub mod Tries
+pub mod Fates

@@ -1,0 +1,147 @@
+-- Posted statements: whose they are, and when the pool stays safe with one more.
+use Rattle.std.proofs.Common.{◌≡◌, ◌↔◌, ◌⊎◌, inl, inr, ℕ, zero, suc, ◌<◌, Bool, true, false, not, List, [], ◌∷◌, ◌++◌}
+use Rattle.std.proofs.Common.{map, length, get_or, Option, Some, None, refl, sym, ap, ◌∙◌, subst, arith, true≢false}
+use Rattle.std.specs.Prelude.{AllPairs, Contains, IsTrue, MatchOption}
+use Rattle.std.specs.List.{flat_map}
+use Rattle.std.specs.Option.{is_some}
+use Rattle.std.proofs.lemmas.Bool.{cases_lt}
+use Rattle.std.proofs.lemmas.List.{get_or_default}
+use Rattle.std.proofs.lemmas.List.Elements.{Contains-append_cases, Contains-append_left, Contains-append_right}
+use Rattle.std.proofs.lemmas.List.Elements.{Contains-push_cases}
+use Rattle.ent_value.specs.declared.value.Value.{Value}
+use Rattle.ent_closed.specs.declared.entangled.Entangled.{Entangled}
+use Rattle.ent_protocol.specs.Begin.{pool_with}
+use Rattle.ent_coordination.specs.Pool.{Posted, CanMeet, IsFirstUnsafe, IsSafe, IsUnsafeAt, Unsafe}
+use Rattle.ent_match.specs.Fault.{IsByNumber}
+use Rattle.ent_match.specs.Posting.{HasNone}
+use Rattle.ent_protocol.specs.Member.{Asks, pool, posted_as}
+use Rattle.ent_lists.specs.Elements.{contains_in, in_contains}
+use Rattle.ent_protocol.specs.PostedBy.{in_pool}
+use Rattle.ent_protocol.specs.State.{State, Member}
+use Rattle.ent_waits.specs.Movers.{IsNotAsking, OnlyPostedAsk}
+use Rattle.ent_waits.proofs.Smallest.{contains_none}
+
+-- ---- lists by ascending numbers
+
+module _ {X : Type 0} (number : X → ℕ) where
+  at_place : (xs : List X) (x : X) (k : ℕ) (d : X) → k < length xs → get_or xs k x ≡ x → get_or xs k d ≡ x
+  at_place xs x k d below is = get_or_default xs k d x below ∙ is
+
+  less : (xs : List X) → AllPairs (λ (one other : X). number one < number other) xs → (x y : X) (k j : ℕ) → k < j
+      → j < length xs → get_or xs k x ≡ x → get_or xs j y ≡ y → number x < number y
+  less xs ascends x y k j before below is_x is_y =
+      subst (λ (z : X). number z < number y) is_x
+      (subst (λ (z : X). number (get_or xs k x) < number z) (at_place xs y j x below is_y) (ascends k j x before below))
+
+  -- there is one element of a number at most
+  pub same_element : (xs : List X) → AllPairs (λ (one other : X). number one < number other) xs → (x y : X)
+      → Contains xs x → Contains xs y → number x ≡ number y → x ≡ y
+  same_element xs ascends x y (k, below_k, is_x) (j, below_j, is_y) same =
+      elim (cases_lt k j) [
+        | inl before ↦
+            (let l = less xs ascends x y k j before below_j is_x is_y in absurd (omega arith))
+        | inr not_before ↦ elim (cases_lt j k) [
+          | inl after ↦
+              (let l = less xs ascends y x j k after below_k is_y is_x in absurd (omega arith))
+          | inr not_after ↦
+              let here : k ≡ j = omega arith in
+              sym is_x ∙ (ap (λ n. get_or xs n x) here ∙ at_place xs y j x below_j is_y)
+        ]
+      ]
+
+module _ {X Y : Type 0} where
+  pub mapped_from : (f : X → Y) (xs : List X) (y : Y) → Contains (map f xs) y → (x : X) × Contains xs x × (f x ≡ y)
+  mapped_from f [] y (k, below, is) = absurd (omega arith)
+  mapped_from f (x ∷ xs) y (zero, below, is) = (x, (0, omega arith, refl), is)
+  mapped_from f (x ∷ xs) y (suc k, below, is) =
+      let r = mapped_from f xs y (k, omega arith, is) in
+      (r.0, (suc r.1.0, (let l = r.1.1 in omega arith), r.1.2), r.2)
+
+  pub flat_from : (f : X → List Y) (xs : List X) (y : Y) → Contains (flat_map f xs) y
+      → (x : X) × Contains xs x × Contains (f x) y
+  flat_from f [] y there = absurd (contains_none y there)
+  flat_from f (x ∷ xs) y there =
+      elim (Contains-append_cases (f x) (flat_map f xs) y there) [
+        | inl here ↦ (x, (0, omega arith, refl), here)
+        | inr later ↦
+            let r = flat_from f xs y later in
+            (r.0, (suc r.1.0, (let l = r.1.1 in omega arith), r.1.2), r.2)
+      ]
+
+-- ---- whose posted statements are
+
+-- of a member that isn't posted none of the posted statements is
+pub only_posted_ask : (s : State) → AllPairs (λ (one other : Member). one.tx < other.tx) s.active
+    → OnlyPostedAsk (pool s) s.active
+only_posted_ask s ascends member active unposted query there own =
+    let r = in_pool s query (contains_in (pool s) query there) in
+    let same : r.member ≡ member =
+    same_element (λ (m : Member). m.tx) s.active ascends r.member member (in_contains s.active r.member r.at) active
+    (sym r.own ∙ own) in
+    true≢false (sym r.by.posted ∙ (ap (λ (m : Member). m.posted) same ∙ unposted))
+
+-- ---- one statement more
+
+pub has_none : (posted : List Posted) (query : Posted) (tx : ℕ) → query.tx ≡ tx → IsNotAsking posted tx
+    → HasNone posted query
+has_none posted query tx is none other there same = none other there (same ∙ is)
+
+-- two statements of one transaction are one
+one_of_each : (pool : List Posted) (last : Posted) → IsByNumber pool → HasNone pool last → (x y : Posted)
+    → Contains (pool ++ last ∷ []) x → Contains (pool ++ last ∷ []) y → x.tx ≡ y.tx → x ≡ y
+one_of_each pool last ascends none x y at_x at_y same =
+    by (Contains-push_cases pool last x at_x) (Contains-push_cases pool last y at_y)
+  where
+    by : Contains pool x ⊎ (last ≡ x) → Contains pool y ⊎ (last ≡ y) → x ≡ y
+    by (inl in_x) (inl in_y) = same_element (λ (p : Posted). p.tx) pool ascends x y in_x in_y same
+    by (inl in_x) (inr is_y) = absurd (none x in_x (same ∙ sym (ap (λ (p : Posted). p.tx) is_y)))
+    by (inr is_x) (inl in_y) = absurd (none y in_y (sym same ∙ sym (ap (λ (p : Posted). p.tx) is_x)))
+    by (inr is_x) (inr is_y) = sym is_x ∙ is_y
+
+-- a pool with an unsafe post isn't safe
+not_safe : (pool : List Posted) (last : Posted) → IsByNumber pool → HasNone pool last → (fault : Unsafe)
+    → IsUnsafeAt (pool ++ last ∷ []) fault → IsSafe (pool ++ last ∷ []) → ⊥
+not_safe pool last ascends none fault (below, one, other) safe =
+    let same : one.asker ≡ other.asker =
+    one_of_each pool last ascends none one.asker other.asker one.asks other.asks (one.asker_is ∙ sym other.asker_is) in
+    let met : CanMeet one.asker fault.index other.partner =
+    subst (λ (p : Posted). CanMeet p fault.index other.partner) (sym same) other.meets in
+    let alike : one.partner.tx ≡ other.partner.tx =
+    safe one.asker one.partner other.partner fault.index one.asks one.offers other.offers one.meets met in
+    let first = one.partner_is in
+    let second = other.partner_is in
+    omega (arith, below, alike, first, second)
+
+-- the pool is safe where nothing stands in the way
+pub fault_tells : (posted : List Posted) (query : Posted) → IsByNumber posted
+    → HasNone posted query → (fault : Option Unsafe) (none_is : Bool)
+    → is_some fault ≡ not none_is
+    → MatchOption fault (IsSafe (posted ++ query ∷ [])) (IsFirstUnsafe (posted ++ query ∷ []))
+    → IsTrue none_is ↔ IsSafe (posted ++ query ∷ [])
+fault_tells posted query ascends none None true is safe = (λ yes. safe, λ really. refl)
+fault_tells posted query ascends none None false is safe = absurd (true≢false (sym is))
+fault_tells posted query ascends none (Some fault) true is first = absurd (true≢false is)
+fault_tells posted query ascends none (Some fault) false is first = (
+  λ bad. absurd (true≢false (sym bad)),
+  λ safe. absurd (not_safe posted query ascends none fault first.0 safe),
+)
+
+-- the pool of a state with a member's statement
+pub pool_is : (s : State) (posted : List Posted) (query : Posted) (member : Member) (statement : Entangled Value)
+    → pool s ≡ posted
+    → query ≡ posted_as member statement
+    → posted ++ query ∷ [] ≡ pool_with s member statement
+pool_is s posted query member statement same is = λ i. sym same i ++ is i ∷ []
+
+pub asks_same : (one other : Entangled Value) → Asks one ≡ Asks other → one ≡ other
+asks_same one other same = cc
+
+-- ---- of more members and of fewer
+
+pub first_asks : (posted : List Posted) (first : Member) (rest : List Member) → OnlyPostedAsk posted (first ∷ rest)
+    → OnlyPostedAsk posted (first ∷ [])
+first_asks posted first rest all member there = all member (Contains-append_left (first ∷ []) rest member there)
+
+pub rest_ask : (posted : List Posted) (first : Member) (rest : List Member) → OnlyPostedAsk posted (first ∷ rest)
+    → OnlyPostedAsk posted rest
+rest_ask posted first rest all member there = all member (Contains-append_right (first ∷ []) rest member there)

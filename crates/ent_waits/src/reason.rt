@@ -1,0 +1,61 @@
+//! Why a run can't end yet.
+ghost use Rattle.std.specs.Prelude.{◌≡◌, IfOk};
+ghost use Rattle.ent_pool_laws.specs.Pooled.{IsPoolOf};
+ghost use Rattle.ent_protocol.specs.State.{State};
+ghost use Rattle.ent_waits.specs.Quiet.{AreInOrder, IsReasonIfAny, state_of};
+
+use crate::cycles::deadlock;
+use crate::jobs::job_out;
+use crate::movers::least_mover;
+use ent_components::first_untried;
+use ent_group::{Members, Tx};
+use ent_job::Job;
+use ent_match::Posted;
+use ent_members::Run;
+use ent_next::SubmittedScript;
+use ent_value::Sequence;
+use std::alloc::{AllocError, Global};
+
+/// Why a run can't end yet: the first of these that holds, and the least transaction of which it does.
+#[derive(Debug, Drop)]
+pub enum Reason {
+    /// A job of the transaction is out.
+    JobOut(Tx),
+    /// The transaction would get another reply to a begin than that it is blocked or held back.
+    CanBegin(Tx),
+    /// A component that begins with the transaction wasn't tried.
+    Untried(Tx),
+    /// These wait for each other, each for the next, and the last for the first.
+    Cycle(Members),
+}
+
+/// Why the run can't end yet, with what its members posted; no reason where it may. The members that aren't prepared
+/// have to stand by number, as do their posted statements, in a safe pool.
+pub fn reason_of(
+    alloc: Global,
+    run: &Run,
+    submitted: &[SubmittedScript],
+    posted: &[Posted],
+    tried: &[Sequence<Posted>],
+    lent: &[Job],
+) -> Result<Option<Reason>, AllocError>
+    requires posted { IsPoolOf submitted.now run.now.active posted.now }
+    requires order { AreInOrder submitted.now run.now.active }
+    ensures { IfOk result (λ reason. (s : State)
+        → IsReasonIfAny (state_of run.now submitted.now tried.now lent.now s) reason) }
+{
+    let active = run.active();
+    if let Some(tx) = job_out(alloc, posted, lent)? {
+        return Ok(Some(Reason::JobOut(tx)));
+    }
+    if let Some(tx) = least_mover(alloc, run, submitted, lent, posted, active)? {
+        return Ok(Some(Reason::CanBegin(tx)));
+    }
+    if let Some(tx) = first_untried(alloc, posted, tried)? {
+        return Ok(Some(Reason::Untried(tx)));
+    }
+    match deadlock(run, submitted, lent) {
+        Some(cycle) => Ok(Some(Reason::Cycle(cycle))),
+        None => Ok(None),
+    }
+}
