@@ -15,8 +15,8 @@ use Rattle.ent_semantics.specs.Database.{Database, Environment}
 use Rattle.ent_semantics.specs.Effect.{Effect}
 use Rattle.ent_semantics.specs.Entangled.{Valuation, is_grounding}
 use Rattle.ent_semantics.specs.Joint.{IsGrounded}
-use Rattle.ent_semantics.specs.Serial.{Deed, Run, Sight, after, answered_first, is_entangled, run, seen, seen_after}
-use Rattle.ent_semantics.specs.Serial.{sights}
+use Rattle.ent_semantics.specs.Serial.{Operation, Run, ReadView, after, answered_first, is_entangled, run, seen, seen_after}
+use Rattle.ent_semantics.specs.Serial.{read_views}
 use Rattle.ent_semantics.specs.Statement.{statement_meaning}
 use Rattle.ent_closed.specs.declared.entangled.Entangled.{Entangled}
 use Rattle.ent_closed.specs.declared.operand.Known.{Known}
@@ -39,7 +39,7 @@ use Rattle.ent_answer_laws.proofs.Read.{AreRead}
 use Rattle.ent_answer_laws.proofs.Stepping.{IsBehind, steps_on}
 use Rattle.ent_answer_laws.proofs.Stored.{IsStored}
 use Rattle.ent_answer_laws.proofs.Values.{AreValues}
-use Rattle.ent_answer_laws.proofs.Walking.{Behind, IsSightTold, Resolves, TakesNone, answers_any, entangled_form}
+use Rattle.ent_answer_laws.proofs.Walking.{Behind, IsReadViewTold, Resolves, TakesNone, answers_any, entangled_form}
 use Rattle.ent_answer_laws.proofs.Walking.{first_behind, in_any_kind, next_behind, trees_of}
 
 one_run : (x y : Run) → Some x ≡ Some y → x ≡ y
@@ -54,24 +54,24 @@ left_by answer None left e = cc (e)
 module _ (laws : Laws) (declared : List Create) (none : declarations_fault [] declared ≡ None) (tx : ℕ)
     (script : Script) (plain : Plain) (made : script_in (schemas_of declared) script ≡ Ok plain) where
   -- what is left of the script, from the statement of this number on, counted from 0
-  pub record IsLeft (n : ℕ) (bound : Bound) (deeds : List Deed) (own : List (Statement Known)) : Type 0 where
-    pub none_taken : AllByRecursion TakesNone deeds
-    pub resolves : Resolves (schemas_of declared) bound (trees_of deeds) own
-    pub read : AllByRecursion (λ (tree : TreeStatement). AreRead (statement_spelling tree)) (trees_of deeds)
-    pub fits : Each StatementFits (trees_of deeds)
-    pub trees_at : Behind n (trees_of deeds) script.statements
+  pub record IsLeft (n : ℕ) (bound : Bound) (operations : List Operation) (own : List (Statement Known)) : Type 0 where
+    pub none_taken : AllByRecursion TakesNone operations
+    pub resolves : Resolves (schemas_of declared) bound (trees_of operations) own
+    pub read : AllByRecursion (λ (tree : TreeStatement). AreRead (statement_spelling tree)) (trees_of operations)
+    pub fits : Each StatementFits (trees_of operations)
+    pub trees_at : Behind n (trees_of operations) script.statements
     pub forms_at : Behind n own plain.statements
 
   -- what holds of a run from there on
-  pub record RunsOn (n : ℕ) (deeds : List Deed) (database : Database) (environment : Environment) : Type 0 where
-    pub sees : (sight : Sight) → In sight (sights declared tx (suc n) deeds database environment)
-        → IsSightTold tx script plain sight
-    pub leaves : (over : Run) → run declared deeds database environment ≡ Some over → IsStored declared over.database
-    pub tells : (over : Run) → run declared deeds database environment ≡ Some over
-        → AllByRecursion CanBeCounted over.answers → AreAnswersTo (trees_of deeds) over.answers
+  pub record RunsOn (n : ℕ) (operations : List Operation) (database : Database) (environment : Environment) : Type 0 where
+    pub sees : (read_view : ReadView) → In read_view (read_views declared tx (suc n) operations database environment)
+        → IsReadViewTold tx script plain read_view
+    pub leaves : (over : Run) → run declared operations database environment ≡ Some over → IsStored declared over.database
+    pub tells : (over : Run) → run declared operations database environment ≡ Some over
+        → AllByRecursion CanBeCounted over.answers → AreAnswersTo (trees_of operations) over.answers
 
-  abbrev AllGrounded : List Sight → Type 0
-  AllGrounded all = (sight : Sight) → In sight all → IsGrounded declared sight
+  abbrev AllGrounded : List ReadView → Type 0
+  AllGrounded all = (read_view : ReadView) → In read_view all → IsGrounded declared read_view
 
   -- ---- one statement
 
@@ -83,8 +83,8 @@ module _ (laws : Laws) (declared : List Create) (none : declarations_fault [] de
     pub tree_at : slice_get script.statements n ≡ Some statement
     pub form_at : slice_get plain.statements n ≡ Some form
 
-  abbrev deed_of : TreeStatement → Valuation → Deed
-  deed_of statement valuation = record { statement = statement; valuation = valuation }
+  abbrev operation_of : TreeStatement → Valuation → Operation
+  operation_of statement valuation = record { statement = statement; valuation = valuation }
 
   abbrev OwnForm : TreeEntangled → Statement Known → Valuation → Type 0
   OwnForm entangled form valuation =
@@ -92,8 +92,8 @@ module _ (laws : Laws) (declared : List Create) (none : declarations_fault [] de
 
   module _ (n : ℕ) (bound behind : Bound) (form : Statement Known) (valuation : Valuation) (database : Database)
       (stored : IsStored declared database) (environment : Environment) (held : HoldsValuesOf bound environment) where
-    abbrev own_sight : TreeEntangled → Sight
-    own_sight entangled = record {
+    abbrev own_read_view : TreeEntangled → ReadView
+    own_read_view entangled = record {
       tx = tx;
       place = suc n;
       valuation = valuation;
@@ -128,10 +128,10 @@ module _ (laws : Laws) (declared : List Create) (none : declarations_fault [] de
 
     can_answer : (statement : TreeStatement) → IsAt n bound behind statement form
         → (is_entangled statement ≡ false → valuation ≡ [])
-        → AllGrounded (seen tx (suc n) (deed_of statement valuation) database environment)
+        → AllGrounded (seen tx (suc n) (operation_of statement valuation) database environment)
         → CanAnswer statement form valuation
     can_answer (trees.Entangled entangled) at takes grounded =
-        let answered = entangled_answered entangled at (grounded (own_sight entangled) (inl refl)) in
+        let answered = entangled_answered entangled at (grounded (own_read_view entangled) (inl refl)) in
         record {
           many = answered.2.many;
           kinds = subst (λ (f : Statement Known). AnswersInKind f valuation) (sym answered.1) answered.2.kinds;
@@ -144,12 +144,12 @@ module _ (laws : Laws) (declared : List Create) (none : declarations_fault [] de
     can_answer (trees.Set setting) at takes grounded = ordinary (trees.Set setting) at refl takes
 
     seen_told : (statement : TreeStatement) → IsAt n bound behind statement form
-        → AllGrounded (seen tx (suc n) (deed_of statement valuation) database environment) → (sight : Sight)
-        → In sight (seen tx (suc n) (deed_of statement valuation) database environment)
-        → IsSightTold tx script plain sight
-    seen_told (trees.Entangled entangled) at grounded sight (inl same) =
-        let answered = entangled_answered entangled at (grounded (own_sight entangled) (inl refl)) in
-        subst (IsSightTold tx script plain) (sym same)
+        → AllGrounded (seen tx (suc n) (operation_of statement valuation) database environment) → (read_view : ReadView)
+        → In read_view (seen tx (suc n) (operation_of statement valuation) database environment)
+        → IsReadViewTold tx script plain read_view
+    seen_told (trees.Entangled entangled) at grounded read_view (inl same) =
+        let answered = entangled_answered entangled at (grounded (own_read_view entangled) (inl refl)) in
+        subst (IsReadViewTold tx script plain) (sym same)
         (record {
           of_script = refl;
           statement = at.tree_at;
@@ -157,50 +157,50 @@ module _ (laws : Laws) (declared : List Create) (none : declarations_fault [] de
           resolved = at.form_at ∙ ap Some answered.1;
           answered = answered.2;
         })
-    seen_told (trees.Entangled entangled) at grounded sight (inr nowhere) = absurd nowhere
-    seen_told (trees.Select select) at grounded sight nowhere = absurd nowhere
-    seen_told (trees.Insert insert) at grounded sight nowhere = absurd nowhere
-    seen_told (trees.Delete delete) at grounded sight nowhere = absurd nowhere
-    seen_told (trees.Update update) at grounded sight nowhere = absurd nowhere
-    seen_told (trees.Set setting) at grounded sight nowhere = absurd nowhere
+    seen_told (trees.Entangled entangled) at grounded read_view (inr nowhere) = absurd nowhere
+    seen_told (trees.Select select) at grounded read_view nowhere = absurd nowhere
+    seen_told (trees.Insert insert) at grounded read_view nowhere = absurd nowhere
+    seen_told (trees.Delete delete) at grounded read_view nowhere = absurd nowhere
+    seen_told (trees.Update update) at grounded read_view nowhere = absurd nowhere
+    seen_told (trees.Set setting) at grounded read_view nowhere = absurd nowhere
 
   -- ---- behind it
 
-  module _ (n : ℕ) (bound behind : Bound) (form : Statement Known) (deed : Deed) (more : List Deed)
-      (at : IsAt n bound behind deed.statement form) (takes : TakesNone deed) (database : Database)
+  module _ (n : ℕ) (bound behind : Bound) (form : Statement Known) (operation : Operation) (more : List Operation)
+      (at : IsAt n bound behind operation.statement form) (takes : TakesNone operation) (database : Database)
       (stored : IsStored declared database) (environment : Environment) (held : HoldsValuesOf bound environment)
-      (grounded : AllGrounded (seen tx (suc n) deed database environment)) where
-    abbrev now : List Sight
-    now = seen tx (suc n) deed database environment
+      (grounded : AllGrounded (seen tx (suc n) operation database environment)) where
+    abbrev now : List ReadView
+    now = seen tx (suc n) operation database environment
 
-    abbrev seen_later : Database → Environment → List Sight
-    seen_later = sights declared tx (suc (suc n)) more
+    abbrev seen_later : Database → Environment → List ReadView
+    seen_later = read_views declared tx (suc (suc n)) more
 
     -- what holds where the statement comes to this
     pub record RunsFrom (meaning : Result (Effect Database) Failure) : Type 0 where
-      pub sees : (sight : Sight) → In sight (now ++ seen_after meaning seen_later) → IsSightTold tx script plain sight
+      pub sees : (read_view : ReadView) → In read_view (now ++ seen_after meaning seen_later) → IsReadViewTold tx script plain read_view
       pub leaves : (over : Run) → after meaning (run declared more) ≡ Some over → IsStored declared over.database
       pub tells : (over : Run) → after meaning (run declared more) ≡ Some over
-          → AllByRecursion CanBeCounted over.answers → AreAnswersTo (trees_of (deed ∷ more)) over.answers
+          → AllByRecursion CanBeCounted over.answers → AreAnswersTo (trees_of (operation ∷ more)) over.answers
 
     runs_from : (meaning : Result (Effect Database) Failure)
-        → statement_meaning declared deed.statement deed.valuation database environment ≡ meaning
+        → statement_meaning declared operation.statement operation.valuation database environment ≡ meaning
         → AllGrounded (seen_after meaning seen_later)
-        → ((effect : Effect Database) → IsBehind declared behind deed.statement effect
+        → ((effect : Effect Database) → IsBehind declared behind operation.statement effect
         → AllGrounded (seen_later effect.database effect.environment)
         → RunsOn (suc n) more effect.database effect.environment) → RunsFrom meaning
     runs_from (Ok effect) is rest onward =
-        let answers = can_answer n bound behind form deed.valuation database stored environment held deed.statement at
+        let answers = can_answer n bound behind form operation.valuation database stored environment held operation.statement at
         takes grounded in
-        let there = steps_on declared laws none bound behind deed.statement form at.resolved at.read at.fits
-        deed.valuation answers database stored environment held effect is in
+        let there = steps_on declared laws none bound behind operation.statement form at.resolved at.read at.fits
+        operation.valuation answers database stored environment held effect is in
         let later = onward effect there rest in
         record {
-          sees = λ sight within.
-              elim (in_either now (seen_later effect.database effect.environment) sight within) [
-                | inl here ↦ seen_told n bound behind form deed.valuation database stored environment held
-                    deed.statement at grounded sight here
-                | inr behind ↦ later.sees sight behind
+          sees = λ read_view within.
+              elim (in_either now (seen_later effect.database effect.environment) read_view within) [
+                | inl here ↦ seen_told n bound behind form operation.valuation database stored environment held
+                    operation.statement at grounded read_view here
+                | inr behind ↦ later.sees read_view behind
               ];
           leaves = λ over e.
               let l = left_by effect.answer (run declared more effect.database effect.environment) over e in
@@ -209,14 +209,14 @@ module _ (laws : Laws) (declared : List Create) (none : declarations_fault [] de
               let l = left_by effect.answer (run declared more effect.database effect.environment) over e in
               let both : AllByRecursion CanBeCounted (effect.answer ∷ l.0.answers) =
               subst (λ (r : Run). AllByRecursion CanBeCounted r.answers) (sym l.2) counted in
-              subst (λ (r : Run). AreAnswersTo (trees_of (deed ∷ more)) r.answers) l.2
+              subst (λ (r : Run). AreAnswersTo (trees_of (operation ∷ more)) r.answers) l.2
               (there.sort, there.told both.0, later.tells l.0 l.1 both.1);
         }
     runs_from (Err failure) is rest onward =
         record {
-          sees = λ sight within. elim (in_either now [] sight within) [
-            | inl here ↦ seen_told n bound behind form deed.valuation database stored environment held
-                deed.statement at grounded sight here
+          sees = λ read_view within. elim (in_either now [] read_view within) [
+            | inl here ↦ seen_told n bound behind form operation.valuation database stored environment held
+                operation.statement at grounded read_view here
             | inr nowhere ↦ absurd nowhere
           ];
           leaves = λ over e. cc (e);
@@ -225,45 +225,45 @@ module _ (laws : Laws) (declared : List Create) (none : declarations_fault [] de
 
   -- ---- from a statement on
 
-  next_left : (n : ℕ) (bound : Bound) (deed : Deed) (more : List Deed) (form : Statement Known)
-      (own : List (Statement Known)) → (left : IsLeft n bound (deed ∷ more) (form ∷ own))
+  next_left : (n : ℕ) (bound : Bound) (operation : Operation) (more : List Operation) (form : Statement Known)
+      (own : List (Statement Known)) → (left : IsLeft n bound (operation ∷ more) (form ∷ own))
       → IsLeft (suc n) left.resolves.0 more own
-  next_left n bound deed more form own left = record {
+  next_left n bound operation more form own left = record {
     none_taken = left.none_taken.1;
     resolves = left.resolves.2;
     read = left.read.1;
     fits = left.fits.1;
-    trees_at = next_behind n deed.statement (trees_of more) script.statements left.trees_at;
+    trees_at = next_behind n operation.statement (trees_of more) script.statements left.trees_at;
     forms_at = next_behind n form own plain.statements left.forms_at;
   }
 
-  pub runs_on : (n : ℕ) (bound : Bound) (deeds : List Deed) (own : List (Statement Known)) → IsLeft n bound deeds own
+  pub runs_on : (n : ℕ) (bound : Bound) (operations : List Operation) (own : List (Statement Known)) → IsLeft n bound operations own
       → (database : Database) → IsStored declared database → (environment : Environment)
-      → HoldsValuesOf bound environment → AllGrounded (sights declared tx (suc n) deeds database environment)
-      → RunsOn n deeds database environment
+      → HoldsValuesOf bound environment → AllGrounded (read_views declared tx (suc n) operations database environment)
+      → RunsOn n operations database environment
   runs_on n bound [] own left database stored environment held grounded =
       let still : Run = record { database = database; environment = environment; answers = [] } in
       record {
-        sees = λ sight nowhere. absurd nowhere;
+        sees = λ read_view nowhere. absurd nowhere;
         leaves = λ over e. subst (λ (r : Run). IsStored declared r.database) (one_run still over e) stored;
         tells = λ over e counted. subst (λ (r : Run). AreAnswersTo [] r.answers) (one_run still over e) tt;
       }
-  runs_on n bound (deed ∷ more) [] left database stored environment held grounded = absurd left.resolves
-  runs_on n bound (deed ∷ more) (form ∷ own) left database stored environment held grounded =
+  runs_on n bound (operation ∷ more) [] left database stored environment held grounded = absurd left.resolves
+  runs_on n bound (operation ∷ more) (form ∷ own) left database stored environment held grounded =
       let behind = left.resolves.0 in
-      let at : IsAt n bound behind deed.statement form = record {
+      let at : IsAt n bound behind operation.statement form = record {
         resolved = left.resolves.1;
         read = left.read.0;
         fits = left.fits.0;
-        tree_at = first_behind n deed.statement (trees_of more) script.statements left.trees_at;
+        tree_at = first_behind n operation.statement (trees_of more) script.statements left.trees_at;
         form_at = first_behind n form own plain.statements left.forms_at;
       } in
-      let meaning = statement_meaning declared deed.statement deed.valuation database environment in
-      let here = seen tx (suc n) deed database environment in
-      let later = seen_after meaning (sights declared tx (suc (suc n)) more) in
-      let from = runs_from n bound behind form deed more at left.none_taken.0 database stored environment held
-      (λ sight within. grounded sight (in_first here later sight within)) meaning refl
-      (λ sight within. grounded sight (in_second here later sight within))
-      (λ effect there rest. runs_on (suc n) behind more own (next_left n bound deed more form own left) effect.database
+      let meaning = statement_meaning declared operation.statement operation.valuation database environment in
+      let here = seen tx (suc n) operation database environment in
+      let later = seen_after meaning (read_views declared tx (suc (suc n)) more) in
+      let from = runs_from n bound behind form operation more at left.none_taken.0 database stored environment held
+      (λ read_view within. grounded read_view (in_first here later read_view within)) meaning refl
+      (λ read_view within. grounded read_view (in_second here later read_view within))
+      (λ effect there rest. runs_on (suc n) behind more own (next_left n bound operation more form own left) effect.database
       there.stored effect.environment there.held rest) in
       record { sees = from.sees; leaves = from.leaves; tells = from.tells }

@@ -12,7 +12,7 @@ use Rattle.ent_tree.specs.declared.script.Statement.TheVariants as trees
 use Rattle.ent_semantics.specs.Database.{Database, Name}
 use Rattle.ent_semantics.specs.Entangled.{written_variables}
 use Rattle.ent_semantics.specs.Joint.{member_of}
-use Rattle.ent_semantics.specs.Serial.{Sight, Turn, numbered}
+use Rattle.ent_semantics.specs.Serial.{ReadView, Turn, numbered}
 use Rattle.ent_closed.specs.declared.operand.Known.{Known}
 use Rattle.ent_closed.specs.declared.statement.Statement.{Statement}
 use Rattle.ent_form.specs.Catalogue.{schemas_of}
@@ -30,33 +30,33 @@ use Rattle.ent_lists.specs.Elements.{In}
 use Rattle.ent_report_laws.specs.Tellable.{AreRowsOf, AreTablesOf, IsMemberTold}
 use Rattle.ent_answer_laws.specs.Held.{HoldsRowsOf}
 use Rattle.ent_answer_laws.proofs.Rows.{rows_rise}
-use Rattle.ent_answer_laws.proofs.Walking.{IsSightTold}
+use Rattle.ent_answer_laws.proofs.Walking.{IsReadViewTold}
 
 -- ---- members
 
-pub member_told : (history : History) (turn : Turn) (plain : Plain) (sight : Sight)
+pub member_told : (history : History) (turn : Turn) (plain : Plain) (read_view : ReadView)
     → numbered history.scripts turn.tx ≡ Some turn.script
     → script_in (schemas_of history.opening.tables) turn.script ≡ Ok plain
-    → IsSightTold turn.tx turn.script plain sight → IsMemberTold history (told_member history.scripts (member_of sight))
-member_told history turn plain sight own made told =
+    → IsReadViewTold turn.tx turn.script plain read_view → IsMemberTold history (told_member history.scripts (member_of read_view))
+member_told history turn plain read_view own made told =
     let tables = schemas_of history.opening.tables in
-    let place = sight.place in
-    let at : numbered history.scripts sight.tx ≡ Some turn.script =
+    let place = read_view.place in
+    let at : numbered history.scripts read_view.tx ≡ Some turn.script =
     ap (numbered history.scripts) told.of_script ∙ own in
-    let variables : member_variables history.scripts (member_of sight) ≡ written_variables sight.entangled =
+    let variables : member_variables history.scripts (member_of read_view) ≡ written_variables read_view.entangled =
     ap (λ (o : Option Script). statement_variables (script_statement place o)) at
     ∙ ap (λ (o : Option TreeStatement). statement_variables o) told.statement in
-    let binds : member_binds history sight.tx place
-    ≡ Some (written_variables sight.entangled, told.form.variables) =
+    let binds : member_binds history read_view.tx place
+    ≡ Some (written_variables read_view.entangled, told.form.variables) =
     ap (λ (o : Option Script). script_binds tables o place) at
     ∙ ap (λ (o : Option TreeStatement). binds_of o (resolved_at (script_in tables turn.script) place)) told.statement
-    ∙ ap (λ (r : Result Plain FormFault). binds_of (Some (trees.Entangled sight.entangled)) (resolved_at r place)) made
-    ∙ ap (λ (o : Option (Statement Known)). binds_of (Some (trees.Entangled sight.entangled)) o) told.resolved in
+    ∙ ap (λ (r : Result Plain FormFault). binds_of (Some (trees.Entangled read_view.entangled)) (resolved_at r place)) made
+    ∙ ap (λ (o : Option (Statement Known)). binds_of (Some (trees.Entangled read_view.entangled)) o) told.resolved in
     record {
       paired = ap (λ (names : List Name). length names) variables ∙ sym told.answered.many;
       are_values = told.answered.values;
       binds = subst (λ (b : Option Binds).
-          BindsRight b (member_variables history.scripts (member_of sight)) sight.valuation) (sym binds)
+          BindsRight b (member_variables history.scripts (member_of read_view)) read_view.valuation) (sym binds)
           (variables, told.answered.kinds);
     }
 

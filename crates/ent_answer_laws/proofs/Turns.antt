@@ -13,8 +13,8 @@ use Rattle.ent_print.specs.Spelling.{end_word, line_spelling, script_spelling, s
 use Rattle.ent_text.specs.declared.symbol.Symbol.TheVariants as symbols
 use Rattle.ent_semantics.specs.Database.{Database, nothing_bound}
 use Rattle.ent_semantics.specs.Joint.{IsGrounded}
-use Rattle.ent_semantics.specs.Serial.{Deed, Run, Runs, Sight, Turn, deeds_of, ended, ran_first, run, script_run}
-use Rattle.ent_semantics.specs.Serial.{script_sights, scripts_run, scripts_sights, seen_from, sights}
+use Rattle.ent_semantics.specs.Serial.{Operation, Run, Runs, ReadView, Turn, operations_of, ended, ran_first, run, script_run}
+use Rattle.ent_semantics.specs.Serial.{script_read_views, scripts_run, scripts_read_views, seen_from, read_views}
 use Rattle.ent_form.specs.AllFaults.{fault_of, head_of}
 use Rattle.ent_form.specs.Catalogue.{schemas_of}
 use Rattle.ent_form.specs.Form.{script_in}
@@ -23,7 +23,7 @@ use Rattle.ent_form.specs.OpeningFault.{declarations_fault}
 use Rattle.ent_form.specs.declared.fault.FormFault.{FormFault}
 use Rattle.ent_form.specs.declared.script.Plain.{Plain}
 use Rattle.ent_sql_laws.specs.Fits.{Each, StatementFits}
-use Rattle.ent_rules.proofs.Deeds.{mapped_some, then_some}
+use Rattle.ent_rules.proofs.Operations.{mapped_some, then_some}
 use Rattle.ent_lists.specs.Elements.{In, all_first, all_index, all_second, in_either, in_first, in_second}
 use Rattle.ent_report_laws.specs.Tellable.{AreAnswersTo}
 use Rattle.ent_answer_laws.specs.Answered.{AreTurnsAnswered, CanBeCounted, CanRun}
@@ -32,7 +32,7 @@ use Rattle.ent_answer_laws.specs.Laws.{Laws}
 use Rattle.ent_answer_laws.proofs.Read.{AreRead}
 use Rattle.ent_answer_laws.proofs.Runs.{IsLeft, RunsOn, runs_on}
 use Rattle.ent_answer_laws.proofs.Stored.{IsStored}
-use Rattle.ent_answer_laws.proofs.Walking.{IsSightTold, Resolves, Behind, all_behind, deeds_so, resolved_so}
+use Rattle.ent_answer_laws.proofs.Walking.{IsReadViewTold, Resolves, Behind, all_behind, operations_so, resolved_so}
 
 -- ---- a script that can run
 
@@ -67,14 +67,14 @@ ended_some Rollback o r e = cc (e)
 one_runs : (x y : Runs) → Some x ≡ Some y → x ≡ y
 one_runs x y e = cc
 
-from_run : (o : Option Run) (f : Database → List Sight) (s : Sight) → In s (seen_from o f)
+from_run : (o : Option Run) (f : Database → List ReadView) (s : ReadView) → In s (seen_from o f)
     → (r : Run) × (o ≡ Some r) × In s (f r.database)
 from_run (Some r) f s at = (r, refl, at)
 from_run None f s at = absurd at
 
 module _ (laws : Laws) (declared : List Create) (none : declarations_fault [] declared ≡ None) where
-  abbrev AllGrounded : List Sight → Type 0
-  AllGrounded all = (sight : Sight) → In sight all → IsGrounded declared sight
+  abbrev AllGrounded : List ReadView → Type 0
+  AllGrounded all = (read_view : ReadView) → In read_view all → IsGrounded declared read_view
 
   -- ---- one turn
 
@@ -82,36 +82,36 @@ module _ (laws : Laws) (declared : List Create) (none : declarations_fault [] de
   pub record TurnRuns (turn : Turn) (database : Database) : Type 0 where
     pub plain : Plain
     pub made : script_in (schemas_of declared) turn.script ≡ Ok plain
-    pub sees : (sight : Sight) → In sight (script_sights declared turn database)
-        → IsSightTold turn.tx turn.script plain sight
+    pub sees : (read_view : ReadView) → In read_view (script_read_views declared turn database)
+        → IsReadViewTold turn.tx turn.script plain read_view
     pub leaves : (over : Run) → script_run declared turn.script turn.oracle database ≡ Some over
         → IsStored declared over.database
     pub tells : (over : Run) → script_run declared turn.script turn.oracle database ≡ Some over
         → AllByRecursion CanBeCounted over.answers → AreAnswersTo turn.script.statements over.answers
 
-  abbrev deeds_in : Turn → Option (List Deed)
-  deeds_in turn = deeds_of turn.script.statements turn.oracle
+  abbrev operations_in : Turn → Option (List Operation)
+  operations_in turn = operations_of turn.script.statements turn.oracle
 
-  turn_sights : (turn : Turn) (database : Database) (deeds : List Deed) → deeds_in turn ≡ Some deeds
-      → script_sights declared turn database ≡ sights declared turn.tx 1 deeds database nothing_bound
-  turn_sights turn database deeds e = rw e refl
+  turn_read_views : (turn : Turn) (database : Database) (operations : List Operation) → operations_in turn ≡ Some operations
+      → script_read_views declared turn database ≡ read_views declared turn.tx 1 operations database nothing_bound
+  turn_read_views turn database operations e = rw e refl
 
-  no_turn_sights : (turn : Turn) (database : Database) → deeds_in turn ≡ None
-      → script_sights declared turn database ≡ []
-  no_turn_sights turn database e = rw e refl
+  no_turn_read_views : (turn : Turn) (database : Database) → operations_in turn ≡ None
+      → script_read_views declared turn database ≡ []
+  no_turn_read_views turn database e = rw e refl
 
-  deeds_run : (turn : Turn) (database : Database) (over : Run)
+  operations_run : (turn : Turn) (database : Database) (over : Run)
       → script_run declared turn.script turn.oracle database ≡ Some over
-      → (deeds : List Deed) × (deeds_in turn ≡ Some deeds)
-      × (run declared deeds database nothing_bound ≡ Some over)
-  deeds_run turn database over e =
-      then_some (λ (deeds : List Deed). run declared deeds database nothing_bound) (deeds_in turn) over
+      → (operations : List Operation) × (operations_in turn ≡ Some operations)
+      × (run declared operations database nothing_bound ≡ Some over)
+  operations_run turn database over e =
+      then_some (λ (operations : List Operation). run declared operations database nothing_bound) (operations_in turn) over
       (ended_some turn.script.end
-      (option_and_then (λ (deeds : List Deed). run declared deeds database nothing_bound) (deeds_in turn)) over e)
+      (option_and_then (λ (operations : List Operation). run declared operations database nothing_bound) (operations_in turn)) over e)
 
   pub turn_runs : (turn : Turn) → CanRun declared turn.script → (database : Database) → IsStored declared database
-      → AllGrounded (script_sights declared turn database) → TurnRuns turn database
-  turn_runs turn can database stored grounded = by (deeds_in turn) refl
+      → AllGrounded (script_read_views declared turn database) → TurnRuns turn database
+  turn_runs turn can database stored grounded = by (operations_in turn) refl
     where
       script : Script
       script = turn.script
@@ -121,12 +121,12 @@ module _ (laws : Laws) (declared : List Create) (none : declarations_fault [] de
           resolves (script_in (schemas_of declared) turn.script)
           (laws.first (schemas_of declared) turn.script ∙ ap head_of can.resolved)
 
-      onward : (deeds : List Deed) → deeds_in turn ≡ Some deeds
-          → RunsOn laws declared none turn.tx turn.script found.0 found.1 0 deeds database nothing_bound
-      onward deeds is =
-          let so = deeds_so turn.script.statements turn.oracle deeds is in
+      onward : (operations : List Operation) → operations_in turn ≡ Some operations
+          → RunsOn laws declared none turn.tx turn.script found.0 found.1 0 operations database nothing_bound
+      onward operations is =
+          let so = operations_so turn.script.statements turn.oracle operations is in
           let back = sym so.0 in
-          let left : IsLeft laws declared none turn.tx turn.script found.0 found.1 0 none_bound deeds
+          let left : IsLeft laws declared none turn.tx turn.script found.0 found.1 0 none_bound operations
           found.0.statements = record {
             none_taken = so.1;
             resolves = subst (λ (all : List TreeStatement). Resolves (schemas_of declared) none_bound all
@@ -139,33 +139,33 @@ module _ (laws : Laws) (declared : List Create) (none : declarations_fault [] de
                 (all_behind turn.script.statements);
             forms_at = all_behind found.0.statements;
           } in
-          runs_on laws declared none turn.tx turn.script found.0 found.1 0 none_bound deeds found.0.statements left
+          runs_on laws declared none turn.tx turn.script found.0 found.1 0 none_bound operations found.0.statements left
           database stored nothing_bound nothing_held
-          (λ sight at. grounded sight (subst (λ (all : List Sight). In sight all)
-          (sym (turn_sights turn database deeds is)) at))
+          (λ read_view at. grounded read_view (subst (λ (all : List ReadView). In read_view all)
+          (sym (turn_read_views turn database operations is)) at))
 
       leaves_so : (over : Run) → script_run declared turn.script turn.oracle database ≡ Some over
           → IsStored declared over.database
       leaves_so over e =
-          let parts = deeds_run turn database over e in (onward parts.0 parts.1).leaves over parts.2
+          let parts = operations_run turn database over e in (onward parts.0 parts.1).leaves over parts.2
 
       tells_so : (over : Run) → script_run declared turn.script turn.oracle database ≡ Some over
           → AllByRecursion CanBeCounted over.answers → AreAnswersTo turn.script.statements over.answers
       tells_so over e counted =
-          let parts = deeds_run turn database over e in
+          let parts = operations_run turn database over e in
           subst (λ (all : List TreeStatement). AreAnswersTo all over.answers)
-          (deeds_so turn.script.statements turn.oracle parts.0 parts.1).0
+          (operations_so turn.script.statements turn.oracle parts.0 parts.1).0
           ((onward parts.0 parts.1).tells over parts.2 counted)
 
-      sees_so : (o : Option (List Deed)) → deeds_in turn ≡ o → (sight : Sight)
-          → In sight (script_sights declared turn database) → IsSightTold turn.tx turn.script found.0 sight
-      sees_so (Some deeds) is sight at =
-          (onward deeds is).sees sight
-          (subst (λ (all : List Sight). In sight all) (turn_sights turn database deeds is) at)
-      sees_so None is sight at =
-          absurd (subst (λ (all : List Sight). In sight all) (no_turn_sights turn database is) at)
+      sees_so : (o : Option (List Operation)) → operations_in turn ≡ o → (read_view : ReadView)
+          → In read_view (script_read_views declared turn database) → IsReadViewTold turn.tx turn.script found.0 read_view
+      sees_so (Some operations) is read_view at =
+          (onward operations is).sees read_view
+          (subst (λ (all : List ReadView). In read_view all) (turn_read_views turn database operations is) at)
+      sees_so None is read_view at =
+          absurd (subst (λ (all : List ReadView). In read_view all) (no_turn_read_views turn database is) at)
 
-      by : (o : Option (List Deed)) → deeds_in turn ≡ o → TurnRuns turn database
+      by : (o : Option (List Operation)) → operations_in turn ≡ o → TurnRuns turn database
       by o is = record {
         plain = found.0;
         made = found.1;
@@ -176,47 +176,47 @@ module _ (laws : Laws) (declared : List Create) (none : declarations_fault [] de
 
   -- ---- one turn after the other
 
-  -- a sight of one of the turns
-  abbrev pub IsTurnSight : List Turn → Sight → Type 0
-  IsTurnSight turns sight =
+  -- a read view of one of the turns
+  abbrev pub IsTurnReadView : List Turn → ReadView → Type 0
+  IsTurnReadView turns read_view =
       (turn : Turn) × (plain : Plain) × In turn turns × (script_in (schemas_of declared) turn.script ≡ Ok plain)
-      × IsSightTold turn.tx turn.script plain sight
+      × IsReadViewTold turn.tx turn.script plain read_view
 
   pub record TurnsRun (turns : List Turn) (database : Database) : Type 0 where
-    pub sees : (sight : Sight) → In sight (scripts_sights declared turns database) → IsTurnSight turns sight
+    pub sees : (read_view : ReadView) → In read_view (scripts_read_views declared turns database) → IsTurnReadView turns read_view
     pub leaves : (over : Runs) → scripts_run declared turns database ≡ Some over → IsStored declared over.database
     pub tells : (over : Runs) → scripts_run declared turns database ≡ Some over
         → AllByRecursion (AllByRecursion CanBeCounted) over.answers → AreTurnsAnswered turns over.answers
 
   pub turns_run : (turns : List Turn) → ((turn : Turn) → In turn turns → CanRun declared turn.script)
-      → (database : Database) → IsStored declared database → AllGrounded (scripts_sights declared turns database)
+      → (database : Database) → IsStored declared database → AllGrounded (scripts_read_views declared turns database)
       → TurnsRun turns database
   turns_run [] can database stored grounded =
       let still : Runs = record { database = database; answers = [] } in
       record {
-        sees = λ sight nowhere. absurd nowhere;
+        sees = λ read_view nowhere. absurd nowhere;
         leaves = λ over e. subst (λ (r : Runs). IsStored declared r.database) (one_runs still over e) stored;
         tells = λ over e counted. subst (λ (r : Runs). AreTurnsAnswered [] r.answers) (one_runs still over e) tt;
       }
   turns_run (turn ∷ more) can database stored grounded =
       let alone = script_run declared turn.script turn.oracle database in
-      let here = script_sights declared turn database in
-      let later = seen_from alone (scripts_sights declared more) in
+      let here = script_read_views declared turn database in
+      let later = seen_from alone (scripts_read_views declared more) in
       let first = turn_runs turn (can turn (inl refl)) database stored
-      (λ sight at. grounded sight (in_first here later sight at)) in
+      (λ read_view at. grounded read_view (in_first here later read_view at)) in
       let behind : (over : Run) → alone ≡ Some over → TurnsRun more over.database =
       λ over is.
       turns_run more (λ other at. can other (inr at)) over.database (first.leaves over is)
-      (λ sight at. grounded sight (in_second here later sight
-      (subst (λ (o : Option Run). In sight (seen_from o (scripts_sights declared more))) (sym is) at))) in
+      (λ read_view at. grounded read_view (in_second here later read_view
+      (subst (λ (o : Option Run). In read_view (seen_from o (scripts_read_views declared more))) (sym is) at))) in
       let parts = λ (over : Runs) (e : scripts_run declared (turn ∷ more) database ≡ Some over).
       then_some (λ (r : Run). option_map (ran_first r.answers) (scripts_run declared more r.database)) alone over e in
       record {
-        sees = λ sight at. elim (in_either here later sight at) [
-          | inl now ↦ (turn, first.plain, inl refl, first.made, first.sees sight now)
+        sees = λ read_view at. elim (in_either here later read_view at) [
+          | inl now ↦ (turn, first.plain, inl refl, first.made, first.sees read_view now)
           | inr then ↦
-              let r = from_run alone (scripts_sights declared more) sight then in
-              let told = (behind r.0 r.1).sees sight r.2 in
+              let r = from_run alone (scripts_read_views declared more) read_view then in
+              let told = (behind r.0 r.1).sees read_view r.2 in
               (told.0, told.1, inr told.2, told.3, told.4)
         ];
         leaves = λ over e.

@@ -10,7 +10,7 @@ use Rattle.ent_tree.specs.declared.script.Statement.{Statement as TreeStatement}
 use Rattle.ent_tree.specs.declared.script.Statement.TheVariants as trees
 use Rattle.ent_semantics.specs.Database.{Environment}
 use Rattle.ent_semantics.specs.Entangled.{Valuation}
-use Rattle.ent_semantics.specs.Serial.{Deed, Sight, deed_first, deeds_of, is_entangled}
+use Rattle.ent_semantics.specs.Serial.{Operation, ReadView, operation_first, operations_of, is_entangled}
 use Rattle.ent_semantics.specs.Serial.{numbered, with_answer}
 use Rattle.ent_closed.specs.Closing.{closed}
 use Rattle.ent_closed.specs.Kinds.{Fits}
@@ -64,48 +64,48 @@ resolved_so schemas script plain e =
 
 -- ---- statements and the oracle's answers
 
-abbrev pub trees_of : List Deed → List TreeStatement
-trees_of deeds = map (λ (deed : Deed). deed.statement) deeds
+abbrev pub trees_of : List Operation → List TreeStatement
+trees_of operations = map (λ (operation : Operation). operation.statement) operations
 
 -- what isn't entangled takes no value
-abbrev pub TakesNone : Deed → Type 0
-TakesNone deed = is_entangled deed.statement ≡ false → deed.valuation ≡ []
+abbrev pub TakesNone : Operation → Type 0
+TakesNone operation = is_entangled operation.statement ≡ false → operation.valuation ≡ []
 
-one_list : (x y : List Deed) → Some x ≡ Some y → x ≡ y
+one_list : (x y : List Operation) → Some x ≡ Some y → x ≡ y
 one_list x y e = cc
 
-abbrev AreDeedsOf : List TreeStatement → List Deed → Type 0
-AreDeedsOf statements deeds = (trees_of deeds ≡ statements) × AllByRecursion TakesNone deeds
+abbrev AreOperationsOf : List TreeStatement → List Operation → Type 0
+AreOperationsOf statements operations = (trees_of operations ≡ statements) × AllByRecursion TakesNone operations
 
-deed_put : (statement : TreeStatement) (valuation : Valuation) (statements : List TreeStatement)
-    (rest : Option (List Deed)) (deeds : List Deed)
-    → ((others : List Deed) → rest ≡ Some others → AreDeedsOf statements others)
-    → (is_entangled statement ≡ false → valuation ≡ []) → deed_first statement valuation rest ≡ Some deeds
-    → AreDeedsOf (statement ∷ statements) deeds
-deed_put statement valuation statements (Some others) deeds so none e =
+operation_put : (statement : TreeStatement) (valuation : Valuation) (statements : List TreeStatement)
+    (rest : Option (List Operation)) (operations : List Operation)
+    → ((others : List Operation) → rest ≡ Some others → AreOperationsOf statements others)
+    → (is_entangled statement ≡ false → valuation ≡ []) → operation_first statement valuation rest ≡ Some operations
+    → AreOperationsOf (statement ∷ statements) operations
+operation_put statement valuation statements (Some others) operations so none e =
     let behind = so others refl in
-    subst (λ (all : List Deed). AreDeedsOf (statement ∷ statements) all)
-    (one_list (record { statement = statement; valuation = valuation } ∷ others) deeds e)
+    subst (λ (all : List Operation). AreOperationsOf (statement ∷ statements) all)
+    (one_list (record { statement = statement; valuation = valuation } ∷ others) operations e)
     (ap (λ (all : List TreeStatement). statement ∷ all) behind.0, (none, behind.1))
-deed_put statement valuation statements None deeds so none e = cc (e)
+operation_put statement valuation statements None operations so none e = cc (e)
 
-pub deeds_so : (statements : List TreeStatement) (oracle : List Valuation) (deeds : List Deed)
-    → deeds_of statements oracle ≡ Some deeds → AreDeedsOf statements deeds
-deeds_so [] [] deeds e = subst (λ (all : List Deed). AreDeedsOf [] all) (one_list [] deeds e) (refl, tt)
-deeds_so [] (valuation ∷ oracle) deeds e = cc (e)
-deeds_so (statement ∷ more) oracle deeds e =
-    by (is_entangled statement) refl oracle e (λ oracle others there. deeds_so more oracle others there)
+pub operations_so : (statements : List TreeStatement) (oracle : List Valuation) (operations : List Operation)
+    → operations_of statements oracle ≡ Some operations → AreOperationsOf statements operations
+operations_so [] [] operations e = subst (λ (all : List Operation). AreOperationsOf [] all) (one_list [] operations e) (refl, tt)
+operations_so [] (valuation ∷ oracle) operations e = cc (e)
+operations_so (statement ∷ more) oracle operations e =
+    by (is_entangled statement) refl oracle e (λ oracle others there. operations_so more oracle others there)
   where
     by : (b : Bool) → is_entangled statement ≡ b → (oracle : List Valuation)
-        → with_answer statement b oracle (λ others. deeds_of more others) ≡ Some deeds
-        → ((oracle : List Valuation) (others : List Deed) → deeds_of more oracle ≡ Some others
-        → AreDeedsOf more others)
-        → AreDeedsOf (statement ∷ more) deeds
+        → with_answer statement b oracle (λ others. operations_of more others) ≡ Some operations
+        → ((oracle : List Valuation) (others : List Operation) → operations_of more oracle ≡ Some others
+        → AreOperationsOf more others)
+        → AreOperationsOf (statement ∷ more) operations
     by false is oracle e rest =
-        deed_put statement [] more (deeds_of more oracle) deeds (rest oracle) (λ plain. refl) e
+        operation_put statement [] more (operations_of more oracle) operations (rest oracle) (λ plain. refl) e
     by true is [] e rest = cc (e)
     by true is (valuation ∷ oracle) e rest =
-        deed_put statement valuation more (deeds_of more oracle) deeds (rest oracle)
+        operation_put statement valuation more (operations_of more oracle) operations (rest oracle)
         (λ plain. clash (is_entangled statement) is plain) e
 
 -- ---- a part of a list, behind so many
@@ -158,10 +158,10 @@ entangled_form schemas bound after entangled form e =
       w.1 ∙ ap (λ (f : Statement Known × Bound). Ok (w.0.0, f.1)) same,
     )
 
--- a sight of a script's entangled statement, and the form of that, that can be told
-pub record IsSightTold (tx : ℕ) (script : Script) (plain : Plain) (sight : Sight) : Type 0 where
-  pub of_script : sight.tx ≡ tx
-  pub statement : numbered script.statements sight.place ≡ Some (trees.Entangled sight.entangled)
+-- a read view of a script's entangled statement, and the form of that, that can be told
+pub record IsReadViewTold (tx : ℕ) (script : Script) (plain : Plain) (read_view : ReadView) : Type 0 where
+  pub of_script : read_view.tx ≡ tx
+  pub statement : numbered script.statements read_view.place ≡ Some (trees.Entangled read_view.entangled)
   pub form : Entangled Known
-  pub resolved : numbered plain.statements sight.place ≡ Some (forms.Entangled form)
-  pub answered : IsAnswered sight.entangled form sight.valuation
+  pub resolved : numbered plain.statements read_view.place ≡ Some (forms.Entangled form)
+  pub answered : IsAnswered read_view.entangled form read_view.valuation

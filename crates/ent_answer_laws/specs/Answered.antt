@@ -9,7 +9,7 @@ use Rattle.ent_semantics.specs.declared.answer.Answer.TheVariants as answers
 use Rattle.ent_semantics.specs.Database.{Database}
 use Rattle.ent_semantics.specs.Effect.{Effect}
 use Rattle.ent_semantics.specs.Joint.{IsGrounded}
-use Rattle.ent_semantics.specs.Serial.{Sight, Turn}
+use Rattle.ent_semantics.specs.Serial.{ReadView, Turn}
 use Rattle.ent_form.specs.Catalogue.{schemas_of}
 use Rattle.ent_form.specs.Kinds.{Bound}
 use Rattle.ent_form.specs.ScriptFaults.{script_faults}
@@ -41,8 +41,8 @@ pub record IsEffectTold (declared : List Create) (after : Bound) (statement : St
   pub told : CanBeCounted effect.answer → IsAnswerTold effect.answer
 
 -- each entangled statement is answered by a grounding over the database that it sees
-abbrev pub AreGrounded : List Create → List Sight → Type 0
-AreGrounded declared run = (sight : Sight) → Contains run sight → IsGrounded declared sight
+abbrev pub AreGrounded : List Create → List ReadView → Type 0
+AreGrounded declared run = (read_view : ReadView) → Contains run read_view → IsGrounded declared read_view
 
 -- each turn's answers are those that its script can have
 abbrev pub AreTurnsAnswered : List Turn → List (List Answer) → Type 0

@@ -25,8 +25,8 @@ ghost use Rattle.ent_semantics.specs.Database.{Database, Environment, opening_da
 ghost use Rattle.ent_semantics.specs.Effect.{Effect};
 ghost use Rattle.ent_semantics.specs.Entangled.{Valuation, is_grounding};
 ghost use Rattle.ent_semantics.specs.Joint.{member_of};
-ghost use Rattle.ent_semantics.specs.Serial.{Run, Runs, Sight, Turn, numbered, script_run, script_sights};
-ghost use Rattle.ent_semantics.specs.Serial.{scripts_run, scripts_sights};
+ghost use Rattle.ent_semantics.specs.Serial.{Run, Runs, ReadView, Turn, numbered, script_run, script_read_views};
+ghost use Rattle.ent_semantics.specs.Serial.{scripts_run, scripts_read_views};
 ghost use Rattle.ent_semantics.specs.Statement.{statement_meaning};
 ghost use Rattle.ent_set.specs.Sets as set;
 ghost use Rattle.ent_tree.specs.declared.declaration.Create.{Create};
@@ -102,12 +102,12 @@ pub fn groundings_can_be_told()
 pub fn scripts_answer_what_can_be_told()
     ensures rows { (declared : List Create) (turn : Turn) (database : Database) (run : Run)
         → declarations_fault [] declared ≡ None → CanRun declared turn.script → HoldsRowsOf declared database
-        → AreGrounded declared (script_sights declared turn database)
+        → AreGrounded declared (script_read_views declared turn database)
         → script_run declared turn.script turn.oracle database ≡ Some run
         → HoldsRowsOf declared run.database }
     ensures answers { (declared : List Create) (turn : Turn) (database : Database) (run : Run)
         → declarations_fault [] declared ≡ None → CanRun declared turn.script → HoldsRowsOf declared database
-        → AreGrounded declared (script_sights declared turn database)
+        → AreGrounded declared (script_read_views declared turn database)
         → script_run declared turn.script turn.oracle database ≡ Some run
         → AllByRecursion CanBeCounted run.answers
         → AreAnswersTo turn.script.statements run.answers }
@@ -121,14 +121,14 @@ pub fn runs_answer_what_can_be_told()
         → declarations_fault [] declared ≡ None
         → ((turn : Turn) → Contains turns turn → CanRun declared turn.script)
         → HoldsRowsOf declared database
-        → AreGrounded declared (scripts_sights declared turns database)
+        → AreGrounded declared (scripts_read_views declared turns database)
         → scripts_run declared turns database ≡ Some runs
         → HoldsRowsOf declared runs.database }
     ensures answers { (declared : List Create) (turns : List Turn) (database : Database) (runs : Runs)
         → declarations_fault [] declared ≡ None
         → ((turn : Turn) → Contains turns turn → CanRun declared turn.script)
         → HoldsRowsOf declared database
-        → AreGrounded declared (scripts_sights declared turns database)
+        → AreGrounded declared (scripts_read_views declared turns database)
         → scripts_run declared turns database ≡ Some runs
         → AllByRecursion (AllByRecursion CanBeCounted) runs.answers
         → AreTurnsAnswered turns runs.answers }
@@ -138,15 +138,15 @@ pub fn runs_answer_what_can_be_told()
 
 /// Each entangled statement of such a run, with its grounding, is a member that a history of these tables and scripts
 /// can tell: a value that can be told for each written variable, of the kind that the form binds it in.
-pub fn sights_can_be_told()
-    ensures { (history : History) (turns : List Turn) (database : Database) (sight : Sight)
+pub fn read_views_can_be_told()
+    ensures { (history : History) (turns : List Turn) (database : Database) (read_view : ReadView)
         → declarations_fault [] history.opening.tables ≡ None
         → ((turn : Turn) → Contains turns turn → CanRun history.opening.tables turn.script)
         → ((turn : Turn) → Contains turns turn → numbered history.scripts turn.tx ≡ Some turn.script)
         → HoldsRowsOf history.opening.tables database
-        → AreGrounded history.opening.tables (scripts_sights history.opening.tables turns database)
-        → Contains (scripts_sights history.opening.tables turns database) sight
-        → IsMemberTold history (told_member history.scripts (member_of sight)) }
+        → AreGrounded history.opening.tables (scripts_read_views history.opening.tables turns database)
+        → Contains (scripts_read_views history.opening.tables turns database) read_view
+        → IsMemberTold history (told_member history.scripts (member_of read_view)) }
 {
     forms_run_as_statements();
 }

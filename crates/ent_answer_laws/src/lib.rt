@@ -6,7 +6,7 @@
 mod law;
 
 pub use law::{
-    groundings_can_be_told, runs_answer_what_can_be_told, scripts_answer_what_can_be_told,
-    sights_can_be_told, statements_answer_what_can_be_told, tables_can_be_told,
+    groundings_can_be_told, read_views_can_be_told, runs_answer_what_can_be_told,
+    scripts_answer_what_can_be_told, statements_answer_what_can_be_told, tables_can_be_told,
     told_openings_hold_rows,
 };

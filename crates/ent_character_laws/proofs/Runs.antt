@@ -12,11 +12,11 @@ use Rattle.ent_semantics.specs.Database.{Database, Environment}
 use Rattle.ent_semantics.specs.Effect.{Effect}
 use Rattle.ent_semantics.specs.Entangled.{Valuation}
 use Rattle.ent_semantics.specs.Joint.{IsGrounded}
-use Rattle.ent_semantics.specs.Serial.{Deed, Run, Sight, after, answered_first, is_entangled, run, seen, seen_after}
-use Rattle.ent_semantics.specs.Serial.{sights}
+use Rattle.ent_semantics.specs.Serial.{Operation, Run, ReadView, after, answered_first, is_entangled, run, seen, seen_after}
+use Rattle.ent_semantics.specs.Serial.{read_views}
 use Rattle.ent_semantics.specs.Statement.{statement_meaning}
 use Rattle.ent_form.specs.Catalogue.{schemas_of}
-use Rattle.ent_rules.proofs.Deeds.{mapped_some}
+use Rattle.ent_rules.proofs.Operations.{mapped_some}
 use Rattle.ent_lists.specs.Elements.{In, in_either, in_first, in_second}
 use Rattle.ent_answer_laws.proofs.Walking.{TakesNone, trees_of}
 use Rattle.ent_character_laws.specs.Values.{AnswersValues, BindsValues, HoldsValues, LeavesValues, WritesValues}
@@ -27,30 +27,30 @@ one_run : (x y : Run) → Some x ≡ Some y → x ≡ y
 one_run x y e = cc
 
 module _ (P : Value → Type 0) (numbers : (number : ℤ) → P (Int number)) (declared : List Create) where
-  abbrev pub AllGrounded : List Sight → Type 0
-  AllGrounded all = (sight : Sight) → In sight all → IsGrounded declared sight
+  abbrev pub AllGrounded : List ReadView → Type 0
+  AllGrounded all = (read_view : ReadView) → In read_view all → IsGrounded declared read_view
 
   -- a statement without a fault that writes such values
   abbrev pub IsReady : Statement → Type 0
   IsReady statement = WritesValues P statement × IsFaultless (schemas_of declared) statement
 
   -- each grounding is of such values
-  abbrev pub AreSeen : List Sight → Type 0
-  AreSeen all = (sight : Sight) → In sight all → AllByRecursion P sight.valuation
+  abbrev pub AreSeen : List ReadView → Type 0
+  AreSeen all = (read_view : ReadView) → In read_view all → AllByRecursion P read_view.valuation
 
   -- what a run leaves and answers
   abbrev pub IsLeft : Run → Type 0
   IsLeft over = HoldsValues P over.database × AllByRecursion (AnswersValues P) over.answers
 
-  pub record RunKeeps (tx place : ℕ) (deeds : List Deed) (database : Database) (environment : Environment)
+  pub record RunKeeps (tx place : ℕ) (operations : List Operation) (database : Database) (environment : Environment)
       : Type 0 where
-    pub sees : AreSeen (sights declared tx place deeds database environment)
-    pub leaves : (over : Run) → run declared deeds database environment ≡ Some over → IsLeft over
+    pub sees : AreSeen (read_views declared tx place operations database environment)
+    pub leaves : (over : Run) → run declared operations database environment ≡ Some over → IsLeft over
 
   -- ---- one statement
 
   module _ (tx place : ℕ) (database : Database) (environment : Environment) where
-    abbrev seen_by : Statement → Valuation → List Sight
+    abbrev seen_by : Statement → Valuation → List ReadView
     seen_by statement valuation =
         seen tx place (record { statement = statement; valuation = valuation }) database environment
 
@@ -81,20 +81,20 @@ module _ (P : Value → Type 0) (numbers : (number : ℤ) → P (Int number)) (d
 
     seen_has : (statement : Statement) (valuation : Valuation) → AllByRecursion P valuation
         → AreSeen (seen_by statement valuation)
-    seen_has (statements.Entangled entangled) valuation has sight (inl same) =
-        subst (λ (s : Sight). AllByRecursion P s.valuation) (sym same) has
-    seen_has (statements.Entangled entangled) valuation has sight (inr nowhere) = absurd nowhere
-    seen_has (statements.Select select) valuation has sight nowhere = absurd nowhere
-    seen_has (statements.Insert insert) valuation has sight nowhere = absurd nowhere
-    seen_has (statements.Delete delete) valuation has sight nowhere = absurd nowhere
-    seen_has (statements.Update update) valuation has sight nowhere = absurd nowhere
-    seen_has (statements.Set set) valuation has sight nowhere = absurd nowhere
+    seen_has (statements.Entangled entangled) valuation has read_view (inl same) =
+        subst (λ (s : ReadView). AllByRecursion P s.valuation) (sym same) has
+    seen_has (statements.Entangled entangled) valuation has read_view (inr nowhere) = absurd nowhere
+    seen_has (statements.Select select) valuation has read_view nowhere = absurd nowhere
+    seen_has (statements.Insert insert) valuation has read_view nowhere = absurd nowhere
+    seen_has (statements.Delete delete) valuation has read_view nowhere = absurd nowhere
+    seen_has (statements.Update update) valuation has read_view nowhere = absurd nowhere
+    seen_has (statements.Set set) valuation has read_view nowhere = absurd nowhere
 
   -- ---- a statement and those behind it
 
-  module _ (tx place : ℕ) (here : List Sight) (more : List Deed) where
-    abbrev seen_later : Database → Environment → List Sight
-    seen_later = sights declared tx (suc place) more
+  module _ (tx place : ℕ) (here : List ReadView) (more : List Operation) where
+    abbrev seen_later : Database → Environment → List ReadView
+    seen_later = read_views declared tx (suc place) more
 
     record KeepsFrom (meaning : Result (Effect Database) Failure) : Type 0 where
       pub sees : AreSeen (here ++ seen_after meaning seen_later)
@@ -110,9 +110,9 @@ module _ (P : Value → Type 0) (numbers : (number : ℤ) → P (Int number)) (d
         let there = left effect refl in
         let rest = onward effect there grounded in
         record {
-          sees = λ sight at. elim (in_either here (seen_later effect.database effect.environment) sight at) [
-            | inl now ↦ own sight now
-            | inr behind ↦ rest.sees sight behind
+          sees = λ read_view at. elim (in_either here (seen_later effect.database effect.environment) read_view at) [
+            | inl now ↦ own read_view now
+            | inr behind ↦ rest.sees read_view behind
           ];
           leaves = λ over e.
               let g = mapped_some (answered_first effect.answer)
@@ -122,36 +122,36 @@ module _ (P : Value → Type 0) (numbers : (number : ℤ) → P (Int number)) (d
         }
     keeps_from (Err failure) own left grounded onward =
         record {
-          sees = λ sight at. elim (in_either here [] sight at) [
-            | inl now ↦ own sight now
+          sees = λ read_view at. elim (in_either here [] read_view at) [
+            | inl now ↦ own read_view now
             | inr nowhere ↦ absurd nowhere
           ];
           leaves = λ over e. cc (e);
         }
 
-  pub run_keeps : (tx place : ℕ) (deeds : List Deed) → AllByRecursion TakesNone deeds
-      → AllByRecursion IsReady (trees_of deeds) → (database : Database) → HoldsValues P database
+  pub run_keeps : (tx place : ℕ) (operations : List Operation) → AllByRecursion TakesNone operations
+      → AllByRecursion IsReady (trees_of operations) → (database : Database) → HoldsValues P database
       → (environment : Environment) → BindsValues P environment
-      → AllGrounded (sights declared tx place deeds database environment)
-      → RunKeeps tx place deeds database environment
+      → AllGrounded (read_views declared tx place operations database environment)
+      → RunKeeps tx place operations database environment
   run_keeps tx place [] none ready database holds environment binds grounded =
       let still : Run = record { database = database; environment = environment; answers = [] } in
       record {
-        sees = λ sight nowhere. absurd nowhere;
+        sees = λ read_view nowhere. absurd nowhere;
         leaves = λ over e. subst IsLeft (one_run still over e) (holds, tt);
       }
-  run_keeps tx place (deed ∷ more) none ready database holds environment binds grounded =
-      let meaning = statement_meaning declared deed.statement deed.valuation database environment in
-      let here = seen tx place deed database environment in
-      let later = seen_after meaning (sights declared tx (suc place) more) in
-      let has = valuation_has tx place database environment holds binds deed.statement deed.valuation ready.0 none.0
-      (λ sight at. grounded sight (in_first here later sight at)) in
+  run_keeps tx place (operation ∷ more) none ready database holds environment binds grounded =
+      let meaning = statement_meaning declared operation.statement operation.valuation database environment in
+      let here = seen tx place operation database environment in
+      let later = seen_after meaning (read_views declared tx (suc place) more) in
+      let has = valuation_has tx place database environment holds binds operation.statement operation.valuation ready.0 none.0
+      (λ read_view at. grounded read_view (in_first here later read_view at)) in
       let from = keeps_from tx place here more meaning
-      (seen_has tx place database environment deed.statement deed.valuation has)
+      (seen_has tx place database environment operation.statement operation.valuation has)
       (λ effect e.
-      statement_leaves P numbers declared deed.statement deed.valuation database environment effect ready.0.0 has holds
+      statement_leaves P numbers declared operation.statement operation.valuation database environment effect ready.0.0 has holds
       binds e)
-      (λ sight at. grounded sight (in_second here later sight at))
+      (λ read_view at. grounded read_view (in_second here later read_view at))
       (λ effect there rest. run_keeps tx (suc place) more none.1 ready.1 effect.database there.tables effect.environment
       there.variables rest) in
       record { sees = from.sees; leaves = from.leaves }

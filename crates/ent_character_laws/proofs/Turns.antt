@@ -12,16 +12,16 @@ use Rattle.ent_tree.specs.declared.script.Statement.{Statement}
 use Rattle.ent_print.specs.Spelling.{end_word, line_spelling, sign, statement_spelling, word}
 use Rattle.ent_text.specs.declared.symbol.Symbol.TheVariants as symbols
 use Rattle.ent_semantics.specs.Database.{Database, nothing_bound}
-use Rattle.ent_semantics.specs.Serial.{Deed, Run, Runs, Sight, Turn, deeds_of, ended, ran_first, run, script_run}
-use Rattle.ent_semantics.specs.Serial.{script_sights, scripts_run, scripts_sights, seen_from, sights}
+use Rattle.ent_semantics.specs.Serial.{Operation, Run, Runs, ReadView, Turn, operations_of, ended, ran_first, run, script_run}
+use Rattle.ent_semantics.specs.Serial.{script_read_views, scripts_run, scripts_read_views, seen_from, read_views}
 use Rattle.ent_form.specs.Catalogue.{schemas_of}
 use Rattle.ent_form.specs.Kinds.{none_bound}
 use Rattle.ent_form.specs.ScriptFaults.{script_faults}
-use Rattle.ent_rules.proofs.Deeds.{mapped_some, then_some}
+use Rattle.ent_rules.proofs.Operations.{mapped_some, then_some}
 use Rattle.ent_lists.specs.Elements.{In, all_first, all_second, contains_in, in_contains, in_either, in_first}
 use Rattle.ent_lists.specs.Elements.{in_second}
-use Rattle.ent_answer_laws.proofs.Walking.{deeds_so}
-use Rattle.ent_character_laws.specs.Kept.{CanKeep, RunsKeep, SightsKeep}
+use Rattle.ent_answer_laws.proofs.Walking.{operations_so}
+use Rattle.ent_character_laws.specs.Kept.{CanKeep, RunsKeep, ReadViewsKeep}
 use Rattle.ent_character_laws.specs.Values.{AnswersValues, BindsValues, HoldsValues, IsWritten, ScriptWrites}
 use Rattle.ent_character_laws.specs.Values.{WritesValues}
 use Rattle.ent_character_laws.proofs.Grounding.{IsFaultless, all_faultless}
@@ -34,10 +34,10 @@ ended_some Rollback o over e = cc (e)
 one_runs : (x y : Runs) → Some x ≡ Some y → x ≡ y
 one_runs x y e = cc
 
-from_run : (o : Option Run) (more : Database → List Sight) (sight : Sight) → In sight (seen_from o more)
-    → (over : Run) × (o ≡ Some over) × In sight (more over.database)
-from_run (Some over) more sight at = (over, refl, at)
-from_run None more sight at = absurd at
+from_run : (o : Option Run) (more : Database → List ReadView) (read_view : ReadView) → In read_view (seen_from o more)
+    → (over : Run) × (o ≡ Some over) × In read_view (more over.database)
+from_run (Some over) more read_view at = (over, refl, at)
+from_run None more read_view at = absurd at
 
 module _ (P : Value → Type 0) where
   -- ---- scripts
@@ -71,60 +71,60 @@ module _ (P : Value → Type 0) where
 
     -- ---- one turn
 
-    abbrev deeds_in : Turn → Option (List Deed)
-    deeds_in turn = deeds_of turn.script.statements turn.oracle
+    abbrev operations_in : Turn → Option (List Operation)
+    operations_in turn = operations_of turn.script.statements turn.oracle
 
-    turn_sights : (turn : Turn) (database : Database) (deeds : List Deed) → deeds_in turn ≡ Some deeds
-        → script_sights declared turn database ≡ sights declared turn.tx 1 deeds database nothing_bound
-    turn_sights turn database deeds e = rw e refl
+    turn_read_views : (turn : Turn) (database : Database) (operations : List Operation) → operations_in turn ≡ Some operations
+        → script_read_views declared turn database ≡ read_views declared turn.tx 1 operations database nothing_bound
+    turn_read_views turn database operations e = rw e refl
 
-    no_turn_sights : (turn : Turn) (database : Database) → deeds_in turn ≡ None
-        → script_sights declared turn database ≡ []
-    no_turn_sights turn database e = rw e refl
+    no_turn_read_views : (turn : Turn) (database : Database) → operations_in turn ≡ None
+        → script_read_views declared turn database ≡ []
+    no_turn_read_views turn database e = rw e refl
 
     record TurnKeeps (turn : Turn) (database : Database) : Type 0 where
-      pub sees : AreSeen P numbers declared (script_sights declared turn database)
+      pub sees : AreSeen P numbers declared (script_read_views declared turn database)
       pub leaves : (over : Run) → script_run declared turn.script turn.oracle database ≡ Some over
           → IsLeft P numbers declared over
 
     turn_keeps : (turn : Turn) → script_faults (schemas_of declared) turn.script ≡ [] → ScriptWrites P turn.script
         → (database : Database) → HoldsValues P database
-        → AllGrounded P numbers declared (script_sights declared turn database) → TurnKeeps turn database
+        → AllGrounded P numbers declared (script_read_views declared turn database) → TurnKeeps turn database
     turn_keeps turn resolved writes database holds grounded =
-        record { sees = sees_so (deeds_in turn) refl; leaves = leaves_so }
+        record { sees = sees_so (operations_in turn) refl; leaves = leaves_so }
       where
-        onward : (deeds : List Deed) → deeds_in turn ≡ Some deeds
-            → RunKeeps P numbers declared turn.tx 1 deeds database nothing_bound
-        onward deeds is =
-            let so = deeds_so turn.script.statements turn.oracle deeds is in
-            run_keeps P numbers declared turn.tx 1 deeds so.1
+        onward : (operations : List Operation) → operations_in turn ≡ Some operations
+            → RunKeeps P numbers declared turn.tx 1 operations database nothing_bound
+        onward operations is =
+            let so = operations_so turn.script.statements turn.oracle operations is in
+            run_keeps P numbers declared turn.tx 1 operations so.1
             (subst (λ (all : List Statement). AllByRecursion (IsReady P numbers declared) all) (sym so.0)
             (each_ready turn.script.statements (statements_are_written turn.script writes)
             (all_faultless (schemas_of declared) none_bound turn.script.statements resolved)))
             database holds nothing_bound nothing_binds
-            (λ sight at. grounded sight (subst (λ (all : List Sight). In sight all)
-            (sym (turn_sights turn database deeds is)) at))
+            (λ read_view at. grounded read_view (subst (λ (all : List ReadView). In read_view all)
+            (sym (turn_read_views turn database operations is)) at))
 
-        sees_so : (o : Option (List Deed)) → deeds_in turn ≡ o
-            → AreSeen P numbers declared (script_sights declared turn database)
-        sees_so (Some deeds) is sight at =
-            (onward deeds is).sees sight
-            (subst (λ (all : List Sight). In sight all) (turn_sights turn database deeds is) at)
-        sees_so None is sight at =
-            absurd (subst (λ (all : List Sight). In sight all) (no_turn_sights turn database is) at)
+        sees_so : (o : Option (List Operation)) → operations_in turn ≡ o
+            → AreSeen P numbers declared (script_read_views declared turn database)
+        sees_so (Some operations) is read_view at =
+            (onward operations is).sees read_view
+            (subst (λ (all : List ReadView). In read_view all) (turn_read_views turn database operations is) at)
+        sees_so None is read_view at =
+            absurd (subst (λ (all : List ReadView). In read_view all) (no_turn_read_views turn database is) at)
 
         leaves_so : (over : Run) → script_run declared turn.script turn.oracle database ≡ Some over
             → IsLeft P numbers declared over
         leaves_so over e =
-            let from = λ (deeds : List Deed). run declared deeds database nothing_bound in
-            let deeds = then_some from (deeds_in turn) over
-            (ended_some turn.script.end (option_and_then from (deeds_in turn)) over e) in
-            (onward deeds.0 deeds.1).leaves over deeds.2
+            let from = λ (operations : List Operation). run declared operations database nothing_bound in
+            let operations = then_some from (operations_in turn) over
+            (ended_some turn.script.end (option_and_then from (operations_in turn)) over e) in
+            (onward operations.0 operations.1).leaves over operations.2
 
     -- ---- one turn after the other
 
     record TurnsKeep (turns : List Turn) (database : Database) : Type 0 where
-      pub sees : AreSeen P numbers declared (scripts_sights declared turns database)
+      pub sees : AreSeen P numbers declared (scripts_read_views declared turns database)
       pub leaves : (over : Runs) → scripts_run declared turns database ≡ Some over
           → HoldsValues P over.database × AllByRecursion (AllByRecursion (AnswersValues P)) over.answers
 
@@ -134,32 +134,32 @@ module _ (P : Value → Type 0) where
     turns_keep : (turns : List Turn)
         → ((turn : Turn) → In turn turns → script_faults (schemas_of declared) turn.script ≡ [])
         → ((turn : Turn) → In turn turns → ScriptWrites P turn.script) → (database : Database)
-        → HoldsValues P database → AllGrounded P numbers declared (scripts_sights declared turns database)
+        → HoldsValues P database → AllGrounded P numbers declared (scripts_read_views declared turns database)
         → TurnsKeep turns database
     turns_keep [] resolved writes database holds grounded =
         let still : Runs = record { database = database; answers = [] } in
         record {
-          sees = λ sight nowhere. absurd nowhere;
+          sees = λ read_view nowhere. absurd nowhere;
           leaves = λ over e. subst IsRunLeft (one_runs still over e) (holds, tt);
         }
     turns_keep (turn ∷ more) resolved writes database holds grounded =
         let alone = script_run declared turn.script turn.oracle database in
-        let here = script_sights declared turn database in
-        let later = seen_from alone (scripts_sights declared more) in
+        let here = script_read_views declared turn database in
+        let later = seen_from alone (scripts_read_views declared more) in
         let first = turn_keeps turn (resolved turn (inl refl)) (writes turn (inl refl)) database holds
-        (λ sight at. grounded sight (in_first here later sight at)) in
+        (λ read_view at. grounded read_view (in_first here later read_view at)) in
         let behind : (over : Run) → alone ≡ Some over → TurnsKeep more over.database =
         λ over is.
         turns_keep more (λ other at. resolved other (inr at)) (λ other at. writes other (inr at)) over.database
         (first.leaves over is).0
-        (λ sight at. grounded sight (in_second here later sight
-        (subst (λ (o : Option Run). In sight (seen_from o (scripts_sights declared more))) (sym is) at))) in
+        (λ read_view at. grounded read_view (in_second here later read_view
+        (subst (λ (o : Option Run). In read_view (seen_from o (scripts_read_views declared more))) (sym is) at))) in
         record {
-          sees = λ sight at. elim (in_either here later sight at) [
-            | inl now ↦ first.sees sight now
+          sees = λ read_view at. elim (in_either here later read_view at) [
+            | inl now ↦ first.sees read_view now
             | inr then ↦
-                let over = from_run alone (scripts_sights declared more) sight then in
-                (behind over.0 over.1).sees sight over.2
+                let over = from_run alone (scripts_read_views declared more) read_view then in
+                (behind over.0 over.1).sees read_view over.2
           ];
           leaves = λ over e.
               let r = then_some (λ (r : Run). option_map (ran_first r.answers) (scripts_run declared more r.database))
@@ -174,7 +174,7 @@ module _ (P : Value → Type 0) where
   module _ (numbers : (number : ℤ) → P (Int number)) where
     all_keep : (declared : List Create) (turns : List Turn) (database : Database) → CanKeep P declared turns
         → HoldsValues P database
-        → AllGrounded P numbers declared (scripts_sights declared turns database)
+        → AllGrounded P numbers declared (scripts_read_views declared turns database)
         → TurnsKeep numbers declared turns database
     all_keep declared turns database can holds grounded =
         turns_keep numbers declared turns (λ turn at. can.resolved turn (in_contains turns turn at))
@@ -183,10 +183,10 @@ module _ (P : Value → Type 0) where
     pub runs_keep : RunsKeep P
     runs_keep declared turns database runs can holds grounded e =
         (all_keep declared turns database can holds
-        (λ sight at. grounded sight (in_contains (scripts_sights declared turns database) sight at))).leaves runs e
+        (λ read_view at. grounded read_view (in_contains (scripts_read_views declared turns database) read_view at))).leaves runs e
 
-    pub sights_keep : SightsKeep P
-    sights_keep declared turns database sight can holds grounded there =
+    pub read_views_keep : ReadViewsKeep P
+    read_views_keep declared turns database read_view can holds grounded there =
         (all_keep declared turns database can holds
-        (λ sight at. grounded sight (in_contains (scripts_sights declared turns database) sight at))).sees sight
-        (contains_in (scripts_sights declared turns database) sight there)
+        (λ read_view at. grounded read_view (in_contains (scripts_read_views declared turns database) read_view at))).sees read_view
+        (contains_in (scripts_read_views declared turns database) read_view there)

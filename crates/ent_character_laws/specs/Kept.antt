@@ -13,7 +13,7 @@ use Rattle.ent_tree.specs.declared.script.Statement.TheVariants as statements
 use Rattle.ent_semantics.specs.Database.{Database, Environment, Name, opening_database, row_of}
 use Rattle.ent_semantics.specs.Effect.{Effect}
 use Rattle.ent_semantics.specs.Entangled.{Valuation, is_grounding}
-use Rattle.ent_semantics.specs.Serial.{Runs, Sight, Turn, scripts_run, scripts_sights}
+use Rattle.ent_semantics.specs.Serial.{Runs, ReadView, Turn, scripts_run, scripts_read_views}
 use Rattle.ent_semantics.specs.Statement.{statement_meaning}
 use Rattle.ent_form.specs.Catalogue.{schemas_of}
 use Rattle.ent_form.specs.ScriptFaults.{script_faults}
@@ -76,16 +76,16 @@ module _ (P : Value → Type 0) where
       (declared : List Create) (turns : List Turn) (database : Database) (runs : Runs)
       → CanKeep declared turns
       → HoldsValues P database
-      → AreGrounded declared (scripts_sights declared turns database)
+      → AreGrounded declared (scripts_read_views declared turns database)
       → scripts_run declared turns database ≡ Some runs
       → HoldsValues P runs.database × AllByRecursion (AllByRecursion (AnswersValues P)) runs.answers
 
   -- Each grounding of such a run has such values.
-  abbrev pub SightsKeep : Type 0
-  SightsKeep =
-      (declared : List Create) (turns : List Turn) (database : Database) (sight : Sight)
+  abbrev pub ReadViewsKeep : Type 0
+  ReadViewsKeep =
+      (declared : List Create) (turns : List Turn) (database : Database) (read_view : ReadView)
       → CanKeep declared turns
       → HoldsValues P database
-      → AreGrounded declared (scripts_sights declared turns database)
-      → Contains (scripts_sights declared turns database) sight
-      → AllByRecursion P sight.valuation
+      → AreGrounded declared (scripts_read_views declared turns database)
+      → Contains (scripts_read_views declared turns database) read_view
+      → AllByRecursion P read_view.valuation

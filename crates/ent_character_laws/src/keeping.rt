@@ -1,6 +1,6 @@
 //! Laws of the texts among values. Nothing here has a body; what holds is in the contracts.
 ghost use Rattle.std.specs.Prelude.{ℕ, Bool, List};
-ghost use Rattle.ent_character_laws.specs.Kept.{GroundingsKeep, OpeningsKeep, RunsKeep, SightsKeep};
+ghost use Rattle.ent_character_laws.specs.Kept.{GroundingsKeep, OpeningsKeep, RunsKeep, ReadViewsKeep};
 ghost use Rattle.ent_character_laws.specs.Kept.{StatementsKeep, TablesShow};
 ghost use Rattle.ent_character_laws.specs.Values.{IsOfCharacters, IsPassed};
 
@@ -32,7 +32,7 @@ pub fn groundings_keep_texts()
 /// such texts. The same holds of texts that pass any other test.
 pub fn runs_keep_texts()
     ensures characters { RunsKeep IsOfCharacters }
-    ensures character_sights { SightsKeep IsOfCharacters }
+    ensures character_read_views { ReadViewsKeep IsOfCharacters }
     ensures tests { (passes : List ℕ → Bool) → RunsKeep (IsPassed passes) }
-    ensures test_sights { (passes : List ℕ → Bool) → SightsKeep (IsPassed passes) }
+    ensures test_read_views { (passes : List ℕ → Bool) → ReadViewsKeep (IsPassed passes) }
 {}

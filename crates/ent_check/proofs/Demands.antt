@@ -8,7 +8,7 @@ use Rattle.std.specs.Option.{option_map}
 use Rattle.ent_semantics.specs.declared.book.JointAnswer.{JointAnswer}
 use Rattle.ent_semantics.specs.declared.book.Member.{Member}
 use Rattle.ent_semantics.specs.Book.{all_members}
-use Rattle.ent_semantics.specs.Serial.{Sight}
+use Rattle.ent_semantics.specs.Serial.{ReadView}
 use Rattle.ent_history.specs.declared.history.ToldJoint.{ToldJoint}
 use Rattle.ent_rules.specs.Account.{Account}
 use Rattle.ent_rules.specs.Joint.{is_right, is_statement_of, left_out_findings, members_findings, stands_among}
@@ -91,7 +91,7 @@ module _ (tx place n : ℕ) (positive : 0 < n) where
 -- ---- joint answers from an index on
 
 -- what is found first of all of them is what is found first of those from an index on, all of which are right
-pub record MetBehind (all : List Account) (run : List Sight) (joints : List ToldJoint) (i : ℕ) : Type 0 where
+pub record MetBehind (all : List Account) (run : List ReadView) (joints : List ToldJoint) (i : ℕ) : Type 0 where
   pub before : List Placed
   pub parts : placed (answers_told joints) ≡ before ++ placed_from (i + 1) (answers_told (drop i joints))
   pub above : AllByRecursion (λ (one : Placed). one.joint < i + 1) before
@@ -108,7 +108,7 @@ NothingFound all joints =
     first_of (members_findings all 1 [] (answers_told joints)
     ++ left_out_findings (all_members (answers_told joints)) all) ≡ None
 
-module _ (all : List Account) (run : List Sight) (joints : List ToldJoint) where
+module _ (all : List Account) (run : List ReadView) (joints : List ToldJoint) where
   pub met_begun : NothingFound all joints → MetBehind all run joints 0
   met_begun none =
       record {
@@ -168,16 +168,16 @@ module _ (all : List Account) (run : List Sight) (joints : List ToldJoint) where
         ∙ turned (stands_among m.0.tx m.0.place (members_in behind.before)) new_place))
 
     -- an offer is of this joint answer where its statement is a member
-    pub member_here : (seats : SeatMap) → AreSeatsOf (placed (answers_told joints)) seats → (sight : Sight)
-        → stands_among sight.tx sight.place members
-        ≡ (joint_of (get place_cmp seats (sight.tx, sight.place)) == (i + 1))
-    member_here seats are sight =
+    pub member_here : (seats : SeatMap) → AreSeatsOf (placed (answers_told joints)) seats → (read_view : ReadView)
+        → stands_among read_view.tx read_view.place members
+        ≡ (joint_of (get place_cmp seats (read_view.tx, read_view.place)) == (i + 1))
+    member_here seats are read_view =
         let positive : 0 < i + 1 = omega arith in
-        sym (ap (λ o. joint_of o == (i + 1)) (are sight.tx sight.place)
-        ∙ ap (λ xs. joint_of (option_map seat_of (member_at xs sight.tx sight.place)) == (i + 1)) parts_here
-        ∙ own_joint sight.tx sight.place (i + 1) positive behind.before members (placed_from (suc (i + 1)) rest)
+        sym (ap (λ o. joint_of o == (i + 1)) (are read_view.tx read_view.place)
+        ∙ ap (λ xs. joint_of (option_map seat_of (member_at xs read_view.tx read_view.place)) == (i + 1)) parts_here
+        ∙ own_joint read_view.tx read_view.place (i + 1) positive behind.before members (placed_from (suc (i + 1)) rest)
         behind.above (placed_high (suc (i + 1)) (suc (i + 1)) rest (omega arith))
-        (apart_here sight.tx sight.place))
+        (apart_here read_view.tx read_view.place))
 
     found_here : first_of (post_findings run 1 (answers_told joints))
         ≡ first_of (unless (are_met run members) rule.Post (thing.Joint (i + 1))

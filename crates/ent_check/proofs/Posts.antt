@@ -8,11 +8,11 @@ use Rattle.std.specs.Option.{option_map}
 use Rattle.ent_semantics.specs.declared.answer.Fact.{Fact}
 use Rattle.ent_semantics.specs.declared.book.JointAnswer.{JointAnswer}
 use Rattle.ent_semantics.specs.declared.book.Member.{Member}
-use Rattle.ent_semantics.specs.Joint.{sight_heads, sight_posts}
-use Rattle.ent_semantics.specs.Serial.{Sight}
+use Rattle.ent_semantics.specs.Joint.{read_view_heads, read_view_posts}
+use Rattle.ent_semantics.specs.Serial.{ReadView}
 use Rattle.ent_rules.specs.Alike.{same_fact}
 use Rattle.ent_rules.specs.Joint.{stands_among}
-use Rattle.ent_rules.specs.Post.{are_met, is_offered, sights_of}
+use Rattle.ent_rules.specs.Post.{are_met, is_offered, read_views_of}
 use Rattle.ent_check.specs.Offers.{offer_of}
 use Rattle.ent_check.specs.declared.offer.Offer.{Offer}
 use Rattle.ent_check.proofs.Lists.{here, none_behind}
@@ -143,36 +143,36 @@ is_content_by own number offers offer =
     not (own offer == number) || list_all (is_met_by own number offers) offer.posts
 
 -- where an offer is of a joint answer just where its statement is a member
-module _ (run : List Sight) (own : Offer → ℕ) (number : ℕ) (members : List Member)
-    (same : (sight : Sight) → stands_among sight.tx sight.place members ≡ (own (offer_of sight) == number)) where
-  abbrev stands : Sight → Bool
-  stands sight = stands_among sight.tx sight.place members
+module _ (run : List ReadView) (own : Offer → ℕ) (number : ℕ) (members : List Member)
+    (same : (read_view : ReadView) → stands_among read_view.tx read_view.place members ≡ (own (offer_of read_view) == number)) where
+  abbrev stands : ReadView → Bool
+  stands read_view = stands_among read_view.tx read_view.place members
 
   abbrev heads : List Fact
-  heads = flat_map sight_heads (sights_of run members)
+  heads = flat_map read_view_heads (read_views_of run members)
 
   met : (post : Fact) → is_offered heads post ≡ is_met_by own number (map offer_of run) post
   met post =
-      any_made sight_heads stands (same_fact post) run
-      ∙ any_same (λ sight. stands sight && list_any (same_fact post) (sight_heads sight))
-      (λ sight. (own (offer_of sight) == number) && is_offered (sight_heads sight) post) run
-      (λ sight. ap (λ b. b && list_any (same_fact post) (sight_heads sight)) (same sight))
+      any_made read_view_heads stands (same_fact post) run
+      ∙ any_same (λ read_view. stands read_view && list_any (same_fact post) (read_view_heads read_view))
+      (λ read_view. (own (offer_of read_view) == number) && is_offered (read_view_heads read_view) post) run
+      (λ read_view. ap (λ b. b && list_any (same_fact post) (read_view_heads read_view)) (same read_view))
       ∙ sym (any_mapped offer_of (λ offer. (own offer == number) && is_offered offer.heads post) run)
 
-  content : (sight : Sight)
-      → (not (stands sight) || list_all (is_offered heads) (sight_posts sight))
-      ≡ is_content_by own number (map offer_of run) (offer_of sight)
-  content sight =
-      ap (λ b. not b || list_all (is_offered heads) (sight_posts sight)) (same sight)
-      ∙ ap (λ b. not (own (offer_of sight) == number) || b)
-      (all_same (is_offered heads) (is_met_by own number (map offer_of run)) (sight_posts sight) met)
+  content : (read_view : ReadView)
+      → (not (stands read_view) || list_all (is_offered heads) (read_view_posts read_view))
+      ≡ is_content_by own number (map offer_of run) (offer_of read_view)
+  content read_view =
+      ap (λ b. not b || list_all (is_offered heads) (read_view_posts read_view)) (same read_view)
+      ∙ ap (λ b. not (own (offer_of read_view) == number) || b)
+      (all_same (is_offered heads) (is_met_by own number (map offer_of run)) (read_view_posts read_view) met)
 
   pub met_over_offers : are_met run members
       ≡ list_all (is_content_by own number (map offer_of run)) (map offer_of run)
   met_over_offers =
-      all_made sight_posts stands (is_offered heads) run
-      ∙ all_same (λ sight. not (stands sight) || list_all (is_offered heads) (sight_posts sight))
-      (λ sight. is_content_by own number (map offer_of run) (offer_of sight)) run content
+      all_made read_view_posts stands (is_offered heads) run
+      ∙ all_same (λ read_view. not (stands read_view) || list_all (is_offered heads) (read_view_posts read_view))
+      (λ read_view. is_content_by own number (map offer_of run) (offer_of read_view)) run content
       ∙ sym (all_mapped offer_of (is_content_by own number (map offer_of run)) run)
 
 -- ---- offers, and beside them the numbers of their joint answers

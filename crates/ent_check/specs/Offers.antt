@@ -1,16 +1,16 @@
 -- What the entangled statements of a run offer and demand.
 use Rattle.std.specs.Prelude.{ℕ, Option, Some, None}
 use Rattle.ent_check.specs.declared.offer.Offer.{Offer}
-use Rattle.ent_semantics.specs.Joint.{sight_heads, sight_posts}
-use Rattle.ent_semantics.specs.Serial.{Sight}
+use Rattle.ent_semantics.specs.Joint.{read_view_heads, read_view_posts}
+use Rattle.ent_semantics.specs.Serial.{ReadView}
 
 -- what an entangled statement offers and demands under its grounding
-abbrev pub offer_of : Sight → Offer
-offer_of sight = record {
-  tx = sight.tx;
-  place = sight.place;
-  heads = sight_heads sight;
-  posts = sight_posts sight;
+abbrev pub offer_of : ReadView → Offer
+offer_of read_view = record {
+  tx = read_view.tx;
+  place = read_view.place;
+  heads = read_view_heads read_view;
+  posts = read_view_posts read_view;
 }
 
 -- the number of the joint answer of a seat, 0 where there is none

@@ -12,7 +12,7 @@ ghost use Rattle.ent_rules.specs.Placed.{placed};
 ghost use Rattle.ent_rules.specs.Post.{is_offered, post_findings};
 ghost use Rattle.ent_rules.specs.Verdict.{first_of};
 ghost use Rattle.ent_semantics.specs.Book.{all_members};
-ghost use Rattle.ent_semantics.specs.Serial.{Sight};
+ghost use Rattle.ent_semantics.specs.Serial.{ReadView};
 
 use crate::alike::same_fact;
 use crate::offer::Offer;
@@ -130,7 +130,7 @@ pub fn post_finding(
     offers: &[Offer],
 ) -> Result<Option<Finding>, AllocError>
     requires { AreSeatsOf (placed (map joint_answer_of joint_answers.now)) seats.now }
-    ensures { (all : List Account) (run : List Sight) → let answers = map joint_answer_of joint_answers.now in
+    ensures { (all : List Account) (run : List ReadView) → let answers = map joint_answer_of joint_answers.now in
         first_of (members_findings all 1 [] answers ++ left_out_findings (all_members answers) all) ≡ None
         → offers.now ≡ map offer_of run
         → IfOk result (λ finding. finding ≡ first_of (post_findings run 1 answers)) }

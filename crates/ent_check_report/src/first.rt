@@ -10,7 +10,7 @@ ghost use Rattle.ent_rules.specs.Joint.{left_out_findings, members_findings};
 ghost use Rattle.ent_rules.specs.Journal.{journal_findings};
 ghost use Rattle.ent_rules.specs.Placed.{placed};
 ghost use Rattle.ent_rules.specs.Post.{post_findings};
-ghost use Rattle.ent_rules.specs.Replay.{replay_findings, told_end, told_sights};
+ghost use Rattle.ent_rules.specs.Replay.{replay_findings, told_end, told_read_views};
 ghost use Rattle.ent_rules.specs.Table.{end_findings};
 ghost use Rattle.ent_rules.specs.Verdict.{first_finding, first_of};
 ghost use Rattle.ent_semantics.specs.Book.{all_members};
@@ -42,7 +42,7 @@ fn run_finding(
         let first = opening_database history.now.opening in
         IfOk result (λ finding. finding ≡ first_of
         (replay_findings declared (placed joints) (in_commit_order all) first
-        ++ (post_findings (told_sights declared (placed joints) (in_commit_order all) first) 1 joints
+        ++ (post_findings (told_read_views declared (placed joints) (in_commit_order all) first) 1 joints
         ++ end_findings (told_end declared (placed joints) (in_commit_order all) first) history.now.tables))) }
 {
     let replayed = replay(alloc, history, seats)?;

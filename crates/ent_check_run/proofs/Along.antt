@@ -17,8 +17,8 @@ use Rattle.ent_semantics.specs.declared.answer.Answer.{Answer}
 use Rattle.ent_semantics.specs.declared.answer.Failure.{Failure}
 use Rattle.ent_semantics.specs.Database.{Database, Environment, nothing_bound}
 use Rattle.ent_semantics.specs.Effect.{Effect}
-use Rattle.ent_semantics.specs.Serial.{Deed, Run, Sight, after, answered_first, is_entangled, run, seen, seen_after}
-use Rattle.ent_semantics.specs.Serial.{sights}
+use Rattle.ent_semantics.specs.Serial.{Operation, Run, ReadView, after, answered_first, is_entangled, run, seen, seen_after}
+use Rattle.ent_semantics.specs.Serial.{read_views}
 use Rattle.ent_closed.specs.Closing.{closed}
 use Rattle.ent_closed.specs.Form.{Tables, closed_worth, form_meaning}
 use Rattle.ent_closed.specs.Kinds.{Fits, tables_named}
@@ -34,8 +34,8 @@ use Rattle.ent_form.specs.declared.fault.FormFault.{FormFault}
 use Rattle.ent_form.specs.declared.script.Plain.{Plain}
 use Rattle.ent_form_laws.specs.Kinds.{AreDeclared, HasKinds, column_kinds}
 use Rattle.ent_form_laws.specs.Tables.{database_of, HaveDistinctColumns}
-use Rattle.ent_rules.specs.Placed.{Placed, member_at, told_deeds}
-use Rattle.ent_rules.specs.Replay.{deeds_findings, found_after, is_answered, later, ungrounded}
+use Rattle.ent_rules.specs.Placed.{Placed, member_at, told_operations}
+use Rattle.ent_rules.specs.Replay.{operations_findings, found_after, is_answered, later, ungrounded}
 use Rattle.ent_rules.specs.Verdict.{first_of}
 use Rattle.ent_rules.specs.declared.finding.Finding.{Finding}
 use Rattle.ent_select.specs.Tables.{kinds_in, rows_in}
@@ -45,7 +45,7 @@ use Rattle.ent_check_run.specs.Sorts.{CanRun}
 use Rattle.ent_check_run.specs.Laws.{Laws}
 use Rattle.ent_check.specs.Offers.{offer_of}
 use Rattle.ent_check.specs.declared.offer.Offer.{Offer}
-use Rattle.ent_check_run.specs.Alike.{IsAlike, answer_unless, deed_of, tree_findings, tree_meaning, tree_offers}
+use Rattle.ent_check_run.specs.Alike.{IsAlike, answer_unless, operation_of, tree_findings, tree_meaning, tree_offers}
 use Rattle.ent_check.proofs.Numbers.{first_none, first_some}
 use Rattle.ent_check_run.proofs.Step.{bind_given, one_answer, statement_alike}
 
@@ -57,7 +57,7 @@ module _ (database : Database) (environment : Environment) where
   found_there (Ok effect) more leaves = λ i. more (leaves.0 i) (leaves.1 i)
   found_there (Err failure) more leaves = absurd leaves
 
-  seen_there : (meaning : Result (Effect Database) Failure) (more : Database → Environment → List Sight)
+  seen_there : (meaning : Result (Effect Database) Failure) (more : Database → Environment → List ReadView)
       → Leaves meaning database environment → seen_after meaning more ≡ more database environment
   seen_there (Ok effect) more leaves = λ i. more (leaves.0 i) (leaves.1 i)
   seen_there (Err failure) more leaves = absurd leaves
@@ -79,34 +79,34 @@ module _ (database : Database) (environment : Environment) where
   left_there (Err failure) more leaves = absurd leaves
 
 module _ (creates : List Create) (members : List Placed) (tx : ℕ) where
-  abbrev pub run_left : List Deed → Database → Environment → Option Database
-  run_left deeds database environment = option_map (λ (of : Run). of.database) (run creates deeds database environment)
+  abbrev pub run_left : List Operation → Database → Environment → Option Database
+  run_left operations database environment = option_map (λ (of : Run). of.database) (run creates operations database environment)
 
-  module _ (deeds : List Deed) (answers : List Answer) (database : Database) (offers : List Offer) where
+  module _ (operations : List Operation) (answers : List Answer) (database : Database) (offers : List Offer) where
     -- from here on it is found, left and offered what is from the first statement on
-    pub record Along (place : ℕ) (rest : List Deed) (others : List Answer) (now : Database)
+    pub record Along (place : ℕ) (rest : List Operation) (others : List Answer) (now : Database)
         (environment : Environment) (made : List Offer) : Type 0 where
-      pub found : first_of (deeds_findings creates members tx 1 deeds answers database nothing_bound)
-          ≡ first_of (deeds_findings creates members tx place rest others now environment)
-      pub left : run_left deeds database nothing_bound ≡ run_left rest now environment
-      pub offered : offers ++ map offer_of (sights creates tx 1 deeds database nothing_bound)
-          ≡ made ++ map offer_of (sights creates tx place rest now environment)
+      pub found : first_of (operations_findings creates members tx 1 operations answers database nothing_bound)
+          ≡ first_of (operations_findings creates members tx place rest others now environment)
+      pub left : run_left operations database nothing_bound ≡ run_left rest now environment
+      pub offered : offers ++ map offer_of (read_views creates tx 1 operations database nothing_bound)
+          ≡ made ++ map offer_of (read_views creates tx place rest now environment)
 
-    pub along_on : (place : ℕ) (tree : TreeStatement) (rest : List Deed) (others : List Answer)
+    pub along_on : (place : ℕ) (tree : TreeStatement) (rest : List Operation) (others : List Answer)
         (now behind : Database) (environment environment' : Environment) (made : List Offer)
         → first_of (tree_findings creates members tx place tree others now environment) ≡ None
         → Leaves (tree_meaning creates members tx place tree now environment) behind environment'
-        → Along place (deed_of creates members tx place tree ∷ rest) others now environment made
+        → Along place (operation_of creates members tx place tree ∷ rest) others now environment made
         → Along (suc place) rest (later others) behind environment'
         (made ++ tree_offers creates members tx place tree now environment)
     along_on place tree rest others now behind environment environment' made none leaves along =
-        let deed = deed_of creates members tx place tree in
+        let operation = operation_of creates members tx place tree in
         let meaning = tree_meaning creates members tx place tree now environment in
-        let sight = seen tx place deed now environment in
-        let grounds = flat_map (ungrounded creates members) sight in
+        let read_view = seen tx place operation now environment in
+        let grounds = flat_map (ungrounded creates members) read_view in
         let answer = answer_unless creates members tx place (is_answered meaning others) in
-        let found_later = deeds_findings creates members tx (suc place) rest (later others) in
-        let seen_later = sights creates tx (suc place) rest in
+        let found_later = operations_findings creates members tx (suc place) rest (later others) in
+        let seen_later = read_views creates tx (suc place) rest in
         record {
           found = along.found
               ∙ ap first_of (sym (append_assoc grounds answer (found_after meaning found_later)))
@@ -115,23 +115,23 @@ module _ (creates : List Create) (members : List Placed) (tx : ℕ) where
           left = along.left ∙ left_there behind environment' meaning (run creates rest) leaves;
           offered = along.offered
               ∙ ap (λ (xs : List Offer). made ++ xs)
-              (map-append offer_of sight (seen_after meaning seen_later)
-              ∙ ap (λ (xs : List Sight). map offer_of sight ++ map offer_of xs)
+              (map-append offer_of read_view (seen_after meaning seen_later)
+              ∙ ap (λ (xs : List ReadView). map offer_of read_view ++ map offer_of xs)
               (seen_there behind environment' meaning seen_later leaves))
-              ∙ sym (append_assoc made (map offer_of sight) (map offer_of (seen_later behind environment')));
+              ∙ sym (append_assoc made (map offer_of read_view) (map offer_of (seen_later behind environment')));
         }
 
-    pub along_off : (place : ℕ) (tree : TreeStatement) (rest : List Deed) (others : List Answer) (now : Database)
+    pub along_off : (place : ℕ) (tree : TreeStatement) (rest : List Operation) (others : List Answer) (now : Database)
         (environment : Environment) (made : List Offer) (finding : Finding)
         → first_of (tree_findings creates members tx place tree others now environment) ≡ Some finding
-        → Along place (deed_of creates members tx place tree ∷ rest) others now environment made
-        → first_of (deeds_findings creates members tx 1 deeds answers database nothing_bound) ≡ Some finding
+        → Along place (operation_of creates members tx place tree ∷ rest) others now environment made
+        → first_of (operations_findings creates members tx 1 operations answers database nothing_bound) ≡ Some finding
     along_off place tree rest others now environment made finding is along =
-        let deed = deed_of creates members tx place tree in
+        let operation = operation_of creates members tx place tree in
         let meaning = tree_meaning creates members tx place tree now environment in
-        let grounds = flat_map (ungrounded creates members) (seen tx place deed now environment) in
+        let grounds = flat_map (ungrounded creates members) (seen tx place operation now environment) in
         let answer = answer_unless creates members tx place (is_answered meaning others) in
-        let more = found_after meaning (deeds_findings creates members tx (suc place) rest (later others)) in
+        let more = found_after meaning (operations_findings creates members tx (suc place) rest (later others)) in
         along.found
         ∙ ap first_of (sym (append_assoc grounds answer more))
         ∙ first_some (grounds ++ answer) more finding is
@@ -224,8 +224,8 @@ module _ (creates : List Create) (members : List Placed) (tx : ℕ) (statements 
     pub kinds : HasKinds bound environment
     pub stand : StandAsDeclared creates tables
     pub seated : AreSeated members tx place rest
-    pub along : Along creates members tx (told_deeds members tx 1 statements) answers database offers place
-        (told_deeds members tx place rest) others (database_of creates (rows_in tables)) environment made
+    pub along : Along creates members tx (told_operations members tx 1 statements) answers database offers place
+        (told_operations members tx place rest) others (database_of creates (rows_in tables)) environment made
 
   module _ (laws : Laws) (distinct : HaveDistinctColumns creates) (place : ℕ) (form : Statement Known)
       (more_forms : List (Statement Known)) (others : List Answer) (tables : List Relation)
@@ -270,23 +270,23 @@ module _ (creates : List Create) (members : List Placed) (tx : ℕ) (statements 
             rows = alike.rows none (rows_in behind) environment' leaves;
           };
           seated = m.seated.1;
-          along = subst (Along creates members tx (told_deeds members tx 1 statements) answers database offers
-              (suc place) (told_deeds members tx (suc place) more) (later others)
+          along = subst (Along creates members tx (told_operations members tx 1 statements) answers database offers
+              (suc place) (told_operations members tx (suc place) more) (later others)
               (database_of creates (rows_in behind)) environment')
               (sym (offered ∙ ap (λ (xs : List Offer). made ++ xs) (alike.offers none)))
-              (along_on creates members tx (told_deeds members tx 1 statements) answers database offers place tree
-              (told_deeds members tx (suc place) more) others now (database_of creates (rows_in behind)) environment
+              (along_on creates members tx (told_operations members tx 1 statements) answers database offers place tree
+              (told_operations members tx (suc place) more) others now (database_of creates (rows_in behind)) environment
               environment' made (alike.found ∙ none) (alike.left none (rows_in behind) environment' leaves) m.along);
         }
 
     -- this is what is found first
     pub midway_off : (rest : List TreeStatement) (finding : Finding) → found_here ≡ Some finding → Here rest
-        → first_of (deeds_findings creates members tx 1 (told_deeds members tx 1 statements) answers database
+        → first_of (operations_findings creates members tx 1 (told_operations members tx 1 statements) answers database
         nothing_bound) ≡ Some finding
     midway_off [] finding is m = absurd m.resolved
     midway_off (tree ∷ more) finding is m =
-        along_off creates members tx (told_deeds members tx 1 statements) answers database offers place tree
-        (told_deeds members tx (suc place) more) others (database_of creates (rows_in tables)) environment made finding
+        along_off creates members tx (told_operations members tx 1 statements) answers database offers place tree
+        (told_operations members tx (suc place) more) others (database_of creates (rows_in tables)) environment made finding
         ((alike_here tree more m).found ∙ is) m.along
 
     -- ---- what is asked of the statement
@@ -344,11 +344,11 @@ module _ (creates : List Create) (members : List Placed) (tx : ℕ) (statements 
     stand = stand;
     seated = seated;
     along = record {
-      found = ap (λ (d : Database). first_of (deeds_findings creates members tx 1 (told_deeds members tx 1 statements)
+      found = ap (λ (d : Database). first_of (operations_findings creates members tx 1 (told_operations members tx 1 statements)
           answers d nothing_bound)) same;
-      left = ap (λ (d : Database). run_left creates members tx (told_deeds members tx 1 statements) d nothing_bound)
+      left = ap (λ (d : Database). run_left creates members tx (told_operations members tx 1 statements) d nothing_bound)
           same;
-      offered = ap (λ (d : Database). offers ++ map offer_of (sights creates tx 1 (told_deeds members tx 1 statements) d
+      offered = ap (λ (d : Database). offers ++ map offer_of (read_views creates tx 1 (told_operations members tx 1 statements) d
           nothing_bound)) same;
     };
   }
@@ -357,8 +357,8 @@ module _ (creates : List Create) (members : List Placed) (tx : ℕ) (statements 
       (environment : Environment) (made : List Offer) (m : Midway place rest [] others tables environment made) where
     abbrev Ended : List TreeStatement → Type 0
     Ended left =
-        Along creates members tx (told_deeds members tx 1 statements) answers database offers place
-        (told_deeds members tx place left) others (database_of creates (rows_in tables)) environment made
+        Along creates members tx (told_operations members tx 1 statements) answers database offers place
+        (told_operations members tx place left) others (database_of creates (rows_in tables)) environment made
 
     at_end : (left : List TreeStatement) → Resolves schemas m.bound left [] → Ended left → Ended []
     at_end [] resolved along = along
@@ -367,19 +367,19 @@ module _ (creates : List Create) (members : List Placed) (tx : ℕ) (statements 
     abbrev end_along : Ended []
     end_along = at_end rest m.resolved m.along
 
-    pub ended_found : first_of (deeds_findings creates members tx 1 (told_deeds members tx 1 statements) answers
+    pub ended_found : first_of (operations_findings creates members tx 1 (told_operations members tx 1 statements) answers
         database nothing_bound) ≡ None
     ended_found = end_along.found
 
     pub ended_left : (of : Run)
-        × (run creates (told_deeds members tx 1 statements) database nothing_bound ≡ Some of)
+        × (run creates (told_operations members tx 1 statements) database nothing_bound ≡ Some of)
         × (of.database ≡ database_of creates (rows_in tables))
-    ended_left = by (run creates (told_deeds members tx 1 statements) database nothing_bound) refl end_along.left
+    ended_left = by (run creates (told_operations members tx 1 statements) database nothing_bound) refl end_along.left
       where
-        by : (left : Option Run) → run creates (told_deeds members tx 1 statements) database nothing_bound ≡ left
-            → run_left creates members tx (told_deeds members tx 1 statements) database nothing_bound
+        by : (left : Option Run) → run creates (told_operations members tx 1 statements) database nothing_bound ≡ left
+            → run_left creates members tx (told_operations members tx 1 statements) database nothing_bound
             ≡ Some (database_of creates (rows_in tables))
-            → (of : Run) × (run creates (told_deeds members tx 1 statements) database nothing_bound ≡ Some of)
+            → (of : Run) × (run creates (told_operations members tx 1 statements) database nothing_bound ≡ Some of)
             × (of.database ≡ database_of creates (rows_in tables))
         by (Some of) is same = (
           of,
@@ -390,5 +390,5 @@ module _ (creates : List Create) (members : List Placed) (tx : ℕ) (statements 
         by None is same = let wrong = sym (ap (option_map (λ (x : Run). x.database)) is) ∙ same in cc (wrong)
 
     pub ended_offered : made ≡ offers ++ map offer_of
-        (sights creates tx 1 (told_deeds members tx 1 statements) database nothing_bound)
+        (read_views creates tx 1 (told_operations members tx 1 statements) database nothing_bound)
     ended_offered = sym (end_along.offered ∙ append-nil made)

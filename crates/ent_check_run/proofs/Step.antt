@@ -16,7 +16,7 @@ use Rattle.ent_semantics.specs.declared.answer.Failure.{Failure}
 use Rattle.ent_semantics.specs.Database.{Database, Environment}
 use Rattle.ent_semantics.specs.Effect.{Effect}
 use Rattle.ent_semantics.specs.Entangled.{Valuation, is_grounding, written_variables}
-use Rattle.ent_semantics.specs.Serial.{Sight, is_entangled, seen}
+use Rattle.ent_semantics.specs.Serial.{ReadView, is_entangled, seen}
 use Rattle.ent_semantics.specs.Statement.{statement_meaning}
 use Rattle.ent_closed.specs.Closing.{closed, closed_entangled}
 use Rattle.ent_closed.specs.Form.{Tables, closed_worth, form_meaning, is_form_grounding}
@@ -247,7 +247,7 @@ ordinary_alike laws creates distinct members tx place bound after tree form is a
     (answers_any tree own plain)
     (none ∙ sym (no_grounding seat statement _ fits))
     (in_any_kind environment form own _ fits)
-    (ap (λ (sights : List Sight). first_of (flat_map (ungrounded creates members) sights
+    (ap (λ (read_views : List ReadView). first_of (flat_map (ungrounded creates members) read_views
     ++ answer_unless creates members tx place
     (is_answered (statement_meaning creates tree own database environment) answers))) unseen_here)
     (no_seat_finding seat statement tables _ fits)

@@ -15,12 +15,12 @@ use Rattle.ent_form.specs.Catalogue.{schemas_of, table_schema}
 use Rattle.ent_form_laws.specs.Kinds.{column_kinds}
 use Rattle.ent_rel.specs.Relation.{Relation}
 use Rattle.ent_semantics.specs.Database.{Database, nothing_bound}
-use Rattle.ent_semantics.specs.Serial.{Run, Sight, seen_from, sights}
+use Rattle.ent_semantics.specs.Serial.{Run, ReadView, seen_from, read_views}
 use Rattle.ent_history.specs.declared.history.Told.{Told}
 use Rattle.ent_rules.specs.Account.{Account, accounts_from}
 use Rattle.ent_rules.specs.Placed.{Placed}
-use Rattle.ent_rules.specs.Replay.{account_deeds, account_run, deeds_findings, found_from, replay_findings, told_end}
-use Rattle.ent_rules.specs.Replay.{told_sights}
+use Rattle.ent_rules.specs.Replay.{account_operations, account_run, operations_findings, found_from, replay_findings, told_end}
+use Rattle.ent_rules.specs.Replay.{told_read_views}
 use Rattle.ent_rules.specs.Verdict.{first_of}
 use Rattle.ent_rules.specs.declared.finding.Finding.{Finding}
 use Rattle.ent_check_run.specs.Alone.{AreReplayed, IsReplayed, StandAsDeclared, account_at}
@@ -36,8 +36,8 @@ module _ (creates : List Create) (members : List Placed) where
   abbrev end : List Account → Database → Option Database
   end turns database = told_end creates members turns database
 
-  abbrev seen : List Account → Database → List Sight
-  seen turns database = told_sights creates members turns database
+  abbrev seen : List Account → Database → List ReadView
+  seen turns database = told_read_views creates members turns database
 
   -- ---- behind others
 
@@ -45,7 +45,7 @@ module _ (creates : List Create) (members : List Placed) where
   findings_behind (Some database) more = more database
   findings_behind None more = []
 
-  abbrev seen_behind : Option Database → (Database → List Sight) → List Sight
+  abbrev seen_behind : Option Database → (Database → List ReadView) → List ReadView
   seen_behind (Some database) more = more database
   seen_behind None more = []
 
@@ -55,7 +55,7 @@ module _ (creates : List Create) (members : List Placed) where
   found_split (Some of) first more behind = refl
   found_split None first more behind = refl
 
-  seen_split : (left : Option Run) (first more : Database → List Sight) (behind : Database → Option Database)
+  seen_split : (left : Option Run) (first more : Database → List ReadView) (behind : Database → Option Database)
       → seen_from left (λ database. first database ++ seen_behind (behind database) more)
       ≡ seen_from left first ++ seen_behind (option_and_then (λ (of : Run). behind of.database) left) more
   seen_split (Some of) first more behind = refl
@@ -73,7 +73,7 @@ module _ (creates : List Create) (members : List Placed) where
   findings_joined [] more database = refl
   findings_joined (account ∷ first) more database =
       let left = account_run creates members account database in
-      let own = deeds_findings creates members account.tx 1 (account_deeds creates members account) account.answers
+      let own = operations_findings creates members account.tx 1 (account_operations creates members account) account.answers
       database nothing_bound in
       (λ i. own ++ found_from left (λ d. findings_joined first more d i))
       ∙ ap (λ (xs : List Finding). own ++ xs) (found_split left (findings first) (findings more) (end first))
@@ -85,9 +85,9 @@ module _ (creates : List Create) (members : List Placed) where
   seen_joined [] more database = refl
   seen_joined (account ∷ first) more database =
       let left = account_run creates members account database in
-      let own = sights creates account.tx 1 (account_deeds creates members account) database nothing_bound in
+      let own = read_views creates account.tx 1 (account_operations creates members account) database nothing_bound in
       (λ i. own ++ seen_from left (λ d. seen_joined first more d i))
-      ∙ ap (λ (xs : List Sight). own ++ xs) (seen_split left (seen first) (seen more) (end first))
+      ∙ ap (λ (xs : List ReadView). own ++ xs) (seen_split left (seen first) (seen more) (end first))
       ∙ sym (append_assoc own (seen_from left (seen first)) (seen_behind (end (account ∷ first) database) (seen more)))
 
   end_joined : (first more : List Account) (database : Database)
@@ -118,19 +118,19 @@ module _ (creates : List Create) (members : List Placed) where
         left = λ none. let of = is.left none in
             ap (option_and_then (λ (x : Run). Some x.database)) of.1 ∙ ap (λ d. Some d) of.2;
         offered = λ none. is.offered none
-            ∙ ap (λ (xs : List Sight). offers ++ map offer_of xs)
-            (sym (ap (λ (xs : List Sight). sight ++ xs) (none_seen left) ∙ append-nil sight));
+            ∙ ap (λ (xs : List ReadView). offers ++ map offer_of xs)
+            (sym (ap (λ (xs : List ReadView). read_view ++ xs) (none_seen left) ∙ append-nil read_view));
       }
     where
       left : Option Run
       left = account_run creates members account before
 
       own : List Finding
-      own = deeds_findings creates members account.tx 1 (account_deeds creates members account) account.answers before
+      own = operations_findings creates members account.tx 1 (account_operations creates members account) account.answers before
           nothing_bound
 
-      sight : List Sight
-      sight = sights creates account.tx 1 (account_deeds creates members account) before nothing_bound
+      read_view : List ReadView
+      read_view = read_views creates account.tx 1 (account_operations creates members account) before nothing_bound
 
       nothing_more : (of : Option Run) → found_from of (findings []) ≡ []
       nothing_more (Some of) = refl
@@ -157,7 +157,7 @@ module _ (creates : List Create) (members : List Placed) where
             ∙ append_assoc offers (map offer_of (seen first before)) (map offer_of (seen more between))
             ∙ ap (λ (xs : List Offer). offers ++ xs)
             (sym (map-append offer_of (seen first before) (seen more between)))
-            ∙ ap (λ (xs : List Sight). offers ++ map offer_of xs)
+            ∙ ap (λ (xs : List ReadView). offers ++ map offer_of xs)
             (sym (seen_joined first more before
             ∙ ap (λ (o : Option Database). seen first before ++ seen_behind o (seen more)) end_is));
       }

@@ -9,7 +9,7 @@ use Rattle.ent_semantics.specs.declared.answer.Failure.{Failure}
 use Rattle.ent_semantics.specs.Database.{Database, Environment}
 use Rattle.ent_semantics.specs.Effect.{Effect}
 use Rattle.ent_semantics.specs.Entangled.{Valuation}
-use Rattle.ent_semantics.specs.Serial.{Deed, is_entangled, seen}
+use Rattle.ent_semantics.specs.Serial.{Operation, is_entangled, seen}
 use Rattle.ent_semantics.specs.Statement.{statement_meaning}
 use Rattle.ent_closed.specs.Form.{Tables, closed_worth, form_meaning}
 use Rattle.ent_closed.specs.declared.statement.Statement.{Statement}
@@ -33,8 +33,8 @@ module _ (creates : List Create) (members : List Placed) (tx place : ℕ) where
   abbrev pub told_valuation : TreeStatement → Valuation
   told_valuation tree = cond (is_entangled tree) (grounding_of (member_at members tx place)) []
 
-  abbrev pub deed_of : TreeStatement → Deed
-  deed_of tree = record { statement = tree; valuation = told_valuation tree }
+  abbrev pub operation_of : TreeStatement → Operation
+  operation_of tree = record { statement = tree; valuation = told_valuation tree }
 
   abbrev pub tree_meaning : TreeStatement → Database → Environment → Result (Effect Database) Failure
   tree_meaning tree database environment =
@@ -46,11 +46,11 @@ module _ (creates : List Create) (members : List Placed) (tx place : ℕ) where
   -- what is found of a statement alone
   abbrev pub tree_findings : TreeStatement → List Answer → Database → Environment → List Finding
   tree_findings tree answers database environment =
-      flat_map (ungrounded creates members) (seen tx place (deed_of tree) database environment)
+      flat_map (ungrounded creates members) (seen tx place (operation_of tree) database environment)
       ++ answer_unless (is_answered (tree_meaning tree database environment) answers)
 
   abbrev pub tree_offers : TreeStatement → Database → Environment → List Offer
-  tree_offers tree database environment = map offer_of (seen tx place (deed_of tree) database environment)
+  tree_offers tree database environment = map offer_of (seen tx place (operation_of tree) database environment)
 
   module _ (bound after : Bound) (tree : TreeStatement) (statement : Statement Value) (answers : List Answer)
       (tables : Tables) (environment : Environment) where

@@ -6,7 +6,7 @@ use Rattle.ent_tree.specs.declared.script.Statement.{Statement}
 use Rattle.ent_rel.specs.Relation.{Relation}
 use Rattle.ent_select.specs.Tables.{kinds_in, rows_in}
 use Rattle.ent_semantics.specs.Database.{Database, nothing_bound}
-use Rattle.ent_semantics.specs.Serial.{Run, sights}
+use Rattle.ent_semantics.specs.Serial.{Run, read_views}
 use Rattle.ent_form.specs.Catalogue.{schemas_of}
 use Rattle.ent_form.specs.ScriptFaults.{script_faults}
 use Rattle.ent_form.specs.declared.catalogue.TableSchema.{TableSchema}
@@ -15,8 +15,8 @@ use Rattle.ent_form_laws.specs.Kinds.{AreKinded, column_kinds}
 use Rattle.ent_history.specs.declared.history.Told.{Told}
 use Rattle.ent_rules.specs.Account.{Account}
 use Rattle.ent_rules.specs.Placed.{Placed, member_at}
-use Rattle.ent_rules.specs.Replay.{account_deeds, account_run, deeds_findings}
-use Rattle.ent_rules.specs.Replay.{replay_findings, told_end, told_sights}
+use Rattle.ent_rules.specs.Replay.{account_operations, account_run, operations_findings}
+use Rattle.ent_rules.specs.Replay.{replay_findings, told_end, told_read_views}
 use Rattle.ent_rules.specs.Verdict.{first_of}
 use Rattle.ent_rules.specs.declared.finding.Finding.{Finding}
 use Rattle.ent_check_run.specs.Closed.{IsSeated}
@@ -45,12 +45,12 @@ account_at tx script told = record { tx = tx; script = script; fate = told.fate;
 -- before.
 pub record IsReplayed (creates : List Create) (members : List Placed) (account : Account) (before : Database)
     (finding : Option Finding) (after : Database) (offers made : List Offer) : Type 0 where
-  pub found : finding ≡ first_of (deeds_findings creates members account.tx 1 (account_deeds creates members account)
+  pub found : finding ≡ first_of (operations_findings creates members account.tx 1 (account_operations creates members account)
       account.answers before nothing_bound)
   pub left : finding ≡ None
       → (run : Run) × (account_run creates members account before ≡ Some run) × (run.database ≡ after)
   pub offered : finding ≡ None → made ≡ offers ++ map offer_of
-      (sights creates account.tx 1 (account_deeds creates members account) before nothing_bound)
+      (read_views creates account.tx 1 (account_operations creates members account) before nothing_bound)
 
 -- tables are declared so, no table having two columns of one name
 pub record AreDeclaredWell (creates : List Create) (schemas : List TableSchema) : Type 0 where
@@ -66,4 +66,4 @@ pub record AreReplayed (creates : List Create) (members : List Placed) (turns : 
     (finding : Option Finding) (after : Database) (offers made : List Offer) : Type 0 where
   pub found : finding ≡ first_of (replay_findings creates members turns before)
   pub left : finding ≡ None → told_end creates members turns before ≡ Some after
-  pub offered : finding ≡ None → made ≡ offers ++ map offer_of (told_sights creates members turns before)
+  pub offered : finding ≡ None → made ≡ offers ++ map offer_of (told_read_views creates members turns before)

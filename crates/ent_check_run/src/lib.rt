@@ -6,16 +6,16 @@
 #![tactic(auto)]
 
 mod declared;
-mod deed;
 mod law;
 mod offer;
+mod operation;
 mod serial;
 mod statement;
 mod transaction;
 
 pub use declared::Declared;
-pub use deed::{Place, Stage, deed_finding};
 pub use law::statements_are_found_as_their_forms;
+pub use operation::{Place, Stage, operation_finding};
 pub use serial::{Replayed, replay};
 pub use statement::carry_out;
 pub use transaction::transaction_finding;

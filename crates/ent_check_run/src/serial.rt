@@ -13,14 +13,14 @@ ghost use Rattle.ent_rules.specs.Account.{accounts, accounts_from, in_commit_ord
 ghost use Rattle.ent_rules.specs.Joint.{left_out_findings, members_findings};
 ghost use Rattle.ent_rules.specs.Journal.{journal_findings};
 ghost use Rattle.ent_rules.specs.Placed.{placed};
-ghost use Rattle.ent_rules.specs.Replay.{replay_findings, told_end, told_sights};
+ghost use Rattle.ent_rules.specs.Replay.{replay_findings, told_end, told_read_views};
 ghost use Rattle.ent_rules.specs.Verdict.{first_of};
 ghost use Rattle.ent_select.specs.Tables.{rows_in};
 ghost use Rattle.ent_semantics.specs.Book.{all_members};
 ghost use Rattle.ent_semantics.specs.Database.{opening_database};
 
 use crate::declared::Declared;
-use crate::deed::Stage;
+use crate::operation::Stage;
 use crate::transaction::transaction_finding;
 use ent_check::{Groundings, Offer, Seats, commit_order};
 use ent_form_laws::opening_tables_are_kinded;
@@ -163,7 +163,7 @@ pub fn replay(alloc: Global, history: &History, seats: &Seats) -> Result<Replaye
         let members = placed (map joint_answer_of history.now.joint_answers) in
         let first = opening_database history.now.opening in
         IfOk result (λ replayed. replayed.finding ≡ None → replayed.offers.items
-        ≡ map offer_of (told_sights declared members (in_commit_order (accounts history.now)) first)) }
+        ≡ map offer_of (told_read_views declared members (in_commit_order (accounts history.now)) first)) }
     ensures each { IfOk result (λ replayed. replayed.finding ≡ None
         → length replayed.tables.items ≡ length history.now.opening.tables) }
 {

@@ -8,8 +8,8 @@ ghost use Rattle.ent_form_laws.specs.Tables.{database_of};
 ghost use Rattle.ent_select.specs.Tables.{rows_in};
 
 use crate::declared::Declared;
-use crate::deed::{Place, Stage, deed_finding};
 use crate::law::forms_run_as_statements;
+use crate::operation::{Place, Stage, operation_finding};
 use ent_check::Groundings;
 use ent_closing::{Environment, closed};
 use ent_form::{Catalogue, Plain, resolve};
@@ -67,7 +67,7 @@ pub fn transaction_finding(
             place: index as u64 + 1,
         };
         let answer = told.answers.as_slice().get(index);
-        let finding = deed_finding(
+        let finding = operation_finding(
             alloc,
             groundings,
             place,

@@ -9,7 +9,7 @@ use crate::pool::pool_of;
 use ent_match::{PostFault, Posted, Unsafe, same_statements_are_alike};
 use std::alloc::{AllocError, Global};
 
-/// The unsafe post that stands in the way, where it isn't memory.
+/// The unsafe post that is in conflict, where it isn't memory.
 fn unsafe_post(why: PostFault) -> Result<Unsafe, AllocError>
     ensures { IfOk result (λ fault. why ≡ faults.Unsafe fault) }
 {
@@ -19,7 +19,7 @@ fn unsafe_post(why: PostFault) -> Result<Unsafe, AllocError>
     }
 }
 
-/// What stands in the way of one more statement: none where the pool with it is safe, else the first unsafe post of
+/// What is in conflict with one more statement: none where the pool with it is safe, else the first unsafe post of
 /// that pool.
 pub fn post_fault(
     alloc: Global,

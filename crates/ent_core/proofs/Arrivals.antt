@@ -7,7 +7,7 @@ use Rattle.ent_tree.specs.declared.declaration.Opening.{Opening}
 use Rattle.ent_form.specs.declared.catalogue.TableSchema.{TableSchema}
 use Rattle.ent_protocol.specs.State.{State, Submitted, Dormant, Member, members}
 use Rattle.ent_members.specs.Run.{Run}
-use Rattle.ent_roster.specs.Roster.{Roster}
+use Rattle.ent_transaction_table.specs.TransactionTable.{TransactionTable}
 use Rattle.ent_protocol_laws.specs.Attempts.{AsksForRun}
 use Rattle.ent_coordination.specs.Pool.{Posted}
 use Rattle.ent_tables.specs.Stored.{Stored}
@@ -58,17 +58,17 @@ asks_last (first ∷ more) own all asks = (all.0, asks_last more own all.1 asks)
 
 -- one script more, and who waits for a run with it
 pub kept_submitted : (schemas : List TableSchema) (opening : Opening) (submitted submitted' : List Submitted)
-    (roster roster' : Roster) (running : Bool) (run : Run) (stored : Stored) (posted : List Posted) (own : Submitted)
-    (last : Dormant) → IsKept schemas opening submitted roster running run stored posted → AsksForRun own
+    (transaction_table transaction_table' : TransactionTable) (running : Bool) (run : Run) (stored : Stored) (posted : List Posted) (own : Submitted)
+    (last : Dormant) → IsKept schemas opening submitted transaction_table running run stored posted → AsksForRun own
     → submitted' ≡ submitted ++ own ∷ []
-    → roster' ≡ record roster { dormant = roster.dormant ++ last ∷ []; known = roster.known + 1 }
+    → transaction_table' ≡ record transaction_table { dormant = transaction_table.dormant ++ last ∷ []; known = transaction_table.known + 1 }
     → last.tx ≡ length submitted + 1 → IsPoolOf submitted' run.active posted
-    → IsKept schemas opening submitted' roster' running run stored posted
-kept_submitted schemas opening submitted submitted' roster roster' running run stored posted own last kept asks more is
+    → IsKept schemas opening submitted' transaction_table' running run stored posted
+kept_submitted schemas opening submitted submitted' transaction_table transaction_table' running run stored posted own last kept asks more is
     next pooled =
-    let dormant = roster.dormant in
-    let now : roster'.dormant ≡ dormant ++ last ∷ [] = ap (λ (r : Roster). r.dormant) is in
-    let counted : roster'.known ≡ roster.known + 1 = ap (λ (r : Roster). r.known) is in
+    let dormant = transaction_table.dormant in
+    let now : transaction_table'.dormant ≡ dormant ++ last ∷ [] = ap (λ (r : TransactionTable). r.dormant) is in
+    let counted : transaction_table'.known ≡ transaction_table.known + 1 = ap (λ (r : TransactionTable). r.known) is in
     let n : length submitted' ≡ length submitted + 1 = ap length more ∙ length-append submitted (own ∷ []) in
     let A : List Dormant → Type 0 = λ all. AllByRecursion (λ (one : Dormant). one.tx ≤ length submitted') all in
     let D : List Dormant → Type 0 = λ all. IsDistinct nat_eq (numbers all) in

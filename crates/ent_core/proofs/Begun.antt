@@ -23,12 +23,12 @@ use Rattle.ent_protocol.specs.Member.{is_tx}
 use Rattle.ent_protocol.specs.Member.{next_of}
 use Rattle.ent_protocol.specs.Rollback.{Asked, group_numbers, rolled_back}
 use Rattle.ent_protocol.specs.State.{State, Dormant, Member, first_of}
-use Rattle.ent_protocol.specs.Uses.{blocker, entangled_uses, is_in_way, not_passed, statement_uses}
+use Rattle.ent_protocol.specs.Uses.{blocker, entangled_uses, is_conflicting, not_passed, statement_uses}
 use Rattle.ent_protocol.specs.Waits.{next_uses}
 use Rattle.ent_tree.specs.declared.declaration.Opening.{Opening}
 use Rattle.ent_members.specs.Run.{Run}
 use Rattle.ent_protocol.specs.State.{Submitted}
-use Rattle.ent_roster.specs.Roster.{Roster}
+use Rattle.ent_transaction_table.specs.TransactionTable.{TransactionTable}
 use Rattle.ent_pool_laws.specs.Pooled.{IsPoolOf}
 use Rattle.ent_core.specs.Store.{IsKept}
 use Rattle.ent_tables.specs.Stored.{Stored}
@@ -113,13 +113,13 @@ idle_at_turn s tx member next stand may =
 
 -- ---- who asks for nothing
 
-none_in_way : (xs : List Member) → filter (is_in_way []) xs ≡ []
-none_in_way [] = refl
-none_in_way (x ∷ xs) = none_in_way xs
+none_conflicting : (xs : List Member) → filter (is_conflicting []) xs ≡ []
+none_conflicting [] = refl
+none_conflicting (x ∷ xs) = none_conflicting xs
 
--- nobody is in its way
+-- nobody blocks it
 pub free_at_end : (s : State) (member : Member) → blocker s member [] ≡ None
-free_at_end s member = rw (none_in_way (not_passed s member)) refl
+free_at_end s member = rw (none_conflicting (not_passed s member)) refl
 
 -- ---- where nothing is begun
 
@@ -203,7 +203,7 @@ module _ (s : State) (tx : ℕ) where
         → Begins {F = FormFault} s tx replies.Posted new
     entangled_posted none safe new is = entangled None none replies.Posted new (inl (safe, refl, is))
 
-  -- whatever comes next, who is in the way of what it asks for is in its way
+  -- whatever comes next, who blocks what it asks for blocks it
   pub begun_blocked : (member : Member) (next : Next) → MayBegin s tx member next → (holder : ℕ)
       → blocker s member (next_uses next) ≡ Some holder → Begins {F = FormFault} s tx (replies.Blocked holder) s
   begun_blocked member (Ordinary statement) begun holder is = ordinary_blocked member statement begun holder is
@@ -271,13 +271,13 @@ module _ (s : State) (tx : ℕ) where
 -- ---- what the store keeps
 
 -- somebody is a member, so that a run is on
-pub kept_with : (schemas : List TableSchema) (opening : Opening) (submitted : List Submitted) (roster roster' : Roster)
+pub kept_with : (schemas : List TableSchema) (opening : Opening) (submitted : List Submitted) (transaction_table transaction_table' : TransactionTable)
     (running : Bool) (run run' : Run) (stored stored' : Stored) (posted posted' : List Posted) (tx : ℕ)
-    → IsKept schemas opening submitted roster running run stored posted
-    → IsSome (first_of (filter (is_tx tx) run.active)) → roster'.dormant ≡ roster.dormant
-    → roster'.known ≡ roster.known → stored'.kinds ≡ stored.kinds → IsPoolOf submitted run'.active posted'
-    → IsKept schemas opening submitted roster' running run' stored' posted'
-kept_with schemas opening submitted roster roster' running run run' stored stored' posted posted' tx kept some
+    → IsKept schemas opening submitted transaction_table running run stored posted
+    → IsSome (first_of (filter (is_tx tx) run.active)) → transaction_table'.dormant ≡ transaction_table.dormant
+    → transaction_table'.known ≡ transaction_table.known → stored'.kinds ≡ stored.kinds → IsPoolOf submitted run'.active posted'
+    → IsKept schemas opening submitted transaction_table' running run' stored' posted'
+kept_with schemas opening submitted transaction_table transaction_table' running run run' stored stored' posted posted' tx kept some
     dormant known
     kinds pooled =
     record {
@@ -304,23 +304,23 @@ kept_with schemas opening submitted roster roster' running run run' stored store
         nobody (subst P (kept.idle_active off) some)
 
 -- the same where the run alone changes
-pub kept_changed : (schemas : List TableSchema) (opening : Opening) (submitted : List Submitted) (roster : Roster)
+pub kept_changed : (schemas : List TableSchema) (opening : Opening) (submitted : List Submitted) (transaction_table : TransactionTable)
     (running : Bool) (run run' : Run) (stored : Stored) (posted posted' : List Posted) (tx : ℕ)
-    → IsKept schemas opening submitted roster running run stored posted
+    → IsKept schemas opening submitted transaction_table running run stored posted
     → IsSome (first_of (filter (is_tx tx) run.active)) → IsPoolOf submitted run'.active posted'
-    → IsKept schemas opening submitted roster running run' stored posted'
-kept_changed schemas opening submitted roster running run run' stored posted posted' tx kept some pooled =
-    kept_with schemas opening submitted roster roster running run run' stored stored posted posted' tx kept some refl
+    → IsKept schemas opening submitted transaction_table running run' stored posted'
+kept_changed schemas opening submitted transaction_table running run run' stored posted posted' tx kept some pooled =
+    kept_with schemas opening submitted transaction_table transaction_table running run run' stored stored posted posted' tx kept some refl
     refl
     refl pooled
 
 -- members become others
-pub kept_answered : (schemas : List TableSchema) (opening : Opening) (submitted : List Submitted) (roster : Roster)
+pub kept_answered : (schemas : List TableSchema) (opening : Opening) (submitted : List Submitted) (transaction_table : TransactionTable)
     (running : Bool) (run run' : Run) (stored : Stored) (posted posted' : List Posted) (f g : Member → Member)
-    → IsKept schemas opening submitted roster running run stored posted → run'.prepared ≡ map f run.prepared
+    → IsKept schemas opening submitted transaction_table running run stored posted → run'.prepared ≡ map f run.prepared
     → run'.active ≡ map g run.active → IsPoolOf submitted run'.active posted'
-    → IsKept schemas opening submitted roster running run' stored posted'
-kept_answered schemas opening submitted roster running run run' stored posted posted' f g kept prepared active pooled =
+    → IsKept schemas opening submitted transaction_table running run' stored posted'
+kept_answered schemas opening submitted transaction_table running run run' stored posted posted' f g kept prepared active pooled =
     record {
       declared = kept.declared;
       formed = kept.formed;

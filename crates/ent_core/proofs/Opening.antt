@@ -14,7 +14,7 @@ use Rattle.ent_protocol.specs.Reached.{opened, table_names}
 use Rattle.ent_protocol.specs.Member.{posted_by}
 use Rattle.ent_protocol.specs.State.{State, Submitted, Member}
 use Rattle.ent_members.specs.Run.{Run}
-use Rattle.ent_roster.specs.Roster.{Roster}
+use Rattle.ent_transaction_table.specs.TransactionTable.{TransactionTable}
 use Rattle.ent_coordination.specs.Pool.{Posted}
 use Rattle.ent_tables.specs.Stored.{Stored, kinds_declared}
 use Rattle.ent_core.specs.Store.{IsKept}
@@ -26,16 +26,16 @@ catalogued None schemas tables e = (refl, let same : schemas ≡ tables = cc in 
 catalogued (Some fault) schemas tables e = absurd cc
 
 -- nobody waits for a run, and nobody is finished
-abbrev pub nobody : Roster
+abbrev pub nobody : TransactionTable
 nobody = record { dormant = []; fates = []; known = 0 }
 
-pub kept_opened_store : (opening : Opening) (schemas : List TableSchema) (submitted : List Submitted) (roster : Roster)
+pub kept_opened_store : (opening : Opening) (schemas : List TableSchema) (submitted : List Submitted) (transaction_table : TransactionTable)
     (run : Run) (stored : Stored) (posted : List Posted)
-    → unless (opening_fault opening) (schemas_of opening.tables) ≡ Ok schemas → submitted ≡ [] → roster ≡ nobody
+    → unless (opening_fault opening) (schemas_of opening.tables) ≡ Ok schemas → submitted ≡ [] → transaction_table ≡ nobody
     → run.prepared ≡ [] → run.active ≡ [] → stored.kinds ≡ kinds_declared opening.tables
-    → posted ≡ [] → IsKept schemas opening submitted roster false run stored posted
+    → posted ≡ [] → IsKept schemas opening submitted transaction_table false run stored posted
 unfolding IsDistinct
-kept_opened_store opening schemas submitted roster run stored posted e none empty no_prepared no_active kinds no_posts =
+kept_opened_store opening schemas submitted transaction_table run stored posted e none empty no_prepared no_active kinds no_posts =
     let h = catalogued (opening_fault opening) (schemas_of opening.tables) schemas e in
     let first : IsKept schemas opening [] nobody false run stored posted =
     record {

@@ -66,7 +66,7 @@ posted_withdrawn old new query tx own by_number none posted =
         to_filter (is_of_other tx) new x (contains_in new x ((posted.adds x).1 (inl there)))
         (is_other x (λ same. none x there (same ∙ sym own)))
 
--- what a member may begin is posted, where it is entangled and nobody is in the way
+-- what a member may begin is posted, where it is entangled and nobody blocks it
 pub to_post : (s : State) (member : Member) (query : Posted) (statement : Entangled Value) → IsFree s member.tx member
     → next_of s member ≡ Asks statement → query ≡ posted_as member statement → IsToPost s member.tx query
 to_post s member query statement free next is =

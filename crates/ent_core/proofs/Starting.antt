@@ -11,7 +11,7 @@ use Rattle.ent_coordination.specs.Pool.{Posted}
 use Rattle.ent_protocol.specs.Event.{Reply, Started}
 use Rattle.ent_protocol.specs.Run.{Starts, StartsWith, fresh, numbers_of, starting}
 use Rattle.ent_protocol.specs.State.{State, Submitted, Dormant, Member, by_number}
-use Rattle.ent_roster.specs.Roster.{Roster}
+use Rattle.ent_transaction_table.specs.TransactionTable.{TransactionTable}
 use Rattle.ent_tables.specs.Stored.{Stored}
 use Rattle.ent_pool_laws.specs.Pooled.{IsPoolOf}
 use Rattle.ent_core.specs.Store.{IsKept}
@@ -49,13 +49,13 @@ all_dropped P (suc n) [] all = tt
 all_dropped P (suc n) (own ∷ more) all = all_dropped P n more all.1
 
 pub kept_started : (schemas : List TableSchema) (opening : Opening) (submitted : List Submitted)
-    (roster roster' : Roster) (running : Bool) (run run' : Run) (stored : Stored) (posted posted' : List Posted) (n : ℕ)
-    → IsKept schemas opening submitted roster running run stored posted
-    → roster' ≡ record roster { dormant = drop n roster.dormant }
-    → IsPoolOf submitted run'.active posted' → IsKept schemas opening submitted roster' true run' stored posted'
-kept_started schemas opening submitted roster roster' running run run' stored posted posted' n kept now pooled =
-    let dormant = roster.dormant in
-    let left : roster'.dormant ≡ drop n dormant = ap (λ (r : Roster). r.dormant) now in
+    (transaction_table transaction_table' : TransactionTable) (running : Bool) (run run' : Run) (stored : Stored) (posted posted' : List Posted) (n : ℕ)
+    → IsKept schemas opening submitted transaction_table running run stored posted
+    → transaction_table' ≡ record transaction_table { dormant = drop n transaction_table.dormant }
+    → IsPoolOf submitted run'.active posted' → IsKept schemas opening submitted transaction_table' true run' stored posted'
+kept_started schemas opening submitted transaction_table transaction_table' running run run' stored posted posted' n kept now pooled =
+    let dormant = transaction_table.dormant in
+    let left : transaction_table'.dormant ≡ drop n dormant = ap (λ (r : TransactionTable). r.dormant) now in
     let A : List Dormant → Type 0 = λ all. AllByRecursion (λ (one : Dormant). one.tx ≤ length submitted) all in
     let D : List Dormant → Type 0 = λ all. IsDistinct nat_eq (numbers all) in
     record {
@@ -63,7 +63,7 @@ kept_started schemas opening submitted roster roster' running run run' stored po
       formed = kept.formed;
       kinds = kept.kinds;
       asks = kept.asks;
-      known = ap (λ (r : Roster). r.known) now ∙ kept.known;
+      known = ap (λ (r : TransactionTable). r.known) now ∙ kept.known;
       arrived = subst A (sym left) (all_dropped (λ (one : Dormant). one.tx ≤ length submitted) n dormant kept.arrived);
       distinct = subst D (sym left) (distinct_dropped n dormant kept.distinct);
       idle_prepared = λ off. absurd (different off);

@@ -6,16 +6,16 @@ use Rattle.std.proofs.lemmas.List.{length-map, map-append}
 use Rattle.ent_tree.specs.declared.declaration.Opening.{Opening}
 use Rattle.ent_closed.specs.Form.{Tables}
 use Rattle.ent_form.specs.declared.catalogue.TableSchema.{TableSchema}
-use Rattle.ent_members.specs.declared.leavers.Leaver.{Leaver}
-use Rattle.ent_members.specs.Leavers.{leaver_of, numbers_in}
+use Rattle.ent_members.specs.declared.run_attempts.RunAttempt.{RunAttempt}
+use Rattle.ent_members.specs.RunAttempts.{run_attempt_of, numbers_in}
 use Rattle.ent_members.specs.Run.{Run, tx_of}
 use Rattle.ent_protocol.specs.Job.{Job, Work, One, Joint}
 use Rattle.ent_protocol.specs.Rollback.{Cause, dormant_by, fate_of, fated_by, goes_with, is_among, is_joint_of}
 use Rattle.ent_protocol.specs.Rollback.{put_back, taken_out}
 use Rattle.ent_protocol.specs.State.{State, Submitted, Dormant, Member, Change, by_number, members}
-use Rattle.ent_roster.specs.ByNumber.{IsNumbered}
-use Rattle.ent_roster.specs.Leaving.{IsWithin, as_member}
-use Rattle.ent_roster.specs.Roster.{Roster}
+use Rattle.ent_transaction_table.specs.ByNumber.{IsNumbered}
+use Rattle.ent_transaction_table.specs.Leaving.{IsWithin, as_member}
+use Rattle.ent_transaction_table.specs.TransactionTable.{TransactionTable}
 use Rattle.ent_semantics.specs.declared.book.Fate.{Fate}
 use Rattle.ent_semantics.specs.declared.book.Fated.{Fated}
 use Rattle.ent_semantics.specs.declared.book.JointAnswer.{JointAnswer}
@@ -92,52 +92,52 @@ all_joined P (x ∷ xs) ys left right = (left.0, all_joined P xs ys left.1 right
 
 -- ---- what the store keeps
 
-as_numbers : (leavers : List Leaver) → map tx_of (map as_member leavers) ≡ numbers_in leavers
+as_numbers : (run_attempts : List RunAttempt) → map tx_of (map as_member run_attempts) ≡ numbers_in run_attempts
 as_numbers [] = refl
-as_numbers (leaver ∷ leavers) = ap (λ ns. leaver.tx ∷ ns) (as_numbers leavers)
+as_numbers (run_attempt ∷ run_attempts) = ap (λ ns. run_attempt.tx ∷ ns) (as_numbers run_attempts)
 
-pub as_leavers : (leavers : List Leaver) → leavers ≡ map leaver_of (map as_member leavers)
-as_leavers [] = refl
-as_leavers (leaver ∷ leavers) = ap (λ ls. leaver ∷ ls) (as_leavers leavers)
+pub as_run_attempts : (run_attempts : List RunAttempt) → run_attempts ≡ map run_attempt_of (map as_member run_attempts)
+as_run_attempts [] = refl
+as_run_attempts (run_attempt ∷ run_attempts) = ap (λ ls. run_attempt ∷ ls) (as_run_attempts run_attempts)
 
-as_arrived : (most : ℕ) (leavers : List Leaver) → AllByRecursion (λ (leaver : Leaver). IsNumbered most leaver.tx)
-    leavers
-    → AllByRecursion (λ (m : Member). m.tx ≤ most) (map as_member leavers)
+as_arrived : (most : ℕ) (run_attempts : List RunAttempt) → AllByRecursion (λ (run_attempt : RunAttempt). IsNumbered most run_attempt.tx)
+    run_attempts
+    → AllByRecursion (λ (m : Member). m.tx ≤ most) (map as_member run_attempts)
 as_arrived most [] all = tt
-as_arrived most (leaver ∷ leavers) all = (all.0.1, as_arrived most leavers all.1)
+as_arrived most (run_attempt ∷ run_attempts) all = (all.0.1, as_arrived most run_attempts all.1)
 
-abbrev behind : List Submitted → Cause → List Leaver → List Dormant
-behind submitted cause leavers = filter_map (dormant_by submitted cause) (map as_member leavers)
+abbrev behind : List Submitted → Cause → List RunAttempt → List Dormant
+behind submitted cause run_attempts = filter_map (dormant_by submitted cause) (map as_member run_attempts)
 
-distinct_waiting : (submitted : List Submitted) (cause : Cause) (dormant : List Dormant) (leavers : List Leaver)
-    → IsDistinct nat_eq (waiting dormant ++ numbers_in leavers)
-    → IsDistinct nat_eq (waiting (dormant ++ behind submitted cause leavers))
-distinct_waiting submitted cause dormant leavers distinct =
-    distinct_if_once (waiting (dormant ++ behind submitted cause leavers)) (λ n.
-    let low = once (waiting dormant ++ numbers_in leavers) distinct n in
-    let before = times_joined n (waiting dormant) (numbers_in leavers) in
-    let after : times n (waiting (dormant ++ behind submitted cause leavers)) ≡ times n (waiting dormant) + times n
-    (waiting (behind submitted cause leavers)) =
-    ap (times n) (map-append (λ (own : Dormant). own.tx) dormant (behind submitted cause leavers))
-    ∙ times_joined n (waiting dormant) (waiting (behind submitted cause leavers)) in
-    let fewer : times n (waiting (behind submitted cause leavers)) ≤ times n (map tx_of (map as_member leavers)) =
-    times_waiting n submitted cause (map as_member leavers) in
-    let same : times n (map tx_of (map as_member leavers)) ≡ times n (numbers_in leavers) = ap (times n) (as_numbers
-    leavers) in
+distinct_waiting : (submitted : List Submitted) (cause : Cause) (dormant : List Dormant) (run_attempts : List RunAttempt)
+    → IsDistinct nat_eq (waiting dormant ++ numbers_in run_attempts)
+    → IsDistinct nat_eq (waiting (dormant ++ behind submitted cause run_attempts))
+distinct_waiting submitted cause dormant run_attempts distinct =
+    distinct_if_once (waiting (dormant ++ behind submitted cause run_attempts)) (λ n.
+    let low = once (waiting dormant ++ numbers_in run_attempts) distinct n in
+    let before = times_joined n (waiting dormant) (numbers_in run_attempts) in
+    let after : times n (waiting (dormant ++ behind submitted cause run_attempts)) ≡ times n (waiting dormant) + times n
+    (waiting (behind submitted cause run_attempts)) =
+    ap (times n) (map-append (λ (own : Dormant). own.tx) dormant (behind submitted cause run_attempts))
+    ∙ times_joined n (waiting dormant) (waiting (behind submitted cause run_attempts)) in
+    let fewer : times n (waiting (behind submitted cause run_attempts)) ≤ times n (map tx_of (map as_member run_attempts)) =
+    times_waiting n submitted cause (map as_member run_attempts) in
+    let same : times n (map tx_of (map as_member run_attempts)) ≡ times n (numbers_in run_attempts) = ap (times n) (as_numbers
+    run_attempts) in
     omega (arith, low, before, after, fewer, same))
 
-pub kept_taken : (schemas : List TableSchema) (opening : Opening) (submitted : List Submitted) (roster roster' : Roster)
-    (running : Bool) (run run' : Run) (stored stored' : Stored) (posted posted' : List Posted) (leavers : List
-    Leaver) (cause : Cause)
-    (p : Member → Bool) → IsKept schemas opening submitted roster running run stored posted
-    → AllByRecursion (λ (leaver : Leaver). IsNumbered (length submitted) leaver.tx) leavers
-    → IsDistinct nat_eq (map (λ own. own.tx) roster.dormant ++ numbers_in leavers)
-    → roster'.dormant ≡ roster.dormant ++ filter_map (dormant_by submitted cause) (map as_member leavers)
-    → roster'.known ≡ roster.known
+pub kept_taken : (schemas : List TableSchema) (opening : Opening) (submitted : List Submitted) (transaction_table transaction_table' : TransactionTable)
+    (running : Bool) (run run' : Run) (stored stored' : Stored) (posted posted' : List Posted) (run_attempts : List
+    RunAttempt) (cause : Cause)
+    (p : Member → Bool) → IsKept schemas opening submitted transaction_table running run stored posted
+    → AllByRecursion (λ (run_attempt : RunAttempt). IsNumbered (length submitted) run_attempt.tx) run_attempts
+    → IsDistinct nat_eq (map (λ own. own.tx) transaction_table.dormant ++ numbers_in run_attempts)
+    → transaction_table'.dormant ≡ transaction_table.dormant ++ filter_map (dormant_by submitted cause) (map as_member run_attempts)
+    → transaction_table'.known ≡ transaction_table.known
     → run'.prepared ≡ filter p run.prepared → run'.active ≡ filter p run.active
     → stored'.kinds ≡ stored.kinds → IsPoolOf submitted run'.active posted'
-    → IsKept schemas opening submitted roster' running run' stored' posted'
-kept_taken schemas opening submitted roster roster' running run run' stored stored' posted posted' leavers cause p kept
+    → IsKept schemas opening submitted transaction_table' running run' stored' posted'
+kept_taken schemas opening submitted transaction_table transaction_table' running run run' stored stored' posted posted' run_attempts cause p kept
     arrived distinct dormant known prepared active kinds pooled =
     let A : List Dormant → Type 0 = λ all. AllByRecursion (λ (own : Dormant). own.tx ≤ length submitted) all in
     let D : List Dormant → Type 0 = λ all. IsDistinct nat_eq (waiting all) in
@@ -148,11 +148,11 @@ kept_taken schemas opening submitted roster roster' running run run' stored stor
       asks = kept.asks;
       known = known ∙ kept.known;
       arrived = subst A (sym dormant)
-          (all_joined (λ (own : Dormant). own.tx ≤ length submitted) roster.dormant (filter_map (dormant_by submitted
-          cause) (map as_member leavers))
-          kept.arrived (arrived_waiting (length submitted) submitted cause (map as_member leavers) (as_arrived
-          (length submitted) leavers arrived)));
-      distinct = subst D (sym dormant) (distinct_waiting submitted cause roster.dormant leavers distinct);
+          (all_joined (λ (own : Dormant). own.tx ≤ length submitted) transaction_table.dormant (filter_map (dormant_by submitted
+          cause) (map as_member run_attempts))
+          kept.arrived (arrived_waiting (length submitted) submitted cause (map as_member run_attempts) (as_arrived
+          (length submitted) run_attempts arrived)));
+      distinct = subst D (sym dormant) (distinct_waiting submitted cause transaction_table.dormant run_attempts distinct);
       idle_prepared = λ off. prepared ∙ ap (filter p) (kept.idle_prepared off);
       idle_active = λ off. active ∙ ap (filter p) (kept.idle_active off);
       posted = pooled;
@@ -160,13 +160,13 @@ kept_taken schemas opening submitted roster roster' running run run' stored stor
 
 -- ---- the state that is left
 
-numbers_of_leavers : (ms : List Member) → numbers_in (map leaver_of ms) ≡ map tx_of ms
-numbers_of_leavers [] = refl
-numbers_of_leavers (m ∷ ms) = ap (λ ns. m.tx ∷ ns) (numbers_of_leavers ms)
+numbers_of_run_attempts : (ms : List Member) → numbers_in (map run_attempt_of ms) ≡ map tx_of ms
+numbers_of_run_attempts [] = refl
+numbers_of_run_attempts (m ∷ ms) = ap (λ ns. m.tx ∷ ns) (numbers_of_run_attempts ms)
 
-pub numbers_leaving : (numbers : List ℕ) (leavers : List Leaver) (ms : List Member) → numbers ≡ numbers_in leavers
-    → leavers ≡ map leaver_of ms → numbers ≡ map tx_of ms
-numbers_leaving numbers leavers ms is of_members = is ∙ ap numbers_in of_members ∙ numbers_of_leavers ms
+pub numbers_leaving : (numbers : List ℕ) (run_attempts : List RunAttempt) (ms : List Member) → numbers ≡ numbers_in run_attempts
+    → run_attempts ≡ map run_attempt_of ms → numbers ≡ map tx_of ms
+numbers_leaving numbers run_attempts ms is of_members = is ∙ ap numbers_in of_members ∙ numbers_of_run_attempts ms
 
 any_number : (ms : List Member) (tx : ℕ) → list_any (λ n. n == tx) (map tx_of ms) ≡ is_among ms tx
 any_number [] tx = refl
@@ -247,12 +247,12 @@ pub part_numbered : (submitted : List Submitted) (m : Member) → MayTakePart su
 part_numbered submitted m part = (above submitted m.tx part.own part.is_own, below submitted m.tx part.own part.is_own)
 
 leaving_arrived : (submitted : List Submitted) (ms : List Member) → AllByRecursion (MayTakePart submitted) ms
-    → AllByRecursion (λ (leaver : Leaver). IsNumbered (length submitted) leaver.tx) (map leaver_of ms)
+    → AllByRecursion (λ (run_attempt : RunAttempt). IsNumbered (length submitted) run_attempt.tx) (map run_attempt_of ms)
 leaving_arrived submitted [] all = tt
 leaving_arrived submitted (m ∷ ms) all = (part_numbered submitted m all.0, leaving_arrived submitted ms all.1)
 
 leaving_within : (submitted : List Submitted) (ms : List Member) → AllByRecursion (MayTakePart submitted) ms
-    → AllByRecursion (IsWithin submitted) (map leaver_of ms)
+    → AllByRecursion (IsWithin submitted) (map run_attempt_of ms)
 leaving_within submitted [] all = tt
 leaving_within submitted (m ∷ ms) all = (
   (λ own is.
@@ -261,50 +261,50 @@ leaving_within submitted (m ∷ ms) all = (
   leaving_within submitted ms all.1,
 )
 
-pub room_for : (s : State) (gone : List Member) (leavers : List Leaver)
+pub room_for : (s : State) (gone : List Member) (run_attempts : List RunAttempt)
     → length s.fates + length s.dormant + length (members s) ≡ length s.submitted
-    → leavers ≡ map leaver_of (by_number tx_of gone) → length gone ≤ length (members s)
-    → length s.dormant + length s.fates + length leavers ≤ length s.submitted
-room_for s gone leavers counted is fewer =
-    let long : length leavers ≡ length gone = ap length is ∙ length-map (by_number tx_of gone) leaver_of
+    → run_attempts ≡ map run_attempt_of (by_number tx_of gone) → length gone ≤ length (members s)
+    → length s.dormant + length s.fates + length run_attempts ≤ length s.submitted
+room_for s gone run_attempts counted is fewer =
+    let long : length run_attempts ≡ length gone = ap length is ∙ length-map (by_number tx_of gone) run_attempt_of
     ∙ length_by_number gone in
     omega (arith, counted, long, fewer)
 
 pub may_leave : (s : State) (gone : List Member) → StandOnce s → AllByRecursion (MayTakePart s.submitted) gone
     → ((n : ℕ) → times n (map tx_of gone) ≤ times n (map tx_of (members s)))
-    → MayLeave (map leaver_of (by_number tx_of gone)) s
+    → MayLeave (map run_attempt_of (by_number tx_of gone)) s
 may_leave s gone stand part fewer =
     record {
       arrived = leaving_arrived s.submitted (by_number tx_of gone) sorted;
       within = leaving_within s.submitted (by_number tx_of gone) sorted;
-      distinct = distinct_if_once (waiting s.dormant ++ numbers_in (map leaver_of (by_number tx_of gone))) low;
-      unfinished = distinct_if_once (finished s.fates ++ numbers_in (map leaver_of (by_number tx_of gone)))
+      distinct = distinct_if_once (waiting s.dormant ++ numbers_in (map run_attempt_of (by_number tx_of gone))) low;
+      unfinished = distinct_if_once (finished s.fates ++ numbers_in (map run_attempt_of (by_number tx_of gone)))
           low_finished;
     }
   where
     sorted : AllByRecursion (MayTakePart s.submitted) (by_number tx_of gone)
     sorted = all_by_number (MayTakePart s.submitted) gone part
 
-    low : (n : ℕ) → times n (waiting s.dormant ++ numbers_in (map leaver_of (by_number tx_of gone))) ≤ 1
+    low : (n : ℕ) → times n (waiting s.dormant ++ numbers_in (map run_attempt_of (by_number tx_of gone))) ≤ 1
     low n =
         let all = once (standing s) (distinct_if_apart (standing s) stand.distinct) n in
         let joined = times_joined n (map tx_of (members s)) (waiting s.dormant ++ map (λ (fated : Fated). fated.tx)
         s.fates) in
         let behind = times_joined n (waiting s.dormant) (map (λ (fated : Fated). fated.tx) s.fates) in
-        let here = times_joined n (waiting s.dormant) (numbers_in (map leaver_of (by_number tx_of gone))) in
-        let same : times n (numbers_in (map leaver_of (by_number tx_of gone))) ≡ times n (map tx_of gone) =
-        ap (times n) (numbers_of_leavers (by_number tx_of gone)) ∙ times_by_number n gone in
+        let here = times_joined n (waiting s.dormant) (numbers_in (map run_attempt_of (by_number tx_of gone))) in
+        let same : times n (numbers_in (map run_attempt_of (by_number tx_of gone))) ≡ times n (map tx_of gone) =
+        ap (times n) (numbers_of_run_attempts (by_number tx_of gone)) ∙ times_by_number n gone in
         let few = fewer n in
         omega (arith, all, joined, behind, here, same, few)
 
-    low_finished : (n : ℕ) → times n (finished s.fates ++ numbers_in (map leaver_of (by_number tx_of gone))) ≤ 1
+    low_finished : (n : ℕ) → times n (finished s.fates ++ numbers_in (map run_attempt_of (by_number tx_of gone))) ≤ 1
     low_finished n =
         let all = once (standing s) (distinct_if_apart (standing s) stand.distinct) n in
         let joined = times_joined n (map tx_of (members s)) (waiting s.dormant ++ finished s.fates) in
         let behind = times_joined n (waiting s.dormant) (finished s.fates) in
-        let here = times_joined n (finished s.fates) (numbers_in (map leaver_of (by_number tx_of gone))) in
-        let same : times n (numbers_in (map leaver_of (by_number tx_of gone))) ≡ times n (map tx_of gone) =
-        ap (times n) (numbers_of_leavers (by_number tx_of gone)) ∙ times_by_number n gone in
+        let here = times_joined n (finished s.fates) (numbers_in (map run_attempt_of (by_number tx_of gone))) in
+        let same : times n (numbers_in (map run_attempt_of (by_number tx_of gone))) ≡ times n (map tx_of gone) =
+        ap (times n) (numbers_of_run_attempts (by_number tx_of gone)) ∙ times_by_number n gone in
         let few = fewer n in
         omega (arith, all, joined, behind, here, same, few)
 
@@ -372,11 +372,11 @@ no_active_left s cause =
     nothing_behind (m ∷ ms) = ap (λ os. m ∷ os) (nothing_behind ms)
 
 -- the store is kept when nobody is left, and no run is on
-pub kept_ended : (schemas : List TableSchema) (opening : Opening) (submitted : List Submitted) (roster : Roster)
+pub kept_ended : (schemas : List TableSchema) (opening : Opening) (submitted : List Submitted) (transaction_table : TransactionTable)
     (running : Bool) (run : Run) (stored : Stored) (posted : List Posted)
-    → IsKept schemas opening submitted roster running run stored posted
-    → run.prepared ≡ [] → run.active ≡ [] → IsKept schemas opening submitted roster false run stored posted
-kept_ended schemas opening submitted roster running run stored posted kept prepared active =
+    → IsKept schemas opening submitted transaction_table running run stored posted
+    → run.prepared ≡ [] → run.active ≡ [] → IsKept schemas opening submitted transaction_table false run stored posted
+kept_ended schemas opening submitted transaction_table running run stored posted kept prepared active =
     record {
       declared = kept.declared;
       formed = kept.formed;

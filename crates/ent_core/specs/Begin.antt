@@ -10,8 +10,8 @@ use Rattle.ent_protocol.specs.Member.{Asks, Commits, Next, RollsBack, active_mem
 use Rattle.ent_protocol.specs.State.{State, Member, Use}
 use Rattle.ent_protocol.specs.Uses.{blocker, entangled_uses, statement_uses}
 use Rattle.ent_protocol.specs.Waits.{next_uses}
-use Rattle.ent_core.specs.declared.begin.Hindrance.{Hindrance}
-use Rattle.ent_core.specs.declared.begin.Hindrance.TheVariants as hindrances
+use Rattle.ent_core.specs.declared.begin.BeginRefusal.{BeginRefusal}
+use Rattle.ent_core.specs.declared.begin.BeginRefusal.TheVariants as refusals
 use Rattle.ent_core.specs.declared.begin.Plan.{Plan}
 use Rattle.ent_core.specs.declared.begin.Plan.TheVariants as plans
 
@@ -25,16 +25,16 @@ pub record MayBegin (s : State) (tx : ℕ) (member : Member) (next : Next) : Typ
   pub free : (member.posted || is_lent s tx) ≡ false
   pub is_next : next_of s member ≡ next
 
--- the member of a number may begin, and nobody is in the way of what comes next
+-- the member of a number may begin, and nobody blocks what comes next
 pub record IsFree (s : State) (tx : ℕ) (member : Member) : Type 0 where
   pub may : MayBegin s tx member (next_of s member)
   pub unblocked : blocker s member (next_uses (next_of s member)) ≡ None
 
 -- what is replied to a member that may not begin
-abbrev pub hindrance_seen : Hindrance → Reply FormFault
-hindrance_seen hindrances.Absent = replies.Absent
-hindrance_seen hindrances.NotNow = replies.NotNow
-hindrance_seen (hindrances.Blocked holder) = replies.Blocked holder
+abbrev pub begin_refusal_seen : BeginRefusal → Reply FormFault
+begin_refusal_seen refusals.Absent = replies.Absent
+begin_refusal_seen refusals.NotNow = replies.NotNow
+begin_refusal_seen (refusals.Blocked holder) = replies.Blocked holder
 
 pub record IsToBegin (s : State) (tx : ℕ) (next : Next) : Type 0 where
   pub member : Member
@@ -54,7 +54,7 @@ LendsTo tx job old new =
     (member : Member) → active_member old tx ≡ Some member
     → new ≡ record (with_member (holding member (job_uses job)) old) { lent = old.lent ++ job ∷ [] }
 
--- the member of a number may begin, nobody is in the way, and this is its statement, which comes next
+-- the member of a number may begin, nobody blocks it, and this is its statement, which comes next
 pub record IsToPost (s : State) (tx : ℕ) (query : Posted) : Type 0 where
   pub member : Member
   pub may : MayBegin s tx member (Asks query.statement)

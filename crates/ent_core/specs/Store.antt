@@ -9,11 +9,11 @@ use Rattle.ent_coordination.specs.Pool.{Posted}
 use Rattle.ent_pool_laws.specs.Pooled.{IsPoolOf}
 use Rattle.ent_protocol.specs.State.{Submitted}
 use Rattle.ent_members.specs.Run.{Run}
-use Rattle.ent_roster.specs.Roster.{Roster}
+use Rattle.ent_transaction_table.specs.TransactionTable.{TransactionTable}
 use Rattle.ent_protocol_laws.specs.Attempts.{AsksForRun}
 use Rattle.ent_tables.specs.Stored.{Stored, kinds_declared}
 
-pub record IsKept (schemas : List TableSchema) (opening : Opening) (submitted : List Submitted) (roster : Roster)
+pub record IsKept (schemas : List TableSchema) (opening : Opening) (submitted : List Submitted) (transaction_table : TransactionTable)
     (running : Bool) (run : Run) (stored : Stored) (pool : List Posted) : Type 0 where
   -- the catalogue is the opening's, which has no fault, and so are the kinds of the tables' columns
   pub declared : schemas ≡ schemas_of opening.tables
@@ -21,10 +21,10 @@ pub record IsKept (schemas : List TableSchema) (opening : Opening) (submitted : 
   pub kinds : stored.kinds ≡ kinds_declared opening.tables
   -- each script asks for a run, and there is room for each one that was submitted
   pub asks : AllByRecursion AsksForRun submitted
-  pub known : roster.known ≡ length submitted
+  pub known : transaction_table.known ≡ length submitted
   -- who is dormant was submitted, and stands once in the list
-  pub arrived : AllByRecursion (λ own. own.tx ≤ length submitted) roster.dormant
-  pub distinct : IsDistinct nat_eq (map (λ own. own.tx) roster.dormant)
+  pub arrived : AllByRecursion (λ own. own.tx ≤ length submitted) transaction_table.dormant
+  pub distinct : IsDistinct nat_eq (map (λ own. own.tx) transaction_table.dormant)
   -- where no run is on nobody is a member
   pub idle_prepared : running ≡ false → run.prepared ≡ []
   pub idle_active : running ≡ false → run.active ≡ []

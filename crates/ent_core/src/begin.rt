@@ -2,7 +2,7 @@
 ghost use Rattle.std.specs.Prelude.{◌≡◌, ℕ, Some, None, true, IfErr, IfOk, IsOk, OnErr, IsSome};
 ghost use Rattle.std.specs.Arc.{arc_value};
 ghost use Rattle.ent_coordination.specs.Pool.{Unsafe as UnsafePost};
-ghost use Rattle.ent_core.specs.Begin.{Follows, IsFree, IsIdle, IsToPost, LendsTo, MayBegin, hindrance_seen, job_uses};
+ghost use Rattle.ent_core.specs.Begin.{Follows, IsFree, IsIdle, IsToPost, LendsTo, MayBegin, begin_refusal_seen, job_uses};
 ghost use Rattle.ent_core.specs.Kept.{IsKeptState};
 ghost use Rattle.ent_core.specs.Reply.{reply_seen};
 ghost use Rattle.ent_form.specs.declared.fault.FormFault.{FormFault as Form};
@@ -31,14 +31,14 @@ use ent_protocol_laws::{
     attempts_stay_within, members_stand_by_number, transactions_are_counted,
     transactions_stand_once,
 };
-use ent_roster::Cause;
+use ent_transaction_table::Cause;
 use ent_value::Value;
 use std::alloc::AllocError;
 use std::sync::Arc;
 
 /// Why a member may not begin what comes next.
 #[derive(Clone, Copy)]
-enum Hindrance {
+enum BeginRefusal {
     /// No such member of the run.
     Absent,
     /// It is prepared, or its statement is in the pool, or the result of its job is awaited.
@@ -47,14 +47,14 @@ enum Hindrance {
     Blocked(Tx),
 }
 
-impl Hindrance {
+impl BeginRefusal {
     fn reply(self) -> Reply
-        ensures { reply_seen result ≡ hindrance_seen self }
+        ensures { reply_seen result ≡ begin_refusal_seen self }
     {
         match self {
-            Hindrance::Absent => Reply::Absent,
-            Hindrance::NotNow => Reply::NotNow,
-            Hindrance::Blocked(holder) => Reply::Blocked(holder),
+            BeginRefusal::Absent => Reply::Absent,
+            BeginRefusal::NotNow => Reply::NotNow,
+            BeginRefusal::Blocked(holder) => Reply::Blocked(holder),
         }
     }
 }
@@ -72,7 +72,7 @@ enum Plan {
     RollsBack(Tx),
 }
 
-/// What an ordinary statement comes to that nobody is in the way of.
+/// What an ordinary statement comes to that nobody blocks.
 fn plan_ordinary(
     store: &Store,
     member: &Member,
@@ -104,7 +104,7 @@ fn query_of(member: &Member, statement: Arc<Entangled<Value>>) -> Posted
     Posted::new(member.tx(), member.attempt(), place, statement)
 }
 
-/// The least member that is in the way of what a member does next. It takes no memory, so that it is asked for before
+/// The least member that blocks what a member does next. It takes no memory, so that it is asked for before
 /// the statement is closed.
 fn blocker_of(store: &Store, member: &Member) -> Option<Tx>
     ensures { result ≡ blocker store.now member.now (next_uses (next_of store.now member.now)) }
@@ -116,39 +116,39 @@ fn blocker_of(store: &Store, member: &Member) -> Option<Tx>
 }
 
 /// The member of a number, where it is at its turn.
-fn member_at_turn(store: &Store, tx: Tx) -> Result<&Member, Hindrance>
+fn member_at_turn(store: &Store, tx: Tx) -> Result<&Member, BeginRefusal>
     ensures number { IfOk result (λ member. member.now.tx ≡ tx) }
     ensures free { IfOk result (λ member. MayBegin store.now tx member.now (next_of store.now member.now)) }
-    ensures hindered { IfErr result (λ hindrance. Begins store.now tx (hindrance_seen hindrance) store.now) }
+    ensures hindered { IfErr result (λ refusal. Begins store.now tx (begin_refusal_seen refusal) store.now) }
 {
     match store.run.active_member(tx) {
         Some(member) => {
             if member.is_posted() {
-                return Err(Hindrance::NotNow);
+                return Err(BeginRefusal::NotNow);
             }
             if store.lent.is_out(tx) {
-                return Err(Hindrance::NotNow);
+                return Err(BeginRefusal::NotNow);
             }
             Ok(member)
         }
         None => {
             if store.run.is_prepared(tx) {
-                return Err(Hindrance::NotNow);
+                return Err(BeginRefusal::NotNow);
             }
-            Err(Hindrance::Absent)
+            Err(BeginRefusal::Absent)
         }
     }
 }
 
 /// The member of a number, where nothing keeps it from what comes next.
-fn free_member(store: &Store, tx: Tx) -> Result<&Member, Hindrance>
+fn free_member(store: &Store, tx: Tx) -> Result<&Member, BeginRefusal>
     ensures number { IfOk result (λ member. member.now.tx ≡ tx) }
     ensures free { IfOk result (λ member. IsFree store.now tx member.now) }
-    ensures hindered { IfErr result (λ hindrance. Begins store.now tx (hindrance_seen hindrance) store.now) }
+    ensures hindered { IfErr result (λ refusal. Begins store.now tx (begin_refusal_seen refusal) store.now) }
 {
     let member = member_at_turn(store, tx)?;
     match blocker_of(store, member) {
-        Some(holder) => Err(Hindrance::Blocked(holder)),
+        Some(holder) => Err(BeginRefusal::Blocked(holder)),
         None => Ok(member),
     }
 }
@@ -158,7 +158,7 @@ pub(crate) fn is_blocked(store: &Store, tx: Tx) -> bool
     ensures { result ≡ true → (holder : ℕ) × Begins {F = Form} store.now tx (replies.Blocked holder) store.now }
 {
     match free_member(store, tx) {
-        Err(Hindrance::Blocked(_)) => true,
+        Err(BeginRefusal::Blocked(_)) => true,
         _ => false,
     }
 }
@@ -289,7 +289,7 @@ pub(crate) fn begin(store: &mut Store, tx: Tx) -> Result<Reply, AllocError>
 {
     let plan = match free_member(store, tx) {
         Ok(member) => plan_of(store, member)?,
-        Err(hindrance) => return Ok(hindrance.reply()),
+        Err(refusal) => return Ok(refusal.reply()),
     };
     carry_out(store, tx, plan)
 }

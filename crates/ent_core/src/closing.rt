@@ -43,7 +43,7 @@ pub(crate) struct BookParts {
 pub(crate) fn can_close(store: &Store) -> bool
     ensures { IsTrue result ↔ CanClose store.now }
 {
-    !store.running && store.roster.dormant_len() == 0
+    !store.running && store.transaction_table.dormant_len() == 0
 }
 
 /// Tables under the names of the catalogue; none is copied row by row.
@@ -76,7 +76,7 @@ pub(crate) fn book_parts(store: &Store) -> Result<BookParts, AllocError>
     ensures scripts { IfOk result (λ parts. parts.scripts.items ≡ []) }
     ensures room { IfOk result (λ parts. length store.now.submitted ≤ vec_capacity parts.scripts) }
 {
-    let fates = store.roster.fates_by_number(store.alloc)?;
+    let fates = store.transaction_table.fates_by_number(store.alloc)?;
     let database = named(store.alloc, &store.catalogue, store.tables.as_slice())?;
     let scripts = Vec::with_capacity(store.alloc, store.submitted.len())?;
     Ok(BookParts {

@@ -58,7 +58,7 @@ pub(crate) fn commit(store: &mut Store, tx: Tx) -> Result<Reply, AllocError>
     let mut committed = store.run.commit(group, room);
     let members = member_numbers(committed.as_slice());
     let first = store.journal.len() as u64 + 1;
-    store.roster.commit(first, committed.as_slice());
+    store.transaction_table.commit(first, committed.as_slice());
     store.tables.settle(&members);
     enter(&mut store.journal, &mut committed);
     Ok(Reply::Committed { first, members })

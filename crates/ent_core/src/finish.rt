@@ -31,9 +31,9 @@ use ent_protocol_laws::{
     attempts_stay_within, lent_tables_are_declared, members_stand_by_number,
     transactions_are_counted, transactions_stand_once,
 };
-use ent_roster::Cause;
 use ent_semantics::Failure;
 use ent_tables::StoredTables;
+use ent_transaction_table::Cause;
 use ent_value::Refusal;
 use std::alloc::{AllocError, AllocFailed, Global};
 

@@ -23,7 +23,7 @@ pub(crate) fn dormant(store: &Store, place: usize) -> Option<&Entrant>
     if place == 0 {
         return None;
     }
-    store.roster.dormant_at(place - 1)
+    store.transaction_table.dormant_at(place - 1)
 }
 
 /// The journal's entry of a number, from 1.

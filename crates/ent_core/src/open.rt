@@ -9,8 +9,8 @@ use ent_form::{Catalogue, FormFault};
 use ent_job::LentJobs;
 use ent_match::Pool;
 use ent_members::Run;
-use ent_roster::Roster;
 use ent_tables::StoredTables;
+use ent_transaction_table::TransactionTable;
 use ent_tree::Opening;
 use ent_value::Refusal;
 use std::alloc::Global;
@@ -26,7 +26,7 @@ pub(crate) fn open(alloc: Global, opening: Opening) -> Result<Store, Refusal<For
         opening,
         catalogue,
         submitted: Vec::new(alloc),
-        roster: Roster::new(alloc),
+        transaction_table: TransactionTable::new(alloc),
         running: false,
         run: Run::new(alloc),
         pool: Pool::new(alloc),

@@ -120,7 +120,7 @@ impl Core {
     }
 
     /// The member of a number begins its next statement, or ends as its script does. Lent: its job is to come back.
-    /// Refused where it isn't there, is prepared, is posted or has its job out, where another member is in its way, and
+    /// Refused where it isn't there, is prepared, is posted or has its job out, where another member blocks it, and
     /// where the pool with its statement would be unsafe. Where memory runs out nothing changes; a member that rolls
     /// back takes none.
     pub fn begin(&mut self, tx: Tx) -> Result<Reply, AllocError>
@@ -135,7 +135,7 @@ impl Core {
         begin(&mut self.store, tx)
     }
 
-    /// Whether another member is in the way of the next statement of the member of a number, so that a begin of it is
+    /// Whether another member blocks the next statement of the member of a number, so that a begin of it is
     /// refused and changes nothing. Where this says no, the begin tells what it comes to. It is quicker than a begin,
     /// since no reply is made.
     pub fn is_blocked(&self, tx: Tx) -> bool

@@ -55,10 +55,10 @@ pub(crate) fn standing_of(store: &Store, tx: Tx) -> Option<Standing>
     if let Some(member) = store.run.active_member(tx) {
         return Some(active_standing(store, member));
     }
-    if let Some(own) = store.roster.dormant_of(tx) {
+    if let Some(own) = store.transaction_table.dormant_of(tx) {
         return Some(Standing::Dormant(own.runs()));
     }
-    match store.roster.fate_of(tx) {
+    match store.transaction_table.fate_of(tx) {
         Some(fated) => Some(Standing::Finished(fated.fate)),
         None => None,
     }

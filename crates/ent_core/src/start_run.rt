@@ -17,15 +17,15 @@ pub(crate) fn start_run(store: &mut Store) -> Result<Reply, AllocError>
     if store.running {
         return Ok(Reply::NotNow);
     }
-    let waiting = store.roster.dormant_len();
+    let waiting = store.transaction_table.dormant_len();
     if waiting == 0 {
         return Ok(Reply::Absent);
     }
     let count = waiting.min(MOST_MEMBERS);
-    let entrants = store.roster.first_dormant(store.alloc, count)?;
+    let entrants = store.transaction_table.first_dormant(store.alloc, count)?;
     let run = Run::start(store.alloc, entrants.as_slice())?;
     let members = run.numbers();
-    store.roster.take_first(count);
+    store.transaction_table.take_first(count);
     store.tried.clear();
     store.run = run;
     store.running = true;

@@ -7,9 +7,9 @@ use ent_job::LentJobs;
 use ent_match::{Pool, Posted};
 use ent_members::Run;
 use ent_next::SubmittedScript;
-use ent_roster::Roster;
 use ent_semantics::{Entry, JointAnswer};
 use ent_tables::StoredTables;
+use ent_transaction_table::TransactionTable;
 use ent_tree::Opening;
 use ent_value::Sequence;
 use std::alloc::Global;
@@ -23,7 +23,7 @@ pub(crate) struct Store {
     pub(crate) catalogue: Catalogue,
     pub(crate) submitted: Vec<SubmittedScript>,
     /// Who waits for a run, in order of arrival, and who is finished.
-    pub(crate) roster: Roster,
+    pub(crate) transaction_table: TransactionTable,
     pub(crate) running: bool,
     pub(crate) run: Run,
     /// What members posted, by number.
@@ -48,7 +48,7 @@ impl Model for Store {
     ghost view = { λ s. record {
       opening = s.opening;
       submitted = s.submitted.items;
-      dormant = s.roster.dormant;
+      dormant = s.transaction_table.dormant;
       running = s.running;
       prepared = s.run.prepared;
       active = s.run.active;
@@ -58,11 +58,11 @@ impl Model for Store {
       tables = s.tables.tables;
       changes = s.tables.changes;
       journal = s.journal.items;
-      fates = s.roster.fates;
+      fates = s.transaction_table.fates;
     } };
 
     ghost invariant = { λ s.
-        IsKept s.catalogue.tables s.opening s.submitted.items s.roster s.running s.run s.tables s.pool };
+        IsKept s.catalogue.tables s.opening s.submitted.items s.transaction_table s.running s.run s.tables s.pool };
 }
 
 impl Store {

@@ -57,7 +57,7 @@ pub(crate) fn submit(store: &mut Store, script: Script) -> Result<Reply, AllocFa
             value: own.into_script(),
         });
     }
-    match store.roster.admit(tx) {
+    match store.transaction_table.admit(tx) {
         Ok(()) => {
             store.submitted.push_reserved(own);
             Ok(Reply::Submitted(tx))

@@ -1,22 +1,22 @@
 //! Members are taken out of the run. Nothing here takes memory.
 ghost use Rattle.std.specs.Prelude.{◌≡◌, ◌+◌, ◌≤◌, List, filter, length, map};
 ghost use Rattle.ent_core.specs.TakeOut.{MayLeave, is_joint_of_any, is_joint_of_others};
-ghost use Rattle.ent_members.specs.Leavers.{leaver_of};
+ghost use Rattle.ent_members.specs.RunAttempts.{run_attempt_of};
 ghost use Rattle.ent_members.specs.Run.{tx_of};
 ghost use Rattle.ent_pool_laws.specs.Pooled.{is_of_none};
 ghost use Rattle.ent_protocol.specs.Rollback.{group_numbers, rolled_back, taken_out};
 ghost use Rattle.ent_protocol.specs.Run.{ending, numbers_of};
 ghost use Rattle.ent_protocol.specs.State.{Member as Seen, by_number, members};
-ghost use Rattle.ent_roster.specs.Cause.{cause_seen};
+ghost use Rattle.ent_transaction_table.specs.Cause.{cause_seen};
 ghost use Rattle.ent_protocol_laws.specs.Attempts.{StayWithin};
 ghost use Rattle.ent_protocol_laws.specs.Standing.{StandOnce};
 
 use crate::store::Store;
 use ent_group::{Members, Tx};
 use ent_match::Pool;
-use ent_members::Leavers;
-use ent_roster::Cause;
+use ent_members::RunAttempts;
 use ent_semantics::JointAnswer;
+use ent_transaction_table::Cause;
 
 /// Whether one of these transactions is a member of a joint answer.
 fn is_joint_of(numbers: &Members, joint: &JointAnswer) -> bool
@@ -46,17 +46,17 @@ fn withdraw_each(pool: &mut Pool, numbers: &[Tx])
 }
 
 /// Takes members out of the run, whatever they did. Each has a fate, or waits for another run.
-fn take_out(store: &mut Store, leavers: &Leavers, cause: Cause)
-    requires room { length store.old.dormant + length store.old.fates + length leavers.now
+fn take_out(store: &mut Store, run_attempts: &RunAttempts, cause: Cause)
+    requires room { length store.old.dormant + length store.old.fates + length run_attempts.now
         ≤ length store.old.submitted }
-    requires leaving { MayLeave leavers.now store.old }
-    ensures { (gone : List Seen) → leavers.now ≡ map leaver_of (by_number tx_of gone)
+    requires leaving { MayLeave run_attempts.now store.old }
+    ensures { (gone : List Seen) → run_attempts.now ≡ map run_attempt_of (by_number tx_of gone)
         → store.new ≡ taken_out gone (cause_seen cause) store.old }
 {
-    let numbers = leavers.numbers();
+    let numbers = run_attempts.numbers();
     store
-        .roster
-        .leave(leavers.as_slice(), store.submitted.as_slice(), cause);
+        .transaction_table
+        .leave(run_attempts.as_slice(), store.submitted.as_slice(), cause);
     store.run.remove(&numbers);
     withdraw_each(&mut store.pool, numbers.as_slice());
     remove_joints(&mut store.joints, &numbers);
@@ -73,9 +73,9 @@ pub(crate) fn roll_back(store: &mut Store, group: Tx, cause: Cause) -> Members
     ensures group { result ≡ group_numbers store.old group }
     ensures state { store.new ≡ rolled_back group (cause_seen cause) store.old }
 {
-    let leavers = store.run.leavers(group);
-    let members = leavers.numbers();
-    take_out(store, &leavers, cause);
+    let run_attempts = store.run.run_attempts(group);
+    let members = run_attempts.numbers();
+    take_out(store, &run_attempts, cause);
     members
 }
 
@@ -88,9 +88,9 @@ pub(crate) fn end(store: &mut Store) -> Members
     ensures members { result ≡ numbers_of (members store.old) }
     ensures state { store.new ≡ ending store.old }
 {
-    let leavers = store.run.all_leavers();
-    let members = leavers.numbers();
-    take_out(store, &leavers, Cause::NoOne);
+    let run_attempts = store.run.all_run_attempts();
+    let members = run_attempts.numbers();
+    take_out(store, &run_attempts, Cause::NoOne);
     store.running = false;
     store.tried.clear();
     store.lent.clear();

@@ -266,7 +266,7 @@ impl<L: Naming> Desk<L> {
         Ok(None)
     }
 
-    /// A member begins its next statement, where it is ready and nobody is in its way.
+    /// A member begins its next statement, where it is ready and nobody blocks it.
     #[tactic(auto, using(crate::proofs::Keeping::none_on, crate::proofs::Keeping::gets_none))]
     fn begin_ready(
         &mut self,

@@ -22,9 +22,9 @@ use Rattle.ent_semantics.specs.declared.book.Member.{Member}
 use Rattle.ent_semantics.specs.Book.{IsLegal, JournalIsRight, RunGivesBook, HasCommitted, IsEntryOf, AreApart}
 use Rattle.ent_semantics.specs.Database.{Environment, opening_database, nothing_bound}
 use Rattle.ent_semantics.specs.Entangled.{is_grounding, Valuation}
-use Rattle.ent_semantics.specs.Joint.{IsGood, IsOffered, IsGrounded, member_of, sight_posts, sight_heads}
+use Rattle.ent_semantics.specs.Joint.{IsGood, IsOffered, IsGrounded, member_of, read_view_posts, read_view_heads}
 use Rattle.ent_semantics.specs.Selection.{meets, item_row, select_worth, select_rows}
-use Rattle.ent_semantics.specs.Serial.{Sight, Turn, numbered}
+use Rattle.ent_semantics.specs.Serial.{ReadView, Turn, numbered}
 use Rattle.ent_examples.specs.Friends.{friends_opening, friends_scripts, flies_with, alone, to_LA, LA, Mickey, Minnie}
 use Rattle.ent_examples.specs.Friends.{flight_122, flight_136, good_book, takes, together, flies}
 use Rattle.ent_examples.proofs.Lists.{one_case, two_cases, two_apart}
@@ -62,8 +62,8 @@ abbrev pub turns_of : Value → List Turn
 turns_of number =
     turn 1 Mickey Minnie ((number ∷ []) ∷ []) ∷ turn 2 Minnie Mickey ((number ∷ []) ∷ []) ∷ []
 
-abbrev pub sight : ℕ → Value → Value → Valuation → Sight
-sight tx own partner valuation =
+abbrev pub read_view : ℕ → Value → Value → Valuation → ReadView
+read_view tx own partner valuation =
     record {
       tx = tx;
       place = 1;
@@ -151,17 +151,17 @@ journal_right =
 
 -- ---- the joint answer
 
-abbrev mickeys : Sight
-mickeys = sight 1 Mickey Minnie (flight_122 ∷ [])
+abbrev mickeys : ReadView
+mickeys = read_view 1 Mickey Minnie (flight_122 ∷ [])
 
-abbrev minnies : Sight
-minnies = sight 2 Minnie Mickey (flight_122 ∷ [])
+abbrev minnies : ReadView
+minnies = read_view 2 Minnie Mickey (flight_122 ∷ [])
 
-abbrev seen : List Sight
+abbrev seen : List ReadView
 seen = mickeys ∷ minnies ∷ []
 
 -- what holds of both holds of each that is seen
-of_both : (P : Sight → Type 0) → P mickeys → P minnies → (s : Sight) → Contains seen s → P s
+of_both : (P : ReadView → Type 0) → P mickeys → P minnies → (s : ReadView) → Contains seen s → P s
 of_both P h k s there = of (two_cases mickeys minnies s there)
   where
     of : (s ≡ mickeys) ⊎ (s ≡ minnies) → P s
@@ -171,24 +171,24 @@ of_both P h k s there = of (two_cases mickeys minnies s there)
 abbrev members : List Member
 members = takes 1 flight_122 ∷ takes 2 flight_122 ∷ []
 
-stands : (s : Sight) → Contains seen s → Contains members (member_of s)
+stands : (s : ReadView) → Contains seen s → Contains members (member_of s)
 stands = of_both (λ s. Contains members (member_of s)) (0, omega arith, refl) (1, omega arith, refl)
 
 each_is_seen : (member : Member) → Contains members member
-    → (s : Sight) × Contains seen s × (member ≡ member_of s)
+    → (s : ReadView) × Contains seen s × (member ≡ member_of s)
 each_is_seen member there = of (two_cases (takes 1 flight_122) (takes 2 flight_122) member there)
   where
     of : (member ≡ takes 1 flight_122) ⊎ (member ≡ takes 2 flight_122)
-        → (s : Sight) × Contains seen s × (member ≡ member_of s)
+        → (s : ReadView) × Contains seen s × (member ≡ member_of s)
     of (inl e) = (mickeys, (0, omega arith, refl), e)
     of (inr e) = (minnies, (1, omega arith, refl), e)
 
-met_by : (s partner : Sight) → Contains seen partner → (fact : Fact) → sight_posts s ≡ fact ∷ []
-    → Contains (sight_heads partner) fact → (post : Fact) → Contains (sight_posts s) post
+met_by : (s partner : ReadView) → Contains seen partner → (fact : Fact) → read_view_posts s ≡ fact ∷ []
+    → Contains (read_view_heads partner) fact → (post : Fact) → Contains (read_view_posts s) post
     → IsOffered seen members post
 met_by s partner there fact is offers post asked =
     let same : post ≡ fact = one_case fact post (subst (λ posts. Contains posts post) is asked) in
-    (partner, (there, stands partner there), subst (λ f. Contains (sight_heads partner) f) (sym same) offers)
+    (partner, (there, stands partner there), subst (λ f. Contains (read_view_heads partner) f) (sym same) offers)
 
 pub together_good : IsGood friends_opening.tables seen members
 together_good =
@@ -199,7 +199,7 @@ together_good =
       of_run = each_is_seen;
       grounded = λ s h. of_both (IsGrounded friends_opening.tables) (grounds nothing_bound Mickey Minnie flight_122)
           (grounds nothing_bound Minnie Mickey flight_122) s h.0;
-      met = λ s h. of_both (λ x. (post : Fact) → Contains (sight_posts x) post → IsOffered seen members post)
+      met = λ s h. of_both (λ x. (post : Fact) → Contains (read_view_posts x) post → IsOffered seen members post)
           (met_by mickeys minnies (1, omega arith, refl) (flies Minnie flight_122) refl (0, omega arith, refl))
           (met_by minnies mickeys (0, omega arith, refl) (flies Mickey flight_122) refl (0, omega arith, refl)) s h.0;
     }

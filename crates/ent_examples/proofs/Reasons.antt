@@ -4,7 +4,7 @@ use Rattle.std.proofs.Common.{map, refl, sym, ap, subst, ◌∙◌, arith}
 use Rattle.std.specs.Prelude.{All, AllPairs, Contains, nat_le}
 use Rattle.std.specs.List.{list_all}
 use Rattle.std.proofs.lemmas.List.Elements.{All-contains}
-use Rattle.ent_group.specs.Cycle.{IsInRing, Closes, links, links_to}
+use Rattle.ent_group.specs.Cycle.{IsOnCycle, Closes, links, links_to}
 use Rattle.ent_coordination.specs.Pool.{Posted}
 use Rattle.ent_protocol.specs.Member.{is_lent, pool}
 use Rattle.ent_protocol.specs.Quiet.{NoneIs, HasJobOut, OutJoint, CanMove, IsLeast, IsUntried}
@@ -77,7 +77,7 @@ ring_waits (x ∷ y ∷ ys) end tx h =
 abbrev pub each_other : List (ℕ × ℕ)
 each_other = (1, 2) ∷ (2, 1) ∷ []
 
-at_most_2 : (tx : ℕ) → IsInRing each_other tx → tx ≤ 2
+at_most_2 : (tx : ℕ) → IsOnCycle each_other tx → tx ≤ 2
 at_most_2 tx h = of h.0 h.1 h.2
   where
     of : (members : List ℕ) → Closes each_other members → Contains members tx → tx ≤ 2
@@ -110,5 +110,5 @@ two_wait s e =
         };
         distinct = two_apart;
       };
-      greatest = λ tx h. at_most_2 tx (subst (λ pairs. IsInRing pairs tx) e h);
+      greatest = λ tx h. at_most_2 tx (subst (λ pairs. IsOnCycle pairs tx) e h);
     }

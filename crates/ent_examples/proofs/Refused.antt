@@ -12,13 +12,13 @@ use Rattle.ent_semantics.specs.declared.book.Member.{Member}
 use Rattle.ent_semantics.specs.Book.{IsLegal, RunGivesBook}
 use Rattle.ent_semantics.specs.Database.{opening_database, nothing_bound}
 use Rattle.ent_semantics.specs.Entangled.{Valuation, is_grounding}
-use Rattle.ent_semantics.specs.Joint.{IsGood, IsOffered, member_of, sight_heads, sight_posts}
-use Rattle.ent_semantics.specs.Serial.{Sight, Turn, Runs, numbered, scripts_run, scripts_sights}
+use Rattle.ent_semantics.specs.Joint.{IsGood, IsOffered, member_of, read_view_heads, read_view_posts}
+use Rattle.ent_semantics.specs.Serial.{ReadView, Turn, Runs, numbered, scripts_run, scripts_read_views}
 use Rattle.ent_examples.specs.Friends.{friends_opening, friends_scripts, friends_book, flies_with, alone, Mickey}
 use Rattle.ent_examples.specs.Friends.{Minnie}
 use Rattle.ent_examples.specs.Friends.{flight_122, flight_136, takes, together, flies, answered_apart}
 use Rattle.ent_examples.specs.Friends.{answered_elsewhere, left_out, answered_twice, widowed}
-use Rattle.ent_examples.proofs.Good.{turn, sight, one_not_two, grounds}
+use Rattle.ent_examples.proofs.Good.{turn, read_view, one_not_two, grounds}
 use Rattle.ent_examples.proofs.Lists.{one_case, two_cases}
 
 -- ---- the turns of a book of the friends
@@ -78,13 +78,13 @@ one_answer [] runs e = cc
 one_answer (v ∷ x ∷ more) runs e = cc
 one_answer (v ∷ []) runs e = (v, refl)
 
-abbrev friends_sights : List Turn → List Sight
-friends_sights turns = scripts_sights friends_opening.tables turns (opening_database friends_opening)
+abbrev friends_read_views : List Turn → List ReadView
+friends_read_views turns = scripts_read_views friends_opening.tables turns (opening_database friends_opening)
 
 -- what the friends' statements see
 pub seen_by_two : (number : Value) (joints : List JointAnswer) (turns : List Turn)
     → RunGivesBook (friends_book number joints) turns
-    → (v w : Valuation) × (friends_sights turns ≡ sight 1 Mickey Minnie v ∷ sight 2 Minnie Mickey w ∷ [])
+    → (v w : Valuation) × (friends_read_views turns ≡ read_view 1 Mickey Minnie v ∷ read_view 2 Minnie Mickey w ∷ [])
 seen_by_two number joints turns h =
     let two = two_turns turns h.in_order h.own_scripts in
     let run = ap (λ (ts : List Turn). scripts_run friends_opening.tables ts (opening_database friends_opening))
@@ -92,28 +92,28 @@ seen_by_two number joints turns h =
     let answers = two_answers two.0 two.1 _ run in (
       answers.0,
       answers.1,
-      ap friends_sights two.2
-          ∙ λ i. friends_sights (turn 1 Mickey Minnie (answers.2 i) ∷ turn 2 Minnie Mickey (answers.3 i) ∷ []),
+      ap friends_read_views two.2
+          ∙ λ i. friends_read_views (turn 1 Mickey Minnie (answers.2 i) ∷ turn 2 Minnie Mickey (answers.3 i) ∷ []),
     )
 
 -- ---- the first one's member
 
-same_tx : (member : Member) (s : Sight) (tx : ℕ) → member ≡ member_of s → s.tx ≡ tx → member.tx ≡ tx
+same_tx : (member : Member) (s : ReadView) (tx : ℕ) → member ≡ member_of s → s.tx ≡ tx → member.tx ≡ tx
 same_tx member s tx e f = ap (λ (m : Member). m.tx) e ∙ f
 
 module _ (v w : Valuation) where
-  abbrev two : List Sight
-  two = sight 1 Mickey Minnie v ∷ sight 2 Minnie Mickey w ∷ []
+  abbrev two : List ReadView
+  two = read_view 1 Mickey Minnie v ∷ read_view 2 Minnie Mickey w ∷ []
 
-  -- the sight of the first one's member is the first
-  first_of : (number : Value) (s : Sight) → Contains two s → takes 1 number ≡ member_of s
-      → (s ≡ sight 1 Mickey Minnie v) × (v ≡ number ∷ [])
-  first_of number s there is = of (two_cases (sight 1 Mickey Minnie v) (sight 2 Minnie Mickey w) s there)
+  -- the read view of the first one's member is the first
+  first_of : (number : Value) (s : ReadView) → Contains two s → takes 1 number ≡ member_of s
+      → (s ≡ read_view 1 Mickey Minnie v) × (v ≡ number ∷ [])
+  first_of number s there is = of (two_cases (read_view 1 Mickey Minnie v) (read_view 2 Minnie Mickey w) s there)
     where
-      of : (s ≡ sight 1 Mickey Minnie v) ⊎ (s ≡ sight 2 Minnie Mickey w)
-          → (s ≡ sight 1 Mickey Minnie v) × (v ≡ number ∷ [])
-      of (inl e) = (e, sym (ap (λ (x : Sight). x.valuation) e) ∙ sym (ap (λ (m : Member). m.grounding) is))
-      of (inr e) = absurd (one_not_two (same_tx (takes 1 number) s 2 is (ap (λ (x : Sight). x.tx) e)))
+      of : (s ≡ read_view 1 Mickey Minnie v) ⊎ (s ≡ read_view 2 Minnie Mickey w)
+          → (s ≡ read_view 1 Mickey Minnie v) × (v ≡ number ∷ [])
+      of (inl e) = (e, sym (ap (λ (x : ReadView). x.valuation) e) ∙ sym (ap (λ (m : Member). m.grounding) is))
+      of (inr e) = absurd (one_not_two (same_tx (takes 1 number) s 2 is (ap (λ (x : ReadView). x.tx) e)))
 
   -- ---- answered elsewhere
 
@@ -130,7 +130,7 @@ module _ (v w : Valuation) where
   elsewhere_bad h =
       let found = h.of_run (takes 1 flight_136) (0, omega arith, refl) in
       let is = first_of flight_136 found.0 found.1 found.2 in
-      not_to_LA is.1 (subst (λ (s : Sight). is_grounding friends_opening.tables s.database s.environment s.entangled
+      not_to_LA is.1 (subst (λ (s : ReadView). is_grounding friends_opening.tables s.database s.environment s.entangled
       s.valuation ≡ true) is.0 (h.grounded found.0 (found.1, (0, omega arith, found.2))))
 
   -- ---- answered apart
@@ -144,8 +144,8 @@ module _ (v w : Valuation) where
   offered_by_none e k =
       let is = first_of flight_122 k.0 k.1.0 (sym (one_case (takes 1 flight_122) (member_of k.0) k.1.1)) in
       let fact = one_case (flies Mickey flight_122) (flies Minnie flight_122)
-      (subst (λ x. Contains (sight_heads (sight 1 Mickey Minnie x)) (flies Minnie flight_122)) e
-      (subst (λ (s : Sight). Contains (sight_heads s) (flies Minnie flight_122)) is.0 k.2)) in
+      (subst (λ x. Contains (read_view_heads (read_view 1 Mickey Minnie x)) (flies Minnie flight_122)) e
+      (subst (λ (s : ReadView). Contains (read_view_heads s) (flies Minnie flight_122)) is.0 k.2)) in
       different (ap is_minnies fact)
     where
       different : true ≡ false → ⊥
@@ -155,9 +155,9 @@ module _ (v w : Valuation) where
   alone_bad h =
       let found = h.of_run (takes 1 flight_122) (0, omega arith, refl) in
       let is = first_of flight_122 found.0 found.1 found.2 in
-      let post : Contains (sight_posts found.0) (flies Minnie flight_122) =
-      subst (λ (s : Sight). Contains (sight_posts s) (flies Minnie flight_122)) (sym is.0)
-      (subst (λ x. Contains (sight_posts (sight 1 Mickey Minnie x)) (flies Minnie flight_122)) (sym is.1)
+      let post : Contains (read_view_posts found.0) (flies Minnie flight_122) =
+      subst (λ (s : ReadView). Contains (read_view_posts s) (flies Minnie flight_122)) (sym is.0)
+      (subst (λ x. Contains (read_view_posts (read_view 1 Mickey Minnie x)) (flies Minnie flight_122)) (sym is.1)
       (0, omega arith, refl)) in
       offered_by_none is.1 (h.met found.0 (found.1, (0, omega arith, found.2)) (flies Minnie flight_122) post)
 
@@ -178,8 +178,8 @@ apart_refused h =
 pub left_out_refused : IsLegal left_out → ⊥
 left_out_refused h =
     let seen = seen_by_two flight_122 left_out.joint_answers h.turns h.runs in
-    let second : Sight = sight 2 Minnie Mickey seen.1 in
-    let there : Contains (friends_sights h.turns) second =
+    let second : ReadView = read_view 2 Minnie Mickey seen.1 in
+    let there : Contains (friends_read_views h.turns) second =
     subst (λ run. Contains run second) (sym seen.2) (1, omega arith, refl) in
     one_not_two (sym (ap (λ (m : Member). m.tx)
     (one_case (takes 1 flight_122) (member_of second) (h.answered second there))))
@@ -193,8 +193,8 @@ widow_refused h =
     let run = ap (λ (ts : List Turn). scripts_run friends_opening.tables ts (opening_database friends_opening))
     (sym one.1) ∙ h.runs.run in
     let answer = one_answer one.0 _ run in
-    let seen : friends_sights h.turns ≡ sight 1 Mickey Minnie answer.0 ∷ [] =
-    ap friends_sights one.1 ∙ ap (λ oracle. friends_sights (turn 1 Mickey Minnie oracle ∷ [])) answer.1 in
+    let seen : friends_read_views h.turns ≡ read_view 1 Mickey Minnie answer.0 ∷ [] =
+    ap friends_read_views one.1 ∙ ap (λ oracle. friends_read_views (turn 1 Mickey Minnie oracle ∷ [])) answer.1 in
     let found = h.no_widow (takes 2 flight_122) (1, omega arith, refl) in
-    let is = one_case (sight 1 Mickey Minnie answer.0) found.0 (subst (λ run. Contains run found.0) seen found.1) in
-    one_not_two (sym (same_tx (takes 2 flight_122) found.0 1 found.2 (ap (λ (x : Sight). x.tx) is)))
+    let is = one_case (read_view 1 Mickey Minnie answer.0) found.0 (subst (λ run. Contains run found.0) seen found.1) in
+    one_not_two (sym (same_tx (takes 2 flight_122) found.0 1 found.2 (ap (λ (x : ReadView). x.tx) is)))

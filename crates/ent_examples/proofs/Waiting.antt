@@ -3,7 +3,7 @@ use Rattle.std.proofs.Common.{◌≡◌, inl, inr, ℕ, zero, ◌<◌, Bool, tru
 use Rattle.std.proofs.Common.{ap, subst, ◌∙◌, arith}
 use Rattle.std.specs.Prelude.{slice_get}
 use Rattle.std.specs.List.{list_all}
-use Rattle.ent_group.specs.Cycle.{IsInRing, Closes}
+use Rattle.ent_group.specs.Cycle.{IsOnCycle, Closes}
 use Rattle.ent_coordination.specs.Component.{IsInRemainder}
 use Rattle.ent_coordination.specs.Pool.{Posted}
 use Rattle.ent_protocol.specs.Member.{is_lent, pool}
@@ -32,7 +32,7 @@ none_remains friends h x remains =
     let two = met_in friends x 0 met.0 remains.is_in.0 met.1.0 met.2 in
     not_both _ (each_passes _ friends two.other (each_passes _ friends two.friend h two.asks) two.offers) two.meet
 
-no_ring : (waiting : List (ℕ × ℕ)) → waiting ≡ [] → (tx : ℕ) → IsInRing waiting tx → ⊥
+no_ring : (waiting : List (ℕ × ℕ)) → waiting ≡ [] → (tx : ℕ) → IsOnCycle waiting tx → ⊥
 no_ring waiting e tx h = of h.0 (subst (λ xs. Closes xs h.0) e h.1)
   where
     of : (members : List ℕ) → Closes [] members → ⊥

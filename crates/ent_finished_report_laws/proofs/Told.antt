@@ -33,7 +33,7 @@ use Rattle.ent_unplaced_laws.specs.Unplaced.{unplaced_book, unplaced_opening}
 use Rattle.ent_right_report_laws.specs.Reportable.{CanBeReported}
 use Rattle.ent_right_report_laws.proofs.Joints.{all_grounded}
 use Rattle.ent_right_report_laws.proofs.Kept.{numbered_in}
-use Rattle.ent_character_laws.specs.Kept.{CanKeep, OpeningsKeep, RunsKeep, SightsKeep, TablesShow}
+use Rattle.ent_character_laws.specs.Kept.{CanKeep, OpeningsKeep, RunsKeep, ReadViewsKeep, TablesShow}
 use Rattle.ent_character_laws.specs.Values.{HoldsValues, IsOfCharacters, IsWritten}
 use Rattle.ent_character_laws.specs.Characters.{HoldsCharacters, IsAnswerOfCharacters, IsLexemeOfCharacters}
 use Rattle.ent_character_laws.specs.Characters.{IsOpeningOfCharacters, IsRowOfCharacters, IsScriptOfCharacters}
@@ -44,7 +44,7 @@ pub record Laws : Type 0 where
   pub opens : OpeningsKeep IsOfCharacters
   pub shows : TablesShow IsOfCharacters
   pub runs : RunsKeep IsOfCharacters
-  pub sights : SightsKeep IsOfCharacters
+  pub read_views : ReadViewsKeep IsOfCharacters
   pub spelled : (script : Script) → script_spelling (unplaced_script script) ≡ script_spelling script
   pub unplaced : (opening : Opening) → opening_database (unplaced_opening opening) ≡ opening_database opening
 
@@ -150,7 +150,7 @@ module _ (laws : Laws) (book : Book Database) (legal : IsLegal book) (reported :
       let seen = legal.no_widow member (in_contains (all_members book.joint_answers) member
       (to_flat (λ (j : JointAnswer). j.members) book.joint_answers joint member jt mt)) in
       subst (λ (m : Member). IsRowOfCharacters m.grounding) (sym seen.2)
-      (laws.sights book.opening.tables legal.turns first seen.0 can_keep first_holds (all_grounded book legal) seen.1)
+      (laws.read_views book.opening.tables legal.turns first seen.0 can_keep first_holds (all_grounded book legal) seen.1)
 
   abbrev IsMemberHeld : ToldMember → Type 0
   IsMemberHeld told = IsRowOfCharacters told.member.grounding

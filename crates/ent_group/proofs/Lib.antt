@@ -1,3 +1,3 @@
 pub mod Labels
-pub mod Ring
+pub mod CycleWalk
 pub mod Walks

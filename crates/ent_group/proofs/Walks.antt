@@ -8,10 +8,10 @@ use Rattle.std.proofs.lemmas.Bool.Decides.{nat_tests}
 use Rattle.std.proofs.lemmas.Nat.Bits.{bit_at-zero, bit_at_or, bit_at-lt, bit_at_set_same, bit_at_set_other}
 use Rattle.std.proofs.lemmas.List.{get_or-replicate, get_or_past, get_or_default, take_more}
 use Rattle.std.proofs.lemmas.List.Elements.{All-head, All-tail, All-cons, All-contains, All-nil, Contains-append_left, Contains-push, Contains-push_cases}
-use Rattle.ent_group.specs.Cycle.{waiters_of, links_to, IsInRing}
+use Rattle.ent_group.specs.Cycle.{waiters_of, links_to, IsOnCycle}
 use Rattle.ent_group.specs.Marks.{has_mark, IsMarked, joined}
 use Rattle.ent_group.specs.Reach.{AreWaiters, IsAt, AreInPair, IsWalk, greater}
-use Rattle.ent_group.proofs.Ring.{below_or, next_of, ring_waiter}
+use Rattle.ent_group.proofs.CycleWalk.{below_or, next_of, on_cycle_waiter}
 
 -- ---- walks
 
@@ -44,15 +44,15 @@ walk_from waits x (y ∷ ys) end f linked (suc k, within, e) =
     walk_on waits x y f (walk_pair waits x y (All-head (Contains waits) (x, y) (links_to (y ∷ ys) end) linked))
     (walk_from waits y ys end f (All-tail (Contains waits) (x, y) (links_to (y ∷ ys) end) linked) (k, omega arith, e))
 
--- one stands in a ring where it waits, over others, for itself
-pub ring_walk : (waits : List (ℕ × ℕ)) (x : ℕ) → IsInRing waits x → IsWalk waits x x
-ring_walk waits x ([], ring, inside) = absurd (omega (arith, ring.not_empty))
-ring_walk waits x (m ∷ ms, ring, (zero, within, e)) = subst (λ (v : ℕ). IsWalk waits v v) e (ms, ring.linked)
-ring_walk waits x (m ∷ ms, ring, (suc k, within, e)) =
-    walk_on waits x m x (walk_to waits m ms m x ring.linked (suc k, within, e)) (walk_from waits m ms m x ring.linked (k, omega arith, e))
+-- one stands in a cycle where it waits, over others, for itself
+pub on_cycle_walk : (waits : List (ℕ × ℕ)) (x : ℕ) → IsOnCycle waits x → IsWalk waits x x
+on_cycle_walk waits x ([], found_cycle, inside) = absurd (omega (arith, found_cycle.not_empty))
+on_cycle_walk waits x (m ∷ ms, found_cycle, (zero, within, e)) = subst (λ (v : ℕ). IsWalk waits v v) e (ms, found_cycle.linked)
+on_cycle_walk waits x (m ∷ ms, found_cycle, (suc k, within, e)) =
+    walk_on waits x m x (walk_to waits m ms m x found_cycle.linked (suc k, within, e)) (walk_from waits m ms m x found_cycle.linked (k, omega arith, e))
 
-pub walk_ring : (waits : List (ℕ × ℕ)) (x : ℕ) → IsWalk waits x x → IsInRing waits x
-walk_ring waits x (xs, linked) = (x ∷ xs, record { not_empty = omega arith; linked = linked }, (0, omega arith, refl))
+pub walk_on_cycle : (waits : List (ℕ × ℕ)) (x : ℕ) → IsWalk waits x x → IsOnCycle waits x
+walk_on_cycle waits x (xs, linked) = (x ∷ xs, record { not_empty = omega arith; linked = linked }, (0, omega arith, refl))
 
 -- ---- marks
 
@@ -243,49 +243,49 @@ pub reaching_end : (waits : List (ℕ × ℕ)) (waiters rows : List ℕ) → Are
     (i j : ℕ) → i < length waiters → j < length waiters → IsMarked rows i j ↔ IsWalk waits (slice_index waiters i) (slice_index waiters j)
 reaching_end waits waiters rows are h i j in_i in_j = (λ marked. (h.sound i j marked).2, λ walk. complete waits waiters rows are h walk.0 i j in_i in_j walk.1)
 
--- ---- the greatest that stands in a ring
+-- ---- the greatest that stands in a cycle
 
--- the greatest in a ring of those at the first places
+-- the greatest in a cycle of those at the first places
 abbrev pub GreatestUpto : List (ℕ × ℕ) → List ℕ → ℕ → Option ℕ → Type 0
-GreatestUpto waits xs i None = (k : ℕ) → k < i → ¬ IsInRing waits (slice_index xs k)
-GreatestUpto waits xs i (Some w) = IsInRing waits w × ((k : ℕ) → k < i → IsInRing waits (slice_index xs k) → slice_index xs k ≤ w)
+GreatestUpto waits xs i None = (k : ℕ) → k < i → ¬ IsOnCycle waits (slice_index xs k)
+GreatestUpto waits xs i (Some w) = IsOnCycle waits w × ((k : ℕ) → k < i → IsOnCycle waits (slice_index xs k) → slice_index xs k ≤ w)
 
-pub greatest_more : (waits : List (ℕ × ℕ)) (xs : List ℕ) (i : ℕ) (o : Option ℕ) → IsInRing waits (slice_index xs i) → GreatestUpto waits xs i o → GreatestUpto waits xs (i + 1) (greater o (Some (slice_index xs i)))
-greatest_more waits xs i None ring none = (
-  ring,
+pub greatest_more : (waits : List (ℕ × ℕ)) (xs : List ℕ) (i : ℕ) (o : Option ℕ) → IsOnCycle waits (slice_index xs i) → GreatestUpto waits xs i o → GreatestUpto waits xs (i + 1) (greater o (Some (slice_index xs i)))
+greatest_more waits xs i None found_cycle none = (
+  found_cycle,
   λ k below inside. elim (below_or k i) [ inl before ↦ absurd (none k before inside) | inr last ↦ let here : k ≡ i = omega arith in last_upto xs k i here ],
 )
   where
     last_upto : (xs : List ℕ) (k i : ℕ) → k ≡ i → slice_index xs k ≤ slice_index xs i
     last_upto xs k i same = omega (arith, ap (slice_index xs) same)
-greatest_more waits xs i (Some w) ring (found, greatest) =
+greatest_more waits xs i (Some w) found_cycle (found, greatest) =
     let x = slice_index xs i in
-    let upto : (k : ℕ) → k < i + 1 → IsInRing waits (slice_index xs k) → slice_index xs k ≤ max w x =
+    let upto : (k : ℕ) → k < i + 1 → IsOnCycle waits (slice_index xs k) → slice_index xs k ≤ max w x =
     λ k below inside. elim (below_or k i) [
       | inl before ↦ omega (arith, greatest k before inside)
       | inr last ↦ let here : k ≡ i = omega arith in omega (arith, ap (slice_index xs) here)
     ] in
     elim (below_or w x) [
-      | inl less ↦ let is : max w x ≡ x = omega arith in (subst (IsInRing waits) (sym is) ring, upto)
-      | inr more ↦ let is : max w x ≡ w = omega arith in (subst (IsInRing waits) (sym is) found, upto)
+      | inl less ↦ let is : max w x ≡ x = omega arith in (subst (IsOnCycle waits) (sym is) found_cycle, upto)
+      | inr more ↦ let is : max w x ≡ w = omega arith in (subst (IsOnCycle waits) (sym is) found, upto)
     ]
 
-pub greatest_same : (waits : List (ℕ × ℕ)) (xs : List ℕ) (i : ℕ) (o : Option ℕ) → ¬ IsInRing waits (slice_index xs i) → GreatestUpto waits xs i o → GreatestUpto waits xs (i + 1) o
+pub greatest_same : (waits : List (ℕ × ℕ)) (xs : List ℕ) (i : ℕ) (o : Option ℕ) → ¬ IsOnCycle waits (slice_index xs i) → GreatestUpto waits xs i o → GreatestUpto waits xs (i + 1) o
 greatest_same waits xs i None apart none = λ k below inside. elim (below_or k i) [
   | inl before ↦ none k before inside
-  | inr last ↦ let here : k ≡ i = omega arith in apart (subst (λ (m : ℕ). IsInRing waits (slice_index xs m)) here inside)
+  | inr last ↦ let here : k ≡ i = omega arith in apart (subst (λ (m : ℕ). IsOnCycle waits (slice_index xs m)) here inside)
 ]
 greatest_same waits xs i (Some w) apart (found, greatest) = (
   found,
   λ k below inside. elim (below_or k i) [
     | inl before ↦ greatest k before inside
-    | inr last ↦ let here : k ≡ i = omega arith in absurd (apart (subst (λ (m : ℕ). IsInRing waits (slice_index xs m)) here inside))
+    | inr last ↦ let here : k ≡ i = omega arith in absurd (apart (subst (λ (m : ℕ). IsOnCycle waits (slice_index xs m)) here inside))
   ],
 )
 
--- who stands in a ring has a place among those who wait
-pub ring_place : (waits : List (ℕ × ℕ)) (waiters : List ℕ) (x : ℕ) → AreWaiters waits waiters → IsInRing waits x → (i : ℕ) × IsAt waiters x i
-ring_place waits waiters x are ring = place waiters x (waiting waits waiters x are.all (ring_waiter waits x ring))
+-- who stands in a cycle has a place among those who wait
+pub on_cycle_place : (waits : List (ℕ × ℕ)) (waiters : List ℕ) (x : ℕ) → AreWaiters waits waiters → IsOnCycle waits x → (i : ℕ) × IsAt waiters x i
+on_cycle_place waits waiters x are found_cycle = place waiters x (waiting waits waiters x are.all (on_cycle_waiter waits x found_cycle))
   where
     waiting : (waits : List (ℕ × ℕ)) (waiters : List ℕ) (x : ℕ) → All (λ (p : ℕ × ℕ). Contains waiters p.0) waits → Contains (waiters_of waits) x → Contains waiters x
     waiting [] waiters x all (k, within, e) = absurd (omega arith)
@@ -293,15 +293,15 @@ ring_place waits waiters x are ring = place waiters x (waiting waits waiters x a
     waiting (p ∷ waits) waiters x all (suc k, within, e) = waiting waits waiters x (All-tail (λ (q : ℕ × ℕ). Contains waiters q.0) p waits all) (k, omega arith, e)
 
 pub greatest_of_all : (waits : List (ℕ × ℕ)) (waiters : List ℕ) (i : ℕ) (o : Option ℕ) → AreWaiters waits waiters → length waiters ≤ i → GreatestUpto waits waiters i o →
-    IfSome o (λ w. (x : ℕ) → IsInRing waits x → x ≤ w)
+    IfSome o (λ w. (x : ℕ) → IsOnCycle waits x → x ≤ w)
 greatest_of_all waits waiters i None are past h = tt
-greatest_of_all waits waiters i (Some w) are past (found, greatest) = λ x ring.
-    let at = ring_place waits waiters x are ring in
-    subst (λ (v : ℕ). v ≤ w) at.1.1 (greatest at.0 (omega (arith, at.1.0)) (subst (IsInRing waits) (sym at.1.1) ring))
+greatest_of_all waits waiters i (Some w) are past (found, greatest) = λ x found_cycle.
+    let at = on_cycle_place waits waiters x are found_cycle in
+    subst (λ (v : ℕ). v ≤ w) at.1.1 (greatest at.0 (omega (arith, at.1.0)) (subst (IsOnCycle waits) (sym at.1.1) found_cycle))
 
 pub none_of_all : (waits : List (ℕ × ℕ)) (waiters : List ℕ) (i : ℕ) (o : Option ℕ) → AreWaiters waits waiters → length waiters ≤ i → GreatestUpto waits waiters i o →
-    IsNone o → (x : ℕ) → ¬ IsInRing waits x
-none_of_all waits waiters i None are past none = λ _ x ring.
-    let at = ring_place waits waiters x are ring in
-    none at.0 (omega (arith, at.1.0)) (subst (IsInRing waits) (sym at.1.1) ring)
+    IsNone o → (x : ℕ) → ¬ IsOnCycle waits x
+none_of_all waits waiters i None are past none = λ _ x found_cycle.
+    let at = on_cycle_place waits waiters x are found_cycle in
+    none at.0 (omega (arith, at.1.0)) (subst (IsOnCycle waits) (sym at.1.1) found_cycle)
 none_of_all waits waiters i (Some w) are past h = λ nothing. absurd (true≢false nothing)

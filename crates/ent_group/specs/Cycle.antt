@@ -1,4 +1,4 @@
--- Transactions that wait for each other in a ring. A waits-for relation is a list of pairs: who waits, and for whom.
+-- Transactions that wait for each other in a cycle. A waits-for relation is a list of pairs: who waits, and for whom.
 use Rattle.std.specs.Prelude.{◌≢◌, ℕ, ◌<◌, ◌≤◌, List, [], ◌∷◌, ◌++◌, length, drop, map, All, AllPairs, Contains}
 use Rattle.std.specs.List.{zip}
 
@@ -29,6 +29,6 @@ pub record IsCycle (waits : List (ℕ × ℕ)) (members : List ℕ) : Type 0 whe
   pub closes : Closes waits members
   pub distinct : AllPairs (λ x y. x ≢ y) members
 
--- a transaction stands in some ring
-abbrev pub IsInRing : List (ℕ × ℕ) → ℕ → Type 0
-IsInRing waits x = (members : List ℕ) × Closes waits members × Contains members x
+-- a transaction stands in some cycle
+abbrev pub IsOnCycle : List (ℕ × ℕ) → ℕ → Type 0
+IsOnCycle waits x = (members : List ℕ) × Closes waits members × Contains members x

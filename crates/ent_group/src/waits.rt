@@ -2,7 +2,7 @@
 ghost use Rattle.std.specs.Prelude.{◌≡◌, ◌≢◌, ℕ, ◌+◌, List, ◌<◌, ◌≤◌, ◌⊎◌, ◌↔◌, length, slice_index, All, AllPairs};
 ghost use Rattle.std.specs.Prelude.{Contains};
 ghost use Rattle.std.specs.Prelude.{IfSome, IsNone};
-ghost use Rattle.ent_group.specs.Cycle.{NamesAtMost, IsCycle, IsInRing, waiters_of};
+ghost use Rattle.ent_group.specs.Cycle.{NamesAtMost, IsCycle, IsOnCycle, waiters_of};
 ghost use Rattle.ent_group.specs.Marks.{IsMarked};
 ghost use Rattle.ent_group.specs.Reach.{AreWaiters, IsAt, IsWalk, IsReach, greater};
 
@@ -15,11 +15,11 @@ use crate::members::{MOST_MEMBERS, Members, Tx};
 pub fn cycle(pairs: &[(Tx, Tx)]) -> Option<Members>
     requires { NamesAtMost MOST_MEMBERS pairs.now }
     ensures found { IfSome result (IsCycle pairs.now) }
-    ensures greatest { IfSome result (λ members. (x : ℕ) → IsInRing pairs.now x → x ≤ slice_index members 0) }
-    ensures none { IsNone result → (x : ℕ) → ¬ IsInRing pairs.now x }
+    ensures greatest { IfSome result (λ members. (x : ℕ) → IsOnCycle pairs.now x → x ≤ slice_index members 0) }
+    ensures none { IsNone result → (x : ℕ) → ¬ IsOnCycle pairs.now x }
 {
     let waiters = waiters_of(pairs);
-    let first = greatest_in_ring(pairs, waiters.as_slice())?;
+    let first = greatest_on_cycle(pairs, waiters.as_slice())?;
     cycle_from(pairs, first)
 }
 
@@ -29,11 +29,11 @@ pub fn few_pairs_name_few()
 {}
 
 /// The greatest transaction that stands on a cycle: one that waits, over others, for itself.
-fn greatest_in_ring(pairs: &[(Tx, Tx)], waiters: &[Tx]) -> Option<Tx>
+fn greatest_on_cycle(pairs: &[(Tx, Tx)], waiters: &[Tx]) -> Option<Tx>
     requires { AreWaiters pairs.now waiters.now }
-    ensures ring { IfSome result (IsInRing pairs.now) }
-    ensures greatest { IfSome result (λ w. (x : ℕ) → IsInRing pairs.now x → x ≤ w) }
-    ensures none { IsNone result → (x : ℕ) → ¬ IsInRing pairs.now x }
+    ensures found_cycle { IfSome result (IsOnCycle pairs.now) }
+    ensures greatest { IfSome result (λ w. (x : ℕ) → IsOnCycle pairs.now x → x ≤ w) }
+    ensures none { IsNone result → (x : ℕ) → ¬ IsOnCycle pairs.now x }
 {
     let rows = reach_of(pairs, waiters);
     let mut greatest = None;
@@ -118,7 +118,7 @@ fn cycle_from(pairs: &[(Tx, Tx)], first: Tx) -> Option<Members>
     requires names { NamesAtMost MOST_MEMBERS pairs.now }
     requires waits { Contains (waiters_of pairs.now) first }
     ensures found { IfSome result (λ members. IsCycle pairs.now members × (slice_index members 0 ≡ first)) }
-    ensures none { IsNone result → ¬ IsInRing pairs.now first }
+    ensures none { IsNone result → ¬ IsOnCycle pairs.now first }
 {
     let mut reached = Members::of(first);
     let mut next = 0;

@@ -4,7 +4,7 @@ use Rattle.std.proofs.Common.{refl, sym, ap, subst, ◌∙◌, Contains}
 use Rattle.std.specs.List.{AllByRecursion}
 use Rattle.ent_tree.specs.declared.declaration.Create.{Create}
 use Rattle.ent_semantics.specs.Database.{Database, nothing_bound, opening_database}
-use Rattle.ent_semantics.specs.Serial.{Deed, numbered}
+use Rattle.ent_semantics.specs.Serial.{Operation, numbered}
 use Rattle.ent_closed.specs.declared.operand.Known.{Known}
 use Rattle.ent_closed.specs.declared.statement.Statement.{Statement}
 use Rattle.ent_form.specs.Catalogue.{schemas_of}
@@ -49,15 +49,15 @@ each P Q f (x ∷ xs) h = (f x h.0, each P Q f xs h.1)
 record Begins (all : List Submitted) (history : History) : Type 0 where
   own : Submitted
   submitted : numbered all history.member.tx ≡ Some own
-  beginning : map (λ deed. deed.statement) history.deeds ≡ take (length history.deeds) own.script.statements
+  beginning : map (λ operation. operation.statement) history.operations ≡ take (length history.operations) own.script.statements
 
 of_whole : (all : List Submitted) (history : History) → IsWhole all history → Begins all history
 of_whole all history whole =
     record {
       own = whole.own;
       submitted = whole.submitted;
-      beginning = all_taken (λ (deed : Deed). deed.statement) history.deeds
-          ∙ ap (take (length history.deeds)) whole.whole;
+      beginning = all_taken (λ (operation : Operation). operation.statement) history.operations
+          ∙ ap (take (length history.operations)) whole.whole;
     }
 
 of_follow : (all : List Submitted) (history : History) → Follows all history → Begins all history
@@ -74,7 +74,7 @@ module _ (laws : Laws) (creates : List Create) (apart : HaveDistinctColumns crea
       own : Submitted
       submitted : numbered all history.member.tx ≡ Some own
       left : Bound
-      known : bound_behind (schemas_of creates) none_bound own.script.statements (length history.deeds) ≡ Ok left
+      known : bound_behind (schemas_of creates) none_bound own.script.statements (length history.operations) ≡ Ok left
       kinds : HasKinds left (environment_of history.member)
 
     replayed : (history : History) (first last : Database) → Begins all history → Stands laws creates apart first
@@ -82,7 +82,7 @@ module _ (laws : Laws) (creates : List Create) (apart : HaveDistinctColumns crea
     replayed history first last begins stands replays =
         let own = begins.own in
         let out = resolved own (numbered_in all history.member.tx own begins.submitted) in
-        let left = run_kept laws creates apart own.script.statements history.deeds begins.beginning none_bound [] out.0
+        let left = run_kept laws creates apart own.script.statements history.operations begins.beginning none_bound [] out.0
         out.1 first nothing_bound stands no_kinds history.member.tx 1
         (record { database = last; environment = environment_of history.member; answers = history.member.answers })
         replays.runs replays.grounded in (
@@ -149,7 +149,7 @@ kinds_there laws s opens reached state member there =
     (record {
       own = k.own;
       submitted = k.submitted;
-      passed = length at.0.deeds;
+      passed = length at.0.operations;
       place = follows.place;
       bound = k.left;
       known = k.known;

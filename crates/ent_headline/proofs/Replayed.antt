@@ -17,7 +17,7 @@ use Rattle.ent_semantics.specs.Database.{Database, Environment}
 use Rattle.ent_semantics.specs.Effect.{Effect}
 use Rattle.ent_semantics.specs.Entangled.{Valuation, written_variables, is_grounding}
 use Rattle.ent_semantics.specs.Joint.{IsGrounded}
-use Rattle.ent_semantics.specs.Serial.{Deed, Run, after, answered_first, is_entangled, run, seen, seen_after, sights}
+use Rattle.ent_semantics.specs.Serial.{Operation, Run, after, answered_first, is_entangled, run, seen, seen_after, read_views}
 use Rattle.ent_semantics.specs.Statement.{statement_meaning}
 use Rattle.ent_closed.specs.Closing.{closed, closed_entangled}
 use Rattle.ent_closed.specs.Form.{Tables, form_meaning, is_form_grounding, known_worth}
@@ -233,57 +233,57 @@ module _ (laws : Laws) (creates : List Create) (apart : HaveDistinctColumns crea
   same_first : {A : Type 0} (x y : A) (xs ys : List A) → x ∷ xs ≡ y ∷ ys → (x ≡ y) × (xs ≡ ys)
   same_first x y xs ys e = (cc, cc)
 
-  pub run_kept : (all : List TreeStatement) (deeds : List Deed) → map (λ deed. deed.statement) deeds
-      ≡ take (length deeds) all
+  pub run_kept : (all : List TreeStatement) (operations : List Operation) → map (λ operation. operation.statement) operations
+      ≡ take (length operations) all
       → (bound : Bound) (made out : List (Statement Known)) → statements_from schemas bound made all ≡ Ok out
       → (database : Database) (environment : Environment) → Stands database → HasKinds bound environment
-      → (tx place : ℕ) (last : Run) → run creates deeds database environment ≡ Some last
-      → AllByRecursion (IsGrounded creates) (sights creates tx place deeds database environment)
-      → IsLeft bound all (length deeds) last
+      → (tx place : ℕ) (last : Run) → run creates operations database environment ≡ Some last
+      → AllByRecursion (IsGrounded creates) (read_views creates tx place operations database environment)
+      → IsLeft bound all (length operations) last
   run_kept all [] begin bound made out e database environment stands have tx place last ran grounded =
       let same = one_run (record { database = database; environment = environment; answers = [] }) last ran in
       subst (IsLeft bound all 0) same (stands, (bound, refl, have))
-  run_kept [] (deed ∷ deeds) begin bound made out e database environment stands have tx place last ran grounded = cc
-  run_kept (statement ∷ all) (deed ∷ deeds) begin bound made out e database environment stands have tx place last ran
+  run_kept [] (operation ∷ operations) begin bound made out e database environment stands have tx place last ran grounded = cc
+  run_kept (statement ∷ all) (operation ∷ operations) begin bound made out e database environment stands have tx place last ran
       grounded =
-      let both = same_first deed.statement statement _ _ begin in
+      let both = same_first operation.statement statement _ _ begin in
       let w = bound_given (statement_in schemas bound statement) _ out e in
-      let own : statement_in schemas bound deed.statement ≡ Ok w.0 =
+      let own : statement_in schemas bound operation.statement ≡ Ok w.0 =
       subst (λ tree. statement_in schemas bound tree ≡ Ok w.0) (sym both.0) w.1 in
-      let parts = of_both (IsGrounded creates) (seen tx place deed database environment) _ grounded in
-      let answers = answered deed.statement bound w.0.1 w.0.0 deed.valuation database environment tx place own stands
+      let parts = of_both (IsGrounded creates) (seen tx place operation database environment) _ grounded in
+      let answers = answered operation.statement bound w.0.1 w.0.0 operation.valuation database environment tx place own stands
       have parts.0 in
       by w.0 own w.1 answers
       (λ effect stood have_now r is grounded_now.
-      run_kept all deeds both.1 w.0.1 (made ++ w.0.0 ∷ []) out w.2 effect.database effect.environment stood have_now tx
+      run_kept all operations both.1 w.0.1 (made ++ w.0.0 ∷ []) out w.2 effect.database effect.environment stood have_now tx
       (suc place) r is grounded_now)
-      (statement_meaning creates deed.statement deed.valuation database environment) refl ran parts.1
+      (statement_meaning creates operation.statement operation.valuation database environment) refl ran parts.1
     where
-      by : (w : Statement Known × Bound) → statement_in schemas bound deed.statement ≡ Ok w
+      by : (w : Statement Known × Bound) → statement_in schemas bound operation.statement ≡ Ok w
           → statement_in schemas bound statement ≡ Ok w
-          → IsAnswered deed.statement w.0 deed.valuation
+          → IsAnswered operation.statement w.0 operation.valuation
           → ((effect : Effect Database) → Stands effect.database → HasKinds w.1 effect.environment → (r : Run)
-          → run creates deeds effect.database effect.environment ≡ Some r
+          → run creates operations effect.database effect.environment ≡ Some r
           → AllByRecursion (IsGrounded creates)
-          (sights creates tx (suc place) deeds effect.database effect.environment)
-          → IsLeft w.1 all (length deeds) r)
+          (read_views creates tx (suc place) operations effect.database effect.environment)
+          → IsLeft w.1 all (length operations) r)
           → (result : Result (Effect Database) Failure)
-          → statement_meaning creates deed.statement deed.valuation database environment ≡ result
-          → after result (run creates deeds) ≡ Some last
-          → AllByRecursion (IsGrounded creates) (seen_after result (sights creates tx (suc place) deeds))
-          → IsLeft bound (statement ∷ all) (suc (length deeds)) last
+          → statement_meaning creates operation.statement operation.valuation database environment ≡ result
+          → after result (run creates operations) ≡ Some last
+          → AllByRecursion (IsGrounded creates) (seen_after result (read_views creates tx (suc place) operations))
+          → IsLeft bound (statement ∷ all) (suc (length operations)) last
       by w own there answers again (Err failure) is ran grounded = cc
       by w own there answers again (Ok effect) is ran grounded =
-          let kept = effect_kept deed.statement bound w.1 w.0 deed.valuation database environment effect own stands
+          let kept = effect_kept operation.statement bound w.1 w.0 operation.valuation database environment effect own stands
           have answers is in
-          let r = run_given effect.answer (run creates deeds effect.database effect.environment) last ran in
+          let r = run_given effect.answer (run creates operations effect.database effect.environment) last ran in
           let rest = again effect kept.0 kept.1 r.0 r.1 grounded in
-          subst (IsLeft bound (statement ∷ all) (suc (length deeds))) (sym r.2) (
+          subst (IsLeft bound (statement ∷ all) (suc (length operations))) (sym r.2) (
             rest.0,
             (
               rest.1.0,
               ap (λ (form : Result (Statement Known × Bound) FormFault).
-                  form >>= λ (form : Statement Known × Bound). bound_behind schemas form.1 all (length deeds)) there
+                  form >>= λ (form : Statement Known × Bound). bound_behind schemas form.1 all (length operations)) there
                   ∙ rest.1.1,
               rest.1.2,
             ),

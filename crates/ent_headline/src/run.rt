@@ -20,12 +20,12 @@ ghost use Rattle.ent_protocol.specs.Step.{Step};
 ghost use Rattle.ent_headline.specs.Outstanding.{IsHandedBack, IsOutstanding, IsOutstandingTogether};
 ghost use Rattle.ent_headline.specs.Resolved.{resolved_forms};
 ghost use Rattle.ent_headline.specs.Setting.{bare_opening, one, setter_commits};
-ghost use Rattle.ent_semantics.specs.Book.{IsLegal, JournalIsRight, RunGivesBook, book_sights};
+ghost use Rattle.ent_semantics.specs.Book.{IsLegal, JournalIsRight, RunGivesBook, book_read_views};
 ghost use Rattle.ent_semantics.specs.Database.{Database};
 ghost use Rattle.ent_semantics.specs.declared.answer.Answer.TheVariants.{Value};
 ghost use Rattle.ent_semantics.specs.declared.book.Book.{Book};
 ghost use Rattle.ent_semantics.specs.Joint.{IsGrounded};
-ghost use Rattle.ent_semantics.specs.Serial.{Sight, Turn};
+ghost use Rattle.ent_semantics.specs.Serial.{ReadView, Turn};
 
 use crate::form::resolved_forms_are_faithful;
 use ent_form::FormFault;
@@ -57,9 +57,9 @@ pub fn resolved_runs_give_the_book()
         → IsReached resolved_forms s
         → (turns : List Turn)
         × RunGivesBook (book_of s) turns
-        × ((sight : Sight)
-        → Contains (book_sights (book_of s) turns) sight
-        → IsGrounded s.opening.tables sight) }
+        × ((read_view : ReadView)
+        → Contains (book_read_views (book_of s) turns) read_view
+        → IsGrounded s.opening.tables read_view) }
 {
     resolved_forms_are_faithful();
     committed_runs_give_the_book::<FormFault>();

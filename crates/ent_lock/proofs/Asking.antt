@@ -8,7 +8,7 @@ use Rattle.std.proofs.lemmas.List.Elements.{Contains-append_right}
 use Rattle.ent_lock.specs.declared.mode.Mode.{Mode}
 use Rattle.ent_lock.specs.declared.holders.Holder.{Holder}
 use Rattle.ent_lock.specs.Mode.{in_conflict}
-use Rattle.ent_lock.specs.Holders.{is_in_way, lesser, least_in_way}
+use Rattle.ent_lock.specs.Holders.{is_conflicting, lesser, least_conflicting}
 use Rattle.ent_lock.specs.Use.{Use, Uses, Holds, InConflict, InConflictAt, Blocks, IsLeastIfAny, AddsUses, DropsUses, with_uses}
 use Rattle.ent_lock.specs.Layout.{is_use_of_none}
 use Rattle.ent_lock.proofs.Held.{the_use, use_total, is_use, is_use-true, is_use-itself, of_none_alike, not_true, both_true}
@@ -62,76 +62,76 @@ least_either P Q (Some x) (Some y) p q = (
   λ w either. elim either [ inl h ↦ min_left x y w (p.1 w h) | inr h ↦ min_right x y w (q.1 w h) ],
 )
 
--- ---- the holders in the way
+-- ---- the holders in conflict
 
 abbrev pub holder_of : ℕ → Mode → Holder
 holder_of v mode = record { holder = v; mode = mode }
 
-abbrev pub InWay : ℕ → Mode → List ℕ → List Holder → ℕ → Type 0
-InWay tx mode pass hs v = (theirs : Mode) × Contains hs (holder_of v theirs) × (is_in_way tx mode pass (holder_of v theirs) ≡ true)
+abbrev pub Conflicting : ℕ → Mode → List ℕ → List Holder → ℕ → Type 0
+Conflicting tx mode pass hs v = (theirs : Mode) × Contains hs (holder_of v theirs) × (is_conflicting tx mode pass (holder_of v theirs) ≡ true)
 
-abbrev FirstInWay : ℕ → Mode → List ℕ → Holder → ℕ → Type 0
-FirstInWay tx mode pass h v = (h.holder ≡ v) × (is_in_way tx mode pass h ≡ true)
+abbrev FirstConflicting : ℕ → Mode → List ℕ → Holder → ℕ → Type 0
+FirstConflicting tx mode pass h v = (h.holder ≡ v) × (is_conflicting tx mode pass h ≡ true)
 
-least_first : (tx : ℕ) (mode : Mode) (pass : List ℕ) (h : Holder) → IsLeastIfAny (FirstInWay tx mode pass h) (if is_in_way tx mode pass h then Some h.holder else None)
+least_first : (tx : ℕ) (mode : Mode) (pass : List ℕ) (h : Holder) → IsLeastIfAny (FirstConflicting tx mode pass h) (if is_conflicting tx mode pass h then Some h.holder else None)
 least_first tx mode pass h =
-    elim (is_in_way tx mode pass h) as (λ b. is_in_way tx mode pass h ≡ b → IsLeastIfAny (FirstInWay tx mode pass h) (if b then Some h.holder else None)) [
+    elim (is_conflicting tx mode pass h) as (λ b. is_conflicting tx mode pass h ≡ b → IsLeastIfAny (FirstConflicting tx mode pass h) (if b then Some h.holder else None)) [
       | true ↦ λ e. ((refl, e), λ w it. omega (arith, it.0))
       | false ↦ λ e v it. true≢false (sym it.1 ∙ e)
     ] refl
 
-in_way_head : (tx : ℕ) (mode : Mode) (pass : List ℕ) (h : Holder) (hs : List Holder) (v : ℕ) → FirstInWay tx mode pass h v ⊎ InWay tx mode pass hs v → InWay tx mode pass (h ∷ hs) v
-in_way_head tx mode pass h hs v (inl (same, in_way)) =
+conflicting_head : (tx : ℕ) (mode : Mode) (pass : List ℕ) (h : Holder) (hs : List Holder) (v : ℕ) → FirstConflicting tx mode pass h v ⊎ Conflicting tx mode pass hs v → Conflicting tx mode pass (h ∷ hs) v
+conflicting_head tx mode pass h hs v (inl (same, conflicting)) =
     let whole : h ≡ holder_of v h.mode = λ i. holder_of (same i) h.mode in
-    (h.mode, (0, omega arith, whole), ap (is_in_way tx mode pass) (sym whole) ∙ in_way)
-in_way_head tx mode pass h hs v (inr (theirs, inside, in_way)) = (theirs, Contains-append_right (h ∷ []) hs (holder_of v theirs) inside, in_way)
+    (h.mode, (0, omega arith, whole), ap (is_conflicting tx mode pass) (sym whole) ∙ conflicting)
+conflicting_head tx mode pass h hs v (inr (theirs, inside, conflicting)) = (theirs, Contains-append_right (h ∷ []) hs (holder_of v theirs) inside, conflicting)
 
-in_way_cases : (tx : ℕ) (mode : Mode) (pass : List ℕ) (h : Holder) (hs : List Holder) (v : ℕ) → InWay tx mode pass (h ∷ hs) v → FirstInWay tx mode pass h v ⊎ InWay tx mode pass hs v
-in_way_cases tx mode pass h hs v (theirs, (zero, within, e), in_way) = inl (ap (λ (k : Holder). k.holder) e, ap (is_in_way tx mode pass) e ∙ in_way)
-in_way_cases tx mode pass h hs v (theirs, (suc k, within, e), in_way) = inr (theirs, (k, omega arith, e), in_way)
+conflicting_cases : (tx : ℕ) (mode : Mode) (pass : List ℕ) (h : Holder) (hs : List Holder) (v : ℕ) → Conflicting tx mode pass (h ∷ hs) v → FirstConflicting tx mode pass h v ⊎ Conflicting tx mode pass hs v
+conflicting_cases tx mode pass h hs v (theirs, (zero, within, e), conflicting) = inl (ap (λ (k : Holder). k.holder) e, ap (is_conflicting tx mode pass) e ∙ conflicting)
+conflicting_cases tx mode pass h hs v (theirs, (suc k, within, e), conflicting) = inr (theirs, (k, omega arith, e), conflicting)
 
-pub least_in_way-IsLeastIfAny : (tx : ℕ) (mode : Mode) (pass : List ℕ) (hs : List Holder) → IsLeastIfAny (InWay tx mode pass hs) (least_in_way tx mode pass hs)
-least_in_way-IsLeastIfAny tx mode pass [] = λ v it. nobody it
+pub least_conflicting-IsLeastIfAny : (tx : ℕ) (mode : Mode) (pass : List ℕ) (hs : List Holder) → IsLeastIfAny (Conflicting tx mode pass hs) (least_conflicting tx mode pass hs)
+least_conflicting-IsLeastIfAny tx mode pass [] = λ v it. nobody it
   where
-    nobody : {v : ℕ} → InWay tx mode pass [] v → ⊥
-    nobody (theirs, (k, within, e), in_way) = absurd (omega arith)
-least_in_way-IsLeastIfAny tx mode pass (h ∷ hs) =
-    least_same (λ v. FirstInWay tx mode pass h v ⊎ InWay tx mode pass hs v) (InWay tx mode pass (h ∷ hs)) (least_in_way tx mode pass (h ∷ hs))
-    (in_way_head tx mode pass h hs) (in_way_cases tx mode pass h hs)
-    (least_either (FirstInWay tx mode pass h) (InWay tx mode pass hs) (if is_in_way tx mode pass h then Some h.holder else None) (least_in_way tx mode pass hs)
-    (least_first tx mode pass h) (least_in_way-IsLeastIfAny tx mode pass hs))
+    nobody : {v : ℕ} → Conflicting tx mode pass [] v → ⊥
+    nobody (theirs, (k, within, e), conflicting) = absurd (omega arith)
+least_conflicting-IsLeastIfAny tx mode pass (h ∷ hs) =
+    least_same (λ v. FirstConflicting tx mode pass h v ⊎ Conflicting tx mode pass hs v) (Conflicting tx mode pass (h ∷ hs)) (least_conflicting tx mode pass (h ∷ hs))
+    (conflicting_head tx mode pass h hs) (conflicting_cases tx mode pass h hs)
+    (least_either (FirstConflicting tx mode pass h) (Conflicting tx mode pass hs) (if is_conflicting tx mode pass h then Some h.holder else None) (least_conflicting tx mode pass hs)
+    (least_first tx mode pass h) (least_conflicting-IsLeastIfAny tx mode pass hs))
 
 -- ---- who blocks
 
--- a transaction's use of one table is in the way of one that is asked for
+-- a transaction's use of one table is in conflict with one that is asked for
 abbrev pub BlocksOne : Uses → ℕ → List ℕ → Mode → List ℕ → ℕ → Type 0
 BlocksOne held tx table mode pass v = (v ≢ tx) × ¬ Contains pass v × ((theirs : Mode) × Holds held v table theirs × IsTrue (in_conflict theirs mode))
 
-way_parts : (tx : ℕ) (mode : Mode) (pass : List ℕ) (v : ℕ) (theirs : Mode) → is_in_way tx mode pass (holder_of v theirs) ≡ true → (v ≢ tx) × ¬ Contains pass v × IsTrue (in_conflict theirs mode)
+way_parts : (tx : ℕ) (mode : Mode) (pass : List ℕ) (v : ℕ) (theirs : Mode) → is_conflicting tx mode pass (holder_of v theirs) ≡ true → (v ≢ tx) × ¬ Contains pass v × IsTrue (in_conflict theirs mode)
 way_parts tx mode pass v theirs e =
     let first = both_true (not (v == tx)) (in_conflict theirs mode && not (list_any (λ m. m == v) pass)) e in
     let second = both_true (in_conflict theirs mode) (not (list_any (λ m. m == v) pass)) first.1 in
     (λ same. true≢false (sym (sym (ap not (eq-eqb v tx same)) ∙ first.0)), not_inside v pass second.1, second.0)
 
-way_whole : (tx : ℕ) (mode : Mode) (pass : List ℕ) (v : ℕ) (theirs : Mode) → (v ≢ tx) → ¬ Contains pass v → IsTrue (in_conflict theirs mode) → is_in_way tx mode pass (holder_of v theirs) ≡ true
+way_whole : (tx : ℕ) (mode : Mode) (pass : List ℕ) (v : ℕ) (theirs : Mode) → (v ≢ tx) → ¬ Contains pass v → IsTrue (in_conflict theirs mode) → is_conflicting tx mode pass (holder_of v theirs) ≡ true
 way_whole tx mode pass v theirs other apart conflict = λ i. ap not (ne_eqb v tx other) i && (conflict i && not_any v pass apart i)
 
-in_way_blocks : (held : Uses) (tx : ℕ) (table : List ℕ) (mode : Mode) (pass : List ℕ) (hs : List Holder) →
-    ((v : ℕ) (theirs : Mode) → Contains hs (holder_of v theirs) ↔ Holds held v table theirs) → (v : ℕ) → InWay tx mode pass hs v → BlocksOne held tx table mode pass v
-in_way_blocks held tx table mode pass hs holders v (theirs, inside, in_way) =
-    let parts = way_parts tx mode pass v theirs in_way in
+conflicting_blocks : (held : Uses) (tx : ℕ) (table : List ℕ) (mode : Mode) (pass : List ℕ) (hs : List Holder) →
+    ((v : ℕ) (theirs : Mode) → Contains hs (holder_of v theirs) ↔ Holds held v table theirs) → (v : ℕ) → Conflicting tx mode pass hs v → BlocksOne held tx table mode pass v
+conflicting_blocks held tx table mode pass hs holders v (theirs, inside, conflicting) =
+    let parts = way_parts tx mode pass v theirs conflicting in
     (parts.0, parts.1, (theirs, (holders v theirs).0 inside, parts.2))
 
-blocks_in_way : (held : Uses) (tx : ℕ) (table : List ℕ) (mode : Mode) (pass : List ℕ) (hs : List Holder) →
-    ((v : ℕ) (theirs : Mode) → Contains hs (holder_of v theirs) ↔ Holds held v table theirs) → (v : ℕ) → BlocksOne held tx table mode pass v → InWay tx mode pass hs v
-blocks_in_way held tx table mode pass hs holders v (other, apart, (theirs, there, conflict)) =
+blocks_conflicting : (held : Uses) (tx : ℕ) (table : List ℕ) (mode : Mode) (pass : List ℕ) (hs : List Holder) →
+    ((v : ℕ) (theirs : Mode) → Contains hs (holder_of v theirs) ↔ Holds held v table theirs) → (v : ℕ) → BlocksOne held tx table mode pass v → Conflicting tx mode pass hs v
+blocks_conflicting held tx table mode pass hs holders v (other, apart, (theirs, there, conflict)) =
     (theirs, (holders v theirs).1 there, way_whole tx mode pass v theirs other apart conflict)
 
 pub least_of_one : (held : Uses) (tx : ℕ) (table : List ℕ) (mode : Mode) (pass : List ℕ) (hs : List Holder) →
-    ((v : ℕ) (theirs : Mode) → Contains hs (holder_of v theirs) ↔ Holds held v table theirs) → IsLeastIfAny (BlocksOne held tx table mode pass) (least_in_way tx mode pass hs)
+    ((v : ℕ) (theirs : Mode) → Contains hs (holder_of v theirs) ↔ Holds held v table theirs) → IsLeastIfAny (BlocksOne held tx table mode pass) (least_conflicting tx mode pass hs)
 least_of_one held tx table mode pass hs holders =
-    least_same (InWay tx mode pass hs) (BlocksOne held tx table mode pass) (least_in_way tx mode pass hs)
-    (in_way_blocks held tx table mode pass hs holders) (blocks_in_way held tx table mode pass hs holders) (least_in_way-IsLeastIfAny tx mode pass hs)
+    least_same (Conflicting tx mode pass hs) (BlocksOne held tx table mode pass) (least_conflicting tx mode pass hs)
+    (conflicting_blocks held tx table mode pass hs holders) (blocks_conflicting held tx table mode pass hs holders) (least_conflicting-IsLeastIfAny tx mode pass hs)
 
 blocks_more : (held : Uses) (tx : ℕ) (a : List ℕ × Mode) (asked : List (List ℕ × Mode)) (pass : List ℕ) (v : ℕ) → BlocksOne held tx a.0 a.1 pass v ⊎ Blocks held tx asked pass v → Blocks held tx (a ∷ asked) pass v
 blocks_more held tx a asked pass v (inl (other, apart, (theirs, there, conflict))) = (other, apart, (a.0, a.1, theirs, (0, omega arith, refl), there, conflict))

@@ -17,8 +17,8 @@ abbrev pub is_not_of : List ℕ → Holder → Bool
 is_not_of members h = not (list_any (λ m. m == h.holder) members)
 
 -- a transaction holds the table in a mode that is in conflict, and is neither the asker nor to be passed
-abbrev pub is_in_way : ℕ → Mode → List ℕ → Holder → Bool
-is_in_way tx mode pass h = not (h.holder == tx) && (in_conflict h.mode mode && not (list_any (λ m. m == h.holder) pass))
+abbrev pub is_conflicting : ℕ → Mode → List ℕ → Holder → Bool
+is_conflicting tx mode pass h = not (h.holder == tx) && (in_conflict h.mode mode && not (list_any (λ m. m == h.holder) pass))
 
 -- the lesser of two numbers, where there are two
 abbrev pub lesser : Option ℕ → Option ℕ → Option ℕ
@@ -26,8 +26,8 @@ lesser None b = b
 lesser (Some x) None = Some x
 lesser (Some x) (Some y) = Some (min x y)
 
--- the least transaction that is in the way
-abbrev pub least_in_way : ℕ → Mode → List ℕ → List Holder → Option ℕ
-least_in_way tx mode pass [] = None
-least_in_way tx mode pass (h ∷ hs) =
-    lesser (if is_in_way tx mode pass h then Some h.holder else None) (least_in_way tx mode pass hs)
+-- the least transaction that is in conflict
+abbrev pub least_conflicting : ℕ → Mode → List ℕ → List Holder → Option ℕ
+least_conflicting tx mode pass [] = None
+least_conflicting tx mode pass (h ∷ hs) =
+    lesser (if is_conflicting tx mode pass h then Some h.holder else None) (least_conflicting tx mode pass hs)

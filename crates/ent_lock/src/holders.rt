@@ -1,7 +1,7 @@
 //! The holders of one table.
 ghost use Rattle.std.specs.Prelude.{◌≡◌, ◌==◌, ◌&&◌, not, filter};
 ghost use Rattle.std.specs.List.{list_any};
-ghost use Rattle.ent_lock.specs.Holders.{is_holder, is_no_holder, is_not_of, is_in_way, lesser, least_in_way};
+ghost use Rattle.ent_lock.specs.Holders.{is_holder, is_no_holder, is_not_of, is_conflicting, lesser, least_conflicting};
 
 use crate::mode::Mode;
 use ent_group::{Members, Tx};
@@ -40,8 +40,8 @@ pub(crate) fn drop_holders(holders: &mut Vec<Holder>, members: &Members)
     holders.retain(|h| !members.contains(h.holder));
 }
 
-fn is_in_way(holder: &Holder, tx: Tx, mode: Mode, pass: &Members) -> bool
-    ensures { result ≡ is_in_way tx mode pass.now holder.now }
+fn is_conflicting(holder: &Holder, tx: Tx, mode: Mode, pass: &Members) -> bool
+    ensures { result ≡ is_conflicting tx mode pass.now holder.now }
 {
     holder.holder != tx && holder.mode.in_conflict(mode) && !pass.contains(holder.holder)
 }
@@ -59,12 +59,17 @@ pub(crate) fn lesser(left: Option<Tx>, right: Option<Tx>) -> Option<Tx>
 
 /// The least holder whose use is in conflict with one that a transaction asks for, save itself and those that are to
 /// be passed.
-pub(crate) fn least_in_way(holders: &[Holder], tx: Tx, mode: Mode, pass: &Members) -> Option<Tx>
-    ensures { result ≡ least_in_way tx mode pass.now holders.now }
+pub(crate) fn least_conflicting(
+    holders: &[Holder],
+    tx: Tx,
+    mode: Mode,
+    pass: &Members,
+) -> Option<Tx>
+    ensures { result ≡ least_conflicting tx mode pass.now holders.now }
 {
     let mut least = None;
     for holder in holders {
-        if is_in_way(holder, tx, mode, pass) {
+        if is_conflicting(holder, tx, mode, pass) {
             least = lesser(least, Some(holder.holder));
         }
     }

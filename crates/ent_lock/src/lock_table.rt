@@ -4,7 +4,7 @@ ghost use Rattle.std.specs.FinSet as set;
 ghost use Rattle.ent_lock.specs.Use.{Holds, InConflict, InConflictAt, Blocks, IsLeast, IsLeastIfAny, AddsUses};
 ghost use Rattle.ent_lock.specs.Use.{DropsUses, AreUsesOf, IsByTable};
 
-use crate::holders::{Holder, is_held, least_in_way, lesser};
+use crate::holders::{Holder, is_held, least_conflicting, lesser};
 use crate::mode::Mode;
 use crate::table_uses::{TableUses, add_all, drop_members, holders_of, uses_of};
 use ent_group::{Members, Tx};
@@ -17,7 +17,7 @@ use std::marker::Model;
 pub enum Answer {
     /// It holds them all from now on.
     Granted,
-    /// It holds none of them, since this transaction is in its way.
+    /// It holds none of them, since this transaction blocks it.
     Blocked(Tx),
 }
 
@@ -104,7 +104,7 @@ impl LockTable {
             return None;
         };
         lesser(
-            least_in_way(self.holders(&first.0), tx, first.1, pass),
+            least_conflicting(self.holders(&first.0), tx, first.1, pass),
             self.blocker(tx, rest, pass),
         )
     }

@@ -7,8 +7,8 @@ use Rattle.std.proofs.lemmas.Bool.Decides.{nat_tests}
 use Rattle.ent_protocol.specs.Member.{is_of}
 use Rattle.ent_protocol.specs.Run.{fresh}
 use Rattle.ent_protocol.specs.State.{Member, Dormant, inserted, by_number}
-use Rattle.ent_members.specs.declared.leavers.Leaver.{Leaver}
-use Rattle.ent_members.specs.Leavers.{leaver_of, number_of, numbers_in, is_within, gathered, leavers_in}
+use Rattle.ent_members.specs.declared.run_attempts.RunAttempt.{RunAttempt}
+use Rattle.ent_members.specs.RunAttempts.{run_attempt_of, number_of, numbers_in, is_within, gathered, run_attempts_in}
 use Rattle.ent_members.specs.Order.{IsAscending, place_in}
 use Rattle.ent_members.specs.Run.{IsRun, tx_of}
 use Rattle.ent_members.proofs.Ascending.{run_by_number}
@@ -126,59 +126,59 @@ starts entrants bound distinct =
 
 -- ---- those who leave
 
-leaver_if : (x y : Member) (ys : List Member) (b : Bool)
-    → map leaver_of (inserted tx_of x ys) ≡ inserted number_of (leaver_of x) (map leaver_of ys)
-    → map leaver_of (if b then x ∷ y ∷ ys else y ∷ inserted tx_of x ys)
-    ≡ (if b then leaver_of x ∷ leaver_of y ∷ map leaver_of ys
-    else leaver_of y ∷ inserted number_of (leaver_of x) (map leaver_of ys))
-leaver_if x y ys true rest = refl
-leaver_if x y ys false rest = ap (λ ls. leaver_of y ∷ ls) rest
+run_attempt_if : (x y : Member) (ys : List Member) (b : Bool)
+    → map run_attempt_of (inserted tx_of x ys) ≡ inserted number_of (run_attempt_of x) (map run_attempt_of ys)
+    → map run_attempt_of (if b then x ∷ y ∷ ys else y ∷ inserted tx_of x ys)
+    ≡ (if b then run_attempt_of x ∷ run_attempt_of y ∷ map run_attempt_of ys
+    else run_attempt_of y ∷ inserted number_of (run_attempt_of x) (map run_attempt_of ys))
+run_attempt_if x y ys true rest = refl
+run_attempt_if x y ys false rest = ap (λ ls. run_attempt_of y ∷ ls) rest
 
-leavers-inserted : (x : Member) (xs : List Member)
-    → map leaver_of (inserted tx_of x xs) ≡ inserted number_of (leaver_of x) (map leaver_of xs)
-leavers-inserted x [] = refl
-leavers-inserted x (y ∷ ys) = leaver_if x y ys (nat_lt x.tx y.tx) (leavers-inserted x ys)
+run_attempts-inserted : (x : Member) (xs : List Member)
+    → map run_attempt_of (inserted tx_of x xs) ≡ inserted number_of (run_attempt_of x) (map run_attempt_of xs)
+run_attempts-inserted x [] = refl
+run_attempts-inserted x (y ∷ ys) = run_attempt_if x y ys (nat_lt x.tx y.tx) (run_attempts-inserted x ys)
 
 within_if : (group : Option ℕ) (x : Member) (xs : List Member) (b : Bool)
-    → gathered group xs [] ≡ map leaver_of (by_number tx_of (filter (is_within group) xs))
-    → (if b then inserted number_of (leaver_of x) (gathered group xs []) else gathered group xs [])
-    ≡ map leaver_of (by_number tx_of (if b then x ∷ filter (is_within group) xs else filter (is_within group) xs))
+    → gathered group xs [] ≡ map run_attempt_of (by_number tx_of (filter (is_within group) xs))
+    → (if b then inserted number_of (run_attempt_of x) (gathered group xs []) else gathered group xs [])
+    ≡ map run_attempt_of (by_number tx_of (if b then x ∷ filter (is_within group) xs else filter (is_within group) xs))
 within_if group x xs true rest =
-    ap (inserted number_of (leaver_of x)) rest
-    ∙ sym (leavers-inserted x (by_number tx_of (filter (is_within group) xs)))
+    ap (inserted number_of (run_attempt_of x)) rest
+    ∙ sym (run_attempts-inserted x (by_number tx_of (filter (is_within group) xs)))
 within_if group x xs false rest = rest
 
-leavers_are : (group : Option ℕ) (xs : List Member)
-    → leavers_in group xs ≡ map leaver_of (by_number tx_of (filter (is_within group) xs))
-leavers_are group [] = refl
-leavers_are group (x ∷ xs) = within_if group x xs (is_within group x) (leavers_are group xs)
+run_attempts_are : (group : Option ℕ) (xs : List Member)
+    → run_attempts_in group xs ≡ map run_attempt_of (by_number tx_of (filter (is_within group) xs))
+run_attempts_are group [] = refl
+run_attempts_are group (x ∷ xs) = within_if group x xs (is_within group x) (run_attempts_are group xs)
 
 all_within : (xs : List Member) → filter (is_within None) xs ≡ xs
 all_within [] = refl
 all_within (x ∷ xs) = ap (λ ys. x ∷ ys) (all_within xs)
 
-pub group_leavers : (group : ℕ) (xs : List Member)
-    → leavers_in (Some group) xs ≡ map leaver_of (by_number tx_of (filter (is_of group) xs))
-group_leavers group xs = leavers_are (Some group) xs
+pub group_run_attempts : (group : ℕ) (xs : List Member)
+    → run_attempts_in (Some group) xs ≡ map run_attempt_of (by_number tx_of (filter (is_of group) xs))
+group_run_attempts group xs = run_attempts_are (Some group) xs
 
-pub every_leaver : (xs : List Member) → leavers_in None xs ≡ map leaver_of (by_number tx_of xs)
-every_leaver xs = leavers_are None xs ∙ ap (λ ys. map leaver_of (by_number tx_of ys)) (all_within xs)
+pub every_run_attempt : (xs : List Member) → run_attempts_in None xs ≡ map run_attempt_of (by_number tx_of xs)
+every_run_attempt xs = run_attempts_are None xs ∙ ap (λ ys. map run_attempt_of (by_number tx_of ys)) (all_within xs)
 
-pub leaver_numbers : (xs : List Member) → numbers_in (map leaver_of xs) ≡ map tx_of xs
-leaver_numbers [] = refl
-leaver_numbers (x ∷ xs) = ap (λ ns. x.tx ∷ ns) (leaver_numbers xs)
+pub run_attempt_numbers : (xs : List Member) → numbers_in (map run_attempt_of xs) ≡ map tx_of xs
+run_attempt_numbers [] = refl
+run_attempt_numbers (x ∷ xs) = ap (λ ns. x.tx ∷ ns) (run_attempt_numbers xs)
 
-append_if : (group : Option ℕ) (x : Member) (xs ys : List Member) (leavers : List Leaver) (b : Bool)
-    → gathered group (xs ++ ys) leavers ≡ gathered group xs (gathered group ys leavers)
-    → (if b then inserted number_of (leaver_of x) (gathered group (xs ++ ys) leavers)
-    else gathered group (xs ++ ys) leavers)
-    ≡ (if b then inserted number_of (leaver_of x) (gathered group xs (gathered group ys leavers))
-    else gathered group xs (gathered group ys leavers))
-append_if group x xs ys leavers true rest = ap (inserted number_of (leaver_of x)) rest
-append_if group x xs ys leavers false rest = rest
+append_if : (group : Option ℕ) (x : Member) (xs ys : List Member) (run_attempts : List RunAttempt) (b : Bool)
+    → gathered group (xs ++ ys) run_attempts ≡ gathered group xs (gathered group ys run_attempts)
+    → (if b then inserted number_of (run_attempt_of x) (gathered group (xs ++ ys) run_attempts)
+    else gathered group (xs ++ ys) run_attempts)
+    ≡ (if b then inserted number_of (run_attempt_of x) (gathered group xs (gathered group ys run_attempts))
+    else gathered group xs (gathered group ys run_attempts))
+append_if group x xs ys run_attempts true rest = ap (inserted number_of (run_attempt_of x)) rest
+append_if group x xs ys run_attempts false rest = rest
 
-pub gathered-append : (group : Option ℕ) (xs ys : List Member) (leavers : List Leaver)
-    → gathered group (xs ++ ys) leavers ≡ gathered group xs (gathered group ys leavers)
-gathered-append group [] ys leavers = refl
-gathered-append group (x ∷ xs) ys leavers =
-    append_if group x xs ys leavers (is_within group x) (gathered-append group xs ys leavers)
+pub gathered-append : (group : Option ℕ) (xs ys : List Member) (run_attempts : List RunAttempt)
+    → gathered group (xs ++ ys) run_attempts ≡ gathered group xs (gathered group ys run_attempts)
+gathered-append group [] ys run_attempts = refl
+gathered-append group (x ∷ xs) ys run_attempts =
+    append_if group x xs ys run_attempts (is_within group x) (gathered-append group xs ys run_attempts)

@@ -12,14 +12,14 @@ use Rattle.std.proofs.lemmas.List.Sorted.{searchable_from_sorted}
 use Rattle.ent_protocol.specs.Member.{is_tx}
 use Rattle.ent_protocol.specs.State.{Member, first_of, inserted}
 use Rattle.ent_protocol.specs.Uses.{least}
-use Rattle.ent_members.specs.declared.leavers.Leaver.{Leaver}
-use Rattle.ent_members.specs.Leavers.{gathered, is_within, leaver_of, leavers_in, number_of, numbers_in}
+use Rattle.ent_members.specs.declared.run_attempts.RunAttempt.{RunAttempt}
+use Rattle.ent_members.specs.RunAttempts.{gathered, is_within, run_attempt_of, run_attempts_in, number_of, numbers_in}
 use Rattle.ent_members.specs.Order.{IsAscending}
 use Rattle.ent_members.specs.Places.{found}
 use Rattle.ent_members.specs.Run.{tx_of}
 use Rattle.ent_members.proofs.Ascending.{all_filter}
-use Rattle.ent_members.proofs.ByNumber.{leaver_numbers}
-use Rattle.ent_members.proofs.InWay.{lesser_with}
+use Rattle.ent_members.proofs.ByNumber.{run_attempt_numbers}
+use Rattle.ent_members.proofs.Conflicting.{lesser_with}
 use Rattle.ent_members.proofs.OneMember.{all_at}
 
 -- ---- the member of a number
@@ -121,7 +121,7 @@ least_first n (m ∷ ms) all =
 
 -- ---- those who leave
 
-inserted_first : (x : Leaver) (ys : List Leaver) → AllByRecursion (λ n. x.tx < n) (numbers_in ys)
+inserted_first : (x : RunAttempt) (ys : List RunAttempt) → AllByRecursion (λ n. x.tx < n) (numbers_in ys)
     → inserted number_of x ys ≡ x ∷ ys
 inserted_first x [] all = refl
 inserted_first x (y ∷ ys) all =
@@ -131,18 +131,18 @@ inserted_first x (y ∷ ys) all =
     lt_is n m lt = grind (arith, nat_tests)
 
 gathered_if : (group : Option ℕ) (x : Member) (xs : List Member) (b : Bool)
-    → gathered group xs [] ≡ map leaver_of (filter (is_within group) xs)
+    → gathered group xs [] ≡ map run_attempt_of (filter (is_within group) xs)
     → AllByRecursion (λ n. x.tx < n) (map tx_of (filter (is_within group) xs))
-    → (if b then inserted number_of (leaver_of x) (gathered group xs []) else gathered group xs [])
-    ≡ map leaver_of (if b then x ∷ filter (is_within group) xs else filter (is_within group) xs)
+    → (if b then inserted number_of (run_attempt_of x) (gathered group xs []) else gathered group xs [])
+    ≡ map run_attempt_of (if b then x ∷ filter (is_within group) xs else filter (is_within group) xs)
 gathered_if group x xs true rest above =
-    ap (inserted number_of (leaver_of x)) rest
-    ∙ inserted_first (leaver_of x) (map leaver_of (filter (is_within group) xs))
-    (subst (AllByRecursion (λ n. x.tx < n)) (sym (leaver_numbers (filter (is_within group) xs))) above)
+    ap (inserted number_of (run_attempt_of x)) rest
+    ∙ inserted_first (run_attempt_of x) (map run_attempt_of (filter (is_within group) xs))
+    (subst (AllByRecursion (λ n. x.tx < n)) (sym (run_attempt_numbers (filter (is_within group) xs))) above)
 gathered_if group x xs false rest above = rest
 
 pub gathered_in_order : (group : Option ℕ) (xs : List Member) → IsAscending (map tx_of xs)
-    → leavers_in group xs ≡ map leaver_of (filter (is_within group) xs)
+    → run_attempts_in group xs ≡ map run_attempt_of (filter (is_within group) xs)
 gathered_in_order group [] ascending = refl
 gathered_in_order group (x ∷ xs) ascending =
     gathered_if group x xs (is_within group x) (gathered_in_order group xs ascending.1)

@@ -1,7 +1,7 @@
 pub mod Ascending
 pub mod InOrder
 pub mod ByNumber
-pub mod InWay
+pub mod Conflicting
 pub mod Closed
 pub mod OneMember
 pub mod Moved

@@ -7,12 +7,12 @@ use Rattle.std.proofs.lemmas.Bool.Decides.{nat_tests}
 use Rattle.std.proofs.lemmas.List.Elements.{Contains-append_cases, filter-append}
 use Rattle.ent_protocol.specs.Member.{is_of}
 use Rattle.ent_protocol.specs.State.{State, Member, Use}
-use Rattle.ent_protocol.specs.Uses.{in_way, is_in_way, not_passed}
+use Rattle.ent_protocol.specs.Uses.{conflicting, is_conflicting, not_passed}
 use Rattle.ent_protocol.specs.Waits.{awaited}
-use Rattle.ent_members.specs.declared.in_way.Passed.TheVariants.{Group, Itself}
-use Rattle.ent_members.specs.Passed.{stands_in_way}
+use Rattle.ent_members.specs.declared.conflicts.Passed.TheVariants.{Group, Itself}
+use Rattle.ent_members.specs.Passed.{is_blocking}
 use Rattle.ent_members.specs.Waits.{is_awaited, is_awaited_over, pairs_of, waits_over}
-use Rattle.ent_members.proofs.InWay.{filtered_twice}
+use Rattle.ent_members.proofs.Conflicting.{filtered_twice}
 use Rattle.ent_members.proofs.Lists.{contains_none, contains_cases, contains_first, into_filter, out_of_filter}
 use Rattle.ent_members.proofs.Lists.{any_of, some_of, into_map, out_of_map, into_flat_map, out_of_flat_map}
 
@@ -32,12 +32,12 @@ not_false : (b : Bool) → not b ≡ true → b ≡ true → ⊥
 not_false true is same = true≢false (sym is)
 not_false false is same = true≢false (sym same)
 
-own_is_active : (s : State) (asker holder : Member) (asked : List Use) → Contains (in_way s asker asked) holder
+own_is_active : (s : State) (asker holder : Member) (asked : List Use) → Contains (conflicting s asker asked) holder
     → (holder.group == asker.group) ≡ true → Contains s.active holder
 own_is_active s asker holder asked there own =
     by_list (Contains-append_cases (filter (λ (h : Member). not (h.group == asker.group)) s.prepared)
     (filter (λ (h : Member). not (h.tx == asker.tx)) s.active) holder
-    (out_of_filter (is_in_way asked) (not_passed s asker) holder there).0)
+    (out_of_filter (is_conflicting asked) (not_passed s asker) holder there).0)
   where
     by_list : Contains (filter (λ (h : Member). not (h.group == asker.group)) s.prepared) holder
         ⊎ Contains (filter (λ (h : Member). not (h.tx == asker.tx)) s.active) holder → Contains s.active holder
@@ -59,9 +59,9 @@ awaited_is active holder other true there h = by_cases (contains_cases holder ot
 awaited_is active holder other false there h = out_of_filter (is_of holder.group) active other h
 
 pub into_pairs : (s : State) (asker : Member) (asked : List Use) (pair : ℕ × ℕ)
-    → Contains (flat_map (pairs_over s asker) (in_way s asker asked)) pair → Contains (pairs_of s asker asked) pair
+    → Contains (flat_map (pairs_over s asker) (conflicting s asker asked)) pair → Contains (pairs_of s asker asked) pair
 into_pairs s asker asked pair h =
-    let way = in_way s asker asked in
+    let way = conflicting s asker asked in
     let over = out_of_flat_map (pairs_over s asker) way pair h in
     let holder = over.0 in
     let one = out_of_map (pair_with asker.tx) (awaited s asker holder) pair over.2 in
@@ -81,9 +81,9 @@ awaited_from active holder other false there is =
     (other, into_filter (is_of holder.group) active other there is, refl)
 
 pub out_of_pairs : (s : State) (asker : Member) (asked : List Use) (pair : ℕ × ℕ)
-    → Contains (pairs_of s asker asked) pair → Contains (flat_map (pairs_over s asker) (in_way s asker asked)) pair
+    → Contains (pairs_of s asker asked) pair → Contains (flat_map (pairs_over s asker) (conflicting s asker asked)) pair
 out_of_pairs s asker asked pair h =
-    let way = in_way s asker asked in
+    let way = conflicting s asker asked in
     let one = out_of_map (pair_with asker.tx) (filter (is_awaited s asker asked) s.active) pair h in
     let other = one.0 in
     let waits = out_of_filter (is_awaited s asker asked) s.active other one.1 in
@@ -117,20 +117,20 @@ any_append q (x ∷ xs) ys =
 pub awaited_by_lists : (asked : List Use) (group tx : ℕ) (other : Member) (prepared active : List Member)
     → (list_any (is_awaited_over asked (Group group) group other) prepared
     || list_any (is_awaited_over asked (Itself tx) group other) active)
-    ≡ list_any (waits_over group other) (filter (is_in_way asked)
+    ≡ list_any (waits_over group other) (filter (is_conflicting asked)
     (filter (λ (holder : Member). not (holder.group == group)) prepared
     ++ filter (λ (holder : Member). not (holder.tx == tx)) active))
 awaited_by_lists asked group tx other prepared active =
     let q = waits_over group other in
     let passing = filter (λ (holder : Member). not (holder.group == group)) prepared in
     let others = filter (λ (holder : Member). not (holder.tx == tx)) active in
-    sym (ap (list_any q) (filter-append (is_in_way asked) passing others)
-    ∙ any_append q (filter (is_in_way asked) passing) (filter (is_in_way asked) others)
-    ∙ ap (λ ms. list_any q ms || list_any q (filter (is_in_way asked) others))
+    sym (ap (list_any q) (filter-append (is_conflicting asked) passing others)
+    ∙ any_append q (filter (is_conflicting asked) passing) (filter (is_conflicting asked) others)
+    ∙ ap (λ ms. list_any q ms || list_any q (filter (is_conflicting asked) others))
     (sym (filtered_twice asked (Group group) prepared))
-    ∙ ap (λ ms. list_any q (filter (stands_in_way asked (Group group)) prepared) || list_any q ms)
+    ∙ ap (λ ms. list_any q (filter (is_blocking asked (Group group)) prepared) || list_any q ms)
     (sym (filtered_twice asked (Itself tx) active))
-    ∙ ap (λ b. b || list_any q (filter (stands_in_way asked (Itself tx)) active))
-    (any_filter (stands_in_way asked (Group group)) q prepared)
+    ∙ ap (λ b. b || list_any q (filter (is_blocking asked (Itself tx)) active))
+    (any_filter (is_blocking asked (Group group)) q prepared)
     ∙ ap (λ b. list_any (is_awaited_over asked (Group group) group other) prepared || b)
-    (any_filter (stands_in_way asked (Itself tx)) q active))
+    (any_filter (is_blocking asked (Itself tx)) q active))

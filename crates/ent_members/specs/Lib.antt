@@ -1,6 +1,6 @@
 pub mod Order
 pub mod Run
-pub mod Leavers
+pub mod RunAttempts
 pub mod Uses
 pub mod Places
 pub mod Passed

@@ -8,29 +8,29 @@
 
 mod answer;
 mod change;
+mod conflicts;
 mod entrant;
 mod hold;
-mod in_way;
 mod join;
 mod law;
-mod leavers;
 mod member;
 mod member_answer;
 mod moves;
 mod run;
+mod run_attempts;
 mod search;
 mod start;
 mod table_use;
 mod uses;
 
+pub use conflicts::{is_conflicting, waits_over};
 pub use entrant::Entrant;
 pub use hold::with_uses;
-pub use in_way::{is_in_way, waits_over};
 pub use law::awaited_members_are_waited_for;
-pub use leavers::{Leaver, Leavers};
 pub use member::Member;
 pub use member_answer::MemberAnswer;
 pub use run::Run;
+pub use run_attempts::{RunAttempt, RunAttempts};
 pub use search::member_numbers;
 pub use table_use::Use;
 pub use uses::{

@@ -19,7 +19,7 @@ ghost use Rattle.ent_semantics.specs.Entangled.{Valuation};
 ghost use Rattle.ent_members.specs.Answered.{AnswerTogether, IsJoining, answer_tx, answered_from, member_answers};
 ghost use Rattle.ent_members.specs.Changes.{posting, stepping};
 ghost use Rattle.ent_members.specs.Joined.{JoinGroups, labels_in};
-ghost use Rattle.ent_members.specs.Leavers.{leaver_of, leavers_in};
+ghost use Rattle.ent_members.specs.RunAttempts.{run_attempt_of, run_attempts_in};
 ghost use Rattle.ent_members.specs.Moves.{Leave, Prepares, is_not_of, is_of_another};
 ghost use Rattle.ent_members.specs.Places.{Changes, found};
 ghost use Rattle.ent_members.specs.Run.{with_run, tx_of};
@@ -28,13 +28,13 @@ ghost use Rattle.ent_members.specs.Waits.{is_awaited};
 
 use crate::answer::{answer_each, numbers_of};
 use crate::change;
+use crate::conflicts::{Passed, first_conflicting, is_awaited_over, least_conflicting};
 use crate::entrant::Entrant;
-use crate::in_way::{Passed, first_in_way, is_awaited_over, least_in_way};
 use crate::join::{gather_labels, join_groups};
-use crate::leavers::{Leavers, gather, gather_by_number};
 use crate::member::Member;
 use crate::member_answer::MemberAnswer;
 use crate::moves::{any_of, prepare, remove, take_group};
+use crate::run_attempts::{RunAttempts, gather, gather_by_number};
 use crate::search::{is_among, member_by_number, member_in};
 use crate::start::fresh_members;
 use crate::table_use::Use;
@@ -149,28 +149,28 @@ impl Run {
     pub fn numbers(&self) -> Members
         ensures { (s : State) → result ≡ running_members (with_run self.now s) }
     {
-        self.all_leavers().numbers()
+        self.all_run_attempts().numbers()
     }
 
     /// The members of the group with a label, by number.
     pub fn group_numbers(&self, group: Tx) -> Members
         ensures { (s : State) → result ≡ group_numbers (with_run self.now s) group }
     {
-        self.leavers(group).numbers()
+        self.run_attempts(group).numbers()
     }
 
     /// The members of the group with a label, as they leave the run.
-    pub fn leavers(&self, group: Tx) -> Leavers
-        ensures { (s : State) → result ≡ map leaver_of (group_members (with_run self.now s) group) }
+    pub fn run_attempts(&self, group: Tx) -> RunAttempts
+        ensures { (s : State) → result ≡ map run_attempt_of (group_members (with_run self.now s) group) }
     {
-        self.leavers_within(Some(group))
+        self.run_attempts_within(Some(group))
     }
 
     /// All members, as they leave the run.
-    pub fn all_leavers(&self) -> Leavers
-        ensures { (s : State) → result ≡ map leaver_of (by_number tx_of (members (with_run self.now s))) }
+    pub fn all_run_attempts(&self) -> RunAttempts
+        ensures { (s : State) → result ≡ map run_attempt_of (by_number tx_of (members (with_run self.now s))) }
     {
-        self.leavers_within(None)
+        self.run_attempts_within(None)
     }
 
     /// The least member that holds a use in conflict with one of those that a member asks for, save itself and the
@@ -178,8 +178,8 @@ impl Run {
     pub fn blocker(&self, asker: &Member, asked: &[Use]) -> Option<Tx>
         ensures { (s : State) → result ≡ blocker (with_run self.now s) asker.now asked.now }
     {
-        let least = first_in_way(self.active.as_slice(), asked, Passed::Itself(asker.tx()));
-        least_in_way(self.prepared(), asked, Passed::Group(asker.group()), least)
+        let least = first_conflicting(self.active.as_slice(), asked, Passed::Itself(asker.tx()));
+        least_conflicting(self.prepared(), asked, Passed::Group(asker.group()), least)
     }
 
     /// The same of one that asks for the uses of a statement, which are put together.
@@ -189,7 +189,7 @@ impl Run {
         self.blocker(asker, statement_uses(statement).as_slice())
     }
 
-    /// The least member in the way of one that asks for the uses of a statement, as [`Run::blocker`] says. What changes
+    /// The least member in conflict with one that asks for the uses of a statement, as [`Run::blocker`] says. What changes
     /// a table asks for one use, and needs no room for more.
     pub fn statement_blocker<K>(&self, asker: &Member, statement: &Statement<K>) -> Option<Tx>
         ensures { (s : State) → result ≡ blocker (with_run self.now s) asker.now (uses_of statement.now) }
@@ -349,11 +349,11 @@ impl Run {
         remove(&mut self.active, numbers);
     }
 
-    fn leavers_within(&self, group: Option<Tx>) -> Leavers
-        ensures { result ≡ leavers_in group (self.now.prepared ++ self.now.active) }
+    fn run_attempts_within(&self, group: Option<Tx>) -> RunAttempts
+        ensures { result ≡ run_attempts_in group (self.now.prepared ++ self.now.active) }
     {
-        let mut leavers = gather_by_number(self.active.as_slice(), group);
-        gather(self.prepared.as_slice(), group, &mut leavers);
-        leavers
+        let mut run_attempts = gather_by_number(self.active.as_slice(), group);
+        gather(self.prepared.as_slice(), group, &mut run_attempts);
+        run_attempts
     }
 }

@@ -19,8 +19,8 @@ use Rattle.ent_semantics.specs.Database.{Database, Environment, Name, columns_of
 use Rattle.ent_semantics.specs.Effect.{deletion, replacement, shown}
 use Rattle.ent_semantics.specs.Entangled.{Valuation, condition_holds, is_grounding, term_worth, written_variables}
 use Rattle.ent_semantics.specs.Selection.{item_row, meets, select_rows, selection, source_rows}
-use Rattle.ent_semantics.specs.Serial.{Deed, Turn, after, deeds_of, ended, ran_first, run, script_run, script_sights}
-use Rattle.ent_semantics.specs.Serial.{scripts_run, scripts_sights, seen, seen_after, seen_from, sights}
+use Rattle.ent_semantics.specs.Serial.{Operation, Turn, after, operations_of, ended, ran_first, run, script_run, script_read_views}
+use Rattle.ent_semantics.specs.Serial.{scripts_run, scripts_read_views, seen, seen_after, seen_from, read_views}
 use Rattle.ent_semantics.specs.Statement.{statement_meaning}
 use Rattle.ent_semantics.specs.Term.{operand_value, source_columns, source_name, table_columns}
 
@@ -80,18 +80,18 @@ module _ (first second : List Create) (same : (name : Name) → columns_of first
 
   -- ---- runs
 
-  same_run : (deeds : List Deed) (database : Database) (environment : Environment)
-      → run first deeds database environment ≡ run second deeds database environment
+  same_run : (operations : List Operation) (database : Database) (environment : Environment)
+      → run first operations database environment ≡ run second operations database environment
   same_run [] database environment = refl
-  same_run (deed ∷ more) database environment =
-      λ i. after (same_meaning deed.statement deed.valuation database environment i)
+  same_run (operation ∷ more) database environment =
+      λ i. after (same_meaning operation.statement operation.valuation database environment i)
       (λ database environment. same_run more database environment i)
 
   same_script_run : (script : Script) (oracle : List Valuation) (database : Database)
       → script_run first script oracle database ≡ script_run second script oracle database
   same_script_run script oracle database =
       λ i. ended script.end
-      (option_and_then (λ deeds. same_run deeds database nothing_bound i) (deeds_of script.statements oracle))
+      (option_and_then (λ operations. same_run operations database nothing_bound i) (operations_of script.statements oracle))
 
   pub same_runs : (turns : List Turn) (database : Database)
       → scripts_run first turns database ≡ scripts_run second turns database
@@ -102,26 +102,26 @@ module _ (first second : List Create) (same : (name : Name) → columns_of first
 
   -- ---- what entangled statements see
 
-  same_seen : (tx place : ℕ) (deeds : List Deed) (database : Database) (environment : Environment)
-      → sights first tx place deeds database environment ≡ sights second tx place deeds database environment
+  same_seen : (tx place : ℕ) (operations : List Operation) (database : Database) (environment : Environment)
+      → read_views first tx place operations database environment ≡ read_views second tx place operations database environment
   same_seen tx place [] database environment = refl
-  same_seen tx place (deed ∷ more) database environment =
-      λ i. seen tx place deed database environment
-      ++ seen_after (same_meaning deed.statement deed.valuation database environment i)
+  same_seen tx place (operation ∷ more) database environment =
+      λ i. seen tx place operation database environment
+      ++ seen_after (same_meaning operation.statement operation.valuation database environment i)
       (λ database environment. same_seen tx (suc place) more database environment i)
 
-  same_script_sights : (turn : Turn) (database : Database)
-      → script_sights first turn database ≡ script_sights second turn database
-  same_script_sights turn database = by (deeds_of turn.script.statements turn.oracle) refl
+  same_script_read_views : (turn : Turn) (database : Database)
+      → script_read_views first turn database ≡ script_read_views second turn database
+  same_script_read_views turn database = by (operations_of turn.script.statements turn.oracle) refl
     where
-      by : (deeds : Option (List Deed)) → deeds_of turn.script.statements turn.oracle ≡ deeds
-          → script_sights first turn database ≡ script_sights second turn database
-      by (Some deeds) e = rw e (same_seen turn.tx 1 deeds database nothing_bound)
+      by : (operations : Option (List Operation)) → operations_of turn.script.statements turn.oracle ≡ operations
+          → script_read_views first turn database ≡ script_read_views second turn database
+      by (Some operations) e = rw e (same_seen turn.tx 1 operations database nothing_bound)
       by None e = rw e refl
 
-  pub same_sights : (turns : List Turn) (database : Database)
-      → scripts_sights first turns database ≡ scripts_sights second turns database
-  same_sights [] database = refl
-  same_sights (turn ∷ more) database =
-      λ i. same_script_sights turn database i
-      ++ seen_from (same_script_run turn.script turn.oracle database i) (λ database. same_sights more database i)
+  pub same_read_views : (turns : List Turn) (database : Database)
+      → scripts_read_views first turns database ≡ scripts_read_views second turns database
+  same_read_views [] database = refl
+  same_read_views (turn ∷ more) database =
+      λ i. same_script_read_views turn database i
+      ++ seen_from (same_script_run turn.script turn.oracle database i) (λ database. same_read_views more database i)

@@ -8,7 +8,7 @@ ghost use Rattle.ent_opening_laws.specs.Alike.{AreAlike, AreDeclaredAlike};
 ghost use Rattle.ent_semantics.specs.Book.{IsLegal};
 ghost use Rattle.ent_semantics.specs.Database.{Database, Environment, Name, columns_of, opening_database};
 ghost use Rattle.ent_semantics.specs.Entangled.{Valuation, is_grounding};
-ghost use Rattle.ent_semantics.specs.Serial.{Turn, scripts_run, scripts_sights};
+ghost use Rattle.ent_semantics.specs.Serial.{Turn, scripts_run, scripts_read_views};
 ghost use Rattle.ent_semantics.specs.Statement.{statement_meaning};
 ghost use Rattle.ent_semantics.specs.declared.book.Book.{Book};
 ghost use Rattle.ent_tree.specs.declared.declaration.Create.{Create};
@@ -46,9 +46,9 @@ pub fn statements_mean_the_same()
     ensures runs { (first second : List Create) → AreDeclaredAlike first second
         → (turns : List Turn) (database : Database)
         → scripts_run first turns database ≡ scripts_run second turns database }
-    ensures sights { (first second : List Create) → AreDeclaredAlike first second
+    ensures read_views { (first second : List Create) → AreDeclaredAlike first second
         → (turns : List Turn) (database : Database)
-        → scripts_sights first turns database ≡ scripts_sights second turns database }
+        → scripts_read_views first turns database ≡ scripts_read_views second turns database }
 {}
 
 /// Over tables that are declared alike, a script has the same faults of form.

@@ -32,7 +32,7 @@ abbrev pub begun_with : Event → List ℕ → List (List ℕ)
 begun_with (Begin tx) others = (tx ∷ others) ∷ []
 begun_with _ others = []
 
--- Those who meet in an exchange, company by company: who begins a statement and whoever is in its way, or for whom it is
+-- Those who meet in an exchange, company by company: who begins a statement and whoever blocks it, or for whom it is
 -- held back; those who commit or are rolled back in one event; those of a cycle.
 abbrev pub companies_of : Event → Reply → List (List ℕ)
 companies_of event (Blocked holder) = begun_with event (holder ∷ [])

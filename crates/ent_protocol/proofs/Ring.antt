@@ -1,9 +1,9 @@
--- Whoever stands in a ring of waits, waits.
+-- Whoever stands in a cycle of waits, waits.
 use Rattle.std.proofs.Common.{◌≡◌, ℕ, zero, suc, ◌<◌, ◌≤◌, List, [], ◌∷◌, ◌++◌, length, refl, ap}
 use Rattle.std.proofs.Common.{subst, ◌∙◌, arith}
 use Rattle.std.specs.Prelude.{Contains, slice_index_or}
 use Rattle.std.specs.List.{zip}
-use Rattle.ent_group.specs.Cycle.{IsInRing, Closes}
+use Rattle.ent_group.specs.Cycle.{IsOnCycle, Closes}
 
 paired : (xs ys : List ℕ) (k e : ℕ) → k < length xs → length xs ≤ length ys
     → (y : ℕ) × (k < length (zip xs ys)) × (slice_index_or (zip xs ys) k (e, e) ≡ (slice_index_or xs k e, y))
@@ -21,7 +21,7 @@ one_more z (x ∷ xs) = ap suc (one_more z xs)
 longer : (x : ℕ) (xs : List ℕ) → length (x ∷ xs) ≤ length (xs ++ x ∷ [])
 longer x xs = let e = one_more x xs in omega arith
 
-pub waits_itself : (waits : List (ℕ × ℕ)) (tx : ℕ) → IsInRing waits tx → (other : ℕ) × Contains waits (tx, other)
+pub waits_itself : (waits : List (ℕ × ℕ)) (tx : ℕ) → IsOnCycle waits tx → (other : ℕ) × Contains waits (tx, other)
 waits_itself waits tx h = of h.0 h.1 h.2
   where
     of : (members : List ℕ) → Closes waits members → Contains members tx → (other : ℕ) × Contains waits (tx, other)

@@ -9,7 +9,7 @@ use Rattle.ent_tree.specs.declared.script.Script.{Script}
 use Rattle.ent_closed.specs.declared.operand.Known.{Known}
 use Rattle.ent_closed.specs.declared.statement.Statement.{Statement}
 use Rattle.ent_closed.specs.declared.statement.Statement.TheVariants as forms
-use Rattle.ent_group.specs.Cycle.{IsInRing, links}
+use Rattle.ent_group.specs.Cycle.{IsOnCycle, links}
 use Rattle.ent_semantics.specs.declared.answer.Answer.TheVariants as answers
 use Rattle.ent_protocol.specs.Begin.{lending, holding}
 use Rattle.ent_protocol.specs.Commit.{preparing, committing}
@@ -122,7 +122,7 @@ either : (tx other : ℕ) (pair : ℕ × ℕ) → pair.0 ≡ tx → (pair ≡ fi
 either tx other pair is (inl e) = let r : 1 ≡ tx = sym (ap (λ p. p.0) e) ∙ is in omega arith
 either tx other pair is (inr e) = let r : 2 ≡ tx = sym (ap (λ p. p.0) e) ∙ is in omega arith
 
-at_most_2 : (tx : ℕ) → IsInRing waits_of_both tx → tx ≤ 2
+at_most_2 : (tx : ℕ) → IsOnCycle waits_of_both tx → tx ≤ 2
 at_most_2 tx h =
     let waiting = waits_itself waits_of_both tx h in
     either tx waiting.0 (tx, waiting.0) refl (two_cases first_waits second_waits (tx, waiting.0) waiting.1)

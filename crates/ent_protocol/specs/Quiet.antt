@@ -27,7 +27,7 @@ pub record OutJoint (s : State) (tx : ℕ) : Type 0 where
 abbrev pub HasJobOut : State → ℕ → Type 0
 HasJobOut s tx = (is_lent s tx ≡ true) ⊎ OutJoint s tx
 
--- nothing is in the way of an entangled statement, and the pool stays safe with it
+-- nothing is in conflict with an entangled statement, and the pool stays safe with it
 abbrev pub CanPost : State → Member → Entangled Value → Option ℕ → Type 0
 CanPost s member statement (Some holder) = ⊥
 CanPost s member statement None = IsSafe (pool_with s member statement)

@@ -1,4 +1,4 @@
--- The uses of tables, and who is in the way.
+-- The uses of tables, and who is in conflict.
 use Rattle.std.specs.Prelude.{ℕ, Bool, not, ◌&&◌, ◌==◌, List, [], ◌∷◌, ◌++◌, map, Option, Some, None, nat_lt}
 use Rattle.std.specs.Prelude.{if◌then◌else◌}
 use Rattle.std.specs.List.{filter, flat_map, list_any}
@@ -34,8 +34,8 @@ abbrev pub uses_conflict : Use → Use → Bool
 uses_conflict one other = (one.table == other.table) && in_conflict one.mode other.mode
 
 -- some use conflicts with one that a member holds
-abbrev pub is_in_way : List Use → Member → Bool
-is_in_way asked holder = list_any (λ own. list_any (uses_conflict own) holder.uses) asked
+abbrev pub is_conflicting : List Use → Member → Bool
+is_conflicting asked holder = list_any (λ own. list_any (uses_conflict own) holder.uses) asked
 
 -- all members but the asker and the prepared ones of its own group, which it may pass
 abbrev pub not_passed : State → Member → List Member
@@ -44,8 +44,8 @@ not_passed s asker =
     ++ filter (λ holder. not (holder.tx == asker.tx)) s.active
 
 -- those of them that hold a conflicting use
-abbrev pub in_way : State → Member → List Use → List Member
-in_way s asker asked = filter (is_in_way asked) (not_passed s asker)
+abbrev pub conflicting : State → Member → List Use → List Member
+conflicting s asker asked = filter (is_conflicting asked) (not_passed s asker)
 
 -- the least of some numbers
 abbrev pub least : List ℕ → Option ℕ
@@ -56,6 +56,6 @@ least (n ∷ ns) = Some (lesser n (least ns))
     lesser n None = n
     lesser n (Some m) = if nat_lt n m then n else m
 
--- the least transaction that is in the way
+-- the least transaction that is in conflict
 abbrev pub blocker : State → Member → List Use → Option ℕ
-blocker s asker asked = least (map (λ holder. holder.tx) (in_way s asker asked))
+blocker s asker asked = least (map (λ holder. holder.tx) (conflicting s asker asked))

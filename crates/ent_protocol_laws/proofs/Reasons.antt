@@ -1,13 +1,13 @@
 -- Deadlocks that are shown, and reasons why a run can't end yet.
 use Rattle.std.proofs.Common.{◌≡◌, ◌⊎◌, inl, inr, ℕ, List, [], ◌∷◌, refl, ap, arith, slice_index}
-use Rattle.ent_group.specs.Cycle.{Closes, IsInRing}
+use Rattle.ent_group.specs.Cycle.{Closes, IsOnCycle}
 use Rattle.ent_protocol.specs.Event.{Reason, JobOut, CanBegin, Untried, Cycle}
 use Rattle.ent_protocol.specs.Quiet.{IsLeast, IsQuiet, IsReason}
 use Rattle.ent_protocol.specs.State.{State}
 use Rattle.ent_protocol.specs.Waits.{IsDeadlock, NoDeadlock, waits}
 use Rattle.ent_protocol_laws.specs.Alike.{BeginAlike}
 
-first_in_ring : (s : State) (cycle : List ℕ) → Closes (waits s) cycle → IsInRing (waits s) (slice_index cycle 0)
+first_in_ring : (s : State) (cycle : List ℕ) → Closes (waits s) cycle → IsOnCycle (waits s) (slice_index cycle 0)
 first_in_ring s [] closes = let low = closes.not_empty in absurd (omega (arith, low))
 first_in_ring s (x ∷ xs) closes = (x ∷ xs, closes, (0, omega arith, refl))
 

@@ -16,7 +16,7 @@ module _ {F : Type 0} where
     pub is : reply ≡ Broken cycle group
     pub is_other : other ≡ Broken another group
 
-  -- both tell that a deadlock is in the way
+  -- both tell that a deadlock is in conflict
   pub record WaitAlike (reply other : Reply F) : Type 0 where
     pub cycle : List ℕ
     pub another : List ℕ

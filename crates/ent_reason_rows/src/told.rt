@@ -1,7 +1,7 @@
 //! What was told of transactions, a line each: their numbers, a colon, and what changes for all of them.
 use anyhow::{Result, anyhow, bail};
 use ent_group::{Members, Tx};
-use ent_reasons::{Change, Hindrance, Notes, Reasons};
+use ent_reasons::{Change, LastStatus, Notes, Reasons};
 use ent_semantics::Failure;
 use std::alloc::Global;
 
@@ -41,29 +41,29 @@ fn change_of(words: &[&str]) -> Result<Change> {
     match words {
         ["starts"] => Ok(Change::Starts),
         ["passes"] => Ok(Change::Passes),
-        _ => Ok(Change::Stands(hindrance_of(words)?)),
+        _ => Ok(Change::Stands(last_status_of(words)?)),
     }
 }
 
-/// What stands in the way.
-fn hindrance_of(words: &[&str]) -> Result<Hindrance> {
+/// What is in conflict.
+fn last_status_of(words: &[&str]) -> Result<LastStatus> {
     match words {
-        ["free"] => Ok(Hindrance::Free),
-        ["posted"] => Ok(Hindrance::Posted),
-        ["prepared"] => Ok(Hindrance::Prepared),
-        ["committed"] => Ok(Hindrance::Committed),
-        ["blocked", holder] => Ok(Hindrance::Blocked(number_of(holder)?)),
-        ["held_back", asker, post, first, second] => Ok(Hindrance::HeldBack {
+        ["free"] => Ok(LastStatus::Free),
+        ["posted"] => Ok(LastStatus::Posted),
+        ["prepared"] => Ok(LastStatus::Prepared),
+        ["committed"] => Ok(LastStatus::Committed),
+        ["blocked", holder] => Ok(LastStatus::Blocked(number_of(holder)?)),
+        ["held_back", asker, post, first, second] => Ok(LastStatus::HeldBack {
             asker: number_of(asker)?,
             post: number_of(post)? as usize,
             first: number_of(first)?,
             second: number_of(second)?,
         }),
-        ["rolled_back", tx] => Ok(Hindrance::RolledBack(number_of(tx)?)),
-        ["F1", tx] => Ok(Hindrance::Failed(number_of(tx)?, Failure::Overflow)),
-        ["F2", tx] => Ok(Hindrance::Failed(number_of(tx)?, Failure::TableFull)),
-        ["no_choice", partners @ ..] => Ok(Hindrance::NoChoice(listed(partners)?)),
-        ["broken", cycle @ ..] => Ok(Hindrance::Broken(listed(cycle)?)),
+        ["rolled_back", tx] => Ok(LastStatus::RolledBack(number_of(tx)?)),
+        ["F1", tx] => Ok(LastStatus::Failed(number_of(tx)?, Failure::Overflow)),
+        ["F2", tx] => Ok(LastStatus::Failed(number_of(tx)?, Failure::TableFull)),
+        ["no_choice", partners @ ..] => Ok(LastStatus::NoChoice(listed(partners)?)),
+        ["broken", cycle @ ..] => Ok(LastStatus::Broken(listed(cycle)?)),
         _ => Err(anyhow!("nothing that can be told")),
     }
 }

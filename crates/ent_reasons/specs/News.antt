@@ -3,7 +3,7 @@ use Rattle.std.specs.Prelude.{◌+◌, ℕ, List, [], ◌∷◌, map, slice_get,
 use Rattle.ent_protocol.specs.Event.{Event, Reply}
 use Rattle.ent_protocol.specs.Event as events
 use Rattle.ent_protocol.specs.Job.{Work, One, Joint}
-use Rattle.ent_reasons.specs.declared.hindrance.Hindrance.TheVariants as hindrances
+use Rattle.ent_reasons.specs.declared.last_status.LastStatus.TheVariants as last_statuses
 use Rattle.ent_reasons.specs.declared.note.Change.{Change}
 use Rattle.ent_reasons.specs.declared.note.Change.TheVariants.{Starts, Passes, Stands}
 use Rattle.ent_reasons.specs.declared.note.Note.{Note}
@@ -43,17 +43,17 @@ abbrev pub news : {F : Type 0} → List ℕ → Reply F → News
 news own (events.Started members) = tells members Starts
 news own (events.Stepped answer) = tells own Passes
 news own events.Answered = tells own Passes
-news own (events.Lent job) = tells own (Stands hindrances.Free)
-news own (events.Blocked holder) = tells own (Stands (hindrances.Blocked holder))
+news own (events.Lent job) = tells own (Stands last_statuses.Free)
+news own (events.Blocked holder) = tells own (Stands (last_statuses.Blocked holder))
 news own (events.HeldBack fault) =
-    tells own (Stands (hindrances.HeldBack fault.asker (fault.index + 1) fault.first fault.second))
-news own events.Posted = tells own (Stands hindrances.Posted)
-news own events.NoChoice = tells own (Stands (hindrances.NoChoice own))
-news own events.Prepared = tells own (Stands hindrances.Prepared)
-news own (events.Committed entries) = tells (entered entries) (Stands hindrances.Committed)
-news own (events.RolledBack group) = tells group (Stands (hindrances.RolledBack (first_party own)))
-news own (events.Failed failure group) = tells group (Stands (hindrances.Failed (first_party own) failure))
-news own (events.Broken cycle group) = tells group (Stands (hindrances.Broken cycle))
+    tells own (Stands (last_statuses.HeldBack fault.asker (fault.index + 1) fault.first fault.second))
+news own events.Posted = tells own (Stands last_statuses.Posted)
+news own events.NoChoice = tells own (Stands (last_statuses.NoChoice own))
+news own events.Prepared = tells own (Stands last_statuses.Prepared)
+news own (events.Committed entries) = tells (entered entries) (Stands last_statuses.Committed)
+news own (events.RolledBack group) = tells group (Stands (last_statuses.RolledBack (first_party own)))
+news own (events.Failed failure group) = tells group (Stands (last_statuses.Failed (first_party own) failure))
+news own (events.Broken cycle group) = tells group (Stands (last_statuses.Broken cycle))
 news own other = tells [] Passes
 
 module _ {F : Type 0} where

@@ -1,7 +1,7 @@
 -- What is noted of transactions.
 use Rattle.std.specs.Prelude.{◌≡◌, ◌==◌, ℕ, Bool, true, List, [], ◌∷◌, if◌then◌else◌, slice_index_or}
 use Rattle.ent_value.specs.Ticks.{ticked}
-use Rattle.ent_reasons.specs.declared.hindrance.Hindrance.TheVariants.{Free}
+use Rattle.ent_reasons.specs.declared.last_status.LastStatus.TheVariants.{Free}
 use Rattle.ent_reasons.specs.declared.note.Change.{Change}
 use Rattle.ent_reasons.specs.declared.note.Change.TheVariants.{Starts, Passes, Stands}
 use Rattle.ent_reasons.specs.declared.note.Note.{Note}
@@ -14,16 +14,16 @@ pub record Noted : Type 0 where
 
 -- the note of a transaction that was in no run
 abbrev pub no_run : Note
-no_run = record { runs = 0; passed = 0; hindrance = Free }
+no_run = record { runs = 0; passed = 0; last_status = Free }
 
 abbrev pub note_of : List Note → ℕ → Note
 note_of notes tx = slice_index_or notes tx no_run
 
 -- a note behind a change
 abbrev pub changed : Change → Note → Note
-changed Starts note = record { runs = ticked 1 note.runs; passed = 0; hindrance = Free }
-changed Passes note = record { runs = note.runs; passed = ticked 1 note.passed; hindrance = Free }
-changed (Stands hindrance) note = record { runs = note.runs; passed = note.passed; hindrance = hindrance }
+changed Starts note = record { runs = ticked 1 note.runs; passed = 0; last_status = Free }
+changed Passes note = record { runs = note.runs; passed = ticked 1 note.passed; last_status = Free }
+changed (Stands last_status) note = record { runs = note.runs; passed = note.passed; last_status = last_status }
 
 -- the note of a transaction behind the same change of some transactions, one after the other
 abbrev pub each : List ℕ → Change → ℕ → Note → Note

@@ -8,7 +8,7 @@
 //! the sentences say rests on rows of examples, which `ent_rows` plays.
 #![tactic(auto)]
 
-mod hindrance;
+mod last_status;
 mod note;
 mod notes;
 mod reason;
@@ -16,7 +16,7 @@ mod reasons;
 mod script_lines;
 mod waiting;
 
-pub use hindrance::Hindrance;
+pub use last_status::LastStatus;
 pub use note::{Change, Note};
 pub use notes::Notes;
 pub use reasons::Reasons;

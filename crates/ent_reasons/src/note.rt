@@ -2,7 +2,7 @@
 ghost use Rattle.std.specs.Prelude.{◌≡◌};
 ghost use Rattle.ent_reasons.specs.Noted.{changed, no_run};
 
-use crate::hindrance::Hindrance;
+use crate::last_status::LastStatus;
 use ent_value::Ticks;
 
 /// What is noted of a transaction.
@@ -13,7 +13,7 @@ pub struct Note {
     /// How many statements it has passed in its last run.
     pub passed: Ticks,
     /// What it was told last in that run.
-    pub hindrance: Hindrance,
+    pub last_status: LastStatus,
 }
 
 /// What changes in a note.
@@ -23,8 +23,8 @@ pub enum Change {
     Starts,
     /// A statement is passed.
     Passes,
-    /// Something stands in the way.
-    Stands(Hindrance),
+    /// Something is in conflict.
+    Stands(LastStatus),
 }
 
 impl Note {
@@ -35,7 +35,7 @@ impl Note {
         Note {
             runs: Ticks::new(),
             passed: Ticks::new(),
-            hindrance: Hindrance::Free,
+            last_status: LastStatus::Free,
         }
     }
 
@@ -46,13 +46,13 @@ impl Note {
             Change::Starts => {
                 self.runs.add();
                 self.passed = Ticks::new();
-                self.hindrance = Hindrance::Free;
+                self.last_status = LastStatus::Free;
             }
             Change::Passes => {
                 self.passed.add();
-                self.hindrance = Hindrance::Free;
+                self.last_status = LastStatus::Free;
             }
-            Change::Stands(hindrance) => self.hindrance = hindrance.copy(),
+            Change::Stands(last_status) => self.last_status = last_status.copy(),
         }
     }
 }

@@ -1,5 +1,5 @@
 //! Why a transaction didn't commit.
-use crate::hindrance::Hindrance;
+use crate::last_status::LastStatus;
 use crate::note::Note;
 use crate::script_lines::ScriptLines;
 use crate::waiting::{Others, Ring};
@@ -20,8 +20,8 @@ impl<'a> Reason<'a> {
     /// None of a transaction that committed.
     pub(crate) fn of(tx: Tx, notes: &'a [Note], lines: &'a ScriptLines) -> Option<Self> {
         let note = notes.get(tx as usize)?;
-        match note.hindrance {
-            Hindrance::Committed => None,
+        match note.last_status {
+            LastStatus::Committed => None,
             _ => Some(Reason { tx, notes, lines }),
         }
     }
@@ -94,17 +94,17 @@ impl<'a> Reason<'a> {
         )
     }
 
-    fn put_hindrance<W: fmt::Write>(
+    fn put_last_status<W: fmt::Write>(
         &self,
         f: &mut fmt::Formatter<W>,
-        hindrance: &Hindrance,
+        last_status: &LastStatus,
     ) -> fmt::Result {
-        match hindrance {
-            Hindrance::Free | Hindrance::Committed => write!(f, "nothing stood in its way"),
-            Hindrance::Blocked(holder) => {
+        match last_status {
+            LastStatus::Free | LastStatus::Committed => write!(f, "nothing stood in its way"),
+            LastStatus::Blocked(holder) => {
                 write!(f, "blocked by tx {holder}, which held a table that it uses")
             }
-            Hindrance::HeldBack {
+            LastStatus::HeldBack {
                 asker,
                 post,
                 first,
@@ -113,27 +113,27 @@ impl<'a> Reason<'a> {
                 f,
                 "held back, since demand {post} of tx {asker} would meet offers of two, tx {first} and tx {second}"
             ),
-            Hindrance::Posted => write!(
+            LastStatus::Posted => write!(
                 f,
                 "posted, and not answered: nobody offered what it, or a partner, demands"
             ),
-            Hindrance::NoChoice(all) => self.put_no_choice(f, all),
-            Hindrance::Prepared => {
+            LastStatus::NoChoice(all) => self.put_no_choice(f, all),
+            LastStatus::Prepared => {
                 write!(f, "it asked to commit, and others of its group never did")
             }
-            Hindrance::RolledBack(by) => self.put_rolled_back(f, *by),
-            Hindrance::Failed(by, failure) => self.put_failed(f, *by, *failure),
-            Hindrance::Broken(cycle) => self.put_broken(f, cycle),
+            LastStatus::RolledBack(by) => self.put_rolled_back(f, *by),
+            LastStatus::Failed(by, failure) => self.put_failed(f, *by, *failure),
+            LastStatus::Broken(cycle) => self.put_broken(f, cycle),
         }
     }
 }
 
 /// The fate of a transaction with such a note, as the report names it.
 fn fate_of(tx: Tx, note: &Note) -> &'static str {
-    match &note.hindrance {
-        Hindrance::RolledBack(by) if *by == tx => "rolled back",
-        Hindrance::Failed(by, Failure::Overflow) if *by == tx => "failed F1",
-        Hindrance::Failed(by, Failure::TableFull) if *by == tx => "failed F2",
+    match &note.last_status {
+        LastStatus::RolledBack(by) if *by == tx => "rolled back",
+        LastStatus::Failed(by, Failure::Overflow) if *by == tx => "failed F1",
+        LastStatus::Failed(by, Failure::TableFull) if *by == tx => "failed F2",
         _ => "gave up",
     }
 }
@@ -149,6 +149,6 @@ impl fmt::Display for Reason<'_> {
         write!(f, "tx {tx} {fate} after {runs}\n")?;
         self.put_spot(f, tx)?;
         write!(f, ": ")?;
-        self.put_hindrance(f, &note.hindrance)
+        self.put_last_status(f, &note.last_status)
     }
 }

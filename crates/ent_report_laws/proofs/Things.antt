@@ -12,7 +12,7 @@ use Rattle.ent_semantics.specs.declared.book.Member.{Member}
 use Rattle.ent_semantics.specs.Database.{Database, Environment, nothing_bound, opening_database}
 use Rattle.ent_semantics.specs.Book.{all_members}
 use Rattle.ent_semantics.specs.Effect.{Effect}
-use Rattle.ent_semantics.specs.Serial.{Deed, Run, Sight, seen}
+use Rattle.ent_semantics.specs.Serial.{Operation, Run, ReadView, seen}
 use Rattle.ent_semantics.specs.Statement.{statement_meaning}
 use Rattle.ent_history.specs.declared.history.History.{History}
 use Rattle.ent_history.specs.declared.history.Shown.{Shown}
@@ -26,7 +26,7 @@ use Rattle.ent_rules.specs.Joint.{left_out, left_out_findings, members_findings}
 use Rattle.ent_rules.specs.Journal.{journal_from, number_finding, unless}
 use Rattle.ent_rules.specs.Placed.{Placed, members_from, placed, placed_from}
 use Rattle.ent_rules.specs.Post.{post_findings}
-use Rattle.ent_rules.specs.Replay.{account_deeds, account_run, deeds_findings, found_after, found_from, ground_finding}
+use Rattle.ent_rules.specs.Replay.{account_operations, account_run, operations_findings, found_after, found_from, ground_finding}
 use Rattle.ent_rules.specs.Replay.{is_answered, later, replay_findings, ungrounded}
 use Rattle.ent_rules.specs.Table.{end_findings, tables_findings}
 use Rattle.ent_rules.specs.Verdict.{first_of}
@@ -84,7 +84,7 @@ module _ (most : ℕ) where
   left_out_among : (members : List Member) (all : List Account) → AreAmong (left_out_findings members all)
   left_out_among members all = flat (left_out members) all (λ account. unless_among _ _ _ tt)
 
-  posts_among : (run : List Sight) (number : ℕ) (joints : List JointAnswer) → AreAmong (post_findings run number joints)
+  posts_among : (run : List ReadView) (number : ℕ) (joints : List JointAnswer) → AreAmong (post_findings run number joints)
   posts_among run number [] = tt
   posts_among run number (joint ∷ more) = both _ _ (unless_among _ _ _ tt) (posts_among run (suc number) more)
 
@@ -122,27 +122,27 @@ module _ (most : ℕ) where
     from_among (Some run) more each = each run.database
     from_among None more each = tt
 
-    deeds_among : (tx place : ℕ) (deeds : List Deed) (answers : List Answer) (database : Database)
+    operations_among : (tx place : ℕ) (operations : List Operation) (answers : List Answer) (database : Database)
         (environment : Environment)
-        → AreAmong (deeds_findings declared members tx place deeds answers database environment)
-    deeds_among tx place [] answers database environment = tt
-    deeds_among tx place (deed ∷ more) answers database environment =
-        let meaning = statement_meaning declared deed.statement deed.valuation database environment in
+        → AreAmong (operations_findings declared members tx place operations answers database environment)
+    operations_among tx place [] answers database environment = tt
+    operations_among tx place (operation ∷ more) answers database environment =
+        let meaning = statement_meaning declared operation.statement operation.valuation database environment in
         let answer = unless (is_answered meaning answers) rules.Answer (things.Answer tx place) in
-        let rest = found_after meaning (deeds_findings declared members tx (suc place) more (later answers)) in
-        both (flat_map (ungrounded declared members) (seen tx place deed database environment)) (answer ++ rest)
-        (flat (ungrounded declared members) (seen tx place deed database environment)
-        (λ sight. found_among _ members so _))
+        let rest = found_after meaning (operations_findings declared members tx (suc place) more (later answers)) in
+        both (flat_map (ungrounded declared members) (seen tx place operation database environment)) (answer ++ rest)
+        (flat (ungrounded declared members) (seen tx place operation database environment)
+        (λ read_view. found_among _ members so _))
         (both answer rest (unless_among (is_answered meaning answers) rules.Answer (things.Answer tx place) tt)
-        (after_among meaning (deeds_findings declared members tx (suc place) more (later answers))
-        (λ database environment. deeds_among tx (suc place) more (later answers) database environment)))
+        (after_among meaning (operations_findings declared members tx (suc place) more (later answers))
+        (λ database environment. operations_among tx (suc place) more (later answers) database environment)))
 
     replay_among : (all : List Account) (database : Database)
         → AreAmong (replay_findings declared members all database)
     replay_among [] database = tt
     replay_among (account ∷ more) database =
         both _ _
-        (deeds_among account.tx 1 (account_deeds declared members account) account.answers database nothing_bound)
+        (operations_among account.tx 1 (account_operations declared members account) account.answers database nothing_bound)
         (from_among (account_run declared members account database) _ (λ database. replay_among more database))
 
 -- ---- the numbers of members

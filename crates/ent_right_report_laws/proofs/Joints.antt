@@ -7,10 +7,10 @@ use Rattle.ent_tree.specs.declared.script.Script.{Script}
 use Rattle.ent_semantics.specs.declared.book.Book.{Book}
 use Rattle.ent_semantics.specs.declared.book.JointAnswer.{JointAnswer}
 use Rattle.ent_semantics.specs.declared.book.Member.{Member}
-use Rattle.ent_semantics.specs.Book.{IsLegal, all_members, book_sights}
+use Rattle.ent_semantics.specs.Book.{IsLegal, all_members, book_read_views}
 use Rattle.ent_semantics.specs.Database.{Database, opening_database}
 use Rattle.ent_semantics.specs.Joint.{IsGrounded, member_of}
-use Rattle.ent_semantics.specs.Serial.{Sight, numbered}
+use Rattle.ent_semantics.specs.Serial.{ReadView, numbered}
 use Rattle.ent_history.specs.declared.history.History.{History}
 use Rattle.ent_history.specs.Told.{told_joint, told_member}
 use Rattle.ent_history_form.specs.Joints.{PlacesRise}
@@ -52,42 +52,42 @@ no_members scripts (member ∷ more) some e = cc (e)
 -- ---- members
 
 module _ (book : Book Database) (legal : IsLegal book) where
-  abbrev sights : List Sight
-  sights = book_sights book legal.turns
+  abbrev read_views : List ReadView
+  read_views = book_read_views book legal.turns
 
   -- each entangled statement of the run is answered by a grounding
-  pub all_grounded : (sight : Sight) → Contains sights sight → IsGrounded book.opening.tables sight
-  all_grounded sight c =
-      let among = contains_in (all_members book.joint_answers) (member_of sight) (legal.answered sight c) in
-      let r = in_flat (λ (j : JointAnswer). j.members) book.joint_answers (member_of sight) among in
-      (legal.good r.0 (in_contains book.joint_answers r.0 r.1)).grounded sight
-      (c, in_contains r.0.members (member_of sight) r.2)
+  pub all_grounded : (read_view : ReadView) → Contains read_views read_view → IsGrounded book.opening.tables read_view
+  all_grounded read_view c =
+      let among = contains_in (all_members book.joint_answers) (member_of read_view) (legal.answered read_view c) in
+      let r = in_flat (λ (j : JointAnswer). j.members) book.joint_answers (member_of read_view) among in
+      (legal.good r.0 (in_contains book.joint_answers r.0 r.1)).grounded read_view
+      (c, in_contains r.0.members (member_of read_view) r.2)
 
-  sight_of : (joint : JointAnswer) → In joint book.joint_answers → (member : Member) → In member joint.members
-      → (sight : Sight) × Contains sights sight × (member ≡ member_of sight)
-  sight_of joint jt member mt =
+  read_view_of : (joint : JointAnswer) → In joint book.joint_answers → (member : Member) → In member joint.members
+      → (read_view : ReadView) × Contains read_views read_view × (member ≡ member_of read_view)
+  read_view_of joint jt member mt =
       legal.no_widow member (in_contains (all_members book.joint_answers) member
       (to_flat (λ (j : JointAnswer). j.members) book.joint_answers joint member jt mt))
 
   are_numbers : length book.scripts ≤ MOST_SCRIPTS
       → AllByRecursion (λ script. length script.statements ≤ MOST_STATEMENTS) book.scripts
-      → (sight : Sight) → Contains sights sight → AreNumbers (member_of sight)
-  are_numbers few short sight c =
-      let seen = seen_in book.opening.tables legal.turns (opening_database book.opening) sight
-      (contains_in sights sight c) in
+      → (read_view : ReadView) → Contains read_views read_view → AreNumbers (member_of read_view)
+  are_numbers few short read_view c =
+      let seen = seen_in book.opening.tables legal.turns (opening_database book.opening) read_view
+      (contains_in read_views read_view c) in
       let script = seen.turn.script in
-      let own : numbered book.scripts sight.tx ≡ Some script =
+      let own : numbered book.scripts read_view.tx ≡ Some script =
       ap (numbered book.scripts) seen.own
       ∙ legal.runs.own_scripts seen.turn (in_contains legal.turns seen.turn seen.at) in
-      let tx = numbered_low book.scripts sight.tx script own in
-      let place = numbered_low script.statements sight.place _ seen.there in
+      let tx = numbered_low book.scripts read_view.tx script own in
+      let place = numbered_low script.statements read_view.place _ seen.there in
       let statements = of_all (λ (script : Script). length script.statements ≤ MOST_STATEMENTS) book.scripts script
-      short (numbered_in book.scripts sight.tx script own) in
+      short (numbered_in book.scripts read_view.tx script own) in
       (omega (arith, tx, few), omega (arith, place, statements))
 
   module _ (history : History)
-      (told : (sight : Sight) → Contains sights sight
-      → IsMemberTold history (told_member book.scripts (member_of sight)))
+      (told : (read_view : ReadView) → Contains read_views read_view
+      → IsMemberTold history (told_member book.scripts (member_of read_view)))
       (few : length book.scripts ≤ MOST_SCRIPTS)
       (short : AllByRecursion (λ script. length script.statements ≤ MOST_STATEMENTS) book.scripts) where
     joint_told : (joint : JointAnswer) → In joint book.joint_answers → AllPairs Rising joint.members
@@ -96,12 +96,12 @@ module _ (book : Book Database) (legal : IsLegal book) where
       some = no_members book.scripts joint.members (legal.good joint (in_contains book.joint_answers joint jt)).some;
       rise = places_rise book.scripts joint.members (index_pairs Rising joint.members rising)
           (to_all AreNumbers joint.members (λ member mt.
-          let s = sight_of joint jt member mt in
+          let s = read_view_of joint jt member mt in
           subst AreNumbers (sym s.2) (are_numbers few short s.0 s.1)));
       members = all_map (told_member book.scripts) (IsMemberTold history) joint.members
           (to_all (λ (member : Member). IsMemberTold history (told_member book.scripts member)) joint.members
           (λ member mt.
-          let s = sight_of joint jt member mt in
+          let s = read_view_of joint jt member mt in
           subst (λ (m : Member). IsMemberTold history (told_member book.scripts m)) (sym s.2) (told s.0 s.1)));
     }
 

@@ -17,7 +17,7 @@ use Rattle.ent_semantics.specs.Book.{IsLegal}
 use Rattle.ent_semantics.specs.Database.{Database, Environment, Name, nothing_bound, opening_database}
 use Rattle.ent_semantics.specs.Effect.{Effect}
 use Rattle.ent_semantics.specs.Entangled.{Valuation}
-use Rattle.ent_semantics.specs.Serial.{Deed, Run, Runs, Turn, deed_first, deeds_of, ended, is_entangled, numbered}
+use Rattle.ent_semantics.specs.Serial.{Operation, Run, Runs, Turn, operation_first, operations_of, ended, is_entangled, numbered}
 use Rattle.ent_semantics.specs.Serial.{ran_first, run, script_run, scripts_run, with_answer}
 use Rattle.ent_semantics.specs.Statement.{statement_meaning}
 use Rattle.ent_semantics.specs.Uses.{KeepsOthers, changes}
@@ -31,42 +31,42 @@ use Rattle.ent_form.specs.declared.script.Plain.{Plain}
 use Rattle.ent_lists.specs.Elements.{In, clash, got_in, in_contains, not_so, of_all, to_map}
 use Rattle.ent_report_laws.proofs.Sound.{Laws}
 use Rattle.ent_rules.specs.Formed.{is_declared}
-use Rattle.ent_rules.proofs.Deeds.{goes_on, mapped_some, then_some}
+use Rattle.ent_rules.proofs.Operations.{goes_on, mapped_some, then_some}
 use Rattle.ent_rules.proofs.Tables.{Keeps}
 
 -- ---- the statements of a script that ran
 
-abbrev pub statement_of : Deed → Statement
-statement_of deed = deed.statement
+abbrev pub statement_of : Operation → Statement
+statement_of operation = operation.statement
 
-first_deed : (st : Statement) (more : List Statement) (valuation : Valuation) (oracle : List Valuation)
-    (deeds : List Deed) → deed_first st valuation (deeds_of more oracle) ≡ Some deeds
-    → ((rest : List Deed) → deeds_of more oracle ≡ Some rest → map statement_of rest ≡ more)
-    → map statement_of deeds ≡ st ∷ more
-first_deed st more valuation oracle deeds e rest =
-    let x = mapped_some (λ (others : List Deed). record { statement = st; valuation = valuation } ∷ others)
-    (deeds_of more oracle) deeds e in
+first_operation : (st : Statement) (more : List Statement) (valuation : Valuation) (oracle : List Valuation)
+    (operations : List Operation) → operation_first st valuation (operations_of more oracle) ≡ Some operations
+    → ((rest : List Operation) → operations_of more oracle ≡ Some rest → map statement_of rest ≡ more)
+    → map statement_of operations ≡ st ∷ more
+first_operation st more valuation oracle operations e rest =
+    let x = mapped_some (λ (others : List Operation). record { statement = st; valuation = valuation } ∷ others)
+    (operations_of more oracle) operations e in
     ap (map statement_of) x.2 ∙ ap (λ others. st ∷ others) (rest x.0 x.1)
 
-next_deed : (st : Statement) (more : List Statement) (b : Bool) (oracle : List Valuation) (deeds : List Deed)
-    → with_answer st b oracle (deeds_of more) ≡ Some deeds
-    → ((others : List Valuation) (rest : List Deed) → deeds_of more others ≡ Some rest
+next_operation : (st : Statement) (more : List Statement) (b : Bool) (oracle : List Valuation) (operations : List Operation)
+    → with_answer st b oracle (operations_of more) ≡ Some operations
+    → ((others : List Valuation) (rest : List Operation) → operations_of more others ≡ Some rest
     → map statement_of rest ≡ more)
-    → map statement_of deeds ≡ st ∷ more
-next_deed st more false oracle deeds e rest = first_deed st more [] oracle deeds e (rest oracle)
-next_deed st more true [] deeds e rest = cc (e)
-next_deed st more true (valuation ∷ oracle) deeds e rest = first_deed st more valuation oracle deeds e (rest oracle)
+    → map statement_of operations ≡ st ∷ more
+next_operation st more false oracle operations e rest = first_operation st more [] oracle operations e (rest oracle)
+next_operation st more true [] operations e rest = cc (e)
+next_operation st more true (valuation ∷ oracle) operations e rest = first_operation st more valuation oracle operations e (rest oracle)
 
--- the deeds of a script are its statements
-pub deeds_are : (sts : List Statement) (oracle : List Valuation) (deeds : List Deed)
-    → deeds_of sts oracle ≡ Some deeds → map statement_of deeds ≡ sts
-deeds_are [] [] deeds e = ap (map statement_of) (sym (one deeds e))
+-- the operations of a script are its statements
+pub operations_are : (sts : List Statement) (oracle : List Valuation) (operations : List Operation)
+    → operations_of sts oracle ≡ Some operations → map statement_of operations ≡ sts
+operations_are [] [] operations e = ap (map statement_of) (sym (one operations e))
   where
-    one : (deeds : List Deed) → Some [] ≡ Some deeds → [] ≡ deeds
-    one deeds e = cc
-deeds_are [] (valuation ∷ oracle) deeds e = cc (e)
-deeds_are (st ∷ more) oracle deeds e =
-    next_deed st more (is_entangled st) oracle deeds e (λ others rest f. deeds_are more others rest f)
+    one : (operations : List Operation) → Some [] ≡ Some operations → [] ≡ operations
+    one operations e = cc
+operations_are [] (valuation ∷ oracle) operations e = cc (e)
+operations_are (st ∷ more) oracle operations e =
+    next_operation st more (is_entangled st) oracle operations e (λ others rest f. operations_are more others rest f)
 
 ended_some : (end : End) (o : Option Run) (r : Run) → ended end o ≡ Some r → o ≡ Some r
 ended_some Commit o r e = e
@@ -74,17 +74,17 @@ ended_some Rollback o r e = cc (e)
 
 pub record ScriptRan (declared : List Create) (script : Script) (oracle : List Valuation) (d : Database) (r : Run)
     : Type 0 where
-  pub deeds : List Deed
-  pub are : deeds_of script.statements oracle ≡ Some deeds
-  pub runs : run declared deeds d nothing_bound ≡ Some r
+  pub operations : List Operation
+  pub are : operations_of script.statements oracle ≡ Some operations
+  pub runs : run declared operations d nothing_bound ≡ Some r
 
 pub script_ran : (declared : List Create) (script : Script) (oracle : List Valuation) (d : Database) (r : Run)
     → script_run declared script oracle d ≡ Some r → ScriptRan declared script oracle d r
 script_ran declared script oracle d r e =
-    let x = then_some (λ deeds. run declared deeds d nothing_bound) (deeds_of script.statements oracle) r
+    let x = then_some (λ operations. run declared operations d nothing_bound) (operations_of script.statements oracle) r
     (ended_some script.end
-    (option_and_then (λ deeds. run declared deeds d nothing_bound) (deeds_of script.statements oracle)) r e) in
-    record { deeds = x.0; are = x.1; runs = x.2 }
+    (option_and_then (λ operations. run declared operations d nothing_bound) (operations_of script.statements oracle)) r e) in
+    record { operations = x.0; are = x.1; runs = x.2 }
 
 -- the first of several scripts ran, and the others behind it
 pub record FirstRan (declared : List Create) (turn : Turn) (more : List Turn) (d : Database) (all : Runs)
@@ -113,29 +113,29 @@ module _ (keeps : Keeps) (declared : List Create) (name : Name) where
       → Stays st → (effect : Effect Database) → m ≡ Ok effect → effect.database name ≡ d name
   kept_effect st d m kept stays effect is = subst (KeepsOthers st d) is kept name stays
 
-  kept_run : (deeds : List Deed) (d : Database) (v : Environment) (r : Run) → run declared deeds d v ≡ Some r
-      → ((deed : Deed) → In deed deeds → Stays deed.statement) → r.database name ≡ d name
+  kept_run : (operations : List Operation) (d : Database) (v : Environment) (r : Run) → run declared operations d v ≡ Some r
+      → ((operation : Operation) → In operation operations → Stays operation.statement) → r.database name ≡ d name
   kept_run [] d v r runs stay = ap (λ (x : Run). x.database name) (sym (one runs))
     where
       one : Some (record { database = d; environment = v; answers = [] }) ≡ Some r
           → record { database = d; environment = v; answers = [] } ≡ r
       one e = cc
-  kept_run (deed ∷ more) d v r runs stay =
-      let on = goes_on (statement_meaning declared deed.statement deed.valuation d v) (run declared more) r runs in
+  kept_run (operation ∷ more) d v r runs stay =
+      let on = goes_on (statement_meaning declared operation.statement operation.valuation d v) (run declared more) r runs in
       ap (λ (x : Run). x.database name) on.whole
       ∙ kept_run more on.effect.database on.effect.environment on.rest on.rests (λ x at. stay x (inr at))
-      ∙ kept_effect deed.statement d (statement_meaning declared deed.statement deed.valuation d v)
-      (keeps declared deed.statement deed.valuation v d) (stay deed (inl refl)) on.effect on.is
+      ∙ kept_effect operation.statement d (statement_meaning declared operation.statement operation.valuation d v)
+      (keeps declared operation.statement operation.valuation v d) (stay operation (inl refl)) on.effect on.is
 
   kept_script : (script : Script) (oracle : List Valuation) (d : Database) (r : Run)
       → script_run declared script oracle d ≡ Some r
       → ((st : Statement) → In st script.statements → Stays st) → r.database name ≡ d name
   kept_script script oracle d r e stay =
       let ran = script_ran declared script oracle d r e in
-      kept_run ran.deeds d nothing_bound r ran.runs (λ deed at.
-      stay deed.statement
-      (subst (In deed.statement) (deeds_are script.statements oracle ran.deeds ran.are)
-      (to_map statement_of ran.deeds deed at)))
+      kept_run ran.operations d nothing_bound r ran.runs (λ operation at.
+      stay operation.statement
+      (subst (In operation.statement) (operations_are script.statements oracle ran.operations ran.are)
+      (to_map statement_of ran.operations operation at)))
 
   kept_scripts : (turns : List Turn) (d : Database) (all : Runs) → scripts_run declared turns d ≡ Some all
       → ((turn : Turn) → In turn turns → (st : Statement) → In st turn.script.statements → Stays st)

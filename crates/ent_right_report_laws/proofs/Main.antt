@@ -17,10 +17,10 @@ use Rattle.ent_semantics.specs.declared.book.Book.{Book}
 use Rattle.ent_semantics.specs.declared.book.Entry.{Entry}
 use Rattle.ent_semantics.specs.declared.book.Fated.{Fated}
 use Rattle.ent_semantics.specs.declared.book.JointAnswer.{JointAnswer}
-use Rattle.ent_semantics.specs.Book.{IsLegal, book_sights}
+use Rattle.ent_semantics.specs.Book.{IsLegal, book_read_views}
 use Rattle.ent_semantics.specs.Database.{Database, Name, opening_database}
 use Rattle.ent_semantics.specs.Joint.{member_of}
-use Rattle.ent_semantics.specs.Serial.{Runs, Sight, Turn, numbered, scripts_run, scripts_sights}
+use Rattle.ent_semantics.specs.Serial.{Runs, ReadView, Turn, numbered, scripts_run, scripts_read_views}
 use Rattle.ent_book.specs.Report2.{report_2_text}
 use Rattle.ent_form.specs.Catalogue.{schemas_of}
 use Rattle.ent_form.specs.OpeningFault.{declarations_fault, opening_fault}
@@ -79,25 +79,25 @@ pub record Laws : Type 0 where
       → declarations_fault [] declared ≡ None
       → ((turn : Turn) → Contains turns turn → CanRun declared turn.script)
       → HoldsRowsOf declared database
-      → AreGrounded declared (scripts_sights declared turns database)
+      → AreGrounded declared (scripts_read_views declared turns database)
       → scripts_run declared turns database ≡ Some runs
       → HoldsRowsOf declared runs.database
   pub answers : (declared : List Create) (turns : List Turn) (database : Database) (runs : Runs)
       → declarations_fault [] declared ≡ None
       → ((turn : Turn) → Contains turns turn → CanRun declared turn.script)
       → HoldsRowsOf declared database
-      → AreGrounded declared (scripts_sights declared turns database)
+      → AreGrounded declared (scripts_read_views declared turns database)
       → scripts_run declared turns database ≡ Some runs
       → AllByRecursion (AllByRecursion CanBeCounted) runs.answers
       → AreTurnsAnswered turns runs.answers
-  pub sights : (history : History) (turns : List Turn) (database : Database) (sight : Sight)
+  pub read_views : (history : History) (turns : List Turn) (database : Database) (read_view : ReadView)
       → declarations_fault [] history.opening.tables ≡ None
       → ((turn : Turn) → Contains turns turn → CanRun history.opening.tables turn.script)
       → ((turn : Turn) → Contains turns turn → numbered history.scripts turn.tx ≡ Some turn.script)
       → HoldsRowsOf history.opening.tables database
-      → AreGrounded history.opening.tables (scripts_sights history.opening.tables turns database)
-      → Contains (scripts_sights history.opening.tables turns database) sight
-      → IsMemberTold history (told_member history.scripts (member_of sight))
+      → AreGrounded history.opening.tables (scripts_read_views history.opening.tables turns database)
+      → Contains (scripts_read_views history.opening.tables turns database) read_view
+      → IsMemberTold history (told_member history.scripts (member_of read_view))
   pub shown : (declared : List Create) (database : Database) → HoldsRowsOf declared database
       → AreTablesOf declared (map (shown_create database) declared)
   -- the text of what is told
@@ -155,7 +155,7 @@ module _ (laws : Laws) (book : Book Database) (bare : IsBare book) where
   first_holds : HoldsRowsOf declared (opening_database (told_opening book.opening))
   first_holds = laws.told_rows (told_opening book.opening) opened
 
-  grounded : AreGrounded declared (book_sights (told_book book) legal.turns)
+  grounded : AreGrounded declared (book_read_views (told_book book) legal.turns)
   grounded = all_grounded (told_book book) legal
 
   abbrev left : Runs
@@ -184,7 +184,7 @@ module _ (laws : Laws) (book : Book Database) (bare : IsBare book) where
     shown = laws.shown declared book.database
         (laws.rows declared legal.turns (opening_database (told_opening book.opening)) left tables_opened turns_run
         first_holds grounded legal.runs.run);
-    told = λ sight c. laws.sights (told_by book) legal.turns (opening_database (told_opening book.opening)) sight
+    told = λ read_view c. laws.read_views (told_by book) legal.turns (opening_database (told_opening book.opening)) read_view
         tables_opened turns_run (λ turn at. legal.runs.own_scripts turn at) first_holds grounded c;
   }
 

@@ -7,10 +7,10 @@ use Rattle.ent_tree.specs.Places.{unplaced_script}
 use Rattle.ent_semantics.specs.declared.book.Book.{Book}
 use Rattle.ent_semantics.specs.declared.book.Entry.{Entry}
 use Rattle.ent_semantics.specs.declared.book.JointAnswer.{JointAnswer}
-use Rattle.ent_semantics.specs.Book.{IsLegal, book_sights}
+use Rattle.ent_semantics.specs.Book.{IsLegal, book_read_views}
 use Rattle.ent_semantics.specs.Database.{Database}
 use Rattle.ent_semantics.specs.Joint.{member_of}
-use Rattle.ent_semantics.specs.Serial.{Sight, Turn}
+use Rattle.ent_semantics.specs.Serial.{ReadView, Turn}
 use Rattle.ent_history.specs.Told.{told_by, told_member, told_opening}
 use Rattle.ent_history_form.specs.Answers.{AreRuns}
 use Rattle.ent_history_form.specs.Scripts.{IsScript}
@@ -54,8 +54,8 @@ pub record IsReady (book : Book Database) : Type 0 where
   pub answered : AreTurnsAnswered legal.turns (map (λ (entry : Entry). entry.answers) book.journal)
   pub shown : AreTablesOf (told_opening book.opening).tables
       (map (shown_create book.database) (told_opening book.opening).tables)
-  pub told : (sight : Sight) → Contains (book_sights (told_book book) legal.turns) sight
-      → IsMemberTold (told_by book) (told_member book.scripts (member_of sight))
+  pub told : (read_view : ReadView) → Contains (book_read_views (told_book book) legal.turns) read_view
+      → IsMemberTold (told_by book) (told_member book.scripts (member_of read_view))
 
 module _ (book : Book Database) (ready : IsReady book) where
   is_script : (script : Script) → In script book.scripts → IsScript (told_by book) script

@@ -8,26 +8,26 @@ use Rattle.ent_semantics.specs.declared.answer.Failure.{Failure}
 use Rattle.ent_semantics.specs.Database.{Database, Environment, nothing_bound}
 use Rattle.ent_semantics.specs.Effect.{Effect}
 use Rattle.ent_semantics.specs.Entangled.{Valuation}
-use Rattle.ent_semantics.specs.Serial.{Deed, Run, Sight, Turn, deeds_of, numbered, script_run, script_sights}
-use Rattle.ent_semantics.specs.Serial.{scripts_sights, seen, seen_after, seen_from, sights}
+use Rattle.ent_semantics.specs.Serial.{Operation, Run, ReadView, Turn, operations_of, numbered, script_run, script_read_views}
+use Rattle.ent_semantics.specs.Serial.{scripts_read_views, seen, seen_after, seen_from, read_views}
 use Rattle.ent_semantics.specs.Statement.{statement_meaning}
 use Rattle.ent_lists.specs.Elements.{In, in_either}
-use Rattle.ent_right_report_laws.proofs.Kept.{deeds_are, statement_of}
+use Rattle.ent_right_report_laws.proofs.Kept.{operations_are, statement_of}
 
 -- ---- what a statement sees
 
-record SeenOne (tx place : ℕ) (st : Statement) (s : Sight) : Type 0 where
+record SeenOne (tx place : ℕ) (st : Statement) (s : ReadView) : Type 0 where
   own : s.tx ≡ tx
   here : s.place ≡ place
   is : st ≡ statements.Entangled s.entangled
 
-seen_one : (tx place : ℕ) (st : Statement) (valuation : Valuation) (d : Database) (v : Environment) (s : Sight)
+seen_one : (tx place : ℕ) (st : Statement) (valuation : Valuation) (d : Database) (v : Environment) (s : ReadView)
     → In s (seen tx place (record { statement = st; valuation = valuation }) d v) → SeenOne tx place st s
 seen_one tx place (statements.Entangled entangled) valuation d v s (inl same) =
     record {
-      own = ap (λ (x : Sight). x.tx) same;
-      here = ap (λ (x : Sight). x.place) same;
-      is = ap (λ (x : Sight). statements.Entangled x.entangled) (sym same);
+      own = ap (λ (x : ReadView). x.tx) same;
+      here = ap (λ (x : ReadView). x.place) same;
+      is = ap (λ (x : ReadView). statements.Entangled x.entangled) (sym same);
     }
 seen_one tx place (statements.Entangled entangled) valuation d v s (inr bad) = absurd bad
 seen_one tx place (statements.Select select) valuation d v s at = absurd at
@@ -36,24 +36,24 @@ seen_one tx place (statements.Delete delete) valuation d v s at = absurd at
 seen_one tx place (statements.Update update) valuation d v s at = absurd at
 seen_one tx place (statements.Set setting) valuation d v s at = absurd at
 
-in_after : (m : Result (Effect Database) Failure) (f : Database → Environment → List Sight) (s : Sight)
+in_after : (m : Result (Effect Database) Failure) (f : Database → Environment → List ReadView) (s : ReadView)
     → In s (seen_after m f) → (d : Database) × (v : Environment) × In s (f d v)
 in_after (Ok effect) f s at = (effect.database, effect.environment, at)
 in_after (Err failure) f s at = absurd at
 
-in_from : (o : Option Run) (f : Database → List Sight) (s : Sight) → In s (seen_from o f)
+in_from : (o : Option Run) (f : Database → List ReadView) (s : ReadView) → In s (seen_from o f)
     → (d : Database) × In s (f d)
 in_from (Some r) f s at = (r.database, at)
 in_from None f s at = absurd at
 
-record SeenAt (tx place : ℕ) (deeds : List Deed) (s : Sight) : Type 0 where
+record SeenAt (tx place : ℕ) (operations : List Operation) (s : ReadView) : Type 0 where
   own : s.tx ≡ tx
   before : ℕ
   here : s.place ≡ place + before
-  there : slice_get (map statement_of deeds) before ≡ Some (statements.Entangled s.entangled)
+  there : slice_get (map statement_of operations) before ≡ Some (statements.Entangled s.entangled)
 
--- a sight of a run: its transaction's turn, and its statement at its place
-pub record SeenIn (turns : List Turn) (s : Sight) : Type 0 where
+-- a read view of a run: its transaction's turn, and its statement at its place
+pub record SeenIn (turns : List Turn) (s : ReadView) : Type 0 where
   pub turn : Turn
   pub at : In turn turns
   pub own : s.tx ≡ turn.tx
@@ -66,15 +66,15 @@ later_place : (place k : ℕ) → suc place + k ≡ place + suc k
 later_place place k = omega arith
 
 module _ (declared : List Create) where
-  seen_at : (tx place : ℕ) (deeds : List Deed) (d : Database) (v : Environment) (s : Sight)
-      → In s (sights declared tx place deeds d v) → SeenAt tx place deeds s
+  seen_at : (tx place : ℕ) (operations : List Operation) (d : Database) (v : Environment) (s : ReadView)
+      → In s (read_views declared tx place operations d v) → SeenAt tx place operations s
   seen_at tx place [] d v s at = absurd at
-  seen_at tx place (deed ∷ more) d v s at =
-      let rest = sights declared tx (suc place) more in
-      let meaning = statement_meaning declared deed.statement deed.valuation d v in
-      elim (in_either (seen tx place deed d v) (seen_after meaning rest) s at) [
+  seen_at tx place (operation ∷ more) d v s at =
+      let rest = read_views declared tx (suc place) more in
+      let meaning = statement_meaning declared operation.statement operation.valuation d v in
+      elim (in_either (seen tx place operation d v) (seen_after meaning rest) s at) [
         | inl now ↦
-            let one = seen_one tx place deed.statement deed.valuation d v s now in
+            let one = seen_one tx place operation.statement operation.valuation d v s now in
             record {
               own = one.own;
               before = 0;
@@ -92,41 +92,41 @@ module _ (declared : List Create) where
             }
       ]
 
-  script_deeds : (turn : Turn) (d : Database) (s : Sight) → In s (script_sights declared turn d)
-      → (deeds : List Deed) × (deeds_of turn.script.statements turn.oracle ≡ Some deeds)
-      × In s (sights declared turn.tx 1 deeds d nothing_bound)
-  script_deeds turn d s at = by (deeds_of turn.script.statements turn.oracle) refl
+  script_operations : (turn : Turn) (d : Database) (s : ReadView) → In s (script_read_views declared turn d)
+      → (operations : List Operation) × (operations_of turn.script.statements turn.oracle ≡ Some operations)
+      × In s (read_views declared turn.tx 1 operations d nothing_bound)
+  script_operations turn d s at = by (operations_of turn.script.statements turn.oracle) refl
     where
-      by : (o : Option (List Deed)) → deeds_of turn.script.statements turn.oracle ≡ o
-          → (deeds : List Deed) × (deeds_of turn.script.statements turn.oracle ≡ Some deeds)
-          × In s (sights declared turn.tx 1 deeds d nothing_bound)
-      by (Some deeds) e =
-          let same : script_sights declared turn d ≡ sights declared turn.tx 1 deeds d nothing_bound = rw e refl in
-          (deeds, e, subst (In s) same at)
+      by : (o : Option (List Operation)) → operations_of turn.script.statements turn.oracle ≡ o
+          → (operations : List Operation) × (operations_of turn.script.statements turn.oracle ≡ Some operations)
+          × In s (read_views declared turn.tx 1 operations d nothing_bound)
+      by (Some operations) e =
+          let same : script_read_views declared turn d ≡ read_views declared turn.tx 1 operations d nothing_bound = rw e refl in
+          (operations, e, subst (In s) same at)
       by None e =
-          let same : script_sights declared turn d ≡ [] = rw e refl in
+          let same : script_read_views declared turn d ≡ [] = rw e refl in
           absurd (subst (In s) same at)
 
-  seen_in_script : (turn : Turn) (d : Database) (s : Sight) → In s (script_sights declared turn d)
+  seen_in_script : (turn : Turn) (d : Database) (s : ReadView) → In s (script_read_views declared turn d)
       → (s.tx ≡ turn.tx) × (numbered turn.script.statements s.place ≡ Some (statements.Entangled s.entangled))
   seen_in_script turn d s at =
-      let x = script_deeds turn d s at in
+      let x = script_operations turn d s at in
       let one = seen_at turn.tx 1 x.0 d nothing_bound s x.2 in
       let n : 1 + one.before ≡ suc one.before = omega arith in (
         one.own,
         ap (numbered turn.script.statements) (one.here ∙ n)
             ∙ ap (λ (sts : List Statement). slice_get sts one.before)
-            (sym (deeds_are turn.script.statements turn.oracle x.0 x.1))
+            (sym (operations_are turn.script.statements turn.oracle x.0 x.1))
             ∙ one.there,
       )
 
-  pub seen_in : (turns : List Turn) (d : Database) (s : Sight) → In s (scripts_sights declared turns d)
+  pub seen_in : (turns : List Turn) (d : Database) (s : ReadView) → In s (scripts_read_views declared turns d)
       → SeenIn turns s
   seen_in [] d s at = absurd at
   seen_in (turn ∷ more) d s at =
-      let rest = scripts_sights declared more in
+      let rest = scripts_read_views declared more in
       let ran = script_run declared turn.script turn.oracle d in
-      elim (in_either (script_sights declared turn d) (seen_from ran rest) s at) [
+      elim (in_either (script_read_views declared turn d) (seen_from ran rest) s at) [
         | inl now ↦
             let one = seen_in_script turn d s now in
             record { turn = turn; at = inl refl; own = one.0; there = one.1 }

@@ -19,7 +19,8 @@ ghost use Rattle.ent_rules.specs.Formed.{is_declared};
 ghost use Rattle.ent_unplaced_laws.specs.Unplaced.{unplaced_book};
 
 use ent_answer_laws::{
-    runs_answer_what_can_be_told, sights_can_be_told, tables_can_be_told, told_openings_hold_rows,
+    read_views_can_be_told, runs_answer_what_can_be_told, tables_can_be_told,
+    told_openings_hold_rows,
 };
 use ent_check_report::reports_that_are_right_tell_of_legal_books;
 use ent_form_laws::first_fault_is_first;
@@ -84,7 +85,7 @@ pub fn reports_of_legal_books_are_told()
     books_over_told_openings_are_legal();
     read_openings_can_be_told();
     runs_answer_what_can_be_told();
-    sights_can_be_told();
+    read_views_can_be_told();
     tables_can_be_told();
     told_openings_hold_rows();
     reports_tell_of_books();

@@ -11,16 +11,16 @@ use std::io::{BufRead, ErrorKind, Lines, Read, Write};
 
 /// How a stream moves bytes.
 #[derive(Clone, Copy)]
-pub(crate) struct Manner {
+pub(crate) struct Behaviour {
     /// The most bytes that a call moves.
     pub(crate) most: usize,
     /// Which call fails, counted from 1; 0 for none.
     pub(crate) fails_at: usize,
 }
 
-impl Manner {
+impl Behaviour {
     /// Moves as many bytes as there are, and doesn't fail.
-    pub(crate) const FREE: Manner = Manner {
+    pub(crate) const FREE: Behaviour = Behaviour {
         most: usize::MAX,
         fails_at: 0,
     };
@@ -30,7 +30,7 @@ impl Manner {
 #[derive(Drop)]
 pub(crate) struct Given<'a> {
     left: &'a [u8],
-    manner: Manner,
+    behaviour: Behaviour,
     calls: usize,
 }
 
@@ -45,10 +45,14 @@ impl Read for Given<'_> {
 impl BufRead for Given<'_> {
     fn fill_buf(&mut self) -> io::Result<&[u8]> {
         self.calls = self.calls.saturating_add(1);
-        if self.calls == self.manner.fails_at {
+        if self.calls == self.behaviour.fails_at {
             return Err(io::Error::from(ErrorKind::BrokenPipe));
         }
-        Ok(self.left.split_at(self.left.len().min(self.manner.most)).0)
+        Ok(
+            self.left
+                .split_at(self.left.len().min(self.behaviour.most))
+                .0,
+        )
     }
 
     fn consume(&mut self, count: usize) {
@@ -62,8 +66,8 @@ pub(crate) struct Machine<'a> {
     alloc: Global,
     words: &'a [&'a str],
     input: &'a [u8],
-    reads: Manner,
-    writes: Manner,
+    reads: Behaviour,
+    writes: Behaviour,
     written: Cell<usize>,
     output: RefCell<Vec<u8>>,
     errors: RefCell<Vec<u8>>,
@@ -75,8 +79,8 @@ impl<'a> Machine<'a> {
         alloc: Global,
         words: &'a [&'a str],
         input: &'a [u8],
-        reads: Manner,
-        writes: Manner,
+        reads: Behaviour,
+        writes: Behaviour,
     ) -> Self {
         Machine {
             alloc,
@@ -159,7 +163,7 @@ impl<'a> Input for Machine<'a> {
     fn reader(&self) -> Given<'a> {
         Given {
             left: self.input,
-            manner: self.reads,
+            behaviour: self.reads,
             calls: 0,
         }
     }

@@ -1,5 +1,5 @@
 //! How a run of the command ended.
-use crate::machine::{Machine, Manner};
+use crate::machine::{Behaviour, Machine};
 use anyhow::{Result, ensure};
 use ent_command::entangle;
 use std::alloc::Global;
@@ -22,8 +22,8 @@ impl Outcome {
         threads: &T,
         words: &str,
         input: &[u8],
-        reads: Manner,
-        writes: Manner,
+        reads: Behaviour,
+        writes: Behaviour,
     ) -> Result<Self> {
         let mut given = vec![in alloc; "entangle"]?;
         for word in words.split_whitespace() {

@@ -3,7 +3,7 @@
 //! A row is an input and a command line, and the report, the exit status and the line on standard error that they must
 //! give; `INDEX.tsv` lists the rows. Where more than a line is said, the line is `@`, and a file `NAME.err` has all of
 //! it. An example is an input and its report.
-use crate::machine::Manner;
+use crate::machine::Behaviour;
 use crate::outcome::Outcome;
 use anyhow::{Context, Result, bail, ensure};
 use std::alloc::Global;
@@ -47,7 +47,14 @@ fn run_over<T: Threads + Wait + Sync>(
     words: &str,
     input: &[u8],
 ) -> Result<Outcome> {
-    Outcome::of(alloc, threads, words, input, Manner::FREE, Manner::FREE)
+    Outcome::of(
+        alloc,
+        threads,
+        words,
+        input,
+        Behaviour::FREE,
+        Behaviour::FREE,
+    )
 }
 
 /// Checks the rows, and answers how many they are.

@@ -3,7 +3,7 @@
 //! `STREAMS.tsv` names a row's input, the most bytes that a read moves and which read fails (0 for none), the same of
 //! writes, and how the command must end: the exit status, the line on standard error, and how many bytes of the row's
 //! report were written.
-use crate::machine::Manner;
+use crate::machine::Behaviour;
 use crate::outcome::Outcome;
 use anyhow::{Context, Result, bail, ensure};
 use std::fs;
@@ -41,7 +41,10 @@ fn check<T: Threads + Wait + Sync>(rt: &HostRuntime, threads: &T, fields: &[&str
     };
     let input = fs::read(rt, format!(in alloc; "rows/{name}.in")?)?;
     let report = fs::read(rt, format!(in alloc; "rows/{name}.out")?)?;
-    let (reads, writes) = (manner(read, failing_read)?, manner(written, failing_write)?);
+    let (reads, writes) = (
+        behaviour(read, failing_read)?,
+        behaviour(written, failing_write)?,
+    );
     let ran = Outcome::of(alloc, threads, "run", input.as_slice(), reads, writes)?;
     let length = number(length)?;
     ensure!(
@@ -51,8 +54,8 @@ fn check<T: Threads + Wait + Sync>(rt: &HostRuntime, threads: &T, fields: &[&str
     ran.check_end(alloc, status, line)
 }
 
-fn manner(most: &str, fails_at: &str) -> Result<Manner> {
-    Ok(Manner {
+fn behaviour(most: &str, fails_at: &str) -> Result<Behaviour> {
+    Ok(Behaviour {
         most: number(most)?,
         fails_at: number(fails_at)?,
     })

@@ -16,7 +16,7 @@ use Rattle.ent_rules.specs.Journal.{unless}
 use Rattle.ent_rules.specs.Placed.{Placed, members_from, placed_from, placed, stands_at, member_at}
 use Rattle.ent_rules.specs.declared.finding.Rule.TheVariants as rule
 use Rattle.ent_rules.specs.declared.finding.Thing.TheVariants as thing
-use Rattle.ent_rules.proofs.Deeds.{AllStand, Stands}
+use Rattle.ent_rules.proofs.Operations.{AllStand, Stands}
 use Rattle.ent_rules.proofs.Found.{unless_holds, holds_unless}
 use Rattle.ent_lists.specs.Elements.{In, Pairs, to_map, any_none, any_some, any_in, and_both, both_and, turned, clash}
 use Rattle.ent_lists.specs.Elements.{not_so, same_number, number_itself, in_first, in_second, in_either, pairs_at}

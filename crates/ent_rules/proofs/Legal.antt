@@ -8,10 +8,10 @@ use Rattle.ent_semantics.specs.declared.answer.Fact.{Fact}
 use Rattle.ent_semantics.specs.declared.book.Entry.{Entry}
 use Rattle.ent_semantics.specs.declared.book.JointAnswer.{JointAnswer}
 use Rattle.ent_semantics.specs.declared.book.Member.{Member}
-use Rattle.ent_semantics.specs.Book.{IsLegal, RunGivesBook, AreApart, all_members, book_sights}
+use Rattle.ent_semantics.specs.Book.{IsLegal, RunGivesBook, AreApart, all_members, book_read_views}
 use Rattle.ent_semantics.specs.Database.{Name, Database, opening_database}
-use Rattle.ent_semantics.specs.Joint.{IsGood, IsGrounded, IsOffered, StandsIn, member_of, sight_heads, sight_posts}
-use Rattle.ent_semantics.specs.Serial.{Sight, Turn, numbered}
+use Rattle.ent_semantics.specs.Joint.{IsGood, IsGrounded, IsOffered, StandsIn, member_of, read_view_heads, read_view_posts}
+use Rattle.ent_semantics.specs.Serial.{ReadView, Turn, numbered}
 use Rattle.ent_semantics.specs.Uses.{changes}
 use Rattle.ent_history.specs.declared.history.History.{History}
 use Rattle.ent_history.specs.Told.{joint_answer_of, shown_database}
@@ -22,8 +22,8 @@ use Rattle.ent_rules.specs.Formed.{IsFormed, is_declared, is_shown}
 use Rattle.ent_rules.specs.Joint.{members_findings, left_out_findings, stands_among}
 use Rattle.ent_rules.specs.Journal.{journal_findings, unless}
 use Rattle.ent_rules.specs.Placed.{Placed, grounding_of, member_at, placed, stands_at}
-use Rattle.ent_rules.specs.Post.{are_met, is_offered, post_findings, sights_of}
-use Rattle.ent_rules.specs.Replay.{replay_findings, told_sights, told_end}
+use Rattle.ent_rules.specs.Post.{are_met, is_offered, post_findings, read_views_of}
+use Rattle.ent_rules.specs.Replay.{replay_findings, told_read_views, told_end}
 use Rattle.ent_rules.specs.Table.{end_findings, tables_findings}
 use Rattle.ent_rules.specs.declared.finding.Finding.{Finding}
 use Rattle.ent_rules.specs.declared.finding.Rule.TheVariants as rule
@@ -39,7 +39,7 @@ use Rattle.ent_rules.proofs.Journals.{book, journal_if_numbered}
 use Rattle.ent_lists.specs.Elements.{In, Pairs, of_all, of_map, of_filter, to_filter, in_flat, to_flat, any_some, clash}
 use Rattle.ent_lists.specs.Elements.{not_so, contains_in, in_contains, index_pairs, pairs_index, pairs_by}
 use Rattle.ent_rules.proofs.Lists.{every, none_first, none_second}
-use Rattle.ent_rules.proofs.Replays.{IsReady, IsReplayed, replayed, account_sight, sight_account, turn_told}
+use Rattle.ent_rules.proofs.Replays.{IsReady, IsReplayed, replayed, account_read_view, read_view_account, turn_told}
 use Rattle.ent_rules.proofs.Tables.{Keeps, kept_end, not_shown, shown_is, shown_left}
 
 -- ---- lists of turns
@@ -71,8 +71,8 @@ module _ (history : History) (formed : IsFormed history) (keeps : Keeps) (none :
   abbrev start : Database
   start = opening_database history.opening
 
-  abbrev seen : List Sight
-  seen = told_sights declared members order start
+  abbrev seen : List ReadView
+  seen = told_read_views declared members order start
 
   abbrev behind_replay : List Finding
   behind_replay = post_findings seen 1 joints ++ end_findings (told_end declared members order start) history.tables
@@ -156,9 +156,9 @@ module _ (history : History) (formed : IsFormed history) (keeps : Keeps) (none :
   run = replayed declared members order start ready none_replay
 
   -- the member that a statement is
-  answered_in : (s : Sight) → In s seen → In (member_of s) (all_members joints)
+  answered_in : (s : ReadView) → In s seen → In (member_of s) (all_members joints)
   answered_in s at =
-      let r = sight_account declared members order start s at in
+      let r = read_view_account declared members order start s at in
       let t = r.2 in
       let stands = stands_so declared joints r.0.tx 1 r.0.script.statements (ready r.0 r.1).stands t.before
       (statements.Entangled s.entangled) t.there refl in
@@ -174,10 +174,10 @@ module _ (history : History) (formed : IsFormed history) (keeps : Keeps) (none :
       subst (λ (m : Member). In m (all_members joints)) same a.0
 
   -- the statement that a member is
-  sight_of : (m : Member) → In m (all_members joints) → (s : Sight) × In s seen × (m ≡ member_of s)
-  sight_of m at =
+  read_view_of : (m : Member) → In m (all_members joints) → (s : ReadView) × In s seen × (m ≡ member_of s)
+  read_view_of m at =
       let is = each_statement all 1 [] joints none_members m at in
-      let s = account_sight declared members order start run.left run.ends is.account
+      let s = account_read_view declared members order start run.left run.ends is.account
       (in_order all is_numbered is.account is.at is.committed) is.before is.statement is.there is.entangled in
       let n : 1 + is.before ≡ suc is.before = omega arith in (
         s.0,
@@ -236,19 +236,19 @@ module _ (history : History) (formed : IsFormed history) (keeps : Keeps) (none :
             }));
       }
 
-  seen_is : book_sights (book history) turns ≡ seen
+  seen_is : book_read_views (book history) turns ≡ seen
   seen_is = run.same
 
-  to_seen : (s : Sight) → Contains (book_sights (book history) turns) s → In s seen
-  to_seen s c = subst (In s) seen_is (contains_in (book_sights (book history) turns) s c)
+  to_seen : (s : ReadView) → Contains (book_read_views (book history) turns) s → In s seen
+  to_seen s c = subst (In s) seen_is (contains_in (book_read_views (book history) turns) s c)
 
-  from_seen : (s : Sight) → In s seen → Contains (book_sights (book history) turns) s
+  from_seen : (s : ReadView) → In s seen → Contains (book_read_views (book history) turns) s
   from_seen s at =
-      in_contains (book_sights (book history) turns) s (subst (In s) (sym seen_is) at)
+      in_contains (book_read_views (book history) turns) s (subst (In s) (sym seen_is) at)
 
   of_run : (m : Member) → In m (all_members joints)
-      → (s : Sight) × Contains (book_sights (book history) turns) s × (m ≡ member_of s)
-  of_run m at = let r = sight_of m at in (r.0, from_seen r.0 r.1, r.2)
+      → (s : ReadView) × Contains (book_read_views (book history) turns) s × (m ≡ member_of s)
+  of_run m at = let r = read_view_of m at in (r.0, from_seen r.0 r.1, r.2)
 
   each_met : (number : ℕ) (js : List JointAnswer) → post_findings seen number js ≡ [] → (joint : JointAnswer)
       → In joint js → are_met seen joint.members ≡ true
@@ -263,26 +263,26 @@ module _ (history : History) (formed : IsFormed history) (keeps : Keeps) (none :
       (none_second (unless (are_met seen j.members) rule.Post (thing.Joint number)) (post_findings seen (suc number) js)
       none) joint at
 
-  met : (joint : JointAnswer) → In joint joints → (s : Sight)
-      → StandsIn (book_sights (book history) turns) joint.members s → (post : Fact) → Contains (sight_posts s) post
-      → IsOffered (book_sights (book history) turns) joint.members post
+  met : (joint : JointAnswer) → In joint joints → (s : ReadView)
+      → StandsIn (book_read_views (book history) turns) joint.members s → (post : Fact) → Contains (read_view_posts s) post
+      → IsOffered (book_read_views (book history) turns) joint.members post
   met joint jt s stands post c =
-      let own = sights_of seen joint.members in
+      let own = read_views_of seen joint.members in
       let st = to_seen s stands.0 in
       let mt = contains_in joint.members (member_of s) stands.1 in
-      let s_own = to_filter (λ (x : Sight). stands_among x.tx x.place joint.members) seen s st
+      let s_own = to_filter (λ (x : ReadView). stands_among x.tx x.place joint.members) seen s st
       (among s.tx s.place joint.members (member_of s) mt refl refl) in
-      let offered = every (is_offered (flat_map sight_heads own)) (flat_map sight_posts own)
+      let offered = every (is_offered (flat_map read_view_heads own)) (flat_map read_view_posts own)
       (each_met 1 joints none_post joint jt) post
-      (to_flat sight_posts own s post s_own (contains_in (sight_posts s) post c)) in
-      let head = any_some (same_fact post) (flat_map sight_heads own) offered in
-      let p = in_flat sight_heads own head.0 head.1 in
-      let f = of_filter (λ (x : Sight). stands_among x.tx x.place joint.members) seen p.0 p.1 in
+      (to_flat read_view_posts own s post s_own (contains_in (read_view_posts s) post c)) in
+      let head = any_some (same_fact post) (flat_map read_view_heads own) offered in
+      let p = in_flat read_view_heads own head.0 head.1 in
+      let f = of_filter (λ (x : ReadView). stands_among x.tx x.place joint.members) seen p.0 p.1 in
       partner p.0 head.0 f.0 f.1 p.2 (equal_facts post head.0 head.2)
     where
-      partner : (p : Sight) (head : Fact) → In p seen → stands_among p.tx p.place joint.members ≡ true
-          → In head (sight_heads p) → post ≡ head
-          → IsOffered (book_sights (book history) turns) joint.members post
+      partner : (p : ReadView) (head : Fact) → In p seen → stands_among p.tx p.place joint.members ≡ true
+          → In head (read_view_heads p) → post ≡ head
+          → IsOffered (book_read_views (book history) turns) joint.members post
       partner p head pt stands_there_is at same =
           let m = any_some (stands_at p.tx p.place) joint.members stands_there_is in
           let both = stands_there p.tx p.place m.0 m.2 in
@@ -293,11 +293,11 @@ module _ (history : History) (formed : IsFormed history) (keeps : Keeps) (none :
               from_seen p pt,
               in_contains joint.members (member_of p) (subst (λ (x : Member). In x joint.members) one m.1),
             ),
-            in_contains (sight_heads p) post (subst (λ (x : Fact). In x (sight_heads p)) (sym same) at),
+            in_contains (read_view_heads p) post (subst (λ (x : Fact). In x (read_view_heads p)) (sym same) at),
           )
 
   good : (joint : JointAnswer) → In joint joints
-      → IsGood declared (book_sights (book history) turns) joint.members
+      → IsGood declared (book_read_views (book history) turns) joint.members
   good joint jt =
       record {
         some = formed.some joint (in_contains joints joint jt);

@@ -5,7 +5,7 @@ pub mod Accounts
 pub mod Commits
 pub mod Bridge
 pub mod Journals
-pub mod Deeds
+pub mod Operations
 pub mod Replays
 pub mod Joints
 pub mod Tables

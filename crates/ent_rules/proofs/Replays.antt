@@ -10,14 +10,14 @@ use Rattle.ent_tree.specs.declared.script.Script.{Script}
 use Rattle.ent_tree.specs.declared.script.Statement.{Statement}
 use Rattle.ent_semantics.specs.Database.{Database, nothing_bound}
 use Rattle.ent_semantics.specs.Joint.{IsGrounded}
-use Rattle.ent_semantics.specs.Serial.{Deed, Run, Runs, Sight, Turn, deeds_of, ended, is_entangled, ran_first, run}
-use Rattle.ent_semantics.specs.Serial.{script_run, script_sights, scripts_run, scripts_sights, seen_from, sights}
+use Rattle.ent_semantics.specs.Serial.{Operation, Run, Runs, ReadView, Turn, operations_of, ended, is_entangled, ran_first, run}
+use Rattle.ent_semantics.specs.Serial.{script_run, script_read_views, scripts_run, scripts_read_views, seen_from, read_views}
 use Rattle.ent_rules.specs.Account.{Account}
 use Rattle.ent_rules.specs.Journal.{commits}
-use Rattle.ent_rules.specs.Placed.{Placed, told_deeds}
-use Rattle.ent_rules.specs.Replay.{deeds_findings, found_from, account_run, replay_findings, told_sights, told_end}
-use Rattle.ent_rules.proofs.Deeds.{AllStand, AreTold, SeenTold, IsClean, clean_deeds, deeds_are_told, deeds_told}
-use Rattle.ent_rules.proofs.Deeds.{mapped_some, oracle_of, right_deeds, sight_told, then_some, told_sight}
+use Rattle.ent_rules.specs.Placed.{Placed, told_operations}
+use Rattle.ent_rules.specs.Replay.{operations_findings, found_from, account_run, replay_findings, told_read_views, told_end}
+use Rattle.ent_rules.proofs.Operations.{AllStand, AreTold, SeenTold, IsClean, clean_operations, operations_are_told, operations_told}
+use Rattle.ent_rules.proofs.Operations.{mapped_some, oracle_of, right_operations, read_view_told, then_some, told_read_view}
 use Rattle.ent_lists.specs.Elements.{In, all_joined, in_first, in_second, in_either}
 use Rattle.ent_rules.proofs.Lists.{both_none, none_first, none_second}
 
@@ -29,7 +29,7 @@ ended_some : (end : End) (o : Option Run) (r : Run) → ended end o ≡ Some r �
 ended_some Commit o r e = (refl, e)
 ended_some Rollback o r e = cc (e)
 
-in_from : (o : Option Run) (f : Database → List Sight) (s : Sight) → In s (seen_from o f)
+in_from : (o : Option Run) (f : Database → List ReadView) (s : ReadView) → In s (seen_from o f)
     → (r : Run) × In s (f r.database)
 in_from (Some r) f s at = (r, at)
 in_from None f s at = absurd at
@@ -43,21 +43,21 @@ same_tail x y xs ys e = cc
 module _ (declared : List Create) (members : List Placed) where
   abbrev pub turn_told : Account → Turn
   turn_told a =
-      record { tx = a.tx; script = a.script; oracle = oracle_of (told_deeds members a.tx 1 a.script.statements) }
+      record { tx = a.tx; script = a.script; oracle = oracle_of (told_operations members a.tx 1 a.script.statements) }
 
   told_script : (a : Account) (d : Database) → commits a.script.end ≡ true
-      → script_run declared a.script (oracle_of (told_deeds members a.tx 1 a.script.statements)) d
+      → script_run declared a.script (oracle_of (told_operations members a.tx 1 a.script.statements)) d
       ≡ account_run declared members a d
   told_script a d ends =
-      ap (λ end. ended end (option_and_then (λ deeds. run declared deeds d nothing_bound)
-      (deeds_of a.script.statements (oracle_of (told_deeds members a.tx 1 a.script.statements)))))
+      ap (λ end. ended end (option_and_then (λ operations. run declared operations d nothing_bound)
+      (operations_of a.script.statements (oracle_of (told_operations members a.tx 1 a.script.statements)))))
       (commits_is a.script.end ends)
-      ∙ ap (option_and_then (λ deeds. run declared deeds d nothing_bound))
-      (deeds_told declared members a.tx 1 a.script.statements)
+      ∙ ap (option_and_then (λ operations. run declared operations d nothing_bound))
+      (operations_told declared members a.tx 1 a.script.statements)
 
-  told_script_sights : (a : Account) (d : Database) → script_sights declared (turn_told a) d
-      ≡ sights declared a.tx 1 (told_deeds members a.tx 1 a.script.statements) d nothing_bound
-  told_script_sights a d = rw (deeds_told declared members a.tx 1 a.script.statements) refl
+  told_script_read_views : (a : Account) (d : Database) → script_read_views declared (turn_told a) d
+      ≡ read_views declared a.tx 1 (told_operations members a.tx 1 a.script.statements) d nothing_bound
+  told_script_read_views a d = rw (operations_told declared members a.tx 1 a.script.statements) refl
 
   -- ---- where nothing is found
 
@@ -71,20 +71,20 @@ module _ (declared : List Create) (members : List Placed) where
     pub ends : told_end declared members xs d ≡ Some left
     pub gives : scripts_run declared (map turn_told xs) d
         ≡ Some (record { database = left; answers = map (λ (a : Account). a.answers) xs })
-    pub grounded : AllByRecursion (IsGrounded declared) (told_sights declared members xs d)
-    pub same : scripts_sights declared (map turn_told xs) d ≡ told_sights declared members xs d
+    pub grounded : AllByRecursion (IsGrounded declared) (told_read_views declared members xs d)
+    pub same : scripts_read_views declared (map turn_told xs) d ≡ told_read_views declared members xs d
 
   pub replayed : (xs : List Account) (d : Database) → ((a : Account) → In a xs → IsReady a)
       → replay_findings declared members xs d ≡ [] → IsReplayed xs d
   replayed [] d ready none = record { left = d; ends = refl; gives = refl; grounded = tt; same = refl }
   replayed (a ∷ xs) d ready none =
       let own = ready a (inl refl) in
-      let first = deeds_findings declared members a.tx 1 (told_deeds members a.tx 1 a.script.statements) a.answers d
+      let first = operations_findings declared members a.tx 1 (told_operations members a.tx 1 a.script.statements) a.answers d
       nothing_bound in
       let rest = found_from (account_run declared members a d) (replay_findings declared members xs) in
-      let clean : IsClean declared members a.tx 1 (told_deeds members a.tx 1 a.script.statements) a.answers d
+      let clean : IsClean declared members a.tx 1 (told_operations members a.tx 1 a.script.statements) a.answers d
       nothing_bound =
-      clean_deeds declared members a.tx 1 a.script.statements a.answers d nothing_bound (none_first first rest none)
+      clean_operations declared members a.tx 1 a.script.statements a.answers d nothing_bound (none_first first rest none)
       own.counts own.stands in
       let more = replayed xs clean.left.database (λ b bt. ready b (inr bt))
       (ap (λ o. found_from o (replay_findings declared members xs)) (sym clean.runs) ∙ none_second first rest none) in
@@ -100,59 +100,59 @@ module _ (declared : List Create) (members : List Placed) where
               answers = clean.same i ∷ map (λ (a : Account). a.answers) xs;
             }));
         grounded = all_joined (IsGrounded declared)
-            (sights declared a.tx 1 (told_deeds members a.tx 1 a.script.statements) d nothing_bound)
-            (seen_from (account_run declared members a d) (told_sights declared members xs)) clean.grounded
-            (subst (λ o. AllByRecursion (IsGrounded declared) (seen_from o (told_sights declared members xs)))
+            (read_views declared a.tx 1 (told_operations members a.tx 1 a.script.statements) d nothing_bound)
+            (seen_from (account_run declared members a d) (told_read_views declared members xs)) clean.grounded
+            (subst (λ o. AllByRecursion (IsGrounded declared) (seen_from o (told_read_views declared members xs)))
             (sym clean.runs) more.grounded);
         same =
-            let later = ap (λ o. seen_from o (scripts_sights declared (map turn_told xs))) script
+            let later = ap (λ o. seen_from o (scripts_read_views declared (map turn_told xs))) script
             ∙ more.same
-            ∙ ap (λ o. seen_from o (told_sights declared members xs)) (sym clean.runs) in
-            λ i. told_script_sights a d i ++ later i;
+            ∙ ap (λ o. seen_from o (told_read_views declared members xs)) (sym clean.runs) in
+            λ i. told_script_read_views a d i ++ later i;
       }
 
   -- ---- what is seen
 
-  pub sight_account : (xs : List Account) (d : Database) (s : Sight) → In s (told_sights declared members xs d)
+  pub read_view_account : (xs : List Account) (d : Database) (s : ReadView) → In s (told_read_views declared members xs d)
       → (a : Account) × In a xs × SeenTold declared members a.tx 1 a.script.statements s
-  sight_account [] d s at = absurd at
-  sight_account (a ∷ xs) d s at =
-      elim (in_either (sights declared a.tx 1 (told_deeds members a.tx 1 a.script.statements) d nothing_bound)
-      (seen_from (account_run declared members a d) (told_sights declared members xs)) s at) [
-        | inl here ↦ (a, inl refl, sight_told declared members a.tx 1 a.script.statements d nothing_bound s here)
+  read_view_account [] d s at = absurd at
+  read_view_account (a ∷ xs) d s at =
+      elim (in_either (read_views declared a.tx 1 (told_operations members a.tx 1 a.script.statements) d nothing_bound)
+      (seen_from (account_run declared members a d) (told_read_views declared members xs)) s at) [
+        | inl here ↦ (a, inl refl, read_view_told declared members a.tx 1 a.script.statements d nothing_bound s here)
         | inr there ↦
-            let next = in_from (account_run declared members a d) (told_sights declared members xs) s there in
-            let r = sight_account xs next.0.database s next.1 in
+            let next = in_from (account_run declared members a d) (told_read_views declared members xs) s there in
+            let r = read_view_account xs next.0.database s next.1 in
             (r.0, inr r.1, r.2)
       ]
 
   -- an account's statement sees something
   abbrev pub SeesOf : List Account → Database → Account → ℕ → Type 0
-  SeesOf xs d a k = (s : Sight) × In s (told_sights declared members xs d) × (s.tx ≡ a.tx) × (s.place ≡ 1 + k)
+  SeesOf xs d a k = (s : ReadView) × In s (told_read_views declared members xs d) × (s.tx ≡ a.tx) × (s.place ≡ 1 + k)
 
-  pub account_sight : (xs : List Account) (d left : Database) → told_end declared members xs d ≡ Some left
+  pub account_read_view : (xs : List Account) (d left : Database) → told_end declared members xs d ≡ Some left
       → (a : Account) → In a xs → (k : ℕ) (st : Statement) → slice_get a.script.statements k ≡ Some st
       → is_entangled st ≡ true → SeesOf xs d a k
-  account_sight [] d left ends a at k st is entangled = absurd at
-  account_sight (x ∷ xs) d left ends a (inl same) k st is entangled =
+  account_read_view [] d left ends a at k st is entangled = absurd at
+  account_read_view (x ∷ xs) d left ends a (inl same) k st is entangled =
       let first = then_some (λ (r : Run). told_end declared members xs r.database) (account_run declared members x d)
       left ends in
-      let s = told_sight declared members x.tx 1 x.script.statements d nothing_bound first.0 first.1 k st
+      let s = told_read_view declared members x.tx 1 x.script.statements d nothing_bound first.0 first.1 k st
       (ap (λ (b : Account). slice_get b.script.statements k) (sym same) ∙ is) entangled in (
         s.0,
-        in_first (sights declared x.tx 1 (told_deeds members x.tx 1 x.script.statements) d nothing_bound)
-            (seen_from (account_run declared members x d) (told_sights declared members xs)) s.0 s.1,
+        in_first (read_views declared x.tx 1 (told_operations members x.tx 1 x.script.statements) d nothing_bound)
+            (seen_from (account_run declared members x d) (told_read_views declared members xs)) s.0 s.1,
         s.2 ∙ ap (λ (b : Account). b.tx) (sym same),
         s.3,
       )
-  account_sight (x ∷ xs) d left ends a (inr at) k st is entangled =
+  account_read_view (x ∷ xs) d left ends a (inr at) k st is entangled =
       let first = then_some (λ (r : Run). told_end declared members xs r.database) (account_run declared members x d)
       left ends in
-      let s = account_sight xs first.0.database left first.2 a at k st is entangled in (
+      let s = account_read_view xs first.0.database left first.2 a at k st is entangled in (
         s.0,
-        in_second (sights declared x.tx 1 (told_deeds members x.tx 1 x.script.statements) d nothing_bound)
-            (seen_from (account_run declared members x d) (told_sights declared members xs)) s.0
-            (subst (λ o. In s.0 (seen_from o (told_sights declared members xs))) (sym first.1) s.1),
+        in_second (read_views declared x.tx 1 (told_operations members x.tx 1 x.script.statements) d nothing_bound)
+            (seen_from (account_run declared members x d) (told_read_views declared members xs)) s.0
+            (subst (λ o. In s.0 (seen_from o (told_read_views declared members xs))) (sym first.1) s.1),
         s.2,
         s.3,
       )
@@ -163,28 +163,28 @@ module _ (declared : List Create) (members : List Placed) where
   OwnScripts turns xs = (t : Turn) (a : Account) → In t turns → In a xs → t.tx ≡ a.tx → t.script ≡ a.script
 
   pub record IsTold (turns : List Turn) (xs : List Account) (d : Database) (all : Runs) : Type 0 where
-    pub same : scripts_sights declared turns d ≡ told_sights declared members xs d
+    pub same : scripts_read_views declared turns d ≡ told_read_views declared members xs d
     pub ends : told_end declared members xs d ≡ Some all.database
     pub commit : AllByRecursion (λ (a : Account). commits a.script.end ≡ true) xs
     pub none : all.answers ≡ map (λ (a : Account). a.answers) xs
-        → AllByRecursion (IsGrounded declared) (told_sights declared members xs d)
+        → AllByRecursion (IsGrounded declared) (told_read_views declared members xs d)
         → replay_findings declared members xs d ≡ []
 
-  all_parts : (P : Sight → Type 0) (xs ys : List Sight) → AllByRecursion P (xs ++ ys)
+  all_parts : (P : ReadView → Type 0) (xs ys : List ReadView) → AllByRecursion P (xs ++ ys)
       → AllByRecursion P xs × AllByRecursion P ys
   all_parts P [] ys all = (tt, all)
   all_parts P (x ∷ xs) ys all = let r = all_parts P xs ys all.1 in ((all.0, r.0), r.1)
 
-  turn_sights : (t : Turn) (d : Database) (deeds : List Deed) → deeds_of t.script.statements t.oracle ≡ Some deeds
-      → script_sights declared t d ≡ sights declared t.tx 1 deeds d nothing_bound
-  turn_sights t d deeds e = rw e refl
+  turn_read_views : (t : Turn) (d : Database) (operations : List Operation) → operations_of t.script.statements t.oracle ≡ Some operations
+      → script_read_views declared t d ≡ read_views declared t.tx 1 operations d nothing_bound
+  turn_read_views t d operations e = rw e refl
 
   one_runs : (one all : Runs) → Some one ≡ Some all → one ≡ all
   one_runs one all e = cc
 
   pub told : (turns : List Turn) (xs : List Account) (d : Database) (all : Runs)
       → map (λ (t : Turn). t.tx) turns ≡ map (λ (a : Account). a.tx) xs → OwnScripts turns xs
-      → scripts_run declared turns d ≡ Some all → AreTold declared members (scripts_sights declared turns d)
+      → scripts_run declared turns d ≡ Some all → AreTold declared members (scripts_read_views declared turns d)
       → IsTold turns xs d all
   told [] [] d all txs own runs are =
       let e = one_runs (record { database = d; answers = [] }) all runs in
@@ -199,30 +199,30 @@ module _ (declared : List Create) (members : List Placed) where
       (script_run declared t.script t.oracle d) all runs in
       let second = mapped_some (ran_first first.0.answers) (scripts_run declared ts first.0.database) all first.2 in
       let ended = ended_some t.script.end
-      (option_and_then (λ deeds. run declared deeds d nothing_bound) (deeds_of t.script.statements t.oracle)) first.0
+      (option_and_then (λ operations. run declared operations d nothing_bound) (operations_of t.script.statements t.oracle)) first.0
       first.1 in
-      let third = then_some (λ deeds. run declared deeds d nothing_bound) (deeds_of t.script.statements t.oracle)
+      let third = then_some (λ operations. run declared operations d nothing_bound) (operations_of t.script.statements t.oracle)
       first.0 ended.1 in
-      let here = turn_sights t d third.0 third.1 in
-      let now : AreTold declared members (sights declared t.tx 1 third.0 d nothing_bound) =
-      λ s at. are s (in_first (script_sights declared t d)
-      (seen_from (script_run declared t.script t.oracle d) (scripts_sights declared ts)) s
+      let here = turn_read_views t d third.0 third.1 in
+      let now : AreTold declared members (read_views declared t.tx 1 third.0 d nothing_bound) =
+      λ s at. are s (in_first (script_read_views declared t d)
+      (seen_from (script_run declared t.script t.oracle d) (scripts_read_views declared ts)) s
       (subst (In s) (sym here) at)) in
-      let deeds = deeds_are_told declared members t.tx 1 t.script.statements t.oracle third.0 d nothing_bound first.0
+      let operations = operations_are_told declared members t.tx 1 t.script.statements t.oracle third.0 d nothing_bound first.0
       third.1 third.2 now
-      ∙ (λ i. told_deeds members (tx i) 1 (script i).statements) in
+      ∙ (λ i. told_operations members (tx i) 1 (script i).statements) in
       let alone : account_run declared members a d ≡ Some first.0 =
-      ap (λ ds. run declared ds d nothing_bound) (sym deeds) ∙ third.2 in
+      ap (λ ds. run declared ds d nothing_bound) (sym operations) ∙ third.2 in
       let more = told ts xs first.0.database second.0 later_txs (λ u b ut bt. own u b (inr ut) (inr bt)) second.1
-      (λ s at. are s (in_second (script_sights declared t d)
-      (seen_from (script_run declared t.script t.oracle d) (scripts_sights declared ts)) s
-      (subst (λ o. In s (seen_from o (scripts_sights declared ts))) (sym first.1) at))) in
+      (λ s at. are s (in_second (script_read_views declared t d)
+      (seen_from (script_run declared t.script t.oracle d) (scripts_read_views declared ts)) s
+      (subst (λ o. In s (seen_from o (scripts_read_views declared ts))) (sym first.1) at))) in
       record {
         same =
-            let now = here ∙ (λ i. sights declared (tx i) 1 (deeds i) d nothing_bound) in
-            let later = ap (λ o. seen_from o (scripts_sights declared ts)) first.1
+            let now = here ∙ (λ i. read_views declared (tx i) 1 (operations i) d nothing_bound) in
+            let later = ap (λ o. seen_from o (scripts_read_views declared ts)) first.1
             ∙ more.same
-            ∙ ap (λ o. seen_from o (told_sights declared members xs)) (sym alone) in
+            ∙ ap (λ o. seen_from o (told_read_views declared members xs)) (sym alone) in
             λ i. now i ++ later i;
         ends = ap (option_and_then (λ (r : Run). told_end declared members xs r.database)) alone
             ∙ more.ends
@@ -231,18 +231,18 @@ module _ (declared : List Create) (members : List Placed) where
         none = λ answers grounded.
             let both = ap (λ (x : Runs). x.answers) (sym second.2) ∙ answers in
             let parts = all_parts (IsGrounded declared)
-            (sights declared a.tx 1 (told_deeds members a.tx 1 a.script.statements) d nothing_bound)
-            (seen_from (account_run declared members a d) (told_sights declared members xs)) grounded in
+            (read_views declared a.tx 1 (told_operations members a.tx 1 a.script.statements) d nothing_bound)
+            (seen_from (account_run declared members a d) (told_read_views declared members xs)) grounded in
             both_none
-            (deeds_findings declared members a.tx 1 (told_deeds members a.tx 1 a.script.statements) a.answers d
+            (operations_findings declared members a.tx 1 (told_operations members a.tx 1 a.script.statements) a.answers d
             nothing_bound)
             (found_from (account_run declared members a d) (replay_findings declared members xs))
-            (right_deeds declared members a.tx 1 (told_deeds members a.tx 1 a.script.statements) a.answers d
+            (right_operations declared members a.tx 1 (told_operations members a.tx 1 a.script.statements) a.answers d
             nothing_bound first.0 alone
             (same_head first.0.answers a.answers second.0.answers (map (λ (a : Account). a.answers) xs) both) parts.0)
             (ap (λ o. found_from o (replay_findings declared members xs)) alone
             ∙ more.none
             (same_tail first.0.answers a.answers second.0.answers (map (λ (a : Account). a.answers) xs) both)
-            (subst (λ o. AllByRecursion (IsGrounded declared) (seen_from o (told_sights declared members xs))) alone
+            (subst (λ o. AllByRecursion (IsGrounded declared) (seen_from o (told_read_views declared members xs))) alone
             parts.1));
       }

@@ -9,10 +9,10 @@ use Rattle.ent_semantics.specs.declared.answer.Fact.{Fact}
 use Rattle.ent_semantics.specs.declared.book.Entry.{Entry}
 use Rattle.ent_semantics.specs.declared.book.JointAnswer.{JointAnswer}
 use Rattle.ent_semantics.specs.declared.book.Member.{Member}
-use Rattle.ent_semantics.specs.Book.{IsLegal, AreApart, all_members, book_sights}
+use Rattle.ent_semantics.specs.Book.{IsLegal, AreApart, all_members, book_read_views}
 use Rattle.ent_semantics.specs.Database.{Database, opening_database}
-use Rattle.ent_semantics.specs.Joint.{IsGrounded, IsOffered, member_of, sight_heads, sight_posts}
-use Rattle.ent_semantics.specs.Serial.{Runs, Sight, numbered}
+use Rattle.ent_semantics.specs.Joint.{IsGrounded, IsOffered, member_of, read_view_heads, read_view_posts}
+use Rattle.ent_semantics.specs.Serial.{Runs, ReadView, numbered}
 use Rattle.ent_history.specs.declared.history.History.{History}
 use Rattle.ent_history.specs.declared.history.Shown.{Shown}
 use Rattle.ent_history.specs.Told.{joint_answer_of, shown_database}
@@ -23,8 +23,8 @@ use Rattle.ent_rules.specs.Formed.{IsFormed}
 use Rattle.ent_rules.specs.Joint.{left_out_findings, members_findings, stands_among}
 use Rattle.ent_rules.specs.Journal.{commits, journal_findings, unless}
 use Rattle.ent_rules.specs.Placed.{Placed, grounding_of, placed, stands_at}
-use Rattle.ent_rules.specs.Post.{are_met, is_offered, post_findings, sights_of}
-use Rattle.ent_rules.specs.Replay.{replay_findings, told_sights, told_end}
+use Rattle.ent_rules.specs.Post.{are_met, is_offered, post_findings, read_views_of}
+use Rattle.ent_rules.specs.Replay.{replay_findings, told_read_views, told_end}
 use Rattle.ent_rules.specs.Table.{end_findings}
 use Rattle.ent_rules.specs.declared.finding.Rule.TheVariants as rule
 use Rattle.ent_rules.specs.declared.finding.Thing.TheVariants as thing
@@ -32,7 +32,7 @@ use Rattle.ent_rules.proofs.Accounts.{own_script}
 use Rattle.ent_rules.proofs.Alike.{fact_itself}
 use Rattle.ent_rules.proofs.Bridge.{entry_of}
 use Rattle.ent_rules.proofs.Commits.{IsNumbered, in_order, in_order_committed, none_if_numbered}
-use Rattle.ent_rules.proofs.Deeds.{AreTold}
+use Rattle.ent_rules.proofs.Operations.{AreTold}
 use Rattle.ent_rules.proofs.Found.{holds_unless}
 use Rattle.ent_rules.proofs.Joints.{IsStatement, all_so, among, at_member, none_left, none_of_right, one_member}
 use Rattle.ent_rules.proofs.Joints.{stands_there}
@@ -41,7 +41,7 @@ use Rattle.ent_rules.proofs.Legal.{in_members, map_map}
 use Rattle.ent_lists.specs.Elements.{In, Pairs, of_all, to_all, of_filter, to_filter, in_flat, to_flat, any_some}
 use Rattle.ent_lists.specs.Elements.{any_in, contains_in, in_contains, index_pairs}
 use Rattle.ent_rules.proofs.Lists.{of_every, both_none}
-use Rattle.ent_rules.proofs.Replays.{IsTold, OwnScripts, account_sight, sight_account, told}
+use Rattle.ent_rules.proofs.Replays.{IsTold, OwnScripts, account_read_view, read_view_account, told}
 use Rattle.ent_rules.proofs.Tables.{none_shown, shown_own}
 
 one_script : (x y : Script) → Some x ≡ Some y → x ≡ y
@@ -66,11 +66,11 @@ module _ (history : History) (formed : IsFormed history) (legal : IsLegal (book 
   abbrev start : Database
   start = opening_database history.opening
 
-  abbrev seen : List Sight
-  seen = told_sights declared members order start
+  abbrev seen : List ReadView
+  seen = told_read_views declared members order start
 
-  abbrev run_sights : List Sight
-  run_sights = book_sights (book history) legal.turns
+  abbrev run_read_views : List ReadView
+  run_read_views = book_read_views (book history) legal.turns
 
   abbrev runs : Runs
   runs =
@@ -82,11 +82,11 @@ module _ (history : History) (formed : IsFormed history) (legal : IsLegal (book 
   once : Pairs AreApart (all_members joints)
   once = index_pairs AreApart (all_members joints) legal.once
 
-  answered_in : (s : Sight) → In s run_sights → In (member_of s) (all_members joints)
-  answered_in s at = contains_in (all_members joints) (member_of s) (legal.answered s (in_contains run_sights s at))
+  answered_in : (s : ReadView) → In s run_read_views → In (member_of s) (all_members joints)
+  answered_in s at = contains_in (all_members joints) (member_of s) (legal.answered s (in_contains run_read_views s at))
 
   -- the oracle gives what is told
-  are_told : AreTold declared members run_sights
+  are_told : AreTold declared members run_read_views
   are_told s at =
       let r = at_member joints once (member_of s) (answered_in s at) in
       sym (ap grounding_of r.1 ∙ ap (λ (m : Member). m.grounding) r.2)
@@ -104,11 +104,11 @@ module _ (history : History) (formed : IsFormed history) (legal : IsLegal (book 
       (legal.runs.in_order ∙ map_map entry_of (λ (e : Entry). e.tx) order)
       own_scripts legal.runs.run are_told
 
-  to_run : (s : Sight) → In s seen → In s run_sights
+  to_run : (s : ReadView) → In s seen → In s run_read_views
   to_run s at = subst (In s) (sym run.same) at
 
-  from_run : (s : Sight) → Contains run_sights s → In s seen
-  from_run s c = subst (In s) run.same (contains_in run_sights s c)
+  from_run : (s : ReadView) → Contains run_read_views s → In s seen
+  from_run s c = subst (In s) run.same (contains_in run_read_views s c)
 
   is_numbered : IsNumbered all
   is_numbered =
@@ -121,7 +121,7 @@ module _ (history : History) (formed : IsFormed history) (legal : IsLegal (book 
   is_statement m at =
       let w = legal.no_widow m (in_contains (all_members joints) m at) in
       let s = w.0 in
-      let r = sight_account declared members order start s (from_run s w.1) in
+      let r = read_view_account declared members order start s (from_run s w.1) in
       let t = r.2 in
       let own = in_order_committed all r.0 r.1 in
       let n : 1 + t.before ≡ suc t.before = omega arith in
@@ -144,7 +144,7 @@ module _ (history : History) (formed : IsFormed history) (legal : IsLegal (book 
   none_out =
       none_left declared joints all (λ a at committed.
       all_so declared joints a.tx 1 a.script.statements (λ k st there is.
-      let s = account_sight declared members order start runs.database run.ends a
+      let s = account_read_view declared members order start runs.database run.ends a
       (in_order all is_numbered a at committed) k st there is in
       among a.tx (1 + k) (all_members joints) (member_of s.0) (answered_in s.0 (to_run s.0 s.1)) s.2 s.3))
 
@@ -153,11 +153,11 @@ module _ (history : History) (formed : IsFormed history) (legal : IsLegal (book 
   joint_of : (m : Member) → In m (all_members joints) → (joint : JointAnswer) × In joint joints × In m joint.members
   joint_of m at = in_flat (λ (j : JointAnswer). j.members) joints m at
 
-  grounded : (s : Sight) → In s seen → IsGrounded declared s
+  grounded : (s : ReadView) → In s seen → IsGrounded declared s
   grounded s at =
       let j = joint_of (member_of s) (answered_in s (to_run s at)) in
       (legal.good j.0 (in_contains joints j.0 j.1)).grounded s
-      (in_contains run_sights s (to_run s at), in_contains j.0.members (member_of s) j.2)
+      (in_contains run_read_views s (to_run s at), in_contains j.0.members (member_of s) j.2)
 
   none_replay : replay_findings declared members order start ≡ []
   none_replay =
@@ -167,29 +167,29 @@ module _ (history : History) (formed : IsFormed history) (legal : IsLegal (book 
 
   met : (joint : JointAnswer) → In joint joints → are_met seen joint.members ≡ true
   met joint jt =
-      of_every (is_offered (flat_map sight_heads (sights_of seen joint.members)))
-      (flat_map sight_posts (sights_of seen joint.members)) (λ post at.
-      let p = in_flat sight_posts (sights_of seen joint.members) post at in
-      let f = of_filter (λ (x : Sight). stands_among x.tx x.place joint.members) seen p.0 p.1 in
+      of_every (is_offered (flat_map read_view_heads (read_views_of seen joint.members)))
+      (flat_map read_view_posts (read_views_of seen joint.members)) (λ post at.
+      let p = in_flat read_view_posts (read_views_of seen joint.members) post at in
+      let f = of_filter (λ (x : ReadView). stands_among x.tx x.place joint.members) seen p.0 p.1 in
       let m = any_some (stands_at p.0.tx p.0.place) joint.members f.1 in
       let both = stands_there p.0.tx p.0.place m.0 m.2 in
       let one = one_member joints once m.0 (member_of p.0) (in_members joints joint m.0 jt m.1)
       (answered_in p.0 (to_run p.0 f.0)) both.0 both.1 in
       offered post ((legal.good joint (in_contains joints joint jt)).met p.0 (
-        in_contains run_sights p.0 (to_run p.0 f.0),
+        in_contains run_read_views p.0 (to_run p.0 f.0),
         in_contains joint.members (member_of p.0) (subst (λ (x : Member). In x joint.members) one m.1),
       )
-      post (in_contains (sight_posts p.0) post p.2)))
+      post (in_contains (read_view_posts p.0) post p.2)))
     where
-      offered : (post : Fact) → IsOffered run_sights joint.members post
-          → is_offered (flat_map sight_heads (sights_of seen joint.members)) post ≡ true
+      offered : (post : Fact) → IsOffered run_read_views joint.members post
+          → is_offered (flat_map read_view_heads (read_views_of seen joint.members)) post ≡ true
       offered post o =
           let s = o.0 in
           let st = from_run s o.1.0 in
-          let own = to_filter (λ (x : Sight). stands_among x.tx x.place joint.members) seen s st
+          let own = to_filter (λ (x : ReadView). stands_among x.tx x.place joint.members) seen s st
           (among s.tx s.place joint.members (member_of s) (contains_in joint.members (member_of s) o.1.1) refl refl) in
-          any_in (same_fact post) (flat_map sight_heads (sights_of seen joint.members)) post
-          (to_flat sight_heads (sights_of seen joint.members) s post own (contains_in (sight_heads s) post o.2))
+          any_in (same_fact post) (flat_map read_view_heads (read_views_of seen joint.members)) post
+          (to_flat read_view_heads (read_views_of seen joint.members) s post own (contains_in (read_view_heads s) post o.2))
           (fact_itself post)
 
   none_met : (number : ℕ) (js : List JointAnswer)

@@ -12,7 +12,7 @@ use Rattle.ent_semantics.specs.Database.{Name, Database, Environment, nothing_bo
 use Rattle.ent_semantics.specs.Effect.{Effect}
 use Rattle.ent_semantics.specs.Entangled.{Valuation}
 use Rattle.ent_semantics.specs.Names.{equal_names, name_itself}
-use Rattle.ent_semantics.specs.Serial.{Deed, Run, run}
+use Rattle.ent_semantics.specs.Serial.{Operation, Run, run}
 use Rattle.ent_semantics.specs.Statement.{statement_meaning}
 use Rattle.ent_semantics.specs.Uses.{changes, KeepsOthers}
 use Rattle.ent_history.specs.declared.history.Shown.{Shown}
@@ -21,13 +21,13 @@ use Rattle.ent_rules.specs.Account.{Account}
 use Rattle.ent_rules.specs.Alike.{same_rows}
 use Rattle.ent_rules.specs.Formed.{is_shown}
 use Rattle.ent_rules.specs.Journal.{unless}
-use Rattle.ent_rules.specs.Placed.{Placed, told_deeds}
+use Rattle.ent_rules.specs.Placed.{Placed, told_operations}
 use Rattle.ent_rules.specs.Replay.{account_run, told_end}
 use Rattle.ent_rules.specs.Table.{tables_findings}
 use Rattle.ent_rules.specs.declared.finding.Rule.TheVariants as rule
 use Rattle.ent_rules.specs.declared.finding.Thing.TheVariants as thing
 use Rattle.ent_rules.proofs.Alike.{equal_lists, list_itself}
-use Rattle.ent_rules.proofs.Deeds.{goes_on, then_some}
+use Rattle.ent_rules.proofs.Operations.{goes_on, then_some}
 use Rattle.ent_rules.proofs.Found.{unless_holds, holds_unless}
 use Rattle.ent_lists.specs.Elements.{In, Pairs, of_all}
 use Rattle.ent_rules.proofs.Lists.{both_none, none_first, none_second}
@@ -120,25 +120,25 @@ module _ (keeps : Keeps) (declared : List Create) (name : Name) where
       → changes st name ≡ false → (effect : Effect Database) → m ≡ Ok effect → effect.database name ≡ d name
   kept_effect st d m kept none effect is = subst (KeepsOthers st d) is kept name none
 
-  kept_run : (deeds : List Deed) (d : Database) (v : Environment) (r : Run) → run declared deeds d v ≡ Some r
-      → ((deed : Deed) → In deed deeds → changes deed.statement name ≡ false) → r.database name ≡ d name
+  kept_run : (operations : List Operation) (d : Database) (v : Environment) (r : Run) → run declared operations d v ≡ Some r
+      → ((operation : Operation) → In operation operations → changes operation.statement name ≡ false) → r.database name ≡ d name
   kept_run [] d v r runs none = ap (λ (x : Run). x.database name) (sym (one runs))
     where
       one : Some (record { database = d; environment = v; answers = [] }) ≡ Some r
           → record { database = d; environment = v; answers = [] } ≡ r
       one e = cc
-  kept_run (deed ∷ more) d v r runs none =
-      let on = goes_on (statement_meaning declared deed.statement deed.valuation d v) (run declared more) r runs in
+  kept_run (operation ∷ more) d v r runs none =
+      let on = goes_on (statement_meaning declared operation.statement operation.valuation d v) (run declared more) r runs in
       ap (λ (x : Run). x.database name) on.whole
       ∙ kept_run more on.effect.database on.effect.environment on.rest on.rests (λ x at. none x (inr at))
-      ∙ kept_effect deed.statement d (statement_meaning declared deed.statement deed.valuation d v)
-      (keeps declared deed.statement deed.valuation v d) (none deed (inl refl)) on.effect on.is
+      ∙ kept_effect operation.statement d (statement_meaning declared operation.statement operation.valuation d v)
+      (keeps declared operation.statement operation.valuation v d) (none operation (inl refl)) on.effect on.is
 
-  told_statement : (members : List Placed) (tx place : ℕ) (sts : List Statement) (deed : Deed)
-      → In deed (told_deeds members tx place sts) → In deed.statement sts
-  told_statement members tx place [] deed at = absurd at
-  told_statement members tx place (st ∷ sts) deed (inl same) = inl (ap (λ (x : Deed). x.statement) same)
-  told_statement members tx place (st ∷ sts) deed (inr at) = inr (told_statement members tx (suc place) sts deed at)
+  told_statement : (members : List Placed) (tx place : ℕ) (sts : List Statement) (operation : Operation)
+      → In operation (told_operations members tx place sts) → In operation.statement sts
+  told_statement members tx place [] operation at = absurd at
+  told_statement members tx place (st ∷ sts) operation (inl same) = inl (ap (λ (x : Operation). x.statement) same)
+  told_statement members tx place (st ∷ sts) operation (inr at) = inr (told_statement members tx (suc place) sts operation at)
 
   -- a table that no statement changes is left as it was
   pub kept_end : (members : List Placed) (xs : List Account) (d left : Database)
@@ -153,5 +153,5 @@ module _ (keeps : Keeps) (declared : List Create) (name : Name) where
       let first = then_some (λ (r : Run). told_end declared members xs r.database)
       (account_run declared members a d) left ends in
       kept_end members xs first.0.database left first.2 (λ b bt. none b (inr bt))
-      ∙ kept_run (told_deeds members a.tx 1 a.script.statements) d nothing_bound first.0 first.1 (λ deed at.
-      none a (inl refl) deed.statement (told_statement members a.tx 1 a.script.statements deed at))
+      ∙ kept_run (told_operations members a.tx 1 a.script.statements) d nothing_bound first.0 first.1 (λ operation at.
+      none a (inl refl) operation.statement (told_statement members a.tx 1 a.script.statements operation at))

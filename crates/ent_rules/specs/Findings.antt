@@ -9,7 +9,7 @@ use Rattle.ent_rules.specs.Joint.{members_findings, left_out_findings}
 use Rattle.ent_rules.specs.Journal.{journal_findings}
 use Rattle.ent_rules.specs.Placed.{placed}
 use Rattle.ent_rules.specs.Post.{post_findings}
-use Rattle.ent_rules.specs.Replay.{replay_findings, told_sights, told_end}
+use Rattle.ent_rules.specs.Replay.{replay_findings, told_read_views, told_end}
 use Rattle.ent_rules.specs.Table.{end_findings}
 use Rattle.ent_rules.specs.declared.finding.Finding.{Finding}
 
@@ -26,5 +26,5 @@ findings history =
     ++ (members_findings all 1 [] joints
     ++ (left_out_findings (all_members joints) all
     ++ (replay_findings declared members (in_commit_order all) first
-    ++ (post_findings (told_sights declared members (in_commit_order all) first) 1 joints
+    ++ (post_findings (told_read_views declared members (in_commit_order all) first) 1 joints
     ++ end_findings (told_end declared members (in_commit_order all) first) history.tables))))

@@ -5,7 +5,7 @@ use Rattle.ent_tree.specs.declared.script.Statement.{Statement}
 use Rattle.ent_semantics.specs.declared.book.JointAnswer.{JointAnswer}
 use Rattle.ent_semantics.specs.declared.book.Member.{Member}
 use Rattle.ent_semantics.specs.Entangled.{Valuation}
-use Rattle.ent_semantics.specs.Serial.{Deed, is_entangled}
+use Rattle.ent_semantics.specs.Serial.{Operation, is_entangled}
 
 -- a member, the number of its joint answer, and its own number in that
 pub record Placed : Type 0 where
@@ -39,11 +39,11 @@ grounding_of (Some one) = one.member.grounding
 grounding_of None = []
 
 -- statements, the first having this place, with the groundings that are told of the entangled ones
-abbrev pub told_deeds : List Placed → ℕ → ℕ → List Statement → List Deed
-told_deeds members tx place [] = []
-told_deeds members tx place (statement ∷ more) =
+abbrev pub told_operations : List Placed → ℕ → ℕ → List Statement → List Operation
+told_operations members tx place [] = []
+told_operations members tx place (statement ∷ more) =
     record {
       statement = statement;
       valuation = if is_entangled statement then grounding_of (member_at members tx place) else [];
     }
-    ∷ told_deeds members tx (suc place) more
+    ∷ told_operations members tx (suc place) more

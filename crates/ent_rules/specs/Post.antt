@@ -4,8 +4,8 @@ use Rattle.std.specs.List.{flat_map, list_all, list_any}
 use Rattle.ent_semantics.specs.declared.answer.Fact.{Fact}
 use Rattle.ent_semantics.specs.declared.book.JointAnswer.{JointAnswer}
 use Rattle.ent_semantics.specs.declared.book.Member.{Member}
-use Rattle.ent_semantics.specs.Joint.{sight_heads, sight_posts}
-use Rattle.ent_semantics.specs.Serial.{Sight}
+use Rattle.ent_semantics.specs.Joint.{read_view_heads, read_view_posts}
+use Rattle.ent_semantics.specs.Serial.{ReadView}
 use Rattle.ent_rules.specs.Alike.{same_fact}
 use Rattle.ent_rules.specs.Joint.{stands_among}
 use Rattle.ent_rules.specs.Journal.{unless}
@@ -16,15 +16,15 @@ use Rattle.ent_rules.specs.declared.finding.Thing.TheVariants as things
 abbrev pub is_offered : List Fact → Fact → Bool
 is_offered heads post = list_any (same_fact post) heads
 
-module _ (run : List Sight) where
+module _ (run : List ReadView) where
   -- the statements of the run that are among these members
-  abbrev pub sights_of : List Member → List Sight
-  sights_of members = filter (λ sight. stands_among sight.tx sight.place members) run
+  abbrev pub read_views_of : List Member → List ReadView
+  read_views_of members = filter (λ read_view. stands_among read_view.tx read_view.place members) run
 
   abbrev pub are_met : List Member → Bool
   are_met members =
-      let own = sights_of members in
-      list_all (is_offered (flat_map sight_heads own)) (flat_map sight_posts own)
+      let own = read_views_of members in
+      list_all (is_offered (flat_map read_view_heads own)) (flat_map read_view_posts own)
 
   -- joint answers, the first of this number
   abbrev pub post_findings : ℕ → List JointAnswer → List Finding

@@ -9,12 +9,12 @@ use Rattle.ent_semantics.specs.declared.answer.Failure.{Failure}
 use Rattle.ent_semantics.specs.Database.{Database, Environment, nothing_bound}
 use Rattle.ent_semantics.specs.Effect.{Effect}
 use Rattle.ent_semantics.specs.Entangled.{is_grounding}
-use Rattle.ent_semantics.specs.Serial.{Deed, Run, Sight, run, seen, seen_from, sights}
+use Rattle.ent_semantics.specs.Serial.{Operation, Run, ReadView, run, seen, seen_from, read_views}
 use Rattle.ent_semantics.specs.Statement.{statement_meaning}
 use Rattle.ent_rules.specs.Account.{Account}
 use Rattle.ent_rules.specs.Alike.{same_answer}
 use Rattle.ent_rules.specs.Journal.{unless}
-use Rattle.ent_rules.specs.Placed.{Placed, member_at, told_deeds}
+use Rattle.ent_rules.specs.Placed.{Placed, member_at, told_operations}
 use Rattle.ent_rules.specs.declared.finding.Finding.{Finding}
 use Rattle.ent_rules.specs.declared.finding.Rule.TheVariants as rules
 use Rattle.ent_rules.specs.declared.finding.Thing.TheVariants as things
@@ -47,40 +47,40 @@ ground_finding (Some one) holds = unless holds rules.Ground (things.Member one.j
 
 module _ (declared : List Create) (members : List Placed) where
   -- the grounding of an entangled statement isn't one over the database that it sees
-  abbrev pub ungrounded : Sight → List Finding
-  ungrounded sight =
-      ground_finding (member_at members sight.tx sight.place)
-      (is_grounding declared sight.database sight.environment sight.entangled sight.valuation)
+  abbrev pub ungrounded : ReadView → List Finding
+  ungrounded read_view =
+      ground_finding (member_at members read_view.tx read_view.place)
+      (is_grounding declared read_view.database read_view.environment read_view.entangled read_view.valuation)
 
   -- statements with their answers, the first having this place
-  abbrev pub deeds_findings : ℕ → ℕ → List Deed → List Answer → Database → Environment → List Finding
-  deeds_findings tx place [] answers database environment = []
-  deeds_findings tx place (deed ∷ more) answers database environment =
-      let meaning = statement_meaning declared deed.statement deed.valuation database environment in
-      flat_map ungrounded (seen tx place deed database environment)
+  abbrev pub operations_findings : ℕ → ℕ → List Operation → List Answer → Database → Environment → List Finding
+  operations_findings tx place [] answers database environment = []
+  operations_findings tx place (operation ∷ more) answers database environment =
+      let meaning = statement_meaning declared operation.statement operation.valuation database environment in
+      flat_map ungrounded (seen tx place operation database environment)
       ++ (unless (is_answered meaning answers) rules.Answer (things.Answer tx place)
-      ++ found_after meaning (deeds_findings tx (suc place) more (later answers)))
+      ++ found_after meaning (operations_findings tx (suc place) more (later answers)))
 
-  abbrev pub account_deeds : Account → List Deed
-  account_deeds account = told_deeds members account.tx 1 account.script.statements
+  abbrev pub account_operations : Account → List Operation
+  account_operations account = told_operations members account.tx 1 account.script.statements
 
   -- a transaction alone
   abbrev pub account_run : Account → Database → Option Run
-  account_run account database = run declared (account_deeds account) database nothing_bound
+  account_run account database = run declared (account_operations account) database nothing_bound
 
   -- transactions one after the other
   abbrev pub replay_findings : List Account → Database → List Finding
   replay_findings [] database = []
   replay_findings (account ∷ more) database =
-      deeds_findings account.tx 1 (account_deeds account) account.answers database nothing_bound
+      operations_findings account.tx 1 (account_operations account) account.answers database nothing_bound
       ++ found_from (account_run account database) (replay_findings more)
 
   -- what their entangled statements see
-  abbrev pub told_sights : List Account → Database → List Sight
-  told_sights [] database = []
-  told_sights (account ∷ more) database =
-      sights declared account.tx 1 (account_deeds account) database nothing_bound
-      ++ seen_from (account_run account database) (told_sights more)
+  abbrev pub told_read_views : List Account → Database → List ReadView
+  told_read_views [] database = []
+  told_read_views (account ∷ more) database =
+      read_views declared account.tx 1 (account_operations account) database nothing_bound
+      ++ seen_from (account_run account database) (told_read_views more)
 
   -- the database that they leave
   abbrev pub told_end : List Account → Database → Option Database

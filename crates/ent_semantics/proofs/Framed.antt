@@ -29,7 +29,7 @@ use Rattle.ent_semantics.specs.Effect.{Effect, changed, or_overflow, insertion, 
 use Rattle.ent_semantics.specs.Entangled.{Valuation, condition_holds, is_grounding, term_worth, written_variables}
 use Rattle.ent_semantics.specs.Names.{name_itself, names_turned}
 use Rattle.ent_semantics.specs.Selection.{meets, selection, item_row, select_worth, select_rows}
-use Rattle.ent_semantics.specs.Serial.{Deed, Run, answered_first, after, run}
+use Rattle.ent_semantics.specs.Serial.{Operation, Run, answered_first, after, run}
 use Rattle.ent_semantics.specs.Statement.{table_worth, statement_meaning}
 use Rattle.ent_semantics.specs.Term.{known_value, expression_value, table_columns}
 use Rattle.ent_semantics.specs.Uses.{uses, changes, is_among, select_tables, condition_tables, shared_tables}
@@ -299,11 +299,11 @@ after_alike Alike (Err x) (Err y) f g h more = tt
 after_alike Alike (Ok x) (Err y) f g h more = absurd h
 after_alike Alike (Err x) (Ok y) f g h more = absurd h
 
-pub run_same : (some : Name → Bool) (declared : List Create) (deeds : List Deed) (environment : Environment)
-    (first second : Database) → CoversAll some deeds → Agree some first second
-    → RunsAlike (Agree some) (run declared deeds first environment) (run declared deeds second environment)
+pub run_same : (some : Name → Bool) (declared : List Create) (operations : List Operation) (environment : Environment)
+    (first second : Database) → CoversAll some operations → Agree some first second
+    → RunsAlike (Agree some) (run declared operations first environment) (run declared operations second environment)
 run_same some declared [] environment first second covers agree = (refl, refl, agree)
-run_same some declared (deed ∷ more) environment first second covers agree =
+run_same some declared (operation ∷ more) environment first second covers agree =
     after_alike (Agree some) _ _ _ _
-    (statement_same some declared deed.statement deed.valuation environment first second covers.0 agree)
+    (statement_same some declared operation.statement operation.valuation environment first second covers.0 agree)
     (λ x y after_it alike. run_same some declared more after_it x y covers.1 alike)

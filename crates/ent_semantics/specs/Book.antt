@@ -10,7 +10,7 @@ use Rattle.ent_semantics.specs.declared.book.JointAnswer.{JointAnswer}
 use Rattle.ent_semantics.specs.declared.book.Member.{Member}
 use Rattle.ent_semantics.specs.Database.{Database, opening_database}
 use Rattle.ent_semantics.specs.Joint.{member_of, IsGood}
-use Rattle.ent_semantics.specs.Serial.{Turn, Sight, numbered, scripts_run, scripts_sights}
+use Rattle.ent_semantics.specs.Serial.{Turn, ReadView, numbered, scripts_run, scripts_read_views}
 
 -- the members of all joint answers
 abbrev pub all_members : List JointAnswer → List Member
@@ -47,8 +47,8 @@ pub record RunGivesBook (book : Book Database) (turns : List Turn) : Type 0 wher
       ≡ Some (record { database = book.database; answers = map (λ entry. entry.answers) book.journal })
 
 -- the entangled statements of that run
-abbrev pub book_sights : Book Database → List Turn → List Sight
-book_sights book turns = scripts_sights book.opening.tables turns (opening_database book.opening)
+abbrev pub book_read_views : Book Database → List Turn → List ReadView
+book_read_views book turns = scripts_read_views book.opening.tables turns (opening_database book.opening)
 
 pub record IsLegal (book : Book Database) : Type 0 where
   -- 1. The journal and the fates fit together.
@@ -57,12 +57,12 @@ pub record IsLegal (book : Book Database) : Type 0 where
   pub turns : List Turn
   pub runs : RunGivesBook book turns
   -- 3. Each entangled statement of that run stands in a joint answer, with the oracle's answer, and in no other.
-  pub answered : (sight : Sight) → Contains (book_sights book turns) sight
-      → Contains (all_members book.joint_answers) (member_of sight)
+  pub answered : (read_view : ReadView) → Contains (book_read_views book turns) read_view
+      → Contains (all_members book.joint_answers) (member_of read_view)
   pub once : AllPairs AreApart (all_members book.joint_answers)
   -- 4. Nothing else stands in one: nobody's partner is missing.
   pub no_widow : (member : Member) → Contains (all_members book.joint_answers) member
-      → (sight : Sight) × Contains (book_sights book turns) sight × (member ≡ member_of sight)
+      → (read_view : ReadView) × Contains (book_read_views book turns) read_view × (member ≡ member_of read_view)
   -- 5. Each joint answer is good over that run.
   pub good : (joint : JointAnswer) → Contains book.joint_answers joint
-      → IsGood book.opening.tables (book_sights book turns) joint.members
+      → IsGood book.opening.tables (book_read_views book turns) joint.members

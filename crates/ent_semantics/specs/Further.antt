@@ -5,7 +5,7 @@ use Rattle.ent_semantics.specs.declared.answer.Answer.{Answer}
 use Rattle.ent_semantics.specs.declared.answer.Failure.{Failure}
 use Rattle.ent_semantics.specs.Database.{Database}
 use Rattle.ent_semantics.specs.Effect.{Effect}
-use Rattle.ent_semantics.specs.Serial.{Deed, Run}
+use Rattle.ent_semantics.specs.Serial.{Operation, Run}
 use Rattle.ent_semantics.specs.Statement.{statement_meaning}
 
 -- the effect of a statement behind the answers so far
@@ -19,7 +19,7 @@ behind answers (Ok effect) =
 behind answers (Err failure) = None
 
 -- from where a run stands, one statement more
-abbrev pub one_more : List Create → Deed → Run → Option Run
-one_more declared deed run =
+abbrev pub one_more : List Create → Operation → Run → Option Run
+one_more declared operation run =
     behind run.answers
-    (statement_meaning declared deed.statement deed.valuation run.database run.environment)
+    (statement_meaning declared operation.statement operation.valuation run.database run.environment)

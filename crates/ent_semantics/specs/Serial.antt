@@ -17,7 +17,7 @@ use Rattle.ent_semantics.specs.Entangled.{Valuation}
 use Rattle.ent_semantics.specs.Statement.{statement_meaning}
 
 -- a statement, and the oracle's answer to it: no value where it isn't entangled
-pub record Deed : Type 0 where
+pub record Operation : Type 0 where
   pub statement : Statement
   pub valuation : Valuation
 
@@ -25,22 +25,22 @@ abbrev pub is_entangled : Statement → Bool
 is_entangled (statements.Entangled entangled) = true
 is_entangled other = false
 
-abbrev pub deed_first : Statement → Valuation → Option (List Deed) → Option (List Deed)
-deed_first statement valuation deeds =
-    option_map (λ more. record { statement = statement; valuation = valuation } ∷ more) deeds
+abbrev pub operation_first : Statement → Valuation → Option (List Operation) → Option (List Operation)
+operation_first statement valuation operations =
+    option_map (λ more. record { statement = statement; valuation = valuation } ∷ more) operations
 
--- an entangled statement takes the oracle's next answer; where there is none, there are no deeds
-abbrev pub with_answer : Statement → Bool → List Valuation → (List Valuation → Option (List Deed)) → Option (List Deed)
-with_answer statement false oracle more = deed_first statement [] (more oracle)
+-- an entangled statement takes the oracle's next answer; where there is none, there are no operations
+abbrev pub with_answer : Statement → Bool → List Valuation → (List Valuation → Option (List Operation)) → Option (List Operation)
+with_answer statement false oracle more = operation_first statement [] (more oracle)
 with_answer statement true [] more = None
-with_answer statement true (valuation ∷ oracle) more = deed_first statement valuation (more oracle)
+with_answer statement true (valuation ∷ oracle) more = operation_first statement valuation (more oracle)
 
 -- statements with the oracle's answers to the entangled ones; too few answers, or too many, give nothing
-abbrev pub deeds_of : List Statement → List Valuation → Option (List Deed)
-deeds_of [] [] = Some []
-deeds_of [] (valuation ∷ oracle) = None
-deeds_of (statement ∷ more) oracle =
-    with_answer statement (is_entangled statement) oracle (λ others. deeds_of more others)
+abbrev pub operations_of : List Statement → List Valuation → Option (List Operation)
+operations_of [] [] = Some []
+operations_of [] (valuation ∷ oracle) = None
+operations_of (statement ∷ more) oracle =
+    with_answer statement (is_entangled statement) oracle (λ others. operations_of more others)
 
 -- what a run of statements leaves, and what each answered, in order
 pub record Run : Type 0 where
@@ -57,11 +57,11 @@ after (Ok effect) more = option_map (answered_first effect.answer) (more effect.
 after (Err failure) more = None
 
 -- statements one after the other, from a database and an environment
-abbrev pub run : List Create → List Deed → Database → Environment → Option Run
+abbrev pub run : List Create → List Operation → Database → Environment → Option Run
 run declared [] database environment =
     Some (record { database = database; environment = environment; answers = [] })
-run declared (deed ∷ more) database environment =
-    after (statement_meaning declared deed.statement deed.valuation database environment) (run declared more)
+run declared (operation ∷ more) database environment =
+    after (statement_meaning declared operation.statement operation.valuation database environment) (run declared more)
 
 -- COMMIT keeps what was run; ROLLBACK gives nothing
 abbrev pub ended : End → Option Run → Option Run
@@ -72,7 +72,7 @@ ended Rollback run = None
 abbrev pub script_run : List Create → Script → List Valuation → Database → Option Run
 script_run declared script oracle database =
     ended script.end
-    (option_and_then (λ deeds. run declared deeds database nothing_bound) (deeds_of script.statements oracle))
+    (option_and_then (λ operations. run declared operations database nothing_bound) (operations_of script.statements oracle))
 
 -- a transaction's turn: its number, its script, and the oracle's answers
 pub record Turn : Type 0 where
@@ -97,7 +97,7 @@ scripts_run declared (turn ∷ more) database =
 
 -- An entangled statement of such a run: its transaction, its place, the oracle's answer, and the database and the
 -- environment that it sees.
-pub record Sight : Type 0 where
+pub record ReadView : Type 0 where
   pub tx : ℕ
   pub place : ℕ
   pub valuation : Valuation
@@ -106,15 +106,15 @@ pub record Sight : Type 0 where
   pub environment : Environment
 
 -- what an entangled statement of this place sees
-abbrev pub seen : ℕ → ℕ → Deed → Database → Environment → List Sight
-seen tx place deed database environment = seen_by deed.statement
+abbrev pub seen : ℕ → ℕ → Operation → Database → Environment → List ReadView
+seen tx place operation database environment = seen_by operation.statement
   where
-    seen_by : Statement → List Sight
+    seen_by : Statement → List ReadView
     seen_by (statements.Entangled entangled) =
         record {
           tx = tx;
           place = place;
-          valuation = deed.valuation;
+          valuation = operation.valuation;
           entangled = entangled;
           database = database;
           environment = environment;
@@ -123,37 +123,37 @@ seen tx place deed database environment = seen_by deed.statement
     seen_by other = []
 
 -- goes on with the effect of a statement; after a failure nothing is seen
-abbrev pub seen_after : Result (Effect Database) Failure → (Database → Environment → List Sight) → List Sight
+abbrev pub seen_after : Result (Effect Database) Failure → (Database → Environment → List ReadView) → List ReadView
 seen_after (Ok effect) more = more effect.database effect.environment
 seen_after (Err failure) more = []
 
 -- what the entangled statements of a run see, the first statement having this place
-abbrev pub sights : List Create → ℕ → ℕ → List Deed → Database → Environment → List Sight
-sights declared tx place [] database environment = []
-sights declared tx place (deed ∷ more) database environment =
-    seen tx place deed database environment
-    ++ seen_after (statement_meaning declared deed.statement deed.valuation database environment)
-    (sights declared tx (suc place) more)
+abbrev pub read_views : List Create → ℕ → ℕ → List Operation → Database → Environment → List ReadView
+read_views declared tx place [] database environment = []
+read_views declared tx place (operation ∷ more) database environment =
+    seen tx place operation database environment
+    ++ seen_after (statement_meaning declared operation.statement operation.valuation database environment)
+    (read_views declared tx (suc place) more)
 
 -- what the entangled statements of a script see; places count from 1
-abbrev pub script_sights : List Create → Turn → Database → List Sight
-script_sights declared turn database = of_deeds (deeds_of turn.script.statements turn.oracle)
+abbrev pub script_read_views : List Create → Turn → Database → List ReadView
+script_read_views declared turn database = of_operations (operations_of turn.script.statements turn.oracle)
   where
-    of_deeds : Option (List Deed) → List Sight
-    of_deeds (Some deeds) = sights declared turn.tx 1 deeds database nothing_bound
-    of_deeds None = []
+    of_operations : Option (List Operation) → List ReadView
+    of_operations (Some operations) = read_views declared turn.tx 1 operations database nothing_bound
+    of_operations None = []
 
 -- goes on from what a script leaves; after one whose run gives nothing, nothing is seen
-abbrev pub seen_from : Option Run → (Database → List Sight) → List Sight
+abbrev pub seen_from : Option Run → (Database → List ReadView) → List ReadView
 seen_from (Some run) more = more run.database
 seen_from None more = []
 
 -- what the entangled statements of scripts see that run one after the other
-abbrev pub scripts_sights : List Create → List Turn → Database → List Sight
-scripts_sights declared [] database = []
-scripts_sights declared (turn ∷ more) database =
-    script_sights declared turn database
-    ++ seen_from (script_run declared turn.script turn.oracle database) (scripts_sights declared more)
+abbrev pub scripts_read_views : List Create → List Turn → Database → List ReadView
+scripts_read_views declared [] database = []
+scripts_read_views declared (turn ∷ more) database =
+    script_read_views declared turn database
+    ++ seen_from (script_run declared turn.script turn.oracle database) (scripts_read_views declared more)
 
 -- the element of a number, counted from 1
 abbrev pub numbered : {A : Type 0} → List A → ℕ → Option A

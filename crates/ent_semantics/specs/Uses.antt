@@ -9,7 +9,7 @@ use Rattle.ent_tree.specs.declared.select.Select.{Select}
 use Rattle.ent_semantics.specs.declared.answer.Failure.{Failure}
 use Rattle.ent_semantics.specs.Database.{Name, Database, same_name}
 use Rattle.ent_semantics.specs.Effect.{Effect}
-use Rattle.ent_semantics.specs.Serial.{Run, Deed}
+use Rattle.ent_semantics.specs.Serial.{Run, Operation}
 
 -- the tables that a SELECT reads
 abbrev pub select_tables : Select → List Name
@@ -76,6 +76,6 @@ RunsAlike Alike None None = Unit {0}
 RunsAlike Alike (Some first) None = ⊥
 RunsAlike Alike None (Some second) = ⊥
 
--- no statement of some deeds uses other tables
-abbrev pub CoversAll : (Name → Bool) → List Deed → Type 0
-CoversAll some deeds = AllByRecursion (λ deed. Covers some deed.statement) deeds
+-- no statement of some operations uses other tables
+abbrev pub CoversAll : (Name → Bool) → List Operation → Type 0
+CoversAll some operations = AllByRecursion (λ operation. Covers some operation.statement) operations

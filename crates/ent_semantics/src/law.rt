@@ -13,7 +13,7 @@ ghost use Rattle.ent_semantics.specs.Further.{one_more};
 ghost use Rattle.ent_semantics.specs.Kinds.{KindedSource, RowsHaveKinds, SourcesHaveKinds, kinds_side_by_side};
 ghost use Rattle.ent_semantics.specs.Kinds.{ShowsKinds};
 ghost use Rattle.ent_semantics.specs.Selection.{selection};
-ghost use Rattle.ent_semantics.specs.Serial.{Deed, run};
+ghost use Rattle.ent_semantics.specs.Serial.{Operation, run};
 ghost use Rattle.ent_semantics.specs.Statement.{statement_meaning};
 ghost use Rattle.ent_semantics.specs.Uses.{Agree, Covers, CoversAll, EffectsAlike, KeepsOthers, RunsAlike};
 
@@ -35,11 +35,11 @@ pub fn statements_keep_to_their_uses()
     ensures changes { (declared : List Create) (statement : Statement) (valuation : Valuation)
         → (environment : Environment) (database : Database)
         → KeepsOthers statement database (statement_meaning declared statement valuation database environment) }
-    ensures runs { (some : Name → Bool) (declared : List Create) (deeds : List Deed) (environment : Environment)
+    ensures runs { (some : Name → Bool) (declared : List Create) (operations : List Operation) (environment : Environment)
         → (first second : Database)
-        → CoversAll some deeds
+        → CoversAll some operations
         → Agree some first second
-        → RunsAlike (Agree some) (run declared deeds first environment) (run declared deeds second environment) }
+        → RunsAlike (Agree some) (run declared operations first environment) (run declared operations second environment) }
     ensures extensional { (first second : Database)
         → ((name : Name) → first name ≡ second name)
         → first ≡ second }
@@ -48,10 +48,10 @@ pub fn statements_keep_to_their_uses()
 /// From where a run of some statements stands, one statement more goes on.
 #[tactic(auto, using(crate::proofs::Pushed::run_pushed))]
 pub fn runs_go_on()
-    ensures { (declared : List Create) (deeds : List Deed) (deed : Deed) (database : Database)
+    ensures { (declared : List Create) (operations : List Operation) (operation : Operation) (database : Database)
         → (environment : Environment)
-        → run declared (deeds ++ deed ∷ []) database environment
-        ≡ option_and_then (one_more declared deed) (run declared deeds database environment) }
+        → run declared (operations ++ operation ∷ []) database environment
+        ≡ option_and_then (one_more declared operation) (run declared operations database environment) }
 {}
 
 /// Where the rows of each source have its kinds, and what is shown of such rows has the items' kinds, the rows of the

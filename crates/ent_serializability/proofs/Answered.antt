@@ -5,7 +5,7 @@ use Rattle.ent_tree.specs.declared.script.Statement.{Statement as TreeStatement}
 use Rattle.ent_semantics.specs.declared.answer.Fact.{Fact}
 use Rattle.ent_semantics.specs.declared.book.Member.{Member as JointMember}
 use Rattle.ent_semantics.specs.Entangled.{Valuation}
-use Rattle.ent_semantics.specs.Serial.{Deed, numbered}
+use Rattle.ent_semantics.specs.Serial.{Operation, numbered}
 use Rattle.ent_closed.specs.Form.{Tables, form_heads, form_posts, is_form_grounding}
 use Rattle.ent_coordination.specs.Choice.{AreGroundings, all_posts, all_heads}
 use Rattle.ent_coordination.specs.Pool.{Posted}
@@ -32,21 +32,21 @@ answered_keeps field same (a ∷ asked) (values ∷ more) m =
     by true rest = same a values m
     by false rest = rest
 
--- ---- the deeds that it adds
+-- ---- the operations that it adds
 
-abbrev pub statement_deed : Valuation → Option TreeStatement → List Deed
-statement_deed values None = []
-statement_deed values (Some st) = record { statement = st; valuation = values } ∷ []
+abbrev pub statement_operation : Valuation → Option TreeStatement → List Operation
+statement_operation values None = []
+statement_operation values (Some st) = record { statement = st; valuation = values } ∷ []
 
-abbrev pub deed_at : Member → Valuation → Option Submitted → List Deed
-deed_at m values None = []
-deed_at m values (Some own) = statement_deed values (numbered own.script.statements m.place)
+abbrev pub operation_at : Member → Valuation → Option Submitted → List Operation
+operation_at m values None = []
+operation_at m values (Some own) = statement_operation values (numbered own.script.statements m.place)
 
-abbrev pub deeds_among : List Submitted → List Posted → List Valuation → Member → List Deed
-deeds_among submitted [] groundings m = []
-deeds_among submitted (a ∷ asked) [] m = []
-deeds_among submitted (a ∷ asked) (values ∷ more) m =
-    cond (is_tx a.tx m) (deed_at m values (numbered submitted m.tx)) (deeds_among submitted asked more m)
+abbrev pub operations_among : List Submitted → List Posted → List Valuation → Member → List Operation
+operations_among submitted [] groundings m = []
+operations_among submitted (a ∷ asked) [] m = []
+operations_among submitted (a ∷ asked) (values ∷ more) m =
+    cond (is_tx a.tx m) (operation_at m values (numbered submitted m.tx)) (operations_among submitted asked more m)
 
 abbrev pub joint_member : Posted → Valuation → JointMember
 joint_member query values = record { tx = query.tx; place = query.place; grounding = values }
@@ -60,7 +60,7 @@ pub record IsAnswered (submitted : List Submitted) (seen : Tables) (asked : List
   pub tx : m.tx ≡ query.tx
   pub grounds : is_form_grounding (λ value. value) seen query.statement values ≡ true
   pub member : answered_among asked groundings m ≡ answered_by query values m
-  pub deeds : deeds_among submitted asked groundings m ≡ deed_at m values (numbered submitted m.tx)
+  pub operations : operations_among submitted asked groundings m ≡ operation_at m values (numbered submitted m.tx)
   pub in_joint : In (joint_member query values) (joint_members asked groundings)
   pub demands : (post : Fact) → In post (form_posts (λ value. value) query.statement values)
       → In post (all_posts asked groundings)
@@ -68,14 +68,14 @@ pub record IsAnswered (submitted : List Submitted) (seen : Tables) (asked : List
 pub record IsLeft (submitted : List Submitted) (asked : List Posted) (groundings : List Valuation) (m : Member)
     : Type 0 where
   pub member : answered_among asked groundings m ≡ m
-  pub deeds : deeds_among submitted asked groundings m ≡ []
+  pub operations : operations_among submitted asked groundings m ≡ []
   pub none : (query : Posted) → In query asked → m.tx ≡ query.tx → ⊥
 
 pub answered_or_left : (submitted : List Submitted) (seen : Tables) (asked : List Posted) (groundings : List Valuation)
     (m : Member) → AreGroundings seen asked groundings
     → IsAnswered submitted seen asked groundings m ⊎ IsLeft submitted asked groundings m
 answered_or_left submitted seen [] groundings m good =
-    inr (record { member = refl; deeds = refl; none = λ a at. absurd at })
+    inr (record { member = refl; operations = refl; none = λ a at. absurd at })
 answered_or_left submitted seen (a ∷ asked) [] m good = absurd good
 answered_or_left submitted seen (a ∷ asked) (values ∷ more) m good =
     by (is_tx a.tx m) refl (answered_or_left submitted seen asked more m good.1)
@@ -91,7 +91,7 @@ answered_or_left submitted seen (a ∷ asked) (values ∷ more) m good =
           tx = same_number m.tx a.tx is;
           grounds = good.0.grounds;
           member = ap (λ b. cond b (answered_by a values m) (answered_among asked more m)) is;
-          deeds = ap (λ b. cond b (deed_at m values (numbered submitted m.tx)) (deeds_among submitted asked more m)) is;
+          operations = ap (λ b. cond b (operation_at m values (numbered submitted m.tx)) (operations_among submitted asked more m)) is;
           in_joint = inl refl;
           demands = λ post at. in_first (form_posts (λ value. value) a.statement values)
               (all_posts asked more) post at;
@@ -104,8 +104,8 @@ answered_or_left submitted seen (a ∷ asked) (values ∷ more) m good =
           tx = r.tx;
           grounds = r.grounds;
           member = ap (λ b. cond b (answered_by a values m) (answered_among asked more m)) is ∙ r.member;
-          deeds = ap (λ b. cond b (deed_at m values (numbered submitted m.tx)) (deeds_among submitted asked more m)) is
-              ∙ r.deeds;
+          operations = ap (λ b. cond b (operation_at m values (numbered submitted m.tx)) (operations_among submitted asked more m)) is
+              ∙ r.operations;
           in_joint = inr r.in_joint;
           demands = λ post at. in_second (form_posts (λ value. value) a.statement values)
               (all_posts asked more) post (r.demands post at);
@@ -113,8 +113,8 @@ answered_or_left submitted seen (a ∷ asked) (values ∷ more) m good =
     by false is (inr r) =
         inr (record {
           member = ap (λ b. cond b (answered_by a values m) (answered_among asked more m)) is ∙ r.member;
-          deeds = ap (λ b. cond b (deed_at m values (numbered submitted m.tx)) (deeds_among submitted asked more m)) is
-              ∙ r.deeds;
+          operations = ap (λ b. cond b (operation_at m values (numbered submitted m.tx)) (operations_among submitted asked more m)) is
+              ∙ r.operations;
           none = λ other at same. elim at [
             | inl here ↦ differ m.tx a.tx is (same ∙ ap (λ (x : Posted). x.tx) here)
             | inr there ↦ r.none other there same
@@ -149,17 +149,17 @@ from_heads (a ∷ many) (v ∷ gs) fact at =
       | inr there ↦ let r = from_heads many gs fact there in (r.0, r.1, inr r.2, inr r.3, r.4)
     ]
 
-abbrev pub OtherAsking : Posted → Posted → Type 0
-OtherAsking one other = one.tx ≡ other.tx → ⊥
+abbrev pub OtherPostedQuery : Posted → Posted → Type 0
+OtherPostedQuery one other = one.tx ≡ other.tx → ⊥
 
-pub joint_pairs : (many : List Posted) (gs : List Valuation) → Pairs OtherAsking many
+pub joint_pairs : (many : List Posted) (gs : List Valuation) → Pairs OtherPostedQuery many
     → Pairs OtherTx (joint_members many gs)
 joint_pairs [] gs pairs = tt
 joint_pairs (a ∷ many) [] pairs = tt
 joint_pairs (a ∷ many) (v ∷ gs) pairs = (
   to_all (OtherTx (joint_member a v)) (joint_members many gs) (λ m at e.
       let r = from_joint many gs m at in
-      of_all (OtherAsking a) many r.0 pairs.0 r.2 (e ∙ ap (λ (x : JointMember). x.tx) r.3)),
+      of_all (OtherPostedQuery a) many r.0 pairs.0 r.2 (e ∙ ap (λ (x : JointMember). x.tx) r.3)),
   joint_pairs many gs pairs.1,
 )
 

@@ -15,15 +15,15 @@ use Rattle.ent_protocol.specs.State.{State, Member, members}
 use Rattle.ent_protocol.specs.Uses.{entangled_uses}
 use Rattle.ent_serializability.specs.History.{History}
 use Rattle.ent_serializability.specs.Faithful.{is_used}
-use Rattle.ent_serializability.proofs.Answered.{OtherAsking, IsPresent}
+use Rattle.ent_serializability.proofs.Answered.{OtherPostedQuery, IsPresent}
 use Rattle.ent_serializability.proofs.Undo.{number_itself}
 use Rattle.ent_lists.specs.Elements.{In, Pairs, of_all, to_all, all_joined, any_in, to_map, to_filter, pairs_by}
 use Rattle.ent_lists.specs.Elements.{in_first, in_second, in_either, nobody, pairs_joined}
 use Rattle.ent_lists.specs.Elements.{all_index, contains_in, in_contains, in_flat, index_pairs}
 use Rattle.ent_serializability.proofs.Outcomes.{seen_same, used_first, used_second}
-use Rattle.ent_serializability.proofs.Deeds.{HoldsUses}
+use Rattle.ent_serializability.proofs.Operations.{HoldsUses}
 use Rattle.ent_serializability.proofs.Locks.{used_got}
-use Rattle.ent_serializability.proofs.Jobs.{JobRight, AskingRight, OtherJob, OtherWork}
+use Rattle.ent_serializability.proofs.Jobs.{JobRight, PostedQueryRight, OtherJob, OtherWork}
 use Rattle.ent_serializability.proofs.Kept.{Kept, PostedHolds, one_member, active_at, prepared_at}
 
 -- ---- members that ask
@@ -42,17 +42,17 @@ present_all s asked component =
     })
 
 -- the statements of a component are of distinct transactions
-pub askings_apart : (s : State) (asked : List Posted) → IsPresentComponent s asked → Pairs OtherAsking asked
-askings_apart s asked component =
-    pairs_by (λ (one other : Posted). one.tx < other.tx) OtherAsking asked (λ a b low e. unlike a.tx b.tx low e)
+pub queries_apart : (s : State) (asked : List Posted) → IsPresentComponent s asked → Pairs OtherPostedQuery asked
+queries_apart s asked component =
+    pairs_by (λ (one other : Posted). one.tx < other.tx) OtherPostedQuery asked (λ a b low e. unlike a.tx b.tx low e)
     (index_pairs (λ (one other : Posted). one.tx < other.tx) asked component.ascending)
   where
     unlike : (n m : ℕ) → n < m → n ≡ m → ⊥
     unlike n m low e = omega (low, e, arith)
 
 -- there is one
-pub askings_some : (s : State) (asked : List Posted) → IsPresentComponent s asked → asked ≡ [] → ⊥
-askings_some s asked component none =
+pub queries_some : (s : State) (asked : List Posted) → IsPresentComponent s asked → asked ≡ [] → ⊥
+queries_some s asked component none =
     let c = component in
     let at = contains_in asked c.first ((c.class c.first).1 (c.in_remainder, (0, refl))) in
     subst (λ many. In c.first many) none at
@@ -136,8 +136,8 @@ module _ {F : Type 0} (forms : Forms F) (s : State) (kept : Kept forms s) where
   picks asked component =
       let present = present_all s asked component in
       let right : AllByRecursion
-      (AskingRight s.active s.tables (tables_of (seen_now s.opening.tables s.tables (joint_uses asked)))) asked =
-      to_all (AskingRight s.active s.tables (tables_of (seen_now s.opening.tables s.tables (joint_uses asked))))
+      (PostedQueryRight s.active s.tables (tables_of (seen_now s.opening.tables s.tables (joint_uses asked)))) asked =
+      to_all (PostedQueryRight s.active s.tables (tables_of (seen_now s.opening.tables s.tables (joint_uses asked))))
       asked (λ a at m mt tx.
       let p = of_all (IsPresent s) asked a present at in
       let same = one_member forms s kept p.member m p.at mt (sym p.tx ∙ sym tx) in (

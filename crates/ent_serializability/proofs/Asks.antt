@@ -20,7 +20,7 @@ use Rattle.ent_semantics.specs.Database.{Name, Rows, Database, Environment, Tabl
 use Rattle.ent_semantics.specs.Database.{with_value, with_values}
 use Rattle.ent_semantics.specs.Effect.{Effect, changed, or_overflow, setting}
 use Rattle.ent_semantics.specs.Entangled.{Valuation, heads, posts, bound_values}
-use Rattle.ent_semantics.specs.Serial.{Deed, Run, Sight, answered_first, after, run, seen, seen_after, sights}
+use Rattle.ent_semantics.specs.Serial.{Operation, Run, ReadView, answered_first, after, run, seen, seen_after, read_views}
 use Rattle.ent_semantics.specs.Statement.{statement_meaning}
 use Rattle.ent_semantics.specs.Term.{known_value, expression_value}
 use Rattle.ent_protocol.specs.Member.{environment_of}
@@ -36,14 +36,14 @@ pub record Ask : Type 0 where
   pub entangled : Entangled
   pub environment : Environment
 
-abbrev pub ask_of : Sight → Ask
-ask_of sight =
+abbrev pub ask_of : ReadView → Ask
+ask_of read_view =
     record {
-      tx = sight.tx;
-      place = sight.place;
-      valuation = sight.valuation;
-      entangled = sight.entangled;
-      environment = sight.environment;
+      tx = read_view.tx;
+      place = read_view.place;
+      valuation = read_view.valuation;
+      entangled = read_view.entangled;
+      environment = read_view.environment;
     }
 
 abbrev pub ask_member : Ask → JointMember
@@ -79,19 +79,19 @@ asks_at tx place (statements.Insert insert) valuation environment = []
 asks_at tx place (statements.Delete delete) valuation environment = []
 asks_at tx place (statements.Update update) valuation environment = []
 
-abbrev pub asks_of : ℕ → ℕ → List Deed → Environment → List Ask
+abbrev pub asks_of : ℕ → ℕ → List Operation → Environment → List Ask
 asks_of tx place [] environment = []
-asks_of tx place (deed ∷ more) environment =
-    asks_at tx place deed.statement deed.valuation environment
-    ++ asks_of tx (suc place) more (next_environment deed.statement deed.valuation environment)
+asks_of tx place (operation ∷ more) environment =
+    asks_at tx place operation.statement operation.valuation environment
+    ++ asks_of tx (suc place) more (next_environment operation.statement operation.valuation environment)
 
 abbrev pub history_asks : History → List Ask
-history_asks history = asks_of history.member.tx 1 history.deeds nothing_bound
+history_asks history = asks_of history.member.tx 1 history.operations nothing_bound
 
-abbrev environment_after : List Deed → Environment → Environment
+abbrev environment_after : List Operation → Environment → Environment
 environment_after [] environment = environment
-environment_after (deed ∷ more) environment =
-    environment_after more (next_environment deed.statement deed.valuation environment)
+environment_after (operation ∷ more) environment =
+    environment_after more (next_environment operation.statement operation.valuation environment)
 
 -- ---- as a run has them
 
@@ -169,39 +169,39 @@ runs_on : (answer : Answer) (x : Option Run) → Runs (option_map (answered_firs
 runs_on answer None r = cc (r.1)
 runs_on answer (Some run) r = (run, refl)
 
-pub sights_asks : (declared : List Create) (tx place : ℕ) (deeds : List Deed) (database : Database)
-    (environment : Environment) → Runs (run declared deeds database environment)
-    → map ask_of (sights declared tx place deeds database environment) ≡ asks_of tx place deeds environment
-sights_asks declared tx place [] database environment is = refl
-sights_asks declared tx place (deed ∷ more) database environment is =
-    map_joined ask_of (seen tx place deed database environment)
-    (seen_after (statement_meaning declared deed.statement deed.valuation database environment)
-    (sights declared tx (suc place) more))
-    ∙ (λ i. seen_asks tx place deed.statement deed.valuation database environment i
-    ++ by (statement_meaning declared deed.statement deed.valuation database environment) refl is
-    (λ d e r. sights_asks declared tx (suc place) more d e r) i)
+pub read_views_asks : (declared : List Create) (tx place : ℕ) (operations : List Operation) (database : Database)
+    (environment : Environment) → Runs (run declared operations database environment)
+    → map ask_of (read_views declared tx place operations database environment) ≡ asks_of tx place operations environment
+read_views_asks declared tx place [] database environment is = refl
+read_views_asks declared tx place (operation ∷ more) database environment is =
+    map_joined ask_of (seen tx place operation database environment)
+    (seen_after (statement_meaning declared operation.statement operation.valuation database environment)
+    (read_views declared tx (suc place) more))
+    ∙ (λ i. seen_asks tx place operation.statement operation.valuation database environment i
+    ++ by (statement_meaning declared operation.statement operation.valuation database environment) refl is
+    (λ d e r. read_views_asks declared tx (suc place) more d e r) i)
   where
     by : (x : Result (Effect Database) Failure)
-        → AreOne (statement_meaning declared deed.statement deed.valuation database environment) x
+        → AreOne (statement_meaning declared operation.statement operation.valuation database environment) x
         → Runs (after x (run declared more))
         → ((d : Database) (e : Environment) → Runs (run declared more d e)
-        → map ask_of (sights declared tx (suc place) more d e) ≡ asks_of tx (suc place) more e)
-        → map ask_of (seen_after x (sights declared tx (suc place) more))
-        ≡ asks_of tx (suc place) more (next_environment deed.statement deed.valuation environment)
+        → map ask_of (read_views declared tx (suc place) more d e) ≡ asks_of tx (suc place) more e)
+        → map ask_of (seen_after x (read_views declared tx (suc place) more))
+        ≡ asks_of tx (suc place) more (next_environment operation.statement operation.valuation environment)
     by (Ok effect) same r further =
         further effect.database effect.environment
         (runs_on effect.answer (run declared more effect.database effect.environment) r)
         ∙ ap (asks_of tx (suc place) more)
-        (next_is declared deed.statement deed.valuation database environment effect same)
+        (next_is declared operation.statement operation.valuation database environment effect same)
     by (Err failure) same r further = cc (r.1)
 
-run_environment : (declared : List Create) (deeds : List Deed) (database : Database) (environment : Environment)
-    (last : Run) → run declared deeds database environment ≡ Some last
-    → last.environment ≡ environment_after deeds environment
+run_environment : (declared : List Create) (operations : List Operation) (database : Database) (environment : Environment)
+    (last : Run) → run declared operations database environment ≡ Some last
+    → last.environment ≡ environment_after operations environment
 run_environment declared [] database environment last is =
     ap (λ (r : Run). r.environment) (sym (some_run _ last is))
-run_environment declared (deed ∷ more) database environment last is =
-    by (statement_meaning declared deed.statement deed.valuation database environment) refl is
+run_environment declared (operation ∷ more) database environment last is =
+    by (statement_meaning declared operation.statement operation.valuation database environment) refl is
     (λ d e r h. run_environment declared more d e r h)
   where
     rest : (effect : Effect Database) (x : Option Run) → run declared more effect.database effect.environment ≡ x
@@ -214,51 +214,51 @@ run_environment declared (deed ∷ more) database environment last is =
         ap (λ (x : Run). x.environment) (sym (some_run (answered_first effect.answer r) last g)) ∙ further r e
 
     by : (x : Result (Effect Database) Failure)
-        → AreOne (statement_meaning declared deed.statement deed.valuation database environment) x
+        → AreOne (statement_meaning declared operation.statement operation.valuation database environment) x
         → after x (run declared more) ≡ Some last
         → ((d : Database) (e : Environment) (r : Run) → run declared more d e ≡ Some r
         → r.environment ≡ environment_after more e)
         → last.environment
-        ≡ environment_after more (next_environment deed.statement deed.valuation environment)
+        ≡ environment_after more (next_environment operation.statement operation.valuation environment)
     by (Ok effect) same g further =
         rest effect (run declared more effect.database effect.environment) refl g
         (further effect.database effect.environment)
-        ∙ ap (environment_after more) (next_is declared deed.statement deed.valuation database environment effect same)
+        ∙ ap (environment_after more) (next_is declared operation.statement operation.valuation database environment effect same)
     by (Err failure) same g further = cc (g)
 
-asks_after : (tx place : ℕ) (deeds : List Deed) (deed : Deed) (environment : Environment)
-    → asks_of tx place (deeds ++ deed ∷ []) environment
-    ≡ asks_of tx place deeds environment
-    ++ asks_at tx (length deeds + place) deed.statement deed.valuation (environment_after deeds environment)
-asks_after tx place [] deed environment =
+asks_after : (tx place : ℕ) (operations : List Operation) (operation : Operation) (environment : Environment)
+    → asks_of tx place (operations ++ operation ∷ []) environment
+    ≡ asks_of tx place operations environment
+    ++ asks_at tx (length operations + place) operation.statement operation.valuation (environment_after operations environment)
+asks_after tx place [] operation environment =
     let n : place ≡ 0 + place = omega arith in
-    append-nil (asks_at tx place deed.statement deed.valuation environment)
-    ∙ ap (λ k. asks_at tx k deed.statement deed.valuation environment) n
-asks_after tx place (d ∷ ds) deed environment =
+    append-nil (asks_at tx place operation.statement operation.valuation environment)
+    ∙ ap (λ k. asks_at tx k operation.statement operation.valuation environment) n
+asks_after tx place (d ∷ ds) operation environment =
     let n : length ds + suc place ≡ suc (length ds) + place = omega arith in
     ap (λ more. asks_at tx place d.statement d.valuation environment ++ more)
-    (asks_after tx (suc place) ds deed (next_environment d.statement d.valuation environment)
+    (asks_after tx (suc place) ds operation (next_environment d.statement d.valuation environment)
     ∙ ap (λ k. asks_of tx (suc place) ds (next_environment d.statement d.valuation environment)
-    ++ asks_at tx k deed.statement deed.valuation
+    ++ asks_at tx k operation.statement operation.valuation
     (environment_after ds (next_environment d.statement d.valuation environment))) n)
     ∙ sym (append_assoc (asks_at tx place d.statement d.valuation environment) _ _)
 
--- a history with one deed more
-pub asks_pushed : (declared : List Create) (x : History) (first last : Database) (deed : Deed)
+-- a history with one operation more
+pub asks_pushed : (declared : List Create) (x : History) (first last : Database) (operation : Operation)
     → Replays declared x first last
-    → asks_of x.member.tx 1 (x.deeds ++ deed ∷ []) nothing_bound
+    → asks_of x.member.tx 1 (x.operations ++ operation ∷ []) nothing_bound
     ≡ history_asks x
-    ++ asks_at x.member.tx (suc (length x.deeds)) deed.statement deed.valuation (environment_of x.member)
-asks_pushed declared x first last deed replays =
-    let n : length x.deeds + 1 ≡ suc (length x.deeds) = omega arith in
-    let bound = sym (run_environment declared x.deeds first nothing_bound (record {
+    ++ asks_at x.member.tx (suc (length x.operations)) operation.statement operation.valuation (environment_of x.member)
+asks_pushed declared x first last operation replays =
+    let n : length x.operations + 1 ≡ suc (length x.operations) = omega arith in
+    let bound = sym (run_environment declared x.operations first nothing_bound (record {
       database = last;
       environment = environment_of x.member;
       answers = x.member.answers;
     }) replays.runs) in
-    asks_after x.member.tx 1 x.deeds deed nothing_bound
+    asks_after x.member.tx 1 x.operations operation nothing_bound
     ∙ (λ i. history_asks x
-    ++ asks_at x.member.tx (n i) deed.statement deed.valuation (bound i))
+    ++ asks_at x.member.tx (n i) operation.statement operation.valuation (bound i))
 
 asks_at_tx : (tx place : ℕ) (st : Statement) (valuation : Valuation) (environment : Environment) (ask : Ask)
     → In ask (asks_at tx place st valuation environment) → ask.tx ≡ tx
@@ -272,13 +272,13 @@ asks_at_tx tx place (statements.Update update) valuation environment ask at = ab
 asks_at_tx tx place (statements.Set set) valuation environment ask at = absurd at
 
 -- an entangled statement is of its member
-pub asks_tx : (tx place : ℕ) (deeds : List Deed) (environment : Environment) (ask : Ask)
-    → In ask (asks_of tx place deeds environment) → ask.tx ≡ tx
+pub asks_tx : (tx place : ℕ) (operations : List Operation) (environment : Environment) (ask : Ask)
+    → In ask (asks_of tx place operations environment) → ask.tx ≡ tx
 asks_tx tx place [] environment ask at = absurd at
-asks_tx tx place (deed ∷ more) environment ask at =
-    elim (in_either (asks_at tx place deed.statement deed.valuation environment) _ ask at) [
-      | inl a ↦ asks_at_tx tx place deed.statement deed.valuation environment ask a
-      | inr b ↦ asks_tx tx (suc place) more (next_environment deed.statement deed.valuation environment) ask b
+asks_tx tx place (operation ∷ more) environment ask at =
+    elim (in_either (asks_at tx place operation.statement operation.valuation environment) _ ask at) [
+      | inl a ↦ asks_at_tx tx place operation.statement operation.valuation environment ask a
+      | inr b ↦ asks_tx tx (suc place) more (next_environment operation.statement operation.valuation environment) ask b
     ]
 
 asks_at_place : (tx place : ℕ) (st : Statement) (valuation : Valuation) (environment : Environment) (ask : Ask)
@@ -293,16 +293,16 @@ asks_at_place tx place (statements.Update update) valuation environment ask at =
 asks_at_place tx place (statements.Set set) valuation environment ask at = absurd at
 
 -- it is one of the statements that were passed
-pub asks_place : (tx place : ℕ) (deeds : List Deed) (environment : Environment) (ask : Ask)
-    → In ask (asks_of tx place deeds environment) → ask.place < place + length deeds
+pub asks_place : (tx place : ℕ) (operations : List Operation) (environment : Environment) (ask : Ask)
+    → In ask (asks_of tx place operations environment) → ask.place < place + length operations
 asks_place tx place [] environment ask at = absurd at
-asks_place tx place (deed ∷ more) environment ask at =
-    elim (in_either (asks_at tx place deed.statement deed.valuation environment) _ ask at) [
+asks_place tx place (operation ∷ more) environment ask at =
+    elim (in_either (asks_at tx place operation.statement operation.valuation environment) _ ask at) [
       | inl a ↦
-          let e = asks_at_place tx place deed.statement deed.valuation environment ask a in
+          let e = asks_at_place tx place operation.statement operation.valuation environment ask a in
           omega (e, arith)
       | inr b ↦
-          let h = asks_place tx (suc place) more (next_environment deed.statement deed.valuation environment) ask b in
+          let h = asks_place tx (suc place) more (next_environment operation.statement operation.valuation environment) ask b in
           omega (h, arith)
     ]
 

@@ -33,7 +33,7 @@ abbrev pub taking : Member → List Use → Bool → Member
 taking member asked posted = record (holding member asked) { posted = posted }
 
 abbrev entered : Member → History → History
-entered new x = record { member = replaced new x.member; deeds = x.deeds }
+entered new x = record { member = replaced new x.member; operations = x.operations }
 
 module _ {F : Type 0} (forms : Forms F) (laws : Laws) (s : State) (kept : Kept forms s) (x : History)
     (at : In x kept.others) (asked : List Use) (posted : Bool) (free : blocker s x.member asked ≡ None)
@@ -42,7 +42,7 @@ module _ {F : Type 0} (forms : Forms F) (laws : Laws) (s : State) (kept : Kept f
   new = taking x.member asked posted
 
   abbrev next : History
-  next = record { member = new; deeds = x.deeds }
+  next = record { member = new; operations = x.operations }
 
   abbrev all : List History
   all = kept.prepared ++ kept.others
@@ -52,7 +52,7 @@ module _ {F : Type 0} (forms : Forms F) (laws : Laws) (s : State) (kept : Kept f
     where
       by : (b : Bool) → (y.member.tx == x.member.tx) ≡ b
           → (y ≡ x) × (entered (taking x.member asked posted) y
-          ≡ record { member = taking x.member asked posted; deeds = x.deeds })
+          ≡ record { member = taking x.member asked posted; operations = x.operations })
           ⊎ (entered (taking x.member asked posted) y ≡ y)
       by true is =
           let same = same_number y.member.tx x.member.tx is in
@@ -61,11 +61,11 @@ module _ {F : Type 0} (forms : Forms F) (laws : Laws) (s : State) (kept : Kept f
             one,
             λ i. record {
               member = replaced_here (taking x.member asked posted) y.member same i;
-              deeds = (one i).deeds;
+              operations = (one i).operations;
             },
           )
       by false is =
-          inr (λ i. record { member = replaced_other (taking x.member asked posted) y.member is i; deeds = y.deeds })
+          inr (λ i. record { member = replaced_other (taking x.member asked posted) y.member is i; operations = y.operations })
 
   free_fit : (y : History) → In y all → Fit x y → Fit next y
   free_fit y bt fit =
@@ -86,12 +86,12 @@ module _ {F : Type 0} (forms : Forms F) (laws : Laws) (s : State) (kept : Kept f
   covers : IsCovered s.opening.tables x → IsCovered s.opening.tables next
   covers covered =
       record {
-        reads = all_by (λ deed. Covers (held s.opening.tables x.member.uses) deed.statement)
-            (λ deed. Covers (held s.opening.tables new.uses) deed.statement) x.deeds
-            (λ deed c name used. (holds_more x.member asked (number_of s.opening.tables name)).0 (c name used))
+        reads = all_by (λ operation. Covers (held s.opening.tables x.member.uses) operation.statement)
+            (λ operation. Covers (held s.opening.tables new.uses) operation.statement) x.operations
+            (λ operation c name used. (holds_more x.member asked (number_of s.opening.tables name)).0 (c name used))
             covered.reads;
-        writes = all_by (WritesWithin s.opening.tables x.member.uses) (WritesWithin s.opening.tables new.uses) x.deeds
-            (λ deed c name used. (holds_more x.member asked (number_of s.opening.tables name)).1 (c name used))
+        writes = all_by (WritesWithin s.opening.tables x.member.uses) (WritesWithin s.opening.tables new.uses) x.operations
+            (λ operation c name used. (holds_more x.member asked (number_of s.opening.tables name)).1 (c name used))
             covered.writes;
         within = λ table used. elim (used_from asked x.member.uses table used) [
           | inl a ↦ low table a

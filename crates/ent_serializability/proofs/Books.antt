@@ -7,13 +7,13 @@ use Rattle.ent_tree.specs.declared.declaration.Create.{Create}
 use Rattle.ent_tree.specs.declared.script.Statement.{Statement}
 use Rattle.ent_tree.specs.declared.script.Statement.TheVariants as statements
 use Rattle.ent_semantics.specs.declared.book.Entry.{Entry}
-use Rattle.ent_semantics.specs.Book.{RunGivesBook, book_sights}
+use Rattle.ent_semantics.specs.Book.{RunGivesBook, book_read_views}
 use Rattle.ent_semantics.specs.Database.{Name, Database, nothing_bound, opening_database, same_name}
 use Rattle.ent_semantics.specs.Entangled.{Valuation}
 use Rattle.ent_semantics.specs.Joint.{IsGrounded}
-use Rattle.ent_semantics.specs.Serial.{Deed, Run, Turn, Sight, is_entangled, deed_first, deeds_of, run}
-use Rattle.ent_semantics.specs.Serial.{ended, script_run, ran_first, scripts_run, sights, script_sights, seen_from}
-use Rattle.ent_semantics.specs.Serial.{scripts_sights, numbered}
+use Rattle.ent_semantics.specs.Serial.{Operation, Run, Turn, ReadView, is_entangled, operation_first, operations_of, run}
+use Rattle.ent_semantics.specs.Serial.{ended, script_run, ran_first, scripts_run, read_views, script_read_views, seen_from}
+use Rattle.ent_semantics.specs.Serial.{scripts_read_views, numbered}
 use Rattle.ent_closed.specs.Form.{Tables}
 use Rattle.ent_form_laws.specs.Tables.{database_of}
 use Rattle.ent_protocol.specs.Member.{environment_of}
@@ -29,48 +29,48 @@ use Rattle.ent_serializability.proofs.Kept.{Kept, entry_from, map_map}
 use Rattle.ent_lists.specs.Elements.{contains_in}
 use Rattle.ent_serializability.proofs.Reached.{reached_kept}
 
--- ---- the oracle's answers of deeds
+-- ---- the oracle's answers of operations
 
-abbrev pub oracle_of : List Deed → List Valuation
+abbrev pub oracle_of : List Operation → List Valuation
 oracle_of [] = []
-oracle_of (deed ∷ more) = cond (is_entangled deed.statement) (deed.valuation ∷ oracle_of more) (oracle_of more)
+oracle_of (operation ∷ more) = cond (is_entangled operation.statement) (operation.valuation ∷ oracle_of more) (oracle_of more)
 
--- a deed is its statement with the answer that the oracle gives it
-deed_again : (st : Statement) (valuation : Valuation) (more : List Deed) (sts : List Statement)
+-- an operation is its statement with the answer that the oracle gives it
+operation_again : (st : Statement) (valuation : Valuation) (more : List Operation) (sts : List Statement)
     → IsOracled (record { statement = st; valuation = valuation })
-    → deeds_of sts (oracle_of more) ≡ Some more
-    → deeds_of (st ∷ sts) (cond (is_entangled st) (valuation ∷ oracle_of more) (oracle_of more))
+    → operations_of sts (oracle_of more) ≡ Some more
+    → operations_of (st ∷ sts) (cond (is_entangled st) (valuation ∷ oracle_of more) (oracle_of more))
     ≡ Some (record { statement = st; valuation = valuation } ∷ more)
-deed_again (statements.Entangled entangled) valuation more sts oracled rest =
-    ap (deed_first (statements.Entangled entangled) valuation) rest
-deed_again (statements.Select select) valuation more sts oracled rest =
-    ap (deed_first (statements.Select select) []) rest
+operation_again (statements.Entangled entangled) valuation more sts oracled rest =
+    ap (operation_first (statements.Entangled entangled) valuation) rest
+operation_again (statements.Select select) valuation more sts oracled rest =
+    ap (operation_first (statements.Select select) []) rest
     ∙ (λ i. Some (record { statement = statements.Select select; valuation = sym oracled i } ∷ more))
-deed_again (statements.Insert insert) valuation more sts oracled rest =
-    ap (deed_first (statements.Insert insert) []) rest
+operation_again (statements.Insert insert) valuation more sts oracled rest =
+    ap (operation_first (statements.Insert insert) []) rest
     ∙ (λ i. Some (record { statement = statements.Insert insert; valuation = sym oracled i } ∷ more))
-deed_again (statements.Delete delete) valuation more sts oracled rest =
-    ap (deed_first (statements.Delete delete) []) rest
+operation_again (statements.Delete delete) valuation more sts oracled rest =
+    ap (operation_first (statements.Delete delete) []) rest
     ∙ (λ i. Some (record { statement = statements.Delete delete; valuation = sym oracled i } ∷ more))
-deed_again (statements.Update update) valuation more sts oracled rest =
-    ap (deed_first (statements.Update update) []) rest
+operation_again (statements.Update update) valuation more sts oracled rest =
+    ap (operation_first (statements.Update update) []) rest
     ∙ (λ i. Some (record { statement = statements.Update update; valuation = sym oracled i } ∷ more))
-deed_again (statements.Set setting) valuation more sts oracled rest =
-    ap (deed_first (statements.Set setting) []) rest
+operation_again (statements.Set setting) valuation more sts oracled rest =
+    ap (operation_first (statements.Set setting) []) rest
     ∙ (λ i. Some (record { statement = statements.Set setting; valuation = sym oracled i } ∷ more))
 
-pub deeds_again : (deeds : List Deed) → AllByRecursion IsOracled deeds
-    → deeds_of (map (λ (deed : Deed). deed.statement) deeds) (oracle_of deeds) ≡ Some deeds
-deeds_again [] oracled = refl
-deeds_again (deed ∷ more) oracled =
-    deed_again deed.statement deed.valuation more (map (λ (d : Deed). d.statement) more) oracled.0
-    (deeds_again more oracled.1)
+pub operations_again : (operations : List Operation) → AllByRecursion IsOracled operations
+    → operations_of (map (λ (operation : Operation). operation.statement) operations) (oracle_of operations) ≡ Some operations
+operations_again [] oracled = refl
+operations_again (operation ∷ more) oracled =
+    operation_again operation.statement operation.valuation more (map (λ (d : Operation). d.statement) more) oracled.0
+    (operations_again more oracled.1)
 
 -- ---- turns
 
 abbrev pub turn_of : (all : List Submitted) (history : History) → IsWhole all history → Turn
 turn_of all history whole =
-    record { tx = history.member.tx; script = whole.own.script; oracle = oracle_of history.deeds }
+    record { tx = history.member.tx; script = whole.own.script; oracle = oracle_of history.operations }
 
 abbrev pub turns_of : (all : List Submitted) (histories : List History)
     → AllByRecursion (IsWhole all) histories → List Turn
@@ -78,23 +78,23 @@ turns_of all [] whole = []
 turns_of all (history ∷ more) whole = turn_of all history whole.0 ∷ turns_of all more whole.1
 
 module _ (declared : List Create) (all : List Submitted) where
-  turn_deeds : (history : History) (whole : IsWhole all history)
-      → deeds_of whole.own.script.statements (oracle_of history.deeds) ≡ Some history.deeds
-  turn_deeds history whole =
-      ap (λ sts. deeds_of sts (oracle_of history.deeds)) (sym whole.whole) ∙ deeds_again history.deeds whole.oracled
+  turn_operations : (history : History) (whole : IsWhole all history)
+      → operations_of whole.own.script.statements (oracle_of history.operations) ≡ Some history.operations
+  turn_operations history whole =
+      ap (λ sts. operations_of sts (oracle_of history.operations)) (sym whole.whole) ∙ operations_again history.operations whole.oracled
 
   pub turn_run : (history : History) (whole : IsWhole all history) (first last : Database)
       → Replays declared history first last
-      → script_run declared whole.own.script (oracle_of history.deeds) first
+      → script_run declared whole.own.script (oracle_of history.operations) first
       ≡ Some (record {
         database = last;
         environment = environment_of history.member;
         answers = history.member.answers;
       })
   turn_run history whole first last replays =
-      ap (λ end. ended end (option_and_then (λ deeds. run declared deeds first nothing_bound)
-      (deeds_of whole.own.script.statements (oracle_of history.deeds)))) whole.commits
-      ∙ ap (option_and_then (λ deeds. run declared deeds first nothing_bound)) (turn_deeds history whole)
+      ap (λ end. ended end (option_and_then (λ operations. run declared operations first nothing_bound)
+      (operations_of whole.own.script.statements (oracle_of history.operations)))) whole.commits
+      ∙ ap (option_and_then (λ operations. run declared operations first nothing_bound)) (turn_operations history whole)
       ∙ replays.runs
 
   turns_run : (histories : List History) (whole : AllByRecursion (IsWhole all) histories) (first last : Database)
@@ -110,22 +110,22 @@ module _ (declared : List Create) (all : List Submitted) where
       (scripts_run declared (turns_of all more whole.1) r.database))) (turn_run history whole.0 first serial.0 serial.1)
       ∙ ap (option_map (ran_first history.member.answers)) (turns_run more whole.1 serial.0 last serial.2)
 
-  pub turn_sights : (history : History) (whole : IsWhole all history) (first : Database)
-      → script_sights declared (turn_of all history whole) first
-      ≡ sights declared history.member.tx 1 history.deeds first nothing_bound
-  turn_sights history whole first = rw (turn_deeds history whole) refl
+  pub turn_read_views : (history : History) (whole : IsWhole all history) (first : Database)
+      → script_read_views declared (turn_of all history whole) first
+      ≡ read_views declared history.member.tx 1 history.operations first nothing_bound
+  turn_read_views history whole first = rw (turn_operations history whole) refl
 
   turns_grounded : (histories : List History) (whole : AllByRecursion (IsWhole all) histories) (first last : Database)
       → AreSerial declared histories first last
-      → AllByRecursion (IsGrounded declared) (scripts_sights declared (turns_of all histories whole) first)
+      → AllByRecursion (IsGrounded declared) (scripts_read_views declared (turns_of all histories whole) first)
   turns_grounded [] whole first last serial = tt
   turns_grounded (history ∷ more) whole first last serial =
-      all_joined (IsGrounded declared) (script_sights declared (turn_of all history whole.0) first)
-      (seen_from (script_run declared whole.0.own.script (oracle_of history.deeds) first)
-      (scripts_sights declared (turns_of all more whole.1)))
-      (subst (AllByRecursion (IsGrounded declared)) (sym (turn_sights history whole.0 first)) serial.1.grounded)
+      all_joined (IsGrounded declared) (script_read_views declared (turn_of all history whole.0) first)
+      (seen_from (script_run declared whole.0.own.script (oracle_of history.operations) first)
+      (scripts_read_views declared (turns_of all more whole.1)))
+      (subst (AllByRecursion (IsGrounded declared)) (sym (turn_read_views history whole.0 first)) serial.1.grounded)
       (subst (λ r. AllByRecursion (IsGrounded declared)
-      (seen_from r (scripts_sights declared (turns_of all more whole.1))))
+      (seen_from r (scripts_read_views declared (turns_of all more whole.1))))
       (sym (turn_run history whole.0 first serial.0 serial.1))
       (turns_grounded more whole.1 serial.0 last serial.2))
 
@@ -187,22 +187,22 @@ module _ {F : Type 0} (forms : Forms F) (s : State) (kept : Kept forms s) where
             }));
       }
 
-  pub sights_grounded : (sight : Sight)
-      → Contains (book_sights (book_of s) (turns_of s.submitted kept.committed committed_whole)) sight
-      → IsGrounded s.opening.tables sight
-  sights_grounded sight at =
+  pub read_views_grounded : (read_view : ReadView)
+      → Contains (book_read_views (book_of s) (turns_of s.submitted kept.committed committed_whole)) read_view
+      → IsGrounded s.opening.tables read_view
+  read_views_grounded read_view at =
       of_all (IsGrounded s.opening.tables)
-      (book_sights (book_of s) (turns_of s.submitted kept.committed committed_whole)) sight
+      (book_read_views (book_of s) (turns_of s.submitted kept.committed committed_whole)) read_view
       (turns_grounded s.opening.tables s.submitted kept.committed committed_whole (opening_database s.opening)
       kept.base kept.settles)
-      (contains_in (book_sights (book_of s) (turns_of s.submitted kept.committed committed_whole)) sight at)
+      (contains_in (book_read_views (book_of s) (turns_of s.submitted kept.committed committed_whole)) read_view at)
 
 pub reached_run : {F : Type 0} (forms : Forms F) (laws : Laws) (s : State) → AreFaithful forms s.opening
     → IsReached forms s → (turns : List Turn) × RunGivesBook (book_of s) turns
-    × ((sight : Sight) → Contains (book_sights (book_of s) turns) sight → IsGrounded s.opening.tables sight)
+    × ((read_view : ReadView) → Contains (book_read_views (book_of s) turns) read_view → IsGrounded s.opening.tables read_view)
 reached_run forms laws s faithful reached =
     let kept = reached_kept forms laws s faithful reached in (
       turns_of s.submitted kept.committed (committed_whole forms s kept),
       run_gives_book forms s kept,
-      sights_grounded forms s kept,
+      read_views_grounded forms s kept,
     )

@@ -5,7 +5,7 @@ use Rattle.std.specs.List.{filter}
 use Rattle.ent_value.specs.declared.value.Value.{Value}
 use Rattle.ent_semantics.specs.declared.answer.Answer.{Answer}
 use Rattle.ent_semantics.specs.declared.answer.Answer.TheVariants as answers
-use Rattle.ent_semantics.specs.Serial.{Deed}
+use Rattle.ent_semantics.specs.Serial.{Operation}
 use Rattle.ent_semantics.specs.Database.{Environment, nothing_bound}
 use Rattle.ent_closed.specs.Form.{Tables, closed_worth, form_meaning}
 use Rattle.ent_closed.specs.declared.statement.Statement.{Statement}
@@ -28,9 +28,9 @@ use Rattle.ent_serializability.proofs.Undo.{at_number, same_number, other_number
 use Rattle.ent_serializability.proofs.Sound.{AreApart, has_tx, last}
 use Rattle.ent_serializability.proofs.Acts.{OwnsFirst, Makes, sound_made}
 use Rattle.ent_serializability.proofs.Outcomes.{SameAt, Lands}
-use Rattle.ent_serializability.proofs.Deeds.{HoldsUses, with_deed, owns_table, follows_pushed, ordinary_makes}
-use Rattle.ent_serializability.proofs.Deeds.{ordinary_oracled}
-use Rattle.ent_serializability.proofs.Deeds.{values_bound, ordinary_asks}
+use Rattle.ent_serializability.proofs.Operations.{HoldsUses, with_operation, owns_table, follows_pushed, ordinary_makes}
+use Rattle.ent_serializability.proofs.Operations.{ordinary_oracled}
+use Rattle.ent_serializability.proofs.Operations.{values_bound, ordinary_asks}
 use Rattle.ent_serializability.proofs.Jobs.{Stays, Moves, jobs_moved, stays_as_is}
 use Rattle.ent_serializability.proofs.Asks.{asks_at, asks_of, history_asks, asks_pushed, replays_in}
 use Rattle.ent_serializability.proofs.Joints.{Was, stand_moved, unchanged}
@@ -39,15 +39,15 @@ use Rattle.ent_serializability.proofs.Kept.{one_history, one_member, replaced_he
 use Rattle.ent_serializability.proofs.Stands.{ordinary_next, follows_of}
 
 module _ {F : Type 0} (forms : Forms F) (laws : Laws) (s : State) (kept : Kept forms s) (x : History)
-    (at : In x kept.others) (member : Member) (deed : Deed) (table : List ℕ) (removed added : List (List Value))
+    (at : In x kept.others) (member : Member) (operation : Operation) (table : List ℕ) (removed added : List (List Value))
     (tx : member.tx ≡ x.member.tx) (place : member.place ≡ suc x.member.place) (unposted : member.posted ≡ false)
-    (follows : Follows s.submitted (with_deed x member deed))
-    (makes : Makes s.opening.tables x (with_deed x member deed) s.tables
+    (follows : Follows s.submitted (with_operation x member operation))
+    (makes : Makes s.opening.tables x (with_operation x member operation) s.tables
     (with_change table removed added s.tables) table
     removed added)
     (none : (job : Job) → In job s.lent → is_single_of x.member.tx job ≡ false)
     (plain : (number index : ℕ) (environment : Environment)
-    → asks_at number index deed.statement deed.valuation environment ≡ []) where
+    → asks_at number index operation.statement operation.valuation environment ≡ []) where
   abbrev rest : List History
   rest = filter (λ y. not (has_tx x.member.tx y)) kept.others
 
@@ -93,10 +93,10 @@ module _ {F : Type 0} (forms : Forms F) (laws : Laws) (s : State) (kept : Kept f
           sym (set_elsewhere s.tables first number _ (other_number first number (λ same.
           unowned (subst (λ n. is_owned x.member.uses n ≡ true) same owns))))
 
-  members_same : Same (map member_of (rest ++ with_deed x member deed ∷ [])) (map (replaced member) s.active)
+  members_same : Same (map member_of (rest ++ with_operation x member operation ∷ [])) (map (replaced member) s.active)
   members_same z = (
     λ zt. elim (in_either (map member_of rest) (member ∷ []) z
-        (subst (In z) (map_joined member_of rest (with_deed x member deed ∷ [])) zt)) [
+        (subst (In z) (map_joined member_of rest (with_operation x member operation ∷ [])) zt)) [
           | inl a ↦
               let y = of_map member_of rest z a in
               let f = of_filter (λ y. not (has_tx x.member.tx y)) kept.others y.0 y.1 in
@@ -113,7 +113,7 @@ module _ {F : Type 0} (forms : Forms F) (laws : Laws) (s : State) (kept : Kept f
         ],
     λ zt.
         let m = of_map (replaced member) s.active z zt in
-        subst (In z) (sym (map_joined member_of rest (with_deed x member deed ∷ [])))
+        subst (In z) (sym (map_joined member_of rest (with_operation x member operation ∷ [])))
         (elim (one_of_two m.0 m.1) [
           | inl one ↦ in_second (map member_of rest) (member ∷ []) z (inl (m.2 ∙ one.1))
           | inr other ↦
@@ -130,22 +130,22 @@ module _ {F : Type 0} (forms : Forms F) (laws : Laws) (s : State) (kept : Kept f
   old = kept.prepared ++ kept.others
 
   abbrev now : List History
-  now = kept.prepared ++ (rest ++ with_deed x member deed ∷ [])
+  now = kept.prepared ++ (rest ++ with_operation x member operation ∷ [])
 
-  asks_same : history_asks (with_deed x member deed) ≡ history_asks x
+  asks_same : history_asks (with_operation x member operation) ≡ history_asks x
   asks_same =
       let r = replays_in s.opening.tables old kept.base (database_of s.opening.tables s.tables) kept.sound.serial x
       (in_all forms s kept x at) in
-      ap (λ n. asks_of n 1 (x.deeds ++ deed ∷ []) nothing_bound) tx
-      ∙ asks_pushed s.opening.tables x r.0 r.1 deed r.2
-      ∙ ap (λ more. history_asks x ++ more) (plain x.member.tx (suc (length x.deeds)) (environment_of x.member))
+      ap (λ n. asks_of n 1 (x.operations ++ operation ∷ []) nothing_bound) tx
+      ∙ asks_pushed s.opening.tables x r.0 r.1 operation r.2
+      ∙ ap (λ more. history_asks x ++ more) (plain x.member.tx (suc (length x.operations)) (environment_of x.member))
       ∙ append-nil (history_asks x)
 
   was : (y : History) → In y now → Was old y
   was y yt =
-      elim (in_either kept.prepared (rest ++ with_deed x member deed ∷ []) y yt) [
+      elim (in_either kept.prepared (rest ++ with_operation x member operation ∷ []) y yt) [
         | inl a ↦ unchanged y (in_first kept.prepared kept.others y a)
-        | inr b ↦ elim (in_either rest (with_deed x member deed ∷ []) y b) [
+        | inr b ↦ elim (in_either rest (with_operation x member operation ∷ []) y b) [
           | inl c ↦ unchanged y
               (in_second kept.prepared kept.others y
               (of_filter (λ y. not (has_tx x.member.tx y)) kept.others y c).0)
@@ -165,7 +165,7 @@ module _ {F : Type 0} (forms : Forms F) (laws : Laws) (s : State) (kept : Kept f
   is_now : (y : History) → In y old → (z : History) × In z now × (history_asks z ≡ history_asks y)
   is_now y yt =
       elim (in_either kept.prepared kept.others y yt) [
-        | inl a ↦ (y, in_first kept.prepared (rest ++ with_deed x member deed ∷ []) y a, refl)
+        | inl a ↦ (y, in_first kept.prepared (rest ++ with_operation x member operation ∷ []) y a, refl)
         | inr b ↦ by (has_tx x.member.tx y) refl b
       ]
     where
@@ -174,15 +174,15 @@ module _ {F : Type 0} (forms : Forms F) (laws : Laws) (s : State) (kept : Kept f
       by true is b =
           let same = one_history old y x kept.sound.fit (in_all forms s kept y b) (in_all forms s kept x at)
           (same_number y.member.tx x.member.tx is) in (
-            with_deed x member deed,
-            in_second kept.prepared (rest ++ with_deed x member deed ∷ []) (with_deed x member deed)
-                (in_second rest (with_deed x member deed ∷ []) (with_deed x member deed) (inl refl)),
+            with_operation x member operation,
+            in_second kept.prepared (rest ++ with_operation x member operation ∷ []) (with_operation x member operation)
+                (in_second rest (with_operation x member operation ∷ []) (with_operation x member operation) (inl refl)),
             asks_same ∙ ap history_asks (sym same),
           )
       by false is b = (
         y,
-        in_second kept.prepared (rest ++ with_deed x member deed ∷ []) y
-            (in_first rest (with_deed x member deed ∷ []) y
+        in_second kept.prepared (rest ++ with_operation x member operation ∷ []) y
+            (in_first rest (with_operation x member operation ∷ []) y
             (to_filter (λ y. not (has_tx x.member.tx y)) kept.others y b (ap not is))),
         refl,
       )
@@ -196,17 +196,17 @@ module _ {F : Type 0} (forms : Forms F) (laws : Laws) (s : State) (kept : Kept f
       record {
         committed = kept.committed;
         prepared = kept.prepared;
-        others = rest ++ with_deed x member deed ∷ [];
+        others = rest ++ with_operation x member operation ∷ [];
         base = kept.base;
         journal = kept.journal;
         of_prepared = kept.of_prepared;
         same = members_same;
         settles = kept.settles;
-        sound = sound_made s.opening.tables laws kept.base kept.prepared rest x (with_deed x member deed) s.tables new
+        sound = sound_made s.opening.tables laws kept.base kept.prepared rest x (with_operation x member operation) s.tables new
             s.changes table removed added
             (last s.opening.tables laws kept.base kept.prepared kept.others s.tables s.changes kept.sound x at) makes;
         whole = kept.whole;
-        follow = all_joined (Follows s.submitted) rest (with_deed x member deed ∷ [])
+        follow = all_joined (Follows s.submitted) rest (with_operation x member operation ∷ [])
             (all_filtered (Follows s.submitted) (λ y. not (has_tx x.member.tx y)) kept.others kept.follow)
             (follows, tt);
         resolved = kept.resolved;
@@ -299,10 +299,10 @@ module _ {F : Type 0} (forms : Forms F) (laws : Laws) (s : State) (kept : Kept f
       })
   finishes_as member answer table removed added tx group uses place unposted told owns meaning =
       let n = ordinary_next forms s kept faithful x follows c next in
-      let deed : Deed = record { statement = n.0.statement; valuation = [] } in
+      let operation : Operation = record { statement = n.0.statement; valuation = [] } in
       let new = with_change table removed added s.tables in
-      made forms laws s kept x at member deed table removed added tx place unposted
-      (follows_pushed s.submitted x member deed follows tx place
+      made forms laws s kept x at member operation table removed added tx place unposted
+      (follows_pushed s.submitted x member operation follows tx place
       (ordinary_oracled s.opening.tables laws x member n.0.statement n.0.form c n.0.faithful n.0.closes n.1 holds uses
       tx
       group s.tables new answer told kept.sound.wide meaning) n.0.at)

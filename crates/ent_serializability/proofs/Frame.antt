@@ -14,7 +14,7 @@ use Rattle.ent_semantics.specs.Effect.{Effect}
 use Rattle.ent_semantics.specs.Entangled.{Valuation, is_grounding}
 use Rattle.ent_semantics.specs.Further.{one_more}
 use Rattle.ent_semantics.specs.Joint.{IsGrounded}
-use Rattle.ent_semantics.specs.Serial.{Deed, Run, answered_first, after, run, seen, seen_after, sights}
+use Rattle.ent_semantics.specs.Serial.{Operation, Run, answered_first, after, run, seen, seen_after, read_views}
 use Rattle.ent_semantics.specs.Statement.{statement_meaning}
 use Rattle.ent_semantics.specs.Uses.{changes, Agree, Covers, EffectsAlike, KeepsOthers, RunsAlike, CoversAll}
 use Rattle.ent_closed.specs.Closing.{closed, closed_entangled}
@@ -44,12 +44,12 @@ pub record Laws : Type 0 where
   pub changes : (declared : List Create) (statement : Statement) (valuation : Valuation)
       (environment : Environment) (database : Database)
       → KeepsOthers statement database (statement_meaning declared statement valuation database environment)
-  pub runs : (some : Name → Bool) (declared : List Create) (deeds : List Deed) (environment : Environment)
-      (first second : Database) → CoversAll some deeds → Agree some first second
-      → RunsAlike (Agree some) (run declared deeds first environment) (run declared deeds second environment)
-  pub goes_on : (declared : List Create) (deeds : List Deed) (deed : Deed) (database : Database)
-      (environment : Environment) → run declared (deeds ++ deed ∷ []) database environment
-      ≡ option_and_then (one_more declared deed) (run declared deeds database environment)
+  pub runs : (some : Name → Bool) (declared : List Create) (operations : List Operation) (environment : Environment)
+      (first second : Database) → CoversAll some operations → Agree some first second
+      → RunsAlike (Agree some) (run declared operations first environment) (run declared operations second environment)
+  pub goes_on : (declared : List Create) (operations : List Operation) (operation : Operation) (database : Database)
+      (environment : Environment) → run declared (operations ++ operation ∷ []) database environment
+      ≡ option_and_then (one_more declared operation) (run declared operations database environment)
   -- and what a resolved statement means is what it means closed
   pub closes : (statement : FormStatement Known) (valuation : Valuation) (tables : Tables)
       (environment : Environment)
@@ -74,15 +74,15 @@ held declared uses name = is_used uses (number_of declared name)
 abbrev pub owned : List Create → List Use → Name → Bool
 owned declared uses name = is_owned uses (number_of declared name)
 
--- a deed changes tables that are used exclusively
-abbrev pub WritesWithin : List Create → List Use → Deed → Type 0
-WritesWithin declared uses deed =
-    (name : Name) → changes deed.statement name ≡ true → owned declared uses name ≡ true
+-- an operation changes tables that are used exclusively
+abbrev pub WritesWithin : List Create → List Use → Operation → Type 0
+WritesWithin declared uses operation =
+    (name : Name) → changes operation.statement name ≡ true → owned declared uses name ≡ true
 
 -- a member holds the uses of what it did
 pub record IsCovered (declared : List Create) (history : History) : Type 0 where
-  pub reads : CoversAll (held declared history.member.uses) history.deeds
-  pub writes : AllByRecursion (WritesWithin declared history.member.uses) history.deeds
+  pub reads : CoversAll (held declared history.member.uses) history.operations
+  pub writes : AllByRecursion (WritesWithin declared history.member.uses) history.operations
   -- tables that are declared
   pub within : (table : ℕ) → is_used history.member.uses table ≡ true → table < length declared
 
@@ -119,20 +119,20 @@ pub some_run : (first second : Run) → Some first ≡ Some second → first ≡
 some_run first second e = cc
 
 module _ (declared : List Create) (laws : Laws) where
-  -- deeds leave a table as it was, from wherever they run
-  abbrev FromThere : List Deed → Name → Type 0
+  -- operations leave a table as it was, from wherever they run
+  abbrev FromThere : List Operation → Name → Type 0
   FromThere more name =
       (effect : Effect Database) (r : Run) → run declared more effect.database effect.environment ≡ Some r
       → r.database name ≡ effect.database name
 
-  run_other : (deeds : List Deed) (database : Database) (environment : Environment) (last : Run) (name : Name)
-      → run declared deeds database environment ≡ Some last
-      → AllByRecursion (λ deed. changes deed.statement name ≡ false) deeds → last.database name ≡ database name
+  run_other : (operations : List Operation) (database : Database) (environment : Environment) (last : Run) (name : Name)
+      → run declared operations database environment ≡ Some last
+      → AllByRecursion (λ operation. changes operation.statement name ≡ false) operations → last.database name ≡ database name
   run_other [] database environment last name is none =
       ap (λ (r : Run). r.database name) (sym (some_run _ last is))
-  run_other (deed ∷ more) database environment last name is none =
-      by (statement_meaning declared deed.statement deed.valuation database environment)
-      (laws.changes declared deed.statement deed.valuation environment database) is
+  run_other (operation ∷ more) database environment last name is none =
+      by (statement_meaning declared operation.statement operation.valuation database environment)
+      (laws.changes declared operation.statement operation.valuation environment database) is
       (λ effect r e. run_other more effect.database effect.environment r name e none.1)
     where
       rest : FromThere more name → (effect : Effect Database) (x : Option Run)
@@ -144,7 +144,7 @@ module _ (declared : List Create) (laws : Laws) where
           ap (λ (r : Run). r.database name) (sym (some_run (answered_first effect.answer r) last g))
           ∙ further effect r e
 
-      by : (x : Result (Effect Database) Failure) → KeepsOthers deed.statement database x
+      by : (x : Result (Effect Database) Failure) → KeepsOthers operation.statement database x
           → after x (run declared more) ≡ Some last → FromThere more name → last.database name ≡ database name
       by (Ok effect) keeps g further =
           rest further effect (run declared more effect.database effect.environment) refl g ∙ keeps name none.0
@@ -154,14 +154,14 @@ module _ (declared : List Create) (laws : Laws) where
       → Replays declared history first last → owned declared history.member.uses name ≡ false
       → last name ≡ first name
   kept history first last name covered replays out =
-      run_other history.deeds first nothing_bound
+      run_other history.operations first nothing_bound
       (record {
         database = last;
         environment = environment_of history.member;
         answers = history.member.answers;
       }) name replays.runs
-      (all_by (WritesWithin declared history.member.uses) (λ deed. changes deed.statement name ≡ false) history.deeds
-      (λ deed writes. not_so (changes deed.statement name)
+      (all_by (WritesWithin declared history.member.uses) (λ operation. changes operation.statement name ≡ false) history.operations
+      (λ operation writes. not_so (changes operation.statement name)
       (λ is. clash (owned declared history.member.uses name) (writes name is) out)) covered.writes)
 
   -- ---- what is alike where it is read
@@ -180,30 +180,30 @@ module _ (declared : List Create) (laws : Laws) where
   seen_alike some tx place (statements.Update update) valuation first second environment covers agree h = tt
   seen_alike some tx place (statements.Set setting) valuation first second environment covers agree h = tt
 
-  grounded_alike : (some : Name → Bool) (tx place : ℕ) (deeds : List Deed) (first second : Database)
-      (environment : Environment) → CoversAll some deeds → Agree some first second
-      → AllByRecursion (IsGrounded declared) (sights declared tx place deeds first environment)
-      → AllByRecursion (IsGrounded declared) (sights declared tx place deeds second environment)
+  grounded_alike : (some : Name → Bool) (tx place : ℕ) (operations : List Operation) (first second : Database)
+      (environment : Environment) → CoversAll some operations → Agree some first second
+      → AllByRecursion (IsGrounded declared) (read_views declared tx place operations first environment)
+      → AllByRecursion (IsGrounded declared) (read_views declared tx place operations second environment)
   grounded_alike some tx place [] first second environment covers agree h = tt
-  grounded_alike some tx place (deed ∷ more) first second environment covers agree h =
-      all_joined (IsGrounded declared) (seen tx place deed second environment) _
-      (seen_alike some tx place deed.statement deed.valuation first second environment covers.0 agree
-      (all_first (IsGrounded declared) (seen tx place deed first environment) _ h))
-      (by (statement_meaning declared deed.statement deed.valuation first environment)
-      (statement_meaning declared deed.statement deed.valuation second environment)
-      (laws.reads some declared deed.statement deed.valuation environment first second covers.0 agree)
-      (all_second (IsGrounded declared) (seen tx place deed first environment) _ h)
+  grounded_alike some tx place (operation ∷ more) first second environment covers agree h =
+      all_joined (IsGrounded declared) (seen tx place operation second environment) _
+      (seen_alike some tx place operation.statement operation.valuation first second environment covers.0 agree
+      (all_first (IsGrounded declared) (seen tx place operation first environment) _ h))
+      (by (statement_meaning declared operation.statement operation.valuation first environment)
+      (statement_meaning declared operation.statement operation.valuation second environment)
+      (laws.reads some declared operation.statement operation.valuation environment first second covers.0 agree)
+      (all_second (IsGrounded declared) (seen tx place operation first environment) _ h)
       (λ one other e alike. grounded_alike some tx (suc place) more one other e covers.1 alike))
     where
       by : (x y : Result (Effect Database) Failure) → EffectsAlike (Agree some) x y
-          → AllByRecursion (IsGrounded declared) (seen_after x (sights declared tx (suc place) more))
+          → AllByRecursion (IsGrounded declared) (seen_after x (read_views declared tx (suc place) more))
           → ((one other : Database) (e : Environment) → Agree some one other
-          → AllByRecursion (IsGrounded declared) (sights declared tx (suc place) more one e)
-          → AllByRecursion (IsGrounded declared) (sights declared tx (suc place) more other e))
-          → AllByRecursion (IsGrounded declared) (seen_after y (sights declared tx (suc place) more))
+          → AllByRecursion (IsGrounded declared) (read_views declared tx (suc place) more one e)
+          → AllByRecursion (IsGrounded declared) (read_views declared tx (suc place) more other e))
+          → AllByRecursion (IsGrounded declared) (seen_after y (read_views declared tx (suc place) more))
       by (Ok one) (Ok other) alike g further =
           further one.database other.database other.environment alike.2
-          (subst (λ e. AllByRecursion (IsGrounded declared) (sights declared tx (suc place) more one.database e))
+          (subst (λ e. AllByRecursion (IsGrounded declared) (read_views declared tx (suc place) more one.database e))
           alike.1 g)
       by (Err one) (Err other) alike g further = tt
       by (Ok one) (Err other) alike g further = absurd alike
@@ -215,10 +215,10 @@ module _ (declared : List Create) (laws : Laws) where
       → (other : Database) × Replays declared history second other
       × Agree (held declared history.member.uses) last other
   elsewhere history first last second covered agree replays =
-      by (run declared history.deeds second nothing_bound) refl
+      by (run declared history.operations second nothing_bound) refl
       (subst (λ x. RunsAlike (Agree (held declared history.member.uses)) x
-      (run declared history.deeds second nothing_bound)) replays.runs
-      (laws.runs (held declared history.member.uses) declared history.deeds nothing_bound first second covered.reads
+      (run declared history.operations second nothing_bound)) replays.runs
+      (laws.runs (held declared history.member.uses) declared history.operations nothing_bound first second covered.reads
       agree))
     where
       there : Run
@@ -229,7 +229,7 @@ module _ (declared : List Create) (laws : Laws) where
             answers = history.member.answers;
           }
 
-      by : (x : Option Run) → run declared history.deeds second nothing_bound ≡ x
+      by : (x : Option Run) → run declared history.operations second nothing_bound ≡ x
           → RunsAlike (Agree (held declared history.member.uses)) (Some there) x
           → (other : Database) × Replays declared history second other
           × Agree (held declared history.member.uses) last other
@@ -243,7 +243,7 @@ module _ (declared : List Create) (laws : Laws) where
                 environment = sym alike.1 i;
                 answers = sym alike.0 i;
               }));
-          grounded = grounded_alike (held declared history.member.uses) history.member.tx 1 history.deeds first second
+          grounded = grounded_alike (held declared history.member.uses) history.member.tx 1 history.operations first second
               nothing_bound covered.reads agree replays.grounded;
         },
         alike.2,

@@ -9,19 +9,19 @@ use Rattle.ent_semantics.specs.declared.book.JointAnswer.{JointAnswer}
 use Rattle.ent_semantics.specs.declared.book.Member.{Member as JointMember}
 use Rattle.ent_semantics.specs.Database.{Database, nothing_bound}
 use Rattle.ent_semantics.specs.Joint.{IsGrounded}
-use Rattle.ent_semantics.specs.Serial.{Sight}
+use Rattle.ent_semantics.specs.Serial.{ReadView}
 use Rattle.ent_protocol.specs.Member.{is_of, is_tx}
 use Rattle.ent_protocol.specs.Reached.{IsReached, live_joints}
 use Rattle.ent_protocol.specs.Rollback.{is_among, is_joint_of}
 use Rattle.ent_protocol.specs.Run.{Forms}
 use Rattle.ent_protocol.specs.State.{State, Member, members}
 use Rattle.ent_serializability.specs.Faithful.{AreFaithful}
-use Rattle.ent_serializability.specs.GoodAnswers.{histories_sights}
-use Rattle.ent_serializability.specs.GroupAnswers.{history_sights, group_sights, IsOfGroup, HaveGroups, GroupAnswers}
+use Rattle.ent_serializability.specs.GoodAnswers.{histories_read_views}
+use Rattle.ent_serializability.specs.GroupAnswers.{history_read_views, group_read_views, IsOfGroup, HaveGroups, GroupAnswers}
 use Rattle.ent_serializability.specs.GroupRuns.{GroupRuns, settled_database}
 use Rattle.ent_serializability.specs.History.{History, Replays}
 use Rattle.ent_lists.specs.Elements.{contains_in, in_contains}
-use Rattle.ent_serializability.proofs.Asks.{Ask, ask_of, ask_member, history_asks, sights_asks}
+use Rattle.ent_serializability.proofs.Asks.{Ask, ask_of, ask_member, history_asks, read_views_asks}
 use Rattle.ent_serializability.proofs.Frame.{Laws}
 use Rattle.ent_serializability.proofs.Good.{histories_ask, histories_grounded, good_over}
 use Rattle.ent_serializability.proofs.GroupRuns.{unprepared, group_runs, its_prepared, are_others}
@@ -40,21 +40,21 @@ Ran declared first history = (last : Database) × Replays declared history first
 
 each_asks : (declared : List Create) (first : Database) (histories : List History)
     → ((x : History) → In x histories → Ran declared first x)
-    → map ask_of (flat_map (history_sights declared first) histories) ≡ flat_map history_asks histories
+    → map ask_of (flat_map (history_read_views declared first) histories) ≡ flat_map history_asks histories
 each_asks declared first [] ran = refl
 each_asks declared first (x ∷ xs) ran =
-    let own = sights_asks declared x.member.tx 1 x.deeds first nothing_bound (_, (ran x (inl refl)).1.runs) in
+    let own = read_views_asks declared x.member.tx 1 x.operations first nothing_bound (_, (ran x (inl refl)).1.runs) in
     let rest = each_asks declared first xs (λ y at. ran y (inr at)) in
-    map_joined ask_of (history_sights declared first x) (flat_map (history_sights declared first) xs)
+    map_joined ask_of (history_read_views declared first x) (flat_map (history_read_views declared first) xs)
     ∙ (λ i. own i ++ rest i)
 
 each_grounded : (declared : List Create) (first : Database) (histories : List History)
     → ((x : History) → In x histories → Ran declared first x)
-    → AllByRecursion (IsGrounded declared) (flat_map (history_sights declared first) histories)
+    → AllByRecursion (IsGrounded declared) (flat_map (history_read_views declared first) histories)
 each_grounded declared first [] ran = tt
 each_grounded declared first (x ∷ xs) ran =
-    all_joined (IsGrounded declared) (history_sights declared first x)
-    (flat_map (history_sights declared first) xs) (ran x (inl refl)).1.grounded
+    all_joined (IsGrounded declared) (history_read_views declared first x)
+    (flat_map (history_read_views declared first) xs) (ran x (inl refl)).1.grounded
     (each_grounded declared first xs (λ y at. ran y (inr at)))
 
 module _ {F : Type 0} (forms : Forms F) (laws : Laws) (s : State) (kept : Kept forms s) where
@@ -105,8 +105,8 @@ module _ {F : Type 0} (forms : Forms F) (laws : Laws) (s : State) (kept : Kept f
     abbrev did : List History
     did = runs.prepared ++ others
 
-    abbrev seen : List Sight
-    seen = group_sights s group runs others
+    abbrev seen : List ReadView
+    seen = group_read_views s group runs others
 
     ran : (x : History) → In x others → Ran s.opening.tables runs.start x
     ran x at =
@@ -119,16 +119,16 @@ module _ {F : Type 0} (forms : Forms F) (laws : Laws) (s : State) (kept : Kept f
         let declared = s.opening.tables in
         let one = histories_ask declared runs.prepared (settled_database s) runs.start runs.runs in
         let other = each_asks declared runs.start others ran in
-        map_joined ask_of (histories_sights declared runs.prepared (settled_database s))
-        (flat_map (history_sights declared runs.start) others)
+        map_joined ask_of (histories_read_views declared runs.prepared (settled_database s))
+        (flat_map (history_read_views declared runs.start) others)
         ∙ (λ i. one i ++ other i)
         ∙ sym (flat_map-append history_asks runs.prepared others)
 
     grounded : AllByRecursion (IsGrounded s.opening.tables) seen
     grounded =
         let declared = s.opening.tables in
-        all_joined (IsGrounded declared) (histories_sights declared runs.prepared (settled_database s))
-        (flat_map (history_sights declared runs.start) others)
+        all_joined (IsGrounded declared) (histories_read_views declared runs.prepared (settled_database s))
+        (flat_map (history_read_views declared runs.start) others)
         (histories_grounded declared runs.prepared (settled_database s) runs.start runs.runs)
         (each_grounded declared runs.start others ran)
 

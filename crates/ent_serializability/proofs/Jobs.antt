@@ -17,7 +17,7 @@ use Rattle.ent_protocol.specs.Uses.{statement_uses, entangled_uses}
 use Rattle.ent_lists.specs.Elements.{In, of_all, to_all}
 use Rattle.ent_serializability.proofs.Undo.{number_itself}
 use Rattle.ent_serializability.proofs.Outcomes.{SameAt, HasRoom}
-use Rattle.ent_serializability.proofs.Deeds.{HoldsUses}
+use Rattle.ent_serializability.proofs.Operations.{HoldsUses}
 
 -- ---- jobs
 
@@ -39,14 +39,14 @@ pub record StillAsks (tables seen : Tables) (query : Posted) (member : Member) :
   pub alike : SameAt (entangled_uses query.statement) seen tables
 
 -- a statement of a joint job: its member still asks, or is past it
-abbrev pub AskingRight : List Member → Tables → Tables → Posted → Type 0
-AskingRight active tables seen query =
+abbrev pub PostedQueryRight : List Member → Tables → Tables → Posted → Type 0
+PostedQueryRight active tables seen query =
     (member : Member) → In member active → member.tx ≡ query.tx
     → (query.place ≤ member.place) × (member.place ≡ query.place → StillAsks tables seen query member)
 
 abbrev pub WorkRight : List Submitted → List Member → Tables → Tables → Work → Type 0
 WorkRight submitted active tables seen (One single) = SingleRight submitted active tables seen single
-WorkRight submitted active tables seen (Joint asked) = AllByRecursion (AskingRight active tables seen) asked
+WorkRight submitted active tables seen (Joint asked) = AllByRecursion (PostedQueryRight active tables seen) asked
 
 abbrev pub JobRight : List Submitted → List Member → Tables → Job → Type 0
 JobRight submitted active tables job = WorkRight submitted active tables (tables_of job.tables) job.work
@@ -106,9 +106,9 @@ module _ (submitted : List Submitted) (active next : List Member) (tables new : 
         alike = λ table used. h.alike table used ∙ stays.alike table ((h.holds table).0 used);
       }
 
-  asking_moved : (seen : Tables) (query : Posted) → AskingRight active tables seen query
-      → AskingRight next new seen query
-  asking_moved seen query right other at tx =
+  query_moved : (seen : Tables) (query : Posted) → PostedQueryRight active tables seen query
+      → PostedQueryRight next new seen query
+  query_moved seen query right other at tx =
       let r = backward other at in
       elim r.2 [
         | inl stays ↦
@@ -132,8 +132,8 @@ module _ (submitted : List Submitted) (active next : List Member) (tables new : 
   work_moved : (job : Job) → In job left → (seen : Tables) (work : Work) → job.work ≡ work
       → WorkRight submitted active tables seen work → WorkRight submitted next new seen work
   work_moved job at seen (Joint asked) is right =
-      to_all (AskingRight next new seen) asked
-      (λ query there. asking_moved seen query (of_all (AskingRight active tables seen) asked query right there))
+      to_all (PostedQueryRight next new seen) asked
+      (λ query there. query_moved seen query (of_all (PostedQueryRight active tables seen) asked query right there))
   work_moved job at seen (One single) is right =
       let has : is_single_of right.member.tx job ≡ true =
       ap (λ w. is_single_of right.member.tx (record { work = w; tables = job.tables })) is

@@ -40,27 +40,27 @@ use Rattle.ent_serializability.proofs.Sound.{Fit, AreApart}
 use Rattle.ent_serializability.proofs.Acts.{Keeps}
 use Rattle.ent_serializability.proofs.Outcomes.{grounding_same}
 use Rattle.ent_serializability.proofs.Scripts.{replays_pushed}
-use Rattle.ent_serializability.proofs.Deeds.{HoldsUses, with_deed, covers_pushed, follows_pushed, IsPair, pair_of}
-use Rattle.ent_serializability.proofs.Deeds.{asked_meaning, asked_grounds, asked_length}
-use Rattle.ent_serializability.proofs.Jobs.{OtherJob, AskingRight, StillAsks, Moves}
+use Rattle.ent_serializability.proofs.Operations.{HoldsUses, with_operation, covers_pushed, follows_pushed, IsPair, pair_of}
+use Rattle.ent_serializability.proofs.Operations.{asked_meaning, asked_grounds, asked_length}
+use Rattle.ent_serializability.proofs.Jobs.{OtherJob, PostedQueryRight, StillAsks, Moves}
 use Rattle.ent_serializability.proofs.Asks.{Ask, ask_member, ask_heads, ask_posts, asks_at, asks_place, history_asks}
 use Rattle.ent_serializability.proofs.Asks.{asks_pushed, replays_in}
-use Rattle.ent_serializability.proofs.Answered.{answered_keeps, deed_at, deeds_among, statement_deed, joint_member}
+use Rattle.ent_serializability.proofs.Answered.{answered_keeps, operation_at, operations_among, statement_operation, joint_member}
 use Rattle.ent_serializability.proofs.Answered.{IsAnswered}
 use Rattle.ent_serializability.proofs.Answered.{IsLeft, answered_or_left, nonempty, from_joint, from_heads, joint_pairs}
-use Rattle.ent_serializability.proofs.Answered.{OtherAsking, IsPresent, label_same}
+use Rattle.ent_serializability.proofs.Answered.{OtherPostedQuery, IsPresent, label_same}
 use Rattle.ent_serializability.proofs.Joints.{JointsRight, JointsStand, AsksOf, OtherTx, right_one, stand_joined}
 use Rattle.ent_serializability.proofs.Joints.{of_own}
 use Rattle.ent_serializability.proofs.Kept.{Kept, member_of, kept_mapped, history_of, active_at, one_member}
 use Rattle.ent_serializability.proofs.Kept.{map_alike, in_all, one_history, committed_apart}
 use Rattle.ent_serializability.proofs.Moved.{posted_joined, jobs_joined}
-use Rattle.ent_serializability.proofs.Stands.{IsNext, asking_next, follows_of}
+use Rattle.ent_serializability.proofs.Stands.{IsNext, posting_next, follows_of}
 
 module _ {F : Type 0} (forms : Forms F) (laws : Laws) (s : State) (kept : Kept forms s)
     (faithful : AreFaithful forms s.opening) (asked : List Posted) (groundings : List Valuation) (seen : Tables)
     (groups : List ℕ) (good : AreGroundings seen asked groundings)
     (present : AllByRecursion (IsPresent s) asked)
-    (right : AllByRecursion (AskingRight s.active s.tables seen) asked) where
+    (right : AllByRecursion (PostedQueryRight s.active s.tables seen) asked) where
   abbrev change : Member → Member
   change m = in_joined_group groups (answered_among asked groundings m)
 
@@ -68,11 +68,11 @@ module _ {F : Type 0} (forms : Forms F) (laws : Laws) (s : State) (kept : Kept f
   entered x =
       record {
         member = in_joined_group groups (answered_among asked groundings x.member);
-        deeds = x.deeds ++ deeds_among s.submitted asked groundings x.member;
+        operations = x.operations ++ operations_among s.submitted asked groundings x.member;
       }
 
   abbrev regrouped : History → History
-  regrouped x = record { member = in_joined_group groups x.member; deeds = x.deeds }
+  regrouped x = record { member = in_joined_group groups x.member; operations = x.operations }
 
   tx_kept : (m : Member) → (change m).tx ≡ m.tx
   tx_kept m = answered_keeps (λ (x : Member). x.tx) (λ a v x. refl) asked groundings m
@@ -88,7 +88,7 @@ module _ {F : Type 0} (forms : Forms F) (laws : Laws) (s : State) (kept : Kept f
   left_is x r =
       λ i. record {
         member = in_joined_group groups (r.member i);
-        deeds = (ap (λ ds. x.deeds ++ ds) r.deeds ∙ append-nil x.deeds) i;
+        operations = (ap (λ ds. x.operations ++ ds) r.operations ∙ append-nil x.operations) i;
       }
 
   -- the member of a statement of the answer
@@ -106,25 +106,25 @@ module _ {F : Type 0} (forms : Forms F) (laws : Laws) (s : State) (kept : Kept f
     pub pair : IsPair s.opening.tables next.statement next.form (environment_of x.member) answered.query.statement
     pub asks : StillAsks s.tables seen answered.query x.member
     pub is : entered x
-        ≡ with_deed x (in_joined_group groups (answered_by answered.query answered.values x.member))
+        ≡ with_operation x (in_joined_group groups (answered_by answered.query answered.values x.member))
         (record { statement = next.statement; valuation = answered.values })
 
-  deed_is : (x : History) (values : Valuation) (follows : Follows s.submitted x) (st : TreeStatement)
-      → slice_get follows.own.script.statements (length x.deeds) ≡ Some st
-      → deed_at x.member values (numbered s.submitted x.member.tx)
+  operation_is : (x : History) (values : Valuation) (follows : Follows s.submitted x) (st : TreeStatement)
+      → slice_get follows.own.script.statements (length x.operations) ≡ Some st
+      → operation_at x.member values (numbered s.submitted x.member.tx)
       ≡ record { statement = st; valuation = values } ∷ []
-  deed_is x values follows st at =
-      ap (deed_at x.member values) follows.submitted
-      ∙ ap (λ n. statement_deed values (numbered follows.own.script.statements n)) follows.place
-      ∙ ap (statement_deed values) at
+  operation_is x values follows st at =
+      ap (operation_at x.member values) follows.submitted
+      ∙ ap (λ n. statement_operation values (numbered follows.own.script.statements n)) follows.place
+      ∙ ap (statement_operation values) at
 
   answering : (x : History) → In x kept.others → IsAnswered s.submitted seen asked groundings x.member → Answering x
   answering x at r =
       let p = present_of x.member r.query (active_at forms s kept x at) r.at r.tx in
       let follows = follows_of forms laws s kept faithful x at in
-      let next = asking_next forms s kept faithful x follows r.query.statement
+      let next = posting_next forms s kept faithful x follows r.query.statement
       (ap (next_of s) (sym p.1) ∙ p.0.next) in
-      let still = of_all (AskingRight s.active s.tables seen) asked r.query right r.at x.member
+      let still = of_all (PostedQueryRight s.active s.tables seen) asked r.query right r.at x.member
       (active_at forms s kept x at) r.tx in
       record {
         answered = r;
@@ -135,13 +135,13 @@ module _ {F : Type 0} (forms : Forms F) (laws : Laws) (s : State) (kept : Kept f
         asks = still.1 (ap (λ (m : Member). m.place) (sym p.1) ∙ sym p.0.place);
         is = λ i. record {
           member = in_joined_group groups (r.member i);
-          deeds = x.deeds ++ (r.deeds ∙ deed_is x r.values follows next.statement next.at) i;
+          operations = x.operations ++ (r.operations ∙ operation_is x r.values follows next.statement next.at) i;
         };
       }
 
   abbrev of_answer : (x : History) → Answering x → History
   of_answer x r =
-      with_deed x (in_joined_group groups (answered_by r.answered.query r.answered.values x.member))
+      with_operation x (in_joined_group groups (answered_by r.answered.query r.answered.values x.member))
       (record { statement = r.next.statement; valuation = r.answered.values })
 
   holds_next : (x : History) (r : Answering x)
@@ -156,7 +156,7 @@ module _ {F : Type 0} (forms : Forms F) (laws : Laws) (s : State) (kept : Kept f
       → Agree (held s.opening.tables x.member.uses) (database_of s.opening.tables s.tables) after
       → Replays s.opening.tables x before after
       → Replays s.opening.tables
-      (with_deed x (in_joined_group groups (answered_by r.answered.query r.answered.values x.member))
+      (with_operation x (in_joined_group groups (answered_by r.answered.query r.answered.values x.member))
       (record { statement = tree.Entangled entangled; valuation = r.answered.values })) before after
   replays_pair x r entangled form faith pair closes before after agree replays =
       let asks_for = r.answered.query.statement in
@@ -168,7 +168,7 @@ module _ {F : Type 0} (forms : Forms F) (laws : Laws) (s : State) (kept : Kept f
       (subst (λ e. is_used (entangled_uses e) (number_of s.opening.tables name) ≡ true) closes
       (faith.reads (environment_of x.member) name used)) in
       replays_pushed s.opening.tables laws x
-      (with_deed x (in_joined_group groups (answered_by r.answered.query values x.member))
+      (with_operation x (in_joined_group groups (answered_by r.answered.query values x.member))
       (record { statement = tree.Entangled entangled; valuation = values }))
       (record { statement = tree.Entangled entangled; valuation = values }) before after after
       (answers.Heads (form_heads (λ value. value) asks_for values)) refl refl refl
@@ -191,7 +191,7 @@ module _ {F : Type 0} (forms : Forms F) (laws : Laws) (s : State) (kept : Kept f
       subst (IsFaithful s.opening.tables (tree.Entangled pair.entangled)) pair.form_is
       (subst (λ st. IsFaithful s.opening.tables st r.next.form) pair.is r.next.faithful) in
       subst (λ st. Replays s.opening.tables
-      (with_deed x (in_joined_group groups (answered_by r.answered.query r.answered.values x.member))
+      (with_operation x (in_joined_group groups (answered_by r.answered.query r.answered.values x.member))
       (record { statement = st; valuation = r.answered.values })) before after) (sym pair.is)
       (replays_pair x r pair.entangled pair.form faith pair.faithful pair.closes before after agree replays)
 
@@ -341,7 +341,7 @@ module _ {F : Type 0} (forms : Forms F) (laws : Laws) (s : State) (kept : Kept f
   new_ask x r =
       record {
         tx = x.member.tx;
-        place = suc (length x.deeds);
+        place = suc (length x.operations);
         valuation = r.answered.values;
         entangled = r.pair.entangled;
         environment = environment_of x.member;
@@ -355,7 +355,7 @@ module _ {F : Type 0} (forms : Forms F) (laws : Laws) (s : State) (kept : Kept f
       → ask_member (new_ask x r) ≡ joint_member r.answered.query r.answered.values
   new_member x at r =
       let p = present_of x.member r.answered.query (active_at forms s kept x at) r.answered.at r.answered.tx in
-      let place : suc (length x.deeds) ≡ r.answered.query.place =
+      let place : suc (length x.operations) ≡ r.answered.query.place =
       sym r.follows.place ∙ ap (λ (m : Member). m.place) (sym p.1) ∙ sym p.0.place in
       λ i. record { tx = r.answered.tx i; place = place i; grounding = r.answered.values }
 
@@ -368,7 +368,7 @@ module _ {F : Type 0} (forms : Forms F) (laws : Laws) (s : State) (kept : Kept f
       ∙ asks_pushed s.opening.tables x run.0 run.1
       (record { statement = r.next.statement; valuation = r.answered.values }) run.2
       ∙ ap (λ st. history_asks x
-      ++ asks_at x.member.tx (suc (length x.deeds)) st r.answered.values (environment_of x.member)) r.pair.is
+      ++ asks_at x.member.tx (suc (length x.operations)) st r.answered.values (environment_of x.member)) r.pair.is
 
   asks_left : (x : History) → IsLeft s.submitted asked groundings x.member → history_asks (entered x) ≡ history_asks x
   asks_left x l = ap history_asks (left_is x l)
@@ -384,7 +384,7 @@ module _ {F : Type 0} (forms : Forms F) (laws : Laws) (s : State) (kept : Kept f
         | inr l ↦ absurd (l.none a at tx)
       ]
 
-  module _ (apart : Pairs OtherAsking asked) (some : asked ≡ [] → ⊥)
+  module _ (apart : Pairs OtherPostedQuery asked) (some : asked ≡ [] → ⊥)
       (choice : (post : Fact) → In post (all_posts asked groundings)
       → In post (all_heads asked groundings))
       (grouped : (a : Posted) → In a asked → (x : History) → In x (kept.prepared ++ kept.others)
@@ -416,10 +416,10 @@ module _ {F : Type 0} (forms : Forms F) (laws : Laws) (s : State) (kept : Kept f
         ∙ sym (laws.closes_heads (environment_of x.member) r.pair.form r.answered.values)
         ∙ ap (λ e. form_heads (λ value. value) e r.answered.values) r.pair.closes
 
-    same_asking : (a : Posted) → In a asked → (x : History) (r : Answering x) → x.member.tx ≡ a.tx
+    same_query : (a : Posted) → In a asked → (x : History) (r : Answering x) → x.member.tx ≡ a.tx
         → a ≡ r.answered.query
-    same_asking a at x r tx =
-        elim (pairs_at OtherAsking (λ u v h e. h (sym e)) asked a r.answered.query apart at r.answered.at) [
+    same_query a at x r tx =
+        elim (pairs_at OtherPostedQuery (λ u v h e. h (sym e)) asked a r.answered.query apart at r.answered.at) [
           | inl e ↦ e
           | inr differ_so ↦ absurd (differ_so (sym tx ∙ r.answered.tx))
         ]
@@ -443,7 +443,7 @@ module _ {F : Type 0} (forms : Forms F) (laws : Laws) (s : State) (kept : Kept f
                   (subst (λ w. In post (form_heads (λ value. value) y.2.answered.query.statement w))
                   (ap (λ (n : JointMember). n.grounding) place)
                   (subst (λ (z : Posted). In post (form_heads (λ value. value) z.statement v))
-                  (same_asking a at y.0 y.2 y.3) pt)),
+                  (same_query a at y.0 y.2 y.3) pt)),
             )
 
     -- what a statement demands that is answered now is offered by one
@@ -537,9 +537,9 @@ module _ {F : Type 0} (forms : Forms F) (laws : Laws) (s : State) (kept : Kept f
           | inl c ↦ committed_apart forms s kept a.0 x c xt tx
           | inr b ↦
               let same_one = one_history (kept.prepared ++ kept.others) x a.0 kept.sound.fit xt b tx in
-              let low = asks_place x.member.tx 1 x.deeds nothing_bound one
+              let low = asks_place x.member.tx 1 x.operations nothing_bound one
               (subst (λ (h : History). In one (history_asks h)) (sym same_one) a.2) in
-              let high : one.place ≡ suc (length x.deeds) = place ∙ ap (λ (k : Ask). k.place) n.3 in
+              let high : one.place ≡ suc (length x.operations) = place ∙ ap (λ (k : Ask). k.place) n.3 in
               absurd (omega (low, high, arith))
         ]
 

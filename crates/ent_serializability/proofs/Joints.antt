@@ -228,7 +228,7 @@ pub unchanged : {before : List History} (y : History) → In y before → Was be
 unchanged y at = record { old = y; at = at; asks = refl; same_tx = refl; same_group = refl }
 
 pub of_own : (x : History) (ask : Ask) → In ask (history_asks x) → ask.tx ≡ x.member.tx
-of_own x ask at = asks_tx x.member.tx 1 x.deeds nothing_bound ask at
+of_own x ask at = asks_tx x.member.tx 1 x.operations nothing_bound ask at
 
 -- members that pass nothing
 pub stand_moved : (committed before now : List History) (joints : List JointAnswer)

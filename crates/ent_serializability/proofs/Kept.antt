@@ -27,7 +27,7 @@ use Rattle.ent_serializability.proofs.Frame.{Laws}
 use Rattle.ent_serializability.proofs.Sound.{Sound, Fit}
 use Rattle.ent_serializability.proofs.Acts.{Keeps, sound_mapped, pairs_within}
 use Rattle.ent_serializability.proofs.Jobs.{JobRight, OtherJob}
-use Rattle.ent_serializability.proofs.Deeds.{HoldsUses}
+use Rattle.ent_serializability.proofs.Operations.{HoldsUses}
 use Rattle.ent_serializability.proofs.Undo.{same_number, number_itself}
 
 -- a posted member holds the uses of its statement

@@ -6,11 +6,11 @@ use Rattle.ent_tree.specs.declared.declaration.Create.{Create}
 use Rattle.ent_semantics.specs.declared.answer.Fact.{Fact}
 use Rattle.ent_semantics.specs.declared.book.JointAnswer.{JointAnswer}
 use Rattle.ent_semantics.specs.declared.book.Member.{Member as JointMember}
-use Rattle.ent_semantics.specs.Book.{IsLegal, AreApart, all_members, book_sights}
+use Rattle.ent_semantics.specs.Book.{IsLegal, AreApart, all_members, book_read_views}
 use Rattle.ent_semantics.specs.Database.{Database, nothing_bound, opening_database}
-use Rattle.ent_semantics.specs.Joint.{IsGood, IsOffered, StandsIn, sight_heads, sight_posts}
+use Rattle.ent_semantics.specs.Joint.{IsGood, IsOffered, StandsIn, read_view_heads, read_view_posts}
 use Rattle.ent_semantics.specs.Joint as joint_specs
-use Rattle.ent_semantics.specs.Serial.{Sight, Turn, scripts_sights, script_sights, script_run, seen_from}
+use Rattle.ent_semantics.specs.Serial.{ReadView, Turn, scripts_read_views, script_read_views, script_run, seen_from}
 use Rattle.ent_protocol.specs.Numbers.{AreNumbered}
 use Rattle.ent_protocol.specs.Reached.{IsReached, book_of, committed_joints}
 use Rattle.ent_protocol.specs.Rollback.{is_among}
@@ -24,11 +24,11 @@ use Rattle.ent_serializability.proofs.Frame.{Laws}
 use Rattle.ent_serializability.proofs.Kept.{Kept}
 use Rattle.ent_serializability.proofs.Left.{committed_stays}
 use Rattle.ent_serializability.proofs.Runs.{everyone, history_member}
-use Rattle.ent_serializability.proofs.Asks.{Ask, ask_of, ask_member, ask_heads, history_asks, sights_asks}
+use Rattle.ent_serializability.proofs.Asks.{Ask, ask_of, ask_member, ask_heads, history_asks, read_views_asks}
 use Rattle.ent_serializability.proofs.Joints.{JointsRight, AsksOf, OtherTx, stand_left, members_in, in_members}
 use Rattle.ent_lists.specs.Elements.{contains_in, in_contains, in_flat}
-use Rattle.ent_serializability.proofs.Books.{turn_of, turns_of, turn_run, turn_sights, committed_whole, run_gives_book}
-use Rattle.ent_serializability.proofs.Books.{sights_grounded}
+use Rattle.ent_serializability.proofs.Books.{turn_of, turns_of, turn_run, turn_read_views, committed_whole, run_gives_book}
+use Rattle.ent_serializability.proofs.Books.{read_views_grounded}
 use Rattle.ent_serializability.proofs.Journals.{journal_right, pairs_index}
 use Rattle.ent_serializability.proofs.Reached.{reached_kept}
 
@@ -44,25 +44,25 @@ to_flat (y ∷ ys) x ask (inr at) mt =
 turns_asks : (declared : List Create) (all : List Submitted) (histories : List History)
     (whole : AllByRecursion (IsWhole all) histories) (first last : Database)
     → AreSerial declared histories first last
-    → map ask_of (scripts_sights declared (turns_of all histories whole) first) ≡ flat_map history_asks histories
+    → map ask_of (scripts_read_views declared (turns_of all histories whole) first) ≡ flat_map history_asks histories
 turns_asks declared all [] whole first last serial = refl
 turns_asks declared all (history ∷ more) whole first last serial =
-    let own = ap (map ask_of) (turn_sights declared all history whole.0 first)
-    ∙ sights_asks declared history.member.tx 1 history.deeds first nothing_bound (_, serial.1.runs) in
-    let rest = ap (λ r. map ask_of (seen_from r (scripts_sights declared (turns_of all more whole.1))))
+    let own = ap (map ask_of) (turn_read_views declared all history whole.0 first)
+    ∙ read_views_asks declared history.member.tx 1 history.operations first nothing_bound (_, serial.1.runs) in
+    let rest = ap (λ r. map ask_of (seen_from r (scripts_read_views declared (turns_of all more whole.1))))
     (turn_run declared all history whole.0 first serial.0 serial.1)
     ∙ turns_asks declared all more whole.1 serial.0 last serial.2 in
-    map_joined ask_of (script_sights declared (turn_of all history whole.0) first)
+    map_joined ask_of (script_read_views declared (turn_of all history whole.0) first)
     (seen_from (script_run declared (turn_of all history whole.0).script (turn_of all history whole.0).oracle first)
-    (scripts_sights declared (turns_of all more whole.1)))
+    (scripts_read_views declared (turns_of all more whole.1)))
     ∙ (λ i. own i ++ rest i)
 
 module _ {F : Type 0} (forms : Forms F) (laws : Laws) (s : State) (kept : Kept forms s) where
   abbrev turns : List Turn
   turns = turns_of s.submitted kept.committed (committed_whole forms s kept)
 
-  abbrev seen : List Sight
-  seen = book_sights (book_of s) turns
+  abbrev seen : List ReadView
+  seen = book_read_views (book_of s) turns
 
   -- the joint answers of the book are those of the committed transactions
   committed_right : JointsRight (AsksOf kept.committed) (committed_joints s)
@@ -82,43 +82,43 @@ module _ {F : Type 0} (forms : Forms F) (laws : Laws) (s : State) (kept : Kept f
       turns_asks s.opening.tables s.submitted kept.committed (committed_whole forms s kept)
       (opening_database s.opening) kept.base kept.settles
 
-  asked_by : (sight : Sight) → In sight seen → AsksOf kept.committed (ask_of sight)
-  asked_by sight at =
-      in_flat history_asks kept.committed (ask_of sight)
-      (subst (In (ask_of sight)) asks_are (to_map ask_of seen sight at))
+  asked_by : (read_view : ReadView) → In read_view seen → AsksOf kept.committed (ask_of read_view)
+  asked_by read_view at =
+      in_flat history_asks kept.committed (ask_of read_view)
+      (subst (In (ask_of read_view)) asks_are (to_map ask_of seen read_view at))
 
-  seen_by : (ask : Ask) → AsksOf kept.committed ask → (sight : Sight) × In sight seen × (ask ≡ ask_of sight)
+  seen_by : (ask : Ask) → AsksOf kept.committed ask → (read_view : ReadView) × In read_view seen × (ask ≡ ask_of read_view)
   seen_by ask a =
       of_map ask_of seen ask (subst (In ask) (sym asks_are) (to_flat kept.committed a.0 ask a.1 a.2))
 
-  answered : (sight : Sight) → Contains seen sight
-      → Contains (all_members (committed_joints s)) (joint_specs.member_of sight)
-  answered sight at =
-      let j = committed_right.up (ask_of sight) (asked_by sight (contains_in seen sight at)) in
-      in_contains (all_members (committed_joints s)) (joint_specs.member_of sight)
-      (in_members (committed_joints s) j.0 (joint_specs.member_of sight) j.1 j.2)
+  answered : (read_view : ReadView) → Contains seen read_view
+      → Contains (all_members (committed_joints s)) (joint_specs.member_of read_view)
+  answered read_view at =
+      let j = committed_right.up (ask_of read_view) (asked_by read_view (contains_in seen read_view at)) in
+      in_contains (all_members (committed_joints s)) (joint_specs.member_of read_view)
+      (in_members (committed_joints s) j.0 (joint_specs.member_of read_view) j.1 j.2)
 
-  of_sight : (joint : JointAnswer) → In joint (committed_joints s) → (member : JointMember)
+  of_read_view : (joint : JointAnswer) → In joint (committed_joints s) → (member : JointMember)
       → In member joint.members
-      → (sight : Sight) × Contains seen sight × (member ≡ joint_specs.member_of sight)
-  of_sight joint jt member mt =
+      → (read_view : ReadView) × Contains seen read_view × (member ≡ joint_specs.member_of read_view)
+  of_read_view joint jt member mt =
       let a = committed_right.down joint jt member mt in
       let v = seen_by a.0 a.1 in
       (v.0, in_contains seen v.0 v.1, a.2 ∙ ap ask_member v.2)
 
   no_widow : (member : JointMember) → Contains (all_members (committed_joints s)) member
-      → (sight : Sight) × Contains seen sight × (member ≡ joint_specs.member_of sight)
+      → (read_view : ReadView) × Contains seen read_view × (member ≡ joint_specs.member_of read_view)
   no_widow member at =
       let j = members_in (committed_joints s) member
       (contains_in (all_members (committed_joints s)) member at) in
-      of_sight j.0 j.1 member j.2
+      of_read_view j.0 j.1 member j.2
 
-  met : (joint : JointAnswer) → In joint (committed_joints s) → (sight : Sight) → StandsIn seen joint.members sight
-      → (post : Fact) → Contains (sight_posts sight) post → IsOffered seen joint.members post
-  met joint jt sight stands post at =
-      let r = committed_right.met joint jt (ask_of sight) (asked_by sight (contains_in seen sight stands.0))
-      (contains_in joint.members (joint_specs.member_of sight) stands.1) post
-      (contains_in (sight_posts sight) post at) in
+  met : (joint : JointAnswer) → In joint (committed_joints s) → (read_view : ReadView) → StandsIn seen joint.members read_view
+      → (post : Fact) → Contains (read_view_posts read_view) post → IsOffered seen joint.members post
+  met joint jt read_view stands post at =
+      let r = committed_right.met joint jt (ask_of read_view) (asked_by read_view (contains_in seen read_view stands.0))
+      (contains_in joint.members (joint_specs.member_of read_view) stands.1) post
+      (contains_in (read_view_posts read_view) post at) in
       let v = seen_by r.0 r.1 in (
         v.0,
         (
@@ -126,7 +126,7 @@ module _ {F : Type 0} (forms : Forms F) (laws : Laws) (s : State) (kept : Kept f
           in_contains joint.members (joint_specs.member_of v.0)
               (subst (λ m. In m joint.members) (ap ask_member v.2) r.2),
         ),
-        in_contains (sight_heads v.0) post (subst (In post) (ap ask_heads v.2) r.3),
+        in_contains (read_view_heads v.0) post (subst (In post) (ap ask_heads v.2) r.3),
       )
 
   good : (joint : JointAnswer) → In joint (committed_joints s) → IsGood s.opening.tables seen joint.members
@@ -134,8 +134,8 @@ module _ {F : Type 0} (forms : Forms F) (laws : Laws) (s : State) (kept : Kept f
       record {
         some = committed_right.some joint jt;
         distinct = pairs_index OtherTx joint.members (committed_right.distinct joint jt);
-        of_run = λ member at. of_sight joint jt member (contains_in joint.members member at);
-        grounded = λ sight stands. sights_grounded forms s kept sight stands.0;
+        of_run = λ member at. of_read_view joint jt member (contains_in joint.members member at);
+        grounded = λ read_view stands. read_views_grounded forms s kept read_view stands.0;
         met = met joint jt;
       }
 

@@ -4,7 +4,7 @@ pub mod Sound
 pub mod Acts
 pub mod Outcomes
 pub mod Scripts
-pub mod Deeds
+pub mod Operations
 pub mod Locks
 pub mod Jobs
 pub mod Kept

@@ -1,4 +1,4 @@
--- Uses that are held together, and that nobody is in the way.
+-- Uses that are held together, and that nobody blocks it.
 use Rattle.std.proofs.Common.{◌≡◌, ◌⊎◌, ℕ, ◌==◌, Bool, true, false, cond, not, ◌&&◌, List, [], ◌∷◌, map, refl}
 use Rattle.std.proofs.Common.{sym, ap, subst, ◌∙◌, inl, inr, None, nat_lt}
 use Rattle.std.specs.List.{AllByRecursion, filter, list_any}
@@ -7,13 +7,13 @@ use Rattle.ent_lock.specs.declared.mode.Mode.{Mode}
 use Rattle.ent_lock.specs.declared.mode.Mode.TheVariants.{Shared, Exclusive}
 use Rattle.ent_protocol.specs.Begin.{same_use, use_rank, with_uses, holding}
 use Rattle.ent_protocol.specs.State.{State, Member, Use, inserted, by_number}
-use Rattle.ent_protocol.specs.Uses.{uses_conflict, is_in_way, not_passed, in_way, least, blocker}
+use Rattle.ent_protocol.specs.Uses.{uses_conflict, is_conflicting, not_passed, conflicting, least, blocker}
 use Rattle.ent_serializability.specs.Faithful.{is_used, is_owned}
 use Rattle.ent_lists.specs.Elements.{In, Pairs, Same, of_all, to_all, any_none, any_some, any_in, in_first, in_second}
 use Rattle.ent_lists.specs.Elements.{to_filter, clash, not_so}
 use Rattle.ent_serializability.proofs.Frame.{Apart}
 use Rattle.ent_serializability.proofs.Undo.{same_number, number_itself, other_number}
-use Rattle.ent_serializability.proofs.Deeds.{HoldsUses}
+use Rattle.ent_serializability.proofs.Operations.{HoldsUses}
 
 -- ---- lists by number
 
@@ -190,7 +190,7 @@ owned_from asked uses table used =
       | inr b ↦ inr (any_in (owns_table table) uses own.0 b own.2)
     ]
 
--- ---- nobody is in the way
+-- ---- nobody blocks it
 
 exclusive_first : (one other : Mode) → (mode_rank one == 1) ≡ true → in_conflict one other ≡ true
 exclusive_first Shared other e = cc
@@ -214,7 +214,7 @@ Free asked uses =
     (table : ℕ) → (is_owned asked table ≡ true → is_used uses table ≡ false)
     × (is_owned uses table ≡ true → is_used asked table ≡ false)
 
-free_of : (asked : List Use) (holder : Member) → is_in_way asked holder ≡ false → Free asked holder.uses
+free_of : (asked : List Use) (holder : Member) → is_conflicting asked holder ≡ false → Free asked holder.uses
 free_of asked holder out table = (
   λ owned. not_so (is_used holder.uses table) (λ used.
       let own = any_some (owns_table table) asked owned in
@@ -242,22 +242,22 @@ least_none [] e m at = at
 least_none (x ∷ ms) e m at = cc (e)
 
 module _ (s : State) (asker : Member) (asked : List Use) (free : blocker s asker asked ≡ None) where
-  not_in_way : (holder : Member) → In holder (not_passed s asker) → Free asked holder.uses
-  not_in_way holder at =
+  not_conflicting : (holder : Member) → In holder (not_passed s asker) → Free asked holder.uses
+  not_conflicting holder at =
       free_of asked holder
-      (not_so (is_in_way asked holder) (λ is.
-      least_none (in_way s asker asked) free holder (to_filter (is_in_way asked) (not_passed s asker) holder at is)))
+      (not_so (is_conflicting asked holder) (λ is.
+      least_none (conflicting s asker asked) free holder (to_filter (is_conflicting asked) (not_passed s asker) holder at is)))
 
   pub free_active : (holder : Member) → In holder s.active → (holder.tx ≡ asker.tx → ⊥) → Free asked holder.uses
   free_active holder at differs =
-      not_in_way holder (in_second (filter (λ h. not (h.group == asker.group)) s.prepared)
+      not_conflicting holder (in_second (filter (λ h. not (h.group == asker.group)) s.prepared)
       (filter (λ h. not (h.tx == asker.tx)) s.active) holder
       (to_filter (λ h. not (h.tx == asker.tx)) s.active holder at (ap not (other_number holder.tx asker.tx differs))))
 
   pub free_prepared : (holder : Member) → In holder s.prepared → (holder.group ≡ asker.group → ⊥)
       → Free asked holder.uses
   free_prepared holder at differs =
-      not_in_way holder (in_first (filter (λ h. not (h.group == asker.group)) s.prepared)
+      not_conflicting holder (in_first (filter (λ h. not (h.group == asker.group)) s.prepared)
       (filter (λ h. not (h.tx == asker.tx)) s.active) holder
       (to_filter (λ h. not (h.group == asker.group)) s.prepared holder at
       (ap not (other_number holder.group asker.group differs))))

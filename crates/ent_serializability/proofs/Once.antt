@@ -10,7 +10,7 @@ use Rattle.ent_semantics.specs.declared.book.Member.{Member as JointMember}
 use Rattle.ent_semantics.specs.Book.{AreApart, all_members}
 use Rattle.ent_semantics.specs.Database.{Environment, nothing_bound}
 use Rattle.ent_semantics.specs.Entangled.{Valuation}
-use Rattle.ent_semantics.specs.Serial.{Deed, numbered}
+use Rattle.ent_semantics.specs.Serial.{Operation, numbered}
 use Rattle.ent_protocol.specs.Reached.{IsReached}
 use Rattle.ent_protocol.specs.Run.{Forms}
 use Rattle.ent_protocol.specs.State.{State, Submitted, Member}
@@ -122,32 +122,32 @@ later_place first k = omega arith
 this_place : (first : ℕ) → first ≡ first + 0
 this_place first = omega arith
 
-asks_there : (tx first : ℕ) (deeds : List Deed) (environment : Environment) (k : ℕ) (entangled : Entangled)
-    → slice_get (map (λ deed. deed.statement) deeds) k ≡ Some (statements.Entangled entangled)
-    → AsksAt tx (first + k) (asks_of tx first deeds environment)
+asks_there : (tx first : ℕ) (operations : List Operation) (environment : Environment) (k : ℕ) (entangled : Entangled)
+    → slice_get (map (λ operation. operation.statement) operations) k ≡ Some (statements.Entangled entangled)
+    → AsksAt tx (first + k) (asks_of tx first operations environment)
 asks_there tx first [] environment k entangled is = cc (is)
-asks_there tx first (deed ∷ more) environment zero entangled is =
-    subst (λ place. AsksAt tx place (asks_of tx first (deed ∷ more) environment)) (this_place first)
-    (asks_now tx first deed.statement entangled deed.valuation environment
-    (asks_of tx (suc first) more (next_environment deed.statement deed.valuation environment))
-    (one_statement deed.statement (statements.Entangled entangled) is))
-asks_there tx first (deed ∷ more) environment (suc k) entangled is =
-    let next = next_environment deed.statement deed.valuation environment in
+asks_there tx first (operation ∷ more) environment zero entangled is =
+    subst (λ place. AsksAt tx place (asks_of tx first (operation ∷ more) environment)) (this_place first)
+    (asks_now tx first operation.statement entangled operation.valuation environment
+    (asks_of tx (suc first) more (next_environment operation.statement operation.valuation environment))
+    (one_statement operation.statement (statements.Entangled entangled) is))
+asks_there tx first (operation ∷ more) environment (suc k) entangled is =
+    let next = next_environment operation.statement operation.valuation environment in
     let rest = asks_there tx (suc first) more next k entangled is in
     record {
       ask = rest.ask;
-      at = in_second (asks_at tx first deed.statement deed.valuation environment) (asks_of tx (suc first) more next)
+      at = in_second (asks_at tx first operation.statement operation.valuation environment) (asks_of tx (suc first) more next)
           rest.ask rest.at;
       own = rest.own;
       here = rest.here ∙ later_place first k;
     }
 
 -- what is asked stands where it is asked
-record AskedAt (first : ℕ) (deeds : List Deed) (ask : Ask) : Type 0 where
+record AskedAt (first : ℕ) (operations : List Operation) (ask : Ask) : Type 0 where
   pub before : ℕ
   pub place : ask.place ≡ first + before
-  pub low : before < length deeds
-  pub there : slice_get (map (λ deed. deed.statement) deeds) before ≡ Some (statements.Entangled ask.entangled)
+  pub low : before < length operations
+  pub there : slice_get (map (λ operation. operation.statement) operations) before ≡ Some (statements.Entangled ask.entangled)
 
 asked_now : (tx place : ℕ) (statement : Statement) (valuation : Valuation) (environment : Environment) (ask : Ask)
     → In ask (asks_at tx place statement valuation environment)
@@ -163,15 +163,15 @@ asked_now tx place (statements.Insert insert) valuation environment ask at = abs
 asked_now tx place (statements.Delete delete) valuation environment ask at = absurd at
 asked_now tx place (statements.Update update) valuation environment ask at = absurd at
 
-asked_at : (tx first : ℕ) (deeds : List Deed) (environment : Environment) (ask : Ask)
-    → In ask (asks_of tx first deeds environment) → AskedAt first deeds ask
+asked_at : (tx first : ℕ) (operations : List Operation) (environment : Environment) (ask : Ask)
+    → In ask (asks_of tx first operations environment) → AskedAt first operations ask
 asked_at tx first [] environment ask at = absurd at
-asked_at tx first (deed ∷ more) environment ask at =
-    let now = asks_at tx first deed.statement deed.valuation environment in
-    let next = next_environment deed.statement deed.valuation environment in
+asked_at tx first (operation ∷ more) environment ask at =
+    let now = asks_at tx first operation.statement operation.valuation environment in
+    let next = next_environment operation.statement operation.valuation environment in
     elim (in_either now (asks_of tx (suc first) more next) ask at) [
       | inl here ↦
-          let two = asked_now tx first deed.statement deed.valuation environment ask here in
+          let two = asked_now tx first operation.statement operation.valuation environment ask here in
           record { before = 0; place = two.0 ∙ this_place first; low = omega arith; there = ap Some two.1 }
       | inr later ↦
           let rest = asked_at tx (suc first) more next ask later in
@@ -188,12 +188,12 @@ one_more : (k : ℕ) → 1 + k ≡ suc k
 one_more k = omega arith
 
 -- what stands at a place of what was done stands there in the script
-asks_numbered : (tx : ℕ) (deeds : List Deed) (place k : ℕ) (entangled : Entangled) → place ≡ suc k
-    → slice_get (map (λ deed. deed.statement) deeds) k ≡ Some (statements.Entangled entangled)
-    → AsksAt tx place (asks_of tx 1 deeds nothing_bound)
-asks_numbered tx deeds place k entangled same is =
-    subst (λ place. AsksAt tx place (asks_of tx 1 deeds nothing_bound)) (one_more k ∙ sym same)
-    (asks_there tx 1 deeds nothing_bound k entangled is)
+asks_numbered : (tx : ℕ) (operations : List Operation) (place k : ℕ) (entangled : Entangled) → place ≡ suc k
+    → slice_get (map (λ operation. operation.statement) operations) k ≡ Some (statements.Entangled entangled)
+    → AsksAt tx place (asks_of tx 1 operations nothing_bound)
+asks_numbered tx operations place k entangled same is =
+    subst (λ place. AsksAt tx place (asks_of tx 1 operations nothing_bound)) (one_more k ∙ sym same)
+    (asks_there tx 1 operations nothing_bound k entangled is)
 
 -- a place counts from 1
 record Counted {X : Type 0} (xs : List X) (place : ℕ) (x : X) : Type 0 where
@@ -235,36 +235,36 @@ module _ {F : Type 0} (forms : Forms F) (s : State) (kept : Kept forms s) where
 
   -- what one who did it all asked there
   whole_asks : (x : History) → In x (kept.committed ++ kept.prepared) → (tx place : ℕ) → HasAsked s tx place
-      → x.member.tx ≡ tx → AsksAt x.member.tx place (asks_of x.member.tx 1 x.deeds nothing_bound)
+      → x.member.tx ≡ tx → AsksAt x.member.tx place (asks_of x.member.tx 1 x.operations nothing_bound)
   whole_asks x at tx place asked own =
       let whole = whole_one x at in
       let script : whole.own ≡ asked.submitted =
       one_submitted whole.own asked.submitted (sym whole.submitted ∙ ap (numbered s.submitted) own ∙ asked.of_tx) in
       let c = counted asked.submitted.script.statements place (statements.Entangled asked.entangled) asked.at_place in
-      asks_numbered x.member.tx x.deeds place c.before asked.entangled c.place_is
+      asks_numbered x.member.tx x.operations place c.before asked.entangled c.place_is
       (ap (λ xs. slice_get xs c.before)
       (whole.whole ∙ ap (λ (y : Submitted). y.script.statements) script) ∙ c.there)
 
   -- and one who goes on
   part_asks : (x : History) → In x kept.others → (tx place : ℕ) → HasAsked s tx place → x.member.tx ≡ tx
-      → place < x.member.place → AsksAt x.member.tx place (asks_of x.member.tx 1 x.deeds nothing_bound)
+      → place < x.member.place → AsksAt x.member.tx place (asks_of x.member.tx 1 x.operations nothing_bound)
   part_asks x at tx place asked own behind =
       let follows = of_all (Follows s.submitted) kept.others x kept.follow at in
       let script : follows.own ≡ asked.submitted =
       one_submitted follows.own asked.submitted
       (sym follows.submitted ∙ ap (numbered s.submitted) own ∙ asked.of_tx) in
       let c = counted asked.submitted.script.statements place (statements.Entangled asked.entangled) asked.at_place in
-      asks_numbered x.member.tx x.deeds place c.before asked.entangled c.place_is
+      asks_numbered x.member.tx x.operations place c.before asked.entangled c.place_is
       (ap (λ xs. slice_get xs c.before) follows.beginning
-      ∙ taken_get (length x.deeds) c.before follows.own.script.statements
-      (place_low place c.before (length x.deeds) x.member.place c.place_is follows.place behind)
+      ∙ taken_get (length x.operations) c.before follows.own.script.statements
+      (place_low place c.before (length x.operations) x.member.place c.place_is follows.place behind)
       ∙ ap (λ (y : Submitted). slice_get y.script.statements c.before) script ∙ c.there)
 
   record Asker (tx place : ℕ) : Type 0 where
     pub history : History
     pub at : In history everyone
     pub own : history.member.tx ≡ tx
-    pub asks : AsksAt history.member.tx place (asks_of history.member.tx 1 history.deeds nothing_bound)
+    pub asks : AsksAt history.member.tx place (asks_of history.member.tx 1 history.operations nothing_bound)
 
   asker : (tx place : ℕ) → HasAsked s tx place → Asker tx place
   asker tx place asked =
@@ -319,7 +319,7 @@ module _ {F : Type 0} (forms : Forms F) (s : State) (kept : Kept forms s) where
   committed_asked x at ask there =
       let whole = whole_one x (in_first kept.committed kept.prepared x at) in
       let own = of_own x ask there in
-      let a = asked_at x.member.tx 1 x.deeds nothing_bound ask there in
+      let a = asked_at x.member.tx 1 x.operations nothing_bound ask there in
       record {
         past = inl (
           entry_from x,
@@ -339,7 +339,7 @@ module _ {F : Type 0} (forms : Forms F) (s : State) (kept : Kept forms s) where
   prepared_asked x at ask there =
       let whole = whole_one x (in_second kept.committed kept.prepared x at) in
       let own = of_own x ask there in
-      let a = asked_at x.member.tx 1 x.deeds nothing_bound ask there in
+      let a = asked_at x.member.tx 1 x.operations nothing_bound ask there in
       record {
         past = inr (inl (x.member, in_contains s.prepared x.member (prepared_at forms s kept x at), sym own));
         submitted = whole.own;
@@ -354,20 +354,20 @@ module _ {F : Type 0} (forms : Forms F) (s : State) (kept : Kept forms s) where
   active_asked x at ask there =
       let follows = of_all (Follows s.submitted) kept.others x kept.follow at in
       let own = of_own x ask there in
-      let a = asked_at x.member.tx 1 x.deeds nothing_bound ask there in
+      let a = asked_at x.member.tx 1 x.operations nothing_bound ask there in
       record {
         past = inr (inr (
           x.member,
           in_contains s.active x.member (active_at forms s kept x at),
           sym own,
-          low_place ask.place a.before (length x.deeds) x.member.place a.place follows.place a.low,
+          low_place ask.place a.before (length x.operations) x.member.place a.place follows.place a.low,
         ));
         submitted = follows.own;
         of_tx = ap (numbered s.submitted) own ∙ follows.submitted;
         entangled = ask.entangled;
         at_place = numbered_so follows.own.script.statements ask.place a.before
             (statements.Entangled ask.entangled) (a.place ∙ one_more a.before)
-            (sym (taken_get (length x.deeds) a.before follows.own.script.statements a.low)
+            (sym (taken_get (length x.operations) a.before follows.own.script.statements a.low)
             ∙ ap (λ xs. slice_get xs a.before) (sym follows.beginning) ∙ a.there);
       }
 

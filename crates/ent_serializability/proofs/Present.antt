@@ -14,7 +14,7 @@ use Rattle.ent_protocol.specs.Uses.{entangled_uses}
 use Rattle.ent_lists.specs.Elements.{In, of_all, pairs_at}
 use Rattle.ent_serializability.proofs.Frame.{Laws, apart_turned}
 use Rattle.ent_serializability.proofs.Sound.{AreApart as ApartHistories, Fit, fit_turned}
-use Rattle.ent_serializability.proofs.Jobs.{JobRight, WorkRight, SingleRight, AskingRight}
+use Rattle.ent_serializability.proofs.Jobs.{JobRight, WorkRight, SingleRight, PostedQueryRight}
 use Rattle.ent_serializability.proofs.Kept.{Kept, history_of}
 use Rattle.ent_lists.specs.Elements.{contains_in, in_contains}
 use Rattle.ent_serializability.proofs.Aside.{present_all}
@@ -70,11 +70,11 @@ module _ {F : Type 0} (forms : Forms F) (laws : Laws) (s : State) (kept : Kept f
       → IsPresentComponent s asked → (query : Posted) → In query asked
       → SameWhereUsed (entangled_uses query.statement) (tables_of job.tables) s.tables
   joint_present job asked at is component query there =
-      let right : AllByRecursion (AskingRight s.active s.tables (tables_of job.tables)) asked =
+      let right : AllByRecursion (PostedQueryRight s.active s.tables (tables_of job.tables)) asked =
       subst (WorkRight s.submitted s.active s.tables (tables_of job.tables)) is
       (of_all (JobRight s.submitted s.active s.tables) s.lent job kept.jobs at) in
       let p = of_all (IsPresent s) asked query (present_all s asked component) there in
-      let still = of_all (AskingRight s.active s.tables (tables_of job.tables)) asked query right there p.member p.at
+      let still = of_all (PostedQueryRight s.active s.tables (tables_of job.tables)) asked query right there p.member p.at
       (sym p.tx) in
       (still.1 (sym p.place)).alike
 

@@ -35,9 +35,9 @@ use Rattle.ent_lists.specs.Elements.{In, Pairs, of_all, of_filter, in_first, in_
 use Rattle.ent_lists.specs.Elements.{pairs_first, pairs_second, pairs_across, pairs_joined}
 use Rattle.ent_serializability.proofs.Frame.{Laws}
 use Rattle.ent_serializability.proofs.Undo.{same_number}
-use Rattle.ent_serializability.proofs.Deeds.{HoldsUses}
+use Rattle.ent_serializability.proofs.Operations.{HoldsUses}
 use Rattle.ent_serializability.proofs.Outcomes.{lands}
-use Rattle.ent_serializability.proofs.Jobs.{JobRight, WorkRight, SingleRight, AskingRight, OtherJob, OtherWork}
+use Rattle.ent_serializability.proofs.Jobs.{JobRight, WorkRight, SingleRight, PostedQueryRight, OtherJob, OtherWork}
 use Rattle.ent_serializability.proofs.Kept.{Kept, history_of, one_member}
 use Rattle.ent_serializability.proofs.Stands.{lends, posts, prepares}
 use Rattle.ent_serializability.proofs.Left.{commits}
@@ -45,7 +45,7 @@ use Rattle.ent_serializability.proofs.Finished.{finishes_by}
 use Rattle.ent_serializability.proofs.Joined.{joins}
 use Rattle.ent_lists.specs.Elements.{contains_in, in_contains}
 use Rattle.ent_serializability.proofs.Aside.{with_jobs, picks, present_all, component_on}
-use Rattle.ent_serializability.proofs.Aside.{askings_apart, askings_some, groups_answered}
+use Rattle.ent_serializability.proofs.Aside.{queries_apart, queries_some, groups_answered}
 use Rattle.ent_serializability.proofs.Runs.{submits, starts, rolls_back, ends, kept_opened}
 
 -- ---- what is found and taken
@@ -230,13 +230,13 @@ module _ {F : Type 0} (forms : Forms F) (laws : Laws) where
       → AnswersBy (record s { lent = left }) asked groundings reply new
       → ((values : List Valuation) → groundings ≡ Some values → IsChoice seen asked values)
       → Kept forms s → AreFaithful forms s.opening → IsPresentComponent s asked
-      → AllByRecursion (AskingRight s.active s.tables seen) asked
+      → AllByRecursion (PostedQueryRight s.active s.tables seen) asked
       → ((job : Job) → In job left → In job s.lent) → Pairs OtherJob left → Kept forms new
   answers_by s asked (Some values) seen left reply new step chosen kept faithful component right fewer apart =
       as_is _ new step.1
       (joins forms laws s kept faithful asked values seen (answered_groups (record s { lent = left }) asked)
-      (chosen values refl).grounded (present_all s asked component) right (askings_apart s asked component)
-      (askings_some s asked component)
+      (chosen values refl).grounded (present_all s asked component) right (queries_apart s asked component)
+      (queries_some s asked component)
       (λ post at.
       contains_in (all_heads asked values) post
       ((chosen values refl).met post (in_contains (all_posts asked values) post at)))
@@ -250,7 +250,7 @@ module _ {F : Type 0} (forms : Forms F) (laws : Laws) where
   answered s done reply new step kept faithful =
       let out = step.outstanding in
       let seen = tables_of done.job.tables in
-      let right : AllByRecursion (AskingRight s.active s.tables (tables_of done.job.tables)) out.asked =
+      let right : AllByRecursion (PostedQueryRight s.active s.tables (tables_of done.job.tables)) out.asked =
       subst (WorkRight s.submitted s.active s.tables (tables_of done.job.tables)) out.is_joint
       (of_all (JobRight s.submitted s.active s.tables) s.lent done.job kept.jobs
       (taken_in done.job s.lent out.left out.taken)) in

@@ -189,7 +189,7 @@ module _ {F : Type 0} (forms : Forms F) (s : State) (kept : Kept forms s) (scrip
 -- ---- a run starts
 
 abbrev begun : Dormant → History
-begun d = record { member = fresh d; deeds = [] }
+begun d = record { member = fresh d; operations = [] }
 
 fresh_serial : (declared : List Create) (ds : List Dormant) (database : Database)
     → AreSerial declared (map begun ds) database database

@@ -14,7 +14,7 @@ use Rattle.ent_semantics.specs.Database.{Database, Environment, nothing_bound}
 use Rattle.ent_semantics.specs.Effect.{Effect}
 use Rattle.ent_semantics.specs.Further.{behind, one_more}
 use Rattle.ent_semantics.specs.Joint.{IsGrounded}
-use Rattle.ent_semantics.specs.Serial.{Deed, Run, answered_first, after, run, seen, seen_after, sights}
+use Rattle.ent_semantics.specs.Serial.{Operation, Run, answered_first, after, run, seen, seen_after, read_views}
 use Rattle.ent_semantics.specs.Statement.{statement_meaning}
 use Rattle.ent_closed.specs.Closing.{closed}
 use Rattle.ent_closed.specs.declared.entangled.Entangled.{Entangled}
@@ -39,14 +39,14 @@ ordinary_statement (statements.Delete table tests) st e = cc
 ordinary_statement (statements.Update table image tests) st e = cc
 ordinary_statement (statements.Set variable expression) st e = cc
 
-asking_statement : (c : Statement Value) (asked : Entangled Value) → statement_next c ≡ Asks asked
+posting_statement : (c : Statement Value) (asked : Entangled Value) → statement_next c ≡ Asks asked
     → c ≡ statements.Entangled asked
-asking_statement (statements.Select select) asked e = cc
-asking_statement (statements.Entangled entangled) asked e = cc
-asking_statement (statements.Insert table values) asked e = cc
-asking_statement (statements.Delete table tests) asked e = cc
-asking_statement (statements.Update table image tests) asked e = cc
-asking_statement (statements.Set variable expression) asked e = cc
+posting_statement (statements.Select select) asked e = cc
+posting_statement (statements.Entangled entangled) asked e = cc
+posting_statement (statements.Insert table values) asked e = cc
+posting_statement (statements.Delete table tests) asked e = cc
+posting_statement (statements.Update table image tests) asked e = cc
+posting_statement (statements.Set variable expression) asked e = cc
 
 committing_statement : {A : Type 0} (c : Statement Value) → statement_next c ≡ Commits → A
 committing_statement (statements.Select select) e = cc
@@ -60,9 +60,9 @@ ends_ordinary : {A : Type 0} (end : End) (st : Statement Value) → end_next end
 ends_ordinary Commit st e = cc
 ends_ordinary Rollback st e = cc
 
-ends_asking : {A : Type 0} (end : End) (asked : Entangled Value) → end_next end ≡ Asks asked → A
-ends_asking Commit asked e = cc
-ends_asking Rollback asked e = cc
+ends_posting : {A : Type 0} (end : End) (asked : Entangled Value) → end_next end ≡ Asks asked → A
+ends_posting Commit asked e = cc
+ends_posting Rollback asked e = cc
 
 ends_committing : (end : End) → end_next end ≡ Commits → end ≡ Commit
 ends_committing Commit e = refl
@@ -85,14 +85,14 @@ ordinary_in script (f ∷ fs) member (suc n) st e =
     let r = ordinary_in script fs member n st e in
     (record { statement = r.0.statement; at = r.0.at; closes = r.0.closes }, r.1)
 
-asking_in : (script : Script) (form : List (Statement Known)) (member : Member) (n : ℕ) (asked : Entangled Value)
+posting_in : (script : Script) (form : List (Statement Known)) (member : Member) (n : ℕ) (asked : Entangled Value)
     → next_in (Some (record { script = script; form = form })) (record member { place = suc n }) ≡ Asks asked
     → StandsAt form n member (statements.Entangled asked)
-asking_in script [] member n asked e = ends_asking script.end asked e
-asking_in script (f ∷ fs) member zero asked e =
-    record { statement = f; at = refl; closes = asking_statement (closed (environment_of member) f) asked e }
-asking_in script (f ∷ fs) member (suc n) asked e =
-    let r = asking_in script fs member n asked e in
+posting_in script [] member n asked e = ends_posting script.end asked e
+posting_in script (f ∷ fs) member zero asked e =
+    record { statement = f; at = refl; closes = posting_statement (closed (environment_of member) f) asked e }
+posting_in script (f ∷ fs) member (suc n) asked e =
+    let r = posting_in script fs member n asked e in
     record { statement = r.statement; at = r.at; closes = r.closes }
 
 committing_in : (script : Script) (form : List (Statement Known)) (member : Member) (n : ℕ)
@@ -111,9 +111,9 @@ module _ (own : Submitted) (member : Member) (n : ℕ) (place : member.place ≡
       × (statement_next (closed (environment_of member) stands.statement) ≡ Ordinary st)
   next_ordinary st e = ordinary_in own.script own.form member n st (sym there ∙ e)
 
-  pub next_asking : (asked : Entangled Value) → next_in (Some own) member ≡ Asks asked
+  pub next_posting : (asked : Entangled Value) → next_in (Some own) member ≡ Asks asked
       → StandsAt own.form n member (statements.Entangled asked)
-  next_asking asked e = asking_in own.script own.form member n asked (sym there ∙ e)
+  next_posting asked e = posting_in own.script own.form member n asked (sym there ∙ e)
 
   pub next_committing : next_in (Some own) member ≡ Commits
       → (slice_get own.form n ≡ None) × (own.script.end ≡ Commit)
@@ -152,7 +152,7 @@ take_whole (x ∷ xs) (suc n) e = ap (λ more. x ∷ more) (take_whole xs n e)
 pub length_one : {X : Type 0} (xs : List X) (x : X) → length (xs ++ x ∷ []) ≡ suc (length xs)
 length_one xs x = omega (arith, length-append xs (x ∷ []))
 
--- ---- one deed more
+-- ---- one operation more
 
 -- a run that ends at this database and environment
 abbrev Reaches : Option Run → Database → Environment → Type 0
@@ -170,59 +170,59 @@ without_first answer (Some run) database environment r =
       ap (λ (x : Run). x.environment) same ∙ r.3,
     )
 
-module _ (declared : List Create) (tx : ℕ) (deed : Deed) (last : Database) (bound : Environment)
-    (grounded : (place : ℕ) → AllByRecursion (IsGrounded declared) (seen tx place deed last bound)) where
-  abbrev AreGrounded : ℕ → List Deed → Database → Environment → Type 0
-  AreGrounded place deeds database environment =
-      AllByRecursion (IsGrounded declared) (sights declared tx place deeds database environment)
+module _ (declared : List Create) (tx : ℕ) (operation : Operation) (last : Database) (bound : Environment)
+    (grounded : (place : ℕ) → AllByRecursion (IsGrounded declared) (seen tx place operation last bound)) where
+  abbrev AreGrounded : ℕ → List Operation → Database → Environment → Type 0
+  AreGrounded place operations database environment =
+      AllByRecursion (IsGrounded declared) (read_views declared tx place operations database environment)
 
   none_after : (x : Result (Effect Database) Failure) (place : ℕ)
-      → AllByRecursion (IsGrounded declared) (seen_after x (sights declared tx place []))
+      → AllByRecursion (IsGrounded declared) (seen_after x (read_views declared tx place []))
   none_after (Ok effect) place = tt
   none_after (Err failure) place = tt
 
-  pub sights_pushed : (deeds : List Deed) (place : ℕ) (database : Database) (environment : Environment)
-      → Reaches (run declared deeds database environment) last bound → AreGrounded place deeds database environment
-      → AreGrounded place (deeds ++ deed ∷ []) database environment
-  sights_pushed [] place database environment is h =
+  pub read_views_pushed : (operations : List Operation) (place : ℕ) (database : Database) (environment : Environment)
+      → Reaches (run declared operations database environment) last bound → AreGrounded place operations database environment
+      → AreGrounded place (operations ++ operation ∷ []) database environment
+  read_views_pushed [] place database environment is h =
       let same = some_run (record { database = database; environment = environment; answers = [] }) is.0 is.1 in
       let at : database ≡ last = ap (λ (x : Run). x.database) same ∙ is.2 in
       let with : environment ≡ bound = ap (λ (x : Run). x.environment) same ∙ is.3 in
-      all_joined (IsGrounded declared) (seen tx place deed database environment) _
-      (subst (λ d. AllByRecursion (IsGrounded declared) (seen tx place deed d environment)) (sym at)
-      (subst (λ e. AllByRecursion (IsGrounded declared) (seen tx place deed last e)) (sym with) (grounded place)))
-      (none_after (statement_meaning declared deed.statement deed.valuation database environment) (suc place))
-  sights_pushed (first ∷ more) place database environment is h =
+      all_joined (IsGrounded declared) (seen tx place operation database environment) _
+      (subst (λ d. AllByRecursion (IsGrounded declared) (seen tx place operation d environment)) (sym at)
+      (subst (λ e. AllByRecursion (IsGrounded declared) (seen tx place operation last e)) (sym with) (grounded place)))
+      (none_after (statement_meaning declared operation.statement operation.valuation database environment) (suc place))
+  read_views_pushed (first ∷ more) place database environment is h =
       all_joined (IsGrounded declared) (seen tx place first database environment) _
       (all_first (IsGrounded declared) (seen tx place first database environment) _ h)
       (by (statement_meaning declared first.statement first.valuation database environment) is
       (all_second (IsGrounded declared) (seen tx place first database environment) _ h)
-      (λ d e r same. sights_pushed more (suc place) d e r same))
+      (λ d e r same. read_views_pushed more (suc place) d e r same))
     where
       by : (x : Result (Effect Database) Failure) → Reaches (after x (run declared more)) last bound
-          → AllByRecursion (IsGrounded declared) (seen_after x (sights declared tx (suc place) more))
+          → AllByRecursion (IsGrounded declared) (seen_after x (read_views declared tx (suc place) more))
           → ((d : Database) (e : Environment) → Reaches (run declared more d e) last bound
-          → AreGrounded (suc place) more d e → AreGrounded (suc place) (more ++ deed ∷ []) d e)
-          → AllByRecursion (IsGrounded declared) (seen_after x (sights declared tx (suc place) (more ++ deed ∷ [])))
+          → AreGrounded (suc place) more d e → AreGrounded (suc place) (more ++ operation ∷ []) d e)
+          → AllByRecursion (IsGrounded declared) (seen_after x (read_views declared tx (suc place) (more ++ operation ∷ [])))
       by (Err failure) e g further = tt
       by (Ok effect) e g further =
           further effect.database effect.environment
           (without_first effect.answer (run declared more effect.database effect.environment) last bound e) g
 
-module _ (declared : List Create) (laws : Laws) (x next : History) (deed : Deed) (before middle last : Database)
+module _ (declared : List Create) (laws : Laws) (x next : History) (operation : Operation) (before middle last : Database)
     (answer : Answer) where
-  pub replays_pushed : next.deeds ≡ x.deeds ++ deed ∷ [] → next.member.tx ≡ x.member.tx
+  pub replays_pushed : next.operations ≡ x.operations ++ operation ∷ [] → next.member.tx ≡ x.member.tx
       → next.member.answers ≡ x.member.answers ++ answer ∷ []
-      → statement_meaning declared deed.statement deed.valuation middle (environment_of x.member)
+      → statement_meaning declared operation.statement operation.valuation middle (environment_of x.member)
       ≡ Ok (record { database = last; environment = environment_of next.member; answer = answer })
       → ((place : ℕ) → AllByRecursion (IsGrounded declared)
-      (seen x.member.tx place deed middle (environment_of x.member)))
+      (seen x.member.tx place operation middle (environment_of x.member)))
       → Replays declared x before middle → Replays declared next before last
-  replays_pushed deeds tx told meaning grounded replays =
+  replays_pushed operations tx told meaning grounded replays =
       record {
-        runs = ap (λ all. run declared all before nothing_bound) deeds
-            ∙ laws.goes_on declared x.deeds deed before nothing_bound
-            ∙ ap (option_and_then (one_more declared deed)) replays.runs
+        runs = ap (λ all. run declared all before nothing_bound) operations
+            ∙ laws.goes_on declared x.operations operation before nothing_bound
+            ∙ ap (option_and_then (one_more declared operation)) replays.runs
             ∙ ap (behind x.member.answers) meaning
             ∙ (λ i. Some (record {
               database = last;
@@ -230,9 +230,9 @@ module _ (declared : List Create) (laws : Laws) (x next : History) (deed : Deed)
               answers = sym told i;
             }));
         grounded = subst (λ all. AllByRecursion (IsGrounded declared)
-            (sights declared next.member.tx 1 all before nothing_bound)) (sym deeds)
+            (read_views declared next.member.tx 1 all before nothing_bound)) (sym operations)
             (subst (λ t. AllByRecursion (IsGrounded declared)
-            (sights declared t 1 (x.deeds ++ deed ∷ []) before nothing_bound)) (sym tx)
-            (sights_pushed declared x.member.tx deed middle (environment_of x.member) grounded x.deeds 1 before
+            (read_views declared t 1 (x.operations ++ operation ∷ []) before nothing_bound)) (sym tx)
+            (read_views_pushed declared x.member.tx operation middle (environment_of x.member) grounded x.operations 1 before
             nothing_bound (_, replays.runs, refl, refl) replays.grounded));
       }

@@ -29,8 +29,8 @@ use Rattle.ent_serializability.proofs.Frame.{Laws}
 use Rattle.ent_serializability.proofs.Undo.{other_number, differ, same_number}
 use Rattle.ent_serializability.proofs.Sound.{has_tx, first}
 use Rattle.ent_serializability.proofs.Outcomes.{seen_same, seen_room}
-use Rattle.ent_serializability.proofs.Deeds.{HoldsUses}
-use Rattle.ent_serializability.proofs.Scripts.{next_ordinary, next_asking, next_committing, turn_at, turn_end}
+use Rattle.ent_serializability.proofs.Operations.{HoldsUses}
+use Rattle.ent_serializability.proofs.Scripts.{next_ordinary, next_posting, next_committing, turn_at, turn_end}
 use Rattle.ent_serializability.proofs.Scripts.{take_whole}
 use Rattle.ent_serializability.proofs.Locks.{holds_asked}
 use Rattle.ent_serializability.proofs.Jobs.{JobRight, SingleRight, OtherJob, OtherWork, jobs_moved, stays_as_is}
@@ -53,7 +53,7 @@ pub record IsNext {F : Type 0} (forms : Forms F) (s : State) (x : History) (foll
     (c : Statement Value) : Type 0 where
   pub statement : TreeStatement
   pub form : Statement Known
-  pub at : slice_get follows.own.script.statements (length x.deeds) ≡ Some statement
+  pub at : slice_get follows.own.script.statements (length x.operations) ≡ Some statement
   pub faithful : IsFaithful s.opening.tables statement form
   pub closes : closed (environment_of x.member) form ≡ c
 
@@ -62,11 +62,11 @@ module _ {F : Type 0} (forms : Forms F) (s : State) (kept : Kept forms s) (faith
   is_next : next_of s x.member ≡ next_in (Some follows.own) x.member
   is_next = ap (λ own. next_in own x.member) follows.submitted
 
-  in_turn : (f : Statement Known) → slice_get follows.own.form (length x.deeds) ≡ Some f
-      → (st : TreeStatement) × (slice_get follows.own.script.statements (length x.deeds) ≡ Some st)
+  in_turn : (f : Statement Known) → slice_get follows.own.form (length x.operations) ≡ Some f
+      → (st : TreeStatement) × (slice_get follows.own.script.statements (length x.operations) ≡ Some st)
       × IsFaithful s.opening.tables st f
   in_turn f e =
-      turn_at (IsFaithful s.opening.tables) follows.own.script.statements follows.own.form (length x.deeds) f
+      turn_at (IsFaithful s.opening.tables) follows.own.script.statements follows.own.form (length x.operations) f
       (faithful.each follows.own.script follows.own.form
       (of_all (λ own. forms.resolve s.opening own.script ≡ Ok own.form) s.submitted follows.own kept.resolved
       (numbered_in s.submitted x.member.tx follows.own follows.submitted))) e
@@ -74,28 +74,28 @@ module _ {F : Type 0} (forms : Forms F) (s : State) (kept : Kept forms s) (faith
   pub ordinary_next : (c : Statement Value) → next_of s x.member ≡ Ordinary c
       → (n : IsNext forms s x follows c) × (statement_next (closed (environment_of x.member) n.form) ≡ Ordinary c)
   ordinary_next c e =
-      let r = next_ordinary follows.own x.member (length x.deeds) follows.place c (sym is_next ∙ e) in
+      let r = next_ordinary follows.own x.member (length x.operations) follows.place c (sym is_next ∙ e) in
       let t = in_turn r.0.statement r.0.at in (
         record { statement = t.0; form = r.0.statement; at = t.1; faithful = t.2; closes = r.0.closes },
         r.1,
       )
 
-  pub asking_next : (asked : Entangled Value) → next_of s x.member ≡ Asks asked
+  pub posting_next : (asked : Entangled Value) → next_of s x.member ≡ Asks asked
       → IsNext forms s x follows (statements.Entangled asked)
-  asking_next asked e =
-      let r = next_asking follows.own x.member (length x.deeds) follows.place asked (sym is_next ∙ e) in
+  posting_next asked e =
+      let r = next_posting follows.own x.member (length x.operations) follows.place asked (sym is_next ∙ e) in
       let t = in_turn r.statement r.at in
       record { statement = t.0; form = r.statement; at = t.1; faithful = t.2; closes = r.closes }
 
   pub whole_next : next_of s x.member ≡ Commits → IsWhole s.submitted x
   whole_next e =
-      let r = next_committing follows.own x.member (length x.deeds) follows.place (sym is_next ∙ e) in
+      let r = next_committing follows.own x.member (length x.operations) follows.place (sym is_next ∙ e) in
       record {
         own = follows.own;
         submitted = follows.submitted;
         whole = follows.beginning
-            ∙ take_whole follows.own.script.statements (length x.deeds)
-            (turn_end (IsFaithful s.opening.tables) follows.own.script.statements follows.own.form (length x.deeds)
+            ∙ take_whole follows.own.script.statements (length x.operations)
+            (turn_end (IsFaithful s.opening.tables) follows.own.script.statements follows.own.form (length x.operations)
             (faithful.each follows.own.script follows.own.form
             (of_all (λ own. forms.resolve s.opening own.script ≡ Ok own.form) s.submitted follows.own kept.resolved
             (numbered_in s.submitted x.member.tx follows.own follows.submitted))) r.0);
@@ -157,7 +157,7 @@ module _ {F : Type 0} (forms : Forms F) (laws : Laws) (s : State) (kept : Kept f
     posts_one : (asked : Entangled Value) → next_of s x.member ≡ Asks asked
         → blocker s x.member (entangled_uses asked) ≡ None → Kept forms (posting s x.member asked)
     posts_one asked next free =
-        let n = asking_next forms s kept faithful x (follows_of x at) asked next in
+        let n = posting_next forms s kept faithful x (follows_of x at) asked next in
         let low : (table : ℕ) → is_used (entangled_uses asked) table ≡ true → table < length s.opening.tables =
         λ table used. n.faithful.declared (environment_of x.member) table
         (subst (λ st. is_used (statement_uses st) table ≡ true) (sym n.closes) used) in

@@ -5,16 +5,16 @@ use Rattle.ent_semantics.specs.declared.book.JointAnswer.{JointAnswer}
 use Rattle.ent_semantics.specs.declared.book.Member.{Member as JointMember}
 use Rattle.ent_semantics.specs.Database.{Database, nothing_bound}
 use Rattle.ent_semantics.specs.Joint.{IsGood}
-use Rattle.ent_semantics.specs.Serial.{Sight, sights}
+use Rattle.ent_semantics.specs.Serial.{ReadView, read_views}
 use Rattle.ent_protocol.specs.Reached.{live_joints}
 use Rattle.ent_protocol.specs.State.{State, Member, members}
-use Rattle.ent_serializability.specs.GoodAnswers.{histories_sights}
+use Rattle.ent_serializability.specs.GoodAnswers.{histories_read_views}
 use Rattle.ent_serializability.specs.GroupRuns.{GroupRuns, settled_database}
 use Rattle.ent_serializability.specs.History.{History}
 
 -- what the entangled statements of a member see that runs from a database
-abbrev pub history_sights : List Create → Database → History → List Sight
-history_sights declared first history = sights declared history.member.tx 1 history.deeds first nothing_bound
+abbrev pub history_read_views : List Create → Database → History → List ReadView
+history_read_views declared first history = read_views declared history.member.tx 1 history.operations first nothing_bound
 
 -- these are the histories that a group's runs give its unprepared members
 pub record AreOthers (s : State) (group : ℕ) (runs : GroupRuns s group) (others : List History) : Type 0 where
@@ -26,10 +26,10 @@ pub record AreOthers (s : State) (group : ℕ) (runs : GroupRuns s group) (other
 
 -- what the entangled statements of a group see: those of its prepared members, one after the other from the settled
 -- database, and those of each other member, from where they end
-abbrev pub group_sights : (s : State) (group : ℕ) → GroupRuns s group → List History → List Sight
-group_sights s group runs others =
-    histories_sights s.opening.tables runs.prepared (settled_database s)
-    ++ flat_map (history_sights s.opening.tables runs.start) others
+abbrev pub group_read_views : (s : State) (group : ℕ) → GroupRuns s group → List History → List ReadView
+group_read_views s group runs others =
+    histories_read_views s.opening.tables runs.prepared (settled_database s)
+    ++ flat_map (history_read_views s.opening.tables runs.start) others
 
 -- all members of a joint answer are members of the run, in this group
 abbrev pub IsOfGroup : State → ℕ → JointAnswer → Type 0
@@ -47,4 +47,4 @@ pub record GroupAnswers (s : State) (group : ℕ) : Type 0 where
   pub others : List History
   pub of_others : AreOthers s group runs others
   pub good : (joint : JointAnswer) → Contains (live_joints s) joint → IsOfGroup s group joint
-      → IsGood s.opening.tables (group_sights s group runs others) joint.members
+      → IsGood s.opening.tables (group_read_views s group runs others) joint.members

@@ -5,7 +5,7 @@ use Rattle.ent_tree.specs.declared.script.End.TheVariants.{Commit}
 use Rattle.ent_tree.specs.declared.script.Statement.TheVariants as statements
 use Rattle.ent_tree.specs.declared.script.Statement.{Statement}
 use Rattle.ent_semantics.specs.Database.{opening_database}
-use Rattle.ent_semantics.specs.Serial.{Deed, numbered}
+use Rattle.ent_semantics.specs.Serial.{Operation, numbered}
 use Rattle.ent_form_laws.specs.Tables.{database_of}
 use Rattle.ent_protocol.specs.Commit.{entry_of}
 use Rattle.ent_protocol.specs.Reached.{settled}
@@ -13,29 +13,29 @@ use Rattle.ent_protocol.specs.State.{State, Submitted, Member}
 use Rattle.ent_serializability.specs.History.{History, AreSerial}
 
 -- the oracle answers entangled statements alone
-abbrev pub IsOracled : Deed → Type 0
-IsOracled deed = by_statement deed.statement
+abbrev pub IsOracled : Operation → Type 0
+IsOracled operation = by_statement operation.statement
   where
     by_statement : Statement → Type 0
     by_statement (statements.Entangled entangled) = Unit {0}
-    by_statement other = deed.valuation ≡ []
+    by_statement other = operation.valuation ≡ []
 
 -- what was done is the beginning of a member's own script
 pub record Follows (all : List Submitted) (history : History) : Type 0 where
   pub own : Submitted
   pub submitted : numbered all history.member.tx ≡ Some own
-  pub beginning : map (λ deed. deed.statement) history.deeds
-      ≡ take (length history.deeds) own.script.statements
-  pub place : history.member.place ≡ suc (length history.deeds)
-  pub oracled : AllByRecursion IsOracled history.deeds
+  pub beginning : map (λ operation. operation.statement) history.operations
+      ≡ take (length history.operations) own.script.statements
+  pub place : history.member.place ≡ suc (length history.operations)
+  pub oracled : AllByRecursion IsOracled history.operations
 
 -- it is the whole script, which ends with COMMIT
 pub record IsWhole (all : List Submitted) (history : History) : Type 0 where
   pub own : Submitted
   pub submitted : numbered all history.member.tx ≡ Some own
-  pub whole : map (λ deed. deed.statement) history.deeds ≡ own.script.statements
+  pub whole : map (λ operation. operation.statement) history.operations ≡ own.script.statements
   pub commits : own.script.end ≡ Commit
-  pub oracled : AllByRecursion IsOracled history.deeds
+  pub oracled : AllByRecursion IsOracled history.operations
 
 -- The committed transactions in journal order give the settled database; from there the prepared members, and then the
 -- others in some order, give the present tables. Each of these runs is of another member, so nobody runs twice.

@@ -3,9 +3,9 @@ ghost use Rattle.std.specs.Prelude.{ℕ, Contains, List};
 ghost use Rattle.ent_protocol.specs.Reached.{IsReached, book_of};
 ghost use Rattle.ent_protocol.specs.Run.{Forms};
 ghost use Rattle.ent_protocol.specs.State.{State};
-ghost use Rattle.ent_semantics.specs.Book.{IsLegal, JournalIsRight, RunGivesBook, book_sights};
+ghost use Rattle.ent_semantics.specs.Book.{IsLegal, JournalIsRight, RunGivesBook, book_read_views};
 ghost use Rattle.ent_semantics.specs.Joint.{IsGrounded};
-ghost use Rattle.ent_semantics.specs.Serial.{Sight, Turn};
+ghost use Rattle.ent_semantics.specs.Serial.{ReadView, Turn};
 ghost use Rattle.ent_serializability.specs.Answered.{HasAsked, IsAnsweredOnce, NothingElse};
 ghost use Rattle.ent_serializability.specs.Conflicts.{ConflictsStandInGroups};
 ghost use Rattle.ent_serializability.specs.Faithful.{AreFaithful};
@@ -42,9 +42,9 @@ pub fn committed_runs_give_the_book<F>()
         → IsReached forms s
         → (turns : List Turn)
         × RunGivesBook (book_of s) turns
-        × ((sight : Sight)
-        → Contains (book_sights (book_of s) turns) sight
-        → IsGrounded s.opening.tables sight) }
+        × ((read_view : ReadView)
+        → Contains (book_read_views (book_of s) turns) read_view
+        → IsGrounded s.opening.tables read_view) }
 {
     statements_keep_to_their_uses();
     runs_go_on();

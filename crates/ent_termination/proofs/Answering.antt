@@ -14,8 +14,8 @@ use Rattle.ent_protocol.specs.PoolEvents.{IsPresentComponent, answered_among, an
 use Rattle.ent_protocol.specs.PoolEvents.{in_joined_group, joining}
 use Rattle.ent_protocol.specs.PostedBy.{IsPostedBy, in_pool, to_pool, next_same}
 use Rattle.ent_protocol.specs.State.{State, Member}
-use Rattle.ent_termination.proofs.Askings.{AreAsked, pool_distinct}
-use Rattle.ent_termination.proofs.Askings.{present_in_all}
+use Rattle.ent_termination.proofs.PostedQueries.{AreAsked, pool_distinct}
+use Rattle.ent_termination.proofs.PostedQueries.{present_in_all}
 use Rattle.ent_lists.specs.Elements.{In, Pairs, any_in, any_some, clash, contains_in, in_contains, number_itself}
 use Rattle.ent_lists.specs.Elements.{of_map, same_number, to_map, turned}
 use Rattle.ent_termination.proofs.Pools.{joined_in, swapped}

@@ -4,7 +4,7 @@ use Rattle.std.proofs.Common.{refl, sym, ap, subst, ◌∙◌, arith, Option, So
 use Rattle.std.specs.List.{filter, list_any}
 use Rattle.ent_protocol_laws.proofs.Pooled.{pool_apart, never_unsafe}
 use Rattle.ent_value.specs.declared.value.Value.{Value}
-use Rattle.ent_group.specs.Cycle.{Closes, IsInRing}
+use Rattle.ent_group.specs.Cycle.{Closes, IsOnCycle}
 use Rattle.ent_closed.specs.declared.entangled.Entangled.{Entangled}
 use Rattle.ent_closed.specs.declared.statement.Statement.{Statement}
 use Rattle.ent_coordination.specs.Pool.{Posted, IsSafe}
@@ -99,7 +99,7 @@ module _ (s : State) (once : StandOnce s) (by_number : StandByNumber s) (m : Mem
 
 -- ---- a quiet run has no reason to go on
 
-in_ring : (s : State) (cycle : List ℕ) → Closes (waits s) cycle → (tx : ℕ) × IsInRing (waits s) tx
+in_ring : (s : State) (cycle : List ℕ) → Closes (waits s) cycle → (tx : ℕ) × IsOnCycle (waits s) tx
 in_ring s [] closes = let low = closes.not_empty in absurd (omega (arith, low))
 in_ring s (x ∷ xs) closes = (x, (x ∷ xs, closes, (0, omega arith, refl)))
 

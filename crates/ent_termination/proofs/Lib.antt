@@ -1,6 +1,6 @@
 pub mod Lists
 pub mod Pools
-pub mod Askings
+pub mod PostedQueries
 pub mod Changes
 pub mod LentJobs
 pub mod ReachedStates

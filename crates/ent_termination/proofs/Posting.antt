@@ -9,7 +9,7 @@ use Rattle.ent_protocol.specs.Member.{is_tx, next_in, pool}
 use Rattle.ent_protocol.specs.PostedBy.{IsPostedBy, in_pool, to_pool}
 use Rattle.ent_protocol.specs.State.{State, Submitted, Member}
 use Rattle.ent_semantics.specs.Serial.{numbered}
-use Rattle.ent_termination.proofs.Askings.{AreAsked, AskTheSame}
+use Rattle.ent_termination.proofs.PostedQueries.{AreAsked, AskTheSame}
 use Rattle.ent_lists.specs.Elements.{In, Pairs, clash, number_itself, of_filter, of_map, same_number, to_filter, to_map}
 use Rattle.ent_termination.proofs.ReachedStates.{member_tx}
 

@@ -14,8 +14,8 @@ use Rattle.ent_protocol.specs.PoolEvents.{IsPresentComponent}
 use Rattle.ent_protocol.specs.PostedBy.{in_pool}
 use Rattle.ent_protocol.specs.State.{State, Member, members}
 use Rattle.ent_termination.specs.Within.{HasOneOf, HitUntried, IsWithin, unbegun}
-use Rattle.ent_termination.proofs.Askings.{AreAsked, AskTheSame, asked_there, present_in_other}
-use Rattle.ent_termination.proofs.Askings.{present_in_part, some_asked}
+use Rattle.ent_termination.proofs.PostedQueries.{AreAsked, AskTheSame, asked_there, present_in_other}
+use Rattle.ent_termination.proofs.PostedQueries.{present_in_part, some_asked}
 use Rattle.ent_termination.proofs.Counts.{members_counted}
 use Rattle.ent_lists.specs.Elements.{In, Pairs, any_in, any_some, clash, contains_in, in_contains, number_itself}
 use Rattle.ent_lists.specs.Elements.{same_number, to_filter, to_map}

@@ -23,7 +23,7 @@ use Rattle.ent_protocol.specs.State.{State, Member, Change, members}
 use Rattle.ent_protocol.specs.Uses.{entangled_uses, statement_uses}
 use Rattle.ent_termination.specs.Within.{IsWithin, begun, statements_behind, unbegun, unbegun_of}
 use Rattle.ent_termination.proofs.Answering.{is_asked, left_asked, left_components}
-use Rattle.ent_termination.proofs.Askings.{asked_there, one_component, present_in_other, some_asked}
+use Rattle.ent_termination.proofs.PostedQueries.{asked_there, one_component, present_in_other, some_asked}
 use Rattle.ent_termination.proofs.Changes.{Act, Submits, Starts, Lends, Posts, Prepares, Steps, Fails, Picks, Answers}
 use Rattle.ent_termination.proofs.Changes.{Tries, Ends, Recalls, ComesBack, IsIdle, JointBack, after, opens, worth}
 use Rattle.ent_termination.proofs.Changes as acts

@@ -12,16 +12,16 @@ use Rattle.ent_tree.specs.declared.script.Script.{Script}
 use Rattle.ent_semantics.specs.declared.answer.Fact.{Fact}
 use Rattle.ent_semantics.specs.declared.book.Book.{Book}
 use Rattle.ent_semantics.specs.declared.book.Member.{Member}
-use Rattle.ent_semantics.specs.Book.{IsLegal, JournalIsRight, RunGivesBook, all_members, book_sights}
+use Rattle.ent_semantics.specs.Book.{IsLegal, JournalIsRight, RunGivesBook, all_members, book_read_views}
 use Rattle.ent_semantics.specs.Database.{Name, Database, row_of, opening_database, same_name}
-use Rattle.ent_semantics.specs.Joint.{IsGood, IsGrounded, IsOffered, StandsIn, member_of, sight_heads, sight_posts}
-use Rattle.ent_semantics.specs.Serial.{Sight, Turn, numbered, scripts_run, scripts_sights}
+use Rattle.ent_semantics.specs.Joint.{IsGood, IsGrounded, IsOffered, StandsIn, member_of, read_view_heads, read_view_posts}
+use Rattle.ent_semantics.specs.Serial.{ReadView, Turn, numbered, scripts_run, scripts_read_views}
 use Rattle.ent_lists.specs.Elements.{contains_in, in_contains, of_map, to_map}
 use Rattle.ent_unplaced_laws.specs.Unplaced.{unplaced_book, unplaced_create, unplaced_opening, unplaced_row}
-use Rattle.ent_unplaced_laws.specs.Unplaced.{unplaced_sight, unplaced_turn}
+use Rattle.ent_unplaced_laws.specs.Unplaced.{unplaced_read_view, unplaced_turn}
 use Rattle.ent_unplaced_laws.proofs.Through.{map_through, numbered_through}
 use Rattle.ent_unplaced_laws.proofs.Entangled.{heads_same, posts_same, grounding_same}
-use Rattle.ent_unplaced_laws.proofs.Runs.{scripts_run_same, scripts_sights_are}
+use Rattle.ent_unplaced_laws.proofs.Runs.{scripts_run_same, scripts_read_views_are}
 
 -- ---- elements of lists that lost their places
 
@@ -62,61 +62,61 @@ opening_same opening = λ i name. table_same opening name i
 
 -- ---- joint answers
 
-sight_heads_same : (sight : Sight) → sight_heads (unplaced_sight sight) ≡ sight_heads sight
-sight_heads_same sight = heads_same sight.environment sight.entangled sight.valuation
+read_view_heads_same : (read_view : ReadView) → read_view_heads (unplaced_read_view read_view) ≡ read_view_heads read_view
+read_view_heads_same read_view = heads_same read_view.environment read_view.entangled read_view.valuation
 
-sight_posts_same : (sight : Sight) → sight_posts (unplaced_sight sight) ≡ sight_posts sight
-sight_posts_same sight = posts_same sight.environment sight.entangled sight.valuation
+read_view_posts_same : (read_view : ReadView) → read_view_posts (unplaced_read_view read_view) ≡ read_view_posts read_view
+read_view_posts_same read_view = posts_same read_view.environment read_view.entangled read_view.valuation
 
-module _ (declared : List Create) (run : List Sight) (members : List Member) (good : IsGood declared run members) where
-  offered_bare : (fact : Fact) → IsOffered run members fact → IsOffered (map unplaced_sight run) members fact
+module _ (declared : List Create) (run : List ReadView) (members : List Member) (good : IsGood declared run members) where
+  offered_bare : (fact : Fact) → IsOffered run members fact → IsOffered (map unplaced_read_view run) members fact
   offered_bare fact offered = (
-    unplaced_sight offered.0,
-    (to_mapped unplaced_sight run offered.0 offered.1.0, offered.1.1),
-    subst (λ (facts : List Fact). Contains facts fact) (sym (sight_heads_same offered.0)) offered.2,
+    unplaced_read_view offered.0,
+    (to_mapped unplaced_read_view run offered.0 offered.1.0, offered.1.1),
+    subst (λ (facts : List Fact). Contains facts fact) (sym (read_view_heads_same offered.0)) offered.2,
   )
 
-  grounded_bare : (sight : Sight) → StandsIn run members sight
-      → IsGrounded (map unplaced_create declared) (unplaced_sight sight)
-  grounded_bare sight stands =
-      grounding_same sight.environment sight.entangled sight.valuation declared sight.database
-      ∙ good.grounded sight stands
+  grounded_bare : (read_view : ReadView) → StandsIn run members read_view
+      → IsGrounded (map unplaced_create declared) (unplaced_read_view read_view)
+  grounded_bare read_view stands =
+      grounding_same read_view.environment read_view.entangled read_view.valuation declared read_view.database
+      ∙ good.grounded read_view stands
 
-  met_bare : (sight : Sight) → StandsIn run members sight → (post : Fact)
-      → Contains (sight_posts (unplaced_sight sight)) post → IsOffered (map unplaced_sight run) members post
-  met_bare sight stands post there =
+  met_bare : (read_view : ReadView) → StandsIn run members read_view → (post : Fact)
+      → Contains (read_view_posts (unplaced_read_view read_view)) post → IsOffered (map unplaced_read_view run) members post
+  met_bare read_view stands post there =
       offered_bare post
-      (good.met sight stands post (subst (λ (facts : List Fact). Contains facts post) (sight_posts_same sight) there))
+      (good.met read_view stands post (subst (λ (facts : List Fact). Contains facts post) (read_view_posts_same read_view) there))
 
   -- what holds of each statement of the run that stands in the joint answer, its places aside
-  of_bare : (P : Sight → Type 0) → ((sight : Sight) → StandsIn run members sight → P (unplaced_sight sight))
-      → (sight : Sight) → StandsIn (map unplaced_sight run) members sight → P sight
-  of_bare P holds sight stands =
-      let found = of_mapped unplaced_sight run sight stands.0 in
+  of_bare : (P : ReadView → Type 0) → ((read_view : ReadView) → StandsIn run members read_view → P (unplaced_read_view read_view))
+      → (read_view : ReadView) → StandsIn (map unplaced_read_view run) members read_view → P read_view
+  of_bare P holds read_view stands =
+      let found = of_mapped unplaced_read_view run read_view stands.0 in
       subst P (sym found.2)
       (holds found.0
-      (found.1, subst (λ (seen : Sight). Contains members (member_of seen)) found.2 stands.1))
+      (found.1, subst (λ (seen : ReadView). Contains members (member_of seen)) found.2 stands.1))
 
-  pub good_same : IsGood (map unplaced_create declared) (map unplaced_sight run) members
+  pub good_same : IsGood (map unplaced_create declared) (map unplaced_read_view run) members
   good_same = record {
     some = good.some;
     distinct = good.distinct;
     of_run = λ member there.
         let found = good.of_run member there in
-        (unplaced_sight found.0, to_mapped unplaced_sight run found.0 found.1, found.2);
+        (unplaced_read_view found.0, to_mapped unplaced_read_view run found.0 found.1, found.2);
     grounded = of_bare (IsGrounded (map unplaced_create declared)) grounded_bare;
-    met = of_bare (λ sight. (post : Fact) → Contains (sight_posts sight) post
-        → IsOffered (map unplaced_sight run) members post) met_bare;
+    met = of_bare (λ read_view. (post : Fact) → Contains (read_view_posts read_view) post
+        → IsOffered (map unplaced_read_view run) members post) met_bare;
   }
 
 -- ---- books
 
-sights_same : (book : Book Database) (turns : List Turn)
-    → book_sights (unplaced_book book) (map unplaced_turn turns) ≡ map unplaced_sight (book_sights book turns)
-sights_same book turns =
-    ap (λ (database : Database). scripts_sights (map unplaced_create book.opening.tables) (map unplaced_turn turns)
+read_views_same : (book : Book Database) (turns : List Turn)
+    → book_read_views (unplaced_book book) (map unplaced_turn turns) ≡ map unplaced_read_view (book_read_views book turns)
+read_views_same book turns =
+    ap (λ (database : Database). scripts_read_views (map unplaced_create book.opening.tables) (map unplaced_turn turns)
     database) (opening_same book.opening)
-    ∙ scripts_sights_are book.opening.tables turns (opening_database book.opening)
+    ∙ scripts_read_views_are book.opening.tables turns (opening_database book.opening)
 
 script_bare : (scripts : List Script) (number : ℕ) (script : Script) → numbered scripts number ≡ Some script
     → numbered (map unplaced_script scripts) number ≡ Some (unplaced_script script)
@@ -154,26 +154,26 @@ run_bare book turns gives = record {
 
 pub legal_bare : (book : Book Database) → IsLegal book → IsLegal (unplaced_book book)
 legal_bare book legal =
-    let are = sights_same book legal.turns in
-    let old : List Sight = book_sights book legal.turns in
+    let are = read_views_same book legal.turns in
+    let old : List ReadView = book_read_views book legal.turns in
     record {
       journal = journal_bare book legal.journal;
       turns = map unplaced_turn legal.turns;
       runs = run_bare book legal.turns legal.runs;
-      answered = λ sight there.
-          let found = of_mapped unplaced_sight old sight
-          (subst (λ (seen : List Sight). Contains seen sight) are there) in
-          subst (λ (seen : Sight). Contains (all_members book.joint_answers) (member_of seen)) (sym found.2)
+      answered = λ read_view there.
+          let found = of_mapped unplaced_read_view old read_view
+          (subst (λ (seen : List ReadView). Contains seen read_view) are there) in
+          subst (λ (seen : ReadView). Contains (all_members book.joint_answers) (member_of seen)) (sym found.2)
           (legal.answered found.0 found.1);
       once = legal.once;
       no_widow = λ member there.
           let found = legal.no_widow member there in (
-            unplaced_sight found.0,
-            subst (λ (seen : List Sight). Contains seen (unplaced_sight found.0)) (sym are)
-                (to_mapped unplaced_sight old found.0 found.1),
+            unplaced_read_view found.0,
+            subst (λ (seen : List ReadView). Contains seen (unplaced_read_view found.0)) (sym are)
+                (to_mapped unplaced_read_view old found.0 found.1),
             found.2,
           );
       good = λ joint there.
-          subst (λ (seen : List Sight). IsGood (map unplaced_create book.opening.tables) seen joint.members)
+          subst (λ (seen : List ReadView). IsGood (map unplaced_create book.opening.tables) seen joint.members)
           (sym are) (good_same book.opening.tables old joint.members (legal.good joint there));
     }

@@ -8,7 +8,7 @@ use Rattle.ent_tree.specs.declared.declaration.Opening.{Opening}
 use Rattle.ent_tree.specs.declared.declaration.OpeningRow.{OpeningRow}
 use Rattle.ent_semantics.specs.declared.book.Book.{Book}
 use Rattle.ent_semantics.specs.Database.{Database}
-use Rattle.ent_semantics.specs.Serial.{Deed, Sight, Turn}
+use Rattle.ent_semantics.specs.Serial.{Operation, ReadView, Turn}
 
 -- a column of a declaration
 abbrev pub unplaced_declared : Column → Column
@@ -35,15 +35,15 @@ unplaced_opening opening = record {
 
 -- ---- runs
 
-abbrev pub unplaced_deed : Deed → Deed
-unplaced_deed deed = record deed { statement = unplaced_statement deed.statement }
+abbrev pub unplaced_operation : Operation → Operation
+unplaced_operation operation = record operation { statement = unplaced_statement operation.statement }
 
 abbrev pub unplaced_turn : Turn → Turn
 unplaced_turn turn = record turn { script = unplaced_script turn.script }
 
 -- what an entangled statement sees; its own place in the script counts statements, and stays
-abbrev pub unplaced_sight : Sight → Sight
-unplaced_sight sight = record sight { entangled = unplaced_entangled sight.entangled }
+abbrev pub unplaced_read_view : ReadView → ReadView
+unplaced_read_view read_view = record read_view { entangled = unplaced_entangled read_view.entangled }
 
 -- ---- books
 

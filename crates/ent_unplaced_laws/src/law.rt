@@ -15,14 +15,14 @@ ghost use Rattle.ent_semantics.specs.Book.{IsLegal};
 ghost use Rattle.ent_semantics.specs.Database.{Name, Database, Environment, opening_database};
 ghost use Rattle.ent_semantics.specs.Entangled.{Valuation, heads, is_grounding, posts, written_variables};
 ghost use Rattle.ent_semantics.specs.Joint.{IsGood};
-ghost use Rattle.ent_semantics.specs.Serial.{Sight, Turn, deeds_of, script_run, scripts_run, scripts_sights};
+ghost use Rattle.ent_semantics.specs.Serial.{ReadView, Turn, operations_of, script_run, scripts_run, scripts_read_views};
 ghost use Rattle.ent_semantics.specs.Statement.{statement_meaning};
 ghost use Rattle.ent_semantics.specs.Uses.{changes, uses};
 ghost use Rattle.ent_semantics.specs.declared.book.Book.{Book};
 ghost use Rattle.ent_semantics.specs.declared.book.Member.{Member};
 ghost use Rattle.ent_unplaced_laws.specs.Faults.{unplaced_fault};
-ghost use Rattle.ent_unplaced_laws.specs.Unplaced.{unplaced_book, unplaced_create, unplaced_deed, unplaced_opening};
-ghost use Rattle.ent_unplaced_laws.specs.Unplaced.{unplaced_sight, unplaced_turn};
+ghost use Rattle.ent_unplaced_laws.specs.Unplaced.{unplaced_book, unplaced_create, unplaced_operation, unplaced_opening};
+ghost use Rattle.ent_unplaced_laws.specs.Unplaced.{unplaced_read_view, unplaced_turn};
 
 use ent_print::places_do_not_show;
 
@@ -57,24 +57,24 @@ pub fn openings_are_the_same_without_places()
 {}
 
 /// Scripts without their places, run alone over declarations without theirs, leave and answer the same, one of them and
-/// all in a row. Their deeds, and their entangled statements with what these see, are the same, places aside. A joint
+/// all in a row. Their operations, and their entangled statements with what these see, are the same, places aside. A joint
 /// answer that is good over such a run stays good.
 pub fn runs_are_the_same_without_places()
-    ensures deeds { (statements : List Statement) (oracle : List Valuation)
-        → deeds_of (map unplaced_statement statements) oracle
-        ≡ option_map (map unplaced_deed) (deeds_of statements oracle) }
+    ensures operations { (statements : List Statement) (oracle : List Valuation)
+        → operations_of (map unplaced_statement statements) oracle
+        ≡ option_map (map unplaced_operation) (operations_of statements oracle) }
     ensures script { (declared : List Create) (script : Script) (oracle : List Valuation) (database : Database)
         → script_run (map unplaced_create declared) (unplaced_script script) oracle database
         ≡ script_run declared script oracle database }
     ensures run { (declared : List Create) (turns : List Turn) (database : Database)
         → scripts_run (map unplaced_create declared) (map unplaced_turn turns) database
         ≡ scripts_run declared turns database }
-    ensures sights { (declared : List Create) (turns : List Turn) (database : Database)
-        → scripts_sights (map unplaced_create declared) (map unplaced_turn turns) database
-        ≡ map unplaced_sight (scripts_sights declared turns database) }
-    ensures good { (declared : List Create) (run : List Sight) (members : List Member)
+    ensures read_views { (declared : List Create) (turns : List Turn) (database : Database)
+        → scripts_read_views (map unplaced_create declared) (map unplaced_turn turns) database
+        ≡ map unplaced_read_view (scripts_read_views declared turns database) }
+    ensures good { (declared : List Create) (run : List ReadView) (members : List Member)
         → IsGood declared run members
-        → IsGood (map unplaced_create declared) (map unplaced_sight run) members }
+        → IsGood (map unplaced_create declared) (map unplaced_read_view run) members }
 {}
 
 /// A legal book is legal without its places.

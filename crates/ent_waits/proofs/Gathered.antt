@@ -6,7 +6,7 @@ use Rattle.std.specs.List.{flat_map}
 use Rattle.std.proofs.lemmas.List.{length-map}
 use Rattle.std.proofs.lemmas.List.Concat.{flat_map_single}
 use Rattle.std.proofs.lemmas.List.Elements.{All-cons, All-contains_itself, All-nil, All-weaker}
-use Rattle.ent_group.specs.Cycle.{IsCycle, IsInRing, NamesAtMost}
+use Rattle.ent_group.specs.Cycle.{IsCycle, IsOnCycle, NamesAtMost}
 use Rattle.ent_semantics.specs.Serial.{numbered}
 use Rattle.ent_members.specs.Run.{Run, tx_of, with_run}
 use Rattle.ent_members.specs.Waits.{is_awaited, pairs_of}
@@ -15,8 +15,8 @@ use Rattle.ent_protocol.specs.Member.{next_in, next_of}
 use Rattle.ent_protocol.specs.State.{State, Member, Submitted, Use}
 use Rattle.ent_protocol.specs.Waits.{IsDeadlock, NoDeadlock, is_waiting, next_uses, waits, waits_of}
 use Rattle.ent_waits.specs.Waits.{gathered, nothing, pair_if_awaited, pairs_while_waiting, state_with}
-use Rattle.ent_waits.proofs.Rings.{all_of_flat_map, contains_map, cycle_within, flat_map_if, flat_map_within}
-use Rattle.ent_waits.proofs.Rings.{ring_within}
+use Rattle.ent_waits.proofs.OnCycles.{all_of_flat_map, contains_map, cycle_within, flat_map_if, flat_map_within}
+use Rattle.ent_waits.proofs.OnCycles.{on_cycle_within}
 
 -- what the law of awaited members says
 abbrev pub AwaitedAreWaitedFor : Type 0
@@ -142,7 +142,7 @@ pairs_by run submitted lent asker asked b is uses =
 -- ---- deadlocks
 
 abbrev pub IsGreatest : List (ℕ × ℕ) → List ℕ → Type 0
-IsGreatest pairs members = (x : ℕ) → IsInRing pairs x → x ≤ slice_index members 0
+IsGreatest pairs members = (x : ℕ) → IsOnCycle pairs x → x ≤ slice_index members 0
 
 pub found_deadlock : AwaitedAreWaitedFor → (run : Run) (submitted : List Submitted) (lent : List Job) (s : State)
     (found : Option (List ℕ)) → IfSome found (IsCycle (gathered run submitted lent))
@@ -151,13 +151,13 @@ pub found_deadlock : AwaitedAreWaitedFor → (run : Run) (submitted : List Submi
 found_deadlock law run submitted lent s (Some members) cycle greatest = record {
   is_cycle = cycle_within (gathered run submitted lent) (waits (state_with run submitted lent s))
       (into_waits law run submitted lent s) members cycle;
-  greatest = λ tx ring. greatest tx (ring_within (waits (state_with run submitted lent s))
-      (gathered run submitted lent) (out_of_waits law run submitted lent s) tx ring);
+  greatest = λ tx found_cycle. greatest tx (on_cycle_within (waits (state_with run submitted lent s))
+      (gathered run submitted lent) (out_of_waits law run submitted lent s) tx found_cycle);
 }
 found_deadlock law run submitted lent s None cycle greatest = tt
 
 pub no_deadlock : AwaitedAreWaitedFor → (run : Run) (submitted : List Submitted) (lent : List Job) (s : State)
-    → ((x : ℕ) → ¬ (IsInRing (gathered run submitted lent) x)) → NoDeadlock (state_with run submitted lent s)
-no_deadlock law run submitted lent s none = λ tx ring. none tx
-    (ring_within (waits (state_with run submitted lent s)) (gathered run submitted lent)
-    (out_of_waits law run submitted lent s) tx ring)
+    → ((x : ℕ) → ¬ (IsOnCycle (gathered run submitted lent) x)) → NoDeadlock (state_with run submitted lent s)
+no_deadlock law run submitted lent s none = λ tx found_cycle. none tx
+    (on_cycle_within (waits (state_with run submitted lent s)) (gathered run submitted lent)
+    (out_of_waits law run submitted lent s) tx found_cycle)

@@ -1,4 +1,4 @@
-pub mod Rings
+pub mod OnCycles
 pub mod Gathered
 pub mod Moving
 pub mod Waiters

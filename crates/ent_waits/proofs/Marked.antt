@@ -15,14 +15,14 @@ use Rattle.ent_members.specs.Waits.{is_awaited, waits_over}
 use Rattle.ent_protocol.specs.Job.{Job}
 use Rattle.ent_protocol.specs.Member.{next_in}
 use Rattle.ent_protocol.specs.State.{Member, Submitted, Use}
-use Rattle.ent_protocol.specs.Uses.{in_way, is_in_way, not_passed}
+use Rattle.ent_protocol.specs.Uses.{conflicting, is_conflicting, not_passed}
 use Rattle.ent_protocol.specs.Waits.{is_waiting, next_uses}
 use Rattle.ent_waits.specs.Rows.{HasMarksOf, IsMarkedPair, MarksAll, MarksGroups, MarksOver, StandsAt, goes_with, stops}
 use Rattle.ent_waits.specs.Waits.{awaits_now, gathered, nothing, pair_if_awaited, pairs_while_waiting, state_with}
-use Rattle.ent_waits.proofs.Rings.{all_of_flat_map}
+use Rattle.ent_waits.proofs.OnCycles.{all_of_flat_map}
 use Rattle.ent_waits.proofs.Stuck.{MarksOneMore, below_or, mark_kept, mark_made}
 
--- ---- one row, over those for whom one in the way makes a member wait
+-- ---- one row, over those for whom one in conflict makes a member wait
 
 abbrev pub MarksUpto : List Member → (Member → Bool) → ℕ → ℕ → Type 0
 MarksUpto members test count row =
@@ -97,7 +97,7 @@ over_same of_group active asker asked holders row at here is free upto =
 
 abbrev pub MarksGroupsUpto : List Member → List Use → List Member → ℕ → ℕ → Type 0
 MarksGroupsUpto active asked holders count row =
-    (place : ℕ) (holder : Member) → place < count → StandsAt holders place holder → is_in_way asked holder ≡ true
+    (place : ℕ) (holder : Member) → place < count → StandsAt holders place holder → is_conflicting asked holder ≡ true
     → MarksAll active (goes_with holder) row
 
 pub groups_more : (active : List Member) (asked : List Use) (holders : List Member) (row new at : ℕ) (here : Member)
@@ -113,7 +113,7 @@ groups_more active asked holders row new at here is kept marks upto =
     ]
 
 pub groups_same : (active : List Member) (asked : List Use) (holders : List Member) (row at : ℕ) (here : Member)
-    → IsElement holders at here → is_in_way asked here ≡ false
+    → IsElement holders at here → is_conflicting asked here ≡ false
     → MarksGroupsUpto active asked holders at row → MarksGroupsUpto active asked holders (at + 1) row
 groups_same active asked holders row at here is free upto =
     λ place holder below stands own. elim (below_or place at) [
@@ -121,7 +121,7 @@ groups_same active asked holders row at here is free upto =
       | inr past ↦
           let same : place ≡ at = omega arith in
           absurd (true≢false (sym own
-          ∙ ap (is_in_way asked) (sym (element_is holders at place here holder is same stands)) ∙ free))
+          ∙ ap (is_conflicting asked) (sym (element_is holders at place here holder is same stands)) ∙ free))
     ]
 
 goes_if : (own_group same own : Bool) → (if own_group then own else same) ≡ true → (same || own) ≡ true
@@ -182,7 +182,7 @@ pub over_from_groups : (of_group : Bool) (active : List Member) (asker : Member)
     → MarksOver of_group active asker asked holders row
 over_from_groups of_group active asker asked holders row marks = λ place holder stands own k other at_k waits.
     let passed = if of_group then holder.group == asker.group else (holder.tx == asker.tx) in
-    marks place holder stands (second_of_both (not passed) (is_in_way asked holder) own) k other at_k
+    marks place holder stands (second_of_both (not passed) (is_conflicting asked holder) own) k other at_k
     (goes_if (holder.group == asker.group) (other.group == holder.group) (holder.tx == other.tx) waits)
 
 pub row_marks : (run : Run) (asker : Member) (asked : List Use) (first row : ℕ)
@@ -192,18 +192,18 @@ pub row_marks : (run : Run) (asker : Member) (asked : List Use) (first row : ℕ
 row_marks run asker asked first row of_groups kept of_others = λ place other stands waits.
     let other_group : Member → Bool = λ (h : Member). not (h.group == asker.group) in
     let other_tx : Member → Bool = λ (h : Member). not (h.tx == asker.tx) in
-    let found = some_of (waits_over asker.group other) (in_way (with_run run nothing) asker asked) waits in
+    let found = some_of (waits_over asker.group other) (conflicting (with_run run nothing) asker asked) waits in
     let holder = found.0 in
-    let way = out_of_filter (is_in_way asked) (not_passed (with_run run nothing) asker) holder found.1 in
+    let way = out_of_filter (is_conflicting asked) (not_passed (with_run run nothing) asker) holder found.1 in
     elim (Contains-append_cases (filter other_group run.prepared) (filter other_tx run.active) holder way.0) [
       | inl early ↦
           let at = out_of_filter other_group run.prepared holder early in
           kept place (of_groups at.0.0 holder (at.0.1, at.0.2)
-          (both (not (holder.group == asker.group)) (is_in_way asked holder) at.1 way.1) place other stands found.2)
+          (both (not (holder.group == asker.group)) (is_conflicting asked holder) at.1 way.1) place other stands found.2)
       | inr late ↦
           let at = out_of_filter other_tx run.active holder late in
           of_others at.0.0 holder (at.0.1, at.0.2)
-          (both (not (holder.tx == asker.tx)) (is_in_way asked holder) at.1 way.1) place other stands found.2
+          (both (not (holder.tx == asker.tx)) (is_conflicting asked holder) at.1 way.1) place other stands found.2
     ]
 
 -- ---- while it waits

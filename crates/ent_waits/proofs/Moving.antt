@@ -1,4 +1,4 @@
--- Who would move, where something is in its way or nothing is.
+-- Who would move, where something blocks it or nothing is.
 use Rattle.std.proofs.Common.{◌≡◌, ◌↔◌, ℕ, Bool, true, false, not, ◌&&◌, ◌||◌, List, [], ◌∷◌, Option, Some, None}
 use Rattle.std.proofs.Common.{refl, sym, subst, true≢false}
 use Rattle.std.specs.List.{filter}
@@ -8,17 +8,17 @@ use Rattle.ent_protocol.specs.Begin.{pool_with}
 use Rattle.ent_protocol.specs.Member.{Next, Ordinary, Asks, Commits, RollsBack, next_of}
 use Rattle.ent_protocol.specs.Quiet.{CanPost, MovesBy}
 use Rattle.ent_protocol.specs.State.{State, Member}
-use Rattle.ent_protocol.specs.Uses.{blocker, is_in_way, not_passed}
+use Rattle.ent_protocol.specs.Uses.{blocker, is_conflicting, not_passed}
 use Rattle.ent_protocol.specs.Waits.{next_uses}
-use Rattle.ent_waits.specs.Motion.{AsksFreely, IsIdle, is_asking}
+use Rattle.ent_waits.specs.Readiness.{AsksFreely, IsIdle, is_posting}
 
--- nobody is in the way of who asks for nothing
-none_in_way : (xs : List Member) → filter (is_in_way []) xs ≡ []
-none_in_way [] = refl
-none_in_way (x ∷ xs) = none_in_way xs
+-- nobody blocks who asks for nothing
+none_conflicting : (xs : List Member) → filter (is_conflicting []) xs ≡ []
+none_conflicting [] = refl
+none_conflicting (x ∷ xs) = none_conflicting xs
 
 free_at_end : (s : State) (member : Member) → blocker s member [] ≡ None
-free_at_end s member = rw (none_in_way (not_passed s member)) refl
+free_at_end s member = rw (none_conflicting (not_passed s member)) refl
 
 -- ---- posted, or with a job out
 
@@ -32,7 +32,7 @@ waiting_is_idle true lent waiting = absurd (true≢false (sym waiting))
 waiting_is_idle false true waiting = absurd (true≢false (sym waiting))
 waiting_is_idle false false waiting = refl
 
--- ---- in the way
+-- ---- in conflict
 
 pub holder_of : (blocker : Option ℕ) → is_some blocker ≡ true → (holder : ℕ) × (blocker ≡ Some holder)
 holder_of (Some holder) some = (holder, refl)
@@ -56,7 +56,7 @@ blocked_stays s member RollsBack holder blocked moves =
 
 -- one that is free moves, unless its statement is entangled
 pub free_moves : (s : State) (member : Member) (next : Next) → blocker s member (next_uses next) ≡ None
-    → is_asking next ≡ false → MovesBy s member next
+    → is_posting next ≡ false → MovesBy s member next
 free_moves s member (Ordinary statement) free ordinary = free
 free_moves s member (Asks statement) free ordinary = absurd (true≢false ordinary)
 free_moves s member Commits free ordinary = tt
@@ -64,7 +64,7 @@ free_moves s member RollsBack free ordinary = tt
 
 -- one that is free and whose statement is entangled moves where the pool stays safe
 pub free_asks : (s : State) (member : Member) → IsIdle s member → (next : Next) → next_of s member ≡ next
-    → blocker s member (next_uses next) ≡ None → is_asking next ≡ true → AsksFreely s member
+    → blocker s member (next_uses next) ≡ None → is_posting next ≡ true → AsksFreely s member
 free_asks s member idle (Ordinary statement) is free asks = absurd (true≢false (sym asks))
 free_asks s member idle (Asks statement) is free asks = record {
   idle = idle;

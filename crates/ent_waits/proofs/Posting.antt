@@ -18,7 +18,7 @@ use Rattle.ent_protocol.specs.Member.{Asks, pool, posted_as}
 use Rattle.ent_lists.specs.Elements.{contains_in, in_contains}
 use Rattle.ent_protocol.specs.PostedBy.{in_pool}
 use Rattle.ent_protocol.specs.State.{State, Member}
-use Rattle.ent_waits.specs.Movers.{IsNotAsking, OnlyPostedAsk}
+use Rattle.ent_waits.specs.Movers.{IsNotPosting, OnlyPostedAsk}
 use Rattle.ent_waits.proofs.Smallest.{contains_none}
 
 -- ---- lists by ascending numbers
@@ -82,7 +82,7 @@ only_posted_ask s ascends member active unposted query there own =
 
 -- ---- one statement more
 
-pub has_none : (posted : List Posted) (query : Posted) (tx : ℕ) → query.tx ≡ tx → IsNotAsking posted tx
+pub has_none : (posted : List Posted) (query : Posted) (tx : ℕ) → query.tx ≡ tx → IsNotPosting posted tx
     → HasNone posted query
 has_none posted query tx is none other there same = none other there (same ∙ is)
 
@@ -112,7 +112,7 @@ not_safe pool last ascends none fault (below, one, other) safe =
     let second = other.partner_is in
     omega (arith, below, alike, first, second)
 
--- the pool is safe where nothing stands in the way
+-- the pool is safe where nothing is in conflict
 pub fault_tells : (posted : List Posted) (query : Posted) → IsByNumber posted
     → HasNone posted query → (fault : Option Unsafe) (none_is : Bool)
     → is_some fault ≡ not none_is

@@ -1,4 +1,4 @@
--- Who stands in a ring is stuck: each of a ring waits for one of it.
+-- Who stands in a cycle is stuck: each of a cycle waits for one of it.
 use Rattle.std.proofs.Common.{◌≡◌, ◌≢◌, ℕ, zero, suc, ◌+◌, ◌<◌, ◌≤◌, ◌==◌, ◌⊎◌, inl, inr, Bool, true, false}
 use Rattle.std.proofs.Common.{not, ◌||◌, List, [], ◌∷◌, length, nat_eq, bit_and, refl, sym, ap, subst, ◌∙◌, arith}
 use Rattle.std.proofs.Common.{true≢false}
@@ -8,7 +8,7 @@ use Rattle.std.proofs.lemmas.Bool.{eqb-true, ltb-true, ltb-false}
 use Rattle.std.proofs.lemmas.Bool.Decides.{nat_tests}
 use Rattle.std.proofs.lemmas.Nat.Bits.{bit_at-zero, bit_at_and}
 use Rattle.std.proofs.lemmas.List.Elements.{All-contains, All-head, All-tail, Contains-append_right}
-use Rattle.ent_group.specs.Cycle.{IsInRing, links_to}
+use Rattle.ent_group.specs.Cycle.{IsOnCycle, links_to}
 use Rattle.ent_group.specs.Marks.{IsMarked, has_mark}
 use Rattle.ent_group.specs.Reach.{IsAt}
 use Rattle.ent_waits.specs.Rows.{IsMarkedPair}
@@ -90,7 +90,7 @@ stuck_same rows stuck left at share none all old = λ i j below marked other. el
       absurd (true≢false (sym (all j own other) ∙ none))
 ]
 
--- ---- rings
+-- ---- cycles
 
 abbrev Linked : List (ℕ × ℕ) → List ℕ → ℕ → Type 0
 Linked waits xs end = All (Contains waits) (links_to xs end)
@@ -118,15 +118,15 @@ next_of waits (x ∷ y ∷ xs) end f linked (suc k, within, e) =
       ],
     )
 
--- one of a ring waits for one of it
-ring_goes_on : (waits : List (ℕ × ℕ)) (x : ℕ) → IsInRing waits x
-    → (y : ℕ) × Contains waits (x, y) × IsInRing waits y
-ring_goes_on waits x ([], ring, inside) = absurd (omega (arith, ring.not_empty))
-ring_goes_on waits x (m ∷ ms, ring, inside) =
-    let next = next_of waits (m ∷ ms) m x ring.linked inside in (
+-- one of a cycle waits for one of it
+on_cycle_goes_on : (waits : List (ℕ × ℕ)) (x : ℕ) → IsOnCycle waits x
+    → (y : ℕ) × Contains waits (x, y) × IsOnCycle waits y
+on_cycle_goes_on waits x ([], found_cycle, inside) = absurd (omega (arith, found_cycle.not_empty))
+on_cycle_goes_on waits x (m ∷ ms, found_cycle, inside) =
+    let next = next_of waits (m ∷ ms) m x found_cycle.linked inside in (
       next.0,
       next.1,
-      (m ∷ ms, ring, elim next.2 [ inl there ↦ there | inr last ↦ (0, omega arith, sym last) ]),
+      (m ∷ ms, found_cycle, elim next.2 [ inl there ↦ there | inr last ↦ (0, omega arith, sym last) ]),
     )
 
 same_place : (numbers : List ℕ) → AllPairs (λ x y. x ≢ y) numbers → (x i j : ℕ) → IsAt numbers x i
@@ -139,38 +139,38 @@ same_place numbers distinct x i j (in_i, at_i) (in_j, at_j) = elim (below_or i j
   ]
 ]
 
--- whoever stands in a ring of pairs that are marked has its place marked
-abbrev pub RingsAreStuck : List ℕ → ℕ → Type 0
-RingsAreStuck rows stuck =
+-- whoever stands in a cycle of pairs that are marked has its place marked
+abbrev pub CyclesAreStuck : List ℕ → ℕ → Type 0
+CyclesAreStuck rows stuck =
     (numbers : List ℕ) (waits : List (ℕ × ℕ)) → AllPairs (λ x y. x ≢ y) numbers
     → length numbers ≤ length rows → All (IsMarkedPair numbers rows) waits
-    → (x : ℕ) → IsInRing waits x → (i : ℕ) → IsAt numbers x i → has_mark stuck i ≡ true
+    → (x : ℕ) → IsOnCycle waits x → (i : ℕ) → IsAt numbers x i → has_mark stuck i ≡ true
 
 abbrev pub NoRing : List ℕ → Type 0
 NoRing rows =
     (numbers : List ℕ) (waits : List (ℕ × ℕ)) → AllPairs (λ x y. x ≢ y) numbers
     → length numbers ≤ length rows → All (IsMarkedPair numbers rows) waits
-    → (x : ℕ) → ¬ IsInRing waits x
+    → (x : ℕ) → ¬ IsOnCycle waits x
 
-pub all_stuck : (rows : List ℕ) (stuck : ℕ) → HasFirst stuck (length rows) → RingsAreStuck rows stuck
-all_stuck rows stuck all = λ numbers waits distinct long marked x ring i at.
+pub all_stuck : (rows : List ℕ) (stuck : ℕ) → HasFirst stuck (length rows) → CyclesAreStuck rows stuck
+all_stuck rows stuck all = λ numbers waits distinct long marked x found_cycle i at.
     all i (omega (arith, at.0, long))
 
-pub still : (rows : List ℕ) (stuck new : ℕ) → AreStuck rows stuck new (length rows) → RingsAreStuck rows stuck
-    → RingsAreStuck rows new
-still rows stuck new step old = λ numbers waits distinct long marked x ring i at.
-    let next = ring_goes_on waits x ring in
+pub still : (rows : List ℕ) (stuck new : ℕ) → AreStuck rows stuck new (length rows) → CyclesAreStuck rows stuck
+    → CyclesAreStuck rows new
+still rows stuck new step old = λ numbers waits distinct long marked x found_cycle i at.
+    let next = on_cycle_goes_on waits x found_cycle in
     let pair = All-contains (IsMarkedPair numbers rows) waits (x, next.0) marked next.1 in
     let here : pair.waiter ≡ i = same_place numbers distinct x pair.waiter i pair.waits at in
     let row : IsMarked rows i pair.awaited = subst (λ (k : ℕ). IsMarked rows k pair.awaited) here pair.marked in
     step i pair.awaited (omega (arith, at.0, long)) row
     (old numbers waits distinct long marked next.0 next.2 pair.awaited pair.other)
 
-pub none_stuck : (rows : List ℕ) (stuck : ℕ) → stuck ≡ 0 → RingsAreStuck rows stuck → NoRing rows
-none_stuck rows stuck none old = λ numbers waits distinct long marked x ring.
-    let next = ring_goes_on waits x ring in
+pub none_stuck : (rows : List ℕ) (stuck : ℕ) → stuck ≡ 0 → CyclesAreStuck rows stuck → NoRing rows
+none_stuck rows stuck none old = λ numbers waits distinct long marked x found_cycle.
+    let next = on_cycle_goes_on waits x found_cycle in
     let pair = All-contains (IsMarkedPair numbers rows) waits (x, next.0) marked next.1 in
-    true≢false (sym (old numbers waits distinct long marked x ring pair.waiter pair.waits)
+    true≢false (sym (old numbers waits distinct long marked x found_cycle pair.waiter pair.waits)
     ∙ ap (λ row. has_mark row pair.waiter) none ∙ no_mark pair.waiter)
 
 pub is_zero : (n : ℕ) → not (nat_eq n 0) ≡ false → n ≡ 0

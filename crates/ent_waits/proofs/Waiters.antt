@@ -7,9 +7,9 @@ use Rattle.std.proofs.lemmas.List.Elements.{All-contains, All-contains_itself, A
 use Rattle.ent_group.specs.Cycle.{IsCycle, links_to}
 use Rattle.ent_protocol.specs.Member.{active_member, is_tx, next_of}
 use Rattle.ent_protocol.specs.State.{State, Member, first_of}
-use Rattle.ent_protocol.specs.Uses.{in_way}
+use Rattle.ent_protocol.specs.Uses.{conflicting}
 use Rattle.ent_protocol.specs.Waits.{awaited, is_waiting, next_uses, waits, waits_of}
-use Rattle.ent_waits.proofs.Rings.{all_of_flat_map}
+use Rattle.ent_waits.proofs.OnCycles.{all_of_flat_map}
 
 -- one of a list has a number
 abbrev pub HasNumber : List Member → ℕ → Type 0
@@ -20,7 +20,7 @@ IsOf s pair = HasNumber s.active pair.0
 
 waits_of_own : (s : State) (member : Member) → Contains s.active member → All (IsOf s) (waits_of s member)
 waits_of_own s member there =
-    let way = in_way s member (next_uses (next_of s member)) in
+    let way = conflicting s member (next_uses (next_of s member)) in
     let over : Member → List (ℕ × ℕ) = λ holder. map (λ other. (member.tx, other.tx)) (awaited s member holder) in
     all_of_flat_map (IsOf s) over way (λ k d within. All-map (IsOf s) (λ (other : Member). (member.tx, other.tx))
     (awaited s member (slice_index_or way k d)) (λ i e below. (member, there, refl)))

@@ -6,13 +6,13 @@ use Rattle.ent_protocol.specs.PoolEvents.{IsPresentComponent}
 use Rattle.ent_protocol.specs.State.{State}
 
 -- one of some statements is of a transaction
-abbrev pub HasAsking : List Posted → ℕ → Type 0
-HasAsking asked tx = (query : Posted) × Contains asked query × (query.tx ≡ tx)
+abbrev pub HasPostedQuery : List Posted → ℕ → Type 0
+HasPostedQuery asked tx = (query : Posted) × Contains asked query × (query.tx ≡ tx)
 
 -- work is of a transaction: its statement's, or that of a component which it is in
 abbrev pub IsWorkOf : State → Work → ℕ → Type 0
 IsWorkOf s (One single) tx = single.tx ≡ tx
-IsWorkOf s (Joint asked) tx = IsPresentComponent s asked × HasAsking asked tx
+IsWorkOf s (Joint asked) tx = IsPresentComponent s asked × HasPostedQuery asked tx
 
 -- one of some jobs is of a transaction
 abbrev pub HasJobIn : State → List Job → ℕ → Type 0

@@ -1,6 +1,6 @@
 pub mod Waits
 pub mod Rows
-pub mod Motion
+pub mod Readiness
 pub mod Victim
 pub mod Least
 pub mod Jobs

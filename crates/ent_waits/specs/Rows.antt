@@ -6,7 +6,7 @@ use Rattle.ent_group.specs.Reach.{IsAt}
 use Rattle.ent_members.specs.Run.{Run, with_run}
 use Rattle.ent_members.specs.Waits.{is_awaited, waits_over}
 use Rattle.ent_protocol.specs.State.{Member, Use}
-use Rattle.ent_protocol.specs.Uses.{exclusive, is_in_way}
+use Rattle.ent_protocol.specs.Uses.{exclusive, is_conflicting}
 use Rattle.ent_waits.specs.Waits.{nothing}
 use Rattle.ent_waits.specs.declared.changers.ChangersRow.{ChangersRow}
 
@@ -31,10 +31,10 @@ MarksAll members test row =
 abbrev pub HasMarksOf : ℕ → ℕ → Type 0
 HasMarksOf new old = (place : ℕ) → has_mark old place ≡ true → has_mark new place ≡ true
 
--- a member is in the way of one that asks for uses, and isn't passed: it is of another group, or another member
+-- a member blocks one that asks for uses, and isn't passed: it is of another group, or another member
 abbrev pub stops : Bool → Member → List Use → Member → Bool
 stops of_group asker asked holder =
-    not (if of_group then holder.group == asker.group else (holder.tx == asker.tx)) && is_in_way asked holder
+    not (if of_group then holder.group == asker.group else (holder.tx == asker.tx)) && is_conflicting asked holder
 
 -- a row has the marks of those for whom these holders make a member wait
 abbrev pub MarksOver : Bool → List Member → Member → List Use → List Member → ℕ → Type 0
@@ -46,10 +46,10 @@ MarksOver of_group active asker asked holders row =
 abbrev pub goes_with : Member → Member → Bool
 goes_with holder other = (other.group == holder.group) || (holder.tx == other.tx)
 
--- a row has the marks of those who go with those of these holders that are in the way
+-- a row has the marks of those who go with those of these holders that are in conflict
 abbrev pub MarksGroups : List Member → List Use → List Member → ℕ → Type 0
 MarksGroups active asked holders row =
-    (place : ℕ) (holder : Member) → StandsAt holders place holder → is_in_way asked holder ≡ true
+    (place : ℕ) (holder : Member) → StandsAt holders place holder → is_conflicting asked holder ≡ true
     → MarksAll active (goes_with holder) row
 
 -- a row has the marks of those for whom any member waits that asks for uses

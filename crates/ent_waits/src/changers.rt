@@ -9,7 +9,7 @@ ghost use Rattle.ent_waits.specs.Waits.{nothing};
 use crate::marks::share_mark;
 use crate::rows::row_of;
 use ent_group::{MOST_MEMBERS, Row, with_mark};
-use ent_members::{Member, Run, Use, is_in_way};
+use ent_members::{Member, Run, Use, is_conflicting};
 
 /// A table, and the row of whoever changes it: marks at those for whom any such member waits, and maybe at others of
 /// their groups.
@@ -41,7 +41,7 @@ fn mark_group(row: Row, active: &[Member], holder: &Member) -> Row
     marked
 }
 
-/// A row with marks too at those who go with some of a list that are in the way.
+/// A row with marks too at those who go with some of a list that are in conflict.
 fn mark_groups(row: Row, active: &[Member], holders: &[Member], asked: &[Use]) -> Row
     requires { length active.now ≤ MOST_MEMBERS }
     ensures kept { HasMarksOf result row }
@@ -49,7 +49,7 @@ fn mark_groups(row: Row, active: &[Member], holders: &[Member], asked: &[Use]) -
 {
     let mut marked = row;
     for holder in holders {
-        if is_in_way(asked, holder) {
+        if is_conflicting(asked, holder) {
             marked = mark_group(marked, active, holder);
         }
     }
@@ -78,7 +78,7 @@ fn common_row(run: &Run, table: usize, known: Option<ChangersRow>) -> Row
 }
 
 /// The row of a member that changes a table. The row that it has in common with others is its own, but where it is
-/// marked itself: then some of its own group are in the way, and they are looked at one by one.
+/// marked itself: then some of its own group are in conflict, and they are looked at one by one.
 pub(crate) fn row_of_changer(
     run: &Run,
     asker: &Member,

@@ -1,4 +1,4 @@
-//! Members that wait for each other in a ring.
+//! Members that wait for each other in a cycle.
 ghost use Rattle.std.specs.Prelude.{◌≡◌, ℕ, ◌+◌, ◌≤◌, ◌++◌, length, IfSome, IsNone, false};
 ghost use Rattle.std.specs.List.{flat_map};
 ghost use Rattle.ent_group.specs.Cycle.{NamesAtMost};
@@ -6,9 +6,9 @@ ghost use Rattle.ent_protocol.specs.State.{State};
 ghost use Rattle.ent_protocol.specs.Waits.{IsDeadlock, NoDeadlock};
 ghost use Rattle.ent_waits.specs.Waits.{gathered, pair_if_awaited, pairs_while_waiting, state_with};
 
+use crate::cycle_search::may_have_cycle;
 use crate::next_uses::next_uses;
 use crate::pairs::{MOST_PAIRS, Pairs};
-use crate::ring::may_ring;
 use crate::rows::rows_of;
 use crate::waiting::is_waiting;
 use ent_group::{MOST_MEMBERS, Members, cycle};
@@ -17,27 +17,27 @@ use ent_members::{Member, Run, Use, awaited_members_are_waited_for};
 use ent_next::SubmittedScript;
 
 /// A cycle of members that wait for each other: each waits for the next, and the last for the first. The first is the
-/// greatest transaction that stands on any cycle. There is none where nobody waits in a ring. It takes no memory.
+/// greatest transaction that stands on any cycle. There is none where nobody waits in a cycle. It takes no memory.
 pub fn deadlock(run: &Run, submitted: &[SubmittedScript], lent: &[Job]) -> Option<Members>
     ensures found { (s : State) → IfSome result (IsDeadlock (state_with run.now submitted.now lent.now s)) }
     ensures none { (s : State) → IsNone result → NoDeadlock (state_with run.now submitted.now lent.now s) }
 {
-    if may_wait_in_ring(run, submitted, lent) {
+    if may_wait_on_cycle(run, submitted, lent) {
         greatest_cycle(run, submitted, lent)
     } else {
         None
     }
 }
 
-/// Whether members may wait in a ring. Where this says no, which is quick, nobody does.
-fn may_wait_in_ring(run: &Run, submitted: &[SubmittedScript], lent: &[Job]) -> bool
+/// Whether members may wait in a cycle. Where this says no, which is quick, nobody does.
+fn may_wait_on_cycle(run: &Run, submitted: &[SubmittedScript], lent: &[Job]) -> bool
     ensures { (s : State) → result ≡ false → NoDeadlock (state_with run.now submitted.now lent.now s) }
 {
     awaited_members_are_waited_for();
     let _most = run.len();
     let _active = run.active();
     let rows = rows_of(run, submitted, lent);
-    may_ring(&rows)
+    may_have_cycle(&rows)
 }
 
 /// The cycle as [`deadlock`] answers it, by all pairs of who waits and for whom.

@@ -6,7 +6,7 @@ ghost use Rattle.ent_protocol.specs.Member.{pool};
 ghost use Rattle.ent_protocol.specs.Quiet.{HasJobOut};
 ghost use Rattle.ent_protocol.specs.State.{State};
 ghost use Rattle.ent_job.specs.Work.{work_seen};
-ghost use Rattle.ent_waits.specs.Jobs.{HasAsking, HasJobIn, IsWorkOf};
+ghost use Rattle.ent_waits.specs.Jobs.{HasPostedQuery, HasJobIn, IsWorkOf};
 ghost use Rattle.ent_waits.specs.Least.{LeastIfAny};
 
 use crate::least::lesser;
@@ -18,7 +18,7 @@ use std::alloc::{AllocError, Global};
 
 /// The least transaction of some statements.
 fn least_of(asked: &[Posted]) -> Option<Tx>
-    ensures { LeastIfAny (HasAsking asked.now) result }
+    ensures { LeastIfAny (HasPostedQuery asked.now) result }
 {
     let Some((first, rest)) = asked.split_first() else {
         return None;

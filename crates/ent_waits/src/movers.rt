@@ -9,10 +9,10 @@ ghost use Rattle.ent_protocol.specs.Member.{Asks, next_of, pool};
 ghost use Rattle.ent_protocol.specs.State.{State};
 ghost use Rattle.ent_waits.specs.Waits.{state_with};
 ghost use Rattle.ent_waits.specs.Least.{LeastIfAny};
-ghost use Rattle.ent_waits.specs.Movers.{HasMoverIn, IsMover, IsNotAsking, OnlyPostedAsk};
+ghost use Rattle.ent_waits.specs.Movers.{HasMoverIn, IsMover, IsNotPosting, OnlyPostedAsk};
 
 use crate::least::lesser;
-use crate::motion::{Motion, motion_of};
+use crate::readiness::{Readiness, readiness_of};
 use ent_components::post_fault;
 use ent_group::Tx;
 use ent_job::Job;
@@ -30,7 +30,7 @@ fn stays_safe(
 ) -> Result<bool, AllocError>
     requires by_number { IsByNumber posted.now }
     requires safe { IsSafe posted.now }
-    requires none { IsNotAsking posted.now member.now.tx }
+    requires none { IsNotPosting posted.now member.now.tx }
     ensures { IfOk result (λ safe. (s : State) (statement : Entangled Value)
         → s.submitted ≡ submitted.now
         → pool s ≡ posted.now
@@ -64,10 +64,10 @@ fn mover_of(
         → pool (state_with run.now submitted.now lent.now s) ≡ posted.now
         → LeastIfAny (IsMover (state_with run.now submitted.now lent.now s) member.now) mover) }
 {
-    match motion_of(run, submitted, lent, member) {
-        Motion::Stays => Ok(None),
-        Motion::Moves => Ok(Some(member.tx())),
-        Motion::Asks => {
+    match readiness_of(run, submitted, lent, member) {
+        Readiness::Stays => Ok(None),
+        Readiness::Moves => Ok(Some(member.tx())),
+        Readiness::Asks => {
             if stays_safe(alloc, submitted, posted, member)? {
                 Ok(Some(member.tx()))
             } else {

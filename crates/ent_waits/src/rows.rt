@@ -12,10 +12,10 @@ use crate::waiting::is_waiting;
 use ent_closed::{Known, Statement};
 use ent_group::{MOST_MEMBERS, Row, Tx, with_mark};
 use ent_job::Job;
-use ent_members::{Member, Run, Use, changed_table, is_in_way, statement_uses, waits_over};
+use ent_members::{Member, Run, Use, changed_table, is_conflicting, statement_uses, waits_over};
 use ent_next::{SubmittedScript, next_form};
 
-/// Whether a member is in the way of one that asks for uses and doesn't pass it.
+/// Whether a member blocks one that asks for uses and doesn't pass it.
 fn stops(of_group: bool, asker: &Member, asked: &[Use], holder: &Member) -> bool
     ensures { result ≡ stops of_group asker.now asked.now holder.now }
 {
@@ -24,10 +24,10 @@ fn stops(of_group: bool, asker: &Member, asked: &[Use], holder: &Member) -> bool
     } else {
         holder.tx() == asker.tx()
     };
-    !passed && is_in_way(asked, holder)
+    !passed && is_conflicting(asked, holder)
 }
 
-/// A row with marks too at those for whom a member of a group waits, with one member in its way.
+/// A row with marks too at those for whom a member of a group waits, with one member blocking it.
 fn mark_awaited(row: Row, active: &[Member], group: Tx, holder: &Member) -> Row
     requires { length active.now ≤ MOST_MEMBERS }
     ensures kept { HasMarksOf result row }
@@ -42,7 +42,7 @@ fn mark_awaited(row: Row, active: &[Member], group: Tx, holder: &Member) -> Row
     marked
 }
 
-/// A row with marks too at those for whom a member waits while some of a list are in its way.
+/// A row with marks too at those for whom a member waits while some of a list are blocking it.
 fn mark_over(
     row: Row,
     active: &[Member],

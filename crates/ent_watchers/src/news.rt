@@ -1,14 +1,14 @@
 //! What a reply tells, and of whom.
 ghost use Rattle.std.specs.Prelude.{◌≡◌, ◌+◌};
 ghost use Rattle.ent_core.specs.Reply.{reply_seen};
-ghost use Rattle.ent_reasons.specs.declared.hindrance.Hindrance.TheVariants.{HeldBack};
+ghost use Rattle.ent_reasons.specs.declared.last_status.LastStatus.TheVariants.{HeldBack};
 ghost use Rattle.ent_reasons.specs.declared.note.Change.TheVariants.{Passes, Stands};
 ghost use Rattle.ent_reasons.specs.News.{first_party, news};
 
 use ent_core::Reply;
 use ent_group::{Members, Tx};
 use ent_match::Unsafe;
-use ent_reasons::{Change, Hindrance};
+use ent_reasons::{Change, LastStatus};
 
 /// What is told of some transactions.
 #[derive(Drop)]
@@ -24,11 +24,11 @@ fn first_party(own: &Members) -> Tx
     own.get(0).unwrap_or(0)
 }
 
-/// What stands in the way of a statement that is held back.
-fn held_back(post: &Unsafe) -> Hindrance
+/// What is in conflict with a statement that is held back.
+fn held_back(post: &Unsafe) -> LastStatus
     ensures { result ≡ HeldBack post.now.asker (post.now.index + 1) post.now.first post.now.second }
 {
-    Hindrance::HeldBack {
+    LastStatus::HeldBack {
         asker: post.asker(),
         post: post.post(),
         first: post.first(),
@@ -47,14 +47,14 @@ fn passes(members: &Members) -> News<'_>
     }
 }
 
-/// This stands in the way of these transactions.
-fn stands(members: &Members, hindrance: Hindrance) -> News<'_>
+/// This is in conflict with these transactions.
+fn stands(members: &Members, last_status: LastStatus) -> News<'_>
     ensures of { result.of.now ≡ members.now }
-    ensures change { result.change ≡ Stands hindrance }
+    ensures change { result.change ≡ Stands last_status }
 {
     News {
         of: members.as_slice(),
-        change: Change::Stands(hindrance),
+        change: Change::Stands(last_status),
     }
 }
 
@@ -71,18 +71,18 @@ pub(crate) fn news_of<'a>(own: &'a Members, reply: &'a Reply) -> News<'a>
         },
         Reply::Stepped(_) => passes(own),
         Reply::Answered => passes(own),
-        Reply::Lent(_) => stands(own, Hindrance::Free),
-        Reply::Blocked(holder) => stands(own, Hindrance::Blocked(*holder)),
+        Reply::Lent(_) => stands(own, LastStatus::Free),
+        Reply::Blocked(holder) => stands(own, LastStatus::Blocked(*holder)),
         Reply::HeldBack(post) => stands(own, held_back(post)),
-        Reply::Posted => stands(own, Hindrance::Posted),
-        Reply::NoChoice => stands(own, Hindrance::NoChoice(own.copy())),
-        Reply::Prepared => stands(own, Hindrance::Prepared),
-        Reply::Committed { first: _, members } => stands(members, Hindrance::Committed),
-        Reply::RolledBack(group) => stands(group, Hindrance::RolledBack(first_party(own))),
+        Reply::Posted => stands(own, LastStatus::Posted),
+        Reply::NoChoice => stands(own, LastStatus::NoChoice(own.copy())),
+        Reply::Prepared => stands(own, LastStatus::Prepared),
+        Reply::Committed { first: _, members } => stands(members, LastStatus::Committed),
+        Reply::RolledBack(group) => stands(group, LastStatus::RolledBack(first_party(own))),
         Reply::Failed(failure, group) => {
-            stands(group, Hindrance::Failed(first_party(own), *failure))
+            stands(group, LastStatus::Failed(first_party(own), *failure))
         }
-        Reply::Broken(cycle, group) => stands(group, Hindrance::Broken(cycle.copy())),
+        Reply::Broken(cycle, group) => stands(group, LastStatus::Broken(cycle.copy())),
         _ => News {
             of: &[],
             change: Change::Passes,

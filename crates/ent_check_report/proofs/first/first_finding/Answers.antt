@@ -5,7 +5,7 @@ use Rattle.ent_rules.specs.Joint.{left_out_findings, members_findings}
 use Rattle.ent_rules.specs.Journal.{journal_findings}
 use Rattle.ent_rules.specs.Placed.{placed}
 use Rattle.ent_rules.specs.Post.{post_findings}
-use Rattle.ent_rules.specs.Replay.{replay_findings, told_end, told_sights}
+use Rattle.ent_rules.specs.Replay.{replay_findings, told_end, told_read_views}
 use Rattle.ent_rules.specs.Table.{end_findings}
 use Rattle.ent_rules.specs.Verdict.{first_of}
 use Rattle.ent_semantics.specs.Book.{all_members}
@@ -25,7 +25,7 @@ returns-then-is_some-2 c =
     let members = members_findings all 1 [] joints in
     let left = left_out_findings (all_members joints) all in
     let rest = replay_findings declared (placed joints) (in_commit_order all) first
-    ++ (post_findings (told_sights declared (placed joints) (in_commit_order all) first) 1 joints
+    ++ (post_findings (told_read_views declared (placed joints) (in_commit_order all) first) 1 joints
     ++ end_findings (told_end declared (placed joints) (in_commit_order all) first) history.tables) in
     let all_are : accounts_from 1 c.as_slice-scripts.result.now c.as_slice-transactions.result.now ≡ all =
     λ i. accounts_from 1 (c.as_slice-scripts.ensures i) (c.as_slice-transactions.ensures i) in

@@ -7,7 +7,7 @@ use Rattle.ent_rules.specs.Account.{accounts, in_commit_order}
 use Rattle.ent_rules.specs.Joint.{left_out_findings, members_findings}
 use Rattle.ent_rules.specs.Placed.{placed}
 use Rattle.ent_rules.specs.Post.{post_findings}
-use Rattle.ent_rules.specs.Replay.{replay_findings, told_end, told_sights}
+use Rattle.ent_rules.specs.Replay.{replay_findings, told_end, told_read_views}
 use Rattle.ent_rules.specs.Table.{end_findings, tables_findings}
 use Rattle.ent_rules.specs.Verdict.{first_of}
 use Rattle.ent_rules.specs.declared.finding.Finding.{Finding}
@@ -27,7 +27,7 @@ returns-then-is_some-2 c =
     let joints = map joint_answer_of history.joint_answers in
     let first = opening_database history.opening in
     let own = replay_findings declared (placed joints) (in_commit_order all) first in
-    let run = told_sights declared (placed joints) (in_commit_order all) first in
+    let run = told_read_views declared (placed joints) (in_commit_order all) first in
     let posts = post_findings run 1 joints in
     let end = end_findings (told_end declared (placed joints) (in_commit_order all) first) history.tables in
     let finding = c.in_ok-replayed.replayed.finding in
@@ -51,7 +51,7 @@ returns c =
     let joints = map joint_answer_of history.joint_answers in
     let first = opening_database history.opening in
     let own = replay_findings declared (placed joints) (in_commit_order all) first in
-    let run = told_sights declared (placed joints) (in_commit_order all) first in
+    let run = told_read_views declared (placed joints) (in_commit_order all) first in
     let posts = post_findings run 1 joints in
     let end = end_findings (told_end declared (placed joints) (in_commit_order all) first) history.tables in
     let finding = c.in_ok-replayed.replayed.finding in

@@ -36,8 +36,8 @@ loop-index-init c =
     (midway_begun creates c.args.groundings.now c.args.tx script.statements c.args.told.now.answers database offers
     forms tables resolved c.requires.declared c.requires.seated refl)
 
-pub deed_finding-requires-clause-there : goal.deed_finding-requires-clause-there
-deed_finding-requires-clause-there c =
+pub operation_finding-requires-clause-there : goal.operation_finding-requires-clause-there
+operation_finding-requires-clause-there c =
     let creates = c.args.declared.now in
     let before = map arc_value c.args.stage.now.tables.items in
     let tables = map arc_value c.loop-index.stage.tables.items in
@@ -51,8 +51,8 @@ deed_finding-requires-clause-there c =
     (environment_of c.loop-index.environment) c.loop-index.stage.offers.items c.in_ok-statement.statement
     c.in_ok-statement.ensures.closed c.loop-index.invariant)
 
-pub deed_finding-requires-clause-fits : goal.deed_finding-requires-clause-fits
-deed_finding-requires-clause-fits c =
+pub operation_finding-requires-clause-fits : goal.operation_finding-requires-clause-fits
+operation_finding-requires-clause-fits c =
     let creates = c.args.declared.now in
     let before = map arc_value c.args.stage.now.tables.items in
     let tables = map arc_value c.loop-index.stage.tables.items in
@@ -64,8 +64,8 @@ deed_finding-requires-clause-fits c =
     (environment_of c.loop-index.environment) c.loop-index.stage.offers.items c.in_ok-statement.statement
     c.in_ok-statement.ensures.closed c.loop-index.invariant).0
 
-pub deed_finding-requires-clause-seat : goal.deed_finding-requires-clause-seat
-deed_finding-requires-clause-seat c =
+pub operation_finding-requires-clause-seat : goal.operation_finding-requires-clause-seat
+operation_finding-requires-clause-seat c =
     let creates = c.args.declared.now in
     let before = map arc_value c.args.stage.now.tables.items in
     let tables = map arc_value c.loop-index.stage.tables.items in
@@ -82,7 +82,7 @@ returns-then-is_some-clause-replayed c =
     let creates = c.args.declared.now in
     let before = map arc_value c.args.stage.now.tables.items in
     let tables = map arc_value c.loop-index.stage.tables.items in
-    let after = database_of creates (rows_in (map arc_value c.deed_finding.new.stage.tables.items)) in
+    let after = database_of creates (rows_in (map arc_value c.operation_finding.new.stage.tables.items)) in
     let forms = c.as_slice-forms.result.now in
     let i = c.loop-index.index in
     let low : i < length forms = grind (arith, rules) in
@@ -95,14 +95,14 @@ returns-then-is_some-clause-replayed c =
     c.catalogue.ensures.columns i forms c.index-forms-index.result low c.index-forms-index.is tables
     (environment_of c.loop-index.environment) c.loop-index.stage.offers.items c.in_ok-statement.statement
     c.in_ok-statement.ensures.closed c.loop-index.invariant answer is_told c.in_ok-finding.finding
-    c.in_ok-finding.ensures.finding some after c.deed_finding.new.stage.offers.items
+    c.in_ok-finding.ensures.finding some after c.operation_finding.new.stage.offers.items
 
 pub loop-index-preserved : goal.loop-index-preserved
 loop-index-preserved c =
     let creates = c.args.declared.now in
     let before = map arc_value c.args.stage.now.tables.items in
     let tables = map arc_value c.loop-index.stage.tables.items in
-    let behind = map arc_value c.deed_finding.new.stage.tables.items in
+    let behind = map arc_value c.operation_finding.new.stage.tables.items in
     let forms = c.as_slice-forms.result.now in
     let i = c.loop-index.index in
     let low : i < length forms = grind (arith, rules) in
@@ -115,8 +115,8 @@ loop-index-preserved c =
     c.catalogue.ensures.columns i forms c.index-forms-index.result low c.index-forms-index.is tables
     (environment_of c.loop-index.environment) c.loop-index.stage.offers.items c.in_ok-statement.statement
     c.in_ok-statement.ensures.closed c.loop-index.invariant answer is_told c.in_ok-finding.finding
-    c.in_ok-finding.ensures.finding behind (environment_of c.deed_finding.new.environment)
-    c.deed_finding.new.stage.offers.items none (c.in_ok-finding.ensures.left none)
+    c.in_ok-finding.ensures.finding behind (environment_of c.operation_finding.new.environment)
+    c.operation_finding.new.stage.offers.items none (c.in_ok-finding.ensures.left none)
     (c.in_ok-finding.ensures.offers none) (c.in_ok-finding.ensures.kinds none)
 
 pub returns-clause-replayed : goal.returns-clause-replayed

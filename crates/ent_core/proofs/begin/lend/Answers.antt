@@ -14,7 +14,7 @@ invariant_of-store-in-Ok-hold c =
     let S : State → Type 0 = λ x. IsSome (found x.active c.args.tx) in
     let there = subst S (sym c.store.view_is) c.requires.there in
     let idle = subst (λ (x : State). IsIdle x c.args.tx) (sym c.store.view_is) c.requires.idle in
-    kept_changed inside.catalogue.tables inside.opening inside.submitted.items inside.roster inside.running inside.run
+    kept_changed inside.catalogue.tables inside.opening inside.submitted.items inside.transaction_table inside.running inside.run
     c.hold.new.self inside.tables inside.pool inside.pool c.args.tx c.store.invariant there
     (kept_changing inside.submitted.items inside.run.active inside.pool c.store.invariant.posted
     (λ member. holding member c.as_slice.result.now) c.args.tx c.hold.new.self.active c.in-Ok-hold.ensures.ok there

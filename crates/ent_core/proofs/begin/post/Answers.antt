@@ -54,7 +54,7 @@ invariant_of-store-in-Err-post c =
     let back = posted_withdrawn inside.pool c.post.new.self c.args.query c.args.tx
     (own_number now c.args.tx c.args.query c.requires.asks) by_number none c.in_default.ensures.posted in
     let K : Run → List Posted → Type 0 = λ run posted. IsKept inside.catalogue.tables inside.opening
-    inside.submitted.items inside.roster inside.running run inside.tables posted in
+    inside.submitted.items inside.transaction_table inside.running run inside.tables posted in
     subst (λ (run : Run). K run c.withdraw.new.self) (sym c.in-Err-post.ensures.err)
     (subst (K inside.run) (sym (c.withdraw.ensures ∙ back)) c.store.invariant)
 
@@ -68,7 +68,7 @@ invariant_of-store-in_default-post c =
     let uses = c.as_slice.ensures.list ∙ c.entangled_uses-uses.ensures
     ∙ c.uses_are_kept_by_closing.ensures.entangled c.statement.result.now
     ∙ ap entangled_uses c.statement.ensures in
-    kept_changed inside.catalogue.tables inside.opening inside.submitted.items inside.roster inside.running inside.run
+    kept_changed inside.catalogue.tables inside.opening inside.submitted.items inside.transaction_table inside.running inside.run
     c.post-2.new.self inside.tables inside.pool c.post.new.self c.args.tx c.store.invariant
     (is_member s c.args.tx c.args.query plan)
     (posted_kept s c.args.tx c.args.query plan c.as_slice.result.now uses c.post-2.new.self.active

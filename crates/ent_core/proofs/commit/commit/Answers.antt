@@ -9,7 +9,7 @@ use Rattle.ent_protocol.specs.Commit.{commit_fates, entry_of, is_ready, preparin
 use Rattle.ent_protocol.specs.Event as replies
 use Rattle.ent_protocol.specs.Member.{active_member}
 use Rattle.ent_protocol.specs.State.{State, Member, members}
-use Rattle.ent_roster.specs.Roster.{Roster}
+use Rattle.ent_transaction_table.specs.TransactionTable.{TransactionTable}
 use Rattle.ent_semantics.specs.declared.book.Entry.{Entry}
 use Rattle.ent_protocol_laws.specs.Attempts.{MayTakePart, StayWithin}
 use Rattle.ent_tables.specs.Stored.{Stored}
@@ -71,7 +71,7 @@ commit-requires-clause-numbers c =
     c.commit-committed.result.items there (c.in_ok-prepare.ensures.ok c.in-Some.member.now there)
     (c.commit-committed.ensures.committed s) (first_part P run.prepared run.active all)
     (last_part P run.prepared run.active all) in
-    parts_numbered s.submitted c.store.inside.roster.known c.as_slice-2.result.now c.store.invariant.known
+    parts_numbered s.submitted c.store.inside.transaction_table.known c.as_slice-2.result.now c.store.invariant.known
     (subst (λ ms. AllByRecursion P ms) (sym c.as_slice-2.ensures.value) among)
 
 pub returns-clause-ok : goal.returns-clause-ok
@@ -94,7 +94,7 @@ returns-clause-ok c = λ member there.
     omega (arith, c.len.ensures, c.reserve.new.self.ok.0, ap length c.reserve.ensures.items) in
     let entered = c.enter.ensures.entries
     ∙ ap (λ (entries : List Entry). entries ++ map entry_of committed) c.reserve.ensures.items in
-    let fated = ap (λ (roster : Roster). roster.fates) c.commit.ensures
+    let fated = ap (λ (transaction_table : TransactionTable). transaction_table.fates) c.commit.ensures
     ∙ ap (λ (all : List Member). s.fates ++ commit_fates first all) c.as_slice-2.ensures.value in
     let settled = c.settle.ensures.members committed numbers_are in
     let P : State → Type 0 = λ new. BeginsCommit {F = FormFault} (preparing now member) member.group
@@ -108,7 +108,7 @@ returns-clause-ok c = λ member there.
     } in
     let same : mark ≡ record mark { dormant = c.commit.new.self.dormant; tables = c.settle.new.self.tables } =
     λ i. record mark {
-      dormant = (sym (ap (λ (roster : Roster). roster.dormant) c.commit.ensures)) i;
+      dormant = (sym (ap (λ (transaction_table : TransactionTable). transaction_table.dormant) c.commit.ensures)) i;
       tables = (sym (ap (λ (stored : Stored). stored.tables) settled)) i;
     } in
     subst P same (commits s mid c.args.tx c.group-group.result member c.is_ready.result own
@@ -122,7 +122,7 @@ invariant_of-store-then-not-is_ready c =
     let inside = c.store.inside in
     let there = subst (λ (x : State). IsSome (found x.active c.args.tx)) (sym c.store.view_is) c.requires.there in
     let idle = subst (λ (x : State). IsIdle x c.args.tx) (sym c.store.view_is) c.requires.idle in
-    kept_changed inside.catalogue.tables inside.opening inside.submitted.items inside.roster inside.running inside.run
+    kept_changed inside.catalogue.tables inside.opening inside.submitted.items inside.transaction_table inside.running inside.run
     c.prepare.new.self inside.tables inside.pool inside.pool c.args.tx c.store.invariant there
     (kept_prepared inside.submitted.items inside.run.active inside.pool c.store.invariant.posted c.args.tx inside.run
     c.prepare.new.self refl c.in_ok-prepare.ensures.ok there idle)
@@ -134,11 +134,11 @@ invariant_of-store-2 c =
     let idle = subst (λ (x : State). IsIdle x c.args.tx) (sym c.store.view_is) c.requires.idle in
     let pooled = kept_prepared inside.submitted.items inside.run.active inside.pool c.store.invariant.posted c.args.tx
     inside.run c.prepare.new.self refl c.in_ok-prepare.ensures.ok there idle in
-    kept_with inside.catalogue.tables inside.opening inside.submitted.items inside.roster c.commit.new.self
+    kept_with inside.catalogue.tables inside.opening inside.submitted.items inside.transaction_table c.commit.new.self
     inside.running
     inside.run c.commit-committed.new.self inside.tables c.settle.new.self inside.pool inside.pool c.args.tx
-    c.store.invariant there (ap (λ (roster : Roster). roster.dormant) c.commit.ensures)
-    (ap (λ (roster : Roster). roster.known) c.commit.ensures)
+    c.store.invariant there (ap (λ (transaction_table : TransactionTable). transaction_table.dormant) c.commit.ensures)
+    (ap (λ (transaction_table : TransactionTable). transaction_table.known) c.commit.ensures)
     (ap (λ (stored : Stored). stored.kinds) c.settle.ensures.numbers)
     (subst (λ (ms : List Member). IsPoolOf inside.submitted.items ms inside.pool)
     (sym c.commit-committed.ensures.active) pooled)

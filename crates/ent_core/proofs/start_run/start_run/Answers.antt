@@ -6,7 +6,7 @@ use Rattle.ent_protocol.specs.State.{State, Dormant, by_number}
 use Rattle.ent_protocol.specs.Run.{fresh}
 use Rattle.ent_members.specs.Run.{tx_of}
 use Rattle.ent_core.specs.contracts.store.Store.{the_view}
-use Rattle.ent_roster.specs.Roster.{Roster}
+use Rattle.ent_transaction_table.specs.TransactionTable.{TransactionTable}
 use Rattle.ent_core.proofs.Pooled.{kept_fresh}
 use Rattle.ent_core.proofs.Starting.{distinct_taken, kept_started, started}
 use Rattle.ent_core.proofs.start_run.start_run.Goals as goal
@@ -15,16 +15,16 @@ pub start-requires-clause-distinct : goal.start-requires-clause-distinct
 start-requires-clause-distinct c =
     subst (λ (all : List Dormant). IsDistinct nat_eq (map (λ own. own.tx) all)) (sym (c.as_slice.ensures.value
     ∙ c.in_ok-entrants.ensures))
-    (distinct_taken c.min-count.result c.store.inside.roster.dormant c.store.invariant.distinct)
+    (distinct_taken c.min-count.result c.store.inside.transaction_table.dormant c.store.invariant.distinct)
 
 pub invariant_of-store : goal.invariant_of-store
 invariant_of-store c =
     let inside = c.store.inside in
-    kept_started inside.catalogue.tables inside.opening inside.submitted.items inside.roster _ inside.running _
+    kept_started inside.catalogue.tables inside.opening inside.submitted.items inside.transaction_table _ inside.running _
     c.in_ok-run.run'
     inside.tables inside.pool inside.pool c.min-count.result c.store.invariant c.take_first.ensures
     (kept_fresh inside.submitted.items inside.run.active inside.pool c.store.invariant.posted
-    (take c.min-count.result inside.roster.dormant) c.in_ok-run.run'.active
+    (take c.min-count.result inside.transaction_table.dormant) c.in_ok-run.run'.active
     (c.store.invariant.idle_active c.if-store.false)
     (c.in_ok-run.ensures.active
     ∙ ap (λ (all : List Dormant). by_number tx_of (map fresh all)) (c.as_slice.ensures.value
@@ -34,8 +34,8 @@ pub returns-clause-ok : goal.returns-clause-ok
 returns-clause-ok c =
     let s : State = the_view c.store.inside in
     let waiting = c.dormant_len-waiting.ensures in
-    let some : 0 < length c.store.inside.roster.dormant = omega (arith, waiting) in
-    let least : c.min-count.result ≡ min (length c.store.inside.roster.dormant) MOST_MEMBERS = c.min-count.ensures
+    let some : 0 < length c.store.inside.transaction_table.dormant = omega (arith, waiting) in
+    let least : c.min-count.result ≡ min (length c.store.inside.transaction_table.dormant) MOST_MEMBERS = c.min-count.ensures
     ∙ ap (λ n. min n 64) waiting in
     started FormFault s c.args.store.now c.min-count.result c.take_first.new.self.dormant c.take_first.new.self.fates
     c.in_ok-run.run'.prepared c.in_ok-run.run'.active c.numbers-members.result c.clear.new.self.items
@@ -44,5 +44,5 @@ returns-clause-ok c =
     (c.in_ok-run.ensures.active
     ∙ ap (λ (all : List Dormant). by_number tx_of (map fresh all)) (c.as_slice.ensures.value
     ∙ c.in_ok-entrants.ensures))
-    (ap (λ (r : Roster). r.dormant) c.take_first.ensures) (ap (λ (r : Roster). r.fates) c.take_first.ensures)
+    (ap (λ (r : TransactionTable). r.dormant) c.take_first.ensures) (ap (λ (r : TransactionTable). r.fates) c.take_first.ensures)
     (c.numbers-members.ensures s)

@@ -4,8 +4,8 @@ use Rattle.ent_core.proofs.Sorted.{all_filter, by_number_again, length_filter, t
 use Rattle.ent_core.proofs.TakenOut.{may_leave, members_are_distinct, numbers_leaving, part_is_distinct, room_for}
 use Rattle.ent_core.specs.TakeOut.{MayLeave}
 use Rattle.ent_core.specs.contracts.store.Store.{the_view}
-use Rattle.ent_members.specs.declared.leavers.Leaver.{Leaver}
-use Rattle.ent_members.specs.Leavers.{leaver_of}
+use Rattle.ent_members.specs.declared.run_attempts.RunAttempt.{RunAttempt}
+use Rattle.ent_members.specs.RunAttempts.{run_attempt_of}
 use Rattle.ent_protocol.specs.Member.{is_of}
 use Rattle.ent_protocol.specs.Rollback.{group_members}
 use Rattle.ent_protocol.specs.State.{State, members}
@@ -16,20 +16,20 @@ pub take_out-requires-clause-room : goal.take_out-requires-clause-room
 take_out-requires-clause-room c =
     let s : State = c.args.store.now in
     let group = c.args.group in
-    let are : c.leavers-leavers.result ≡ map leaver_of (group_members s group) =
-    c.leavers-leavers.ensures (the_view c.store.inside) ∙ ap (λ (x : State). map leaver_of (group_members x group))
+    let are : c.run_attempts-run_attempts.result ≡ map run_attempt_of (group_members s group) =
+    c.run_attempts-run_attempts.ensures (the_view c.store.inside) ∙ ap (λ (x : State). map run_attempt_of (group_members x group))
     c.store.view_is in
-    room_for s (filter (is_of group) (members s)) c.leavers-leavers.result c.requires.counted are (length_filter
+    room_for s (filter (is_of group) (members s)) c.run_attempts-run_attempts.result c.requires.counted are (length_filter
     (is_of group) (members s))
 
 pub take_out-requires-clause-leaving : goal.take_out-requires-clause-leaving
 take_out-requires-clause-leaving c =
     let s : State = c.args.store.now in
     let group = c.args.group in
-    let are : c.leavers-leavers.result ≡ map leaver_of (group_members s group) =
-    c.leavers-leavers.ensures (the_view c.store.inside) ∙ ap (λ (x : State). map leaver_of (group_members x group))
+    let are : c.run_attempts-run_attempts.result ≡ map run_attempt_of (group_members s group) =
+    c.run_attempts-run_attempts.ensures (the_view c.store.inside) ∙ ap (λ (x : State). map run_attempt_of (group_members x group))
     c.store.view_is in
-    subst (λ (leavers : List Leaver). MayLeave leavers s) (sym are)
+    subst (λ (run_attempts : List RunAttempt). MayLeave run_attempts s) (sym are)
     (may_leave s (filter (is_of group) (members s)) c.requires.once
     (all_filter (MayTakePart s.submitted) (is_of group) (members s) c.requires.within.members)
     (λ n. times_filter n (is_of group) (members s)))
@@ -38,19 +38,19 @@ pub returns-clause-group : goal.returns-clause-group
 returns-clause-group c =
     let s : State = c.args.store.now in
     let group = c.args.group in
-    let are : c.leavers-leavers.result ≡ map leaver_of (group_members s group) =
-    c.leavers-leavers.ensures (the_view c.store.inside) ∙ ap (λ (x : State). map leaver_of (group_members x group))
+    let are : c.run_attempts-run_attempts.result ≡ map run_attempt_of (group_members s group) =
+    c.run_attempts-run_attempts.ensures (the_view c.store.inside) ∙ ap (λ (x : State). map run_attempt_of (group_members x group))
     c.store.view_is in
-    numbers_leaving c.numbers-members.result c.leavers-leavers.result (group_members s group)
+    numbers_leaving c.numbers-members.result c.run_attempts-run_attempts.result (group_members s group)
     c.numbers-members.ensures are
 
 pub returns-clause-state : goal.returns-clause-state
 returns-clause-state c =
     let s : State = c.args.store.now in
     let group = c.args.group in
-    let are : c.leavers-leavers.result ≡ map leaver_of (group_members s group) =
-    c.leavers-leavers.ensures (the_view c.store.inside) ∙ ap (λ (x : State). map leaver_of (group_members x group))
+    let are : c.run_attempts-run_attempts.result ≡ map run_attempt_of (group_members s group) =
+    c.run_attempts-run_attempts.ensures (the_view c.store.inside) ∙ ap (λ (x : State). map run_attempt_of (group_members x group))
     c.store.view_is in
     let again = by_number_again (filter (is_of group) (members s))
     (part_is_distinct (is_of group) (members s) (members_are_distinct s c.requires.once)) in
-    c.take_out.ensures (group_members s group) (are ∙ ap (map leaver_of) (sym again))
+    c.take_out.ensures (group_members s group) (are ∙ ap (map run_attempt_of) (sym again))

@@ -2,61 +2,61 @@ use Rattle.std.proofs.Common.{◌≡◌, ◌∙◌, ◌++◌, ℕ, List, ap, len
 use Rattle.std.specs.List.{AllByRecursion, IsDistinct, filter, filter_map}
 use Rattle.ent_pool_laws.specs.Pooled.{IsPoolOf, is_of_none}
 use Rattle.ent_core.proofs.Pooled.{kept_gone}
-use Rattle.ent_core.proofs.TakenOut.{as_leavers, joints_left, kept_taken, numbers_leaving, taken}
+use Rattle.ent_core.proofs.TakenOut.{as_run_attempts, joints_left, kept_taken, numbers_leaving, taken}
 use Rattle.ent_core.specs.TakeOut.{MayLeave}
 use Rattle.ent_core.specs.contracts.store.Store.{the_view}
-use Rattle.ent_members.specs.declared.leavers.Leaver.{Leaver}
-use Rattle.ent_members.specs.Leavers.{numbers_in}
+use Rattle.ent_members.specs.declared.run_attempts.RunAttempt.{RunAttempt}
+use Rattle.ent_members.specs.RunAttempts.{numbers_in}
 use Rattle.ent_members.specs.Moves.{is_not_of}
 use Rattle.ent_members.specs.Run.{tx_of}
 use Rattle.ent_protocol.specs.Rollback.{dormant_by, fated_by, taken_out}
 use Rattle.ent_protocol.specs.State.{Member, State, by_number}
-use Rattle.ent_roster.specs.ByNumber.{IsNumbered}
-use Rattle.ent_roster.specs.Cause.{cause_seen}
-use Rattle.ent_roster.specs.Leaving.{as_member}
+use Rattle.ent_transaction_table.specs.ByNumber.{IsNumbered}
+use Rattle.ent_transaction_table.specs.Cause.{cause_seen}
+use Rattle.ent_transaction_table.specs.Leaving.{as_member}
 use Rattle.ent_tables.specs.Stored.{Stored}
 use Rattle.ent_core.proofs.take_out.take_out.Goals as goal
 
 pub leave-requires-clause-numbers : goal.leave-requires-clause-numbers
 leave-requires-clause-numbers c =
     let inside = c.store.inside in
-    let leaving : MayLeave c.args.leavers.now (the_view inside) =
-    subst (λ (s : State). MayLeave c.args.leavers.now s) (sym c.store.view_is) c.requires.leaving in
-    let N : ℕ → List Leaver → Type 0 = λ known all. AllByRecursion (λ leaver. IsNumbered known leaver.tx) all in
+    let leaving : MayLeave c.args.run_attempts.now (the_view inside) =
+    subst (λ (s : State). MayLeave c.args.run_attempts.now s) (sym c.store.view_is) c.requires.leaving in
+    let N : ℕ → List RunAttempt → Type 0 = λ known all. AllByRecursion (λ run_attempt. IsNumbered known run_attempt.tx) all in
     subst (λ known. N known c.as_slice.result.now) (sym c.store.invariant.known)
     (subst (N (length inside.submitted.items)) (sym c.as_slice.ensures.list) leaving.arrived)
 
 pub leave-requires-clause-awake : goal.leave-requires-clause-awake
 leave-requires-clause-awake c =
     let inside = c.store.inside in
-    let leaving : MayLeave c.args.leavers.now (the_view inside) =
-    subst (λ (s : State). MayLeave c.args.leavers.now s) (sym c.store.view_is) c.requires.leaving in
-    subst (λ (all : List Leaver). IsDistinct nat_eq (map (λ own. own.tx) inside.roster.dormant ++ numbers_in all))
+    let leaving : MayLeave c.args.run_attempts.now (the_view inside) =
+    subst (λ (s : State). MayLeave c.args.run_attempts.now s) (sym c.store.view_is) c.requires.leaving in
+    subst (λ (all : List RunAttempt). IsDistinct nat_eq (map (λ own. own.tx) inside.transaction_table.dormant ++ numbers_in all))
     (sym c.as_slice.ensures.list) leaving.distinct
 
 pub leave-requires-clause-unfinished : goal.leave-requires-clause-unfinished
 leave-requires-clause-unfinished c =
     let inside = c.store.inside in
-    let leaving : MayLeave c.args.leavers.now (the_view inside) =
-    subst (λ (s : State). MayLeave c.args.leavers.now s) (sym c.store.view_is) c.requires.leaving in
-    subst (λ (all : List Leaver). IsDistinct nat_eq (map (λ fated. fated.tx) inside.roster.fates ++ numbers_in all))
+    let leaving : MayLeave c.args.run_attempts.now (the_view inside) =
+    subst (λ (s : State). MayLeave c.args.run_attempts.now s) (sym c.store.view_is) c.requires.leaving in
+    subst (λ (all : List RunAttempt). IsDistinct nat_eq (map (λ fated. fated.tx) inside.transaction_table.fates ++ numbers_in all))
     (sym c.as_slice.ensures.list) leaving.unfinished
 
 pub invariant_of-store : goal.invariant_of-store
 invariant_of-store c =
     let inside = c.store.inside in
-    let leavers = c.args.leavers.now in
+    let run_attempts = c.args.run_attempts.now in
     let cause = cause_seen c.args.cause in
-    let leaving : MayLeave leavers (the_view inside) =
-    subst (λ (s : State). MayLeave leavers s) (sym c.store.view_is) c.requires.leaving in
-    kept_taken inside.catalogue.tables inside.opening inside.submitted.items inside.roster c.leave.new.self
+    let leaving : MayLeave run_attempts (the_view inside) =
+    subst (λ (s : State). MayLeave run_attempts s) (sym c.store.view_is) c.requires.leaving in
+    kept_taken inside.catalogue.tables inside.opening inside.submitted.items inside.transaction_table c.leave.new.self
     inside.running
-    inside.run c.remove.new.self inside.tables c.roll_back.new.self inside.pool c.withdraw_each.new.pool leavers cause
+    inside.run c.remove.new.self inside.tables c.roll_back.new.self inside.pool c.withdraw_each.new.pool run_attempts cause
     (is_not_of c.numbers-numbers.result)
     c.store.invariant leaving.arrived leaving.distinct
-    (c.leave.ensures.dormant (map as_member leavers) (c.as_slice.ensures.list ∙ as_leavers leavers)
-    ∙ (λ i. inside.roster.dormant ++ filter_map (dormant_by (c.as_slice-2.ensures.value i) cause) (map as_member
-    leavers)))
+    (c.leave.ensures.dormant (map as_member run_attempts) (c.as_slice.ensures.list ∙ as_run_attempts run_attempts)
+    ∙ (λ i. inside.transaction_table.dormant ++ filter_map (dormant_by (c.as_slice-2.ensures.value i) cause) (map as_member
+    run_attempts)))
     c.leave.ensures.known c.remove.ensures.prepared c.remove.ensures.active
     (ap (λ (stored : Stored). stored.kinds) c.roll_back.ensures.numbers)
     (subst (IsPoolOf inside.submitted.items c.remove.new.self.active) (sym c.withdraw_each.ensures)
@@ -71,16 +71,16 @@ returns c = λ gone is.
     let cause = cause_seen c.args.cause in
     let sorted : List Member = by_number tx_of gone in
     let numbers : c.numbers-numbers.result ≡ map tx_of sorted =
-    numbers_leaving c.numbers-numbers.result c.args.leavers.now sorted c.numbers-numbers.ensures is in
+    numbers_leaving c.numbers-numbers.result c.args.run_attempts.now sorted c.numbers-numbers.ensures is in
     let left = c.remove.ensures.leave sorted numbers in
     let stored = c.roll_back.ensures.members sorted numbers in
     taken (the_view inside) gone cause c.leave.new.self.dormant c.leave.new.self.fates c.remove.new.self.prepared
     c.remove.new.self.active c.remove_joints.new.joints.items c.remove_with.new.self c.roll_back.new.self.tables
     c.roll_back.new.self.changes
     (c.leave.ensures.dormant sorted (c.as_slice.ensures.list ∙ is)
-    ∙ (λ i. inside.roster.dormant ++ filter_map (dormant_by (c.as_slice-2.ensures.value i) cause) sorted))
+    ∙ (λ i. inside.transaction_table.dormant ++ filter_map (dormant_by (c.as_slice-2.ensures.value i) cause) sorted))
     (c.leave.ensures.fates sorted (c.as_slice.ensures.list ∙ is)
-    ∙ (λ i. inside.roster.fates ++ filter_map (fated_by (c.as_slice-2.ensures.value i) cause) sorted))
+    ∙ (λ i. inside.transaction_table.fates ++ filter_map (fated_by (c.as_slice-2.ensures.value i) cause) sorted))
     left.prepared left.active
     (c.remove_joints.ensures ∙ joints_left c.numbers-numbers.result sorted inside.joints.items numbers)
     (c.remove_with.ensures.gone sorted numbers)

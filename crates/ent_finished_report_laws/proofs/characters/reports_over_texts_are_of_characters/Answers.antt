@@ -13,7 +13,7 @@ returns c text book reads characters legal reported =
       opens = c.tables_keep_texts.ensures.characters;
       shows = c.tables_keep_texts.ensures.shown_characters;
       runs = c.runs_keep_texts.ensures.characters;
-      sights = c.runs_keep_texts.ensures.character_sights;
+      read_views = c.runs_keep_texts.ensures.character_read_views;
       spelled = c.places_do_not_show.ensures;
       unplaced = c.openings_are_the_same_without_places.ensures.whole;
     } in

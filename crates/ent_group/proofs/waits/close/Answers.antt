@@ -1,6 +1,6 @@
 use Rattle.std.proofs.Common.{◌≡◌, ℕ, ◌<◌, List, sym, subst, arith}
 use Rattle.std.specs.Prelude.{Contains, slice_index}
-use Rattle.ent_group.proofs.Ring.{Closing, closing_more, closing_end, awaited_place}
+use Rattle.ent_group.proofs.CycleWalk.{Closing, closing_more, closing_end, awaited_place}
 use Rattle.ent_group.proofs.waits.close.Goals as goal
 
 next : (c : goal.After-unwrap_or-at) → (c.unwrap_or-at.result < c.loop-at.at) × Contains c.args.pairs.now (slice_index c.args.reached.now c.loop-at.at, slice_index c.args.reached.now c.unwrap_or-at.result)

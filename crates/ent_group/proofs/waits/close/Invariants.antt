@@ -1,4 +1,4 @@
-use Rattle.ent_group.proofs.Ring.{Closing}
+use Rattle.ent_group.proofs.CycleWalk.{Closing}
 use Rattle.ent_group.proofs.waits.close.Given as goal
 
 abbrev pub invariant-loop-at : goal.invariant-loop-at

@@ -1,5 +1,5 @@
 use Rattle.std.proofs.Common.{◌-◌}
-use Rattle.ent_group.proofs.Ring.{Searching}
+use Rattle.ent_group.proofs.CycleWalk.{Searching}
 use Rattle.ent_group.proofs.waits.cycle_from.Given as goal
 
 abbrev pub invariant-loop-awaited : goal.invariant-loop-awaited

@@ -2,7 +2,7 @@ use Rattle.std.proofs.Common.{◌≡◌, ℕ, ◌+◌, List, get_or, refl, sym, 
 use Rattle.std.specs.Prelude.{All, Contains}
 use Rattle.std.proofs.lemmas.List.{take_all}
 use Rattle.std.proofs.lemmas.List.Elements.{Contains-get_or}
-use Rattle.ent_group.proofs.Ring.{room_more, few_waiters, Extending, extending_more, extending_same}
+use Rattle.ent_group.proofs.CycleWalk.{room_more, few_waiters, Extending, extending_more, extending_same}
 use Rattle.ent_group.proofs.waits.extend.Goals.{then-other-awaited+then-not-contains, else-other-awaited, else-other-awaited-via-then-other-awaited+else-not-contains, else-other-awaited-via-else-other-awaited}
 use Rattle.ent_group.proofs.waits.extend.Goals as goal
 

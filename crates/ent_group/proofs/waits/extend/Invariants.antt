@@ -1,4 +1,4 @@
-use Rattle.ent_group.proofs.Ring.{Extending}
+use Rattle.ent_group.proofs.CycleWalk.{Extending}
 use Rattle.ent_group.proofs.waits.extend.Given as goal
 
 abbrev pub invariant-loop-waiter : goal.invariant-loop-waiter

@@ -1,4 +1,4 @@
-use Rattle.ent_group.proofs.Ring.{few_pairs}
+use Rattle.ent_group.proofs.CycleWalk.{few_pairs}
 use Rattle.ent_group.proofs.waits.few_pairs_name_few.Goals as goal
 
 pub returns : goal.returns

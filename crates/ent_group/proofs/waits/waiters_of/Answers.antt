@@ -2,7 +2,7 @@ use Rattle.std.proofs.Common.{ℕ, ◌+◌, List, get_or, sym, subst, ◌∙◌,
 use Rattle.std.specs.Prelude.{All, Contains}
 use Rattle.std.proofs.lemmas.List.{take_all}
 use Rattle.std.proofs.lemmas.List.Elements.{Contains-get_or}
-use Rattle.ent_group.proofs.Ring.{Waiting, room_more, few_waiters, waiting_start, waiting_more, waiting_same}
+use Rattle.ent_group.proofs.CycleWalk.{Waiting, room_more, few_waiters, waiting_start, waiting_more, waiting_same}
 use Rattle.ent_group.proofs.waits.waiters_of.Goals.{then-not-contains, else-not-contains}
 use Rattle.ent_group.proofs.waits.waiters_of.Goals as goal
 

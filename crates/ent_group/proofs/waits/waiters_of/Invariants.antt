@@ -1,4 +1,4 @@
-use Rattle.ent_group.proofs.Ring.{Waiting}
+use Rattle.ent_group.proofs.CycleWalk.{Waiting}
 use Rattle.ent_group.proofs.waits.waiters_of.Given as goal
 
 abbrev pub invariant-loop-waiter : goal.invariant-loop-waiter

@@ -1,5 +1,5 @@
 use Rattle.ent_opening_laws.proofs.Columns.{same_columns}
-use Rattle.ent_opening_laws.proofs.Meant.{same_grounding, same_meaning, same_runs, same_sights}
+use Rattle.ent_opening_laws.proofs.Meant.{same_grounding, same_meaning, same_runs, same_read_views}
 use Rattle.ent_opening_laws.proofs.law.statements_mean_the_same.Goals as goal
 
 pub returns-clause-columns : goal.returns-clause-columns
@@ -14,5 +14,5 @@ returns-clause-groundings c first second alike = same_grounding first second (sa
 pub returns-clause-runs : goal.returns-clause-runs
 returns-clause-runs c first second alike = same_runs first second (same_columns first second alike)
 
-pub returns-clause-sights : goal.returns-clause-sights
-returns-clause-sights c first second alike = same_sights first second (same_columns first second alike)
+pub returns-clause-read_views : goal.returns-clause-read_views
+returns-clause-read_views c first second alike = same_read_views first second (same_columns first second alike)

@@ -1,6 +1,6 @@
 use Rattle.std.proofs.Common.{◌≡◌, ℕ, List, subst, ◌∙◌}
 use Rattle.std.specs.Prelude.{IfSome}
-use Rattle.ent_group.specs.Cycle.{IsCycle, IsInRing}
+use Rattle.ent_group.specs.Cycle.{IsCycle, IsOnCycle}
 use Rattle.ent_waits.specs.Waits.{gathered}
 use Rattle.ent_waits.proofs.Gathered.{IsGreatest, found_deadlock, no_deadlock}
 use Rattle.ent_waits.proofs.cycles.greatest_cycle.Goals as goal
@@ -25,4 +25,4 @@ returns-clause-none c = λ s none.
     let same : c.as_slice.result.now ≡ gathered run submitted lent =
     c.as_slice.ensures ∙ c.pairs_of-pairs.ensures.pairs in
     no_deadlock c.awaited_members_are_waited_for.ensures run submitted lent s
-    (subst (λ (pairs : List (ℕ × ℕ)). (x : ℕ) → ¬ (IsInRing pairs x)) same (c.cycle-found.ensures.none none))
+    (subst (λ (pairs : List (ℕ × ℕ)). (x : ℕ) → ¬ (IsOnCycle pairs x)) same (c.cycle-found.ensures.none none))

@@ -1,5 +1,5 @@
 use Rattle.std.proofs.Common.{◌≡◌, ℕ, List, ◌∷◌, Option, Some, sym, subst, arith}
-use Rattle.ent_waits.specs.Jobs.{HasAsking}
+use Rattle.ent_waits.specs.Jobs.{HasPostedQuery}
 use Rattle.ent_waits.specs.Least.{LeastIfAny}
 use Rattle.ent_waits.proofs.Smallest.{least_cons}
 use Rattle.ent_waits.proofs.jobs.+least_of.Goals as goal
@@ -13,7 +13,7 @@ returns t c =
     c.in-Some.ensures.cases.0 in
     let own : LeastIfAny (λ tx. first.tx ≡ tx) (Some c.tx.result) =
     (sym c.tx.ensures, λ n is. omega (arith, c.tx.ensures, is)) in
-    subst (λ (asked : List Posted). LeastIfAny (HasAsking asked) c.lesser.result) (sym whole)
-    (subst (λ (least : Option ℕ). LeastIfAny (HasAsking (first ∷ rest)) least) (sym c.lesser.ensures)
+    subst (λ (asked : List Posted). LeastIfAny (HasPostedQuery asked) c.lesser.result) (sym whole)
+    (subst (λ (least : Option ℕ). LeastIfAny (HasPostedQuery (first ∷ rest)) least) (sym c.lesser.ensures)
     (least_cons (λ (query : Posted) tx. query.tx ≡ tx) first rest (Some c.tx.result) c.least_of.result own
     c.least_of.ensures))

@@ -11,9 +11,9 @@ returns t c =
     let pass = c.args.pass.now in
     let first = c.in-Some.first.now in
     let rest = c.in-Some.rest.now in
-    let one : IsLeastIfAny (BlocksOne held c.args.tx first.0 first.1 pass) c.least_in_way.result =
-    subst (IsLeastIfAny (BlocksOne held c.args.tx first.0 first.1 pass)) (sym c.least_in_way.ensures)
+    let one : IsLeastIfAny (BlocksOne held c.args.tx first.0 first.1 pass) c.least_conflicting.result =
+    subst (IsLeastIfAny (BlocksOne held c.args.tx first.0 first.1 pass)) (sym c.least_conflicting.ensures)
     (least_of_one held c.args.tx first.0 first.1 pass c.holders.result.now c.holders.ensures) in
     subst (IsLeastIfAny (Blocks held c.args.tx c.args.asked.now pass)) (sym c.lesser.ensures)
-    (subst (λ (asked : List (List ℕ × Mode)). IsLeastIfAny (Blocks held c.args.tx asked pass) (lesser c.least_in_way.result c.blocker.result)) (sym c.in-Some.ensures.cases.0)
-    (least_of_more held c.args.tx first rest pass c.least_in_way.result c.blocker.result one c.blocker.ensures))
+    (subst (λ (asked : List (List ℕ × Mode)). IsLeastIfAny (Blocks held c.args.tx asked pass) (lesser c.least_conflicting.result c.blocker.result)) (sym c.in-Some.ensures.cases.0)
+    (least_of_more held c.args.tx first rest pass c.least_conflicting.result c.blocker.result one c.blocker.ensures))

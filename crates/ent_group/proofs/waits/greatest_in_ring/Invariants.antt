@@ -1,5 +1,0 @@
-use Rattle.ent_group.proofs.Walks.{GreatestUpto}
-use Rattle.ent_group.proofs.waits.greatest_in_ring.Given as goal
-
-abbrev pub invariant-loop-i : goal.invariant-loop-i
-invariant-loop-i l = GreatestUpto l.pairs l.waiters l.i l.greatest

@@ -1,0 +1,4 @@
+pub mod ByNumber
+pub mod Cause
+pub mod Leaving
+pub mod TransactionTable

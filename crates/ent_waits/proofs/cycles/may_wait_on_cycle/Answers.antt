@@ -1,0 +1,21 @@
+use Rattle.std.proofs.Common.{map, arith}
+use Rattle.std.proofs.lemmas.Bool.Decides.{Decides-eqb}
+use Rattle.std.proofs.lemmas.List.{length-map}
+use Rattle.std.proofs.lemmas.Map.Made.{AllPairs-from_IsDistinct}
+use Rattle.ent_members.specs.Run.{tx_of}
+use Rattle.ent_waits.specs.Waits.{gathered}
+use Rattle.ent_waits.proofs.Gathered.{no_deadlock}
+use Rattle.ent_waits.proofs.Marked.{marked_pairs}
+use Rattle.ent_waits.proofs.cycles.may_wait_on_cycle.Goals as goal
+
+pub returns : goal.returns
+returns c = λ s quick.
+    let run = c.args.run.now in
+    let submitted = c.args.submitted.now in
+    let lent = c.args.lent.now in
+    let numbers = map tx_of run.active in
+    no_deadlock c.awaited_members_are_waited_for.ensures run submitted lent s
+    (c.may_have_cycle.ensures quick numbers (gathered run submitted lent)
+    (AllPairs-from_IsDistinct Decides-eqb numbers c.active-active.ensures.distinct)
+    (omega (arith, length-map run.active tx_of, c.len-most.ensures.bound))
+    (marked_pairs run submitted lent c.rows_of-rows.result c.rows_of-rows.ensures))
