@@ -9,3 +9,4 @@ pub mod Listing
 pub mod Alike
 pub mod Parts
 pub mod Marked
+pub mod Owners

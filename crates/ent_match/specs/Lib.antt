@@ -5,3 +5,4 @@ pub mod Remainder
 pub mod Components
 pub mod Same
 pub mod Parts
+pub mod Demand

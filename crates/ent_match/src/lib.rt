@@ -7,6 +7,7 @@
 #![tactic(auto)]
 
 mod components;
+mod demand;
 mod fault;
 mod law;
 mod link;
@@ -16,6 +17,7 @@ mod pool;
 mod posted;
 mod remainder;
 
+pub use demand::{Demand, demand_of};
 pub use fault::{PostFault, Unsafe};
 pub use law::{parts_are_apart, same_statements_are_alike};
 pub use pool::Pool;

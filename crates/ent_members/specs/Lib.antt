@@ -9,3 +9,4 @@ pub mod Moves
 pub mod Joined
 pub mod Waits
 pub mod Answered
+pub mod Conflict

@@ -27,7 +27,7 @@ fn is_passed(passed: Passed, holder: &Member) -> bool
     }
 }
 
-fn in_conflict(one: Use, other: Use) -> bool
+pub(crate) fn in_conflict(one: Use, other: Use) -> bool
     ensures { result ≡ uses_conflict one other }
 {
     one.table() == other.table() && one.mode().in_conflict(other.mode())

@@ -8,6 +8,7 @@
 
 mod answer;
 mod change;
+mod conflict;
 mod conflicts;
 mod entrant;
 mod hold;
@@ -23,6 +24,7 @@ mod start;
 mod table_use;
 mod uses;
 
+pub use conflict::{Conflict, first_conflict};
 pub use conflicts::{is_conflicting, waits_over};
 pub use entrant::Entrant;
 pub use hold::with_uses;

@@ -1,0 +1,22 @@
+-- Uses that are asked for and uses that are held, in conflict.
+use Rattle.std.specs.Prelude.{◌≡◌, true, false, List, Contains}
+use Rattle.ent_lock.specs.Mode.{in_conflict}
+use Rattle.ent_members.specs.declared.conflict.Conflict.{Conflict}
+use Rattle.ent_protocol.specs.State.{Use}
+use Rattle.ent_protocol.specs.Uses.{uses_conflict}
+
+abbrev pub NoneInConflict : Use → List Use → Type 0
+NoneInConflict own held = (other : Use) → Contains held other → uses_conflict own other ≡ false
+
+abbrev pub IsInConflict : Use → List Use → Use → Type 0
+IsInConflict own held other = Contains held other × (uses_conflict own other ≡ true)
+
+-- no use that is asked for is in conflict with one that is held
+abbrev pub NoConflict : List Use → List Use → Type 0
+NoConflict asked held = (own : Use) → Contains asked own → NoneInConflict own held
+
+-- the table is asked for in the one mode, and held in the other, which are in conflict
+pub record IsConflict (asked held : List Use) (between : Conflict) : Type 0 where
+  pub is_asked : Contains asked (record { table = between.table; mode = between.asked })
+  pub is_held : Contains held (record { table = between.table; mode = between.held })
+  pub clash : in_conflict between.asked between.held ≡ true
