@@ -237,7 +237,7 @@ ended_next follow = λ s. (statement_next, λ e. (tt, tt))
 
 -- ---- scripts
 
-script_next : (follow : List Class) → IsPredictive script follow
+pub script_next : (follow : List Class) → IsPredictive script follow
 unfolding script within ending ended_statement statement insert row delete update set query
 script_next follow = λ b. (tt, λ t. (tt, λ n. ((refl, refl, λ w. (tt, λ n. (refl, λ r. (tt, tt))), tt), λ e. (tt, λ ss. ((refl, refl, refl, ended_next []), λ c. ((refl, refl, λ p. (tt, tt), λ p. (tt, tt)), λ e. (tt, tt)))))))
 

@@ -65,7 +65,7 @@ fn ending_at(end: usize, tokens: Tokens<'_>) -> Result<(End, Tokens<'_>), Refusa
 }
 
 #[tactic(auto, unfolding(crate::specs::Scripts::script))]
-fn script_at(
+pub(crate) fn script_at(
     alloc: Global,
     end: usize,
     tokens: Tokens<'_>,

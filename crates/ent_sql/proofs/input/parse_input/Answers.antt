@@ -8,22 +8,23 @@ use Rattle.ent_grammar.specs.Grammar.{reads_all}
 use Rattle.ent_sql.specs.Scripts.{input}
 use Rattle.ent_text.specs.Left.{IsFaultlessBefore}
 use Rattle.ent_sql.specs.Fault.{place_of}
-use Rattle.ent_sql.proofs.Exact.{read_up_to, fault_up_to, text_fault_first, faultless_before}
+use Rattle.ent_sql.proofs.Exact.{input_up_to, input_fault_up_to, text_fault_first, faultless_before}
+use Rattle.ent_sql.proofs.Foreseen.{input_next}
 use Rattle.ent_sql.proofs.input.parse_input.Goals as goal
 
 pub returns-in-Ok : goal.returns-in-Ok
-returns-in-Ok c = read_up_to c.args.text.now c.of.result c.in-Ok.input c.of.ensures c.in-Ok.ensures
+returns-in-Ok c = input_up_to c.args.text.now c.of.result c.in-Ok.input c.of.ensures c.in-Ok.ensures
 
 pub fault_from-requires : goal.fault_from-requires
 fault_from-requires c =
     subst (IsFaultlessBefore c.args.text.now) (ap place_of (sym c.fault_of-found.ensures) ∙ sym c.place.ensures)
-    (faultless_before c.args.text.now c.of.result c.in-Err-Fault.fault c.of.ensures
+    (faultless_before input input_next c.args.text.now c.of.result c.in-Err-Fault.fault c.of.ensures
     (subst (λ (e : Refusal GrammarFault). Refuses e (reads_all input (length c.args.text.now) c.of.result))
     c.in-Err-Fault.field-0-is c.in-Err-Fault.ensures))
 
 pub returns-in-None : goal.returns-in-None
 returns-in-None c =
-    fault_up_to c.args.text.now c.of.result c.in-Err-Fault.fault c.of.ensures c.in-None.ensures.none
+    input_fault_up_to c.args.text.now c.of.result c.in-Err-Fault.fault c.of.ensures c.in-None.ensures.none
     (subst (λ (e : Refusal GrammarFault). Refuses e (reads_all input (length c.args.text.now) c.of.result))
     c.in-Err-Fault.field-0-is c.in-Err-Fault.ensures)
     ∙ ap (λ (f : SqlFault). let r : Result Input SqlFault = Err f in r) (sym c.fault_of-found.ensures)
