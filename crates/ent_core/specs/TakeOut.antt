@@ -19,7 +19,7 @@ is_joint_of_others numbers joint = not (is_joint_of_any numbers joint)
 -- Those who leave were submitted, and took part in no more runs than their scripts ask for; none of them waits for a
 -- run, is finished, or stands there twice.
 pub record MayLeave (run_attempts : List RunAttempt) (s : State) : Type 0 where
-  pub arrived : AllByRecursion (λ (run_attempt : RunAttempt). IsNumbered (length s.submitted) run_attempt.tx) run_attempts
+  pub arrived : AllByRecursion (λ (own : RunAttempt). IsNumbered (length s.submitted) own.tx) run_attempts
   pub within : AllByRecursion (IsWithin s.submitted) run_attempts
   pub distinct : IsDistinct nat_eq (map (λ own. own.tx) s.dormant ++ numbers_in run_attempts)
   pub unfinished : IsDistinct nat_eq (map (λ fated. fated.tx) s.fates ++ numbers_in run_attempts)

@@ -2,7 +2,8 @@
 ghost use Rattle.std.specs.Prelude.{◌≡◌, ℕ, Some, None, true, IfErr, IfOk, IsOk, OnErr, IsSome};
 ghost use Rattle.std.specs.Arc.{arc_value};
 ghost use Rattle.ent_coordination.specs.Pool.{Unsafe as UnsafePost};
-ghost use Rattle.ent_core.specs.Begin.{Follows, IsFree, IsIdle, IsToPost, LendsTo, MayBegin, begin_refusal_seen, job_uses};
+ghost use Rattle.ent_core.specs.Begin.{Follows, IsFree, IsIdle, IsToPost, LendsTo, MayBegin, begin_refusal_seen};
+ghost use Rattle.ent_core.specs.Begin.{job_uses};
 ghost use Rattle.ent_core.specs.Kept.{IsKeptState};
 ghost use Rattle.ent_core.specs.Reply.{reply_seen};
 ghost use Rattle.ent_form.specs.declared.fault.FormFault.{FormFault as Form};

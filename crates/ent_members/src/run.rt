@@ -189,8 +189,8 @@ impl Run {
         self.blocker(asker, statement_uses(statement).as_slice())
     }
 
-    /// The least member in conflict with one that asks for the uses of a statement, as [`Run::blocker`] says. What changes
-    /// a table asks for one use, and needs no room for more.
+    /// The least member in conflict with one that asks for the uses of a statement, as [`Run::blocker`] says. What
+    /// changes a table asks for one use, and needs no room for more.
     pub fn statement_blocker<K>(&self, asker: &Member, statement: &Statement<K>) -> Option<Tx>
         ensures { (s : State) → result ≡ blocker (with_run self.now s) asker.now (uses_of statement.now) }
     {

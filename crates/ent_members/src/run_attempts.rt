@@ -1,7 +1,8 @@
 //! A few members by number, in a fixed array.
 ghost use Rattle.std.specs.Prelude.{◌≡◌, ◌<◌, ◌≤◌, ◌+◌, ◌++◌, ◌∷◌, [], length, map, take, insert};
 ghost use Rattle.ent_protocol.specs.State.{inserted};
-ghost use Rattle.ent_members.specs.RunAttempts.{gathered, is_within, run_attempt_of, run_attempts_in, number_of, numbers_in};
+ghost use Rattle.ent_members.specs.RunAttempts.{gathered, is_within, run_attempt_of, run_attempts_in, number_of};
+ghost use Rattle.ent_members.specs.RunAttempts.{numbers_in};
 ghost use Rattle.ent_members.specs.Order.{IsAscending, place_in};
 ghost use Rattle.ent_members.specs.Run.{tx_of};
 

@@ -20,7 +20,8 @@ use Rattle.ent_semantics.specs.Database.{Name, Rows, Database, Environment, Tabl
 use Rattle.ent_semantics.specs.Database.{with_value, with_values}
 use Rattle.ent_semantics.specs.Effect.{Effect, changed, or_overflow, setting}
 use Rattle.ent_semantics.specs.Entangled.{Valuation, heads, posts, bound_values}
-use Rattle.ent_semantics.specs.Serial.{Operation, Run, ReadView, answered_first, after, run, seen, seen_after, read_views}
+use Rattle.ent_semantics.specs.Serial.{Operation, Run, ReadView, answered_first, after, run, seen, seen_after}
+use Rattle.ent_semantics.specs.Serial.{read_views}
 use Rattle.ent_semantics.specs.Statement.{statement_meaning}
 use Rattle.ent_semantics.specs.Term.{known_value, expression_value}
 use Rattle.ent_protocol.specs.Member.{environment_of}

@@ -11,8 +11,10 @@ use Rattle.ent_semantics.specs.Book.{RunGivesBook, book_read_views}
 use Rattle.ent_semantics.specs.Database.{Name, Database, nothing_bound, opening_database, same_name}
 use Rattle.ent_semantics.specs.Entangled.{Valuation}
 use Rattle.ent_semantics.specs.Joint.{IsGrounded}
-use Rattle.ent_semantics.specs.Serial.{Operation, Run, Turn, ReadView, is_entangled, operation_first, operations_of, run}
-use Rattle.ent_semantics.specs.Serial.{ended, script_run, ran_first, scripts_run, read_views, script_read_views, seen_from}
+use Rattle.ent_semantics.specs.Serial.{Operation, Run, Turn, ReadView, is_entangled, operation_first, operations_of}
+use Rattle.ent_semantics.specs.Serial.{run}
+use Rattle.ent_semantics.specs.Serial.{ended, script_run, ran_first, scripts_run, read_views, script_read_views}
+use Rattle.ent_semantics.specs.Serial.{seen_from}
 use Rattle.ent_semantics.specs.Serial.{scripts_read_views, numbered}
 use Rattle.ent_closed.specs.Form.{Tables}
 use Rattle.ent_form_laws.specs.Tables.{database_of}

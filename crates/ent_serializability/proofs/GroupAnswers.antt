@@ -17,7 +17,8 @@ use Rattle.ent_protocol.specs.Run.{Forms}
 use Rattle.ent_protocol.specs.State.{State, Member, members}
 use Rattle.ent_serializability.specs.Faithful.{AreFaithful}
 use Rattle.ent_serializability.specs.GoodAnswers.{histories_read_views}
-use Rattle.ent_serializability.specs.GroupAnswers.{history_read_views, group_read_views, IsOfGroup, HaveGroups, GroupAnswers}
+use Rattle.ent_serializability.specs.GroupAnswers.{history_read_views, group_read_views, IsOfGroup, HaveGroups}
+use Rattle.ent_serializability.specs.GroupAnswers.{GroupAnswers}
 use Rattle.ent_serializability.specs.GroupRuns.{GroupRuns, settled_database}
 use Rattle.ent_serializability.specs.History.{History, Replays}
 use Rattle.ent_lists.specs.Elements.{contains_in, in_contains}

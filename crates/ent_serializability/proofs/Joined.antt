@@ -40,12 +40,14 @@ use Rattle.ent_serializability.proofs.Sound.{Fit, AreApart}
 use Rattle.ent_serializability.proofs.Acts.{Keeps}
 use Rattle.ent_serializability.proofs.Outcomes.{grounding_same}
 use Rattle.ent_serializability.proofs.Scripts.{replays_pushed}
-use Rattle.ent_serializability.proofs.Operations.{HoldsUses, with_operation, covers_pushed, follows_pushed, IsPair, pair_of}
+use Rattle.ent_serializability.proofs.Operations.{HoldsUses, with_operation, covers_pushed, follows_pushed, IsPair}
+use Rattle.ent_serializability.proofs.Operations.{pair_of}
 use Rattle.ent_serializability.proofs.Operations.{asked_meaning, asked_grounds, asked_length}
 use Rattle.ent_serializability.proofs.Jobs.{OtherJob, PostedQueryRight, StillAsks, Moves}
 use Rattle.ent_serializability.proofs.Asks.{Ask, ask_member, ask_heads, ask_posts, asks_at, asks_place, history_asks}
 use Rattle.ent_serializability.proofs.Asks.{asks_pushed, replays_in}
-use Rattle.ent_serializability.proofs.Answered.{answered_keeps, operation_at, operations_among, statement_operation, joint_member}
+use Rattle.ent_serializability.proofs.Answered.{answered_keeps, operation_at, operations_among, statement_operation}
+use Rattle.ent_serializability.proofs.Answered.{joint_member}
 use Rattle.ent_serializability.proofs.Answered.{IsAnswered}
 use Rattle.ent_serializability.proofs.Answered.{IsLeft, answered_or_left, nonempty, from_joint, from_heads, joint_pairs}
 use Rattle.ent_serializability.proofs.Answered.{OtherPostedQuery, IsPresent, label_same}

@@ -1,5 +1,6 @@
 -- What is kept by number, from 1.
-use Rattle.std.specs.Prelude.{◌≡◌, ◌≢◌, ◌==◌, ◌≤◌, ℕ, zero, suc, List, Option, Some, None, filter, slice_index_or, unwrap_or}
+use Rattle.std.specs.Prelude.{◌≡◌, ◌≢◌, ◌==◌, ◌≤◌, ℕ, zero, suc, List, Option, Some, None, filter, slice_index_or}
+use Rattle.std.specs.Prelude.{unwrap_or}
 use Rattle.ent_protocol.specs.State.{first_of}
 
 -- a number of one of so many transactions

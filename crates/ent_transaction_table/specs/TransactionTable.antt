@@ -1,5 +1,6 @@
 -- Who waits for a run, and who is finished.
-use Rattle.std.specs.Prelude.{◌≡◌, ◌+◌, ◌≤◌, ◌==◌, ℕ, Bool, false, List, map, drop, length, Option, None, Some, IsSome, nat_eq}
+use Rattle.std.specs.Prelude.{◌≡◌, ◌+◌, ◌≤◌, ◌==◌, ℕ, Bool, false, List, map, drop, length, Option, None, Some, IsSome}
+use Rattle.std.specs.Prelude.{nat_eq}
 use Rattle.std.specs.List.{list_any}
 use Rattle.slab.specs.Slab.{Slab, get as value_at, slab_len}
 use Rattle.indexmap.specs.IndexMap.{IndexMap, keys, get}
@@ -22,10 +23,10 @@ abbrev pub is_fated : ℕ → List Fated → Bool
 is_fated tx fates = list_any (λ fated. fated.tx == tx) fates
 
 -- a script that was submitted and stands in neither list
-pub record IsAway (tx : ℕ) (transaction_table : TransactionTable) : Type 0 where
-  pub number : IsNumbered transaction_table.known tx
-  pub awake : is_dormant tx transaction_table.dormant ≡ false
-  pub unfinished : is_fated tx transaction_table.fates ≡ false
+pub record IsAway (tx : ℕ) (table : TransactionTable) : Type 0 where
+  pub number : IsNumbered table.known tx
+  pub awake : is_dormant tx table.dormant ≡ false
+  pub unfinished : is_fated tx table.fates ≡ false
 
 -- ---- what a transaction table keeps of its parts
 

@@ -23,33 +23,33 @@ AreUnfinished fates run_attempts = IsDistinct nat_eq (map (λ fated. fated.tx) f
 
 pub leave_one-requires-clause-away : goal.leave_one-requires-clause-away
 leave_one-requires-clause-away t c =
-    let transaction_table = c.args.transaction_table.now in
+    let table = c.args.table.now in
     let whole = c.in-Some.ensures.cases.0 in
     let tx = c.in-Some.first.now.tx in
     let rest = numbers_in c.in-Some.rest.now in
-    let numbers = subst (AreNumbered transaction_table.known) whole c.requires.numbers in
-    let awake = subst (AreAwake transaction_table.dormant) whole c.requires.awake in
-    let unfinished = subst (AreUnfinished transaction_table.fates) whole c.requires.unfinished in
+    let numbers = subst (AreNumbered table.known) whole c.requires.numbers in
+    let awake = subst (AreAwake table.dormant) whole c.requires.awake in
+    let unfinished = subst (AreUnfinished table.fates) whole c.requires.unfinished in
     record {
       number = numbers.0;
-      awake = sym (list_any-map (λ (own : Dormant). own.tx) (λ n. n == tx) transaction_table.dormant)
-          ∙ not_before (map (λ (own : Dormant). own.tx) transaction_table.dormant) rest tx awake;
-      unfinished = sym (list_any-map (λ (fated : Fated). fated.tx) (λ n. n == tx) transaction_table.fates)
-          ∙ not_before (map (λ (fated : Fated). fated.tx) transaction_table.fates) rest tx unfinished;
+      awake = sym (list_any-map (λ (own : Dormant). own.tx) (λ n. n == tx) table.dormant)
+          ∙ not_before (map (λ (own : Dormant). own.tx) table.dormant) rest tx awake;
+      unfinished = sym (list_any-map (λ (fated : Fated). fated.tx) (λ n. n == tx) table.fates)
+          ∙ not_before (map (λ (fated : Fated). fated.tx) table.fates) rest tx unfinished;
     }
 
 pub leave-requires : goal.leave-requires
 leave-requires t c =
-    let transaction_table = c.args.transaction_table.now in
+    let table = c.args.table.now in
     let whole = c.in-Some.ensures.cases.0 in
     let run_attempts = c.in-Some.rest.now in
     let rest = numbers_in run_attempts in
     let own = as_member c.in-Some.first.now in
     let shorter = ap (λ (all : List RunAttempt). length all) whole in
-    let numbers = subst (AreNumbered transaction_table.known) whole c.requires.numbers in
+    let numbers = subst (AreNumbered table.known) whole c.requires.numbers in
     let within = subst (λ (all : List RunAttempt). AllByRecursion (IsWithin c.args.submitted.now) all) whole c.requires.within in
-    let awake = subst (AreAwake transaction_table.dormant) whole c.requires.awake in
-    let unfinished = subst (AreUnfinished transaction_table.fates) whole c.requires.unfinished in (
+    let awake = subst (AreAwake table.dormant) whole c.requires.awake in
+    let unfinished = subst (AreUnfinished table.fates) whole c.requires.unfinished in (
       omega (arith, shorter),
       (
         omega (arith, c.requires.room, c.leave_one.ensures.room, c.leave_one.ensures.known, shorter),
@@ -59,9 +59,9 @@ leave-requires t c =
             within.1,
             (
               subst (λ (dormant : List Dormant). AreAwake dormant run_attempts) (sym c.leave_one.ensures.dormant)
-                  (awake_after c.args.submitted.now (cause_seen c.args.cause) own transaction_table.dormant rest awake),
+                  (awake_after c.args.submitted.now (cause_seen c.args.cause) own table.dormant rest awake),
               subst (λ (fates : List Fated). AreUnfinished fates run_attempts) (sym c.leave_one.ensures.fates)
-                  (unfinished_after c.args.submitted.now (cause_seen c.args.cause) own transaction_table.fates rest unfinished),
+                  (unfinished_after c.args.submitted.now (cause_seen c.args.cause) own table.fates rest unfinished),
             ),
           ),
         ),
@@ -70,7 +70,7 @@ leave-requires t c =
 
 pub returns-clause-dormant : goal.returns-clause-dormant
 returns-clause-dormant t c =
-    let before = c.args.transaction_table.now.dormant in
+    let before = c.args.table.now.dormant in
     let first = c.in-Some.first.now in
     let rest = c.in-Some.rest.now in
     let f = λ (run_attempt : RunAttempt). dormant_by c.args.submitted.now (cause_seen c.args.cause) (as_member run_attempt) in
@@ -81,7 +81,7 @@ returns-clause-dormant t c =
 
 pub returns-clause-fates : goal.returns-clause-fates
 returns-clause-fates t c =
-    let before = c.args.transaction_table.now.fates in
+    let before = c.args.table.now.fates in
     let first = c.in-Some.first.now in
     let rest = c.in-Some.rest.now in
     let f = λ (run_attempt : RunAttempt). fated_by c.args.submitted.now (cause_seen c.args.cause) (as_member run_attempt) in

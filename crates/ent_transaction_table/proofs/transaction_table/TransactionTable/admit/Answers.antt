@@ -1,4 +1,5 @@
-use Rattle.std.proofs.Common.{◌≡◌, ◌≢◌, ◌+◌, ◌++◌, ◌∷◌, [], ℕ, List, Option, None, Some, IsSome, is_some, ap, sym, subst, refl, inl, inr, length, length-append, ◌∙◌, arith}
+use Rattle.std.proofs.Common.{◌≡◌, ◌≢◌, ◌+◌, ◌++◌, ◌∷◌, [], ℕ, List, Option, None, Some, IsSome, is_some, ap, sym}
+use Rattle.std.proofs.Common.{subst, refl, inl, inr, length, length-append, ◌∙◌, arith}
 use Rattle.std.specs.Prelude.{nat_eq, OnOk}
 use Rattle.std.specs.Map.{lookup}
 use Rattle.std.proofs.lemmas.Bool.{cases_eq}
@@ -24,7 +25,7 @@ invariant_of-self-2 c =
     let roomy = c.reserve-3.new.self in
     let after = c.insert.new.self in
     let entries = c.reserve-3.ensures.entries in
-    let known : s.known ≡ c.args.self.now.known = ap (λ (transaction_table : TransactionTable). transaction_table.known) c.self.view_is in
+    let known : s.known ≡ c.args.self.now.known = ap (λ (table : TransactionTable). table.known) c.self.view_is in
     let number : tx ≡ s.known + 1 = omega (arith, known, c.requires.next) in
     let none : get nat_eq s.order tx ≡ None =
     none_from (get nat_eq s.order tx) (λ there. let le = kept.only tx there in omega (arith, le, number)) in
@@ -104,7 +105,7 @@ returns-clause-ok c =
     let roomy = c.reserve-3.new.self in
     let after = c.insert.new.self in
     let entries = c.reserve-3.ensures.entries in
-    let known : s.known ≡ c.args.self.now.known = ap (λ (transaction_table : TransactionTable). transaction_table.known) c.self.view_is in
+    let known : s.known ≡ c.args.self.now.known = ap (λ (table : TransactionTable). table.known) c.self.view_is in
     let none : get nat_eq s.order tx ≡ None =
     none_from (get nat_eq s.order tx)
     (λ there. let le = kept.only tx there in omega (arith, le, known, c.requires.next)) in
@@ -126,8 +127,8 @@ returns-clause-ok c =
     (moved ∙ insert_entry-new nat_eq roomy tx key (ap (lookup (nat_eq tx)) entries ∙ none)
     ∙ ap (λ (es : List (ℕ × ℕ)). es ++ (tx, key) ∷ []) entries) kept.members in
     (λ i. record { dormant = back i; fates = c.reserve.ensures.items i; known = s.known + 1 })
-    ∙ ap (λ (transaction_table : TransactionTable). record {
-      dormant = transaction_table.dormant ++ own ∷ [];
-      fates = transaction_table.fates;
-      known = transaction_table.known + 1;
+    ∙ ap (λ (table : TransactionTable). record {
+      dormant = table.dormant ++ own ∷ [];
+      fates = table.fates;
+      known = table.known + 1;
     }) c.self.view_is

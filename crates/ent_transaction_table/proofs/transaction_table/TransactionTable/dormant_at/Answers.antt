@@ -17,4 +17,4 @@ returns-in-Some c =
     c.get.ensures ∙ value_here s.live s.order c.self.invariant.stand tx c.in-Some.key.now c.in-Some.ensures.value
     ∙ sym (slice_get-map f (drop s.in_run (keys s.order)) c.args.place
     ∙ ap (option_map f) (slice_behind (keys s.order) s.in_run c.args.place tx is))
-    ∙ ap (λ (transaction_table : TransactionTable). slice_get transaction_table.dormant c.args.place) c.self.view_is
+    ∙ ap (λ (table : TransactionTable). slice_get table.dormant c.args.place) c.self.view_is

@@ -6,7 +6,8 @@ use Rattle.ent_protocol.specs.State.{Dormant, first_of}
 use Rattle.ent_transaction_table.specs.TransactionTable.{TransactionTable}
 use Rattle.ent_transaction_table.proofs.Lists.{none_behind}
 use Rattle.ent_transaction_table.proofs.Changes.{lacks}
-use Rattle.ent_transaction_table.proofs.Lookups.{behind_has, behind_lacks, first_absent, first_there, is_none, number_at, value_here}
+use Rattle.ent_transaction_table.proofs.Lookups.{behind_has, behind_lacks, first_absent, first_there, is_none}
+use Rattle.ent_transaction_table.proofs.Lookups.{number_at, value_here}
 use Rattle.ent_transaction_table.proofs.transaction_table.TransactionTable.dormant_of.Goals as goal
 
 pub returns-in_default : goal.returns-in_default
@@ -16,7 +17,7 @@ returns-in_default c =
     let lack = lacks tx s.order.entries (is_none (get nat_eq s.order tx) c.in_default.ensures.found) in
     first_absent s.live s.order tx (drop s.in_run (keys s.order))
     (none_behind (λ (k : ℕ). k == tx) (keys s.order) s.in_run lack)
-    ∙ ap (λ (transaction_table : TransactionTable). first_of (filter (λ (own : Dormant). own.tx == tx) transaction_table.dormant)) c.self.view_is
+    ∙ ap (λ (table : TransactionTable). first_of (filter (λ (own : Dormant). own.tx == tx) table.dormant)) c.self.view_is
 
 pub returns-then-at-self : goal.returns-then-at-self
 returns-then-at-self c =
@@ -26,7 +27,7 @@ returns-then-at-self c =
     let is = number_at (keys s.order) tx at (sym c.in-Some.ensures.index) in
     first_absent s.live s.order tx (drop s.in_run (keys s.order))
     (behind_lacks (keys s.order) at s.in_run tx c.in-Some.ensures.unique is c.if-at-self.true)
-    ∙ ap (λ (transaction_table : TransactionTable). first_of (filter (λ (own : Dormant). own.tx == tx) transaction_table.dormant)) c.self.view_is
+    ∙ ap (λ (table : TransactionTable). first_of (filter (λ (own : Dormant). own.tx == tx) table.dormant)) c.self.view_is
 
 pub returns : goal.returns
 returns c =
@@ -40,4 +41,4 @@ returns c =
     c.get.ensures ∙ value_here s.live s.order c.self.invariant.stand tx c.index.result.now here
     ∙ first_there s.live s.order tx (drop s.in_run (keys s.order))
     (behind_has (keys s.order) at s.in_run tx is (omega (arith, c.if-at-self.false)))
-    ∙ ap (λ (transaction_table : TransactionTable). first_of (filter (λ (own : Dormant). own.tx == tx) transaction_table.dormant)) c.self.view_is
+    ∙ ap (λ (table : TransactionTable). first_of (filter (λ (own : Dormant). own.tx == tx) table.dormant)) c.self.view_is

@@ -1,11 +1,13 @@
-use Rattle.std.proofs.Common.{◌≡◌, ◌+◌, ◌-◌, ◌<◌, ◌++◌, ◌∷◌, [], ℕ, false, List, Option, Some, IsSome, is_some, length, ap, sym, subst, refl, ◌∙◌, arith}
+use Rattle.std.proofs.Common.{◌≡◌, ◌+◌, ◌-◌, ◌<◌, ◌++◌, ◌∷◌, [], ℕ, false, List, Option, Some, IsSome, is_some, length}
+use Rattle.std.proofs.Common.{ap, sym, subst, refl, ◌∙◌, arith}
 use Rattle.std.specs.Prelude.{nat_eq}
 use Rattle.slab.specs.Slab.{Updates, with_value}
 use Rattle.slab.proofs.SlabLemmas.{Updates-with_value}
 use Rattle.indexmap.specs.IndexMap.{get, move_index}
 use Rattle.ent_protocol.specs.State.{Dormant}
 use Rattle.ent_transaction_table.specs.TransactionTable.{TransactionTable, is_dormant, waiting}
-use Rattle.ent_transaction_table.proofs.Changes.{in_front, key_here, keys_apart, length_waiting, slab_len-with_value, stand_with, waiting_back}
+use Rattle.ent_transaction_table.proofs.Changes.{in_front, key_here, keys_apart, length_waiting, slab_len-with_value}
+use Rattle.ent_transaction_table.proofs.Changes.{stand_with, waiting_back}
 use Rattle.ent_transaction_table.proofs.transaction_table.TransactionTable.go_back.Goals as goal
 
 pub overflow_sub-self : goal.overflow_sub-self
@@ -14,7 +16,7 @@ overflow_sub-self c =
     let tx = c.tx-tx.result in
     let awake : is_dormant tx (waiting s.live s.order s.in_run) ≡ false =
     ap (λ n. is_dormant n (waiting s.live s.order s.in_run)) c.tx-tx.ensures
-    ∙ ap (λ (transaction_table : TransactionTable). is_dormant c.args.own.tx transaction_table.dormant) c.self.view_is ∙ c.requires.away.awake in
+    ∙ ap (λ (table : TransactionTable). is_dormant c.args.own.tx table.dormant) c.self.view_is ∙ c.requires.away.awake in
     let front =
     in_front s.live s.order s.in_run tx c.unwrap-at.result c.index-key.result.now
     (sym c.get_index_of.ensures.index ∙ c.unwrap-at.ensures) c.index-key.ensures awake in
@@ -31,7 +33,7 @@ invariant_of-self c =
     let after = c.move_index.new.self in
     let awake : is_dormant tx (waiting s.live s.order s.in_run) ≡ false =
     ap (λ n. is_dormant n (waiting s.live s.order s.in_run)) c.tx-tx.ensures
-    ∙ ap (λ (transaction_table : TransactionTable). is_dormant own.tx transaction_table.dormant) c.self.view_is ∙ c.requires.away.awake in
+    ∙ ap (λ (table : TransactionTable). is_dormant own.tx table.dormant) c.self.view_is ∙ c.requires.away.awake in
     let here : get nat_eq s.order tx ≡ Some key =
     key_here s.live s.order s.in_run tx c.unwrap-at.result key
     (sym c.get_index_of.ensures.index ∙ c.unwrap-at.ensures) c.index-key.ensures awake in
@@ -40,7 +42,7 @@ invariant_of-self c =
     let there = ap is_some c.index_mut.ensures.value in
     let update : Updates s.live new key (Some own) = Updates-with_value s.live key own there in
     let room : length (waiting s.live s.order s.in_run) + length s.fates.items < s.known =
-    subst (λ (transaction_table : TransactionTable). length transaction_table.dormant + length transaction_table.fates < transaction_table.known) (sym c.self.view_is)
+    subst (λ (table : TransactionTable). length table.dormant + length table.fates < table.known) (sym c.self.view_is)
     c.requires.room in
     let front =
     in_front s.live s.order s.in_run tx c.unwrap-at.result key (sym c.get_index_of.ensures.index ∙ c.unwrap-at.ensures)
@@ -70,7 +72,7 @@ returns c =
     let after = c.move_index.new.self in
     let awake : is_dormant tx (waiting s.live s.order s.in_run) ≡ false =
     ap (λ n. is_dormant n (waiting s.live s.order s.in_run)) c.tx-tx.ensures
-    ∙ ap (λ (transaction_table : TransactionTable). is_dormant own.tx transaction_table.dormant) c.self.view_is ∙ c.requires.away.awake in
+    ∙ ap (λ (table : TransactionTable). is_dormant own.tx table.dormant) c.self.view_is ∙ c.requires.away.awake in
     let told : Dormant = record { tx = tx; runs = own.runs } in
     let same : told ≡ own = λ i. record { tx = c.tx-tx.ensures i; runs = own.runs } in
     let update : Updates s.live new key (Some told) =
@@ -84,4 +86,4 @@ returns c =
     ∙ ap (λ (n : ℕ). move_index s.order.entries c.unwrap-at.result (n - 1)) c.len-last.ensures.len) in
     ap (λ (dormant : List Dormant). record { dormant = dormant; fates = s.fates.items; known = s.known })
     (back ∙ ap (λ (it : Dormant). waiting s.live s.order s.in_run ++ it ∷ []) same)
-    ∙ ap (λ (transaction_table : TransactionTable). record transaction_table { dormant = transaction_table.dormant ++ own ∷ [] }) c.self.view_is
+    ∙ ap (λ (table : TransactionTable). record table { dormant = table.dormant ++ own ∷ [] }) c.self.view_is

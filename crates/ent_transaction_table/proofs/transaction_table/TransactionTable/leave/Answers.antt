@@ -13,7 +13,7 @@ use Rattle.ent_transaction_table.proofs.transaction_table.TransactionTable.leave
 pub returns-clause-dormant : goal.returns-clause-dormant
 returns-clause-dormant c = λ gone is.
     let cause = cause_seen c.args.cause in
-    ap (λ (transaction_table : TransactionTable). transaction_table.dormant) c.let_go.ensures ∙ c.leave.ensures.dormant
+    ap (λ (table : TransactionTable). table.dormant) c.let_go.ensures ∙ c.leave.ensures.dormant
     ∙ ap (λ (run_attempts : List RunAttempt). c.args.self.now.dormant
     ++ filter_map (λ run_attempt. dormant_by c.args.submitted.now cause (as_member run_attempt)) run_attempts) is
     ∙ ap (λ (more : List Dormant). c.args.self.now.dormant ++ more) (dormant_of_gone c.args.submitted.now cause gone)
@@ -21,7 +21,7 @@ returns-clause-dormant c = λ gone is.
 pub returns-clause-fates : goal.returns-clause-fates
 returns-clause-fates c = λ gone is.
     let cause = cause_seen c.args.cause in
-    ap (λ (transaction_table : TransactionTable). transaction_table.fates) c.let_go.ensures ∙ c.leave.ensures.fates
+    ap (λ (table : TransactionTable). table.fates) c.let_go.ensures ∙ c.leave.ensures.fates
     ∙ ap (λ (run_attempts : List RunAttempt). c.args.self.now.fates
     ++ filter_map (λ run_attempt. fated_by c.args.submitted.now cause (as_member run_attempt)) run_attempts) is
     ∙ ap (λ (more : List Fated). c.args.self.now.fates ++ more) (fates_of_gone c.args.submitted.now cause gone)

@@ -1,4 +1,5 @@
-use Rattle.std.proofs.Common.{◌≡◌, ◌==◌, ◌-◌, ◌∙◌, ℕ, false, true, List, Option, IsSome, ap, arith, drop, is_some, length, length-take-le, nat_eq, subst, sym, take}
+use Rattle.std.proofs.Common.{◌≡◌, ◌==◌, ◌-◌, ◌∙◌, ℕ, false, true, List, Option, IsSome, ap, arith, drop, is_some}
+use Rattle.std.proofs.Common.{length, length-take-le, nat_eq, subst, sym, take}
 use Rattle.std.specs.List.{AllByRecursion, IsDistinct, list_all, list_any}
 use Rattle.std.specs.Map.{values_of}
 use Rattle.std.proofs.lemmas.List.{length-drop, length-map}
@@ -7,7 +8,8 @@ use Rattle.indexmap.specs.IndexMap.{keys}
 use Rattle.ent_semantics.specs.declared.book.Fated.{Fated}
 use Rattle.ent_protocol.specs.State.{Dormant}
 use Rattle.ent_transaction_table.specs.ByNumber.{under}
-use Rattle.ent_transaction_table.proofs.Ended.{front_keys_distinct, front_keys_there, stand_left, still_has, still_there, waiting_left}
+use Rattle.ent_transaction_table.proofs.Ended.{front_keys_distinct, front_keys_there, stand_left, still_has}
+use Rattle.ent_transaction_table.proofs.Ended.{still_there, waiting_left}
 use Rattle.ent_transaction_table.proofs.Shown.{none_fails, shown_there}
 use Rattle.ent_transaction_table.proofs.transaction_table.TransactionTable.let_go.Goals as goal
 

@@ -14,4 +14,4 @@ returns c =
     sym (drop-map f c.args.count (drop s.in_run (keys s.order))
     ∙ ap (map f) (drop-drop c.args.count s.in_run (keys s.order))) in
     ap (λ (dormant : List Dormant). record { dormant = dormant; fates = s.fates.items; known = s.known }) behind
-    ∙ ap (λ (transaction_table : TransactionTable). record transaction_table { dormant = drop c.args.count transaction_table.dormant }) c.self.view_is
+    ∙ ap (λ (table : TransactionTable). record table { dormant = drop c.args.count table.dormant }) c.self.view_is
