@@ -9,8 +9,8 @@ use crate::pool::pool_of;
 use ent_match::{PostFault, Posted, Unsafe, same_statements_are_alike};
 use std::alloc::{AllocError, Global};
 
-/// The unsafe post that is in conflict, where it isn't memory.
-fn unsafe_post(why: PostFault) -> Result<Unsafe, AllocError>
+/// Why a statement isn't posted, where it isn't for want of memory.
+pub fn unsafe_post(why: PostFault) -> Result<Unsafe, AllocError>
     ensures { IfOk result (λ fault. why ≡ faults.Unsafe fault) }
 {
     match why {
@@ -19,7 +19,7 @@ fn unsafe_post(why: PostFault) -> Result<Unsafe, AllocError>
     }
 }
 
-/// What is in conflict with one more statement: none where the pool with it is safe, else the first unsafe post of
+/// Why one more statement can't be posted: none where the pool with it is safe, else the first unsafe post of
 /// that pool.
 pub fn post_fault(
     alloc: Global,

@@ -14,7 +14,7 @@ mod pool;
 mod present;
 mod uses;
 
-pub use fault::post_fault;
+pub use fault::{post_fault, unsafe_post};
 pub use picking::{first_untried, pick};
 pub use present::is_present;
 pub use uses::joint_uses;

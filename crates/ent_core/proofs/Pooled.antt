@@ -58,10 +58,6 @@ withdrawn_one tx numbers posted =
     by true again others same = ap (λ b. not b && not others) same
     by false again others same = ap (λ b. not b && not others) same
 
-pub nothing_in : {X : Type 0} (xs : List X) → length xs ≡ 0 → xs ≡ []
-nothing_in [] none = refl
-nothing_in (x ∷ xs) none = absurd (omega (arith, none))
-
 pub withdrawn_none : (posted : List Posted) → posted ≡ filter (is_of_none []) posted
 withdrawn_none posted = sym (filter_whole (is_of_none []) posted (λ x at. refl))
 

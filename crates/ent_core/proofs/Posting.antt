@@ -27,15 +27,13 @@ use Rattle.ent_protocol.specs.Uses.{blocker, entangled_uses}
 use Rattle.ent_protocol.specs.Waits.{next_uses}
 use Rattle.ent_protocol_laws.specs.ByNumber.{StandByNumber}
 use Rattle.ent_protocol_laws.specs.Numbered.{same_lists}
+use Rattle.ent_protocol_laws.proofs.ByNumber.{posted_tx}
 use Rattle.ent_core.specs.Begin.{IsFree, IsIdle, IsToPost}
 use Rattle.ent_core.specs.Reply.{reply_seen}
 use Rattle.ent_core.specs.declared.reply.Reply.{Reply as Given}
 use Rattle.ent_core.proofs.Begun.{entangled_held, entangled_posted, idle_at_turn, member_found, number_found, or_first}
 use Rattle.ent_core.proofs.Begun.{some_found}
 use Rattle.ent_core.proofs.Pooled.{kept_posted}
-
-abbrev posted_tx : Posted → ℕ
-posted_tx query = query.tx
 
 -- what was posted just now is taken out again
 pub posted_withdrawn : (old new : List Posted) (query : Posted) (tx : ℕ) → query.tx ≡ tx → IsByNumber old

@@ -21,6 +21,7 @@ use crate::reply::Reply;
 use crate::store::Store;
 use crate::take_out::roll_back;
 use ent_closed::{Entangled, Statement};
+use ent_components::unsafe_post;
 use ent_form::FormFault;
 use ent_group::Tx;
 use ent_headline::{begun_statements_are_work, used_tables_are_declared};
@@ -226,10 +227,8 @@ fn held_back(why: PostFault) -> Result<Reply, AllocError>
         × (why ≡ post_faults.Unsafe fault)
         × (reply_seen reply ≡ replies.HeldBack fault)) }
 {
-    match why {
-        PostFault::Memory => Err(AllocError),
-        PostFault::Unsafe(fault) => Ok(Reply::HeldBack(fault)),
-    }
+    let fault = unsafe_post(why)?;
+    Ok(Reply::HeldBack(fault))
 }
 
 /// A statement is posted, and the member holds its uses; or it is held back. Where memory runs out nothing changes.

@@ -2,7 +2,8 @@ use Rattle.std.proofs.Common.{◌≡◌, ◌∙◌, ◌∷◌, [], List, ap, map
 use Rattle.std.specs.List.{filter}
 use Rattle.ent_coordination.specs.Pool.{Posted}
 use Rattle.ent_pool_laws.specs.Pooled.{is_of_none}
-use Rattle.ent_core.proofs.Pooled.{nothing_in, withdrawn_none, withdrawn_one}
+use Rattle.ent_rel.proofs.Keyed.{none_in}
+use Rattle.ent_core.proofs.Pooled.{withdrawn_none, withdrawn_one}
 use Rattle.ent_core.proofs.joining.+withdraw_answered.Goals as goal
 
 pub returns-in-Some : goal.returns-in-Some
@@ -18,6 +19,6 @@ returns-in-Some t c =
 pub returns-in_default : goal.returns-in_default
 returns-in_default t c =
     let pool = c.args.pool.now in
-    let none : c.args.asked.now ≡ [] = nothing_in c.args.asked.now c.in_default.ensures.cases in
+    let none : c.args.asked.now ≡ [] = none_in c.args.asked.now c.in_default.ensures.cases in
     withdrawn_none pool
     ∙ ap (λ (asked : List Posted). filter (is_of_none (map (λ (query : Posted). query.tx) asked)) pool) (sym none)
