@@ -3,7 +3,7 @@ use Rattle.std.proofs.Common.{◌≡◌, ◌≢◌, ℕ, zero, suc, ◌+◌, ◌
 use Rattle.std.specs.Prelude.{All, AllPairs, Contains, filter}
 use Rattle.std.specs.Result.{is_err}
 use Rattle.std.specs.List.{flat_map, list_any, insert}
-use Rattle.std.specs.Prelude.{Result, Ok, Err, IfOk, IfErr, OnErr}
+use Rattle.std.specs.Prelude.{Result, Ok, Err, IfOk, IfErr, OnOk, OnErr}
 use Rattle.std.specs.List.Sorted.{IsSearchInRange, IsBinarySearchResult, IsNonDecreasingBy}
 use Rattle.std.proofs.lemmas.List.Sorted.{searchable_from_sorted}
 use Rattle.std.specs.Ordering.{ordering_index, is_lt, nat_cmp, eq_by_cmp, ordering_then, ordering_reverse}
@@ -27,7 +27,7 @@ use Rattle.ent_lock.specs.declared.table_uses.TableUses.{TableUses}
 use Rattle.ent_lock.specs.Mode.{mode_rank}
 use Rattle.ent_lock.specs.Holders.{is_holder, is_not_of}
 use Rattle.ent_lock.specs.Use.{Use, Uses, use_cmp}
-use Rattle.ent_lock.specs.Layout.{uses_in, held_in, names_of, name_at, IsByName, IsAt, IsGapFor, is_use_of_none}
+use Rattle.ent_lock.specs.Layout.{uses_in, held_in, keys_of, key_at, IsByKey, IsAt, IsGapFor, is_use_of_none}
 
 -- ---- the order of uses
 
@@ -152,13 +152,13 @@ any-set_less p b (x ∷ xs) (suc i) y within e others =
 
 -- ---- the uses of one table
 
-abbrev pub has_in : Use → TableUses → Bool
-has_in q t = list_any (is_use q) (uses_in t.table t.holders.items)
+abbrev pub has_in : {T : Type 0} (key : T → List ℕ) → Use → (TableUses T) → Bool
+has_in key q t = list_any (is_use q) (uses_in (key t.table) t.holders.items)
 
-pub contains-held_in : (ts : List TableUses) (q : Use) → finite.contains (held_in ts) q ≡ list_any (has_in q) ts
-contains-held_in ts q =
-    finite.contains-from_list use_total (flat_map (λ (t : TableUses). uses_in t.table t.holders.items) ts) q
-    ∙ any-flat_map (is_use q) (λ (t : TableUses). uses_in t.table t.holders.items) ts
+pub contains-held_in : {T : Type 0} (key : T → List ℕ) (ts : List (TableUses T)) (q : Use) → finite.contains (held_in key ts) q ≡ list_any (has_in key q) ts
+contains-held_in key ts q =
+    finite.contains-from_list use_total (flat_map (λ (t : TableUses _). uses_in (key t.table) t.holders.items) ts) q
+    ∙ any-flat_map (is_use q) (λ (t : TableUses _). uses_in (key t.table) t.holders.items) ts
 
 pub not_true : (b : Bool) → (b ≡ true → ⊥) → b ≡ false
 not_true true h = absurd (h refl)
@@ -171,46 +171,46 @@ other_table q table (h ∷ hs) apart =
     let first : is_use q u ≡ false = not_true (is_use q u) (λ same. apart (ap (λ (v : Use). v.table) (is_use-true q u same))) in
     (λ i. first i || list_any (is_use q) (uses_in table hs)) ∙ other_table q table hs apart
 
-has_in_other : (q : Use) (t : TableUses) → (q.table ≢ t.table) → has_in q t ≡ false
-has_in_other q t apart = other_table q t.table t.holders.items apart
+has_in_other : {T : Type 0} (key : T → List ℕ) (q : Use) (t : TableUses T) → (q.table ≢ (key t.table)) → has_in key q t ≡ false
+has_in_other key q t apart = other_table q (key t.table) t.holders.items apart
 
 -- ---- names
 
 below_or : (i j : ℕ) → (i < j) ⊎ (j ≤ i)
 below_or i j = elim (nat_lt i j) as (λ b. nat_lt i j ≡ b → (i < j) ⊎ (j ≤ i)) [ true ↦ λ e. inl (ltb-true i j e) | false ↦ λ e. inr (ltb-false i j e) ] refl
 
-name_at-get_or : (ts : List TableUses) (i : ℕ) (d : TableUses) → i < length ts → name_at ts i ≡ (get_or ts i d).table
-name_at-get_or ts i d within = get_or-map (λ (t : TableUses). t.table) ts i d [] within
+key_at-get_or : {T : Type 0} (key : T → List ℕ) (ts : List (TableUses T)) (i : ℕ) (d : TableUses T) → i < length ts → key_at key ts i ≡ (key (get_or ts i d).table)
+key_at-get_or key ts i d within = get_or-map (λ (t : TableUses _). (key t.table)) ts i d [] within
 
 less_apart : (a b : List ℕ) → slice_cmp nat_cmp a b ≡ Less → a ≢ b
 less_apart a b less same =
     let tie : slice_cmp nat_cmp a b ≡ Equal = subst (λ (x : List ℕ). slice_cmp nat_cmp a x ≡ Equal) same (tied_itself nat_list_cmp_total a) in
     cc
 
-length-names_of : (ts : List TableUses) → length (names_of ts) ≡ length ts
-length-names_of ts = length-map ts (λ t. t.table)
+length-keys_of : {T : Type 0} (key : T → List ℕ) (ts : List (TableUses T)) → length (keys_of key ts) ≡ length ts
+length-keys_of key ts = length-map ts (λ t. (key t.table))
 
-names_apart : (ts : List TableUses) → IsByName ts → (i j : ℕ) → i < length ts → j < length ts → j ≢ i → name_at ts i ≢ name_at ts j
-names_apart ts h i j in_i in_j apart same =
+keys_apart : {T : Type 0} (key : T → List ℕ) (ts : List (TableUses T)) → IsByKey key ts → (i j : ℕ) → i < length ts → j < length ts → j ≢ i → key_at key ts i ≢ key_at key ts j
+keys_apart key ts h i j in_i in_j apart same =
     elim (below_or i j) [
-      | inl below ↦ less_apart (name_at ts i) (name_at ts j) (h i j [] (omega arith) (omega (arith, length-names_of ts))) same
-      | inr above ↦ less_apart (name_at ts j) (name_at ts i) (h j i [] (omega arith) (omega (arith, length-names_of ts))) (sym same)
+      | inl below ↦ less_apart (key_at key ts i) (key_at key ts j) (h i j [] (omega arith) (omega (arith, length-keys_of key ts))) same
+      | inr above ↦ less_apart (key_at key ts j) (key_at key ts i) (h j i [] (omega arith) (omega (arith, length-keys_of key ts))) (sym same)
     ]
 
 -- the holders of the table at its place are all that hold it
-pub held_at : (ts : List TableUses) (q : Use) (i : ℕ) → IsByName ts → IsAt ts q.table i → (d : TableUses) → list_any (has_in q) ts ≡ has_in q (get_or ts i d)
-held_at ts q i h at d =
-    any-alone (has_in q) ts i at.in_range
-    (λ j d' within other. has_in_other q (get_or ts j d') (λ same. names_apart ts h i j at.in_range within other (at.has_name ∙ same ∙ sym (name_at-get_or ts j d' within))))
+pub held_at : {T : Type 0} (key : T → List ℕ) (ts : List (TableUses T)) (q : Use) (i : ℕ) → IsByKey key ts → IsAt key ts q.table i → (d : TableUses T) → list_any (has_in key q) ts ≡ has_in key q (get_or ts i d)
+held_at key ts q i h at d =
+    any-alone (has_in key q) ts i at.in_range
+    (λ j d' within other. has_in_other key q (get_or ts j d') (λ same. keys_apart key ts h i j at.in_range within other (at.has_key ∙ same ∙ sym (key_at-get_or key ts j d' within))))
     d
 
 -- a table without a place is held by nobody
-pub held_nowhere : (ts : List TableUses) (q : Use) (i : ℕ) → IsGapFor ts q.table i → list_any (has_in q) ts ≡ false
-held_nowhere ts q i gap =
-    list_any_none (has_in q) ts (λ k d within. has_in_other q (get_or ts k d) (λ same.
+pub held_nowhere : {T : Type 0} (key : T → List ℕ) (ts : List (TableUses T)) (q : Use) (i : ℕ) → IsGapFor key ts q.table i → list_any (has_in key q) ts ≡ false
+held_nowhere key ts q i gap =
+    list_any_none (has_in key q) ts (λ k d within. has_in_other key q (get_or ts k d) (λ same.
     elim (below_or k i) [
-      | inl below ↦ less_apart (name_at ts k) q.table (gap.lower_before k below) (sym (same ∙ sym (name_at-get_or ts k d within)))
-      | inr above ↦ less_apart q.table (name_at ts k) (gap.higher_after k above within) (same ∙ sym (name_at-get_or ts k d within))
+      | inl below ↦ less_apart (key_at key ts k) q.table (gap.lower_before k below) (sym (same ∙ sym (key_at-get_or key ts k d within)))
+      | inr above ↦ less_apart q.table (key_at key ts k) (gap.higher_after k above within) (same ∙ sym (key_at-get_or key ts k d within))
     ]))
 
 -- ---- changes of one table
@@ -228,18 +228,18 @@ or_comm true false = refl
 or_comm false true = refl
 or_comm false false = refl
 
-read_here : (ts : List TableUses) (i : ℕ) (t : TableUses) → i < length ts → t ≡ get_or ts i t → (d : TableUses) → get_or ts i d ≡ t
+read_here : {T : Type 0} (ts : List (TableUses T)) (i : ℕ) (t : TableUses T) → i < length ts → t ≡ get_or ts i t → (d : TableUses T) → get_or ts i d ≡ t
 read_here ts i t within here d = get_or_default ts i d t within ∙ sym here
 
-pub names-set : (ts : List TableUses) (i : ℕ) (t t' : TableUses) → i < length ts → t ≡ get_or ts i t → t'.table ≡ t.table → names_of (set ts i t') ≡ names_of ts
-names-set ts i t t' within here same =
-    map-set (λ (u : TableUses). u.table) ts i t'
-    ∙ ap (set (names_of ts) i) (same ∙ ap (λ (u : TableUses). u.table) here ∙ sym (name_at-get_or ts i t within))
-    ∙ set-get_or (names_of ts) i []
+pub keys-set : {T : Type 0} (key : T → List ℕ) (ts : List (TableUses T)) (i : ℕ) (t t' : TableUses T) → i < length ts → t ≡ get_or ts i t → (key t'.table) ≡ (key t.table) → keys_of key (set ts i t') ≡ keys_of key ts
+keys-set key ts i t t' within here same =
+    map-set (λ (u : TableUses _). (key u.table)) ts i t'
+    ∙ ap (set (keys_of key ts) i) (same ∙ ap (λ (u : TableUses _). (key u.table)) here ∙ sym (key_at-get_or key ts i t within))
+    ∙ set-get_or (keys_of key ts) i []
 
-pub by_name-set : (ts : List TableUses) (i : ℕ) (t t' : TableUses) → IsByName ts → i < length ts → t ≡ get_or ts i t → t'.table ≡ t.table → IsByName (set ts i t')
-by_name-set ts i t t' h within here same =
-    subst (λ (ns : List (List ℕ)). AllPairs (λ a b. slice_cmp nat_cmp a b ≡ Less) ns) (sym (names-set ts i t t' within here same)) h
+pub by_key-set : {T : Type 0} (key : T → List ℕ) (ts : List (TableUses T)) (i : ℕ) (t t' : TableUses T) → IsByKey key ts → i < length ts → t ≡ get_or ts i t → (key t'.table) ≡ (key t.table) → IsByKey key (set ts i t')
+by_key-set key ts i t t' h within here same =
+    subst (λ (ns : List (List ℕ)). AllPairs (λ a b. slice_cmp nat_cmp a b ≡ Less) ns) (sym (keys-set key ts i t t' within here same)) h
 
 any_uses : (q : Use) (table table' : List ℕ) (hs hs' : List Holder) → table' ≡ table → hs' ≡ hs → list_any (is_use q) (uses_in table' hs') ≡ list_any (is_use q) (uses_in table hs)
 any_uses q table table' hs hs' e f = λ i. list_any (is_use q) (uses_in (e i) (f i))
@@ -254,27 +254,27 @@ any_uses-push q table hs h =
     ∙ or_comm (list_any (is_use q) (uses_in table hs)) (is_use q (the_use h.holder table h.mode))
 
 -- a table with the same holders
-pub kept_table : (ts : List TableUses) (i : ℕ) (t t' : TableUses) → i < length ts → t ≡ get_or ts i t → t'.table ≡ t.table → t'.holders.items ≡ t.holders.items → held_in (set ts i t') ≡ held_in ts
-kept_table ts i t t' within here same_name same =
-    same_uses (held_in (set ts i t')) (held_in ts) (λ q.
-    contains-held_in (set ts i t') q
-    ∙ any-set_more (has_in q) false ts i t' within (λ d. any_uses q t.table t'.table t.holders.items t'.holders.items same_name same ∙ ap (has_in q) (sym (read_here ts i t within here d)))
-    ∙ sym (contains-held_in ts q))
+pub kept_table : {T : Type 0} (key : T → List ℕ) (ts : List (TableUses T)) (i : ℕ) (t t' : TableUses T) → i < length ts → t ≡ get_or ts i t → (key t'.table) ≡ (key t.table) → t'.holders.items ≡ t.holders.items → held_in key (set ts i t') ≡ held_in key ts
+kept_table key ts i t t' within here same_name same =
+    same_uses (held_in key (set ts i t')) (held_in key ts) (λ q.
+    contains-held_in key (set ts i t') q
+    ∙ any-set_more (has_in key q) false ts i t' within (λ d. any_uses q (key t.table) (key t'.table) t.holders.items t'.holders.items same_name same ∙ ap (has_in key q) (sym (read_here ts i t within here d)))
+    ∙ sym (contains-held_in key ts q))
 
 -- a table with one holder more
-pub pushed_use : (ts : List TableUses) (i : ℕ) (t t' : TableUses) (table : List ℕ) (h : Holder) → IsAt ts table i → t ≡ get_or ts i t → t'.table ≡ t.table → t'.holders.items ≡ t.holders.items ++ h ∷ [] →
-    held_in (set ts i t') ≡ finite.insert (held_in ts) (the_use h.holder table h.mode)
-pushed_use ts i t t' table h at here same_name more =
+pub pushed_use : {T : Type 0} (key : T → List ℕ) (ts : List (TableUses T)) (i : ℕ) (t t' : TableUses T) (table : List ℕ) (h : Holder) → IsAt key ts table i → t ≡ get_or ts i t → (key t'.table) ≡ (key t.table) → t'.holders.items ≡ t.holders.items ++ h ∷ [] →
+    held_in key (set ts i t') ≡ finite.insert (held_in key ts) (the_use h.holder table h.mode)
+pushed_use key ts i t t' table h at here same_name more =
     let u = the_use h.holder table h.mode in
-    let name : t.table ≡ table = ap (λ (v : TableUses). v.table) here ∙ sym (name_at-get_or ts i t at.in_range) ∙ at.has_name in
-    same_uses (held_in (set ts i t')) (finite.insert (held_in ts) u) (λ q.
-    contains-held_in (set ts i t') q
-    ∙ any-set_more (has_in q) (is_use q u) ts i t' at.in_range (λ d.
-    any_uses q table t'.table (t.holders.items ++ h ∷ []) t'.holders.items (same_name ∙ name) more
+    let name : (key t.table) ≡ table = ap (λ (v : TableUses _). (key v.table)) here ∙ sym (key_at-get_or key ts i t at.in_range) ∙ at.has_key in
+    same_uses (held_in key (set ts i t')) (finite.insert (held_in key ts) u) (λ q.
+    contains-held_in key (set ts i t') q
+    ∙ any-set_more (has_in key q) (is_use q u) ts i t' at.in_range (λ d.
+    any_uses q table (key t'.table) (t.holders.items ++ h ∷ []) t'.holders.items (same_name ∙ name) more
     ∙ any_uses-push q table t.holders.items h
-    ∙ ap (λ b. is_use q u || b) (any_uses q t.table table t.holders.items t.holders.items (sym name) refl ∙ ap (has_in q) (sym (read_here ts i t at.in_range here d))))
-    ∙ ap (λ b. is_use q u || b) (sym (contains-held_in ts q))
-    ∙ sym (finite.contains-insert use_total (held_in ts) u q))
+    ∙ ap (λ b. is_use q u || b) (any_uses q (key t.table) table t.holders.items t.holders.items (sym name) refl ∙ ap (has_in key q) (sym (read_here ts i t at.in_range here d))))
+    ∙ ap (λ b. is_use q u || b) (sym (contains-held_in key ts q))
+    ∙ sym (finite.contains-insert use_total (held_in key ts) u q))
 
 -- ---- a table more
 
@@ -292,71 +292,71 @@ AllPairs-insert R (x ∷ xs) (suc i) y h before after =
     head_of : AllPairs R (x ∷ xs) → All (R x) xs
     head_of h k d within = h 0 (suc k) d (omega arith) (omega arith)
 
-names-insert : (ts : List TableUses) (i : ℕ) (t : TableUses) → names_of (insert ts i t) ≡ insert (names_of ts) i t.table
-names-insert ts i t =
-    map-append (λ (u : TableUses). u.table) (take i ts) (t ∷ drop i ts)
-    ∙ (λ k. sym (take-map (λ (u : TableUses). u.table) i ts) k ++ t.table ∷ sym (drop-map (λ (u : TableUses). u.table) i ts) k)
+keys-insert : {T : Type 0} (key : T → List ℕ) (ts : List (TableUses T)) (i : ℕ) (t : TableUses T) → keys_of key (insert ts i t) ≡ insert (keys_of key ts) i (key t.table)
+keys-insert key ts i t =
+    map-append (λ (u : TableUses _). (key u.table)) (take i ts) (t ∷ drop i ts)
+    ∙ (λ k. sym (take-map (λ (u : TableUses _). (key u.table)) i ts) k ++ (key t.table) ∷ sym (drop-map (λ (u : TableUses _). (key u.table)) i ts) k)
 
-pub by_name-insert : (ts : List TableUses) (i : ℕ) (t : TableUses) (table : List ℕ) → IsByName ts → IsGapFor ts table i → t.table ≡ table → IsByName (insert ts i t)
-by_name-insert ts i t table h gap same =
-    subst (λ (ns : List (List ℕ)). AllPairs (λ a b. slice_cmp nat_cmp a b ≡ Less) ns) (sym (names-insert ts i t))
-    (AllPairs-insert (λ a b. slice_cmp nat_cmp a b ≡ Less) (names_of ts) i t.table h
-    (λ j d below within. (λ k. slice_cmp nat_cmp (get_or_default (names_of ts) j d [] within k) (same k)) ∙ gap.lower_before j below)
-    (λ j d above within. (λ k. slice_cmp nat_cmp (same k) (get_or_default (names_of ts) j d [] within k)) ∙ gap.higher_after j above (omega (arith, length-names_of ts))))
+pub by_key-insert : {T : Type 0} (key : T → List ℕ) (ts : List (TableUses T)) (i : ℕ) (t : TableUses T) (table : List ℕ) → IsByKey key ts → IsGapFor key ts table i → (key t.table) ≡ table → IsByKey key (insert ts i t)
+by_key-insert key ts i t table h gap same =
+    subst (λ (ns : List (List ℕ)). AllPairs (λ a b. slice_cmp nat_cmp a b ≡ Less) ns) (sym (keys-insert key ts i t))
+    (AllPairs-insert (λ a b. slice_cmp nat_cmp a b ≡ Less) (keys_of key ts) i (key t.table) h
+    (λ j d below within. (λ k. slice_cmp nat_cmp (get_or_default (keys_of key ts) j d [] within k) (same k)) ∙ gap.lower_before j below)
+    (λ j d above within. (λ k. slice_cmp nat_cmp (same k) (get_or_default (keys_of key ts) j d [] within k)) ∙ gap.higher_after j above (omega (arith, length-keys_of key ts))))
 
-pub inserted_use : (ts : List TableUses) (i : ℕ) (t : TableUses) (table : List ℕ) (h : Holder) → t.table ≡ table → t.holders.items ≡ h ∷ [] →
-    held_in (insert ts i t) ≡ finite.insert (held_in ts) (the_use h.holder table h.mode)
-inserted_use ts i t table h name one =
+pub inserted_use : {T : Type 0} (key : T → List ℕ) (ts : List (TableUses T)) (i : ℕ) (t : TableUses T) (table : List ℕ) (h : Holder) → (key t.table) ≡ table → t.holders.items ≡ h ∷ [] →
+    held_in key (insert ts i t) ≡ finite.insert (held_in key ts) (the_use h.holder table h.mode)
+inserted_use key ts i t table h name one =
     let u = the_use h.holder table h.mode in
-    same_uses (held_in (insert ts i t)) (finite.insert (held_in ts) u) (λ q.
-    contains-held_in (insert ts i t) q
-    ∙ any-insert (has_in q) ts i t
-    ∙ ap (λ b. b || list_any (has_in q) ts) (any_uses q table t.table (h ∷ []) t.holders.items name one ∙ or_nothing (is_use q u))
-    ∙ ap (λ b. is_use q u || b) (sym (contains-held_in ts q))
-    ∙ sym (finite.contains-insert use_total (held_in ts) u q))
+    same_uses (held_in key (insert ts i t)) (finite.insert (held_in key ts) u) (λ q.
+    contains-held_in key (insert ts i t) q
+    ∙ any-insert (has_in key q) ts i t
+    ∙ ap (λ b. b || list_any (has_in key q) ts) (any_uses q table (key t.table) (h ∷ []) t.holders.items name one ∙ or_nothing (is_use q u))
+    ∙ ap (λ b. is_use q u || b) (sym (contains-held_in key ts q))
+    ∙ sym (finite.contains-insert use_total (held_in key ts) u q))
 
 -- ---- a use less
 
-is_use_of_other : (q u : Use) (t : TableUses) → (t.table ≢ u.table) → has_in q t ≡ (not (is_use q u) && has_in q t)
-is_use_of_other q u t apart =
-    elim (is_use q u) as (λ b. is_use q u ≡ b → has_in q t ≡ (not b && has_in q t)) [
-      | true ↦ λ e. has_in_other q t (λ same. apart (sym same ∙ ap (λ (v : Use). v.table) (is_use-true q u e)))
+is_use_of_other : {T : Type 0} (key : T → List ℕ) (q u : Use) (t : TableUses T) → ((key t.table) ≢ u.table) → has_in key q t ≡ (not (is_use q u) && has_in key q t)
+is_use_of_other key q u t apart =
+    elim (is_use q u) as (λ b. is_use q u ≡ b → has_in key q t ≡ (not b && has_in key q t)) [
+      | true ↦ λ e. has_in_other key q t (λ same. apart (sym same ∙ ap (λ (v : Use). v.table) (is_use-true q u e)))
       | false ↦ λ _. refl
     ] refl
 
 -- a table without one use
-pub removed_use : (ts : List TableUses) (i : ℕ) (t t' : TableUses) (table : List ℕ) (tx : ℕ) (mode : Mode) (keep : Holder → Bool) → IsByName ts → IsAt ts table i → t ≡ get_or ts i t → t'.table ≡ t.table →
+pub removed_use : {T : Type 0} (key : T → List ℕ) (ts : List (TableUses T)) (i : ℕ) (t t' : TableUses T) (table : List ℕ) (tx : ℕ) (mode : Mode) (keep : Holder → Bool) → IsByKey key ts → IsAt key ts table i → t ≡ get_or ts i t → (key t'.table) ≡ (key t.table) →
     ((h : Holder) → keep h ≡ not (is_use (the_use h.holder table h.mode) (the_use tx table mode))) → t'.holders.items ≡ filter keep t.holders.items →
-    held_in (set ts i t') ≡ finite.remove (held_in ts) (the_use tx table mode)
-removed_use ts i t t' table tx mode keep by_name at here same_name keeps less =
+    held_in key (set ts i t') ≡ finite.remove (held_in key ts) (the_use tx table mode)
+removed_use key ts i t t' table tx mode keep by_name at here same_name keeps less =
     let u = the_use tx table mode in
-    let name : t.table ≡ table = ap (λ (v : TableUses). v.table) here ∙ sym (name_at-get_or ts i t at.in_range) ∙ at.has_name in
-    same_uses (held_in (set ts i t')) (finite.remove (held_in ts) u) (λ q.
-    contains-held_in (set ts i t') q
-    ∙ any-set_less (has_in q) (not (is_use q u)) ts i t' at.in_range
+    let name : (key t.table) ≡ table = ap (λ (v : TableUses _). (key v.table)) here ∙ sym (key_at-get_or key ts i t at.in_range) ∙ at.has_key in
+    same_uses (held_in key (set ts i t')) (finite.remove (held_in key ts) u) (λ q.
+    contains-held_in key (set ts i t') q
+    ∙ any-set_less (has_in key q) (not (is_use q u)) ts i t' at.in_range
     (λ d.
-    any_uses q table t'.table (filter keep t.holders.items) t'.holders.items (same_name ∙ name) less
+    any_uses q table (key t'.table) (filter keep t.holders.items) t'.holders.items (same_name ∙ name) less
     ∙ any-map (is_use q) (λ (h : Holder). the_use h.holder table h.mode) (filter keep t.holders.items)
     ∙ any-filter (λ (h : Holder). is_use q (the_use h.holder table h.mode)) keep (not (is_use q u))
     (λ h same. ap (λ (v : Use). not (is_use v u)) (is_use-true q (the_use h.holder table h.mode) same) ∙ sym (keeps h)) t.holders.items
     ∙ ap (λ b. not (is_use q u) && b)
     (sym (any-map (is_use q) (λ (h : Holder). the_use h.holder table h.mode) t.holders.items)
-    ∙ any_uses q t.table table t.holders.items t.holders.items (sym name) refl
-    ∙ ap (has_in q) (sym (read_here ts i t at.in_range here d))))
-    (λ j d within other. is_use_of_other q u (get_or ts j d) (λ same. names_apart ts by_name i j at.in_range within other (at.has_name ∙ sym same ∙ sym (name_at-get_or ts j d within))))
-    ∙ ap (λ b. not (is_use q u) && b) (sym (contains-held_in ts q))
-    ∙ sym (finite.contains-remove use_total (held_in ts) u q))
+    ∙ any_uses q (key t.table) table t.holders.items t.holders.items (sym name) refl
+    ∙ ap (has_in key q) (sym (read_here ts i t at.in_range here d))))
+    (λ j d within other. is_use_of_other key q u (get_or ts j d) (λ same. keys_apart key ts by_name i j at.in_range within other (at.has_key ∙ sym same ∙ sym (key_at-get_or key ts j d within))))
+    ∙ ap (λ b. not (is_use q u) && b) (sym (contains-held_in key ts q))
+    ∙ sym (finite.contains-remove use_total (held_in key ts) u q))
 
 -- a use that nobody holds
-pub removed_nowhere : (ts : List TableUses) (i : ℕ) (table : List ℕ) (tx : ℕ) (mode : Mode) → IsGapFor ts table i → held_in ts ≡ finite.remove (held_in ts) (the_use tx table mode)
-removed_nowhere ts i table tx mode gap =
+pub removed_nowhere : {T : Type 0} (key : T → List ℕ) (ts : List (TableUses T)) (i : ℕ) (table : List ℕ) (tx : ℕ) (mode : Mode) → IsGapFor key ts table i → held_in key ts ≡ finite.remove (held_in key ts) (the_use tx table mode)
+removed_nowhere key ts i table tx mode gap =
     let u = the_use tx table mode in
-    same_uses (held_in ts) (finite.remove (held_in ts) u) (λ q.
-    elim (is_use q u) as (λ b. is_use q u ≡ b → finite.contains (held_in ts) q ≡ (not b && finite.contains (held_in ts) q)) [
-      | true ↦ λ e. contains-held_in ts q ∙ ap (λ (v : Use). list_any (has_in v) ts) (is_use-true q u e) ∙ held_nowhere ts u i gap
+    same_uses (held_in key ts) (finite.remove (held_in key ts) u) (λ q.
+    elim (is_use q u) as (λ b. is_use q u ≡ b → finite.contains (held_in key ts) q ≡ (not b && finite.contains (held_in key ts) q)) [
+      | true ↦ λ e. contains-held_in key ts q ∙ ap (λ (v : Use). list_any (has_in key v) ts) (is_use-true q u e) ∙ held_nowhere key ts u i gap
       | false ↦ λ _. refl
     ] refl
-    ∙ sym (finite.contains-remove use_total (held_in ts) u q))
+    ∙ sym (finite.contains-remove use_total (held_in key ts) u q))
 
 -- ---- the holders of a table
 
@@ -388,59 +388,59 @@ Contains_from_any tx table mode (h ∷ hs) =
     holder_of : Use → Holder
     holder_of w = record { holder = w.holder; mode = w.mode }
 
-pub holders_here : (ts : List TableUses) (i : ℕ) (t : TableUses) (table : List ℕ) (tx : ℕ) (mode : Mode) → IsByName ts → IsAt ts table i → t ≡ get_or ts i t →
-    finite.contains (held_in ts) (the_use tx table mode) ≡ list_any (is_use (the_use tx table mode)) (uses_in table t.holders.items)
-holders_here ts i t table tx mode by_name at here =
+pub holders_here : {T : Type 0} (key : T → List ℕ) (ts : List (TableUses T)) (i : ℕ) (t : TableUses T) (table : List ℕ) (tx : ℕ) (mode : Mode) → IsByKey key ts → IsAt key ts table i → t ≡ get_or ts i t →
+    finite.contains (held_in key ts) (the_use tx table mode) ≡ list_any (is_use (the_use tx table mode)) (uses_in table t.holders.items)
+holders_here key ts i t table tx mode by_name at here =
     let u = the_use tx table mode in
-    let name : t.table ≡ table = ap (λ (v : TableUses). v.table) here ∙ sym (name_at-get_or ts i t at.in_range) ∙ at.has_name in
-    contains-held_in ts u ∙ held_at ts u i by_name at t ∙ ap (has_in u) (sym here) ∙ any_uses u table t.table t.holders.items t.holders.items name refl
+    let name : (key t.table) ≡ table = ap (λ (v : TableUses _). (key v.table)) here ∙ sym (key_at-get_or key ts i t at.in_range) ∙ at.has_key in
+    contains-held_in key ts u ∙ held_at key ts u i by_name at t ∙ ap (has_in key u) (sym here) ∙ any_uses u table (key t.table) t.holders.items t.holders.items name refl
 
-pub Holds_here : (ts : List TableUses) (i : ℕ) (t : TableUses) (table : List ℕ) (tx : ℕ) (mode : Mode) → IsByName ts → IsAt ts table i → t ≡ get_or ts i t →
-    (Contains t.holders.items (record { holder = tx; mode = mode }) → finite.contains (held_in ts) (the_use tx table mode) ≡ true) × (finite.contains (held_in ts) (the_use tx table mode) ≡ true → Contains t.holders.items (record { holder = tx; mode = mode }))
-Holds_here ts i t table tx mode by_name at here = (
-  λ inside. holders_here ts i t table tx mode by_name at here ∙ any_from_Contains tx table mode t.holders.items inside,
-  λ held. Contains_from_any tx table mode t.holders.items (sym (holders_here ts i t table tx mode by_name at here) ∙ held),
+pub Holds_here : {T : Type 0} (key : T → List ℕ) (ts : List (TableUses T)) (i : ℕ) (t : TableUses T) (table : List ℕ) (tx : ℕ) (mode : Mode) → IsByKey key ts → IsAt key ts table i → t ≡ get_or ts i t →
+    (Contains t.holders.items (record { holder = tx; mode = mode }) → finite.contains (held_in key ts) (the_use tx table mode) ≡ true) × (finite.contains (held_in key ts) (the_use tx table mode) ≡ true → Contains t.holders.items (record { holder = tx; mode = mode }))
+Holds_here key ts i t table tx mode by_name at here = (
+  λ inside. holders_here key ts i t table tx mode by_name at here ∙ any_from_Contains tx table mode t.holders.items inside,
+  λ held. Contains_from_any tx table mode t.holders.items (sym (holders_here key ts i t table tx mode by_name at here) ∙ held),
 )
 
-pub Holds_nowhere : (ts : List TableUses) (i : ℕ) (table : List ℕ) (tx : ℕ) (mode : Mode) → IsGapFor ts table i → finite.contains (held_in ts) (the_use tx table mode) ≡ false
-Holds_nowhere ts i table tx mode gap = contains-held_in ts (the_use tx table mode) ∙ held_nowhere ts (the_use tx table mode) i gap
+pub Holds_nowhere : {T : Type 0} (key : T → List ℕ) (ts : List (TableUses T)) (i : ℕ) (table : List ℕ) (tx : ℕ) (mode : Mode) → IsGapFor key ts table i → finite.contains (held_in key ts) (the_use tx table mode) ≡ false
+Holds_nowhere key ts i table tx mode gap = contains-held_in key ts (the_use tx table mode) ∙ held_nowhere key ts (the_use tx table mode) i gap
 
 -- ---- where a search ends
 
-named_by : (P : List ℕ → Type 0) (ts : List TableUses) (i : ℕ) → i < length ts → ((d : TableUses) → P (get_or ts i d).table) → P (name_at ts i)
-named_by P [] i within h = absurd (omega arith)
-named_by P (t ∷ ts) zero within h = h t
-named_by P (t ∷ ts) (suc i) within h = named_by P ts i (omega arith) h
+keyed_by : {T : Type 0} (key : T → List ℕ) (P : List ℕ → Type 0) (ts : List (TableUses T)) (i : ℕ) → i < length ts → ((d : TableUses T) → P (key (get_or ts i d).table)) → P (key_at key ts i)
+keyed_by key P [] i within h = absurd (omega arith)
+keyed_by key P (t ∷ ts) zero within h = h t
+keyed_by key P (t ∷ ts) (suc i) within h = keyed_by key P ts i (omega arith) h
 
 reversed : (a b : List ℕ) (o : Ordering) → slice_cmp nat_cmp a b ≡ o → slice_cmp nat_cmp b a ≡ ordering_reverse o
 reversed a b o e = nat_list_cmp_total.antisymm b a ∙ ap ordering_reverse e
 
-rises : (ts : List TableUses) (table : List ℕ) → IsByName ts → IsNonDecreasingBy (λ (t : TableUses). ordering_index (slice_cmp nat_cmp t.table table)) ts
-rises ts table h =
-    searchable_from_sorted nat_list_cmp_total (λ (t : TableUses). t.table) ts table (λ k d low next.
-    let less : slice_cmp nat_cmp (get_or ts k d).table (get_or ts (k + 1) d).table ≡ Less =
-    (λ i. slice_cmp nat_cmp (sym (name_at-get_or ts k d (omega arith)) i) (sym (name_at-get_or ts (k + 1) d next) i))
-    ∙ h k (k + 1) [] (omega arith) (omega (arith, length-names_of ts)) in
-    ap is_lt (reversed (get_or ts k d).table (get_or ts (k + 1) d).table Less less))
+rises : {T : Type 0} (key : T → List ℕ) (ts : List (TableUses T)) (table : List ℕ) → IsByKey key ts → IsNonDecreasingBy (λ (t : TableUses _). ordering_index (slice_cmp nat_cmp (key t.table) table)) ts
+rises key ts table h =
+    searchable_from_sorted nat_list_cmp_total (λ (t : TableUses _). (key t.table)) ts table (λ k d low next.
+    let less : slice_cmp nat_cmp (key (get_or ts k d).table) (key (get_or ts (k + 1) d).table) ≡ Less =
+    (λ i. slice_cmp nat_cmp (sym (key_at-get_or key ts k d (omega arith)) i) (sym (key_at-get_or key ts (k + 1) d next) i))
+    ∙ h k (k + 1) [] (omega arith) (omega (arith, length-keys_of key ts)) in
+    ap is_lt (reversed (key (get_or ts k d).table) (key (get_or ts (k + 1) d).table) Less less))
 
-pub record Placed (ts : List TableUses) (table : List ℕ) (r : Result ℕ ℕ) : Type 0 where
-  pub found : IfOk r (IsAt ts table)
-  pub missing : IfErr r (IsGapFor ts table)
+pub record Placed {T : Type 0} (key : T → List ℕ) (ts : List (TableUses T)) (table : List ℕ) (r : Result ℕ ℕ) : Type 0 where
+  pub found : IfOk r (IsAt key ts table)
+  pub missing : IfErr r (IsGapFor key ts table)
 
-pub placed : (ts : List TableUses) (table : List ℕ) → IsByName ts → (r : Result ℕ ℕ) → IsSearchInRange r (length ts) → IsBinarySearchResult (λ (t : TableUses). slice_cmp nat_cmp t.table table) ts r → Placed ts table r
-placed ts table h (Ok at) in_range equal = record {
+pub placed : {T : Type 0} (key : T → List ℕ) (ts : List (TableUses T)) (table : List ℕ) → IsByKey key ts → (r : Result ℕ ℕ) → IsSearchInRange r (length ts) → IsBinarySearchResult (λ (t : TableUses _). slice_cmp nat_cmp (key t.table) table) ts r → Placed key ts table r
+placed key ts table h (Ok at) in_range equal = record {
   found = record {
     in_range = in_range;
-    has_name = named_by (λ n. n ≡ table) ts at in_range (λ d. exact_bytes (get_or ts at d).table table (equal d));
+    has_key = keyed_by key (λ n. n ≡ table) ts at in_range (λ d. exact_bytes (key (get_or ts at d).table) table (equal d));
   };
   missing = tt;
 }
-placed ts table h (Err at) in_range parted = record {
+placed key ts table h (Err at) in_range parted = record {
   found = tt;
   missing = record {
     in_range = in_range;
-    lower_before = λ j below. named_by (λ n. slice_cmp nat_cmp n table ≡ Less) ts j (omega arith) (λ d. (parted (rises ts table h)).0 j d (omega arith) below);
-    higher_after = λ j above within. named_by (λ n. slice_cmp nat_cmp table n ≡ Less) ts j within (λ d. reversed (get_or ts j d).table table Greater ((parted (rises ts table h)).1 j d above within));
+    lower_before = λ j below. keyed_by key (λ n. slice_cmp nat_cmp n table ≡ Less) ts j (omega arith) (λ d. (parted (rises key ts table h)).0 j d (omega arith) below);
+    higher_after = λ j above within. keyed_by key (λ n. slice_cmp nat_cmp table n ≡ Less) ts j within (λ d. reversed (key (get_or ts j d).table) table Greater ((parted (rises key ts table h)).1 j d above within));
   };
 }
 
@@ -477,9 +477,9 @@ is_held_of tx table mode hs =
     ∙ sym (any-map (is_use (the_use tx table mode)) (λ (h : Holder). the_use h.holder table h.mode) hs)
 
 -- whether a transaction holds a table is seen among the table's holders
-pub is_held_here : (ts : List TableUses) (i : ℕ) (t : TableUses) (table : List ℕ) (tx : ℕ) (mode : Mode) → IsByName ts → IsAt ts table i → t ≡ get_or ts i t →
-    finite.contains (held_in ts) (the_use tx table mode) ≡ list_any (is_holder tx mode) t.holders.items
-is_held_here ts i t table tx mode by_name at here = holders_here ts i t table tx mode by_name at here ∙ sym (is_held_of tx table mode t.holders.items)
+pub is_held_here : {T : Type 0} (key : T → List ℕ) (ts : List (TableUses T)) (i : ℕ) (t : TableUses T) (table : List ℕ) (tx : ℕ) (mode : Mode) → IsByKey key ts → IsAt key ts table i → t ≡ get_or ts i t →
+    finite.contains (held_in key ts) (the_use tx table mode) ≡ list_any (is_holder tx mode) t.holders.items
+is_held_here key ts i t table tx mode by_name at here = holders_here key ts i t table tx mode by_name at here ∙ sym (is_held_of tx table mode t.holders.items)
 
 -- a use that is held already
 pub insert_again : (held : Uses) (u : Use) → finite.contains held u ≡ true → held ≡ finite.insert held u
@@ -507,39 +507,39 @@ remove_insert held u absent =
 pub of_none_alike : (members : List ℕ) (q u : Use) → use_cmp q u ≡ Equal → is_use_of_none members u ≡ is_use_of_none members q
 of_none_alike members q u tie = ap (is_use_of_none members) (sym (use_exact q u tie))
 
-pub dropped_table : (members : List ℕ) (q : Use) (t t' : TableUses) → t'.table ≡ t.table → t'.holders.items ≡ filter (is_not_of members) t.holders.items →
-    has_in q t' ≡ (is_use_of_none members q && has_in q t)
-dropped_table members q t t' same_name less =
-    let uses = λ (h : Holder). the_use h.holder t.table h.mode in
-    any_uses q t.table t'.table (filter (is_not_of members) t.holders.items) t'.holders.items same_name less
+pub dropped_table : {T : Type 0} (key : T → List ℕ) (members : List ℕ) (q : Use) (t t' : TableUses T) → (key t'.table) ≡ (key t.table) → t'.holders.items ≡ filter (is_not_of members) t.holders.items →
+    has_in key q t' ≡ (is_use_of_none members q && has_in key q t)
+dropped_table key members q t t' same_name less =
+    let uses = λ (h : Holder). the_use h.holder (key t.table) h.mode in
+    any_uses q (key t.table) (key t'.table) (filter (is_not_of members) t.holders.items) t'.holders.items same_name less
     ∙ any-map (is_use q) uses (filter (is_not_of members) t.holders.items)
     ∙ any-filter (λ (h : Holder). is_use q (uses h)) (is_not_of members) (is_use_of_none members q)
     (λ h same. ap (is_use_of_none members) (is_use-true q (uses h) same)) t.holders.items
     ∙ ap (λ b. is_use_of_none members q && b) (sym (any-map (is_use q) uses t.holders.items))
 
-next_same : (xs ys : List TableUses) (i : ℕ) (d : TableUses) → i < length xs → i < length ys → drop i xs ≡ drop i ys → (get_or xs i d ≡ get_or ys i d) × (drop (i + 1) xs ≡ drop (i + 1) ys)
+next_same : {T : Type 0} (xs ys : List (TableUses T)) (i : ℕ) (d : TableUses T) → i < length xs → i < length ys → drop i xs ≡ drop i ys → (get_or xs i d ≡ get_or ys i d) × (drop (i + 1) xs ≡ drop (i + 1) ys)
 next_same xs ys i d in_xs in_ys same =
     let left = drop_more xs i d in_xs in
     let right = drop_more ys i d in_ys in
     let parts : (get_or xs i d ∷ drop (i + 1) xs) ≡ (get_or ys i d ∷ drop (i + 1) ys) = sym left ∙ same ∙ right in
     (cc, cc)
 
-pub dropped_rest : (ts old : List TableUses) (i : ℕ) (t t' : TableUses) → i < length ts → i < length old → drop i ts ≡ drop i old → drop (i + 1) (set ts i t') ≡ drop (i + 1) old
+pub dropped_rest : {T : Type 0} (ts old : List (TableUses T)) (i : ℕ) (t t' : TableUses T) → i < length ts → i < length old → drop i ts ≡ drop i old → drop (i + 1) (set ts i t') ≡ drop (i + 1) old
 dropped_rest ts old i t t' in_ts in_old same = drop-set-lt (i + 1) ts i t' (omega arith) ∙ (next_same ts old i t in_ts in_old same).1
 
-pub dropped_more : (ts old : List TableUses) (i : ℕ) (t t' : TableUses) (q : Use) (b : Bool) → i < length ts → i < length old → drop i ts ≡ drop i old → t ≡ get_or ts i t →
-    has_in q t' ≡ (b && has_in q t) → list_any (has_in q) (take i ts) ≡ (b && list_any (has_in q) (take i old)) →
-    list_any (has_in q) (take (i + 1) (set ts i t')) ≡ (b && list_any (has_in q) (take (i + 1) old))
-dropped_more ts old i t t' q b in_ts in_old same here step so_far =
-    ap (list_any (has_in q)) (take_more_set ts i t' in_ts)
-    ∙ list_any-append (has_in q) (take i ts) (t' ∷ [])
+pub dropped_more : {T : Type 0} (key : T → List ℕ) (ts old : List (TableUses T)) (i : ℕ) (t t' : TableUses T) (q : Use) (b : Bool) → i < length ts → i < length old → drop i ts ≡ drop i old → t ≡ get_or ts i t →
+    has_in key q t' ≡ (b && has_in key q t) → list_any (has_in key q) (take i ts) ≡ (b && list_any (has_in key q) (take i old)) →
+    list_any (has_in key q) (take (i + 1) (set ts i t')) ≡ (b && list_any (has_in key q) (take (i + 1) old))
+dropped_more key ts old i t t' q b in_ts in_old same here step so_far =
+    ap (list_any (has_in key q)) (take_more_set ts i t' in_ts)
+    ∙ list_any-append (has_in key q) (take i ts) (t' ∷ [])
     ∙ (λ k. so_far k || (step k || false))
-    ∙ ap (λ x. (b && list_any (has_in q) (take i old)) || x) (or_nothing (b && has_in q t))
-    ∙ and_or b (list_any (has_in q) (take i old)) (has_in q t)
+    ∙ ap (λ x. (b && list_any (has_in key q) (take i old)) || x) (or_nothing (b && has_in key q t))
+    ∙ and_or b (list_any (has_in key q) (take i old)) (has_in key q t)
     ∙ ap (λ x. b && x)
-    (ap (λ x. list_any (has_in q) (take i old) || x) (sym (or_nothing (has_in q t)) ∙ ap (λ (u : TableUses). has_in q u || false) (here ∙ (next_same ts old i t in_ts in_old same).0))
-    ∙ sym (list_any-append (has_in q) (take i old) (get_or old i t ∷ []))
-    ∙ sym (ap (list_any (has_in q)) (take_more old i t in_old)))
+    (ap (λ x. list_any (has_in key q) (take i old) || x) (sym (or_nothing (has_in key q t)) ∙ ap (λ (u : TableUses _). has_in key q u || false) (here ∙ (next_same ts old i t in_ts in_old same).0))
+    ∙ sym (list_any-append (has_in key q) (take i old) (get_or old i t ∷ []))
+    ∙ sym (ap (list_any (has_in key q)) (take_more old i t in_old)))
 
 and_comm : (a b : Bool) → (a && b) ≡ (b && a)
 and_comm true true = refl
@@ -547,14 +547,18 @@ and_comm true false = refl
 and_comm false true = refl
 and_comm false false = refl
 
-pub dropped_all : (ts old : List TableUses) (members : List ℕ) → ((q : Use) → list_any (has_in q) ts ≡ (is_use_of_none members q && list_any (has_in q) old)) → held_in ts ≡ finite.retain (held_in old) (is_use_of_none members)
-dropped_all ts old members each =
-    same_uses (held_in ts) (finite.retain (held_in old) (is_use_of_none members)) (λ q.
-    contains-held_in ts q ∙ each q ∙ ap (λ b. is_use_of_none members q && b) (sym (contains-held_in old q))
-    ∙ and_comm (is_use_of_none members q) (finite.contains (held_in old) q)
-    ∙ sym (finite.contains-retain (held_in old) (is_use_of_none members) q (λ u tie. of_none_alike members q u tie)))
+pub dropped_all : {T : Type 0} (key : T → List ℕ) (ts old : List (TableUses T)) (members : List ℕ) → ((q : Use) → list_any (has_in key q) ts ≡ (is_use_of_none members q && list_any (has_in key q) old)) → held_in key ts ≡ finite.retain (held_in key old) (is_use_of_none members)
+dropped_all key ts old members each =
+    same_uses (held_in key ts) (finite.retain (held_in key old) (is_use_of_none members)) (λ q.
+    contains-held_in key ts q ∙ each q ∙ ap (λ b. is_use_of_none members q && b) (sym (contains-held_in key old q))
+    ∙ and_comm (is_use_of_none members q) (finite.contains (held_in key old) q)
+    ∙ sym (finite.contains-retain (held_in key old) (is_use_of_none members) q (λ u tie. of_none_alike members q u tie)))
 
 -- ---- outcomes
+
+pub on_ok_then : {T E : Type 0} (r : Result T E) (P Q : Type 0) → (P → Q) → OnOk r P → OnOk r Q
+on_ok_then (Ok x) P Q f h = f h
+on_ok_then (Err e) P Q f h = tt
 
 pub on_err : {T E : Type 0} (r : Result T E) (P : Type 0) → P → OnErr r P
 on_err (Ok x) P p = tt

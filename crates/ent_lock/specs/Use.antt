@@ -1,5 +1,5 @@
 -- The uses that transactions hold: a finite relation of transactions, tables and modes.
-use Rattle.std.specs.Prelude.{◌≡◌, ◌≢◌, ℕ, ◌≤◌, ◌⊎◌, ◌↔◌, Bool, true, false, List, [], ◌∷◌, IsTrue, AllPairs}
+use Rattle.std.specs.Prelude.{◌≡◌, ◌≢◌, ℕ, ◌≤◌, ◌⊎◌, ◌↔◌, Bool, true, false, List, [], ◌∷◌, map, IsTrue, AllPairs}
 use Rattle.std.specs.Prelude.{Contains, Option, None, Some, refl}
 use Rattle.std.specs.Coded.{Coded, code_by, coded×, coded_ℕ, coded_bool, coded_list}
 use Rattle.std.specs.Ordering.{nat_cmp, on, then_cmp}
@@ -11,11 +11,19 @@ use Rattle.ent_lock.specs.declared.mode.Mode.{Mode}
 use Rattle.ent_lock.specs.declared.mode.Mode.TheVariants.{Shared, Exclusive}
 use Rattle.ent_lock.specs.Mode.{in_conflict, mode_rank}
 
--- a transaction holds a table in a mode
+-- a transaction holds a table, known by its key, in a mode
 pub record Use : Type 0 where
   pub holder : ℕ
   pub table : List ℕ
   pub mode : Mode
+
+-- the key of a table that is named by a number
+abbrev pub key_of_number : ℕ → List ℕ
+key_of_number n = n ∷ []
+
+-- uses of tables, by the tables' keys
+abbrev pub keyed : {T : Type 0} → (T → List ℕ) → List (T × Mode) → List (List ℕ × Mode)
+keyed key uses = map (λ u. (key u.0, u.1)) uses
 
 abbrev pub use_cmp : Use → Use → Ordering
 use_cmp =
@@ -68,7 +76,7 @@ DropsUses old new members =
 abbrev pub AreUsesOf : Uses → ℕ → List (List ℕ × Mode) → Type 0
 AreUsesOf held tx uses = (table : List ℕ) (mode : Mode) → Contains uses (table, mode) ↔ Holds held tx table mode
 
--- the lower name first, and of one table the shared use first
+-- the lower key first, and of one table the shared use first
 abbrev pub table_cmp : (List ℕ × Mode) → (List ℕ × Mode) → Ordering
 table_cmp = then_cmp (on (λ u. u.0) (slice_cmp nat_cmp)) (on (λ u. mode_rank u.1) nat_cmp)
 

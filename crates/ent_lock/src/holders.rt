@@ -1,7 +1,7 @@
 //! The holders of one table.
 ghost use Rattle.std.specs.Prelude.{◌≡◌, ◌==◌, ◌&&◌, not, filter};
 ghost use Rattle.std.specs.List.{list_any};
-ghost use Rattle.ent_lock.specs.Holders.{is_holder, is_no_holder, is_not_of, is_conflicting, lesser, least_conflicting};
+ghost use Rattle.ent_lock.specs.Holders.{is_asker, is_holder, is_no_holder, is_not_of, is_conflicting, lesser, least_conflicting};
 
 use crate::mode::Mode;
 use ent_group::{Members, Tx};
@@ -40,14 +40,25 @@ pub(crate) fn drop_holders(holders: &mut Vec<Holder>, members: &Members)
     holders.retain(|h| !members.contains(h.holder));
 }
 
-fn is_conflicting(holder: &Holder, tx: Tx, mode: Mode, pass: &Members) -> bool
-    ensures { result ≡ is_conflicting tx mode pass.now holder.now }
+fn is_asker(asker: Option<Tx>, tx: Tx) -> bool
+    ensures { result ≡ is_asker asker tx }
 {
-    holder.holder != tx && holder.mode.in_conflict(mode) && !pass.contains(holder.holder)
+    match asker {
+        Some(own) => tx == own,
+        None => false,
+    }
+}
+
+fn is_conflicting(holder: &Holder, asker: Option<Tx>, mode: Mode, pass: &Members) -> bool
+    ensures { result ≡ is_conflicting asker mode pass.now holder.now }
+{
+    !is_asker(asker, holder.holder)
+        && holder.mode.in_conflict(mode)
+        && !pass.contains(holder.holder)
 }
 
 /// The lesser of two transactions, where there are two.
-pub(crate) fn lesser(left: Option<Tx>, right: Option<Tx>) -> Option<Tx>
+pub fn lesser(left: Option<Tx>, right: Option<Tx>) -> Option<Tx>
     ensures { result ≡ lesser left right }
 {
     match (left, right) {
@@ -57,19 +68,19 @@ pub(crate) fn lesser(left: Option<Tx>, right: Option<Tx>) -> Option<Tx>
     }
 }
 
-/// The least holder whose use is in conflict with one that a transaction asks for, save itself and those that are to
-/// be passed.
+/// The least holder whose use is in conflict with one that is asked for, save the asker, where one is named, and those
+/// that are to be passed.
 pub(crate) fn least_conflicting(
     holders: &[Holder],
-    tx: Tx,
+    asker: Option<Tx>,
     mode: Mode,
     pass: &Members,
 ) -> Option<Tx>
-    ensures { result ≡ least_conflicting tx mode pass.now holders.now }
+    ensures { result ≡ least_conflicting asker mode pass.now holders.now }
 {
     let mut least = None;
     for holder in holders {
-        if is_conflicting(holder, tx, mode, pass) {
+        if is_conflicting(holder, asker, mode, pass) {
             least = lesser(least, Some(holder.holder));
         }
     }

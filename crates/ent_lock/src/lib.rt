@@ -8,8 +8,10 @@
 mod holders;
 mod lock_table;
 mod mode;
+mod table_key;
 mod table_uses;
 
-pub use holders::Holder;
+pub use holders::{Holder, lesser};
 pub use lock_table::{Answer, LockTable};
 pub use mode::Mode;
+pub use table_key::TableKey;

@@ -1,37 +1,38 @@
-//! The uses of each table, by name.
+//! The uses of each table, by key.
 ghost use Rattle.std.specs.Prelude.{◌≡◌, ℕ, ◌<◌, ◌≤◌, ◌==◌, ◌||◌, ◌↔◌, ◌++◌, [], length, map, filter, not, IsTrue};
 ghost use Rattle.std.specs.Prelude.{OnOk, OnErr, IfOk, IfErr, Contains, slice_index_or};
 ghost use Rattle.std.specs.FinSet as set;
-ghost use Rattle.ent_lock.specs.Use.{with_uses, Holds};
-ghost use Rattle.ent_lock.specs.Layout.{held_in, IsByName, IsAt, IsGapFor, is_use_of_none, use_of, uses_of};
+ghost use Rattle.ent_lock.specs.Use.{with_uses, Holds, keyed};
+ghost use Rattle.ent_lock.specs.Layout.{held_in, IsByKey, IsAt, IsGapFor, is_use_of_none, use_of, uses_of};
 
 use crate::holders::{Holder, drop_holders, is_held, remove_holder};
 use crate::mode::Mode;
+use crate::table_key::TableKey;
 use ent_group::{Members, Tx};
-use ent_value::Name;
 use std::alloc::{AllocError, Global};
 
 /// The holders of one table.
 #[derive(Drop)]
-pub struct TableUses {
-    pub table: Name,
+pub struct TableUses<T> {
+    pub table: T,
     pub holders: Vec<Holder>,
 }
 
 /// Where a table's uses stand, or where they would go.
-pub fn place_of(tables: &[TableUses], table: &Name) -> Result<usize, usize>
-    requires { IsByName tables.now }
-    ensures found { IfOk result (IsAt tables.now table.now) }
-    ensures missing { IfErr result (IsGapFor tables.now table.now) }
+pub fn place_of<T: TableKey>(tables: &[TableUses<T>], table: &T) -> Result<usize, usize>
+    requires { IsByKey T.key tables.now }
+    ensures found { IfOk result (IsAt T.key tables.now (T.key table.now)) }
+    ensures missing { IfErr result (IsGapFor T.key tables.now (T.key table.now)) }
 {
-    tables.binary_search_by(|uses| uses.table.cmp(table))
+    tables.binary_search_by(|uses| uses.table.compare(table))
 }
 
 /// The holders of a table.
-pub fn holders_of<'a>(tables: &'a [TableUses], table: &Name) -> &'a [Holder]
-    requires { IsByName tables.now }
+pub fn holders_of<'a, T: TableKey>(tables: &'a [TableUses<T>], table: &T) -> &'a [Holder]
+    requires { IsByKey T.key tables.now }
     ensures { (tx : ℕ) (mode : Mode)
-        → Contains result.now (record { holder = tx; mode = mode }) ↔ Holds (held_in tables.now) tx table.now mode }
+        → Contains result.now (record { holder = tx; mode = mode })
+        ↔ Holds (held_in T.key tables.now) tx (T.key table.now) mode }
 {
     match place_of(tables, table) {
         Ok(at) => tables[at].holders.as_slice(),
@@ -40,10 +41,10 @@ pub fn holders_of<'a>(tables: &'a [TableUses], table: &Name) -> &'a [Holder]
 }
 
 /// Puts a transaction's use of one table to a list, where it holds the table in this mode.
-fn push_use(
-    uses: &mut Vec<(Name, Mode)>,
+fn push_use<T: TableKey>(
+    uses: &mut Vec<(T, Mode)>,
     alloc: Global,
-    table_uses: &TableUses,
+    table_uses: &TableUses<T>,
     tx: Tx,
     mode: Mode,
 ) -> Result<(), AllocError>
@@ -56,7 +57,11 @@ fn push_use(
 }
 
 /// The uses of a transaction, by table.
-pub fn uses_of(tables: &[TableUses], alloc: Global, tx: Tx) -> Result<Vec<(Name, Mode)>, AllocError>
+pub fn uses_of<T: TableKey>(
+    tables: &[TableUses<T>],
+    alloc: Global,
+    tx: Tx,
+) -> Result<Vec<(T, Mode)>, AllocError>
     ensures { IfOk result (λ uses. uses.items ≡ uses_of tx tables.now) }
 {
     let mut uses = Vec::new(alloc);
@@ -68,20 +73,20 @@ pub fn uses_of(tables: &[TableUses], alloc: Global, tx: Tx) -> Result<Vec<(Name,
 }
 
 /// Adds a use, and answers whether it is new. Where memory runs out nothing is changed.
-pub fn add_use(
-    tables: &mut Vec<TableUses>,
+pub fn add_use<T: TableKey>(
+    tables: &mut Vec<TableUses<T>>,
     alloc: Global,
     tx: Tx,
-    table: &Name,
+    table: &T,
     mode: Mode,
 ) -> Result<bool, AllocError>
-    requires { IsByName tables.old.items }
-    ensures by_name { IsByName tables.new.items }
-    ensures ok { OnOk result (held_in tables.new.items
-        ≡ set.insert (held_in tables.old.items) (record { holder = tx; table = table.now; mode = mode })) }
+    requires { IsByKey T.key tables.old.items }
+    ensures by_key { IsByKey T.key tables.new.items }
+    ensures ok { OnOk result (held_in T.key tables.new.items
+        ≡ set.insert (held_in T.key tables.old.items) (record { holder = tx; table = T.key table.now; mode = mode })) }
     ensures is_new { IfOk result (λ is_new. is_new
-        ≡ not (set.contains (held_in tables.old.items) (record { holder = tx; table = table.now; mode = mode }))) }
-    ensures err { OnErr result (held_in tables.new.items ≡ held_in tables.old.items) }
+        ≡ not (set.contains (held_in T.key tables.old.items) (record { holder = tx; table = T.key table.now; mode = mode }))) }
+    ensures err { OnErr result (held_in T.key tables.new.items ≡ held_in T.key tables.old.items) }
 {
     let holder = Holder { holder: tx, mode };
     match place_of(tables, table) {
@@ -101,11 +106,11 @@ pub fn add_use(
 }
 
 /// Takes a use out.
-pub fn remove_use(tables: &mut Vec<TableUses>, tx: Tx, table: &Name, mode: Mode)
-    requires { IsByName tables.old.items }
-    ensures by_name { IsByName tables.new.items }
-    ensures held { held_in tables.new.items
-        ≡ set.remove (held_in tables.old.items) (record { holder = tx; table = table.now; mode = mode }) }
+pub fn remove_use<T: TableKey>(tables: &mut Vec<TableUses<T>>, tx: Tx, table: &T, mode: Mode)
+    requires { IsByKey T.key tables.old.items }
+    ensures by_key { IsByKey T.key tables.new.items }
+    ensures held { held_in T.key tables.new.items
+        ≡ set.remove (held_in T.key tables.old.items) (record { holder = tx; table = T.key table.now; mode = mode }) }
 {
     if let Ok(at) = place_of(tables, table) {
         remove_holder(&mut tables[at].holders, tx, mode);
@@ -113,16 +118,16 @@ pub fn remove_use(tables: &mut Vec<TableUses>, tx: Tx, table: &Name, mode: Mode)
 }
 
 /// Adds all uses that a transaction asks for. Where memory runs out nothing is changed.
-pub fn add_all(
-    tables: &mut Vec<TableUses>,
+pub fn add_all<T: TableKey>(
+    tables: &mut Vec<TableUses<T>>,
     alloc: Global,
     tx: Tx,
-    asked: &[(Name, Mode)],
+    asked: &[(T, Mode)],
 ) -> Result<(), AllocError>
-    requires { IsByName tables.old.items }
-    ensures by_name { IsByName tables.new.items }
-    ensures ok { OnOk result (held_in tables.new.items ≡ with_uses (held_in tables.old.items) tx asked.now) }
-    ensures err { OnErr result (held_in tables.new.items ≡ held_in tables.old.items) }
+    requires { IsByKey T.key tables.old.items }
+    ensures by_key { IsByKey T.key tables.new.items }
+    ensures ok { OnOk result (held_in T.key tables.new.items ≡ with_uses (held_in T.key tables.old.items) tx (keyed T.key asked.now)) }
+    ensures err { OnErr result (held_in T.key tables.new.items ≡ held_in T.key tables.old.items) }
 {
     let Some((first, rest)) = asked.split_first() else {
         return Ok(());
@@ -136,10 +141,10 @@ pub fn add_all(
 }
 
 /// Takes out all uses of some transactions.
-pub fn drop_members(tables: &mut [TableUses], members: &Members)
-    requires { IsByName tables.old }
-    ensures by_name { IsByName tables.new }
-    ensures held { held_in tables.new ≡ set.retain (held_in tables.old) (is_use_of_none members.now) }
+pub fn drop_members<T: TableKey>(tables: &mut [TableUses<T>], members: &Members)
+    requires { IsByKey T.key tables.old }
+    ensures by_key { IsByKey T.key tables.new }
+    ensures held { held_in T.key tables.new ≡ set.retain (held_in T.key tables.old) (is_use_of_none members.now) }
 {
     for uses in tables.iter_mut() {
         drop_holders(&mut uses.holders, members);

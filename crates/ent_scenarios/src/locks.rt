@@ -43,7 +43,7 @@ fn read_asked(alloc: Global, words: &[&str]) -> Result<Asked> {
 
 pub(crate) fn reply(
     alloc: Global,
-    locks: &mut LockTable,
+    locks: &mut LockTable<Name>,
     call: &[&str],
     out: &mut Out,
 ) -> Result<()> {
@@ -58,7 +58,13 @@ pub(crate) fn reply(
     }
 }
 
-fn ask(alloc: Global, locks: &mut LockTable, tx: Tx, words: &[&str], out: &mut Out) -> Result<()> {
+fn ask(
+    alloc: Global,
+    locks: &mut LockTable<Name>,
+    tx: Tx,
+    words: &[&str],
+    out: &mut Out,
+) -> Result<()> {
     let asked = read_asked(alloc, words)?;
     let answer = locks.ask(tx, asked.uses.as_slice(), &asked.pass);
     drop(asked);
@@ -73,7 +79,7 @@ fn ask(alloc: Global, locks: &mut LockTable, tx: Tx, words: &[&str], out: &mut O
 }
 
 /// The reply to a call that changes nothing.
-fn reply_of(alloc: Global, locks: &LockTable, call: &[&str], out: &mut Out) -> Result<()> {
+fn reply_of(alloc: Global, locks: &LockTable<Name>, call: &[&str], out: &mut Out) -> Result<()> {
     match call {
         ["blocker", tx, words @ ..] => put_blocker(alloc, locks, number(tx)?, words, out),
         ["in_conflict", tx, words @ ..] => put_conflict(alloc, locks, number(tx)?, words, out),
@@ -90,7 +96,7 @@ fn reply_of(alloc: Global, locks: &LockTable, call: &[&str], out: &mut Out) -> R
 
 fn put_blocker(
     alloc: Global,
-    locks: &LockTable,
+    locks: &LockTable<Name>,
     tx: Tx,
     words: &[&str],
     out: &mut Out,
@@ -104,7 +110,7 @@ fn put_blocker(
 
 fn put_conflict(
     alloc: Global,
-    locks: &LockTable,
+    locks: &LockTable<Name>,
     tx: Tx,
     words: &[&str],
     out: &mut Out,
@@ -116,13 +122,19 @@ fn put_conflict(
     Ok(())
 }
 
-fn put_holds(alloc: Global, locks: &LockTable, tx: Tx, word: &str, out: &mut Out) -> Result<()> {
+fn put_holds(
+    alloc: Global,
+    locks: &LockTable<Name>,
+    tx: Tx,
+    word: &str,
+    out: &mut Out,
+) -> Result<()> {
     let (table, mode) = read_use(alloc, word)?;
     put(out, yes_or_no(locks.holds(tx, &table, mode)));
     Ok(())
 }
 
-fn put_uses(alloc: Global, locks: &LockTable, tx: Tx, out: &mut Out) -> Result<()> {
+fn put_uses(alloc: Global, locks: &LockTable<Name>, tx: Tx, out: &mut Out) -> Result<()> {
     let uses = locks.uses(alloc, tx)?;
     put_each_use(alloc, uses.as_slice(), out);
     Ok(())

@@ -12,6 +12,7 @@ use anyhow::{Context, Result, bail};
 use ent_group::{Groups, Members};
 use ent_lock::LockTable;
 use ent_rel::Table;
+use ent_value::Name;
 use std::alloc::Global;
 use std::mem::replace;
 
@@ -30,7 +31,7 @@ enum Stage {
     Groups(Groups),
     Members(Members),
     Cycles,
-    Locks(LockTable),
+    Locks(LockTable<Name>),
     Book(Draft),
     Streams(Streams),
     Pool(PoolStage),

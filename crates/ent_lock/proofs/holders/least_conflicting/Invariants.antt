@@ -4,4 +4,4 @@ use Rattle.ent_lock.proofs.holders.least_conflicting.Given as goal
 
 abbrev pub invariant-loop-holder : goal.invariant-loop-holder
 invariant-loop-holder l =
-    lesser l.least (least_conflicting l.tx l.mode l.pass (drop l.holder-index l.holders)) ≡ least_conflicting l.tx l.mode l.pass l.holders
+    lesser l.least (least_conflicting l.asker l.mode l.pass (drop l.holder-index l.holders)) ≡ least_conflicting l.asker l.mode l.pass l.holders
