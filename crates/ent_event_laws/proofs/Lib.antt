@@ -1,2 +1,4 @@
 pub mod Conflicting
 pub mod Rows
+pub mod Joined
+pub mod OneJoined

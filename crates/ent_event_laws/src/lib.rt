@@ -6,4 +6,4 @@
 
 mod law;
 
-pub use law::begin_goes_by_rows;
+pub use law::{begin_goes_by_rows, joint_answers_join_groups};
