@@ -1,2 +1,3 @@
 pub mod Beginning
 pub mod Joining
+pub mod SerialTrace

@@ -6,4 +6,7 @@
 
 mod law;
 
-pub use law::{begin_goes_by_rows, joint_answers_join_groups};
+pub use law::{
+    begin_goes_by_rows, joint_answers_join_groups, oracles_answer_in_order,
+    serial_runs_are_read_off_traces,
+};
