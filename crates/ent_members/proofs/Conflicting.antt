@@ -1,14 +1,13 @@
 -- Those that are in conflict.
 use Rattle.std.proofs.Common.{◌≡◌, ℕ, Bool, true, false, not, ◌==◌, ◌&&◌, if◌then◌else◌, List, [], ◌∷◌, ◌++◌, map}
-use Rattle.std.proofs.Common.{refl, sym, ap, ◌∙◌, arith}
+use Rattle.std.proofs.Common.{◌+◌, ◌<◌, length, take, get_or, refl, sym, ap, ◌∙◌}
 use Rattle.std.specs.Prelude.{Option, Some, None, nat_lt}
 use Rattle.std.specs.List.{filter}
-use Rattle.std.proofs.lemmas.List.{map-append}
+use Rattle.std.proofs.lemmas.List.{map-append, take_more}
 use Rattle.std.proofs.lemmas.List.Elements.{filter-append}
 use Rattle.ent_protocol.specs.State.{Member, Use}
 use Rattle.ent_protocol.specs.Uses.{is_conflicting, least}
 use Rattle.ent_members.specs.declared.conflicts.Passed.{Passed}
-use Rattle.ent_members.specs.declared.conflicts.Passed.TheVariants.{Group, Itself}
 use Rattle.ent_members.specs.Passed.{is_passed, is_blocking}
 use Rattle.ent_members.specs.Run.{tx_of}
 
@@ -30,61 +29,31 @@ filtered_twice asked passed (x ∷ xs) =
     twice_if asked x (filter (λ holder. not (is_passed passed holder)) xs) (is_passed passed x) (is_conflicting asked x)
     (filter (is_blocking asked passed) xs) refl (sym (filtered_twice asked passed xs))
 
--- the least of the prepared ones in conflict, then of the others
-pub conflicting_of : (asked : List Use) (group tx : ℕ) (prepared active : List Member)
-    → map tx_of (filter (is_blocking asked (Group group)) prepared)
-    ++ map tx_of (filter (is_blocking asked (Itself tx)) active)
-    ≡ map tx_of (filter (is_conflicting asked)
-    (filter (λ (holder : Member). not (holder.group == group)) prepared
-    ++ filter (λ (holder : Member). not (holder.tx == tx)) active))
-conflicting_of asked group tx prepared active =
-    let passing = filter (λ (holder : Member). not (holder.group == group)) prepared in
-    let others = filter (λ (holder : Member). not (holder.tx == tx)) active in
-    ap (λ ms. map tx_of ms ++ map tx_of (filter (is_blocking asked (Itself tx)) active))
-    (filtered_twice asked (Group group) prepared)
-    ∙ ap (λ ms. map tx_of (filter (is_conflicting asked) passing) ++ map tx_of ms)
-    (filtered_twice asked (Itself tx) active)
-    ∙ sym (map-append tx_of (filter (is_conflicting asked) passing) (filter (is_conflicting asked) others))
-    ∙ ap (map tx_of) (sym (filter-append (is_conflicting asked) passing others))
+-- ---- the numbers of those that are passed
 
--- ---- the least of some numbers, in whatever order they stand
+number_if : (member : Member) (b : Bool)
+    → map tx_of (if b then member ∷ [] else []) ≡ (if b then member.tx ∷ [] else [])
+number_if member true = refl
+number_if member false = refl
+
+pub passed_more : (passed : Passed) (xs : List Member) (i : ℕ) (member : Member) (b : Bool) → i < length xs
+    → member ≡ get_or xs i member → is_passed passed member ≡ b
+    → map tx_of (filter (is_passed passed) (take (i + 1) xs))
+    ≡ map tx_of (filter (is_passed passed) (take i xs)) ++ (if b then member.tx ∷ [] else [])
+passed_more passed xs i member b lt at is =
+    ap (λ ms. map tx_of (filter (is_passed passed) ms))
+    (take_more xs i member lt ∙ ap (λ m. take i xs ++ m ∷ []) (sym at))
+    ∙ ap (map tx_of) (filter-append (is_passed passed) (take i xs) (member ∷ []))
+    ∙ map-append tx_of (filter (is_passed passed) (take i xs)) (filter (is_passed passed) (member ∷ []))
+    ∙ ap (λ ns. map tx_of (filter (is_passed passed) (take i xs)) ++ ns)
+    (ap (λ c. map tx_of (if c then member ∷ [] else [])) is ∙ number_if member b)
+
+-- ---- the least of some numbers
 
 abbrev pub lesser_with : ℕ → Option ℕ → ℕ
 lesser_with n None = n
 lesser_with n (Some m) = if nat_lt n m then n else m
 
-least_with : (n : ℕ) (ns : List ℕ) → least (n ∷ ns) ≡ Some (lesser_with n (least ns))
+pub least_with : (n : ℕ) (ns : List ℕ) → least (n ∷ ns) ≡ Some (lesser_with n (least ns))
 least_with n [] = refl
 least_with n (m ∷ ms) = refl
-
-two_alike : (n m : ℕ) → (if nat_lt n m then n else m) ≡ (if nat_lt m n then m else n)
-two_alike n m = grind arith
-
-three_alike : (n m k : ℕ)
-    → (if nat_lt n (if nat_lt m k then m else k) then n else if nat_lt m k then m else k)
-    ≡ (if nat_lt m (if nat_lt n k then n else k) then m else if nat_lt n k then n else k)
-three_alike n m k = grind arith
-
-either_first : (n m : ℕ) (ns : List ℕ) → least (n ∷ m ∷ ns) ≡ least (m ∷ n ∷ ns)
-either_first n m [] = ap Some (two_alike n m)
-either_first n m (k ∷ ks) = ap Some (three_alike n m (lesser_with k (least ks)))
-
-pub least_moved : (n : ℕ) (xs ns : List ℕ) → least (xs ++ n ∷ ns) ≡ least (n ∷ xs ++ ns)
-least_moved n [] ns = refl
-least_moved n (x ∷ xs) ns =
-    least_with x (xs ++ n ∷ ns)
-    ∙ ap (λ o. Some (lesser_with x o)) (least_moved n xs ns)
-    ∙ sym (least_with x (n ∷ xs ++ ns))
-    ∙ either_first x n (xs ++ ns)
-
--- the first of a list may be taken after the others
-pub first_last : (p : Member → Bool) (x : Member) (xs : List Member) (ns : List ℕ)
-    → least (map tx_of (filter p xs) ++ (map tx_of (filter p (x ∷ [])) ++ ns))
-    ≡ least (map tx_of (filter p (x ∷ xs)) ++ ns)
-first_last p x xs ns =
-    elim (p x) as (λ b.
-    least (map tx_of (filter p xs) ++ (map tx_of (if b then x ∷ [] else []) ++ ns))
-    ≡ least (map tx_of (if b then x ∷ filter p xs else filter p xs) ++ ns)) [
-      | true ↦ least_moved x.tx (map tx_of (filter p xs)) ns
-      | false ↦ refl
-    ]

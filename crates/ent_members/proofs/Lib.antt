@@ -9,3 +9,8 @@ pub mod JoinedGroups
 pub mod Lists
 pub mod Waiting
 pub mod Answered
+pub mod Locked
+pub mod HeldUses
+pub mod LeastOf
+pub mod LockedRuns
+pub mod Blocked

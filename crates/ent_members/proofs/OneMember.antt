@@ -87,7 +87,7 @@ pub found_tx : (xs : List Member) (tx : ℕ) (member : Member) → found xs tx �
 found_tx [] tx member is = grind arith
 found_tx (x ∷ xs) tx member is = found_if x xs tx member (x.tx == tx) refl (found_tx xs tx member) is
 
-some_same : {A : Type 0} (x y : A) → Some x ≡ Some y → x ≡ y
+pub some_same : {A : Type 0} (x y : A) → Some x ≡ Some y → x ≡ y
 some_same x y is = grind arith
 
 pub found_at : (xs : List Member) (tx i : ℕ) (d member : Member) → IsAt xs tx i → found xs tx ≡ Some member

@@ -11,6 +11,14 @@ use Rattle.ent_protocol.specs.State.{Member, Use}
 abbrev pub posting : List Use → Member → Member
 posting asked member = record (holding member asked) { posted = true }
 
+-- it holds these uses
+abbrev pub holding_all : List Use → Member → Member
+holding_all uses member = record member { uses = uses }
+
+-- it holds these uses, and its statement is posted
+abbrev pub posting_all : List Use → Member → Member
+posting_all uses member = record member { uses = uses; posted = true }
+
 -- it takes an answer that binds host variables
 abbrev pub stepping : Answer → List (Name × Value) → Member → Member
 stepping answer bound member = stepped answer (record member { bound = member.bound ++ bound })

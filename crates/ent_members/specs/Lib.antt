@@ -9,4 +9,5 @@ pub mod Moves
 pub mod Joined
 pub mod Waits
 pub mod Answered
+pub mod Locks
 pub mod Conflict

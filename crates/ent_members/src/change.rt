@@ -1,13 +1,14 @@
 //! Changes of one member among others.
-ghost use Rattle.std.specs.Prelude.{◌≡◌, ◌++◌, List, map, OnOk, OnErr, nat_eq};
+ghost use Rattle.std.specs.Prelude.{◌≡◌, Some, map, IfOk, OnOk, OnErr, nat_eq};
 ghost use Rattle.std.specs.List.{IsDistinct};
-ghost use Rattle.ent_protocol.specs.Begin.{holding};
+ghost use Rattle.ent_protocol.specs.Begin.{with_uses};
 ghost use Rattle.ent_protocol.specs.Finish.{stepped};
-ghost use Rattle.ent_protocol.specs.State.{Use as Seen};
-ghost use Rattle.ent_members.specs.Changes.{posting, stepping};
-ghost use Rattle.ent_members.specs.Places.{Changes};
+ghost use Rattle.ent_protocol.specs.State.{Member as Seen};
+ghost use Rattle.ent_members.specs.Changes.{holding_all, posting_all, stepping};
+ghost use Rattle.ent_members.specs.Places.{Changes, found};
 ghost use Rattle.ent_members.specs.Run.{tx_of};
 
+use crate::hold::with_uses;
 use crate::member::Member;
 use crate::search::place_of;
 use crate::table_use::Use;
@@ -16,39 +17,41 @@ use ent_semantics::Answer;
 use ent_value::{Name, Value};
 use std::alloc::{AllocError, Global};
 
-/// The member of a number holds the uses that are asked for.
-pub(crate) fn hold(
+/// The uses that the member of a number holds, and those that are asked for.
+pub(crate) fn uses_with(
     alloc: Global,
-    members: &mut [Member],
+    members: &[Member],
     tx: Tx,
     asked: &[Use],
-) -> Result<(), AllocError>
-    requires { IsDistinct nat_eq (map tx_of members.old) }
-    ensures ok { OnOk result (Changes (λ member. holding member asked.now) tx members.old members.new) }
-    ensures err { OnErr result (members.new ≡ members.old) }
-    ensures numbers { map tx_of members.new ≡ map tx_of members.old }
+) -> Result<Vec<Use>, AllocError>
+    ensures { IfOk result (λ uses. (member : Seen) → found members.now tx ≡ Some member
+        → uses.items ≡ with_uses asked.now member.uses) }
 {
     match place_of(members, tx) {
-        Some(at) => members[at].hold(alloc, asked),
-        None => Ok(()),
+        Some(at) => with_uses(alloc, members[at].uses(), asked),
+        None => Ok(Vec::new(alloc)),
     }
 }
 
-/// The member of a number holds the uses that are asked for, and its statement is posted.
-pub(crate) fn post(
-    alloc: Global,
-    members: &mut [Member],
-    tx: Tx,
-    asked: &[Use],
-) -> Result<(), AllocError>
+/// The member of a number holds these uses.
+pub(crate) fn hold(members: &mut [Member], tx: Tx, uses: Vec<Use>)
     requires { IsDistinct nat_eq (map tx_of members.old) }
-    ensures ok { OnOk result (Changes (posting asked.now) tx members.old members.new) }
-    ensures err { OnErr result (members.new ≡ members.old) }
+    ensures changed { Changes (holding_all uses.items) tx members.old members.new }
     ensures numbers { map tx_of members.new ≡ map tx_of members.old }
 {
-    match place_of(members, tx) {
-        Some(at) => members[at].post(alloc, asked),
-        None => Ok(()),
+    if let Some(at) = place_of(members, tx) {
+        members[at].hold(uses);
+    }
+}
+
+/// The member of a number holds these uses, and its statement is posted.
+pub(crate) fn post(members: &mut [Member], tx: Tx, uses: Vec<Use>)
+    requires { IsDistinct nat_eq (map tx_of members.old) }
+    ensures changed { Changes (posting_all uses.items) tx members.old members.new }
+    ensures numbers { map tx_of members.new ≡ map tx_of members.old }
+{
+    if let Some(at) = place_of(members, tx) {
+        members[at].post(uses);
     }
 }
 

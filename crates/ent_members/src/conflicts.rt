@@ -1,15 +1,14 @@
 //! Who blocks a member that asks for uses.
-ghost use Rattle.std.specs.Prelude.{◌≡◌, ℕ, List, [], ◌++◌, ◌∷◌, Some, if◌then◌else◌, map, filter};
+ghost use Rattle.std.specs.Prelude.{◌≡◌, ◌+◌, ◌≤◌, ◌++◌, length, map, filter};
 ghost use Rattle.std.specs.List.{list_any};
-ghost use Rattle.ent_protocol.specs.Uses.{is_conflicting, least, uses_conflict};
-ghost use Rattle.ent_members.specs.Order.{IsAscending};
-ghost use Rattle.ent_members.specs.Passed.{is_passed, is_blocking};
+ghost use Rattle.ent_protocol.specs.Uses.{is_conflicting, uses_conflict};
+ghost use Rattle.ent_members.specs.Passed.{is_passed};
 ghost use Rattle.ent_members.specs.Run.{tx_of};
 ghost use Rattle.ent_members.specs.Waits.{is_awaited_over, waits_over};
 
 use crate::member::Member;
 use crate::table_use::Use;
-use ent_group::Tx;
+use ent_group::{MOST_MEMBERS, Members, Tx};
 
 /// Those that a member passes: the members of a group, or itself alone.
 #[derive(Clone, Copy)]
@@ -47,65 +46,6 @@ pub fn is_conflicting(asked: &[Use], holder: &Member) -> bool
     asked.iter().any(|own| any_in_conflict(*own, held))
 }
 
-/// Whether a number is less than others of which the least is given.
-fn comes_first(tx: Tx, others: Option<Tx>) -> bool
-    ensures { (numbers : List ℕ) → others ≡ least numbers
-        → least (tx ∷ numbers) ≡ (if result then Some tx else others) }
-{
-    match others {
-        Some(other) => tx < other,
-        None => true,
-    }
-}
-
-/// The least of a member, where it is in conflict and not passed, and of others of which the least is given. A member
-/// that isn't less than these needn't be looked at.
-fn least_with(holder: &Member, asked: &[Use], passed: Passed, others: Option<Tx>) -> Option<Tx>
-    ensures { (numbers : List ℕ) → others ≡ least numbers
-        → result ≡ least (map tx_of (filter (is_blocking asked.now passed) (holder.now ∷ [])) ++ numbers) }
-{
-    let tx = holder.tx();
-    if comes_first(tx, others) && !is_passed(passed, holder) && is_conflicting(asked, holder) {
-        Some(tx)
-    } else {
-        others
-    }
-}
-
-/// The least of those of a list that are in conflict and not passed, and of others of which the least is given.
-pub(crate) fn least_conflicting(
-    holders: &[Member],
-    asked: &[Use],
-    passed: Passed,
-    others: Option<Tx>,
-) -> Option<Tx>
-    ensures { (numbers : List ℕ) → others ≡ least numbers
-        → result ≡ least (map tx_of (filter (is_blocking asked.now passed) holders.now) ++ numbers) }
-{
-    let mut found = others;
-    let mut rest = holders;
-    while let Some((first, later)) = rest.split_first() {
-        found = least_with(first, asked, passed, found);
-        rest = later;
-    }
-    found
-}
-
-/// The first of a list by number that is in conflict and not passed. It is the least of them.
-pub(crate) fn first_conflicting(holders: &[Member], asked: &[Use], passed: Passed) -> Option<Tx>
-    requires { IsAscending (map tx_of holders.now) }
-    ensures { result ≡ least (map tx_of (filter (is_blocking asked.now passed) holders.now)) }
-{
-    let mut rest = holders;
-    while let Some((first, later)) = rest.split_first() {
-        if !is_passed(passed, first) && is_conflicting(asked, first) {
-            return Some(first.tx());
-        }
-        rest = later;
-    }
-    None
-}
-
 /// Whether a member of a group, with one member blocking it, waits for another: for that one, where it is of the group,
 /// else for each of that one's group.
 pub fn waits_over(group: Tx, holder: &Member, other: &Member) -> bool
@@ -115,6 +55,19 @@ pub fn waits_over(group: Tx, holder: &Member, other: &Member) -> bool
         holder.tx() == other.tx()
     } else {
         other.group() == holder.group()
+    }
+}
+
+/// Puts the numbers of those of a list that are passed to others.
+pub(crate) fn gather_passed(holders: &[Member], passed: Passed, numbers: &mut Members)
+    requires { length numbers.old + length holders.now ≤ MOST_MEMBERS }
+    ensures list { numbers.new ≡ numbers.old ++ map tx_of (filter (is_passed passed) holders.now) }
+    ensures room { length numbers.new ≤ length numbers.old + length holders.now }
+{
+    for holder in holders {
+        if is_passed(passed, holder) {
+            numbers.push(holder.tx());
+        }
     }
 }
 

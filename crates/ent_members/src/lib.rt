@@ -14,6 +14,7 @@ mod entrant;
 mod hold;
 mod join;
 mod law;
+mod locks;
 mod member;
 mod member_answer;
 mod moves;

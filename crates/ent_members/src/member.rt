@@ -3,14 +3,12 @@ ghost use Rattle.std.specs.Prelude.{◌≡◌, List, OnOk, OnErr, length};
 ghost use Rattle.ent_value.specs.declared.value.Value.{Value as Bound};
 ghost use Rattle.ent_semantics.specs.Database.{Name as Variable};
 ghost use Rattle.ent_semantics.specs.declared.answer.Answer.{Answer as Answered};
-ghost use Rattle.ent_protocol.specs.Begin.{holding};
 ghost use Rattle.ent_protocol.specs.Finish.{stepped};
 ghost use Rattle.ent_protocol.specs.Run.{fresh};
 ghost use Rattle.ent_protocol.specs.State.{Member as Before};
-ghost use Rattle.ent_members.specs.Changes.{posting, stepping};
+ghost use Rattle.ent_members.specs.Changes.{holding_all, posting_all, stepping};
 
 use crate::entrant::Entrant;
-use crate::hold::with_uses;
 use crate::table_use::Use;
 use ent_closing::Environment;
 use ent_group::Tx;
@@ -129,23 +127,19 @@ impl Member {
         self.is_posted
     }
 
-    /// It holds the uses that are asked for too.
-    pub(crate) fn hold(&mut self, alloc: Global, asked: &[Use]) -> Result<(), AllocError>
-        ensures ok { OnOk result (self.new ≡ holding self.old asked.now) }
-        ensures err { OnErr result (self.new ≡ self.old) }
+    /// It holds these uses.
+    pub(crate) fn hold(&mut self, uses: Vec<Use>)
+        ensures { self.new ≡ holding_all uses.items self.old }
     {
-        self.uses = with_uses(alloc, self.uses.as_slice(), asked)?;
-        Ok(())
+        self.uses = uses;
     }
 
-    /// It holds the uses that are asked for too, and its next statement is in the pool.
-    pub(crate) fn post(&mut self, alloc: Global, asked: &[Use]) -> Result<(), AllocError>
-        ensures ok { OnOk result (self.new ≡ posting asked.now self.old) }
-        ensures err { OnErr result (self.new ≡ self.old) }
+    /// It holds these uses, and its next statement is in the pool.
+    pub(crate) fn post(&mut self, uses: Vec<Use>)
+        ensures { self.new ≡ posting_all uses.items self.old }
     {
-        self.hold(alloc, asked)?;
+        self.uses = uses;
         self.is_posted = true;
-        Ok(())
     }
 
     /// Its group has another label.

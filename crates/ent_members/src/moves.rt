@@ -3,6 +3,8 @@ ghost use Rattle.std.specs.Prelude.{◌≡◌, ◌+◌, ◌≤◌, ◌++◌, fil
 ghost use Rattle.std.specs.List.{list_any};
 ghost use Rattle.std.specs.Vec.{vec_capacity, vec_len};
 ghost use Rattle.ent_protocol.specs.Member.{is_of};
+ghost use Rattle.ent_lock.specs.Use.{Uses};
+ghost use Rattle.ent_members.specs.Locks.{IsLockedRun};
 ghost use Rattle.ent_members.specs.Moves.{Prepares, is_not_of, is_of_another, run_of};
 ghost use Rattle.ent_members.specs.Places.{found};
 ghost use Rattle.ent_members.specs.Run.{IsRun};
@@ -24,7 +26,8 @@ pub(crate) fn prepare(
         (run_of prepared.new.items active.new.items)) }
     ensures prepared { OnErr result (prepared.new.items ≡ prepared.old.items) }
     ensures active { OnErr result (active.new.items ≡ active.old.items) }
-    ensures run { IsRun prepared.new.items active.new.items }
+    ensures locked { (locks : Uses) → IsLockedRun locks prepared.old.items active.old.items
+        → IsLockedRun locks prepared.new.items active.new.items }
 {
     prepared.reserve(1)?;
     if let Some(at) = place_of(active.as_slice(), tx) {

@@ -20,6 +20,7 @@ ghost use Rattle.ent_members.specs.Answered.{AnswerTogether, IsJoining, answer_t
 ghost use Rattle.ent_members.specs.Changes.{posting, stepping};
 ghost use Rattle.ent_members.specs.Joined.{JoinGroups, labels_in};
 ghost use Rattle.ent_members.specs.RunAttempts.{run_attempt_of, run_attempts_in};
+ghost use Rattle.ent_members.specs.Locks.{passed_numbers};
 ghost use Rattle.ent_members.specs.Moves.{Leave, Prepares, is_not_of, is_of_another};
 ghost use Rattle.ent_members.specs.Places.{Changes, found};
 ghost use Rattle.ent_members.specs.Run.{with_run, tx_of};
@@ -27,42 +28,46 @@ ghost use Rattle.ent_members.specs.Uses.{uses_of};
 ghost use Rattle.ent_members.specs.Waits.{is_awaited};
 
 use crate::answer::{answer_each, numbers_of};
-use crate::change;
-use crate::conflicts::{Passed, first_conflicting, is_awaited_over, least_conflicting};
+use crate::change::{self, uses_with};
+use crate::conflicts::{Passed, gather_passed, is_awaited_over};
 use crate::entrant::Entrant;
 use crate::join::{gather_labels, join_groups};
+use crate::locks::{least_in_conflict, lock};
 use crate::member::Member;
 use crate::member_answer::MemberAnswer;
 use crate::moves::{any_of, prepare, remove, take_group};
 use crate::run_attempts::{RunAttempts, gather, gather_by_number};
-use crate::search::{is_among, member_by_number, member_in};
+use crate::search::{is_among, member_by_number, member_in, member_numbers};
 use crate::start::fresh_members;
 use crate::table_use::Use;
 use crate::uses::{changed_table, statement_uses};
 use ent_closed::Statement;
 use ent_group::{MOST_MEMBERS, Members, Tx};
+use ent_lock::LockTable;
 use ent_semantics::Answer;
 use ent_value::{Name, Value};
 use std::alloc::{AllocError, Global};
 use std::marker::Model;
 
 /// The members of a run, up to [`MOST_MEMBERS`]: those that are prepared, in the order in which they prepared, and the
-/// others, which are active.
+/// others, which are active. The lock table has the uses of them all.
 #[derive(Drop)]
 pub struct Run {
     alloc: Global,
     prepared: Vec<Member>,
     active: Vec<Member>,
+    locks: LockTable<usize>,
 }
 
 impl Model for Run {
-    ghost use Rattle.ent_members.specs.Run.{Run as Seen, IsRun};
+    ghost use Rattle.ent_members.specs.Run.{Run as Seen};
+    ghost use Rattle.ent_members.specs.Locks.{IsLockedRun};
 
     ghost Value = { Seen };
 
     ghost view = { λ r. record { prepared = r.prepared.items; active = r.active.items } };
 
-    ghost invariant = { λ r. IsRun r.prepared.items r.active.items };
+    ghost invariant = { λ r. IsLockedRun r.locks r.prepared.items r.active.items };
 }
 
 impl Run {
@@ -75,6 +80,7 @@ impl Run {
             alloc,
             prepared: Vec::new(alloc),
             active: Vec::new(alloc),
+            locks: LockTable::new(alloc),
         }
     }
 
@@ -90,6 +96,7 @@ impl Run {
             alloc,
             prepared: Vec::new(alloc),
             active,
+            locks: LockTable::new(alloc),
         })
     }
 
@@ -173,13 +180,24 @@ impl Run {
         self.run_attempts_within(None)
     }
 
+    /// Those that an asker passes: the prepared members of its group, and itself.
+    fn passed_by(&self, asker: &Member) -> Members
+        ensures { result ≡ passed_numbers asker.now self.now }
+    {
+        let mut pass = Members::new();
+        let group = Passed::Group(asker.group());
+        let itself = Passed::Itself(asker.tx());
+        gather_passed(self.prepared.as_slice(), group, &mut pass);
+        gather_passed(self.active.as_slice(), itself, &mut pass);
+        pass
+    }
+
     /// The least member that holds a use in conflict with one of those that a member asks for, save itself and the
     /// prepared members of its group.
     pub fn blocker(&self, asker: &Member, asked: &[Use]) -> Option<Tx>
         ensures { (s : State) → result ≡ blocker (with_run self.now s) asker.now asked.now }
     {
-        let least = first_conflicting(self.active.as_slice(), asked, Passed::Itself(asker.tx()));
-        least_conflicting(self.prepared(), asked, Passed::Group(asker.group()), least)
+        least_in_conflict(&self.locks, asked, &self.passed_by(asker))
     }
 
     /// The same of one that asks for the uses of a statement, which are put together.
@@ -222,7 +240,10 @@ impl Run {
         ensures prepared { self.new.prepared ≡ self.old.prepared }
         ensures err { OnErr result (self.new ≡ self.old) }
     {
-        change::hold(self.alloc, self.active.as_mut_slice(), tx, asked)
+        let uses = uses_with(self.alloc, self.active.as_slice(), tx, asked)?;
+        lock(&mut self.locks, self.alloc, tx, asked)?;
+        change::hold(self.active.as_mut_slice(), tx, uses);
+        Ok(())
     }
 
     /// A member that isn't prepared holds the uses that are asked for too, and its next statement is in the pool.
@@ -233,7 +254,10 @@ impl Run {
         ensures prepared { self.new.prepared ≡ self.old.prepared }
         ensures err { OnErr result (self.new ≡ self.old) }
     {
-        change::post(self.alloc, self.active.as_mut_slice(), tx, asked)
+        let uses = uses_with(self.alloc, self.active.as_slice(), tx, asked)?;
+        lock(&mut self.locks, self.alloc, tx, asked)?;
+        change::post(self.active.as_mut_slice(), tx, uses);
+        Ok(())
     }
 
     /// A member that isn't prepared takes the answer of its statement, and is at the next one. Where memory runs out
@@ -336,6 +360,7 @@ impl Run {
     {
         let mut committed = room;
         take_group(&mut self.prepared, group, &mut committed);
+        self.locks.drop_group(&member_numbers(committed.as_slice()));
         committed
     }
 
@@ -347,6 +372,7 @@ impl Run {
     {
         remove(&mut self.prepared, numbers);
         remove(&mut self.active, numbers);
+        self.locks.drop_group(numbers);
     }
 
     fn run_attempts_within(&self, group: Option<Tx>) -> RunAttempts

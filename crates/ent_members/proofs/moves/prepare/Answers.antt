@@ -1,8 +1,8 @@
-use Rattle.std.proofs.Common.{◌≡◌, List, [], ◌∷◌, ◌++◌, not, get_or, filter, ap, subst, ◌∙◌}
+use Rattle.std.proofs.Common.{◌≡◌, List, [], ◌∷◌, ◌++◌, not, get_or, filter, sym, ap, subst, ◌∙◌}
 use Rattle.ent_protocol.specs.Member.{is_tx}
 use Rattle.ent_protocol.specs.State.{Member}
 use Rattle.ent_members.specs.Places.{IsAt}
-use Rattle.ent_members.proofs.Moved.{run_prepared}
+use Rattle.ent_members.proofs.LockedRuns.{run_locked_prepared}
 use Rattle.ent_members.proofs.OneMember.{found_at, removed_at}
 use Rattle.ent_members.proofs.moves.prepare.Goals as goal
 
@@ -23,12 +23,12 @@ returns-in-Some-clause-ok c = λ member there.
           ∙ ap (λ (m : Member). filter (λ other. not (is_tx m.tx other)) active) same;
     }
 
-pub returns-in-Some-clause-run : goal.returns-in-Some-clause-run
-returns-in-Some-clause-run c =
+pub returns-in-Some-clause-locked : goal.returns-in-Some-clause-locked
+returns-in-Some-clause-locked c = λ locks run.
     let active = c.args.active.now.items in
     let prepared = c.args.prepared.now.items in
     let gone = c.remove-member.result in
     let at : IsAt active c.args.tx c.in-Some.at =
     subst (λ (ms : List Member). IsAt ms c.args.tx c.in-Some.at) c.as_slice.ensures.value c.in-Some.ensures.some in
     rw (c.push_reserved.ensures.items, c.in_ok-reserve.ensures.items, c.remove-member.ensures.items)
-    (run_prepared prepared active c.in-Some.at gone gone at.in_range c.requires.run)
+    (run_locked_prepared locks prepared active c.in-Some.at gone at.in_range (sym c.remove-member.ensures.value) run)

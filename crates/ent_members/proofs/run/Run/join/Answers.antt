@@ -1,13 +1,15 @@
 use Rattle.std.proofs.Common.{◌≡◌, ℕ, List, ◌++◌, sym, ap, ◌∙◌}
 use Rattle.ent_members.specs.Joined.{labels_in}
 use Rattle.ent_members.specs.Run.{Run}
-use Rattle.ent_members.proofs.JoinedGroups.{joins, labels-append, run_joined}
+use Rattle.ent_members.proofs.JoinedGroups.{joins, labels-append}
+use Rattle.ent_members.proofs.LockedRuns.{run_locked_joined}
 use Rattle.ent_members.proofs.run.Run.join.Goals as goal
 
 pub invariant_of-self : goal.invariant_of-self
 invariant_of-self c =
     rw (c.join_groups.ensures, c.join_groups-2.ensures)
-    (run_joined c.gather_labels-2.new.labels c.self.inside.prepared.items c.self.inside.active.items c.self.invariant)
+    (run_locked_joined c.gather_labels-2.new.labels c.self.inside.locks c.self.inside.prepared.items
+    c.self.inside.active.items c.self.invariant)
 
 labels_are : (c : goal.After-join_groups-2)
     → c.gather_labels-2.new.labels ≡ labels_in c.args.numbers.now (c.args.self.now.prepared ++ c.args.self.now.active)

@@ -1,0 +1,4 @@
+use Rattle.ent_members.proofs.run.Run.prepare.Goals as goal
+
+pub invariant_of-self : goal.invariant_of-self
+invariant_of-self c = c.prepare.ensures.locked c.self.inside.locks c.self.invariant
