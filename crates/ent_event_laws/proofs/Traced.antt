@@ -10,7 +10,7 @@ use Rattle.ent_semantics.specs.declared.answer.Failure.{Failure}
 use Rattle.ent_semantics.specs.Database.{Database, Environment, nothing_bound}
 use Rattle.ent_semantics.specs.Effect.{Effect}
 use Rattle.ent_semantics.specs.Entangled.{Valuation}
-use Rattle.ent_semantics.specs.Serial.{Operation, Run, Runs, ReadView, Turn, after, answered_first, operations_of}
+use Rattle.ent_semantics.specs.Serial.{Operation, Run, ReadView, Turn, after, answered_first, operations_of}
 use Rattle.ent_semantics.specs.Serial.{ended, ran_first, run, script_run, script_read_views, scripts_run}
 use Rattle.ent_semantics.specs.Serial.{scripts_read_views, seen, seen_after, seen_from, read_views}
 use Rattle.ent_semantics.specs.Statement.{statement_meaning}
