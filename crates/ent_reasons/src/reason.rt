@@ -53,22 +53,15 @@ impl<'a> Reason<'a> {
         }
     }
 
-    /// That it was rolled back for the sake of another one, and where that one stood.
+    /// That it was rolled back for the sake of another one, where that one stood, and what ties it to that one.
     fn put_other<W: fmt::Write>(&self, f: &mut fmt::Formatter<W>, other: Tx) -> fmt::Result {
         write!(f, "rolled back with tx {other} of its group (")?;
         self.put_spot(f, other)?;
-        self.put_tie(f, "; ")?;
-        write!(f, "): ")
-    }
-
-    /// Who ties it to the one for whose sake it was rolled back, where that is known.
-    fn put_tie<W: fmt::Write>(&self, f: &mut fmt::Formatter<W>, before: &str) -> fmt::Result {
-        let tie = self.observations.tie_of(self.tx);
-        if tie.is_empty() {
-            return Ok(());
+        let tied = Tied(self.observations.tie_of(self.tx));
+        if !tied.is_empty() {
+            write!(f, "; {tied}")?;
         }
-        let tied = Tied(tie);
-        write!(f, "{before}{tied}")
+        write!(f, "): ")
     }
 
     fn put_rolled_back<W: fmt::Write>(&self, f: &mut fmt::Formatter<W>, by: Tx) -> fmt::Result {
@@ -102,8 +95,11 @@ impl<'a> Reason<'a> {
         if victim == self.tx {
             return write!(f, "rolled back to break a deadlock: {ring}");
         }
-        write!(f, "rolled back with tx {victim} of its group, ")?;
-        self.put_tie(f, "")?;
+        write!(f, "rolled back with tx {victim} of its group")?;
+        let tied = Tied(self.observations.tie_of(self.tx));
+        if !tied.is_empty() {
+            write!(f, " ({tied})")?;
+        }
         write!(f, ", to break a deadlock: {ring}")
     }
 

@@ -71,12 +71,23 @@ impl fmt::Display for Others<'_> {
 #[derive(Clone, Copy)]
 pub(crate) struct Tied<'a>(pub(crate) &'a [Tx]);
 
+impl Tied<'_> {
+    /// Whether nobody is tied to another one.
+    pub(crate) fn is_empty(&self) -> bool {
+        self.0.len() < 2
+    }
+}
+
 impl fmt::Display for Tied<'_> {
     fn fmt<W: fmt::Write>(&self, f: &mut fmt::Formatter<W>) -> fmt::Result {
-        let mut between = "tied by joint answers: ";
-        for tx in self.0 {
-            write!(f, "{between}tx {tx}")?;
-            between = ", ";
+        let mut before = "joint answers of";
+        let mut last = self.0.first();
+        for next in self.0.get(1..).unwrap_or(&[]) {
+            if let Some(one) = last {
+                write!(f, "{before} tx {one} and tx {next}")?;
+            }
+            before = ",";
+            last = Some(next);
         }
         Ok(())
     }
