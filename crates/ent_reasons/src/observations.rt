@@ -1,4 +1,6 @@
 //! What is seen of all transactions, and the joint answers of a run.
+ghost use Rattle.std.specs.Prelude.{◌<◌, OnOk, length};
+
 use crate::observation::{Need, Observation};
 use crate::walk::Walk;
 use ent_group::{MOST_MEMBERS, Members, Tx};
@@ -85,12 +87,7 @@ impl Observations {
 
     fn of_mut(&mut self, tx: Tx) -> Result<&mut Kept, AllocError> {
         let place = tx as usize;
-        while self.kept.len() <= place {
-            self.kept.push(Kept {
-                observation: None,
-                tie: Members::new(),
-            })?;
-        }
+        extend_to(&mut self.kept, place)?;
         Ok(&mut self.kept[place])
     }
 
@@ -127,4 +124,17 @@ impl Observations {
             None => &[],
         }
     }
+}
+
+/// Keeps nothing of each transaction up to one of which nothing is kept yet. Where memory runs out it may be fewer.
+fn extend_to(kept: &mut Vec<Kept>, place: usize) -> Result<(), AllocError>
+    ensures { OnOk result (place < length kept.new.items) }
+{
+    while kept.len() <= place {
+        kept.push(Kept {
+            observation: None,
+            tie: Members::new(),
+        })?;
+    }
+    Ok(())
 }
