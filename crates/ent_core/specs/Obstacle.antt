@@ -67,11 +67,11 @@ IsHeldBack s tx None = CanMove s tx
 abbrev pub AreBetween : List Use → List Use → Option Conflict → Type 0
 AreBetween asked held between = MatchOption between (NoConflict asked held) (IsConflict asked held)
 
--- between what a member's next statement asks for and what another member holds
+abbrev pub BetweenMembers : State → Option Conflict → Option Member → Option Member → Type 0
+BetweenMembers s between (Some asking) (Some holding) = AreBetween (next_uses (next_of s asking)) holding.uses between
+BetweenMembers s between (Some asking) None = between ≡ None
+BetweenMembers s between None other = between ≡ None
+
+-- between what a member's next statement asks for and what another member holds; where one is none there is nothing
 abbrev pub IsBetween : State → ℕ → ℕ → Option Conflict → Type 0
-IsBetween s asker holder between = by_members (active_member s asker) (member_of s holder)
-  where
-    by_members : Option Member → Option Member → Type 0
-    by_members (Some asking) (Some holding) = AreBetween (next_uses (next_of s asking)) holding.uses between
-    by_members (Some asking) None = between ≡ None
-    by_members None other = between ≡ None
+IsBetween s asker holder between = BetweenMembers s between (active_member s asker) (member_of s holder)
