@@ -86,7 +86,7 @@ pub(crate) struct Meant<'a> {
 
 /// The first text of a demanded tuple for which one that is near is offered, in statements that offer rows of the
 /// relation.
-pub(crate) fn meant<'a>(
+pub(crate) fn meant_text<'a>(
     alloc: Global,
     all: &[&'a Entangled],
     tuple: &'a Tuple,

@@ -1,5 +1,5 @@
 //! Demands that nothing in an input is offered for, and answer relations that nobody demands.
-use crate::names::{Meant, Relations, entangled_of, meant, near_relation, text_of};
+use crate::names::{Meant, Relations, entangled_of, meant_text, near_relation, text_of};
 use crate::offer::{is_demanded, is_named, is_offered};
 use ent_fault_text::{Excerpt, Explanation, Line, Place};
 use ent_sql::parse_input;
@@ -107,7 +107,7 @@ impl<'a> Warnings<'a> {
         relation: &Identifier,
     ) -> Result<(), AllocError> {
         let name = text_of(&relation.name);
-        match meant(alloc, all, tuple, &relation.name)? {
+        match meant_text(alloc, all, tuple, &relation.name)? {
             Some(Meant { written, near }) => {
                 let sentence = format!(in alloc;
                     "no statement offers a row of {name} with this text"
