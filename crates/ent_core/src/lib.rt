@@ -3,7 +3,7 @@
 //! A [`Core`] is opened over an opening, takes scripts, and makes one event a call. Its type keeps that its state is
 //! reached: events led to it from the state of its opening. A caller may rely on it that each call's reply and the
 //! state that it leaves are those of its event, that after want of memory the state is as it was, and that a look-up
-//! takes no memory.
+//! takes no memory, but for [`Core::obstacle`].
 #![tactic(auto)]
 
 mod advance;
