@@ -1,4 +1,4 @@
-use Rattle.std.proofs.Common.{ℕ, ◌+◌, ◌-◌, length}
+use Rattle.std.proofs.Common.{◌+◌, ◌-◌, length}
 use Rattle.ent_reasons.proofs.observations.extend_to.Given as goal
 
 abbrev pub decreases-loop-kept : goal.decreases-loop-kept
