@@ -28,6 +28,9 @@ where
         Err(ending) => return said(rt, ending),
     };
     match read_command_line(rt.alloc(), words.as_slice()) {
+        Ok(Asked::Run(asked)) if asked.is_explained && asked.workers > 0 => {
+            explains_no_workers(rt, asked.workers)
+        }
         Ok(Asked::Run(asked)) => {
             say_what_is_read(rt, is_terminal, "tables, rows and scripts");
             run(rt, threads, asked)
@@ -50,6 +53,16 @@ pub(crate) fn said<R: Eprint>(rt: &R, ending: Ending) -> Ending {
         let _ = eprintln!(rt; "{}", FaultLine(fault));
     }
     ending
+}
+
+/// Why transactions don't commit is told of runs on one thread: that it is asked for with workers is a fault of the
+/// command line, and is said.
+fn explains_no_workers<R: Eprint>(rt: &R, workers: usize) -> Ending {
+    let _ = eprintln!(rt;
+        "error: the argument '--explain' cannot be used with '--workers {workers}': \
+         what stops transactions is told of runs on one thread"
+    );
+    Ending::Misused
 }
 
 /// Says at a terminal what is read from there, and how that ends.

@@ -5,15 +5,16 @@ use crate::ending::Ending;
 use crate::words::AskedRun;
 use ent_engine::{RunFault, read_whole, run_watched, run_workers};
 use ent_fault_text::{InputFault, explain_fault, valid_text};
-use ent_reasons::{Notes, Reasons};
+use ent_reasons::Reasons;
 use ent_trace::Trace;
 use ent_value::Watched;
-use ent_watchers::{Both, NoteTaker};
+use ent_warnings::Warnings;
+use ent_watchers::{Both, Foreword, NoteTaker};
 use std::alloc::AllocError;
-use std::io;
 use std::io::Read;
 use std::sync::Wait;
 use std::thread::Threads;
+use std::{fmt, io};
 
 /// Runs the scripts of standard input. A fault is a line on standard error, and an explanation below it where that is
 /// asked for.
@@ -23,40 +24,59 @@ where
     T: Threads + Wait + Sync,
 {
     if asked.is_explained {
-        return run_explained(rt, threads, asked);
+        return run_explained(rt, asked);
     }
     said(rt, Ending::from(run_over(rt, threads, rt.reader(), asked)))
 }
 
 /// Reads all of standard input and runs its scripts, so that a fault of the input can be explained, and why
 /// transactions didn't commit.
-fn run_explained<R, T>(rt: &R, threads: &T, asked: AskedRun) -> Ending
+fn run_explained<R>(rt: &R, asked: AskedRun) -> Ending
 where
     R: AllocGlobal + Input + Print + Eprint,
-    T: Threads + Wait + Sync,
 {
     let mut reader = Watched::new(rt.reader());
     let input = match read_whole(rt.alloc(), &mut reader) {
         Ok(input) => input,
         Err(fault) => return said(rt, Ending::Faulty(fault)),
     };
-    let ran = if asked.workers == 0 {
-        run_noted(rt, input.as_slice(), asked)
-    } else {
-        run_over(rt, threads, input.as_slice(), asked)
-    };
-    if let Err(fault) = ran {
-        let ending = said(rt, Ending::Faulty(fault));
-        explain(rt, input.as_slice(), fault);
-        return ending;
+    match run_noted(rt, input.as_slice(), asked) {
+        Ok(()) => Ending::Done,
+        Err(fault) => {
+            let ending = said(rt, Ending::Faulty(fault));
+            explain(rt, input.as_slice(), fault);
+            ending
+        }
     }
-    if asked.workers > 0 {
-        let _ = eprintln!(rt; "why transactions don't commit is told without --workers");
-    }
-    Ending::Done
 }
 
-/// Runs the scripts of an input on one thread, and says behind their report why transactions didn't commit.
+/// What is said before the scripts of an input run.
+#[derive(Drop)]
+enum Before<'a> {
+    Warns(Warnings<'a>),
+    MemoryRanOut,
+}
+
+impl<'a> Before<'a> {
+    fn of<R: AllocGlobal>(rt: &R, input: &'a [u8]) -> Self {
+        match Warnings::of(rt.alloc(), valid_text(input)) {
+            Ok(warnings) => Before::Warns(warnings),
+            Err(AllocError) => Before::MemoryRanOut,
+        }
+    }
+}
+
+impl fmt::Display for Before<'_> {
+    fn fmt<W: fmt::Write>(&self, f: &mut fmt::Formatter<W>) -> fmt::Result {
+        match self {
+            Before::Warns(warnings) => write!(f, "{warnings}"),
+            Before::MemoryRanOut => write!(f, "memory ran out for warnings\n"),
+        }
+    }
+}
+
+/// Runs the scripts of an input on one thread. Says before what can't be answered, and behind the report why
+/// transactions didn't commit.
 fn run_noted<R>(rt: &R, input: &[u8], asked: AskedRun) -> Result<(), RunFault>
 where
     R: AllocGlobal + Print + Eprint,
@@ -64,26 +84,35 @@ where
     let mut reader = Watched::new(input);
     let mut writer = Watched::new(io::writer(rt));
     let options = asked.options;
+    let foreword = Foreword::new(rt, Before::of(rt, input));
+    let taker = NoteTaker::new(rt.alloc());
     if !asked.is_traced {
-        let mut taker = NoteTaker::new(rt.alloc());
-        run_watched(rt.alloc(), &mut reader, &mut writer, options, &mut taker)?;
-        tell_reasons(rt, input, taker.into_notes());
+        let mut both = Both {
+            first: foreword,
+            second: taker,
+        };
+        run_watched(rt.alloc(), &mut reader, &mut writer, options, &mut both)?;
+        tell_reasons(rt, input, both.second);
         return Ok(());
     }
-    let mut both = Both {
-        first: Trace::new(rt.alloc(), rt),
-        second: NoteTaker::new(rt.alloc()),
+    let mut all = Both {
+        first: foreword,
+        second: Both {
+            first: Trace::new(rt.alloc(), rt),
+            second: taker,
+        },
     };
-    let ran = run_watched(rt.alloc(), &mut reader, &mut writer, options, &mut both);
-    let Both { first, second } = both;
+    let ran = run_watched(rt.alloc(), &mut reader, &mut writer, options, &mut all);
+    let Both { first, second } = all.second;
     traced(ran, first.close())?;
-    tell_reasons(rt, input, second.into_notes());
+    tell_reasons(rt, input, second);
     Ok(())
 }
 
 /// Says why transactions didn't commit. Where memory runs out for that, this is what is said.
-fn tell_reasons<R: AllocGlobal + Eprint>(rt: &R, input: &[u8], notes: Notes) {
-    let _ = match Reasons::of(rt.alloc(), valid_text(input), notes) {
+fn tell_reasons<R: AllocGlobal + Eprint>(rt: &R, input: &[u8], taker: NoteTaker) {
+    let (notes, observations) = taker.into_parts();
+    let _ = match Reasons::of(rt.alloc(), valid_text(input), notes, observations) {
         Ok(reasons) => eprint!(rt; "{reasons}"),
         Err(AllocError) => eprintln!(rt; "memory ran out for why transactions didn't commit"),
     };

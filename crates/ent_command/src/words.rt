@@ -125,7 +125,7 @@ fn explain<'a>(alloc: Global) -> Arg<'a> {
         .action(ArgAction::SetTrue)
         .help(
             "Says where an input that is refused has its fault, what is wrong there, and what helps; \
-             and without --workers, why transactions didn't commit",
+             else why transactions didn't commit; only with --workers 0",
         )
 }
 

@@ -9,6 +9,7 @@ pub mod Ending
 pub mod Finishing
 pub mod JointResults
 pub mod Keeping
+pub mod Obstacles
 pub mod OnePlace
 pub mod Opening
 pub mod Outstanding

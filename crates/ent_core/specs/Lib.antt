@@ -6,6 +6,7 @@ pub mod Finish
 pub mod Joining
 pub mod Kept
 pub mod Kinds
+pub mod Obstacle
 pub mod Pick
 pub mod Play
 pub mod Reply

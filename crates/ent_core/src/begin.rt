@@ -40,7 +40,7 @@ use std::sync::Arc;
 
 /// Why a member may not begin what comes next.
 #[derive(Clone, Copy)]
-enum BeginRefusal {
+pub(crate) enum BeginRefusal {
     /// No such member of the run.
     Absent,
     /// It is prepared, or its statement is in the pool, or the result of its job is awaited.
@@ -99,7 +99,7 @@ fn plan_ordinary(
 }
 
 /// A member's statement, as it is to be posted.
-fn query_of(member: &Member, statement: Arc<Entangled<Value>>) -> Posted
+pub(crate) fn query_of(member: &Member, statement: Arc<Entangled<Value>>) -> Posted
     ensures { result ≡ posted_as member.now (arc_value statement) }
 {
     let place = member.place() as u64;
@@ -143,7 +143,7 @@ fn member_at_turn(store: &Store, tx: Tx) -> Result<&Member, BeginRefusal>
 }
 
 /// The member of a number, where nothing keeps it from what comes next.
-fn free_member(store: &Store, tx: Tx) -> Result<&Member, BeginRefusal>
+pub(crate) fn free_member(store: &Store, tx: Tx) -> Result<&Member, BeginRefusal>
     ensures number { IfOk result (λ member. member.now.tx ≡ tx) }
     ensures free { IfOk result (λ member. IsFree store.now tx member.now) }
     ensures hindered { IfErr result (λ refusal. Begins store.now tx (begin_refusal_seen refusal) store.now) }

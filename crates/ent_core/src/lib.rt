@@ -3,7 +3,7 @@
 //! A [`Core`] is opened over an opening, takes scripts, and makes one event a call. Its type keeps that its state is
 //! reached: events led to it from the state of its opening. A caller may rely on it that each call's reply and the
 //! state that it leaves are those of its event, that after want of memory the state is as it was, and that a look-up
-//! takes no memory.
+//! takes no memory, but for [`Core::obstacle`].
 #![tactic(auto)]
 
 mod advance;
@@ -18,6 +18,7 @@ mod finish;
 mod join_answer;
 mod joining;
 mod lookup;
+mod obstacle;
 mod open;
 mod pick;
 mod play;
@@ -35,6 +36,7 @@ pub use closing::{NotClosed, NotDone};
 pub use copies::{answer_copy, answers_copy};
 pub use ent_waits::Reason;
 pub use event::Event;
+pub use obstacle::Obstacle;
 pub use play::{PlayFault, Played};
 pub use reached::Core;
 pub use reply::Reply;

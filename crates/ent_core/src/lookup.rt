@@ -1,14 +1,18 @@
 //! What is told of a core without an event. No look-up takes memory.
-ghost use Rattle.std.specs.Prelude.{◌≡◌};
+ghost use Rattle.std.specs.Prelude.{◌≡◌, MatchOption};
 ghost use Rattle.std.specs.Option.{option_copied, option_map};
 ghost use Rattle.ent_core.specs.Kinds.{kinds_of_table};
+ghost use Rattle.ent_core.specs.Obstacle.{HasNoneOf, IsOf};
 ghost use Rattle.ent_protocol.specs.Lookup.{answers_of, dormant_at, entry_at, group_of, present_rows};
 ghost use Rattle.ent_protocol.specs.Lookup.{running_members};
+ghost use Rattle.ent_protocol.specs.Member.{pool};
 ghost use Rattle.ent_protocol.specs.Reached.{scripts_of};
 ghost use Rattle.ent_semantics.specs.Serial.{numbered};
 
+use crate::obstacle::posted_of;
 use crate::store::Store;
 use ent_group::{Members, Tx};
+use ent_match::Posted;
 use ent_members::Entrant;
 use ent_next::{script_of, with_number};
 use ent_rel::Table;
@@ -69,6 +73,13 @@ pub(crate) fn group(store: &Store, tx: Tx) -> Members
         Some(member) => store.run.group_numbers(member.group()),
         None => Members::new(),
     }
+}
+
+/// The posted statement of a transaction, where there is one.
+pub(crate) fn posted(store: &Store, tx: Tx) -> Option<&Posted>
+    ensures { MatchOption result (HasNoneOf (pool store.now) tx) (λ query. IsOf (pool store.now) tx query.now) }
+{
+    posted_of(store.pool.members(), tx)
 }
 
 /// The answers of a member's statements so far; none where it is no member.

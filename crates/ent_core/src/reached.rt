@@ -1,15 +1,17 @@
 //! The core whose type keeps that its state is reached.
-ghost use Rattle.std.specs.Prelude.{IfErr, IfOk, IsOk, None, OnErr, OnOk, Some, true, ℕ, ◌≡◌, ◌∷◌, [], length};
+ghost use Rattle.std.specs.Prelude.{IfErr, IfOk, IsOk, MatchOption, None, OnErr, OnOk, Some, true, ℕ, ◌≡◌};
+ghost use Rattle.std.specs.Prelude.{◌∷◌, [], length};
 ghost use Rattle.std.specs.List.{AllByRecursion};
 ghost use Rattle.std.specs.Option.{option_copied, option_map};
 ghost use Rattle.ent_book.specs.Tables.{book_seen};
 ghost use Rattle.ent_core.specs.Kinds.{kinds_of_table};
+ghost use Rattle.ent_core.specs.Obstacle.{HasNoneOf, IsBetween, IsObstacle, IsOf};
 ghost use Rattle.ent_core.specs.Reply.{reply_seen};
 ghost use Rattle.ent_core.specs.Standing.{standing_seen};
 ghost use Rattle.ent_form.specs.OpeningFault.{opening_fault, unless};
 ghost use Rattle.ent_protocol.specs.Event.{Begin, Blocked, BreakCycle, EndRun, Finish, JoinAnswer, Pick};
 ghost use Rattle.ent_protocol.specs.Event.{Recall, StartRun, Submit};
-ghost use Rattle.ent_protocol.specs.Member.{RollsBack, active_member, next_of};
+ghost use Rattle.ent_protocol.specs.Member.{RollsBack, active_member, next_of, pool};
 ghost use Rattle.ent_protocol.specs.State.{Member};
 ghost use Rattle.ent_protocol.specs.Job as jobs;
 ghost use Rattle.ent_protocol.specs.PoolEvents.{IsOutstandingJoint};
@@ -33,6 +35,7 @@ use crate::end_run::end_run;
 use crate::finish::{finish, finish_at_once};
 use crate::join_answer::{join_answer, join_answer_at_once};
 use crate::lookup;
+use crate::obstacle::{Obstacle, conflict_between, obstacle_of};
 use crate::open::open;
 use crate::pick::pick;
 use crate::recall::recall;
@@ -46,7 +49,8 @@ use ent_eval::Done;
 use ent_form::FormFault;
 use ent_group::{Members, Tx};
 use ent_headline::resolved_runs_are_legal;
-use ent_members::Entrant;
+use ent_match::Posted;
+use ent_members::{Conflict, Entrant};
 use ent_protocol::{closing_gives_the_book, reached_states_are_tidy};
 use ent_protocol_laws::steps_go_on;
 use ent_rel::Table;
@@ -380,5 +384,28 @@ impl Core {
         ensures { option_map standing_seen result ≡ standing self.now tx }
     {
         standing_of(&self.store, tx)
+    }
+
+    /// Why the member of a number can't move now: what a begin of it would be refused for, and where it stands then.
+    /// None where a begin would get on. Only a member at an entangled statement that isn't posted takes memory.
+    pub fn obstacle(&self, tx: Tx) -> Result<Option<Obstacle>, AllocError>
+        ensures { IfOk result (IsObstacle self.now tx) }
+    {
+        obstacle_of(&self.store, tx)
+    }
+
+    /// The posted statement of a transaction, with its host variables' values; none where it has posted none.
+    pub fn posted(&self, tx: Tx) -> Option<&Posted>
+        ensures { MatchOption result (HasNoneOf (pool self.now) tx) (λ query. IsOf (pool self.now) tx query.now) }
+    {
+        lookup::posted(&self.store, tx)
+    }
+
+    /// The table on which what a member's next statement asks for is in conflict with what another member holds, and
+    /// in which modes; none where nothing is.
+    pub fn conflict(&self, asker: Tx, holder: Tx) -> Option<Conflict>
+        ensures { IsBetween self.now asker holder result }
+    {
+        conflict_between(&self.store, asker, holder)
     }
 }

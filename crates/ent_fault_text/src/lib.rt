@@ -30,4 +30,5 @@ pub use excerpt::Excerpt;
 pub use explanation::{Explanation, explain_fault};
 pub use fault::{InputFault, valid_text};
 pub use line::Line;
+pub use names::nearest;
 pub use place::Place;

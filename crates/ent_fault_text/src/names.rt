@@ -18,7 +18,7 @@ fn is_near(alloc: Global, name: &str, other: &str) -> Result<bool, AllocError> {
 }
 
 /// The first of some names that is the same in another case; else the first that differs by one letter.
-pub(crate) fn nearest<'a>(
+pub fn nearest<'a>(
     alloc: Global,
     name: &str,
     others: &[&'a str],

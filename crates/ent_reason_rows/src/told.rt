@@ -1,8 +1,10 @@
 //! What was told of transactions, a line each: their numbers, a colon, and what changes for all of them.
 use anyhow::{Result, anyhow, bail};
 use ent_group::{Members, Tx};
-use ent_reasons::{Change, LastStatus, Notes, Reasons};
+use ent_lock::Mode;
+use ent_reasons::{Block, Change, LastStatus, Need, Notes, Observation, Observations, Reasons};
 use ent_semantics::Failure;
+use ent_value::{Name, is_word};
 use std::alloc::Global;
 
 /// Stands between the input and what was told.
@@ -14,10 +16,14 @@ pub(crate) fn reasons_of(alloc: Global, text: &str) -> Result<Reasons> {
         bail!("nothing is told");
     };
     let mut notes = Notes::new(alloc);
+    let mut observations = Observations::new(alloc);
     for line in told.lines() {
-        take(alloc, &mut notes, line)?;
+        match line.strip_prefix("seen ") {
+            Some(seen) => see(alloc, &mut observations, seen)?,
+            None => take(alloc, &mut notes, line)?,
+        }
     }
-    Ok(Reasons::of(alloc, input, notes)?)
+    Ok(Reasons::of(alloc, input, notes, observations)?)
 }
 
 /// Takes a line, as `1 2: starts`; or the line `lost`.
@@ -65,6 +71,77 @@ fn last_status_of(words: &[&str]) -> Result<LastStatus> {
         ["no_choice", partners @ ..] => Ok(LastStatus::NoChoice(listed(partners)?)),
         ["broken", cycle @ ..] => Ok(LastStatus::Broken(listed(cycle)?)),
         _ => Err(anyhow!("nothing that can be told")),
+    }
+}
+
+/// Takes a line of what was seen.
+fn see(alloc: Global, observations: &mut Observations, line: &str) -> Result<()> {
+    let words: Vec<&str> = line.split(' ').collect(alloc)?;
+    match words.as_slice() {
+        ["started", members @ ..] => observations.start(&listed(members)?),
+        ["answered", members @ ..] => observations.join(&listed(members)?),
+        ["gone", by, members @ ..] => observations.tie(&listed(members)?, number_of(by)?),
+        [tx, "of", group, seen @ ..] => {
+            let observation = observation_of(alloc, number_of(group)?, seen)?;
+            observations.see(number_of(tx)?, Some(observation));
+        }
+        _ => bail!("nothing that can be seen: {line}"),
+    }
+    Ok(())
+}
+
+/// What is seen of a transaction of a group.
+fn observation_of(alloc: Global, group: Tx, words: &[&str]) -> Result<Observation> {
+    let mut need = Need::Nothing;
+    let mut blocks = Vec::new(alloc);
+    match words {
+        [] => {}
+        ["met", owners @ ..] => need = Need::Met(listed(owners)?),
+        ["unmet", number, demand @ ..] => {
+            need = Need::Unmet {
+                number: number_of(number)? as usize,
+                demand: joined(alloc, demand)?,
+            }
+        }
+        ["blocked", holder, table, asked, held] => blocks.push(Block {
+            holder: number_of(holder)?,
+            table: name_of(alloc, table)?,
+            asked: mode_of(asked)?,
+            held: mode_of(held)?,
+        })?,
+        _ => bail!("nothing that can be seen of a transaction"),
+    }
+    Ok(Observation {
+        group,
+        need,
+        blocks,
+    })
+}
+
+/// Words with a blank between each two.
+fn joined(alloc: Global, words: &[&str]) -> Result<Vec<u8>> {
+    let mut text = Vec::new(alloc);
+    for word in words {
+        if !text.is_empty() {
+            text.push(b' ')?;
+        }
+        text.extend_from_slice(word.as_bytes())?;
+    }
+    Ok(text)
+}
+
+fn name_of(alloc: Global, word: &str) -> Result<Name> {
+    if !is_word(word.as_bytes()) {
+        bail!("no name: {word}");
+    }
+    Ok(Name::new(alloc, word.as_bytes())?)
+}
+
+fn mode_of(word: &str) -> Result<Mode> {
+    match word {
+        "shared" => Ok(Mode::Shared),
+        "exclusive" => Ok(Mode::Exclusive),
+        _ => Err(anyhow!("no mode: {word}")),
     }
 }
 

@@ -1,28 +1,43 @@
 //! Why a transaction didn't commit.
+use crate::demand::Lacking;
 use crate::last_status::LastStatus;
 use crate::note::Note;
+use crate::observations::Observations;
 use crate::script_lines::ScriptLines;
-use crate::waiting::{Others, Ring};
+use crate::tables::{Manner, TableName, block_of};
+use crate::waiting::{Others, Ring, Tied};
 use ent_group::{Members, Tx};
 use ent_semantics::Failure;
 use std::fmt;
 
-/// Why a transaction didn't commit, from the notes of all, by number. Printed it is two lines without an end of the
-/// last: its fate, as the report has it; and where it stood in its last run and what stopped it there.
+/// Why a transaction didn't commit, from the notes of all, by number, and from what was seen. Printed it is two lines
+/// without an end of the last: its fate, as the report has it; and where it stood in its last run and what stopped it
+/// there.
 #[derive(Clone, Copy)]
 pub(crate) struct Reason<'a> {
     tx: Tx,
     notes: &'a [Note],
+    observations: &'a Observations,
     lines: &'a ScriptLines,
 }
 
 impl<'a> Reason<'a> {
     /// None of a transaction that committed.
-    pub(crate) fn of(tx: Tx, notes: &'a [Note], lines: &'a ScriptLines) -> Option<Self> {
+    pub(crate) fn of(
+        tx: Tx,
+        notes: &'a [Note],
+        observations: &'a Observations,
+        lines: &'a ScriptLines,
+    ) -> Option<Self> {
         let note = notes.get(tx as usize)?;
         match note.last_status {
             LastStatus::Committed => None,
-            _ => Some(Reason { tx, notes, lines }),
+            _ => Some(Reason {
+                tx,
+                notes,
+                observations,
+                lines,
+            }),
         }
     }
 
@@ -38,10 +53,14 @@ impl<'a> Reason<'a> {
         }
     }
 
-    /// That it was rolled back for the sake of another one, and where that one stood.
+    /// That it was rolled back for the sake of another one, where that one stood, and what ties it to that one.
     fn put_other<W: fmt::Write>(&self, f: &mut fmt::Formatter<W>, other: Tx) -> fmt::Result {
         write!(f, "rolled back with tx {other} of its group (")?;
         self.put_spot(f, other)?;
+        let tied = Tied(self.observations.tie_of(self.tx));
+        if !tied.is_empty() {
+            write!(f, "; {tied}")?;
+        }
         write!(f, "): ")
     }
 
@@ -68,15 +87,20 @@ impl<'a> Reason<'a> {
     }
 
     fn put_broken<W: fmt::Write>(&self, f: &mut fmt::Formatter<W>, cycle: &Members) -> fmt::Result {
-        let ring = Ring(cycle);
+        let ring = Ring {
+            cycle,
+            observations: self.observations,
+        };
         let victim = cycle.get(0).unwrap_or(0);
         if victim == self.tx {
             return write!(f, "rolled back to break a deadlock: {ring}");
         }
-        write!(
-            f,
-            "rolled back with tx {victim} of its group, to break a deadlock: {ring}"
-        )
+        write!(f, "rolled back with tx {victim} of its group")?;
+        let tied = Tied(self.observations.tie_of(self.tx));
+        if !tied.is_empty() {
+            write!(f, " ({tied})")?;
+        }
+        write!(f, ", to break a deadlock: {ring}")
     }
 
     fn put_no_choice<W: fmt::Write>(
@@ -94,6 +118,38 @@ impl<'a> Reason<'a> {
         )
     }
 
+    /// That it was posted, and what it lacked: what nobody offered, of all that it hangs on.
+    fn put_posted<W: fmt::Write>(
+        &self,
+        f: &mut fmt::Formatter<W>,
+        tried: Option<&Members>,
+    ) -> fmt::Result {
+        let way = self.observations.way_to_unmet(self.tx);
+        if let Some(lacking) = Lacking::at_end(self.observations, &way) {
+            return write!(f, "posted, and not answered: {lacking}");
+        }
+        match tried {
+            Some(all) => self.put_no_choice(f, all),
+            None => write!(
+                f,
+                "posted, and not answered: nobody offered what it, or a partner, demands"
+            ),
+        }
+    }
+
+    fn put_blocked<W: fmt::Write>(&self, f: &mut fmt::Formatter<W>, holder: Tx) -> fmt::Result {
+        let Some(block) = block_of(self.observations, self.tx, holder) else {
+            return write!(f, "blocked by tx {holder}, which held a table that it uses");
+        };
+        let table = TableName(block);
+        let held = Manner(block.held);
+        let asked = Manner(block.asked);
+        write!(
+            f,
+            "blocked by tx {holder}, which held {table} {held}; the statement uses it {asked}"
+        )
+    }
+
     fn put_last_status<W: fmt::Write>(
         &self,
         f: &mut fmt::Formatter<W>,
@@ -101,9 +157,7 @@ impl<'a> Reason<'a> {
     ) -> fmt::Result {
         match last_status {
             LastStatus::Free | LastStatus::Committed => write!(f, "nothing stood in its way"),
-            LastStatus::Blocked(holder) => {
-                write!(f, "blocked by tx {holder}, which held a table that it uses")
-            }
+            LastStatus::Blocked(holder) => self.put_blocked(f, *holder),
             LastStatus::HeldBack {
                 asker,
                 post,
@@ -113,11 +167,8 @@ impl<'a> Reason<'a> {
                 f,
                 "held back, since demand {post} of tx {asker} would meet offers of two, tx {first} and tx {second}"
             ),
-            LastStatus::Posted => write!(
-                f,
-                "posted, and not answered: nobody offered what it, or a partner, demands"
-            ),
-            LastStatus::NoChoice(all) => self.put_no_choice(f, all),
+            LastStatus::Posted => self.put_posted(f, None),
+            LastStatus::NoChoice(all) => self.put_posted(f, Some(all)),
             LastStatus::Prepared => {
                 write!(f, "it asked to commit, and others of its group never did")
             }

@@ -2,6 +2,7 @@
 ghost use Rattle.std.specs.Prelude.{◌≡◌, IfOk};
 
 use crate::notes::Notes;
+use crate::observations::Observations;
 use crate::reason::Reason;
 use crate::script_lines::ScriptLines;
 use ent_group::Tx;
@@ -12,16 +13,27 @@ use std::fmt;
 #[derive(Drop)]
 pub struct Reasons {
     notes: Notes,
+    observations: Observations,
     lines: ScriptLines,
 }
 
 impl Reasons {
-    /// Those of the scripts of an input, from the notes of their runs.
-    pub fn of(alloc: Global, text: &str, notes: Notes) -> Result<Self, AllocError>
+    /// Those of the scripts of an input, from the notes of their runs, and from what was seen in them.
+    pub fn of(
+        alloc: Global,
+        text: &str,
+        notes: Notes,
+        observations: Observations,
+    ) -> Result<Self, AllocError>
         ensures notes { IfOk result (λ reasons. reasons.notes ≡ notes) }
+        ensures observations { IfOk result (λ reasons. reasons.observations ≡ observations) }
     {
         let lines = ScriptLines::of(alloc, text)?;
-        Ok(Reasons { notes, lines })
+        Ok(Reasons {
+            notes,
+            observations,
+            lines,
+        })
     }
 }
 
@@ -32,7 +44,7 @@ impl fmt::Display for Reasons {
         }
         let notes = self.notes.by_number();
         for number in 1..notes.len() {
-            if let Some(reason) = Reason::of(number as Tx, notes, &self.lines) {
+            if let Some(reason) = Reason::of(number as Tx, notes, &self.observations, &self.lines) {
                 write!(f, "{reason}\n")?;
             }
         }

@@ -1,21 +1,43 @@
 //! Transactions, as sentences list them.
+use crate::observations::Observations;
+use crate::tables::{TableName, block_by_group};
 use ent_group::{Members, Tx};
 use std::fmt;
 
-/// A deadlock's transactions, each of which waits for the next, and the last for the first.
+/// A deadlock's transactions, each of which waits for the next, and the last for the first, with the tables where they
+/// were seen.
 #[derive(Clone, Copy)]
-pub(crate) struct Ring<'a>(pub(crate) &'a Members);
+pub(crate) struct Ring<'a> {
+    pub(crate) cycle: &'a Members,
+    pub(crate) observations: &'a Observations,
+}
+
+impl Ring<'_> {
+    fn put_step<W: fmt::Write>(&self, f: &mut fmt::Formatter<W>, from: Tx, to: Tx) -> fmt::Result {
+        write!(f, "tx {from} waited for tx {to}")?;
+        let Some(block) = block_by_group(self.observations, from, to) else {
+            return Ok(());
+        };
+        let table = TableName(block);
+        let holder = block.holder;
+        if holder == to {
+            write!(f, " ({table})")
+        } else {
+            write!(f, " ({table}, which tx {holder} of its group held)")
+        }
+    }
+}
 
 impl fmt::Display for Ring<'_> {
     fn fmt<W: fmt::Write>(&self, f: &mut fmt::Formatter<W>) -> fmt::Result {
-        let first = self.0.get(0).unwrap_or(0);
-        write!(f, "tx {first}")?;
-        for to in self.0.as_slice() {
-            if *to != first {
-                write!(f, " waited for tx {to}, and tx {to}")?;
-            }
+        let first = self.cycle.get(0).unwrap_or(0);
+        let mut from = first;
+        for to in self.cycle.as_slice().get(1..).unwrap_or(&[]) {
+            self.put_step(f, from, *to)?;
+            write!(f, ", and ")?;
+            from = *to;
         }
-        write!(f, " waited for tx {first}")
+        self.put_step(f, from, first)
     }
 }
 
@@ -40,6 +62,32 @@ impl fmt::Display for Others<'_> {
                 write!(f, "{between}tx {tx}")?;
                 between = ", ";
             }
+        }
+        Ok(())
+    }
+}
+
+/// Transactions in a row, each of which was answered together with the next one.
+#[derive(Clone, Copy)]
+pub(crate) struct Tied<'a>(pub(crate) &'a [Tx]);
+
+impl Tied<'_> {
+    /// Whether nobody is tied to another one.
+    pub(crate) fn is_empty(&self) -> bool {
+        self.0.len() < 2
+    }
+}
+
+impl fmt::Display for Tied<'_> {
+    fn fmt<W: fmt::Write>(&self, f: &mut fmt::Formatter<W>) -> fmt::Result {
+        let mut before = "joint answers of";
+        let mut last = self.0.first();
+        for next in self.0.get(1..).unwrap_or(&[]) {
+            if let Some(one) = last {
+                write!(f, "{before} tx {one} and tx {next}")?;
+            }
+            before = ",";
+            last = Some(next);
         }
         Ok(())
     }

@@ -128,7 +128,7 @@ impl Counted {
     {
         let reply = self.core.recall();
         self.ticks.add();
-        watcher.tell(Told::Recall, &reply);
+        watcher.tell(Told::Recall, &reply, &self.core);
         reply
     }
 
@@ -142,7 +142,7 @@ impl Counted {
     {
         let reply = self.core.start_run()?;
         self.ticks.add();
-        watcher.tell(Told::StartRun, &reply);
+        watcher.tell(Told::StartRun, &reply, &self.core);
         Ok(reply)
     }
 
@@ -173,7 +173,7 @@ impl Counted {
     {
         let reply = self.core.begin(tx)?;
         self.ticks.add();
-        watcher.tell(Told::Begin(tx), &reply);
+        watcher.tell(Told::Begin(tx), &reply, &self.core);
         Ok(reply)
     }
 
@@ -193,7 +193,7 @@ impl Counted {
         let mark = watcher.mark(&done);
         let reply = self.core.finish_at_once(done)?;
         self.ticks.add();
-        watcher.tell(Told::Finish(mark), &reply);
+        watcher.tell(Told::Finish(mark), &reply, &self.core);
         Ok(reply)
     }
 
@@ -206,7 +206,7 @@ impl Counted {
     {
         let reply = self.core.pick()?;
         self.ticks.add();
-        watcher.tell(Told::Pick, &reply);
+        watcher.tell(Told::Pick, &reply, &self.core);
         Ok(reply)
     }
 
@@ -227,7 +227,7 @@ impl Counted {
         let mark = watcher.mark(&done);
         let reply = self.core.join_answer_at_once(done)?;
         self.ticks.add();
-        watcher.tell(Told::JoinAnswer(mark), &reply);
+        watcher.tell(Told::JoinAnswer(mark), &reply, &self.core);
         Ok(reply)
     }
 
@@ -238,7 +238,7 @@ impl Counted {
     {
         let reply = self.core.break_cycle();
         self.ticks.add();
-        watcher.tell(Told::BreakCycle, &reply);
+        watcher.tell(Told::BreakCycle, &reply, &self.core);
         reply
     }
 
@@ -251,7 +251,7 @@ impl Counted {
     {
         let reply = self.core.end_run()?;
         self.ticks.add();
-        watcher.tell(Told::EndRun, &reply);
+        watcher.tell(Told::EndRun, &reply, &self.core);
         Ok(reply)
     }
 

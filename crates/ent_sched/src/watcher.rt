@@ -5,7 +5,7 @@ ghost use Rattle.ent_protocol.specs.Event.{Event};
 ghost use Rattle.ent_protocol.specs.Job as jobs;
 ghost use Rattle.ent_sched.specs.Watching.{Exchange, TellsOf};
 
-use ent_core::Reply;
+use ent_core::{Core, Reply};
 use ent_eval::Done;
 use ent_group::Tx;
 
@@ -41,8 +41,9 @@ pub trait Watcher {
     fn mark(&self, done: &Done) -> Self::Mark
         ensures { marks result done.now };
 
-    /// An event was made, and replied to so. It can't fail; a watcher that may has its own mark of that.
-    fn tell(&mut self, told: Told<Self::Mark>, reply: &Reply)
+    /// An event was made, and replied to so, which left the core as it is now. It can't fail; a watcher that may has its
+    /// own mark of that.
+    fn tell(&mut self, told: Told<Self::Mark>, reply: &Reply, core: &Core)
         ensures { (event : Event)
             → TellsOf marks told event
             → hears self.old (event, reply_seen reply.now) self.new };
@@ -65,7 +66,7 @@ impl Watcher for Silent {
 
     fn mark(&self, _done: &Done) {}
 
-    fn tell(&mut self, _told: Told<()>, _reply: &Reply)
+    fn tell(&mut self, _told: Told<()>, _reply: &Reply, _core: &Core)
         ensures { self.new ≡ self.old }
     {}
 }

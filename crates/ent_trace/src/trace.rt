@@ -4,7 +4,7 @@ ghost use Rattle.std.specs.Prelude.{◌≡◌};
 use crate::event::put_event;
 use crate::reply::put_reply;
 use crate::text::Text;
-use ent_core::Reply;
+use ent_core::{Core, Reply};
 use ent_eval::Done;
 use ent_sched::{Told, Watcher};
 use std::alloc::Global;
@@ -73,7 +73,7 @@ impl<E: Eprint> Watcher for Trace<'_, E> {
         self.lent
     }
 
-    fn tell(&mut self, told: Told<u64>, reply: &Reply)
+    fn tell(&mut self, told: Told<u64>, reply: &Reply, _core: &Core)
         ensures { self.new.alloc ≡ self.old.alloc }
     {
         put_event(&mut self.text, &told);

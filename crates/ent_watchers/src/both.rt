@@ -3,7 +3,7 @@ ghost use Rattle.ent_core.specs.Reply.{reply_seen};
 ghost use Rattle.ent_protocol.specs.Event.{Event};
 ghost use Rattle.ent_sched.specs.Watching.{TellsOf};
 
-use ent_core::Reply;
+use ent_core::{Core, Reply};
 use ent_eval::Done;
 use ent_sched::{Told, Watcher};
 
@@ -49,14 +49,14 @@ impl<A: Watcher, B: Watcher> Watcher for Both<A, B> {
         (self.first.mark(done), self.second.mark(done))
     }
 
-    fn tell(&mut self, told: Told<(A::Mark, B::Mark)>, reply: &Reply)
+    fn tell(&mut self, told: Told<(A::Mark, B::Mark)>, reply: &Reply, core: &Core)
         ensures { (event : Event)
             → TellsOf (λ mark done. A.marks mark.0 done × B.marks mark.1 done) told event
             → A.hears self.old.first (event, reply_seen reply.now) self.new.first
             × B.hears self.old.second (event, reply_seen reply.now) self.new.second }
     {
         let (first, second) = parted::<A, B>(told);
-        self.first.tell(first, reply);
-        self.second.tell(second, reply);
+        self.first.tell(first, reply, core);
+        self.second.tell(second, reply, core);
     }
 }

@@ -18,7 +18,7 @@ pub(crate) struct News<'a> {
 }
 
 /// The first of some transactions, or 0, which is none.
-fn first_party(own: &Members) -> Tx
+pub(crate) fn first_party(own: &Members) -> Tx
     ensures { result ≡ first_party own.now }
 {
     own.get(0).unwrap_or(0)

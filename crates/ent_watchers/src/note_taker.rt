@@ -1,4 +1,4 @@
-//! A watcher that notes what each transaction was told last.
+//! A watcher that notes what each transaction was told last, and what stopped it.
 ghost use Rattle.std.specs.Prelude.{◌≡◌, [], map, true};
 ghost use Rattle.ent_job.specs.Work.{work_seen};
 ghost use Rattle.ent_core.specs.Reply.{reply_seen};
@@ -7,19 +7,22 @@ ghost use Rattle.ent_protocol.specs.Event.{Event};
 ghost use Rattle.ent_sched.specs.Watching.{TellsOf};
 ghost use Rattle.ent_watchers.specs.Marking.{AreHeld, Marks};
 
-use crate::news::{News, news_of};
-use ent_core::Reply;
+use crate::looks::look;
+use crate::news::{News, first_party, news_of};
+use ent_core::{Core, Reply};
 use ent_eval::{Done, Work};
-use ent_group::Members;
+use ent_group::{Members, Tx};
 use ent_match::Posted;
-use ent_reasons::Notes;
+use ent_reasons::{Notes, Observations};
 use ent_sched::{Told, Watcher};
 use std::alloc::Global;
 
-/// Notes what each transaction was told last in its run.
+/// Notes what each transaction was told last in its run, and what was seen of it when nothing could be answered.
 #[derive(Drop)]
 pub struct NoteTaker {
+    alloc: Global,
     notes: Notes,
+    observations: Observations,
 }
 
 impl NoteTaker {
@@ -29,16 +32,23 @@ impl NoteTaker {
         ensures whole { result.notes.is_whole ≡ true }
     {
         NoteTaker {
+            alloc,
             notes: Notes::new(alloc),
+            observations: Observations::new(alloc),
         }
     }
 
-    /// What it has noted.
-    pub fn into_notes(self) -> Notes
-        ensures { result ≡ self.notes }
+    /// What it has noted, and what it has seen.
+    pub fn into_parts(self) -> (Notes, Observations)
+        ensures notes { result.0 ≡ self.notes }
+        ensures observations { result.1 ≡ self.observations }
     {
-        let NoteTaker { notes } = self;
-        notes
+        let NoteTaker {
+            notes,
+            observations,
+            ..
+        } = self;
+        (notes, observations)
     }
 }
 
@@ -97,6 +107,45 @@ fn hear(notes: &mut Notes, told: Told<Option<Members>>, reply: &Reply)
     }
 }
 
+/// Those whose result was handed in; nobody where that is no joint answer.
+fn joined(told: &Told<Option<Members>>) -> Option<&Members> {
+    match told {
+        Told::JoinAnswer(own) => own.as_ref(),
+        _ => None,
+    }
+}
+
+/// Who made an event; 0, which is none, where it is of nobody.
+fn maker(told: &Told<Option<Members>>) -> Tx {
+    match told {
+        Told::Begin(tx) => *tx,
+        Told::Finish(Some(own)) => first_party(own),
+        _ => 0,
+    }
+}
+
+/// Notes what is seen of a core behind an event and its reply.
+fn see(
+    alloc: Global,
+    observations: &mut Observations,
+    told: &Told<Option<Members>>,
+    reply: &Reply,
+    core: &Core,
+) {
+    match reply {
+        Reply::Started(members) => observations.start(members),
+        Reply::Nothing => look(alloc, observations, core),
+        Reply::Answered => {
+            if let Some(own) = joined(told) {
+                observations.join(own);
+            }
+        }
+        Reply::RolledBack(group) | Reply::Failed(_, group) => observations.tie(group, maker(told)),
+        Reply::Broken(cycle, group) => observations.tie(group, first_party(cycle)),
+        _ => {}
+    }
+}
+
 impl Watcher for NoteTaker {
     type Mark = Option<Members>;
 
@@ -113,11 +162,12 @@ impl Watcher for NoteTaker {
         workers(done.job().work())
     }
 
-    fn tell(&mut self, told: Told<Option<Members>>, reply: &Reply)
+    fn tell(&mut self, told: Told<Option<Members>>, reply: &Reply, core: &Core)
         ensures { (event : Event)
             → TellsOf Marks told event
             → IsHeard self.old.notes (event, reply_seen reply.now) self.new.notes }
     {
+        see(self.alloc, &mut self.observations, &told, reply, core);
         hear(&mut self.notes, told, reply);
     }
 }

@@ -1,0 +1,41 @@
+use Rattle.std.proofs.Common.{◌≡◌, ◌∙◌, ℕ, Option, Some, None, ap, refl, subst, sym}
+use Rattle.ent_members.specs.declared.conflict.Conflict.{Conflict}
+use Rattle.ent_protocol.specs.Lookup.{member_of}
+use Rattle.ent_protocol.specs.Member.{active_member}
+use Rattle.ent_protocol.specs.State.{State, Member}
+use Rattle.ent_core.specs.Obstacle.{BetweenMembers, IsBetween}
+use Rattle.ent_core.specs.contracts.store.Store.{the_view}
+use Rattle.ent_core.proofs.obstacle.conflict_between.Goals as goal
+
+-- what holds of two members, or of none, holds of their numbers
+of_members : (s : State) (asker holder : ℕ) (between : Option Conflict) (asking holding : Option Member)
+    → active_member s asker ≡ asking → member_of s holder ≡ holding → BetweenMembers s between asking holding
+    → IsBetween s asker holder between
+of_members s asker holder between asking holding one other is =
+    subst (λ o. BetweenMembers s between o (member_of s holder)) (sym one)
+    (subst (λ o. BetweenMembers s between asking o) (sym other) is)
+
+pub returns-in-Some-member : goal.returns-in-Some-member
+returns-in-Some-member c =
+    let s : State = the_view c.store.inside in
+    let member = c.in-Some.member.now in
+    let other = c.in-Some-member.other.now in
+    of_members c.args.store.now c.args.asker c.args.holder c.conflict_of.result (Some member) (Some other)
+    (ap (λ (x : State). active_member x c.args.asker) (sym c.store.view_is) ∙ sym (c.in-Some.ensures s))
+    (ap (λ (x : State). member_of x c.args.holder) (sym c.store.view_is) ∙ sym (c.in-Some-member.ensures s))
+    c.conflict_of.ensures
+
+pub returns-in-None-member : goal.returns-in-None-member
+returns-in-None-member c =
+    let s : State = the_view c.store.inside in
+    let member = c.in-Some.member.now in
+    of_members c.args.store.now c.args.asker c.args.holder None (Some member) None
+    (ap (λ (x : State). active_member x c.args.asker) (sym c.store.view_is) ∙ sym (c.in-Some.ensures s))
+    (ap (λ (x : State). member_of x c.args.holder) (sym c.store.view_is) ∙ sym (c.in-None-member.ensures s))
+    refl
+
+pub returns-in-None : goal.returns-in-None
+returns-in-None c =
+    let s : State = the_view c.store.inside in
+    of_members c.args.store.now c.args.asker c.args.holder None None (member_of c.args.store.now c.args.holder)
+    (ap (λ (x : State). active_member x c.args.asker) (sym c.store.view_is) ∙ sym (c.in-None.ensures s)) refl refl

@@ -1,0 +1,82 @@
+use Rattle.std.proofs.Common.{◌≡◌, ◌∙◌, List, ap, refl, subst, sym}
+use Rattle.std.specs.Arc.{arc_value}
+use Rattle.ent_coordination.specs.Pool.{IsSafe, Posted}
+use Rattle.ent_headline.specs.Resolved.{resolved_forms}
+use Rattle.ent_match.specs.Posting.{HasNone}
+use Rattle.ent_next.specs.Next.{next_seen}
+use Rattle.ent_protocol.specs.Member.{Asks, Commits, Ordinary, RollsBack, next_in, next_of, pool}
+use Rattle.ent_protocol.specs.State.{State, Submitted}
+use Rattle.ent_semantics.specs.Serial.{numbered}
+use Rattle.ent_core.specs.contracts.store.Store.{the_view}
+use Rattle.ent_core.proofs.Obstacles.{moves_commits, moves_ordinary, moves_rolls_back, told_of_pool}
+use Rattle.ent_core.proofs.Posting.{none_there, to_post}
+use Rattle.ent_core.proofs.obstacle.held_back.Goals as goal
+
+pub post_fault-requires-clause-safe : goal.post_fault-requires-clause-safe
+post_fault-requires-clause-safe c =
+    subst (λ (posted : List Posted). IsSafe posted) (sym c.members.ensures.members) c.members.ensures.safe
+
+pub post_fault-requires-clause-none : goal.post_fault-requires-clause-none
+post_fault-requires-clause-none c =
+    let now = c.args.store.now in
+    let member = c.args.member.now in
+    let asks : Asks (arc_value c.in-Asks.statement) ≡ next_of now member =
+    sym (ap next_seen c.in-Asks.is) ∙ c.in_ok-statement.ensures.next
+    ∙ ap (λ (scripts : List Submitted). next_in (numbered scripts member.tx) member) c.as_slice.ensures.value
+    ∙ ap (λ (x : State). next_of x member) c.store.view_is in
+    let query = c.query_of-query.result in
+    let plan = to_post now member query (arc_value c.in-Asks.statement) c.requires.free (sym asks)
+    c.query_of-query.ensures in
+    let all : pool now ≡ c.members.result.now =
+    ap pool (sym c.store.view_is) ∙ c.store.invariant.posted (the_view c.store.inside) refl refl
+    ∙ sym c.members.ensures.members in
+    subst (λ (posted : List Posted). HasNone posted query) all
+    (none_there now member.tx query plan
+    (c.members_stand_by_number.ensures resolved_forms now c.requires.kept.reached))
+
+pub returns-in-Ordinary : goal.returns-in-Ordinary
+returns-in-Ordinary c =
+    let now = c.args.store.now in
+    let member = c.args.member.now in
+    let next : Ordinary c.in-Ordinary.statement ≡ next_of now member =
+    sym (ap next_seen c.in-Ordinary.is) ∙ c.in_ok-statement.ensures.next
+    ∙ ap (λ (scripts : List Submitted). next_in (numbered scripts member.tx) member) c.as_slice.ensures.value
+    ∙ ap (λ (x : State). next_of x member) c.store.view_is in
+    moves_ordinary now member c.requires.free c.in-Ordinary.statement (sym next)
+
+pub returns-in_ok-fault-in-Asks : goal.returns-in_ok-fault-in-Asks
+returns-in_ok-fault-in-Asks c =
+    let now = c.args.store.now in
+    let member = c.args.member.now in
+    let asks : Asks (arc_value c.in-Asks.statement) ≡ next_of now member =
+    sym (ap next_seen c.in-Asks.is) ∙ c.in_ok-statement.ensures.next
+    ∙ ap (λ (scripts : List Submitted). next_in (numbered scripts member.tx) member) c.as_slice.ensures.value
+    ∙ ap (λ (x : State). next_of x member) c.store.view_is in
+    let query = c.query_of-query.result in
+    let plan = to_post now member query (arc_value c.in-Asks.statement) c.requires.free (sym asks)
+    c.query_of-query.ensures in
+    let all : pool now ≡ c.members.result.now =
+    ap pool (sym c.store.view_is) ∙ c.store.invariant.posted (the_view c.store.inside) refl refl
+    ∙ sym c.members.ensures.members in
+    told_of_pool now member.tx query plan c.members.result.now all c.in_ok-fault-in-Asks.fault
+    c.in_ok-fault-in-Asks.ensures
+
+pub returns-in-Commits : goal.returns-in-Commits
+returns-in-Commits c =
+    let now = c.args.store.now in
+    let member = c.args.member.now in
+    let next : Commits ≡ next_of now member =
+    sym (ap next_seen c.in-Commits.is) ∙ c.in_ok-statement.ensures.next
+    ∙ ap (λ (scripts : List Submitted). next_in (numbered scripts member.tx) member) c.as_slice.ensures.value
+    ∙ ap (λ (x : State). next_of x member) c.store.view_is in
+    moves_commits now member c.requires.free (sym next)
+
+pub returns-in-RollsBack : goal.returns-in-RollsBack
+returns-in-RollsBack c =
+    let now = c.args.store.now in
+    let member = c.args.member.now in
+    let next : RollsBack ≡ next_of now member =
+    sym (ap next_seen c.in-RollsBack.is) ∙ c.in_ok-statement.ensures.next
+    ∙ ap (λ (scripts : List Submitted). next_in (numbered scripts member.tx) member) c.as_slice.ensures.value
+    ∙ ap (λ (x : State). next_of x member) c.store.view_is in
+    moves_rolls_back now member c.requires.free (sym next)

@@ -1,0 +1,140 @@
+//! What is seen of all transactions, and the joint answers of a run.
+ghost use Rattle.std.specs.Prelude.{◌<◌, OnOk, length};
+
+use crate::observation::{Need, Observation};
+use crate::walk::Walk;
+use ent_group::{MOST_MEMBERS, Members, Tx};
+use std::alloc::{AllocError, Global};
+
+/// What is kept of a transaction.
+#[derive(Drop)]
+struct Kept {
+    observation: Option<Observation>,
+    /// Who ties it to the one for whose sake it was rolled back, from itself to that one.
+    tie: Members,
+}
+
+/// What was seen last of each transaction in its last run, and by which joint answers it hangs together with the one
+/// for whose sake it was rolled back. Where memory runs out for one, less is told of it.
+#[derive(Drop)]
+pub struct Observations {
+    /// By number; there is no transaction 0.
+    kept: Vec<Kept>,
+    /// The joint answers of the present run.
+    joints: Vec<Members>,
+}
+
+impl Observations {
+    /// Nothing is seen yet.
+    pub fn new(alloc: Global) -> Self {
+        Observations {
+            kept: Vec::new(alloc),
+            joints: Vec::new(alloc),
+        }
+    }
+
+    /// A run of these starts: nothing is seen of them yet.
+    pub fn start(&mut self, members: &Members) {
+        self.joints.clear();
+        for tx in members.as_slice() {
+            if let Ok(kept) = self.of_mut(*tx) {
+                *kept = Kept {
+                    observation: None,
+                    tie: Members::new(),
+                };
+            }
+        }
+    }
+
+    /// These were answered together.
+    pub fn join(&mut self, members: &Members) {
+        let _ = self.joints.push(members.copy());
+    }
+
+    /// This is seen of a transaction now.
+    pub fn see(&mut self, tx: Tx, observation: Option<Observation>) {
+        if let Ok(kept) = self.of_mut(tx) {
+            kept.observation = observation;
+        }
+    }
+
+    /// A group is rolled back for the sake of one of it.
+    pub fn tie(&mut self, group: &Members, by: Tx) {
+        for tx in group.as_slice() {
+            let way = self.way_between(*tx, by);
+            if let Ok(kept) = self.of_mut(*tx) {
+                kept.tie = way;
+            }
+        }
+    }
+
+    /// From one to another, each answered together with the next one.
+    fn way_between(&self, one: Tx, other: Tx) -> Members {
+        let mut walk = Walk::new(one);
+        for place in 0..MOST_MEMBERS {
+            let Some(tx) = walk.get(place) else {
+                break;
+            };
+            if tx == other {
+                return walk.way_to(place);
+            }
+            for joint in self.joints.iter().filter(|joint| joint.contains(tx)) {
+                walk.reach(joint, place);
+            }
+        }
+        Members::new()
+    }
+
+    fn of_mut(&mut self, tx: Tx) -> Result<&mut Kept, AllocError> {
+        let place = tx as usize;
+        extend_to(&mut self.kept, place)?;
+        Ok(&mut self.kept[place])
+    }
+
+    /// What was seen last of a transaction in its last run, if anything was.
+    pub fn observation(&self, tx: Tx) -> Option<&Observation> {
+        self.kept.get(tx as usize)?.observation.as_ref()
+    }
+
+    /// From a transaction to one that has a demand for which nobody offers a match, each next one offering a match for
+    /// a demand of the one before; nobody where there is no such one.
+    pub fn way_to_unmet(&self, tx: Tx) -> Members {
+        let mut walk = Walk::new(tx);
+        for place in 0..MOST_MEMBERS {
+            let Some(here) = walk.get(place) else {
+                break;
+            };
+            match self.need(here) {
+                Some(Need::Unmet { .. }) => return walk.way_to(place),
+                Some(Need::Met(owners)) => walk.reach(owners, place),
+                _ => {}
+            }
+        }
+        Members::new()
+    }
+
+    fn need(&self, tx: Tx) -> Option<&Need> {
+        Some(&self.observation(tx)?.need)
+    }
+
+    /// From a transaction to the one for whose sake it was rolled back, each answered together with the next one.
+    pub fn tie_of(&self, tx: Tx) -> &[Tx] {
+        match self.kept.get(tx as usize) {
+            Some(kept) => kept.tie.as_slice(),
+            None => &[],
+        }
+    }
+}
+
+/// Keeps nothing of each transaction up to one of which nothing is kept yet. Where memory runs out it may be fewer.
+fn extend_to(kept: &mut Vec<Kept>, place: usize) -> Result<(), AllocError>
+    ensures { OnOk result (place < length kept.new.items) }
+{
+    while kept.len() <= place {
+        kept.push(Kept {
+            observation: None,
+            tie: Members::new(),
+        })?;
+    }
+    Ok(())
+}

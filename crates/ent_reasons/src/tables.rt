@@ -1,0 +1,53 @@
+//! Tables that stood in conflict.
+use crate::observation::Block;
+use crate::observations::Observations;
+use ent_group::Tx;
+use ent_lock::Mode;
+use std::{fmt, str};
+
+/// The table on which a holder stood in conflict with a transaction, if that was seen.
+pub(crate) fn block_of(observations: &Observations, tx: Tx, holder: Tx) -> Option<&Block> {
+    let blocks = observations.observation(tx)?.blocks.as_slice();
+    blocks.iter().find(|block| block.holder == holder)
+}
+
+/// The table on which one of the group of another stood in conflict with a transaction, if that was seen; that one first.
+pub(crate) fn block_by_group(observations: &Observations, tx: Tx, other: Tx) -> Option<&Block> {
+    if let Some(own) = block_of(observations, tx, other) {
+        return Some(own);
+    }
+    let group = observations.observation(other)?.group;
+    let blocks = observations.observation(tx)?.blocks.as_slice();
+    blocks.iter().find(|block| group_of(observations, block.holder) == Some(group))
+}
+
+fn group_of(observations: &Observations, tx: Tx) -> Option<Tx> {
+    Some(observations.observation(tx)?.group)
+}
+
+/// How a table is used.
+#[derive(Clone, Copy)]
+pub(crate) struct Manner(pub(crate) Mode);
+
+impl fmt::Display for Manner {
+    fn fmt<W: fmt::Write>(&self, f: &mut fmt::Formatter<W>) -> fmt::Result {
+        match self.0 {
+            Mode::Shared => write!(f, "shared"),
+            Mode::Exclusive => write!(f, "exclusively"),
+        }
+    }
+}
+
+/// The name of a table.
+#[derive(Clone, Copy)]
+pub(crate) struct TableName<'a>(pub(crate) &'a Block);
+
+impl fmt::Display for TableName<'_> {
+    fn fmt<W: fmt::Write>(&self, f: &mut fmt::Formatter<W>) -> fmt::Result {
+        write!(
+            f,
+            "{}",
+            str::from_utf8(self.0.table.as_bytes()).unwrap_or("..")
+        )
+    }
+}

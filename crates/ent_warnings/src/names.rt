@@ -1,0 +1,140 @@
+//! Answer relations and texts that may be meant.
+use ent_fault_text::nearest;
+use ent_tree::{
+    Condition, Entangled, Identifier, Literal, Script, Statement, Term, Tuple, ValueSpecification,
+};
+use ent_value::{Name, Value};
+use std::alloc::{AllocError, Global};
+use std::str;
+
+/// A name as text. Names are ASCII.
+pub(crate) fn text_of(name: &Name) -> &str {
+    str::from_utf8(name.as_bytes()).unwrap_or("")
+}
+
+/// The entangled statements of some scripts.
+pub(crate) fn entangled_of<'a>(
+    alloc: Global,
+    scripts: &'a [Script],
+) -> Result<Vec<&'a Entangled>, AllocError> {
+    let mut all = Vec::new(alloc);
+    for script in scripts {
+        for statement in script.statements.as_slice() {
+            if let Statement::Entangled(asked) = statement {
+                all.push(asked)?;
+            }
+        }
+    }
+    Ok(all)
+}
+
+/// The answer relations that are offered, and those that are demanded, each once, where it stands first.
+#[derive(Drop)]
+pub(crate) struct Relations<'a> {
+    pub(crate) offered: Vec<&'a Identifier>,
+    pub(crate) demanded: Vec<&'a Identifier>,
+}
+
+impl<'a> Relations<'a> {
+    pub(crate) fn of(alloc: Global, all: &[&'a Entangled]) -> Result<Self, AllocError> {
+        let mut relations = Relations {
+            offered: Vec::new(alloc),
+            demanded: Vec::new(alloc),
+        };
+        for asked in all {
+            for relation in asked.relations.as_slice() {
+                put(&mut relations.offered, relation)?;
+            }
+            for condition in asked.conditions.as_slice() {
+                if let Condition::InAnswer(_, relation) = condition {
+                    put(&mut relations.demanded, relation)?;
+                }
+            }
+        }
+        Ok(relations)
+    }
+}
+
+/// Puts an identifier in, unless one of its name is there.
+fn put<'a>(all: &mut Vec<&'a Identifier>, new: &'a Identifier) -> Result<(), AllocError> {
+    if all.iter().any(|own| own.name == new.name) {
+        return Ok(());
+    }
+    all.push(new)?;
+    Ok(())
+}
+
+/// The name of one of some relations that is near.
+pub(crate) fn near_relation<'a>(
+    alloc: Global,
+    name: &Name,
+    others: &[&'a Identifier],
+) -> Result<Option<&'a str>, AllocError> {
+    let mut names = Vec::new(alloc);
+    for other in others {
+        names.push(text_of(&other.name))?;
+    }
+    nearest(alloc, text_of(name), names.as_slice())
+}
+
+/// A text of a demand, and one that is near and offered in its place.
+#[derive(Clone, Copy)]
+pub(crate) struct Meant<'a> {
+    pub(crate) written: &'a Literal,
+    pub(crate) near: &'a str,
+}
+
+/// The first text of a demanded tuple for which one that is near is offered, in statements that offer rows of the
+/// relation.
+pub(crate) fn meant_text<'a>(
+    alloc: Global,
+    all: &[&'a Entangled],
+    tuple: &'a Tuple,
+    relation: &Name,
+) -> Result<Option<Meant<'a>>, AllocError> {
+    for (column, term) in tuple.terms.as_slice().iter().enumerate() {
+        let Some((written, text)) = written_text(term) else {
+            continue;
+        };
+        let offered = offered_texts(alloc, all, relation, column)?;
+        if offered.iter().any(|other| *other == text) {
+            continue;
+        }
+        if let Some(near) = nearest(alloc, text, offered.as_slice())? {
+            return Ok(Some(Meant { written, near }));
+        }
+    }
+    Ok(None)
+}
+
+/// The text that a term is, where it is written.
+fn written_text(term: &Term) -> Option<(&Literal, &str)> {
+    match term {
+        Term::Value(ValueSpecification::Literal(literal)) => match &literal.value {
+            Value::Text(text) => Some((literal, str::from_utf8(text.as_bytes()).ok()?)),
+            Value::Int(_) => None,
+        },
+        _ => None,
+    }
+}
+
+/// The texts that are written in a column of what is offered of a relation.
+fn offered_texts<'a>(
+    alloc: Global,
+    all: &[&'a Entangled],
+    relation: &Name,
+    column: usize,
+) -> Result<Vec<&'a str>, AllocError> {
+    let mut texts = Vec::new(alloc);
+    for asked in all {
+        if !asked.relations.iter().any(|own| own.name == *relation) {
+            continue;
+        }
+        if let Some(item) = asked.items.as_slice().get(column) {
+            if let Some((_, text)) = written_text(&item.term) {
+                texts.push(text)?;
+            }
+        }
+    }
+    Ok(texts)
+}

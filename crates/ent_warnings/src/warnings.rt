@@ -1,0 +1,163 @@
+//! Demands that nothing in an input is offered for, and answer relations that nobody demands.
+use crate::names::{Meant, Relations, entangled_of, meant_text, near_relation, text_of};
+use crate::offer::{is_demanded, is_named, is_offered};
+use ent_fault_text::{Excerpt, Explanation, Line, Place};
+use ent_sql::parse_input;
+use ent_tree::{Condition, Entangled, Identifier, Script, Tuple};
+use ent_value::Refusal;
+use std::alloc::{AllocError, Global};
+use std::fmt;
+
+/// How many warnings are told at most.
+const MOST_TOLD: usize = 20;
+
+/// What is told of an input before its scripts run. Printed it is three lines or four for each of the first twenty
+/// warnings, and a line of how many more there are, if there are; nothing where there is none.
+#[derive(Drop)]
+pub struct Warnings<'a> {
+    text: &'a str,
+    told: Vec<Explanation<'a>>,
+    more: usize,
+}
+
+impl<'a> Warnings<'a> {
+    /// Those of an input; none of a text that isn't one.
+    pub fn of(alloc: Global, text: &'a str) -> Result<Self, AllocError> {
+        let mut warnings = Warnings {
+            text,
+            told: Vec::new(alloc),
+            more: 0,
+        };
+        match parse_input(alloc, text) {
+            Ok(input) => warnings.warn(alloc, input.scripts.as_slice())?,
+            Err(Refusal::Fault(_)) => {}
+            Err(Refusal::Memory) => return Err(AllocError),
+        }
+        Ok(warnings)
+    }
+
+    fn warn(&mut self, alloc: Global, scripts: &[Script]) -> Result<(), AllocError> {
+        let all = entangled_of(alloc, scripts)?;
+        let relations = Relations::of(alloc, all.as_slice())?;
+        for relation in relations.demanded.iter() {
+            if !is_named(scripts, &relation.name) {
+                self.warn_unoffered(alloc, relation, relations.offered.as_slice())?;
+            }
+        }
+        for relation in relations.offered.iter() {
+            if !is_demanded(scripts, &relation.name) {
+                self.warn_undemanded(alloc, relation, relations.demanded.as_slice())?;
+            }
+        }
+        for asked in all.iter() {
+            self.warn_demands(alloc, scripts, all.as_slice(), asked)?;
+        }
+        Ok(())
+    }
+
+    /// Nobody offers rows of a relation that is demanded.
+    fn warn_unoffered(
+        &mut self,
+        alloc: Global,
+        relation: &Identifier,
+        offered: &[&Identifier],
+    ) -> Result<(), AllocError> {
+        let name = text_of(&relation.name);
+        let sentence = format!(in alloc; "no statement offers rows of {name}")?;
+        let near = near_relation(alloc, &relation.name, offered)?;
+        self.push(alloc, relation.place, name.len(), sentence, near)
+    }
+
+    /// Nobody demands rows of a relation that is offered.
+    fn warn_undemanded(
+        &mut self,
+        alloc: Global,
+        relation: &Identifier,
+        demanded: &[&Identifier],
+    ) -> Result<(), AllocError> {
+        let name = text_of(&relation.name);
+        let sentence = format!(in alloc; "no statement demands rows of {name}")?;
+        let near = near_relation(alloc, &relation.name, demanded)?;
+        self.push(alloc, relation.place, name.len(), sentence, near)
+    }
+
+    /// The demands of a statement for which nobody offers anything, though rows of their relations are offered.
+    fn warn_demands(
+        &mut self,
+        alloc: Global,
+        scripts: &[Script],
+        all: &[&Entangled],
+        asked: &Entangled,
+    ) -> Result<(), AllocError> {
+        for condition in asked.conditions.as_slice() {
+            if let Condition::InAnswer(tuple, relation) = condition {
+                if is_named(scripts, &relation.name) && !is_offered(scripts, tuple, relation) {
+                    self.warn_demand(alloc, all, tuple, relation)?;
+                }
+            }
+        }
+        Ok(())
+    }
+
+    fn warn_demand(
+        &mut self,
+        alloc: Global,
+        all: &[&Entangled],
+        tuple: &Tuple,
+        relation: &Identifier,
+    ) -> Result<(), AllocError> {
+        let name = text_of(&relation.name);
+        match meant_text(alloc, all, tuple, &relation.name)? {
+            Some(Meant { written, near }) => {
+                let sentence = format!(in alloc;
+                    "no statement offers a row of {name} with this text"
+                )?;
+                let near = format!(in alloc; "'{near}'")?;
+                self.push(alloc, written.place, 1, sentence, Some(near.as_str()))
+            }
+            None => {
+                let sentence = format!(in alloc; "no statement offers this row of {name}")?;
+                self.push(alloc, tuple.place, 1, sentence, None)
+            }
+        }
+    }
+
+    /// A warning of a place of the text, where so many columns are marked.
+    fn push(
+        &mut self,
+        alloc: Global,
+        offset: usize,
+        marked: usize,
+        sentence: String,
+        near: Option<&str>,
+    ) -> Result<(), AllocError> {
+        if self.told.len() >= MOST_TOLD {
+            self.more = self.more.saturating_add(1);
+            return Ok(());
+        }
+        let hint = match near {
+            Some(near) => Some(format!(in alloc; "did you mean {near}?")?),
+            None => None,
+        };
+        self.told.push(Explanation {
+            place: Place::of(self.text, offset),
+            sentence,
+            excerpt: Excerpt::of(Line::of(self.text, offset), marked),
+            hint,
+        })?;
+        Ok(())
+    }
+}
+
+impl fmt::Display for Warnings<'_> {
+    fn fmt<W: fmt::Write>(&self, f: &mut fmt::Formatter<W>) -> fmt::Result {
+        for warning in self.told.iter() {
+            write!(f, "{warning}\n")?;
+        }
+        let more = self.more;
+        if more > 0 {
+            write!(f, "and {more} more\n")?;
+        }
+        Ok(())
+    }
+}

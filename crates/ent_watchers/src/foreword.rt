@@ -1,0 +1,44 @@
+//! A watcher that says something before anything runs.
+use ent_core::{Core, Reply};
+use ent_eval::Done;
+use ent_sched::{Told, Watcher};
+use std::fmt::Display;
+use std::io::Eprint;
+
+/// Writes something to standard error as soon as it is told of an event, and nothing after that. What isn't told of any
+/// event, as an input that is refused, has no foreword.
+#[derive(Drop)]
+pub struct Foreword<'a, E, D> {
+    to: &'a E,
+    word: Option<D>,
+}
+
+impl<'a, E: Eprint, D: Display + Drop> Foreword<'a, E, D> {
+    pub fn new(to: &'a E, word: D) -> Self {
+        Foreword {
+            to,
+            word: Some(word),
+        }
+    }
+}
+
+impl<E: Eprint, D: Display + Drop> Watcher for Foreword<'_, E, D> {
+    type Mark = ();
+
+    // What is written isn't said here.
+    ghost hears = { λ old one new. Unit {0} };
+
+    ghost marks = { λ mark done. Unit {0} };
+
+    fn listens(&self) -> bool {
+        true
+    }
+
+    fn mark(&self, _done: &Done) {}
+
+    fn tell(&mut self, _told: Told<()>, _reply: &Reply, _core: &Core) {
+        if let Some(word) = self.word.take() {
+            let _ = eprint!(self.to; "{word}");
+        }
+    }
+}

@@ -1,0 +1,116 @@
+//! A look at a core: what stops the members of its run.
+use ent_closed::{Atom, Term};
+use ent_core::{Core, Obstacle};
+use ent_group::{Members, Tx};
+use ent_match::Demand;
+use ent_members::Conflict;
+use ent_reasons::{Block, Need, Observation, Observations};
+use ent_tree::{Duplicate, Opening};
+use ent_value::{Value, print_value};
+use std::alloc::{AllocError, Global};
+
+/// Notes what is seen of the members of a run. Where memory runs out for one, nothing is.
+pub(crate) fn look(alloc: Global, observations: &mut Observations, core: &Core) {
+    let members = core.members();
+    for tx in members.as_slice() {
+        observations.see(*tx, observation_of(alloc, core, &members, *tx).ok());
+    }
+}
+
+/// What is seen of a member.
+fn observation_of(
+    alloc: Global,
+    core: &Core,
+    members: &Members,
+    tx: Tx,
+) -> Result<Observation, AllocError> {
+    let group = core.group(tx).get(0).unwrap_or(tx);
+    let mut need = Need::Nothing;
+    let mut blocks = Vec::new(alloc);
+    match core.obstacle(tx)? {
+        Some(Obstacle::Posted(demand)) => need = need_of(alloc, core, tx, demand)?,
+        Some(Obstacle::Blocked(_)) => blocks = blocks_of(alloc, core, members, tx)?,
+        _ => {}
+    }
+    Ok(Observation {
+        group,
+        need,
+        blocks,
+    })
+}
+
+/// What the demands of a posted statement lack.
+fn need_of(alloc: Global, core: &Core, tx: Tx, demand: Demand) -> Result<Need, AllocError> {
+    match demand {
+        Demand::Met(owners) => Ok(Need::Met(owners)),
+        Demand::Unmet(index) => {
+            let posted = core.posted(tx);
+            match posted.and_then(|query| query.statement().posts.get(index)) {
+                Some(post) => unmet(alloc, index, post),
+                None => Ok(Need::Nothing),
+            }
+        }
+    }
+}
+
+/// A demand for which nobody offers a match.
+fn unmet(alloc: Global, index: usize, post: &Atom<Value>) -> Result<Need, AllocError> {
+    let demand = demand_text(alloc, post)?;
+    let number = index.saturating_add(1);
+    Ok(Need::Unmet { number, demand })
+}
+
+/// A demand as it is written, with values where they are known, and `_` where not.
+fn demand_text(alloc: Global, post: &Atom<Value>) -> Result<Vec<u8>, AllocError> {
+    let mut text = Vec::new(alloc);
+    let mut between = "(";
+    for term in post.terms.as_slice() {
+        text.extend_from_slice(between.as_bytes())?;
+        match term {
+            Term::Known(value) => print_value(alloc, &mut text, value)?,
+            Term::Variable(_) => text.push(b'_')?,
+        }
+        between = ", ";
+    }
+    text.extend_from_slice(b") IN ANSWER ")?;
+    text.extend_from_slice(post.relation.as_bytes())?;
+    Ok(text)
+}
+
+/// The tables that others hold in conflict with a member.
+fn blocks_of(
+    alloc: Global,
+    core: &Core,
+    members: &Members,
+    tx: Tx,
+) -> Result<Vec<Block>, AllocError> {
+    let mut blocks = Vec::new(alloc);
+    for holder in members.as_slice() {
+        if *holder == tx {
+            continue;
+        }
+        if let Some(conflict) = core.conflict(tx, *holder) {
+            push_block(alloc, &mut blocks, core.opening(), *holder, conflict)?;
+        }
+    }
+    Ok(blocks)
+}
+
+fn push_block(
+    alloc: Global,
+    blocks: &mut Vec<Block>,
+    opening: &Opening,
+    holder: Tx,
+    conflict: Conflict,
+) -> Result<(), AllocError> {
+    let Conflict { table, asked, held } = conflict;
+    if let Some(create) = opening.tables.get(table) {
+        blocks.push(Block {
+            holder,
+            table: create.name.name.copy(alloc)?,
+            asked,
+            held,
+        })?;
+    }
+    Ok(())
+}
