@@ -2,7 +2,7 @@
 //!
 //! The work is done by a core that is proved; this crate links its static library and calls it safely. An input's
 //! scripts are run on the thread that calls, and each call stands alone, so that calls may be made from any number of
-//! threads.
+//! threads. A [`Manager`] keeps its tables between calls, and takes scripts one by one.
 //!
 //! ```
 //! use entangle::{Version, report};
@@ -31,10 +31,14 @@
 //! # Ok::<(), entangle::Fault>(())
 //! ```
 
+mod answer;
 mod call;
 mod fault;
+mod manager;
 
+pub use answer::{Answer, Fact, Value};
 pub use fault::{Fault, FaultKind, Place};
+pub use manager::{Error, Failure, Fate, Manager, Shared, Standing, Tx};
 
 use call::{Answer, Call};
 
