@@ -119,7 +119,7 @@ class Calls(unittest.TestCase):
         self.assertTrue(entangle.check(alone).is_legal)
 
 
-TABLES = "CREATE TABLE Flights (fno INT, dest TEXT);\nINSERT INTO Flights VALUES (122, 'LA');\n"
+TABLES = "CREATE TABLE Flights (fno INT, dest TEXT);\nCREATE TABLE Trips (fno INT);\nINSERT INTO Flights VALUES (122, 'LA');\n"
 
 
 def trip(who, friend):
@@ -129,7 +129,7 @@ SELECT '{who}', fno INTO ANSWER Trip
   WHERE fno IN (SELECT fno FROM Flights) AND ('{friend}', fno) IN ANSWER Trip CHOOSE 1;
 SELECT * FROM Flights;
 SET @d = 'it''s';
-DELETE FROM Flights WHERE fno = 0;
+DELETE FROM Trips WHERE fno = 0;
 COMMIT;
 """
 
@@ -181,7 +181,7 @@ class Managers(unittest.TestCase):
             for call in (
                 lambda: manager.standing(1),
                 lambda: manager.answers(0),
-                lambda: manager.table("Trips"),
+                lambda: manager.table("Tours"),
                 lambda: manager.table("no name"),
             ):
                 with self.assertRaises(entangle.Refused) as caught:
@@ -196,7 +196,7 @@ class Managers(unittest.TestCase):
     def test_a_closed_manager_has_its_report_alone(self):
         manager = entangle.Manager(TABLES)
         manager.finish()
-        self.assertEqual(manager.report(), "report 1\ntable Flights 1\n(122, 'LA')\nend\n")
+        self.assertEqual(manager.report(), "report 1\ntable Flights 1\n(122, 'LA')\ntable Trips 0\nend\n")
         self.assertTrue(entangle.check(manager.report(2)).is_legal)
         self.assertRaises(entangle.StateError, manager.run)
         self.assertRaises(entangle.StateError, manager.table, "Flights")

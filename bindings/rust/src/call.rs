@@ -102,7 +102,7 @@ pub(crate) enum Call {
 }
 
 /// What a call answers: its text, where it has one, and its fault.
-pub(crate) enum Answer {
+pub(crate) enum Outcome {
     Done(String),
     /// The fault has the number 0 where the text is a verdict.
     Refused(String, Fault),
@@ -111,7 +111,7 @@ pub(crate) enum Answer {
 
 impl Call {
     /// Makes the call, again with a larger buffer where the first one was too short.
-    pub(crate) fn answer(self, input: &[u8]) -> Answer {
+    pub(crate) fn answer(self, input: &[u8]) -> Outcome {
         let mut text = vec![0; FIRST_CAPACITY.max(2 * input.len())];
         loop {
             let (status, told) = self.make(input, &mut text);
@@ -120,7 +120,7 @@ impl Call {
                 continue;
             }
             text.truncate(told.needed);
-            return answer_of(status, text, told);
+            return outcome_of(status, text, told);
         }
     }
 
@@ -149,12 +149,12 @@ fn fault_of(kind: FaultKind, told: Told) -> Fault {
     Fault { code: told.code, kind, place }
 }
 
-fn answer_of(status: i32, text: Vec<u8>, told: Told) -> Answer {
+fn outcome_of(status: i32, text: Vec<u8>, told: Told) -> Outcome {
     let text = String::from_utf8(text).expect("each text of the archive is UTF-8");
     match status {
-        DONE => Answer::Done(text),
-        REFUSED => Answer::Refused(text, fault_of(FaultKind::Refused, told)),
-        OUT_OF_MEMORY => Answer::OutOfMemory(fault_of(FaultKind::OutOfMemory, told)),
+        DONE => Outcome::Done(text),
+        REFUSED => Outcome::Refused(text, fault_of(FaultKind::Refused, told)),
+        OUT_OF_MEMORY => Outcome::OutOfMemory(fault_of(FaultKind::OutOfMemory, told)),
         other => unreachable!("no call with these arguments answers {other}"),
     }
 }
@@ -167,7 +167,7 @@ pub(crate) enum Refusal {
 }
 
 /// What a status says, where what is told has the fault.
-fn outcome(status: i32, told: Told) -> Result<(), Refusal> {
+fn status_said(status: i32, told: Told) -> Result<(), Refusal> {
     match status {
         DONE => Ok(()),
         REFUSED => Err(Refusal::Fault(fault_of(FaultKind::Refused, told))),
@@ -195,31 +195,31 @@ impl Handle {
         let (mut handle, mut told) = (Handle { at: null_mut() }, Told::default());
         // SAFETY: as said above.
         let status = unsafe { ent_c_open(&mut handle.at, input.as_ptr(), input.len(), &mut told) };
-        outcome(status, told).map(|()| handle)
+        status_said(status, told).map(|()| handle)
     }
 
     pub(crate) fn submit(&mut self, script: &[u8]) -> Result<u64, Refusal> {
         let (mut number, mut told) = (0, Told::default());
         // SAFETY: as said above.
         let status = unsafe { ent_c_submit(&mut self.at, script.as_ptr(), script.len(), &mut number, &mut told) };
-        outcome(status, told).map(|()| number)
+        status_said(status, told).map(|()| number)
     }
 
     pub(crate) fn run(&mut self) -> Result<(), Refusal> {
         // SAFETY: as said above.
-        outcome(unsafe { ent_c_run(&mut self.at) }, Told::default())
+        status_said(unsafe { ent_c_run(&mut self.at) }, Told::default())
     }
 
     pub(crate) fn standing(&mut self, number: u64) -> Result<Position, Refusal> {
         let mut position = Position::default();
         // SAFETY: as said above.
         let status = unsafe { ent_c_standing(&mut self.at, number, &mut position) };
-        outcome(status, Told { code: 401, ..Told::default() }).map(|()| position)
+        status_said(status, Told { code: 401, ..Told::default() }).map(|()| position)
     }
 
     pub(crate) fn close(&mut self) -> Result<(), Refusal> {
         // SAFETY: as said above.
-        outcome(unsafe { ent_c_close(&mut self.at) }, Told { code: 405, ..Told::default() })
+        status_said(unsafe { ent_c_close(&mut self.at) }, Told { code: 405, ..Told::default() })
     }
 
     pub(crate) fn answers(&mut self, number: u64) -> Result<String, Refusal> {
@@ -253,7 +253,7 @@ impl Handle {
                 text = vec![0; told.needed];
                 continue;
             }
-            outcome(status, told)?;
+            status_said(status, told)?;
             text.truncate(told.needed);
             return Ok(String::from_utf8(text).expect("each text of the archive is UTF-8"));
         }

@@ -2,7 +2,7 @@
 
 use entangle::{Error, Failure, Fate, FaultKind, Manager, Place, Shared, Standing, Value, Version};
 use entangle::{check, explain, report, report_of_bytes};
-use std::error::Error;
+use std::error::Error as StandardError;
 use std::thread;
 
 #[test]
@@ -10,7 +10,7 @@ fn a_fault_has_its_place() {
     let fault = report("CREATE TABLE T (a INT);\nINSERT INTO T VALUES ('東', b);", Version::One).unwrap_err();
     assert_eq!((fault.code, fault.kind), (201, FaultKind::Refused));
     assert_eq!(fault.place, Some(Place { offset: 53, line: 2, column: 28 }));
-    let error: Box<dyn Error + Send + Sync> = Box::new(fault);
+    let error: Box<dyn StandardError + Send + Sync> = Box::new(fault);
     assert_eq!(error.to_string(), "E201 at 53");
 }
 
