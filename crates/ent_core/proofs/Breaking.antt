@@ -4,7 +4,8 @@ use Rattle.ent_protocol.specs.Event as replies
 use Rattle.ent_protocol.specs.Rollback.{NoOne, group_numbers, rolled_back}
 use Rattle.ent_protocol.specs.Run.{BreaksIfAny}
 use Rattle.ent_protocol.specs.State.{State}
-use Rattle.ent_waits.specs.Deadlock.{IsVictim, Victim}
+use Rattle.ent_waits.specs.Victim.{IsVictim}
+use Rattle.ent_waits.specs.declared.victim.Victim.{Victim}
 
 pub broken : (F : Type 0) (s new : State) (found : Victim) (group : List ℕ) → IsVictim s found
     → group ≡ group_numbers s found.group → new ≡ rolled_back found.group NoOne s

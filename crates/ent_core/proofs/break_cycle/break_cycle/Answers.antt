@@ -5,7 +5,8 @@ use Rattle.ent_protocol.specs.State.{State}
 use Rattle.ent_protocol.specs.Waits.{NoDeadlock}
 use Rattle.ent_headline.specs.Resolved.{resolved_forms}
 use Rattle.ent_protocol_laws.specs.Attempts.{AsksForRun}
-use Rattle.ent_waits.specs.Deadlock.{IsVictim, state_with}
+use Rattle.ent_waits.specs.Victim.{IsVictim}
+use Rattle.ent_waits.specs.Waits.{state_with}
 use Rattle.ent_core.specs.contracts.store.Store.{the_view}
 use Rattle.ent_core.proofs.Breaking.{broken}
 use Rattle.ent_core.proofs.break_cycle.break_cycle.Goals as goal
