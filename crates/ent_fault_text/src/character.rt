@@ -2,6 +2,7 @@
 use crate::scene::Scene;
 use crate::words::{Counted, Told};
 use ent_text::TextFault;
+use ent_value::{LONGEST_NAME, LONGEST_TEXT};
 use std::alloc::AllocError;
 
 /// What is said of the first fault of the tokens.
@@ -31,12 +32,14 @@ pub(crate) fn text_fault(scene: &Scene<'_>, fault: TextFault) -> Result<Told, Al
 fn too_long(scene: &Scene<'_>, rest: &str) -> Result<Told, AllocError> {
     let alloc = scene.alloc;
     if rest.starts_with('\'') {
-        let sentence = format!(in alloc; "this text has more than 255 bytes")?;
+        let most = LONGEST_TEXT;
+        let sentence = format!(in alloc; "this text has more than {most} bytes")?;
         return Ok(Told::plain(sentence));
     }
     let length = word_length(rest.strip_prefix('@').unwrap_or(rest));
     let bytes = Counted(length, "byte");
-    let sentence = format!(in alloc; "this word has {bytes}, and at most 63 can stand in one")?;
+    let most = LONGEST_NAME;
+    let sentence = format!(in alloc; "this word has {bytes}, and at most {most} can stand in one")?;
     Ok(Told::plain(sentence))
 }
 

@@ -36,7 +36,7 @@ struct Values {
 
 /// Whether a token can follow a text that begins an input. The reader refuses an input at the first token that can't
 /// follow what stands before it; a line's end keeps the token out of a comment.
-fn can_follow(alloc: Global, lead: &str, token: &str) -> Result<bool, AllocError> {
+pub(crate) fn can_follow(alloc: Global, lead: &str, token: &str) -> Result<bool, AllocError> {
     let text = format!(in alloc; "{lead}\n{token}")?;
     match parse_input(alloc, text.as_str()) {
         Ok(_) => Ok(true),

@@ -1,11 +1,15 @@
 //! What is said of faults of the grammar.
 use crate::absent::{absent_part, absent_word};
-use crate::expected::Expected;
+use crate::expected::{Expected, can_follow};
 use crate::mark::{Mark, Sort};
 use crate::scene::Scene;
 use crate::words::Told;
 use ent_text::{Keyword, Symbol};
-use std::alloc::AllocError;
+use ent_tree::{
+    MOST_OPENING_ROWS, MOST_PARTS, MOST_RUNS, MOST_SCRIPTS, MOST_SOURCES, MOST_STATEMENTS,
+    MOST_TABLES,
+};
+use std::alloc::{AllocError, Global};
 
 /// A token that can't follow what stands before it.
 pub(crate) fn unexpected(scene: &Scene<'_>) -> Result<Told, AllocError> {
@@ -39,17 +43,27 @@ fn hint_at(
     if absent.is_some() {
         return Ok(absent);
     }
-    match fixed_hint(scene, found, expected) {
+    if found.sort == Sort::Number && scene.follows(Keyword::Within) {
+        let most = MOST_RUNS;
+        return Ok(Some(format!(in alloc; "a script asks for 1 to {most} runs")?));
+    }
+    let is_start = begins_statement(alloc, found)?;
+    match fixed_hint(scene, found, expected, is_start) {
         Some(hint) => Ok(Some(String::from_str(alloc, hint)?)),
         None => Ok(None),
     }
 }
 
-/// The first hint that fits, of those that are always the same.
-fn fixed_hint(scene: &Scene<'_>, found: &Mark<'_>, expected: &Expected) -> Option<&'static str> {
+/// The first hint that fits, of those that are always the same. The token may begin a statement.
+fn fixed_hint(
+    scene: &Scene<'_>,
+    found: &Mark<'_>,
+    expected: &Expected,
+    is_start: bool,
+) -> Option<&'static str> {
     hint_of_insert(scene, found)
         .or(hint_of_number(scene, found))
-        .or(hint_of_place(found, expected))
+        .or(hint_of_place(found, expected, is_start))
         .or(hint_of_word(found, expected))
         .or(hint_of_sign(found, expected))
 }
@@ -81,42 +95,26 @@ fn hint_of_number(scene: &Scene<'_>, found: &Mark<'_>) -> Option<&'static str> {
     if scene.follows(Keyword::Choose) {
         return Some("an entangled statement asks for one answer: CHOOSE 1");
     }
-    if scene.follows(Keyword::Within) {
-        return Some("a script asks for 1 to 1000 runs");
-    }
     None
 }
 
-/// Whether a token begins a statement, a script's end or a script.
-fn begins_statement(found: &Mark<'_>) -> bool {
-    matches!(
-        found.sort,
-        Sort::Word(
-            Keyword::Insert
-                | Keyword::Delete
-                | Keyword::Update
-                | Keyword::Set
-                | Keyword::Select
-                | Keyword::Commit
-                | Keyword::Rollback
-                | Keyword::Begin
-                | Keyword::Create
-        )
-    )
+/// Whether a token begins a statement, a script's end, a script or a declaration: the reader itself is asked.
+fn begins_statement(alloc: Global, found: &Mark<'_>) -> Result<bool, AllocError> {
+    Ok(can_follow(alloc, "BEGIN TRANSACTION;", found.text)? || can_follow(alloc, "", found.text)?)
 }
 
 /// What helps where something stands in the wrong part of the input, or a `;` is missing.
-fn hint_of_place(found: &Mark<'_>, expected: &Expected) -> Option<&'static str> {
+fn hint_of_place(found: &Mark<'_>, expected: &Expected, is_start: bool) -> Option<&'static str> {
     if found.is_word(Keyword::Create) && (expected.has("INSERT") || expected.has("BEGIN")) {
         return Some("tables are declared at the beginning, before all rows and scripts");
     }
-    if begins_statement(found) && expected.has("BEGIN") {
+    if is_start && expected.has("BEGIN") {
         return Some("a statement stands in a script: BEGIN TRANSACTION; .. COMMIT;");
     }
     if found.is_word(Keyword::Begin) && expected.has("COMMIT") {
         return Some("the script before isn't ended by COMMIT; or ROLLBACK;");
     }
-    if begins_statement(found) && expected.has(";") {
+    if is_start && expected.has(";") {
         return Some("what stands before ends with ;");
     }
     if found.is_sign(Symbol::Semicolon) && expected.has("CHOOSE") {
@@ -176,49 +174,80 @@ fn is_likely_name(found: &Mark<'_>) -> bool {
     )
 }
 
+/// How many there may be of something.
+#[derive(Clone, Copy)]
+struct Limit {
+    things: &'static str,
+    /// What has them.
+    holder: &'static str,
+    most: usize,
+}
+
 /// A thing beyond a limit.
 pub(crate) fn too_many(scene: &Scene<'_>) -> Result<Told, AllocError> {
     let alloc = scene.alloc;
-    let thing = things_at(scene);
-    let sentence = format!(in alloc; "there are too many {thing}")?;
+    let sentence = if scene.follows(Keyword::Within) {
+        let most = MOST_RUNS;
+        format!(in alloc; "there are too many runs: a script asks for 1 to {most}")?
+    } else {
+        let Limit {
+            things,
+            holder,
+            most,
+        } = limit_at(scene);
+        format!(in alloc; "there are too many {things}: {holder} at most {most}")?
+    };
     Ok(Told::plain(sentence))
 }
 
-/// Of what there are too many, and how many there can be.
-fn things_at(scene: &Scene<'_>) -> &'static str {
-    if scene.follows(Keyword::Within) {
-        return "runs: a script asks for 1 to 1000";
+fn limit(things: &'static str, holder: &'static str, most: usize) -> Limit {
+    Limit {
+        things,
+        holder,
+        most,
     }
+}
+
+/// Of what there are too many, and how many there can be.
+fn limit_at(scene: &Scene<'_>) -> Limit {
     if scene.follows(Keyword::And) {
-        return "conditions: a WHERE has at most 16";
+        return limit("conditions", "a WHERE has", MOST_PARTS);
     }
     if scene
         .back(1)
         .is_some_and(|mark| mark.is_sign(Symbol::Comma))
     {
-        return listed_things(scene);
+        return limit_of_list(scene);
     }
     match scene.ahead(0) {
-        Some(mark) if mark.is_word(Keyword::Create) => "tables: an input declares at most 64",
-        Some(mark) if mark.is_word(Keyword::Begin) => "scripts: an input has at most 10000",
-        _ if scene.is_in_script() => "statements: a script has at most 64",
-        _ => "opening rows: an input has at most 65536",
+        Some(mark) if mark.is_word(Keyword::Create) => {
+            limit("tables", "an input declares", MOST_TABLES)
+        }
+        Some(mark) if mark.is_word(Keyword::Begin) => {
+            limit("scripts", "an input has", MOST_SCRIPTS)
+        }
+        _ if scene.is_in_script() => limit("statements", "a script has", MOST_STATEMENTS),
+        _ => limit("opening rows", "an input has", MOST_OPENING_ROWS),
     }
 }
 
 /// Of what there are too many behind a comma: the nearest word before it tells.
-fn listed_things(scene: &Scene<'_>) -> &'static str {
+fn limit_of_list(scene: &Scene<'_>) -> Limit {
     for mark in scene.passed().iter().rev() {
         match mark.sort {
-            Sort::Word(Keyword::From) => return "sources: a FROM has at most 4",
-            Sort::Word(Keyword::Select) => return "items: a SELECT has at most 16",
-            Sort::Word(Keyword::Values) => return "values: a row has at most 16",
-            Sort::Word(Keyword::Answer) => return "answer relations: an INTO has at most 16",
-            Sort::Word(Keyword::Set) => return "assignments: an UPDATE has at most 16",
-            Sort::Word(Keyword::Table) => return "columns: a table has at most 16",
-            Sort::Word(Keyword::Where | Keyword::And) => return "terms: a tuple has at most 16",
+            Sort::Word(Keyword::From) => return limit("sources", "a FROM has", MOST_SOURCES),
+            Sort::Word(Keyword::Select) => return limit("items", "a SELECT has", MOST_PARTS),
+            Sort::Word(Keyword::Values) => return limit("values", "a row has", MOST_PARTS),
+            Sort::Word(Keyword::Answer) => {
+                return limit("answer relations", "an INTO has", MOST_PARTS);
+            }
+            Sort::Word(Keyword::Set) => return limit("assignments", "an UPDATE has", MOST_PARTS),
+            Sort::Word(Keyword::Table) => return limit("columns", "a table has", MOST_PARTS),
+            Sort::Word(Keyword::Where | Keyword::And) => {
+                return limit("terms", "a tuple has", MOST_PARTS);
+            }
             _ => (),
         }
     }
-    "parts: a list has at most 16"
+    limit("parts", "a list has", MOST_PARTS)
 }
