@@ -36,13 +36,23 @@ struct Values {
 
 /// Whether a token can follow a text that begins an input. The reader refuses an input at the first token that can't
 /// follow what stands before it; a line's end keeps the token out of a comment.
-pub(crate) fn can_follow(alloc: Global, lead: &str, token: &str) -> Result<bool, AllocError> {
+fn can_follow(alloc: Global, lead: &str, token: &str) -> Result<bool, AllocError> {
     let text = format!(in alloc; "{lead}\n{token}")?;
     match parse_input(alloc, text.as_str()) {
         Ok(_) => Ok(true),
         Err(Refusal::Memory) => Err(AllocError),
         Err(Refusal::Fault(fault)) => Ok(fault.place() > lead.len().saturating_add(1)),
     }
+}
+
+/// Whether a token begins a statement, a script's end, a script or a declaration.
+pub(crate) fn can_begin(alloc: Global, token: &str) -> Result<bool, AllocError> {
+    Ok(can_follow(alloc, "", token)? || can_follow(alloc, "BEGIN TRANSACTION;", token)?)
+}
+
+/// Whether a token is a comparison: nothing else can follow a whole operand in a WHERE.
+pub(crate) fn can_compare(alloc: Global, token: &str) -> Result<bool, AllocError> {
+    can_follow(alloc, "BEGIN TRANSACTION; SELECT * FROM a WHERE a.a", token)
 }
 
 impl Expected {

@@ -1,6 +1,7 @@
 //! What is said of faults of form.
 use crate::absent::absent_word;
 use crate::counts::arity;
+use crate::expected::can_compare;
 use crate::mark::Sort;
 use crate::names::{meant, nearest};
 use crate::repeated::{ambiguous, repeated};
@@ -141,7 +142,10 @@ fn column_hint(
     if absent.is_some() {
         return Ok(absent);
     }
-    let is_right = scene.back(1).is_some_and(|mark| mark.is_comparison());
+    let is_right = match scene.back(1) {
+        Some(mark) => can_compare(alloc, mark.text)?,
+        None => false,
+    };
     if is_right && !is_qualified {
         return Ok(Some(format!(in alloc; "a text is written in quotes: '{name}'")?));
     }

@@ -1,6 +1,6 @@
 //! What is said of faults of the grammar.
 use crate::absent::{absent_part, absent_word};
-use crate::expected::{Expected, can_follow};
+use crate::expected::{Expected, can_begin};
 use crate::mark::{Mark, Sort};
 use crate::scene::Scene;
 use crate::words::Told;
@@ -9,7 +9,7 @@ use ent_tree::{
     MOST_OPENING_ROWS, MOST_PARTS, MOST_RUNS, MOST_SCRIPTS, MOST_SOURCES, MOST_STATEMENTS,
     MOST_TABLES,
 };
-use std::alloc::{AllocError, Global};
+use std::alloc::AllocError;
 
 /// A token that can't follow what stands before it.
 pub(crate) fn unexpected(scene: &Scene<'_>) -> Result<Told, AllocError> {
@@ -47,7 +47,7 @@ fn hint_at(
         let most = MOST_RUNS;
         return Ok(Some(format!(in alloc; "a script asks for 1 to {most} runs")?));
     }
-    let is_start = begins_statement(alloc, found)?;
+    let is_start = can_begin(alloc, found.text)?;
     match fixed_hint(scene, found, expected, is_start) {
         Some(hint) => Ok(Some(String::from_str(alloc, hint)?)),
         None => Ok(None),
@@ -96,11 +96,6 @@ fn hint_of_number(scene: &Scene<'_>, found: &Mark<'_>) -> Option<&'static str> {
         return Some("an entangled statement asks for one answer: CHOOSE 1");
     }
     None
-}
-
-/// Whether a token begins a statement, a script's end, a script or a declaration: the reader itself is asked.
-fn begins_statement(alloc: Global, found: &Mark<'_>) -> Result<bool, AllocError> {
-    Ok(can_follow(alloc, "BEGIN TRANSACTION;", found.text)? || can_follow(alloc, "", found.text)?)
 }
 
 /// What helps where something stands in the wrong part of the input, or a `;` is missing.

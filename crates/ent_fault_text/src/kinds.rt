@@ -1,4 +1,5 @@
 //! The sources around a place, and the kinds of what stands there.
+use crate::expected::can_compare;
 use crate::mark::{Mark, Sort, first_marks, marks_behind};
 use crate::scene::Scene;
 use crate::schema::Column;
@@ -182,7 +183,7 @@ impl<'a> Scene<'a> {
         let (Some(sign), Some(last)) = (self.back(1), self.back(2)) else {
             return Ok(None);
         };
-        if !sign.is_comparison() {
+        if !can_compare(self.alloc, sign.text)? {
             return Ok(None);
         }
         let is_qualified = self.back(3).is_some_and(|mark| mark.is_sign(Symbol::Dot));

@@ -44,21 +44,6 @@ impl Mark<'_> {
         matches!(self.sort, Sort::Name)
     }
 
-    /// Whether it is a comparison.
-    pub(crate) fn is_comparison(&self) -> bool {
-        matches!(
-            self.sort,
-            Sort::Sign(
-                Symbol::Equal
-                    | Symbol::NotEqual
-                    | Symbol::Less
-                    | Symbol::LessOrEqual
-                    | Symbol::Greater
-                    | Symbol::GreaterOrEqual
-            )
-        )
-    }
-
     /// Whether it is the name that is spelled so.
     pub(crate) fn is_named(&self, name: &str) -> bool {
         self.is_name() && self.text == name
