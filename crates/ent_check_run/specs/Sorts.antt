@@ -17,8 +17,4 @@ IsSet other = ⊥
 -- an ordinary statement fits the kinds of the tables that it names; an entangled one puts nothing into them
 abbrev pub CanRun : List (List Kind) → Statement Value → Type 0
 CanRun kinds (statements.Entangled entangled) = Unit {0}
-CanRun kinds (statements.Select select) = Fits kinds (statements.Select select)
-CanRun kinds (statements.Insert table values) = Fits kinds (statements.Insert table values)
-CanRun kinds (statements.Delete table tests) = Fits kinds (statements.Delete table tests)
-CanRun kinds (statements.Update table image tests) = Fits kinds (statements.Update table image tests)
-CanRun kinds (statements.Set variable expression) = Fits kinds (statements.Set variable expression)
+CanRun kinds ordinary = Fits kinds ordinary

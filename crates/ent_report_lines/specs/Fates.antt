@@ -1,5 +1,5 @@
--- How the line of a transaction is read, and which lines there are.
-use Rattle.std.specs.Prelude.{◌≤◌, ◌==◌, ℕ, List, ◌++◌, length, Result, Ok, Err, nat_le, slice_index, codes, if◌then◌else◌}
+-- How the line of a transaction is read, and its text.
+use Rattle.std.specs.Prelude.{◌==◌, ℕ, List, ◌++◌, length, Result, Ok, Err, nat_le, slice_index, codes, if◌then◌else◌}
 use Rattle.std.specs.Fmt.{decimal}
 use Rattle.ent_value.specs.Refusal.{◌>>=◌}
 use Rattle.ent_tree.specs.declared.limits.TheConstants.{MOST_RUNS}
@@ -11,9 +11,6 @@ use Rattle.ent_book.specs.Report.{fate_text}
 use Rattle.ent_line.specs.declared.fault.LineFault.{LineFault}
 use Rattle.ent_line.specs.declared.fault.LineFault.TheVariants.{Misfit}
 use Rattle.ent_line.specs.Pieces.{behind, number_at}
-use Rattle.ent_line.specs.Written.{IsNumber}
-
--- ---- how it is read
 
 -- a number at the end, 1 to 1,000
 unfoldable pub runs_at : List ℕ → Result ℕ LineFault
@@ -55,19 +52,6 @@ unfoldable pub transaction_at : List ℕ → Result (ℕ × Fate) LineFault
 transaction_at line =
     behind (codes "tx ") line >>= λ rest. number_at rest >>= λ tx. behind (codes " ") tx.1 >>= λ rest.
     fate_at rest >>= λ fate. Ok (tx.0, fate)
-
--- ---- which lines there are
-
--- 1 to 1,000
-abbrev pub AreRuns : ℕ → Type 0
-AreRuns runs = (1 ≤ runs) × (runs ≤ MOST_RUNS)
-
--- any commit number
-abbrev pub IsFate : Fate → Type 0
-IsFate (fates.Committed number runs) = IsNumber number × AreRuns runs
-IsFate (fates.GaveUp runs) = AreRuns runs
-IsFate (fates.RolledBack runs) = AreRuns runs
-IsFate (fates.Failed failure runs) = AreRuns runs
 
 -- a transaction's number and its fate, without the end of the line
 abbrev pub transaction_text : ℕ → Fate → List ℕ

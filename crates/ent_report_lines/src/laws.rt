@@ -6,10 +6,11 @@ ghost use Rattle.std.specs.Fmt.{decimal};
 ghost use Rattle.std.specs.List.{AllByRecursion};
 ghost use Rattle.ent_value.specs.declared.value.Value.{Value};
 ghost use Rattle.ent_semantics.specs.Database.{Name};
+ghost use Rattle.ent_history_form.specs.Answers.{IsFate};
 ghost use Rattle.ent_line.specs.Written.{IsNumber, IsValue, Stops};
 ghost use Rattle.ent_report_lines.specs.Counts.{table_at, placed_at, set_at, table_line, placed_line, set_line};
 ghost use Rattle.ent_report_lines.specs.Bindings.{member_at, member_line};
-ghost use Rattle.ent_report_lines.specs.Fates.{transaction_at, transaction_text, IsFate};
+ghost use Rattle.ent_report_lines.specs.Fates.{transaction_at, transaction_text};
 
 use ent_line::{numbers_are_read_as_written, values_are_read_as_written, words_stand_in_front};
 

@@ -7,11 +7,12 @@ use Rattle.ent_tree.specs.declared.declaration.Create.{Create}
 use Rattle.ent_semantics.specs.declared.answer.Fact.{Fact}
 use Rattle.ent_semantics.specs.declared.book.Fate.{Fate}
 use Rattle.ent_line.specs.Written as written
-use Rattle.ent_report_lines.specs.Fates.{IsFate, transaction_at, transaction_text}
+use Rattle.ent_report_lines.specs.Fates.{transaction_at, transaction_text}
 use Rattle.ent_report_lines.specs.Heads.{IsFact, heads_at, heads_line}
 use Rattle.ent_report_lines.specs.Joints.{PlacesRise, joint_at, joint_text}
 use Rattle.ent_report_lines.specs.Openings.{IsDeclared, opening_at, opening_text}
 use Rattle.ent_history_form.specs.Answers as answers
+use Rattle.ent_history_form.specs.Answers.{IsFate}
 use Rattle.ent_history_form.specs.Joints as joints
 use Rattle.ent_history_form.specs.Opening.{IsDeclaration}
 use Rattle.ent_history_form.specs.Parts as parts
