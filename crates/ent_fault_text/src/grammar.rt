@@ -195,7 +195,7 @@ pub(crate) fn too_many(scene: &Scene<'_>) -> Result<Told, AllocError> {
     Ok(Told::plain(sentence))
 }
 
-fn limit(things: &'static str, holder: &'static str, most: usize) -> Limit {
+fn limit_on(things: &'static str, holder: &'static str, most: usize) -> Limit {
     Limit {
         things,
         holder,
@@ -206,7 +206,7 @@ fn limit(things: &'static str, holder: &'static str, most: usize) -> Limit {
 /// Of what there are too many, and how many there can be.
 fn limit_at(scene: &Scene<'_>) -> Limit {
     if scene.follows(Keyword::And) {
-        return limit("conditions", "a WHERE has", MOST_PARTS);
+        return limit_on("conditions", "a WHERE has", MOST_PARTS);
     }
     if scene
         .back(1)
@@ -216,13 +216,13 @@ fn limit_at(scene: &Scene<'_>) -> Limit {
     }
     match scene.ahead(0) {
         Some(mark) if mark.is_word(Keyword::Create) => {
-            limit("tables", "an input declares", MOST_TABLES)
+            limit_on("tables", "an input declares", MOST_TABLES)
         }
         Some(mark) if mark.is_word(Keyword::Begin) => {
-            limit("scripts", "an input has", MOST_SCRIPTS)
+            limit_on("scripts", "an input has", MOST_SCRIPTS)
         }
-        _ if scene.is_in_script() => limit("statements", "a script has", MOST_STATEMENTS),
-        _ => limit("opening rows", "an input has", MOST_OPENING_ROWS),
+        _ if scene.is_in_script() => limit_on("statements", "a script has", MOST_STATEMENTS),
+        _ => limit_on("opening rows", "an input has", MOST_OPENING_ROWS),
     }
 }
 
@@ -230,19 +230,19 @@ fn limit_at(scene: &Scene<'_>) -> Limit {
 fn limit_of_list(scene: &Scene<'_>) -> Limit {
     for mark in scene.passed().iter().rev() {
         match mark.sort {
-            Sort::Word(Keyword::From) => return limit("sources", "a FROM has", MOST_SOURCES),
-            Sort::Word(Keyword::Select) => return limit("items", "a SELECT has", MOST_PARTS),
-            Sort::Word(Keyword::Values) => return limit("values", "a row has", MOST_PARTS),
+            Sort::Word(Keyword::From) => return limit_on("sources", "a FROM has", MOST_SOURCES),
+            Sort::Word(Keyword::Select) => return limit_on("items", "a SELECT has", MOST_PARTS),
+            Sort::Word(Keyword::Values) => return limit_on("values", "a row has", MOST_PARTS),
             Sort::Word(Keyword::Answer) => {
-                return limit("answer relations", "an INTO has", MOST_PARTS);
+                return limit_on("answer relations", "an INTO has", MOST_PARTS);
             }
-            Sort::Word(Keyword::Set) => return limit("assignments", "an UPDATE has", MOST_PARTS),
-            Sort::Word(Keyword::Table) => return limit("columns", "a table has", MOST_PARTS),
+            Sort::Word(Keyword::Set) => return limit_on("assignments", "an UPDATE has", MOST_PARTS),
+            Sort::Word(Keyword::Table) => return limit_on("columns", "a table has", MOST_PARTS),
             Sort::Word(Keyword::Where | Keyword::And) => {
-                return limit("terms", "a tuple has", MOST_PARTS);
+                return limit_on("terms", "a tuple has", MOST_PARTS);
             }
             _ => (),
         }
     }
-    limit("parts", "a list has", MOST_PARTS)
+    limit_on("parts", "a list has", MOST_PARTS)
 }
