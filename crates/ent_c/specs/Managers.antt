@@ -8,7 +8,8 @@ use Rattle.ent_core.specs.declared.standing.Standing.{Standing}
 use Rattle.ent_engine.specs.Fault.{status as fault_status}
 use Rattle.ent_engine.specs.Reading.{IsRefused}
 use Rattle.ent_engine.specs.declared.fault.RunFault.{RunFault}
-use Rattle.ent_driver.specs.Drives.{Closes, IsNotClosed, IsNotSubmitted, Opens, Runs, Stands, StandsNowhere, StopsRun, Submits}
+use Rattle.ent_driver.specs.Drives.{Closes, IsNotClosed, IsNotSubmitted, Opens, Runs, Stands, StandsNowhere}
+use Rattle.ent_driver.specs.Drives.{StopsRun, Submits}
 use Rattle.ent_driver.specs.Fault.{status as refusal_status}
 use Rattle.ent_driver.specs.declared.driver.Driver.{Driver}
 use Rattle.ent_driver.specs.declared.driver.Driver.TheVariants.{Vacant}

@@ -3,7 +3,8 @@ ghost use Rattle.std.specs.Prelude.{◌≡◌, [], IfErr, IfOk, MatchOption, Mat
 ghost use Rattle.std.specs.declared.option.Option.TheVariants.{None};
 ghost use Rattle.ent_driver.specs.Drives.{Answers, IsUnanswered, IsUnreported, IsUnshown, Reports, Shows};
 ghost use Rattle.ent_c.specs.Calls.{HandsOut, IsMisused, Declines};
-ghost use Rattle.ent_c.specs.Managers.{ClosesManager, HandsOutOr, OpensManager, RunsManager, StandsIn, SubmitsTo, behind};
+ghost use Rattle.ent_c.specs.Managers.{ClosesManager, HandsOutOr, OpensManager, RunsManager, StandsIn, SubmitsTo};
+ghost use Rattle.ent_c.specs.Managers.{behind};
 ghost use Rattle.ent_c.specs.Version.{version_numbered};
 
 use crate::buffer::lay_over;

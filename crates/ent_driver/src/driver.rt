@@ -1,7 +1,8 @@
 //! What stands behind a handle.
 ghost use Rattle.std.specs.Prelude.{◌≡◌, IfErr, IfOk, OnErr, OnOk};
 ghost use Rattle.ent_driver.specs.Drives.{Answers, Closes, IsNotClosed, IsUnanswered, Opens, Reports, Runs, StopsRun};
-ghost use Rattle.ent_driver.specs.Drives.{Shows, IsUnshown, Stands, StandsNowhere, Submits, IsNotSubmitted, IsUnreported};
+ghost use Rattle.ent_driver.specs.Drives.{Shows, IsUnshown, Stands, StandsNowhere, Submits, IsNotSubmitted};
+ghost use Rattle.ent_driver.specs.Drives.{IsUnreported};
 ghost use Rattle.ent_engine.specs.Reading.{IsRefused};
 
 use crate::fault::DriverFault;
