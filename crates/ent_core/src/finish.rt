@@ -1,5 +1,5 @@
 //! A result of one statement comes in.
-ghost use Rattle.std.specs.Prelude.{◌≡◌, ◌<◌, ◌∷◌, [], IfErr, IfOk, IfSome, IsNone, IsOk, IsSome, OnErr, Some};
+ghost use Rattle.std.specs.Prelude.{◌≡◌, ◌<◌, ◌∷◌, [], IfErr, IfOk, IfSome, IsNone, IsOk, IsSome, OnErr, OnOk, Some};
 ghost use Rattle.std.specs.Prelude.{length, slice_get};
 ghost use Rattle.ent_core.specs.Advance.{Advances, MayAdvance};
 ghost use Rattle.ent_core.specs.Begin.{IsIdle};

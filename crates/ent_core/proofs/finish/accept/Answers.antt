@@ -84,5 +84,5 @@ returns-clause-ok c =
     let is : alone_seen c.in-One-outcome.outcome ≡ c.args.done.now.outcome =
     sym (ap (λ (o : JobOutcome). outcome_seen o) c.in-One-outcome.is) ∙ c.outcome.ensures.outcome in
     accepted s c.args.done.now c.in-One.single c.in-Some.index (alone_seen c.in-One-outcome.outcome) c.in_ok-how.how
-    c.carry_out-how.new.store c.outcome.ensures.meaning there work
+    c.carry_out.new.store c.outcome.ensures.meaning there work
     (out_member s job c.in-One.single c.in-Some.index present there work) is c.in_ok-how.ensures.ok
