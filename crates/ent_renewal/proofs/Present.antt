@@ -12,7 +12,7 @@ use Rattle.ent_lists.specs.Elements.{any_some, of_all, of_map}
 use Rattle.ent_protocol.specs.Lookup.{present_rows, rows_under}
 use Rattle.ent_protocol.specs.Reached.{opened, table_names}
 use Rattle.ent_protocol.specs.State.{State}
-use Rattle.ent_renewal.specs.Renewed.{Stand, present, renewed}
+use Rattle.ent_renewal.specs.Renewed.{Stand, Stands, present, renewed}
 use Rattle.ent_renewal.proofs.Held.{rows_held}
 
 -- tables that a database gives, under their names
@@ -54,8 +54,7 @@ module _ (s : State) (faultless : opening_fault s.opening ≡ None) (stand : Sta
       let found = any_some (λ other. same_name other name) (table_names s.opening) among in
       let from = of_map (λ (create : Create). create.name.name) s.opening.tables found.0 found.1 in
       let same : from.0.name.name ≡ name = sym from.2 ∙ equal_names found.0 name found.2 in
-      let here = of_all (λ create. present_rows s create.name.name ≡ Some (present s create.name.name)) s.opening.tables
-      from.0 stand from.1 in
+      let here = of_all (Stands s) s.opening.tables from.0 stand from.1 in
       sym (ap (present_rows s) same) ∙ here ∙ ap (λ (n : Name). Some (present s n)) same
 
   pub tables_stand : (name : Name) → present_rows (opened (renewed s.opening (present s))) name ≡ present_rows s name

@@ -49,7 +49,10 @@ there None = set.empty
 abbrev pub present : State → Database
 present s name = there (present_rows s name)
 
+-- the table that is declared so stands
+abbrev pub Stands : State → Create → Type 0
+Stands s create = present_rows s create.name.name ≡ Some (present s create.name.name)
+
 -- each declared table stands
 abbrev pub Stand : State → Type 0
-Stand s =
-    AllByRecursion (λ create. present_rows s create.name.name ≡ Some (present s create.name.name)) s.opening.tables
+Stand s = AllByRecursion (Stands s) s.opening.tables
