@@ -19,8 +19,9 @@ use Rattle.ent_engine.specs.Report.{text_of}
 use Rattle.ent_engine.specs.declared.fault.RunFault.TheVariants.{Memory}
 use Rattle.ent_engine.specs.declared.options.ReportVersion.{ReportVersion}
 use Rattle.ent_driver.specs.OneRun.{RunsOnce}
+use Rattle.ent_driver.specs.Renewal.{IsNotRenewed, Renews}
 use Rattle.ent_driver.specs.Scripts.{IsNotTaken, Takes}
-use Rattle.ent_driver.specs.Told.{HasNoTable, IsTable, answers_so_far}
+use Rattle.ent_driver.specs.Told.{HasNoTable, answers_so_far, lines_under}
 use Rattle.ent_driver.specs.declared.driver.Driver.{Driver}
 use Rattle.ent_driver.specs.declared.driver.Driver.TheVariants as drivers
 use Rattle.ent_driver.specs.declared.fault.DriverFault.{DriverFault}
@@ -74,12 +75,19 @@ abbrev pub IsUnanswered : Driver → ℕ → DriverFault → Type 0
 IsUnanswered driver tx fault = (fault ≡ Text Memory) ⊎ StandsNowhere driver tx fault
 
 abbrev pub Shows : Driver → List ℕ → List ℕ → Type 0
-Shows driver name text = (s : State) × (driver ≡ drivers.Open s) × IsTable s name text
+Shows driver name text = (s : State) × (driver ≡ drivers.Open s) × (lines_under s name ≡ Some text)
 
 abbrev pub IsUnshown : Driver → List ℕ → DriverFault → Type 0
 IsUnshown driver name fault = OfOpen driver fault (λ s. HasNoTable s name fault)
 
--- ---- closing
+-- ---- what is left
+
+-- another core is open, over the tables of this one, row by row
+abbrev pub RenewsAs : Driver → Driver → Type 0
+RenewsAs old new = (s s' : State) × (old ≡ drivers.Open s) × (new ≡ drivers.Open s') × Renews s s'
+
+abbrev pub IsNotRenewedAs : Driver → DriverFault → Type 0
+IsNotRenewedAs driver fault = (fault ≡ Text Memory) ⊎ OfOpen driver fault (λ s. IsNotRenewed s fault)
 
 -- the book of the core is left, which is legal
 abbrev pub Closes : Driver → Driver → Type 0

@@ -1,8 +1,9 @@
 //! What a core holds, as the report has it.
-ghost use Rattle.std.specs.Prelude.{◌≡◌, [], IfErr, IfOk};
+ghost use Rattle.std.specs.Prelude.{◌≡◌, IfErr, IfOk, Some};
+ghost use Rattle.std.specs.Option.{option_map};
 ghost use Rattle.ent_book.specs.Report as report;
 ghost use Rattle.ent_book.specs.Tables.{book_seen};
-ghost use Rattle.ent_driver.specs.Told.{HasNoTable, IsTable, answers_so_far};
+ghost use Rattle.ent_driver.specs.Told.{HasNoTable, answers_so_far, lines_under};
 ghost use Rattle.ent_engine.specs.Report.{text_of};
 
 use crate::fault::DriverFault;
@@ -10,6 +11,7 @@ use ent_book::{NamedTable, append_answers, append_table};
 use ent_core::{Core, Standing};
 use ent_engine::{ReportVersion, write_book};
 use ent_group::Tx;
+use ent_rel::Table;
 use ent_semantics::{Answer, Book, Fate};
 use ent_value::{Name, Sequence, Watched, is_word};
 use std::alloc::{AllocError, Global};
@@ -40,21 +42,38 @@ pub fn answers_text(alloc: Global, core: &Core, tx: Tx) -> Result<Vec<u8>, Alloc
     Ok(text)
 }
 
+/// The lines of a table under a name.
+fn lines_of(alloc: Global, name: &Name, table: &Table) -> Result<Vec<u8>, AllocError>
+    ensures { IfOk result (λ text. text.items ≡ report.table_text name.now table.now.rows) }
+{
+    let mut text = Vec::new(alloc);
+    append_table(alloc, &mut text, name, table)?;
+    Ok(text)
+}
+
+/// The lines of the table of a name as it stands, where one is declared.
+fn lines_under(alloc: Global, core: &Core, name: &Name) -> Result<Option<Vec<u8>>, AllocError>
+    ensures { IfOk result (λ text. option_map (λ text. text.items) text ≡ lines_under core.now name.now) }
+{
+    match core.table(name) {
+        Some(table) => Ok(Some(lines_of(alloc, name, table)?)),
+        None => Ok(None),
+    }
+}
+
 /// The lines of the table of this name as it stands, as the report has them.
 pub fn table_text(alloc: Global, core: &Core, name: &[u8]) -> Result<Vec<u8>, DriverFault>
-    ensures table { IfOk result (λ text. IsTable core.now name.now text.items) }
+    ensures table { IfOk result (λ text. lines_under core.now name.now ≡ Some text.items) }
     ensures refused { IfErr result (λ fault. HasNoTable core.now name.now fault) }
 {
     if !is_word(name) {
         return Err(DriverFault::Absent);
     }
     let name = Name::new(alloc, name)?;
-    let Some(table) = core.table(&name) else {
-        return Err(DriverFault::Absent);
-    };
-    let mut text = Vec::new(alloc);
-    append_table(alloc, &mut text, &name, table)?;
-    Ok(text)
+    match lines_under(alloc, core, &name)? {
+        Some(text) => Ok(text),
+        None => Err(DriverFault::Absent),
+    }
 }
 
 /// The report of a book, of this version.

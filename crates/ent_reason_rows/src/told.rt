@@ -80,6 +80,11 @@ fn see(alloc: Global, observations: &mut Observations, line: &str) -> Result<()>
     match words.as_slice() {
         ["started", members @ ..] => observations.start(&listed(members)?),
         ["answered", members @ ..] => observations.join(&listed(members)?),
+        ["broken", first, second, "group", members @ ..] => {
+            let mut cycle = Members::of(number_of(first)?);
+            put(&mut cycle, number_of(second)?)?;
+            observations.break_deadlock(&cycle, &listed(members)?);
+        }
         ["gone", by, members @ ..] => observations.tie(&listed(members)?, number_of(by)?),
         [tx, "of", group, seen @ ..] => {
             let observation = observation_of(alloc, number_of(group)?, seen)?;

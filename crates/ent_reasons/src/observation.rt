@@ -24,6 +24,13 @@ pub struct Block {
     pub held: Mode,
 }
 
+/// A step of a deadlock: who waited, and on what.
+#[derive(Debug, Drop)]
+pub struct Step {
+    pub from: Tx,
+    pub block: Block,
+}
+
 /// What is seen of a member of a run when nothing can be answered.
 #[derive(Debug, Drop)]
 pub struct Observation {

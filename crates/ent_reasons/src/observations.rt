@@ -1,7 +1,7 @@
 //! What is seen of all transactions, and the joint answers of a run.
 ghost use Rattle.std.specs.Prelude.{◌<◌, OnOk, length};
 
-use crate::observation::{Need, Observation};
+use crate::observation::{Block, Need, Observation, Step};
 use crate::walk::Walk;
 use ent_group::{MOST_MEMBERS, Members, Tx};
 use std::alloc::{AllocError, Global};
@@ -12,24 +12,42 @@ struct Kept {
     observation: Option<Observation>,
     /// Who ties it to the one for whose sake it was rolled back, from itself to that one.
     tie: Members,
+    /// The place of the deadlock for which it was rolled back.
+    deadlock: Option<usize>,
+}
+
+impl Kept {
+    /// Nothing.
+    fn new() -> Self {
+        Kept {
+            observation: None,
+            tie: Members::new(),
+            deadlock: None,
+        }
+    }
 }
 
 /// What was seen last of each transaction in its last run, and by which joint answers it hangs together with the one
 /// for whose sake it was rolled back. Where memory runs out for one, less is told of it.
 #[derive(Drop)]
 pub struct Observations {
+    alloc: Global,
     /// By number; there is no transaction 0.
     kept: Vec<Kept>,
     /// The joint answers of the present run.
     joints: Vec<Members>,
+    /// The deadlocks that were broken, each with those of its steps that were seen.
+    deadlocks: Vec<Vec<Step>>,
 }
 
 impl Observations {
     /// Nothing is seen yet.
     pub fn new(alloc: Global) -> Self {
         Observations {
+            alloc,
             kept: Vec::new(alloc),
             joints: Vec::new(alloc),
+            deadlocks: Vec::new(alloc),
         }
     }
 
@@ -38,10 +56,7 @@ impl Observations {
         self.joints.clear();
         for tx in members.as_slice() {
             if let Ok(kept) = self.of_mut(*tx) {
-                *kept = Kept {
-                    observation: None,
-                    tie: Members::new(),
-                };
+                *kept = Kept::new();
             }
         }
     }
@@ -65,6 +80,70 @@ impl Observations {
             if let Ok(kept) = self.of_mut(*tx) {
                 kept.tie = way;
             }
+        }
+    }
+
+    /// A deadlock is broken: this group is rolled back for it. What was seen of its steps is kept as it is now.
+    pub fn break_deadlock(&mut self, cycle: &Members, group: &Members) {
+        let steps = self.take_steps(cycle);
+        let place = self.deadlocks.len();
+        if self.deadlocks.push(steps).is_err() {
+            return;
+        }
+        for tx in group.as_slice() {
+            if let Ok(kept) = self.of_mut(*tx) {
+                kept.deadlock = Some(place);
+            }
+        }
+    }
+
+    fn take_steps(&mut self, cycle: &Members) -> Vec<Step> {
+        let mut steps = Vec::new(self.alloc);
+        let first = cycle.get(0).unwrap_or(0);
+        for (index, from) in cycle.as_slice().iter().enumerate() {
+            let to = cycle.get(index.saturating_add(1)).unwrap_or(first);
+            if let Some(block) = self.take_block(*from, to) {
+                let _ = steps.push(Step { from: *from, block });
+            }
+        }
+        steps
+    }
+
+    /// Takes the table on which another, or else one of its group, stands in the way of a transaction.
+    fn take_block(&mut self, from: Tx, to: Tx) -> Option<Block> {
+        let place = self.block_place(from, to)?;
+        let observation = self.kept.get_mut(from as usize)?.observation.as_mut()?;
+        if place < observation.blocks.len() {
+            Some(observation.blocks.remove(place))
+        } else {
+            None
+        }
+    }
+
+    fn block_place(&self, from: Tx, to: Tx) -> Option<usize> {
+        let blocks = self.observation(from)?.blocks.as_slice();
+        if let Some(place) = blocks.iter().position(|block| block.holder == to) {
+            return Some(place);
+        }
+        let group = self.group(to)?;
+        blocks
+            .iter()
+            .position(|block| self.group(block.holder) == Some(group))
+    }
+
+    fn group(&self, tx: Tx) -> Option<Tx> {
+        Some(self.observation(tx)?.group)
+    }
+
+    /// The steps of the deadlock for which a transaction was rolled back, as far as they were seen.
+    pub fn steps(&self, tx: Tx) -> &[Step] {
+        let place = match self.kept.get(tx as usize) {
+            Some(kept) => kept.deadlock,
+            None => None,
+        };
+        match place.and_then(|place| self.deadlocks.get(place)) {
+            Some(steps) => steps.as_slice(),
+            None => &[],
         }
     }
 
@@ -131,10 +210,7 @@ fn extend_to(kept: &mut Vec<Kept>, place: usize) -> Result<(), AllocError>
     ensures { OnOk result (place < length kept.new.items) }
 {
     while kept.len() <= place {
-        kept.push(Kept {
-            observation: None,
-            tie: Members::new(),
-        })?;
+        kept.push(Kept::new())?;
     }
     Ok(())
 }

@@ -89,7 +89,7 @@ impl<'a> Reason<'a> {
     fn put_broken<W: fmt::Write>(&self, f: &mut fmt::Formatter<W>, cycle: &Members) -> fmt::Result {
         let ring = Ring {
             cycle,
-            observations: self.observations,
+            steps: self.observations.steps(self.tx),
         };
         let victim = cycle.get(0).unwrap_or(0);
         if victim == self.tx {

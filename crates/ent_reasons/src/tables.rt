@@ -11,20 +11,6 @@ pub(crate) fn block_of(observations: &Observations, tx: Tx, holder: Tx) -> Optio
     blocks.iter().find(|block| block.holder == holder)
 }
 
-/// The table on which one of the group of another stood in conflict with a transaction, if that was seen; that one first.
-pub(crate) fn block_by_group(observations: &Observations, tx: Tx, other: Tx) -> Option<&Block> {
-    if let Some(own) = block_of(observations, tx, other) {
-        return Some(own);
-    }
-    let group = observations.observation(other)?.group;
-    let blocks = observations.observation(tx)?.blocks.as_slice();
-    blocks.iter().find(|block| group_of(observations, block.holder) == Some(group))
-}
-
-fn group_of(observations: &Observations, tx: Tx) -> Option<Tx> {
-    Some(observations.observation(tx)?.group)
-}
-
 /// How a table is used.
 #[derive(Clone, Copy)]
 pub(crate) struct Manner(pub(crate) Mode);

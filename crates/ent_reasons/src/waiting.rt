@@ -1,6 +1,6 @@
 //! Transactions, as sentences list them.
-use crate::observations::Observations;
-use crate::tables::{TableName, block_by_group};
+use crate::observation::Step;
+use crate::tables::TableName;
 use ent_group::{Members, Tx};
 use std::fmt;
 
@@ -9,17 +9,17 @@ use std::fmt;
 #[derive(Clone, Copy)]
 pub(crate) struct Ring<'a> {
     pub(crate) cycle: &'a Members,
-    pub(crate) observations: &'a Observations,
+    pub(crate) steps: &'a [Step],
 }
 
 impl Ring<'_> {
     fn put_step<W: fmt::Write>(&self, f: &mut fmt::Formatter<W>, from: Tx, to: Tx) -> fmt::Result {
         write!(f, "tx {from} waited for tx {to}")?;
-        let Some(block) = block_by_group(self.observations, from, to) else {
+        let Some(step) = self.steps.iter().find(|step| step.from == from) else {
             return Ok(());
         };
-        let table = TableName(block);
-        let holder = block.holder;
+        let table = TableName(&step.block);
+        let holder = step.block.holder;
         if holder == to {
             write!(f, " ({table})")
         } else {

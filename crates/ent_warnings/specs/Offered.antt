@@ -13,14 +13,20 @@ use Rattle.ent_tree.specs.declared.entangled.Term.{Term}
 use Rattle.ent_tree.specs.declared.entangled.Term.TheVariants.{Value}
 use Rattle.ent_tree.specs.declared.entangled.Tuple.{Tuple}
 use Rattle.ent_tree.specs.declared.operand.Identifier.{Identifier}
+use Rattle.ent_tree.specs.declared.operand.Literal.{Literal as Written}
 use Rattle.ent_tree.specs.declared.operand.ValueSpecification.TheVariants.{Literal}
 use Rattle.ent_tree.specs.declared.script.Script.{Script}
 use Rattle.ent_tree.specs.declared.script.Statement.{Statement}
 use Rattle.ent_tree.specs.declared.script.Statement.TheVariants as statements
 
+-- a term may have a written value: all may, but for another written one
+abbrev pub may_be : Written → Term → Bool
+may_be own (Value (Literal other)) = eq_by_cmp value_cmp own.value other.value
+may_be own other = true
+
 -- two terms may have one value: all may, but for two written values that differ
 abbrev pub may_meet : Term → Term → Bool
-may_meet (Value (Literal own)) (Value (Literal other)) = eq_by_cmp value_cmp own.value other.value
+may_meet (Value (Literal own)) other = may_be own other
 may_meet own other = true
 
 abbrev pub may_be_item : Term → EntangledItem → Bool
@@ -43,13 +49,18 @@ is_offered_by tuple relation script = list_any (may_offer tuple relation) script
 abbrev pub is_offered : List Script → Tuple → Identifier → Bool
 is_offered scripts tuple relation = list_any (is_offered_by tuple relation) scripts
 
--- a statement demands rows of a relation
+-- a condition demands rows of a relation
 abbrev pub demands_rows_of : Name → Condition → Bool
 demands_rows_of relation (InAnswer tuple own) = same_name own.name relation
 demands_rows_of relation other = false
 
+-- an entangled statement has such a condition
+abbrev pub has_demand : Name → Entangled → Bool
+has_demand relation asked = list_any (demands_rows_of relation) asked.conditions
+
+-- a statement demands rows of a relation
 abbrev pub may_demand : Name → Statement → Bool
-may_demand relation (statements.Entangled asked) = list_any (demands_rows_of relation) asked.conditions
+may_demand relation (statements.Entangled asked) = has_demand relation asked
 may_demand relation other = false
 
 abbrev pub is_demanded_by : Name → Script → Bool

@@ -1,26 +1,39 @@
 //! What statements offer and demand.
 ghost use Rattle.std.specs.Prelude.{◌≡◌};
 ghost use Rattle.std.specs.Cmp.Lexicographic.{pointwise};
-ghost use Rattle.ent_warnings.specs.Offered.{is_offered, is_offered_by, may_be_item, may_meet};
+ghost use Rattle.ent_warnings.specs.Offered.{is_offered, is_offered_by, may_be, may_be_item, may_meet};
 ghost use Rattle.ent_warnings.specs.Offered.{demands_rows_of, is_demanded, is_demanded_by, is_named, is_named_by};
-ghost use Rattle.ent_warnings.specs.Offered.{may_demand, may_offer, offers_rows, offers_rows_of};
+ghost use Rattle.ent_warnings.specs.Offered.{has_demand, may_demand, may_offer, offers_rows, offers_rows_of};
 
 use ent_tree::{
-    Condition, Entangled, EntangledItem, Identifier, Script, Statement, Term, Tuple,
+    Condition, Entangled, EntangledItem, Identifier, Literal, Script, Statement, Term, Tuple,
     ValueSpecification,
 };
 use ent_value::Name;
+
+/// Whether a term may have a written value: all may, but for another written one.
+fn may_be(written: &Literal, other: &Term) -> bool
+    ensures { result ≡ may_be written.now other.now }
+{
+    match other {
+        Term::Value(value) => match value {
+            ValueSpecification::Literal(another) => written.value.cmp(&another.value).is_eq(),
+            ValueSpecification::HostVariable(_) => true,
+        },
+        Term::Variable(_) => true,
+    }
+}
 
 /// Whether two terms may have one value: all may, but for two written values that differ.
 fn may_meet(own: &Term, other: &Term) -> bool
     ensures { result ≡ may_meet own.now other.now }
 {
     match own {
-        Term::Value(ValueSpecification::Literal(one)) => match other {
-            Term::Value(ValueSpecification::Literal(two)) => one.value == two.value,
-            _ => true,
+        Term::Value(value) => match value {
+            ValueSpecification::Literal(written) => may_be(written, other),
+            ValueSpecification::HostVariable(_) => true,
         },
-        _ => true,
+        Term::Variable(_) => true,
     }
 }
 
@@ -114,15 +127,22 @@ fn demands_rows_of(relation: &Name, condition: &Condition) -> bool
     }
 }
 
+/// Whether one of the conditions of an entangled statement does.
+fn has_demand(relation: &Name, asked: &Entangled) -> bool
+    ensures { result ≡ has_demand relation.now asked.now }
+{
+    asked
+        .conditions
+        .iter()
+        .any(|condition| demands_rows_of(relation, condition))
+}
+
 /// Whether a statement does.
 fn may_demand(relation: &Name, statement: &Statement) -> bool
     ensures { result ≡ may_demand relation.now statement.now }
 {
     match statement {
-        Statement::Entangled(asked) => asked
-            .conditions
-            .iter()
-            .any(|condition| demands_rows_of(relation, condition)),
+        Statement::Entangled(asked) => has_demand(relation, asked),
         _ => false,
     }
 }

@@ -1,4 +1,6 @@
 //! A watcher that says something before anything runs.
+ghost use Rattle.std.specs.Prelude.{◌≡◌, None};
+
 use ent_core::{Core, Reply};
 use ent_eval::Done;
 use ent_sched::{Told, Watcher};
@@ -36,7 +38,9 @@ impl<E: Eprint, D: Display + Drop> Watcher for Foreword<'_, E, D> {
 
     fn mark(&self, _done: &Done) {}
 
-    fn tell(&mut self, _told: Told<()>, _reply: &Reply, _core: &Core) {
+    fn tell(&mut self, _told: Told<()>, _reply: &Reply, _core: &Core)
+        ensures { self.new.word ≡ None }
+    {
         if let Some(word) = self.word.take() {
             let _ = eprint!(self.to; "{word}");
         }

@@ -141,7 +141,10 @@ fn see(
             }
         }
         Reply::RolledBack(group) | Reply::Failed(_, group) => observations.tie(group, maker(told)),
-        Reply::Broken(cycle, group) => observations.tie(group, first_party(cycle)),
+        Reply::Broken(cycle, group) => {
+            observations.break_deadlock(cycle, group);
+            observations.tie(group, first_party(cycle));
+        }
         _ => {}
     }
 }

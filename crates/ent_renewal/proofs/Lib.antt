@@ -1,0 +1,5 @@
+mod Checks
+mod Narrow
+mod Held
+mod Faultless
+mod Present
