@@ -1,4 +1,5 @@
-//! What was told of transactions, a line each: their numbers, a colon, and what changes for all of them.
+//! What was told of transactions, a line each: their numbers, a colon, and what changes for all of them; and what was
+//! seen of them.
 use anyhow::{Result, anyhow, bail};
 use ent_group::{Members, Tx};
 use ent_lock::Mode;
@@ -51,7 +52,7 @@ fn change_of(words: &[&str]) -> Result<Change> {
     }
 }
 
-/// What is in conflict.
+/// What a transaction was told last.
 fn last_status_of(words: &[&str]) -> Result<LastStatus> {
     match words {
         ["free"] => Ok(LastStatus::Free),

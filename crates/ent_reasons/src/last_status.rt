@@ -1,4 +1,4 @@
-//! What stands in a transaction's way.
+//! What a transaction was told last.
 ghost use Rattle.std.specs.Prelude.{◌≡◌};
 
 use ent_group::{Members, Tx};

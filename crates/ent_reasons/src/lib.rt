@@ -5,8 +5,8 @@
 //! notes say that they aren't whole.
 //!
 //! [`Observations`] keep what a watcher saw of members that can't move, and which joint answers tie a group. They hold
-//! what was handed in, and no contract says more. What [`Reasons`] tells rests on both, and on the text of the input for
-//! the lines of its statements. What the sentences say rests on rows of examples, which `ent_rows` plays.
+//! what was handed in, and no contract says more. What [`Reasons`] tells rests on both, and on the text of the input
+//! for the lines of its statements. What the sentences say rests on rows of examples, which `ent_reason_rows` plays.
 #![tactic(auto)]
 
 mod demand;

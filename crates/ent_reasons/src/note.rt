@@ -23,7 +23,7 @@ pub enum Change {
     Starts,
     /// A statement is passed.
     Passes,
-    /// Something is in conflict.
+    /// It is told this, the last so far.
     Stands(LastStatus),
 }
 

@@ -1,11 +1,11 @@
-//! Tables that stood in conflict.
+//! Tables on which members were blocked.
 use crate::observation::Block;
 use crate::observations::Observations;
 use ent_group::Tx;
 use ent_lock::Mode;
 use std::{fmt, str};
 
-/// The table on which a holder stood in conflict with a transaction, if that was seen.
+/// The table on which a holder blocked a transaction, if that was seen.
 pub(crate) fn block_of(observations: &Observations, tx: Tx, holder: Tx) -> Option<&Block> {
     let blocks = observations.observation(tx)?.blocks.as_slice();
     blocks.iter().find(|block| block.holder == holder)

@@ -24,7 +24,7 @@ pub(crate) fn first_party(own: &Members) -> Tx
     own.get(0).unwrap_or(0)
 }
 
-/// What is in conflict with a statement that is held back.
+/// Why a statement is held back.
 fn held_back(post: &Unsafe) -> LastStatus
     ensures { result ≡ HeldBack post.now.asker (post.now.index + 1) post.now.first post.now.second }
 {
@@ -47,7 +47,7 @@ fn passes(members: &Members) -> News<'_>
     }
 }
 
-/// This is in conflict with these transactions.
+/// These transactions are told this, the last so far.
 fn stands(members: &Members, last_status: LastStatus) -> News<'_>
     ensures of { result.of.now ≡ members.now }
     ensures change { result.change ≡ Stands last_status }
