@@ -110,7 +110,6 @@ int32_t ent_c_answers(entangle_manager **manager, uint64_t number, uint8_t *buff
                       entangle_told *told);
 int32_t ent_c_table(entangle_manager **manager, const uint8_t *name, size_t length, uint8_t *buffer, size_t capacity,
                     entangle_told *told);
-int32_t ent_c_renew(entangle_manager **manager, entangle_manager **renewed, entangle_told *told);
 int32_t ent_c_close(entangle_manager **manager);
 int32_t ent_c_closed_report(entangle_manager **manager, uint32_t version, uint8_t *buffer, size_t capacity,
                             entangle_told *told);
@@ -178,8 +177,8 @@ static inline int32_t entangle_open(entangle_manager **manager, const void *inpu
 /* Submits a script: the text of one, from its BEGIN TRANSACTION on, and of nothing else. It waits for the next run.
  *
  * ENTANGLE_DONE: `*number` is its transaction, from 1 in order of submission. ENTANGLE_REFUSED: the fault is told,
- * whose place counts from the start of this text; or E406: 10,000 scripts were submitted. ENTANGLE_OUT_OF_MEMORY: E900
- * is told. After a refusal nothing has changed, `*number` neither. */
+ * whose place counts from the start of this text; or E406: 10,000 scripts were submitted. ENTANGLE_OUT_OF_MEMORY: E900 is
+ * told. After a refusal nothing has changed, `*number` neither. */
 static inline int32_t entangle_submit(entangle_manager **manager, const void *script, size_t length, uint64_t *number,
                                       entangle_told *told) {
     uint8_t none = 0;
@@ -228,18 +227,6 @@ static inline int32_t entangle_table(entangle_manager **manager, const void *nam
     if (!manager || entangle_is_misused(name, length, buffer, capacity, told)) return ENTANGLE_MISUSED;
     return ent_c_table(manager, name ? (const uint8_t *)name : &none, length, buffer ? (uint8_t *)buffer : &none,
                        capacity, told);
-}
-
-/* Opens another manager over the tables of one whose transactions all have a fate: it has the same rows, and no script.
- * So a service goes on beyond 10,000 scripts: it renews, closes the old manager for its report, and frees it. The two
- * pointers stand in different places, and that of the new manager has to be null.
- *
- * ENTANGLE_DONE: the new manager is open, and the old one is as it was. ENTANGLE_REFUSED: E405 is told: a transaction
- * waits for a run; or E407: more than 65,536 rows stand in all tables together. ENTANGLE_OUT_OF_MEMORY: E900 is told.
- * ENTANGLE_MISUSED: the second pointer isn't null, and stays as it was. */
-static inline int32_t entangle_renew(entangle_manager **manager, entangle_manager **renewed, entangle_told *told) {
-    if (!manager || !renewed || manager == renewed || !told) return ENTANGLE_MISUSED;
-    return ent_c_renew(manager, renewed, told);
 }
 
 /* Closes a manager whose transactions all have a fate. Then its report can be asked for, and nothing else but to free

@@ -69,7 +69,6 @@ _STATUSES = (
     "standing",
     "answers",
     "table",
-    "renew",
     "close",
     "closed_report",
 )
@@ -193,7 +192,6 @@ def _loaded() -> ctypes.CDLL:
     library.ent_c_standing.argtypes = [manager, number, ctypes.POINTER(_Position)]
     library.ent_c_answers.argtypes = [manager, number, *out]
     library.ent_c_table.argtypes = [manager, *text, *out]
-    library.ent_c_renew.argtypes = [manager, manager, ctypes.POINTER(_Told)]
     library.ent_c_close.argtypes = [manager]
     library.ent_c_closed_report.argtypes = [manager, ctypes.c_uint32, *out]
     library.ent_c_free.argtypes = [manager]
@@ -402,19 +400,6 @@ class Manager:
         with self._lock:
             lines = self._text(_LIBRARY.ent_c_table, given, len(given))
         return [_row_at(line, 0)[0] for line in lines.splitlines()[1:]]
-
-    def renewed(self) -> Manager:
-        """Another manager over the tables of this one, where every transaction has its fate: the same rows, no script.
-
-        So a service goes on beyond 10,000 scripts. This manager stays as it is. Raises Refused where a transaction
-        waits for a run (E405) or more than 65,536 rows stand (E407), and OutOfMemory.
-        """
-        renewed, told = Manager.__new__(Manager), _Told()
-        renewed._lock, renewed._handle = threading.Lock(), ctypes.c_void_p()
-        with self._lock:
-            status = _LIBRARY.ent_c_renew(self._place(), renewed._place(), ctypes.byref(told))
-        self._end(status, told)
-        return renewed
 
     def finish(self) -> None:
         """Closes the book, where every transaction has its fate; then report() is all that the manager is there for.

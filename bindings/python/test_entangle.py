@@ -119,10 +119,7 @@ class Calls(unittest.TestCase):
         self.assertTrue(entangle.check(alone).is_legal)
 
 
-TABLES = """CREATE TABLE Flights (fno INT, dest TEXT);
-CREATE TABLE Trips (fno INT);
-INSERT INTO Flights VALUES (122, 'LA');
-"""
+TABLES = "CREATE TABLE Flights (fno INT, dest TEXT);\nCREATE TABLE Trips (fno INT);\nINSERT INTO Flights VALUES (122, 'LA');\n"
 
 
 def trip(who, friend):
@@ -206,20 +203,6 @@ class Managers(unittest.TestCase):
         manager.close()
         manager.close()
         self.assertRaises(entangle.StateError, manager.report)
-
-    def test_a_manager_is_renewed_with_its_tables(self):
-        with entangle.Manager("CREATE TABLE T (a INT, b TEXT);") as manager:
-            manager.submit("BEGIN TRANSACTION; INSERT INTO T VALUES (-1, 'it''s'); COMMIT;")
-            with self.assertRaises(entangle.Refused) as caught:
-                manager.renewed()
-            self.assertEqual(caught.exception.code, 405)
-            manager.run()
-            with manager.renewed() as renewed:
-                self.assertEqual(renewed.table("T"), [(-1, "it's")])
-                self.assertEqual(renewed.submit("BEGIN TRANSACTION; DELETE FROM T; COMMIT;"), 1)
-                renewed.run()
-                self.assertEqual(renewed.table("T"), [])
-            self.assertEqual(manager.table("T"), [(-1, "it's")])
 
     def test_an_opening_with_a_fault_is_explained(self):
         with self.assertRaises(entangle.Refused) as caught:

@@ -79,8 +79,6 @@ unsafe extern "C" {
         told: *mut Told,
     ) -> i32;
 
-    fn ent_c_renew(manager: *mut *mut Opaque, renewed: *mut *mut Opaque, told: *mut Told) -> i32;
-
     fn ent_c_close(manager: *mut *mut Opaque) -> i32;
 
     fn ent_c_closed_report(
@@ -217,13 +215,6 @@ impl Handle {
         // SAFETY: as said above.
         let status = unsafe { ent_c_standing(&mut self.at, number, &mut position) };
         status_said(status, Told { code: 401, ..Told::default() }).map(|()| position)
-    }
-
-    pub(crate) fn renewed(&mut self) -> Result<Self, Refusal> {
-        let (mut renewed, mut told) = (Handle { at: null_mut() }, Told::default());
-        // SAFETY: as said above; the two pointers stand in different places.
-        let status = unsafe { ent_c_renew(&mut self.at, &mut renewed.at, &mut told) };
-        status_said(status, told).map(|()| renewed)
     }
 
     pub(crate) fn close(&mut self) -> Result<(), Refusal> {

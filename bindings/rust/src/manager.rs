@@ -230,16 +230,6 @@ impl Manager {
         Ok(table_in(&lines).expect("the lines of a report are a table"))
     }
 
-    /// Another manager over the tables of this one, where every transaction has its fate: the same rows, and no script.
-    /// So a service goes on beyond 10,000 scripts. This manager stays as it is, to be closed for its report.
-    ///
-    /// # Errors
-    ///
-    /// A transaction waits for a run (E405), more than 65,536 rows stand (E407), or memory ran out.
-    pub fn renewed(&mut self) -> Result<Self, Error> {
-        Ok(Manager { handle: self.handle.renewed()? })
-    }
-
     /// Closes the manager, where every transaction has its fate. Then [`Manager::report`] is all that it is there for.
     ///
     /// # Errors

@@ -124,25 +124,6 @@ fn a_manager_moves_between_threads() {
 }
 
 #[test]
-fn a_manager_is_renewed_with_its_tables() {
-    let mut manager = Manager::open(TABLE).expect("the table is right");
-    let script = |number| format!("BEGIN TRANSACTION; INSERT INTO T VALUES ({number}); COMMIT;");
-    for number in 0..10_000 {
-        manager.submit(&script(number)).expect("the script is right");
-    }
-    assert_eq!(manager.submit(&script(0)).map_err(code_of), Err(406));
-    assert_eq!(manager.renewed().map(|_| ()).map_err(code_of), Err(405));
-    while manager.standing(10_000).is_ok_and(|standing| standing.fate().is_none()) {
-        manager.run().expect("memory is there");
-    }
-    let mut renewed = manager.renewed().expect("all have their fates");
-    assert_eq!(renewed.table("T"), manager.table("T"));
-    assert_eq!(renewed.submit(&script(10_000)), Ok(1));
-    renewed.run().expect("memory is there");
-    assert_eq!(renewed.table("T").map(|rows| rows.len()), Ok(10_001));
-}
-
-#[test]
 fn a_thousand_managers_come_and_go() {
     for number in 0..1000 {
         let mut manager = Manager::open(TABLE).expect("the table is right");

@@ -9,7 +9,7 @@ use Rattle.ent_engine.specs.Fault.{status as fault_status}
 use Rattle.ent_engine.specs.Reading.{IsRefused}
 use Rattle.ent_engine.specs.declared.fault.RunFault.{RunFault}
 use Rattle.ent_driver.specs.Drives.{Closes, IsNotClosed, IsNotSubmitted, Opens, Runs, Stands, StandsNowhere}
-use Rattle.ent_driver.specs.Drives.{IsNotRenewedAs, RenewsAs, StopsRun, Submits}
+use Rattle.ent_driver.specs.Drives.{StopsRun, Submits}
 use Rattle.ent_driver.specs.Fault.{status as refusal_status}
 use Rattle.ent_driver.specs.declared.driver.Driver.{Driver}
 use Rattle.ent_driver.specs.declared.driver.Driver.TheVariants.{Vacant}
@@ -37,17 +37,6 @@ OpensManager bytes None new told status =
     ⊎ ((fault : RunFault) × IsRefused bytes fault × (new ≡ None) × TellsFault fault bytes 0 told
     × (status ≡ pos (fault_status fault)))
 OpensManager bytes (Some driver) new told status =
-    (new ≡ Some driver) × (told ≡ told_of_text 0) × (status ≡ pos 2)
-
--- a handle that was null has a manager over the tables of the one that is given, or the fault is told for which there is
--- none; one that wasn't null is misused, and as it was
-abbrev pub RenewsManager : Held → Held → Held → Told → ℤ → Type 0
-RenewsManager given None new told status =
-    ((driver : Driver) × RenewsAs (behind given) driver × (new ≡ Some driver) × (told ≡ told_of_text 0)
-    × (status ≡ pos 0))
-    ⊎ ((fault : DriverFault) × IsNotRenewedAs (behind given) fault × (new ≡ None) × TellsRefusal fault [] told
-    × (status ≡ pos (refusal_status fault)))
-RenewsManager given (Some driver) new told status =
     (new ≡ Some driver) × (told ≡ told_of_text 0) × (status ≡ pos 2)
 
 -- the script is taken, and its number is told; or nothing changes, and the fault is told for which it isn't

@@ -4,7 +4,7 @@ ghost use Rattle.std.specs.declared.option.Option.TheVariants.{None};
 ghost use Rattle.ent_driver.specs.Drives.{Answers, IsUnanswered, IsUnreported, IsUnshown, Reports, Shows};
 ghost use Rattle.ent_c.specs.Calls.{HandsOut, IsMisused, Declines};
 ghost use Rattle.ent_c.specs.Managers.{ClosesManager, HandsOutOr, OpensManager, RunsManager, StandsIn, SubmitsTo};
-ghost use Rattle.ent_c.specs.Managers.{RenewsManager, behind};
+ghost use Rattle.ent_c.specs.Managers.{behind};
 ghost use Rattle.ent_c.specs.Version.{version_numbered};
 
 use crate::buffer::lay_over;
@@ -223,44 +223,6 @@ pub extern "C" fn ent_c_closed_report(
     let text = driver.report(alloc, version);
     handle.put(driver);
     hand_out(text, &[], buffer, told)
-}
-
-/// Opens another manager over the tables of one whose transactions all have a fate. That one stays as it is. A handle
-/// for the new one that isn't null is misused.
-#[unsafe(no_mangle)]
-pub extern "C" fn ent_c_renew(
-    alloc: Global,
-    handle: &mut Handle,
-    renewed: &mut Handle,
-    told: &mut Told,
-) -> i32
-    ensures same { handle.new.held ≡ handle.old.held }
-    ensures renewed { RenewsManager handle.old.held renewed.old.held renewed.new.held told.new result }
-{
-    if let Some(driver) = renewed.take(alloc) {
-        renewed.put(driver);
-        *told = Told::text(0);
-        return MISUSED;
-    }
-    let Some(driver) = handle.take(alloc) else {
-        *told = Told::refusal(&[], DriverFault::Vacant);
-        return MISUSED;
-    };
-    let made = driver.renewed(alloc);
-    handle.put(driver);
-    let fault = match made {
-        Ok(made) => match Box::new(alloc, made) {
-            Ok(made) => {
-                renewed.put(made);
-                *told = Told::text(0);
-                return DONE;
-            }
-            Err(_) => DriverFault::Text(RunFault::Memory),
-        },
-        Err(fault) => fault,
-    };
-    *told = Told::refusal(&[], fault);
-    fault.status() as i32
 }
 
 /// Frees a manager, whatever it has come to; the handle is null then.

@@ -19,7 +19,6 @@ use Rattle.ent_engine.specs.Report.{text_of}
 use Rattle.ent_engine.specs.declared.fault.RunFault.TheVariants.{Memory}
 use Rattle.ent_engine.specs.declared.options.ReportVersion.{ReportVersion}
 use Rattle.ent_driver.specs.OneRun.{RunsOnce}
-use Rattle.ent_driver.specs.Renewal.{IsNotRenewed, Renews}
 use Rattle.ent_driver.specs.Scripts.{IsNotTaken, Takes}
 use Rattle.ent_driver.specs.Told.{HasNoTable, answers_so_far, lines_under}
 use Rattle.ent_driver.specs.declared.driver.Driver.{Driver}
@@ -80,14 +79,7 @@ Shows driver name text = (s : State) × (driver ≡ drivers.Open s) × (lines_un
 abbrev pub IsUnshown : Driver → List ℕ → DriverFault → Type 0
 IsUnshown driver name fault = OfOpen driver fault (λ s. HasNoTable s name fault)
 
--- ---- what is left
-
--- another core is open, over the tables of this one, row by row
-abbrev pub RenewsAs : Driver → Driver → Type 0
-RenewsAs old new = (s s' : State) × (old ≡ drivers.Open s) × (new ≡ drivers.Open s') × Renews s s'
-
-abbrev pub IsNotRenewedAs : Driver → DriverFault → Type 0
-IsNotRenewedAs driver fault = (fault ≡ Text Memory) ⊎ OfOpen driver fault (λ s. IsNotRenewed s fault)
+-- ---- closing
 
 -- the book of the core is left, which is legal
 abbrev pub Closes : Driver → Driver → Type 0

@@ -2,5 +2,4 @@ pub mod Fault
 pub mod Scripts
 pub mod OneRun
 pub mod Told
-pub mod Renewal
 pub mod Drives

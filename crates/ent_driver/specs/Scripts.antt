@@ -11,7 +11,7 @@ use Rattle.ent_engine.specs.declared.fault.RunFault.{RunFault}
 use Rattle.ent_engine.specs.declared.fault.RunFault.TheVariants.{NotUtf8, TooLong, Sql, Form, Check, Differs}
 use Rattle.ent_engine.specs.declared.fault.RunFault.TheVariants.{ReadFault, WriteFault, Memory}
 use Rattle.ent_driver.specs.declared.fault.DriverFault.{DriverFault}
-use Rattle.ent_driver.specs.declared.fault.DriverFault.TheVariants.{Text, Vacant, Absent, NotDone, Full, TooManyRows}
+use Rattle.ent_driver.specs.declared.fault.DriverFault.TheVariants.{Text, Vacant, Absent, NotDone, Full}
 
 -- bytes that read as this script, alone, whatever its form
 abbrev pub IsScript : List ℕ → Script → Type 0
@@ -51,4 +51,3 @@ IsNotTaken bytes s Full =
 IsNotTaken bytes s Vacant = ⊥
 IsNotTaken bytes s Absent = ⊥
 IsNotTaken bytes s NotDone = ⊥
-IsNotTaken bytes s TooManyRows = ⊥

@@ -2,12 +2,11 @@
 ghost use Rattle.std.specs.Prelude.{◌≡◌, IfErr, IfOk, OnErr, OnOk};
 ghost use Rattle.ent_driver.specs.Drives.{Answers, Closes, IsNotClosed, IsUnanswered, Opens, Reports, Runs, StopsRun};
 ghost use Rattle.ent_driver.specs.Drives.{Shows, IsUnshown, Stands, StandsNowhere, Submits, IsNotSubmitted};
-ghost use Rattle.ent_driver.specs.Drives.{IsNotRenewedAs, IsUnreported, RenewsAs};
+ghost use Rattle.ent_driver.specs.Drives.{IsUnreported};
 ghost use Rattle.ent_engine.specs.Reading.{IsRefused};
 
 use crate::fault::DriverFault;
 use crate::one_run::run_once;
-use crate::renewal::renew;
 use crate::script::submit;
 use crate::text::{answers_text, report_text, table_text};
 use ent_book::NamedTable;
@@ -113,18 +112,6 @@ impl Driver {
     {
         match self {
             Driver::Open(core) => table_text(alloc, core, name),
-            _ => Err(DriverFault::Vacant),
-        }
-    }
-
-    /// Another driver, open over the tables of this one, where no run is on and nobody waits for one: it has no script,
-    /// and the same rows under each name. This one stays as it is.
-    pub fn renewed(&self, alloc: Global) -> Result<Self, DriverFault>
-        ensures ok { IfOk result (λ driver. RenewsAs self.now driver) }
-        ensures refused { IfErr result (λ fault. IsNotRenewedAs self.now fault) }
-    {
-        match self {
-            Driver::Open(core) => Ok(Driver::Open(renew(alloc, core)?)),
             _ => Err(DriverFault::Vacant),
         }
     }

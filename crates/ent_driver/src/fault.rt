@@ -26,9 +26,6 @@ pub enum DriverFault {
     /// As many scripts as there may be were submitted before.
     #[error("E406: 10,000 scripts were submitted")]
     Full,
-    /// More rows stand than an opening may have.
-    #[error("E407: more than 65,536 rows stand")]
-    TooManyRows,
 }
 
 impl From<AllocError> for DriverFault {
@@ -66,7 +63,6 @@ impl DriverFault {
             DriverFault::Absent => 401,
             DriverFault::NotDone => 405,
             DriverFault::Full => 406,
-            DriverFault::TooManyRows => 407,
         }
     }
 
@@ -76,11 +72,8 @@ impl DriverFault {
     {
         match self {
             DriverFault::Text(fault) => fault.place(),
-            DriverFault::Vacant
-            | DriverFault::Absent
-            | DriverFault::NotDone
-            | DriverFault::Full
-            | DriverFault::TooManyRows => None,
+            DriverFault::Vacant | DriverFault::Absent | DriverFault::NotDone | DriverFault::Full =>
+                None,
         }
     }
 
@@ -92,10 +85,7 @@ impl DriverFault {
         match self {
             DriverFault::Text(fault) => status_of(&fault),
             DriverFault::Vacant => 2,
-            DriverFault::Absent
-            | DriverFault::NotDone
-            | DriverFault::Full
-            | DriverFault::TooManyRows => 1,
+            DriverFault::Absent | DriverFault::NotDone | DriverFault::Full => 1,
         }
     }
 }

@@ -9,13 +9,11 @@
 mod driver;
 mod fault;
 mod one_run;
-mod renewal;
 mod script;
 mod text;
 
 pub use driver::Driver;
 pub use fault::DriverFault;
 pub use one_run::run_once;
-pub use renewal::renew;
 pub use script::{read_script, submit};
 pub use text::{answers_text, report_text, table_text};

@@ -1,5 +1,0 @@
-mod Checks
-mod Narrow
-mod Held
-mod Faultless
-mod Present
