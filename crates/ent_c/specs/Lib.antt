@@ -2,5 +2,3 @@ pub mod Text
 pub mod Version
 pub mod Told
 pub mod Calls
-pub mod Position
-pub mod Managers

@@ -1,5 +1,0 @@
-pub mod Fault
-pub mod Scripts
-pub mod OneRun
-pub mod Told
-pub mod Drives
