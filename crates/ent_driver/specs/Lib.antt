@@ -1,0 +1,5 @@
+pub mod Fault
+pub mod Scripts
+pub mod OneRun
+pub mod Told
+pub mod Drives

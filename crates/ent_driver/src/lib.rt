@@ -1,0 +1,19 @@
+//! A core that is driven by one caller, call by call, until its book is closed: what stands behind a handle of another
+//! language.
+//!
+//! A [`Driver`] is vacant, open over a core, or closed with that core's book. A caller may rely on it that each call
+//! makes of the core what its contract says, and that one which is refused leaves all as it was. Bytes come in as texts
+//! do, and texts go out as the report has them.
+#![tactic(auto)]
+
+mod driver;
+mod fault;
+mod one_run;
+mod script;
+mod text;
+
+pub use driver::Driver;
+pub use fault::DriverFault;
+pub use one_run::run_once;
+pub use script::{read_script, submit};
+pub use text::{answers_text, report_text, table_text};

@@ -1,0 +1,60 @@
+//! A script is taken, by its text alone.
+ghost use Rattle.std.specs.Prelude.{◌≡◌, IfErr, IfOk, OnErr};
+ghost use Rattle.ent_driver.specs.Scripts.{IsNoScript, IsNotTaken, IsScript, Takes};
+ghost use Rattle.ent_protocol.specs.Reached.{book_of};
+ghost use Rattle.ent_semantics.specs.Book.{IsLegal};
+
+use crate::fault::DriverFault;
+use ent_core::{Core, Reply};
+use ent_engine::{MOST_BYTES, RunFault};
+use ent_group::Tx;
+use ent_sql::parse_script;
+use ent_tree::Script;
+use ent_value::Refusal;
+use std::alloc::Global;
+use std::str;
+
+/// The script that bytes are, alone, with places from its own start; or the first fault of their text.
+pub fn read_script(alloc: Global, bytes: &[u8]) -> Result<Script, RunFault>
+    ensures script { IfOk result (λ script. IsScript bytes.now script) }
+    ensures refused { IfErr result (λ fault. IsNoScript bytes.now fault) }
+{
+    if bytes.len() > MOST_BYTES {
+        return Err(RunFault::TooLong);
+    }
+    let text = match str::from_utf8(bytes) {
+        Ok(text) => text,
+        Err(fault) => return Err(RunFault::NotUtf8(fault.valid_up_to())),
+    };
+    match parse_script(alloc, text) {
+        Ok(script) => Ok(script),
+        Err(Refusal::Memory) => Err(RunFault::Memory),
+        Err(Refusal::Fault(fault)) => Err(RunFault::Sql(fault)),
+    }
+}
+
+/// Takes the script that bytes are, which then waits for a run, and answers its number. At a refusal nothing changes.
+pub fn submit(alloc: Global, core: &mut Core, bytes: &[u8]) -> Result<Tx, DriverFault>
+    ensures ok { IfOk result (λ tx. Takes bytes.now core.old tx core.new) }
+    ensures err { OnErr result (core.new ≡ core.old) }
+    ensures refused { IfErr result (λ fault. IsNotTaken bytes.now core.old fault) }
+    ensures legal { IsLegal (book_of core.old) → IsLegal (book_of core.new) }
+{
+    let script = read_script(alloc, bytes)?;
+    match core.submit(script)? {
+        Reply::Submitted(tx) => Ok(tx),
+        Reply::Full(script) => {
+            drop(script);
+            Err(DriverFault::Full)
+        }
+        Reply::Faulty(script, fault) => {
+            drop(script);
+            Err(DriverFault::Text(RunFault::Form(fault)))
+        }
+        // No other reply is made to a submit.
+        other => {
+            drop(other);
+            Err(DriverFault::Text(RunFault::Memory))
+        }
+    }
+}
