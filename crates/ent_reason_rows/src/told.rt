@@ -80,6 +80,7 @@ fn see(alloc: Global, observations: &mut Observations, line: &str) -> Result<()>
     let words: Vec<&str> = line.split(' ').collect(alloc)?;
     match words.as_slice() {
         ["started", members @ ..] => observations.start(&listed(members)?),
+        ["settled", members @ ..] => observations.settle(&listed(members)?),
         ["answered", members @ ..] => observations.join(&listed(members)?),
         ["broken", first, second, "group", members @ ..] => {
             let mut cycle = Members::of(number_of(first)?);

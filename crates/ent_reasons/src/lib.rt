@@ -25,6 +25,6 @@ mod walk;
 pub use last_status::LastStatus;
 pub use note::{Change, Note};
 pub use notes::Notes;
-pub use observation::{Block, Need, Observation, Step};
+pub use observation::{Block, Lacking, Need, Observation, Step};
 pub use observations::Observations;
 pub use reasons::Reasons;

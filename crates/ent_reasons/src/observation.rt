@@ -24,6 +24,15 @@ pub struct Block {
     pub held: Mode,
 }
 
+/// Over whom a posted statement hangs on a demand for which nobody offers a match.
+#[derive(Debug, Drop)]
+pub struct Lacking {
+    /// From the statement's own transaction, each needs the next one, and the last has the demand.
+    pub way: Members,
+    pub number: usize,
+    pub demand: Vec<u8>,
+}
+
 /// A step of a deadlock: who waited, and on what.
 #[derive(Debug, Drop)]
 pub struct Step {

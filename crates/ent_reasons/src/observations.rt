@@ -1,7 +1,7 @@
 //! What is seen of all transactions, and the joint answers of a run.
 ghost use Rattle.std.specs.Prelude.{◌<◌, OnOk, length};
 
-use crate::observation::{Block, Need, Observation, Step};
+use crate::observation::{Block, Lacking, Need, Observation, Step};
 use crate::walk::Walk;
 use ent_group::{MOST_MEMBERS, Members, Tx};
 use std::alloc::{AllocError, Global};
@@ -10,6 +10,8 @@ use std::alloc::{AllocError, Global};
 #[derive(Drop)]
 struct Kept {
     observation: Option<Observation>,
+    /// What it lacked when this was seen.
+    lacking: Option<Lacking>,
     /// Who ties it to the one for whose sake it was rolled back, from itself to that one.
     tie: Members,
     /// The place of the deadlock for which it was rolled back.
@@ -21,6 +23,7 @@ impl Kept {
     fn new() -> Self {
         Kept {
             observation: None,
+            lacking: None,
             tie: Members::new(),
             deadlock: None,
         }
@@ -71,6 +74,38 @@ impl Observations {
         if let Ok(kept) = self.of_mut(tx) {
             kept.observation = observation;
         }
+    }
+
+    /// All of these were seen now: what each of them lacks is kept as it is now.
+    pub fn settle(&mut self, members: &Members) {
+        for tx in members.as_slice() {
+            let lacking = self.lacking_now(*tx);
+            if let Ok(kept) = self.of_mut(*tx) {
+                kept.lacking = lacking;
+            }
+        }
+    }
+
+    fn lacking_now(&self, tx: Tx) -> Option<Lacking> {
+        let way = self.way_to_unmet(tx);
+        let last = way.as_slice().last().copied()?;
+        let Some(Need::Unmet { number, demand }) = self.need(last) else {
+            return None;
+        };
+        let mut copy = Vec::new(self.alloc);
+        if copy.extend_from_slice(demand.as_slice()).is_err() {
+            return None;
+        }
+        Some(Lacking {
+            way,
+            number: *number,
+            demand: copy,
+        })
+    }
+
+    /// What a transaction lacked when it was seen last in its last run, if it lacked anything.
+    pub fn lacking(&self, tx: Tx) -> Option<&Lacking> {
+        self.kept.get(tx as usize)?.lacking.as_ref()
     }
 
     /// A group is rolled back for the sake of one of it.
@@ -177,7 +212,7 @@ impl Observations {
 
     /// From a transaction to one that has a demand for which nobody offers a match, each next one offering a match for
     /// a demand of the one before; nobody where there is no such one.
-    pub fn way_to_unmet(&self, tx: Tx) -> Members {
+    fn way_to_unmet(&self, tx: Tx) -> Members {
         let mut walk = Walk::new(tx);
         for place in 0..MOST_MEMBERS {
             let Some(here) = walk.get(place) else {

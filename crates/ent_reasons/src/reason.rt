@@ -1,5 +1,4 @@
 //! Why a transaction didn't commit.
-use crate::demand::Lacking;
 use crate::last_status::LastStatus;
 use crate::note::Note;
 use crate::observations::Observations;
@@ -124,8 +123,7 @@ impl<'a> Reason<'a> {
         f: &mut fmt::Formatter<W>,
         tried: Option<&Members>,
     ) -> fmt::Result {
-        let way = self.observations.way_to_unmet(self.tx);
-        if let Some(lacking) = Lacking::at_end(self.observations, &way) {
+        if let Some(lacking) = self.observations.lacking(self.tx) {
             return write!(f, "posted, and not answered: {lacking}");
         }
         match tried {

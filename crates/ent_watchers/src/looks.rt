@@ -15,6 +15,7 @@ pub(crate) fn look(alloc: Global, observations: &mut Observations, core: &Core) 
     for tx in members.as_slice() {
         observations.see(*tx, observation_of(alloc, core, &members, *tx).ok());
     }
+    observations.settle(&members);
 }
 
 /// What is seen of a member.
