@@ -9,7 +9,8 @@ use Rattle.ent_semantics.specs.declared.book.Member.{Member}
 
 -- the member of a number in the joint answer of a number, both counted from 1
 abbrev pub member_in : List JointAnswer → ℕ × ℕ → Option Member
-member_in joints seat = option_and_then (λ (joint : JointAnswer). numbered joint.members seat.1) (numbered joints seat.0)
+member_in joints seat =
+    option_and_then (λ (joint : JointAnswer). numbered joint.members seat.1) (numbered joints seat.0)
 
 -- the numbers of a seat, and the grounding that is told there
 abbrev pub told_seat : Placed → ℕ × ℕ × Valuation

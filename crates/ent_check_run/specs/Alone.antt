@@ -45,8 +45,8 @@ account_at tx script told = record { tx = tx; script = script; fate = told.fate;
 -- before.
 pub record IsReplayed (creates : List Create) (members : List Placed) (account : Account) (before : Database)
     (finding : Option Finding) (after : Database) (offers made : List Offer) : Type 0 where
-  pub found : finding ≡ first_of (operations_findings creates members account.tx 1 (account_operations creates members account)
-      account.answers before nothing_bound)
+  pub found : finding ≡ first_of (operations_findings creates members account.tx 1
+      (account_operations creates members account) account.answers before nothing_bound)
   pub left : finding ≡ None
       → (run : Run) × (account_run creates members account before ≡ Some run) × (run.database ≡ after)
   pub offered : finding ≡ None → made ≡ offers ++ map offer_of

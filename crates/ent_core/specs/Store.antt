@@ -14,7 +14,8 @@ use Rattle.ent_protocol_laws.specs.Attempts.{AsksForRun}
 use Rattle.ent_tables.specs.Stored.{Stored, kinds_declared}
 
 pub record IsKept (schemas : List TableSchema) (opening : Opening) (submitted : List Submitted)
-    (transaction_table : TransactionTable) (running : Bool) (run : Run) (stored : Stored) (pool : List Posted) : Type 0 where
+    (transaction_table : TransactionTable) (running : Bool) (run : Run) (stored : Stored) (pool : List Posted)
+    : Type 0 where
   -- the catalogue is the opening's, which has no fault, and so are the kinds of the tables' columns
   pub declared : schemas ≡ schemas_of opening.tables
   pub formed : opening_fault opening ≡ None

@@ -121,7 +121,7 @@ fn blocker_of(store: &Store, member: &Member) -> Option<Tx>
 fn member_at_turn(store: &Store, tx: Tx) -> Result<&Member, BeginRefusal>
     ensures number { IfOk result (λ member. member.now.tx ≡ tx) }
     ensures free { IfOk result (λ member. MayBegin store.now tx member.now (next_of store.now member.now)) }
-    ensures hindered { IfErr result (λ refusal. Begins store.now tx (begin_refusal_seen refusal) store.now) }
+    ensures refused { IfErr result (λ refusal. Begins store.now tx (begin_refusal_seen refusal) store.now) }
 {
     match store.run.active_member(tx) {
         Some(member) => {
@@ -146,7 +146,7 @@ fn member_at_turn(store: &Store, tx: Tx) -> Result<&Member, BeginRefusal>
 pub(crate) fn free_member(store: &Store, tx: Tx) -> Result<&Member, BeginRefusal>
     ensures number { IfOk result (λ member. member.now.tx ≡ tx) }
     ensures free { IfOk result (λ member. IsFree store.now tx member.now) }
-    ensures hindered { IfErr result (λ refusal. Begins store.now tx (begin_refusal_seen refusal) store.now) }
+    ensures refused { IfErr result (λ refusal. Begins store.now tx (begin_refusal_seen refusal) store.now) }
 {
     let member = member_at_turn(store, tx)?;
     match blocker_of(store, member) {

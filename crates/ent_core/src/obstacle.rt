@@ -110,7 +110,7 @@ fn conflict_of(store: &Store, asker: &Member, holder: &Member) -> Option<Conflic
     }
 }
 
-/// The table on which a member is in the way of another one's next statement, and the modes.
+/// The table on which a member blocks another one's next statement, and the modes.
 pub(crate) fn conflict_between(store: &Store, asker: Tx, holder: Tx) -> Option<Conflict>
     ensures { IsBetween store.now asker holder result }
 {

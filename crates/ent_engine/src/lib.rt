@@ -3,8 +3,8 @@
 //! A caller may rely on [`run`]: what it writes is the report of the input, after a fault of the writer a beginning
 //! of it, and after any other fault nothing. The report is the text of a book of the input: its scripts were all
 //! submitted before anything else, and were run, several at once, until each had its fate; and the book is legal.
-//! [`run_watched`] is the same, and tells a watcher each event of the core that is run, with its reply. Whoever runs the
-//! scripts another way takes its parts: [`parse_bytes`], [`submit_all`] and [`write_book`].
+//! [`run_watched`] is the same, and tells a watcher each event of the core that is run, with its reply. Whoever runs
+//! the scripts another way takes its parts: [`parse_bytes`], [`submit_all`] and [`write_book`].
 #![tactic(auto)]
 
 mod engine;

@@ -1,4 +1,5 @@
--- Which line can stand below those that stand above it, section by section, and what a text tells whose lines all stand.
+-- Which line can stand below those that stand above it, section by section, and what a text tells whose lines all
+-- stand.
 use Rattle.std.specs.Prelude.{◌≡◌, ℕ, List, [], ◌∷◌}
 use Rattle.std.specs.List.{flat_map}
 use Rattle.ent_history.specs.declared.history.History.{History}

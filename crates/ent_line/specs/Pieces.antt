@@ -95,8 +95,8 @@ with_value value read = read >>= λ more. Ok (value ∷ more.0, more.1)
 unfoldable pub divided_at : List ℕ → Read Value
 divided_at bytes = behind (codes ", ") bytes >>= λ rest. value_at rest
 
--- Values up to a closing parenthesis, each behind a comma and a space, and the bytes behind it. There are no more of them
--- than bytes.
+-- Values up to a closing parenthesis, each behind a comma and a space, and the bytes behind it. There are no more of
+-- them than bytes.
 unfoldable pub more_at : ℕ → List ℕ → Read (List Value)
 more_at zero bytes = Err Misfit
 more_at (suc n) [] = Err Misfit

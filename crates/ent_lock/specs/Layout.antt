@@ -38,7 +38,8 @@ pub record IsAt {T : Type 0} (key : T → List ℕ) (tables : List (TableUses T)
   pub has_key : key_at key tables i ≡ table
 
 -- the table would go at place i: lower keys before it, and higher ones from it on
-pub record IsGapFor {T : Type 0} (key : T → List ℕ) (tables : List (TableUses T)) (table : List ℕ) (i : ℕ) : Type 0 where
+pub record IsGapFor {T : Type 0} (key : T → List ℕ) (tables : List (TableUses T)) (table : List ℕ) (i : ℕ)
+    : Type 0 where
   pub in_range : i ≤ length tables
   pub lower_before : (j : ℕ) → j < i → slice_cmp nat_cmp (key_at key tables j) table ≡ Less
   pub higher_after : (j : ℕ) → i ≤ j → j < length tables → slice_cmp nat_cmp table (key_at key tables j) ≡ Less

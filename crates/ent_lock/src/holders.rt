@@ -1,7 +1,8 @@
 //! The holders of one table.
 ghost use Rattle.std.specs.Prelude.{◌≡◌, ◌==◌, ◌&&◌, not, filter};
 ghost use Rattle.std.specs.List.{list_any};
-ghost use Rattle.ent_lock.specs.Holders.{is_asker, is_holder, is_no_holder, is_not_of, is_conflicting, lesser, least_conflicting};
+ghost use Rattle.ent_lock.specs.Holders.{is_asker, is_holder, is_no_holder, is_not_of, is_conflicting};
+ghost use Rattle.ent_lock.specs.Holders.{lesser, least_conflicting};
 
 use crate::mode::Mode;
 use ent_group::{Members, Tx};

@@ -133,8 +133,8 @@ impl<T: TableKey> LockTable<T> {
         Ok(Answer::Granted)
     }
 
-    /// Gives a transaction uses of tables, whoever else holds them; [`LockTable::ask`] gives them where nobody is in the
-    /// way. Where memory runs out nothing is changed.
+    /// Gives a transaction uses of tables, whoever else holds them; [`LockTable::ask`] gives them only where nobody
+    /// blocks it. Where memory runs out nothing is changed.
     pub fn grant(&mut self, tx: Tx, asked: &[(T, Mode)]) -> Result<(), AllocError>
         ensures ok { OnOk result (AddsUses self.old self.new tx (keyed T.key asked.now)) }
         ensures err { OnErr result (self.new ≡ self.old) }

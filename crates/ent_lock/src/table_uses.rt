@@ -85,7 +85,8 @@ pub fn add_use<T: TableKey>(
     ensures ok { OnOk result (held_in T.key tables.new.items
         ≡ set.insert (held_in T.key tables.old.items) (record { holder = tx; table = T.key table.now; mode = mode })) }
     ensures is_new { IfOk result (λ is_new. is_new
-        ≡ not (set.contains (held_in T.key tables.old.items) (record { holder = tx; table = T.key table.now; mode = mode }))) }
+        ≡ not (set.contains (held_in T.key tables.old.items)
+            (record { holder = tx; table = T.key table.now; mode = mode }))) }
     ensures err { OnErr result (held_in T.key tables.new.items ≡ held_in T.key tables.old.items) }
 {
     let holder = Holder { holder: tx, mode };
@@ -126,7 +127,8 @@ pub fn add_all<T: TableKey>(
 ) -> Result<(), AllocError>
     requires { IsByKey T.key tables.old.items }
     ensures by_key { IsByKey T.key tables.new.items }
-    ensures ok { OnOk result (held_in T.key tables.new.items ≡ with_uses (held_in T.key tables.old.items) tx (keyed T.key asked.now)) }
+    ensures ok { OnOk result (held_in T.key tables.new.items
+        ≡ with_uses (held_in T.key tables.old.items) tx (keyed T.key asked.now)) }
     ensures err { OnErr result (held_in T.key tables.new.items ≡ held_in T.key tables.old.items) }
 {
     let Some((first, rest)) = asked.split_first() else {

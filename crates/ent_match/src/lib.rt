@@ -1,7 +1,7 @@
 //! A pool of posted entangled statements that stays safe, and its components.
 //!
 //! A caller may rely on it that a statement is posted exactly where each post of the pool still unifies with the heads
-//! of one statement at most, that what is in conflict is named, and that the components are components of the
+//! of one statement at most, that what it would meet else is named, and that the components are components of the
 //! pool, which hold each statement of its remainder. A part of the pool that nothing joins to the rest can be taken by
 //! itself: its components are those of the pool that have a member in it.
 #![tactic(auto)]

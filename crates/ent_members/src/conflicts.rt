@@ -71,7 +71,7 @@ pub(crate) fn gather_passed(holders: &[Member], passed: Passed, numbers: &mut Me
     }
 }
 
-/// Whether one of a list that is in conflict and not passed makes a member of a group wait for another.
+/// Whether one of a list that holds a use in conflict and isn't passed makes a member of a group wait for another.
 pub(crate) fn is_awaited_over(
     holders: &[Member],
     asked: &[Use],

@@ -6,7 +6,8 @@ use Rattle.ent_trace_reader.specs.declared.exchange.Event.{Event}
 use Rattle.ent_trace_reader.specs.declared.exchange.Event.TheVariants.{Begin}
 use Rattle.ent_trace_reader.specs.declared.exchange.Exchange.{Exchange}
 use Rattle.ent_trace_reader.specs.declared.exchange.Reply.{Reply}
-use Rattle.ent_trace_reader.specs.declared.exchange.Reply.TheVariants.{Blocked, Broken, Committed, Failed, HeldBack, RolledBack, Started}
+use Rattle.ent_trace_reader.specs.declared.exchange.Reply.TheVariants.{Blocked, Broken, Committed, Failed}
+use Rattle.ent_trace_reader.specs.declared.exchange.Reply.TheVariants.{HeldBack, RolledBack, Started}
 use Rattle.ent_picture.specs.declared.joints.JointAnswer.{JointAnswer}
 use Rattle.ent_picture.specs.declared.picture.Lane.{Lane}
 

@@ -51,8 +51,8 @@ fn each_once(members: Vec<Tx>) -> Vec<Tx>
 }
 
 /// Those that are picked, where they are members of a run, and whoever has met one of them: was answered or rolled
-/// back with it, committed with it, was blocking it or had it in conflict, or is one of those for whom a statement was
-/// held back. Each is there once, by number.
+/// back with it, committed with it, blocked it or was blocked by it, or is one of those for whom a statement was held
+/// back. Each is there once, by number.
 pub fn members_met(
     alloc: Global,
     trace: &[Exchange],

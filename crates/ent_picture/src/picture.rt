@@ -58,7 +58,7 @@ pub enum What {
     Posted,
     /// COMMIT waits for the partners.
     Prepared,
-    /// Another transaction is in conflict.
+    /// This transaction blocks it.
     Blocked(Tx),
     /// An entangled statement may not be posted, since a demand would fit two.
     HeldBack(Demand),

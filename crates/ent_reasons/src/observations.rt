@@ -144,7 +144,7 @@ impl Observations {
         steps
     }
 
-    /// Takes the table on which another, or else one of its group, stands in the way of a transaction.
+    /// Takes the table on which another, or else one of its group, blocks a transaction.
     fn take_block(&mut self, from: Tx, to: Tx) -> Option<Block> {
         let place = self.block_place(from, to)?;
         let observation = self.kept.get_mut(from as usize)?.observation.as_mut()?;

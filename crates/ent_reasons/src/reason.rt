@@ -4,7 +4,7 @@ use crate::note::Note;
 use crate::observations::Observations;
 use crate::script_lines::ScriptLines;
 use crate::tables::{Manner, TableName, block_of};
-use crate::waiting::{Others, Ring, Tied};
+use crate::waiting::{Others, Deadlock, Tied};
 use ent_group::{Members, Tx};
 use ent_semantics::Failure;
 use std::fmt;
@@ -86,20 +86,20 @@ impl<'a> Reason<'a> {
     }
 
     fn put_broken<W: fmt::Write>(&self, f: &mut fmt::Formatter<W>, cycle: &Members) -> fmt::Result {
-        let ring = Ring {
+        let deadlock = Deadlock {
             cycle,
             steps: self.observations.steps(self.tx),
         };
         let victim = cycle.get(0).unwrap_or(0);
         if victim == self.tx {
-            return write!(f, "rolled back to break a deadlock: {ring}");
+            return write!(f, "rolled back to break a deadlock: {deadlock}");
         }
         write!(f, "rolled back with tx {victim} of its group")?;
         let tied = Tied(self.observations.tie_of(self.tx));
         if !tied.is_empty() {
             write!(f, " ({tied})")?;
         }
-        write!(f, ", to break a deadlock: {ring}")
+        write!(f, ", to break a deadlock: {deadlock}")
     }
 
     fn put_no_choice<W: fmt::Write>(

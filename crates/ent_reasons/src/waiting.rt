@@ -7,12 +7,12 @@ use std::fmt;
 /// A deadlock's transactions, each of which waits for the next, and the last for the first, with the tables where they
 /// were seen.
 #[derive(Clone, Copy)]
-pub(crate) struct Ring<'a> {
+pub(crate) struct Deadlock<'a> {
     pub(crate) cycle: &'a Members,
     pub(crate) steps: &'a [Step],
 }
 
-impl Ring<'_> {
+impl Deadlock<'_> {
     fn put_step<W: fmt::Write>(&self, f: &mut fmt::Formatter<W>, from: Tx, to: Tx) -> fmt::Result {
         write!(f, "tx {from} waited for tx {to}")?;
         let Some(step) = self.steps.iter().find(|step| step.from == from) else {
@@ -28,7 +28,7 @@ impl Ring<'_> {
     }
 }
 
-impl fmt::Display for Ring<'_> {
+impl fmt::Display for Deadlock<'_> {
     fn fmt<W: fmt::Write>(&self, f: &mut fmt::Formatter<W>) -> fmt::Result {
         let first = self.cycle.get(0).unwrap_or(0);
         let mut from = first;

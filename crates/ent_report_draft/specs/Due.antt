@@ -10,7 +10,8 @@ use Rattle.ent_history.specs.declared.history.History.{History}
 use Rattle.ent_history.specs.declared.history.Shown.{Shown}
 use Rattle.ent_history.specs.declared.history.Told.{Told}
 use Rattle.ent_history_form.specs.Parts.{Ascends}
-use Rattle.ent_history_form.specs.Draft.{Draft, Free, NothingBelowScripts, NothingBelowTransactions, TransactionsAreTold, answer_due, last_of}
+use Rattle.ent_history_form.specs.Draft.{Draft, Free, NothingBelowScripts, NothingBelowTransactions}
+use Rattle.ent_history_form.specs.Draft.{TransactionsAreTold, answer_due, last_of}
 use Rattle.ent_history_form.specs.Answers.{rows_of}
 
 -- the line of a table of the opening, which one aside

@@ -146,9 +146,9 @@ impl Counted {
         Ok(reply)
     }
 
-    /// Whether another member blocks a member, for a watcher that doesn't listen. Where it is, the begin of
-    /// the member is refused: this is that event, which changes nothing. Else nothing is made; nor for a watcher that
-    /// listens, which wants to be told who is in conflict.
+    /// Whether another member blocks a member, for a watcher that doesn't listen. Where one does, the begin of the
+    /// member is refused: this is that event, which changes nothing. Else nothing is made; nor for a watcher that
+    /// listens, which wants to be told who blocks it.
     pub(crate) fn is_begin_blocked<W: Watcher>(&mut self, watcher: &W, tx: Tx) -> bool
         ensures blocked { result ≡ true → (holder : ℕ)
             × MakesEvent resolved_forms (Begin tx) (Blocked holder) self.old self.new

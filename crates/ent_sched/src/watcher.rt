@@ -41,8 +41,8 @@ pub trait Watcher {
     fn mark(&self, done: &Done) -> Self::Mark
         ensures { marks result done.now };
 
-    /// An event was made, and replied to so, which left the core as it is now. It can't fail; a watcher that may has its
-    /// own mark of that.
+    /// An event was made, and replied to so, which left the core as it is now. It can't fail; a watcher that may has
+    /// its own mark of that.
     fn tell(&mut self, told: Told<Self::Mark>, reply: &Reply, core: &Core)
         ensures { (event : Event)
             → TellsOf marks told event

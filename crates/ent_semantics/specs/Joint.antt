@@ -29,7 +29,8 @@ StandsIn run members read_view = Contains run read_view × Contains members (mem
 
 -- a fact is a head of a member
 abbrev pub IsOffered : List ReadView → List Member → Fact → Type 0
-IsOffered run members fact = (partner : ReadView) × StandsIn run members partner × Contains (read_view_heads partner) fact
+IsOffered run members fact =
+    (partner : ReadView) × StandsIn run members partner × Contains (read_view_heads partner) fact
 
 -- over a run whose entangled statements see this
 pub record IsGood (declared : List Create) (run : List ReadView) (members : List Member) : Type 0 where
@@ -43,5 +44,5 @@ pub record IsGood (declared : List Create) (run : List ReadView) (members : List
   -- each grounding is one over the database that the member sees
   pub grounded : (read_view : ReadView) → StandsIn run members read_view → IsGrounded declared read_view
   -- each postcondition of a member is a head of a member of the same joint answer
-  pub met : (read_view : ReadView) → StandsIn run members read_view → (post : Fact) → Contains (read_view_posts read_view) post
-      → IsOffered run members post
+  pub met : (read_view : ReadView) → StandsIn run members read_view
+      → (post : Fact) → Contains (read_view_posts read_view) post → IsOffered run members post

@@ -30,7 +30,8 @@ operation_first statement valuation operations =
     option_map (λ more. record { statement = statement; valuation = valuation } ∷ more) operations
 
 -- an entangled statement takes the oracle's next answer; where there is none, there are no operations
-abbrev pub with_answer : Statement → Bool → List Valuation → (List Valuation → Option (List Operation)) → Option (List Operation)
+abbrev pub with_answer : Statement → Bool → List Valuation → (List Valuation → Option (List Operation))
+    → Option (List Operation)
 with_answer statement false oracle more = operation_first statement [] (more oracle)
 with_answer statement true [] more = None
 with_answer statement true (valuation ∷ oracle) more = operation_first statement valuation (more oracle)
@@ -72,7 +73,8 @@ ended Rollback run = None
 abbrev pub script_run : List Create → Script → List Valuation → Database → Option Run
 script_run declared script oracle database =
     ended script.end
-    (option_and_then (λ operations. run declared operations database nothing_bound) (operations_of script.statements oracle))
+    (option_and_then (λ operations. run declared operations database nothing_bound)
+        (operations_of script.statements oracle))
 
 -- a transaction's turn: its number, its script, and the oracle's answers
 pub record Turn : Type 0 where

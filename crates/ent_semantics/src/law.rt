@@ -35,11 +35,14 @@ pub fn statements_keep_to_their_uses()
     ensures changes { (declared : List Create) (statement : Statement) (valuation : Valuation)
         → (environment : Environment) (database : Database)
         → KeepsOthers statement database (statement_meaning declared statement valuation database environment) }
-    ensures runs { (some : Name → Bool) (declared : List Create) (operations : List Operation) (environment : Environment)
+    ensures runs { (some : Name → Bool) (declared : List Create) (operations : List Operation)
+        → (environment : Environment)
         → (first second : Database)
         → CoversAll some operations
         → Agree some first second
-        → RunsAlike (Agree some) (run declared operations first environment) (run declared operations second environment) }
+        → RunsAlike (Agree some)
+            (run declared operations first environment)
+            (run declared operations second environment) }
     ensures extensional { (first second : Database)
         → ((name : Name) → first name ≡ second name)
         → first ≡ second }

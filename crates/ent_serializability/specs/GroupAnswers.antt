@@ -14,7 +14,8 @@ use Rattle.ent_serializability.specs.History.{History}
 
 -- what the entangled statements of a member see that runs from a database
 abbrev pub history_read_views : List Create → Database → History → List ReadView
-history_read_views declared first history = read_views declared history.member.tx 1 history.operations first nothing_bound
+history_read_views declared first history =
+    read_views declared history.member.tx 1 history.operations first nothing_bound
 
 -- these are the histories that a group's runs give its unprepared members
 pub record AreOthers (s : State) (group : ℕ) (runs : GroupRuns s group) (others : List History) : Type 0 where

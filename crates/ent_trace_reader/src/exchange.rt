@@ -37,7 +37,7 @@ pub struct Commit {
 pub enum Reply {
     /// A run is on, with these members.
     Started(Vec<Tx>),
-    /// This transaction is in conflict.
+    /// This transaction blocks it.
     Blocked(Tx),
     /// The job of this number is lent.
     Lent(u64),

@@ -177,7 +177,8 @@ impl TransactionTable {
         requires numbers { AllByRecursion (λ run_attempt. IsNumbered self.old.known run_attempt.tx) run_attempts.now }
         requires within { AllByRecursion (IsWithin submitted.now) run_attempts.now }
         requires awake { IsDistinct nat_eq (map (λ own. own.tx) self.old.dormant ++ numbers_in run_attempts.now) }
-        requires unfinished { IsDistinct nat_eq (map (λ fated. fated.tx) self.old.fates ++ numbers_in run_attempts.now) }
+        requires unfinished { IsDistinct nat_eq
+            (map (λ fated. fated.tx) self.old.fates ++ numbers_in run_attempts.now) }
         ensures dormant { (gone : List Seen) → run_attempts.now ≡ map run_attempt_of gone → self.new.dormant
             ≡ self.old.dormant ++ filter_map (dormant_by submitted.now (cause_seen cause)) gone }
         ensures fates { (gone : List Seen) → run_attempts.now ≡ map run_attempt_of gone → self.new.fates

@@ -15,13 +15,15 @@ ghost use Rattle.ent_semantics.specs.Book.{IsLegal};
 ghost use Rattle.ent_semantics.specs.Database.{Name, Database, Environment, opening_database};
 ghost use Rattle.ent_semantics.specs.Entangled.{Valuation, heads, is_grounding, posts, written_variables};
 ghost use Rattle.ent_semantics.specs.Joint.{IsGood};
-ghost use Rattle.ent_semantics.specs.Serial.{ReadView, Turn, operations_of, script_run, scripts_run, scripts_read_views};
+ghost use Rattle.ent_semantics.specs.Serial.{ReadView, Turn, operations_of};
+ghost use Rattle.ent_semantics.specs.Serial.{script_run, scripts_run, scripts_read_views};
 ghost use Rattle.ent_semantics.specs.Statement.{statement_meaning};
 ghost use Rattle.ent_semantics.specs.Uses.{changes, uses};
 ghost use Rattle.ent_semantics.specs.declared.book.Book.{Book};
 ghost use Rattle.ent_semantics.specs.declared.book.Member.{Member};
 ghost use Rattle.ent_unplaced_laws.specs.Faults.{unplaced_fault};
-ghost use Rattle.ent_unplaced_laws.specs.Unplaced.{unplaced_book, unplaced_create, unplaced_operation, unplaced_opening};
+ghost use Rattle.ent_unplaced_laws.specs.Unplaced.{unplaced_book, unplaced_create, unplaced_operation};
+ghost use Rattle.ent_unplaced_laws.specs.Unplaced.{unplaced_opening};
 ghost use Rattle.ent_unplaced_laws.specs.Unplaced.{unplaced_read_view, unplaced_turn};
 
 use ent_print::places_do_not_show;
@@ -57,8 +59,8 @@ pub fn openings_are_the_same_without_places()
 {}
 
 /// Scripts without their places, run alone over declarations without theirs, leave and answer the same, one of them and
-/// all in a row. Their operations, and their entangled statements with what these see, are the same, places aside. A joint
-/// answer that is good over such a run stays good.
+/// all in a row. Their operations, and their entangled statements with what these see, are the same, places aside. A
+/// joint answer that is good over such a run stays good.
 pub fn runs_are_the_same_without_places()
     ensures operations { (statements : List Statement) (oracle : List Valuation)
         → operations_of (map unplaced_statement statements) oracle

@@ -41,7 +41,7 @@ fn mark_group(row: Row, active: &[Member], holder: &Member) -> Row
     marked
 }
 
-/// A row with marks too at those who go with some of a list that are in conflict.
+/// A row with marks too at those who go with some of a list that hold a use in conflict with one that is asked for.
 fn mark_groups(row: Row, active: &[Member], holders: &[Member], asked: &[Use]) -> Row
     requires { length active.now ≤ MOST_MEMBERS }
     ensures kept { HasMarksOf result row }
@@ -78,7 +78,7 @@ fn common_row(run: &Run, table: usize, known: Option<ChangersRow>) -> Row
 }
 
 /// The row of a member that changes a table. The row that it has in common with others is its own, but where it is
-/// marked itself: then some of its own group are in conflict, and they are looked at one by one.
+/// marked itself: then some of its own group block it, and they are looked at one by one.
 pub(crate) fn row_of_changer(
     run: &Run,
     asker: &Member,

@@ -24,7 +24,7 @@ pub enum Readiness {
     Stays,
     /// It would begin, whatever the pool is.
     Moves,
-    /// Nothing is in conflict with its entangled statement: it would be posted where the pool stays safe with it.
+    /// Nobody blocks its entangled statement: it would be posted where the pool stays safe with it.
     Asks,
 }
 

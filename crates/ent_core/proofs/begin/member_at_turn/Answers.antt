@@ -6,8 +6,8 @@ use Rattle.ent_core.proofs.Begun.{either, neither, number_found, refused_absent,
 use Rattle.ent_core.proofs.Begun.{refused_prepared}
 use Rattle.ent_core.proofs.begin.member_at_turn.Goals as goal
 
-pub returns-then-is_posted-clause-hindered : goal.returns-then-is_posted-clause-hindered
-returns-then-is_posted-clause-hindered c =
+pub returns-then-is_posted-clause-refused : goal.returns-then-is_posted-clause-refused
+returns-then-is_posted-clause-refused c =
     let s : State = the_view c.store.inside in
     let now = c.args.store.now in
     let member = c.in-Some.member.now in
@@ -15,8 +15,8 @@ returns-then-is_posted-clause-hindered c =
     refused_out now c.args.tx member there
     (ap (λ (b : Bool). b || is_lent now c.args.tx) (sym c.is_posted.ensures ∙ c.if-is_posted.true))
 
-pub returns-then-is_out-clause-hindered : goal.returns-then-is_out-clause-hindered
-returns-then-is_out-clause-hindered c =
+pub returns-then-is_out-clause-refused : goal.returns-then-is_out-clause-refused
+returns-then-is_out-clause-refused c =
     let s : State = the_view c.store.inside in
     let now = c.args.store.now in
     let member = c.in-Some.member.now in
@@ -46,16 +46,16 @@ returns-else-is_out-clause-free c =
       is_next = refl;
     }
 
-pub returns-then-is_prepared-clause-hindered : goal.returns-then-is_prepared-clause-hindered
-returns-then-is_prepared-clause-hindered c =
+pub returns-then-is_prepared-clause-refused : goal.returns-then-is_prepared-clause-refused
+returns-then-is_prepared-clause-refused c =
     let s : State = the_view c.store.inside in
     refused_prepared c.args.store.now c.args.tx
     (ap (λ (x : State). active_member x c.args.tx) (sym c.store.view_is) ∙ sym (c.in-None.ensures s))
     (ap (λ (x : State). is_prepared x c.args.tx) (sym c.store.view_is)
     ∙ sym (c.is_prepared.ensures s) ∙ c.if-is_prepared.true)
 
-pub returns-else-is_prepared-clause-hindered : goal.returns-else-is_prepared-clause-hindered
-returns-else-is_prepared-clause-hindered c =
+pub returns-else-is_prepared-clause-refused : goal.returns-else-is_prepared-clause-refused
+returns-else-is_prepared-clause-refused c =
     let s : State = the_view c.store.inside in
     refused_absent c.args.store.now c.args.tx
     (ap (λ (x : State). active_member x c.args.tx) (sym c.store.view_is) ∙ sym (c.in-None.ensures s))
