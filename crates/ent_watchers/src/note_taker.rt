@@ -124,7 +124,8 @@ fn maker(told: &Told<Option<Members>>) -> Tx {
     }
 }
 
-/// Notes what is seen of a core behind an event and its reply.
+/// Notes what is seen of a core behind an event and its reply. It is looked at whenever nothing is picked, or what was
+/// picked is done with, so that it is known what each member waits for before a deadlock is broken.
 fn see(
     alloc: Global,
     observations: &mut Observations,
@@ -134,11 +135,12 @@ fn see(
 ) {
     match reply {
         Reply::Started(members) => observations.start(members),
-        Reply::Nothing => look(alloc, observations, core),
+        Reply::Nothing | Reply::NoChoice => look(alloc, observations, core),
         Reply::Answered => {
             if let Some(own) = joined(told) {
                 observations.join(own);
             }
+            look(alloc, observations, core);
         }
         Reply::RolledBack(group) | Reply::Failed(_, group) => observations.tie(group, maker(told)),
         Reply::Broken(cycle, group) => {
