@@ -4,7 +4,7 @@ use crate::note::Note;
 use crate::observations::Observations;
 use crate::script_lines::ScriptLines;
 use crate::tables::{Manner, TableName, block_of};
-use crate::waiting::{Others, Deadlock, Tied};
+use crate::waiting::{Deadlock, Others, Tied};
 use ent_group::{Members, Tx};
 use ent_semantics::Failure;
 use std::fmt;
