@@ -9,7 +9,7 @@ use std::io::{ErrorKind, Read, Write};
 
 /// What a reader or a writer does at its calls.
 #[derive(Clone, Copy)]
-pub(crate) struct Manner {
+pub(crate) struct Behaviour {
     /// The most bytes that a call moves.
     most: usize,
     /// Which call fails, counted from 1; 0 for none.
@@ -18,8 +18,8 @@ pub(crate) struct Manner {
 }
 
 /// A manner in words, as `most=16 fails_at=2 flush_fails=yes`.
-pub(crate) fn read_manner(words: &[&str]) -> Result<Manner> {
-    let mut manner = Manner {
+pub(crate) fn read_behaviour(words: &[&str]) -> Result<Behaviour> {
+    let mut manner = Behaviour {
         most: 1024,
         fails_at: 0,
         flush_fails: false,
@@ -36,7 +36,7 @@ pub(crate) fn read_manner(words: &[&str]) -> Result<Manner> {
 }
 
 /// Counts a call, and fails where its turn has come.
-fn count_call(calls: &mut usize, manner: Manner) -> io::Result<()> {
+fn count_call(calls: &mut usize, manner: Behaviour) -> io::Result<()> {
     *calls = calls.saturating_add(1);
     if *calls == manner.fails_at {
         return Err(io::Error::from(ErrorKind::BrokenPipe));
@@ -48,7 +48,7 @@ fn count_call(calls: &mut usize, manner: Manner) -> io::Result<()> {
 #[derive(Drop)]
 pub(crate) struct SlowReader {
     left: Vec<u8>,
-    manner: Manner,
+    manner: Behaviour,
     calls: usize,
 }
 
@@ -68,12 +68,12 @@ impl Read for SlowReader {
 #[derive(Drop)]
 pub(crate) struct SlowWriter {
     taken: Vec<u8>,
-    manner: Manner,
+    manner: Behaviour,
     calls: usize,
 }
 
 impl SlowWriter {
-    pub(crate) fn new(alloc: Global, manner: Manner) -> Self {
+    pub(crate) fn new(alloc: Global, manner: Behaviour) -> Self {
         SlowWriter {
             taken: Vec::new(alloc),
             manner,
@@ -109,7 +109,7 @@ pub(crate) struct Streams {
     writer: Watched<SlowWriter>,
 }
 
-fn reader(alloc: Global, text: &str, manner: Manner) -> Result<Watched<SlowReader>> {
+fn reader(alloc: Global, text: &str, manner: Behaviour) -> Result<Watched<SlowReader>> {
     Ok(Watched::new(SlowReader {
         left: Vec::from_slice(alloc, text.as_bytes())?,
         manner,
@@ -119,7 +119,7 @@ fn reader(alloc: Global, text: &str, manner: Manner) -> Result<Watched<SlowReade
 
 impl Streams {
     pub(crate) fn new(alloc: Global) -> Result<Self> {
-        let manner = read_manner(&[])?;
+        let manner = read_behaviour(&[])?;
         Ok(Streams {
             reader: reader(alloc, "", manner)?,
             writer: Watched::new(SlowWriter::new(alloc, manner)),
@@ -139,7 +139,7 @@ pub(crate) fn reply(
             put_marks(&streams.reader, out);
         }
         ["writer", words @ ..] => {
-            streams.writer = Watched::new(SlowWriter::new(alloc, read_manner(words)?));
+            streams.writer = Watched::new(SlowWriter::new(alloc, read_behaviour(words)?));
             put_marks(&streams.writer, out);
         }
         ["read", most] => put_read(alloc, &mut streams.reader, index(most)?, out)?,
@@ -153,7 +153,7 @@ pub(crate) fn reply(
 
 fn read_reader(alloc: Global, text: &str, words: &[&str]) -> Result<Watched<SlowReader>> {
     let text = unescaped(alloc, text)?;
-    reader(alloc, text.as_str(), read_manner(words)?)
+    reader(alloc, text.as_str(), read_behaviour(words)?)
 }
 
 fn put_read(
