@@ -1,6 +1,6 @@
 //! A look at a core: what stops the members of its run.
 use ent_closed::{Atom, Term};
-use ent_core::{Core, Obstacle, Standing};
+use ent_core::{Core, Obstacle};
 use ent_group::{Members, Tx};
 use ent_match::Demand;
 use ent_members::Conflict;
@@ -23,7 +23,7 @@ pub(crate) fn look(alloc: Global, observations: &mut Observations, core: &Core) 
 pub(crate) fn look_at_blocks(alloc: Global, observations: &mut Observations, core: &Core) {
     let members = core.members();
     for tx in members.as_slice() {
-        let blocks = match blocks_if_ready(alloc, core, &members, *tx) {
+        let blocks = match blocks_if_blocked(alloc, core, &members, *tx) {
             Ok(blocks) => blocks,
             Err(_) => Vec::new(alloc),
         };
@@ -31,16 +31,17 @@ pub(crate) fn look_at_blocks(alloc: Global, observations: &mut Observations, cor
     }
 }
 
-/// The tables that block a member which would begin else.
-fn blocks_if_ready(
+/// The tables that block a member which would begin else; none where nobody blocks it, which is found out quickly.
+fn blocks_if_blocked(
     alloc: Global,
     core: &Core,
     members: &Members,
     tx: Tx,
 ) -> Result<Vec<Block>, AllocError> {
-    match core.standing(tx) {
-        Some(Standing::Ready(_)) => blocks_of(alloc, core, members, tx),
-        _ => Ok(Vec::new(alloc)),
+    if core.is_blocked(tx) {
+        blocks_of(alloc, core, members, tx)
+    } else {
+        Ok(Vec::new(alloc))
     }
 }
 
