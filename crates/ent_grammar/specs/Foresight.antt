@@ -38,7 +38,8 @@ IsPredictive (up_to most) follow = nat_le 1 most ≡ true
 IsPredictive (chain {A} {B} g next) follow = (x : A)
     → IsPredictive g (firsts (next x) ++ if_some (nullable (next x)) follow) × IsPredictive (next x) follow
 IsPredictive (pick g h) follow = (nullable g ≡ None)
-    × (apart (firsts g) (firsts h ++ if_some (nullable h) follow) ≡ true) × IsPredictive g follow × IsPredictive h follow
+    × (apart (firsts g) (firsts h ++ if_some (nullable h) follow) ≡ true)
+    × IsPredictive g follow × IsPredictive h follow
 IsPredictive (many limit item) follow = (nullable item ≡ None) × (apart (firsts item) follow ≡ true)
     × (apart (firsts item) dividers ≡ true) × IsPredictive item (firsts item ++ follow)
 IsPredictive (more limit divider item) follow = (nullable item ≡ None) × (apart (class_of divider ∷ []) follow ≡ true)

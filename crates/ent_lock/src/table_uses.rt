@@ -86,7 +86,7 @@ pub fn add_use<T: TableKey>(
         ≡ set.insert (held_in T.key tables.old.items) (record { holder = tx; table = T.key table.now; mode = mode })) }
     ensures is_new { IfOk result (λ is_new. is_new
         ≡ not (set.contains (held_in T.key tables.old.items)
-            (record { holder = tx; table = T.key table.now; mode = mode }))) }
+        (record { holder = tx; table = T.key table.now; mode = mode }))) }
     ensures err { OnErr result (held_in T.key tables.new.items ≡ held_in T.key tables.old.items) }
 {
     let holder = Holder { holder: tx, mode };

@@ -3,8 +3,8 @@ use crate::last_status::LastStatus;
 use crate::note::Note;
 use crate::observations::Observations;
 use crate::script_lines::ScriptLines;
-use crate::tables::{Manner, TableName, block_of};
-use crate::waiting::{Others, Deadlock, Tied};
+use crate::tables::{ModeText, TableName, block_of};
+use crate::waiting::{Deadlock, Others, Tied};
 use ent_group::{Members, Tx};
 use ent_semantics::Failure;
 use std::fmt;
@@ -140,8 +140,8 @@ impl<'a> Reason<'a> {
             return write!(f, "blocked by tx {holder}, which held a table that it uses");
         };
         let table = TableName(block);
-        let held = Manner(block.held);
-        let asked = Manner(block.asked);
+        let held = ModeText(block.held);
+        let asked = ModeText(block.asked);
         write!(
             f,
             "blocked by tx {holder}, which held {table} {held}; the statement uses it {asked}"

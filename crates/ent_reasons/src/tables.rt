@@ -13,9 +13,9 @@ pub(crate) fn block_of(observations: &Observations, tx: Tx, holder: Tx) -> Optio
 
 /// How a table is used.
 #[derive(Clone, Copy)]
-pub(crate) struct Manner(pub(crate) Mode);
+pub(crate) struct ModeText(pub(crate) Mode);
 
-impl fmt::Display for Manner {
+impl fmt::Display for ModeText {
     fn fmt<W: fmt::Write>(&self, f: &mut fmt::Formatter<W>) -> fmt::Result {
         match self.0 {
             Mode::Shared => write!(f, "shared"),

@@ -1,7 +1,7 @@
 //! Books and their reports: `== book`.
 use crate::reply::{Out, put, put_number};
 use crate::statement::read_input;
-use crate::streams::{SlowWriter, put_marks, put_taken, read_manner};
+use crate::streams::{SlowWriter, put_marks, put_taken, read_behaviour};
 use crate::table::shared_table;
 use crate::values::read_rows;
 use crate::words::{kinds, name, number, row, rows_of, unescaped, value};
@@ -246,14 +246,14 @@ fn fate(call: &[&str]) -> Result<Fate> {
     }
 }
 
-/// Writes the report to a writer of this manner, and shows what it took.
+/// Writes the report to a writer that behaves so, and shows what it took.
 fn put_report(
     alloc: Global,
     book: &Book<Sequence<NamedTable>>,
     words: &[&str],
     out: &mut Out,
 ) -> Result<()> {
-    let mut writer = Watched::new(SlowWriter::new(alloc, read_manner(words)?));
+    let mut writer = Watched::new(SlowWriter::new(alloc, read_behaviour(words)?));
     let is_written = write_report(alloc, book, &mut writer).is_ok();
     put_written(&writer, is_written, out);
     Ok(())
@@ -266,7 +266,7 @@ fn put_report_2(
     words: &[&str],
     out: &mut Out,
 ) -> Result<()> {
-    let mut writer = Watched::new(SlowWriter::new(alloc, read_manner(words)?));
+    let mut writer = Watched::new(SlowWriter::new(alloc, read_behaviour(words)?));
     let is_written = write_report_2(alloc, book, &mut writer).is_ok();
     put_written(&writer, is_written, out);
     Ok(())

@@ -9,7 +9,7 @@ use std::io::{ErrorKind, Read, Write};
 
 /// What a reader or a writer does at its calls.
 #[derive(Clone, Copy)]
-pub(crate) struct Manner {
+pub(crate) struct Behaviour {
     /// The most bytes that a call moves.
     most: usize,
     /// Which call fails, counted from 1; 0 for none.
@@ -17,28 +17,28 @@ pub(crate) struct Manner {
     flush_fails: bool,
 }
 
-/// A manner in words, as `most=16 fails_at=2 flush_fails=yes`.
-pub(crate) fn read_manner(words: &[&str]) -> Result<Manner> {
-    let mut manner = Manner {
+/// A behaviour in words, as `most=16 fails_at=2 flush_fails=yes`.
+pub(crate) fn read_behaviour(words: &[&str]) -> Result<Behaviour> {
+    let mut behaviour = Behaviour {
         most: 1024,
         fails_at: 0,
         flush_fails: false,
     };
     for word in words {
         match word.split_once('=') {
-            Some(("most", most)) => manner.most = index(most)?,
-            Some(("fails_at", call)) => manner.fails_at = index(call)?,
-            Some(("flush_fails", says)) => manner.flush_fails = says == "yes",
-            _ => bail!("this is no manner"),
+            Some(("most", most)) => behaviour.most = index(most)?,
+            Some(("fails_at", call)) => behaviour.fails_at = index(call)?,
+            Some(("flush_fails", says)) => behaviour.flush_fails = says == "yes",
+            _ => bail!("this is no behaviour"),
         }
     }
-    Ok(manner)
+    Ok(behaviour)
 }
 
 /// Counts a call, and fails where its turn has come.
-fn count_call(calls: &mut usize, manner: Manner) -> io::Result<()> {
+fn count_call(calls: &mut usize, behaviour: Behaviour) -> io::Result<()> {
     *calls = calls.saturating_add(1);
-    if *calls == manner.fails_at {
+    if *calls == behaviour.fails_at {
         return Err(io::Error::from(ErrorKind::BrokenPipe));
     }
     Ok(())
@@ -48,14 +48,14 @@ fn count_call(calls: &mut usize, manner: Manner) -> io::Result<()> {
 #[derive(Drop)]
 pub(crate) struct SlowReader {
     left: Vec<u8>,
-    manner: Manner,
+    behaviour: Behaviour,
     calls: usize,
 }
 
 impl Read for SlowReader {
     fn read(&mut self, buffer: &mut [u8]) -> io::Result<usize> {
-        count_call(&mut self.calls, self.manner)?;
-        let count = self.left.len().min(buffer.len()).min(self.manner.most);
+        count_call(&mut self.calls, self.behaviour)?;
+        let count = self.left.len().min(buffer.len()).min(self.behaviour.most);
         let (front, rest) = self.left.as_slice().split_at(count);
         let rest = Vec::from_slice(*self.left.allocator(), rest)?;
         buffer.split_at_mut(count).0.copy_from_slice(front);
@@ -68,15 +68,15 @@ impl Read for SlowReader {
 #[derive(Drop)]
 pub(crate) struct SlowWriter {
     taken: Vec<u8>,
-    manner: Manner,
+    behaviour: Behaviour,
     calls: usize,
 }
 
 impl SlowWriter {
-    pub(crate) fn new(alloc: Global, manner: Manner) -> Self {
+    pub(crate) fn new(alloc: Global, behaviour: Behaviour) -> Self {
         SlowWriter {
             taken: Vec::new(alloc),
-            manner,
+            behaviour,
             calls: 0,
         }
     }
@@ -88,14 +88,14 @@ impl SlowWriter {
 
 impl Write for SlowWriter {
     fn write(&mut self, bytes: &[u8]) -> io::Result<usize> {
-        count_call(&mut self.calls, self.manner)?;
-        let count = bytes.len().min(self.manner.most);
+        count_call(&mut self.calls, self.behaviour)?;
+        let count = bytes.len().min(self.behaviour.most);
         self.taken.extend_from_slice(bytes.split_at(count).0)?;
         Ok(count)
     }
 
     fn flush(&mut self) -> io::Result<()> {
-        if self.manner.flush_fails {
+        if self.behaviour.flush_fails {
             return Err(io::Error::from(ErrorKind::BrokenPipe));
         }
         Ok(())
@@ -109,20 +109,20 @@ pub(crate) struct Streams {
     writer: Watched<SlowWriter>,
 }
 
-fn reader(alloc: Global, text: &str, manner: Manner) -> Result<Watched<SlowReader>> {
+fn reader(alloc: Global, text: &str, behaviour: Behaviour) -> Result<Watched<SlowReader>> {
     Ok(Watched::new(SlowReader {
         left: Vec::from_slice(alloc, text.as_bytes())?,
-        manner,
+        behaviour,
         calls: 0,
     }))
 }
 
 impl Streams {
     pub(crate) fn new(alloc: Global) -> Result<Self> {
-        let manner = read_manner(&[])?;
+        let behaviour = read_behaviour(&[])?;
         Ok(Streams {
-            reader: reader(alloc, "", manner)?,
-            writer: Watched::new(SlowWriter::new(alloc, manner)),
+            reader: reader(alloc, "", behaviour)?,
+            writer: Watched::new(SlowWriter::new(alloc, behaviour)),
         })
     }
 }
@@ -139,7 +139,7 @@ pub(crate) fn reply(
             put_marks(&streams.reader, out);
         }
         ["writer", words @ ..] => {
-            streams.writer = Watched::new(SlowWriter::new(alloc, read_manner(words)?));
+            streams.writer = Watched::new(SlowWriter::new(alloc, read_behaviour(words)?));
             put_marks(&streams.writer, out);
         }
         ["read", most] => put_read(alloc, &mut streams.reader, index(most)?, out)?,
@@ -153,7 +153,7 @@ pub(crate) fn reply(
 
 fn read_reader(alloc: Global, text: &str, words: &[&str]) -> Result<Watched<SlowReader>> {
     let text = unescaped(alloc, text)?;
-    reader(alloc, text.as_str(), read_manner(words)?)
+    reader(alloc, text.as_str(), read_behaviour(words)?)
 }
 
 fn put_read(

@@ -74,7 +74,7 @@ abbrev pub script_run : List Create → Script → List Valuation → Database �
 script_run declared script oracle database =
     ended script.end
     (option_and_then (λ operations. run declared operations database nothing_bound)
-        (operations_of script.statements oracle))
+    (operations_of script.statements oracle))
 
 -- a transaction's turn: its number, its script, and the oracle's answers
 pub record Turn : Type 0 where

@@ -41,8 +41,8 @@ pub fn statements_keep_to_their_uses()
         → CoversAll some operations
         → Agree some first second
         → RunsAlike (Agree some)
-            (run declared operations first environment)
-            (run declared operations second environment) }
+        (run declared operations first environment)
+        (run declared operations second environment) }
     ensures extensional { (first second : Database)
         → ((name : Name) → first name ≡ second name)
         → first ≡ second }

@@ -1,9 +1,9 @@
 //! The tree of an input: declarations, opening rows and scripts, ordinary and entangled statements.
 //!
 //! A text is an input of one tree, or it has one first fault, all of its tokens' faults before those of its grammar. A
-//! caller may rely on it that [`parse_input`] gives exactly these, each name and value with its place, and that no list
-//! of a tree is longer than its limit; and on [`parse_script`] for the text of one script alone. The grammar is data, in
-//! specs/; a reader's contract names the production that it reads.
+//! caller may rely on it that [`parse_input`] gives exactly these, each name and value with its place, and that no
+//! list of a tree is longer than its limit; and on [`parse_script`] for the text of one script alone. The grammar is
+//! data, in specs/; a reader's contract names the production that it reads.
 #![tactic(auto)]
 
 mod condition;

@@ -26,7 +26,8 @@ fn put_shade(sheet: &mut Sheet, shade: Shade, place: Place) {
     let strip = place.strip;
     let pattern = shade.group % 42;
     sheet.put(format_args!(
-        "<rect x=\"{left}\" y=\"{strip_top}\" width=\"{width}\" height=\"{strip}\" rx=\"2\" fill=\"url(#g{pattern})\"/>\n"
+        "<rect x=\"{left}\" y=\"{strip_top}\" width=\"{width}\" height=\"{strip}\" rx=\"2\" \
+         fill=\"url(#g{pattern})\"/>\n"
     ));
 }
 
@@ -102,7 +103,8 @@ impl Shape {
             height,
         } = self;
         sheet.put(format_args!(
-            "<rect class=\"{class}\" x=\"{left}\" y=\"{top}\" width=\"{width}\" height=\"{height}\" rx=\"{round}\"{more}/>"
+            "<rect class=\"{class}\" x=\"{left}\" y=\"{top}\" width=\"{width}\" height=\"{height}\" \
+             rx=\"{round}\"{more}/>"
         ));
     }
 

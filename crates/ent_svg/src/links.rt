@@ -100,7 +100,8 @@ pub(crate) fn put_joint(sheet: &mut Sheet, kind: LinkKind, middle: u64, height: 
         LinkKind::Joint(group) => {
             let colour = colour(group);
             sheet.put(format_args!(
-                "<circle cx=\"{middle}\" cy=\"{height}\" r=\"6\" fill=\"{colour}\" stroke=\"#222\" stroke-width=\"1.5\"/>"
+                "<circle cx=\"{middle}\" cy=\"{height}\" r=\"6\" fill=\"{colour}\" stroke=\"#222\" \
+                 stroke-width=\"1.5\"/>"
             ));
         }
         LinkKind::Commit => {}

@@ -2,9 +2,9 @@
 //!
 //! A member of a run that is neither posted nor has a job out waits for those who hold what is in conflict with what
 //! its next statement asks for. A caller may rely on it that [`deadlock`] finds the cycle of waiting that begins with
-//! the greatest transaction on any, and none only where nobody waits in a cycle; that [`victim_of`] tells the group that
-//! is rolled back for it; and that [`readiness_of`] tells whether a member would begin. These take no memory, so none
-//! of them can fail.
+//! the greatest transaction on any, and none only where nobody waits in a cycle; that [`victim_of`] tells the group
+//! that is rolled back for it; and that [`readiness_of`] tells whether a member would begin. These take no memory, so
+//! none of them can fail.
 //!
 //! A run ends only where no job is out, no member would move, each component was tried and nobody waits in a cycle. A
 //! caller may rely on it that [`reason_of`] answers the first of these that is not so, with the least transaction of
