@@ -76,6 +76,24 @@ impl Observations {
         }
     }
 
+    /// These tables block a transaction now, and this is the least of its group. What its demands lack stays as it was
+    /// seen last.
+    pub fn see_blocks(&mut self, tx: Tx, group: Tx, blocks: Vec<Block>) {
+        let Ok(kept) = self.of_mut(tx) else {
+            return;
+        };
+        if let Some(seen) = kept.observation.as_mut() {
+            seen.group = group;
+            seen.blocks = blocks;
+            return;
+        }
+        kept.observation = Some(Observation {
+            group,
+            need: Need::Nothing,
+            blocks,
+        });
+    }
+
     /// All of these were seen now: what each of them lacks is kept as it is now.
     pub fn settle(&mut self, members: &Members) {
         for tx in members.as_slice() {

@@ -1,6 +1,6 @@
 //! A look at a core: what stops the members of its run.
 use ent_closed::{Atom, Term};
-use ent_core::{Core, Obstacle};
+use ent_core::{Core, Obstacle, Standing};
 use ent_group::{Members, Tx};
 use ent_match::Demand;
 use ent_members::Conflict;
@@ -18,6 +18,37 @@ pub(crate) fn look(alloc: Global, observations: &mut Observations, core: &Core) 
     observations.settle(&members);
 }
 
+/// Notes of the members of a run which tables block them. Where memory runs out for one, none do. This takes little
+/// time: nothing is looked for among the posted statements.
+pub(crate) fn look_at_blocks(alloc: Global, observations: &mut Observations, core: &Core) {
+    let members = core.members();
+    for tx in members.as_slice() {
+        let blocks = match blocks_if_ready(alloc, core, &members, *tx) {
+            Ok(blocks) => blocks,
+            Err(_) => Vec::new(alloc),
+        };
+        observations.see_blocks(*tx, group_of(core, *tx), blocks);
+    }
+}
+
+/// The tables that block a member which would begin else.
+fn blocks_if_ready(
+    alloc: Global,
+    core: &Core,
+    members: &Members,
+    tx: Tx,
+) -> Result<Vec<Block>, AllocError> {
+    match core.standing(tx) {
+        Some(Standing::Ready(_)) => blocks_of(alloc, core, members, tx),
+        _ => Ok(Vec::new(alloc)),
+    }
+}
+
+/// The least member of a member's group.
+fn group_of(core: &Core, tx: Tx) -> Tx {
+    core.group(tx).get(0).unwrap_or(tx)
+}
+
 /// What is seen of a member.
 fn observation_of(
     alloc: Global,
@@ -25,7 +56,7 @@ fn observation_of(
     members: &Members,
     tx: Tx,
 ) -> Result<Observation, AllocError> {
-    let group = core.group(tx).get(0).unwrap_or(tx);
+    let group = group_of(core, tx);
     let mut need = Need::Nothing;
     let mut blocks = Vec::new(alloc);
     match core.obstacle(tx)? {

@@ -7,7 +7,7 @@ ghost use Rattle.ent_protocol.specs.Event.{Event};
 ghost use Rattle.ent_sched.specs.Watching.{TellsOf};
 ghost use Rattle.ent_watchers.specs.Marking.{AreHeld, Marks};
 
-use crate::looks::look;
+use crate::looks::{look, look_at_blocks};
 use crate::news::{News, first_party, news_of};
 use ent_core::{Core, Reply};
 use ent_eval::{Done, Work};
@@ -124,8 +124,8 @@ fn maker(told: &Told<Option<Members>>) -> Tx {
     }
 }
 
-/// Notes what is seen of a core behind an event and its reply. It is looked at whenever nothing is picked, or what was
-/// picked is done with, so that it is known what each member waits for before a deadlock is broken.
+/// Notes what is seen of a core behind an event and its reply. Who blocks whom is seen whenever nothing is picked, or
+/// what was picked is done with, so that it is known before a deadlock is broken.
 fn see(
     alloc: Global,
     observations: &mut Observations,
@@ -135,12 +135,13 @@ fn see(
 ) {
     match reply {
         Reply::Started(members) => observations.start(members),
-        Reply::Nothing | Reply::NoChoice => look(alloc, observations, core),
+        Reply::Nothing => look(alloc, observations, core),
+        Reply::NoChoice => look_at_blocks(alloc, observations, core),
         Reply::Answered => {
             if let Some(own) = joined(told) {
                 observations.join(own);
             }
-            look(alloc, observations, core);
+            look_at_blocks(alloc, observations, core);
         }
         Reply::RolledBack(group) | Reply::Failed(_, group) => observations.tie(group, maker(told)),
         Reply::Broken(cycle, group) => {
