@@ -1,7 +1,8 @@
 //! Managers that a caller of C keeps and drives.
 ghost use Rattle.std.specs.Prelude.{◌≡◌, [], IfErr, IfOk, MatchOption, MatchResult, pos};
 ghost use Rattle.std.specs.declared.option.Option.TheVariants.{None};
-ghost use Rattle.ent_driver.specs.Drives.{Answers, IsUnanswered, IsUnreported, IsUnshown, Reports, Shows};
+ghost use Rattle.ent_driver.specs.Drives.{Answers, IsUnanswered, IsUnreported, IsUnshown, Opens, Reports, Shows};
+ghost use Rattle.ent_engine.specs.Reading.{IsRefused};
 ghost use Rattle.ent_c.specs.Calls.{HandsOut, IsMisused, Declines};
 ghost use Rattle.ent_c.specs.Managers.{ClosesManager, HandsOutOr, OpensManager, RunsManager, StandsIn, SubmitsTo};
 ghost use Rattle.ent_c.specs.Managers.{behind};
@@ -14,7 +15,7 @@ use crate::told::Told;
 use crate::version::version_numbered;
 use crate::{DONE, MISUSED};
 use ent_driver::{Driver, DriverFault};
-use ent_engine::{RunFault, status_of};
+use ent_engine::{ReportVersion, RunFault, status_of};
 use std::alloc::Global;
 
 /// Hands a text out, or tells why there is none, of the bytes that were handed in.
@@ -40,6 +41,15 @@ fn hand_out(
     }
 }
 
+/// A manager over an input, or the fault for which there is none.
+fn manager_over(alloc: Global, input: &[u8]) -> Result<Box<Driver>, RunFault>
+    ensures opened { IfOk result (λ manager. Opens input.now manager.value) }
+    ensures refused { IfErr result (λ fault. IsRefused input.now fault) }
+{
+    let driver = Driver::open(alloc, input)?;
+    Ok(Box::new(alloc, driver)?)
+}
+
 /// Opens a manager over an input, whose scripts wait for a run. A handle that isn't null is misused.
 #[unsafe(no_mangle)]
 pub extern "C" fn ent_c_open(
@@ -55,19 +65,17 @@ pub extern "C" fn ent_c_open(
         *told = Told::text(0);
         return MISUSED;
     }
-    let fault = match Driver::open(alloc, input) {
-        Ok(driver) => match Box::new(alloc, driver) {
-            Ok(driver) => {
-                handle.put(driver);
-                *told = Told::text(0);
-                return DONE;
-            }
-            Err(_) => RunFault::Memory,
-        },
-        Err(fault) => fault,
-    };
-    *told = Told::fault(input, fault, 0);
-    status_of(&fault) as i32
+    match manager_over(alloc, input) {
+        Ok(manager) => {
+            handle.put(manager);
+            *told = Told::text(0);
+            DONE
+        }
+        Err(fault) => {
+            *told = Told::fault(input, fault, 0);
+            status_of(&fault) as i32
+        }
+    }
 }
 
 /// Submits the script of a text that has this script alone, and tells its number.
@@ -200,6 +208,26 @@ pub extern "C" fn ent_c_close(alloc: Global, handle: &mut Handle) -> i32
 }
 
 /// Hands out the report of a manager that was closed, of this version.
+fn closed_report(
+    alloc: Global,
+    handle: &mut Handle,
+    version: ReportVersion,
+    buffer: &mut [u8],
+    told: &mut Told,
+) -> i32
+    ensures same { handle.new.held ≡ handle.old.held }
+    ensures text { HandsOutOr (Reports (behind handle.old.held) version) (IsUnreported (behind handle.old.held))
+        [] buffer.old buffer.new told.new result }
+{
+    let Some(driver) = handle.take(alloc) else {
+        return hand_out(Err(DriverFault::Vacant), &[], buffer, told);
+    };
+    let text = driver.report(alloc, version);
+    handle.put(driver);
+    hand_out(text, &[], buffer, told)
+}
+
+/// Hands out the report of a manager that was closed, of the version of this number.
 #[unsafe(no_mangle)]
 pub extern "C" fn ent_c_closed_report(
     alloc: Global,
@@ -213,16 +241,13 @@ pub extern "C" fn ent_c_closed_report(
         (λ version. HandsOutOr (Reports (behind handle.old.held) version) (IsUnreported (behind handle.old.held))
         [] buffer.old buffer.new told.new result) }
 {
-    let Some(version) = version_numbered(version) else {
-        *told = Told::text(0);
-        return MISUSED;
-    };
-    let Some(driver) = handle.take(alloc) else {
-        return hand_out(Err(DriverFault::Vacant), &[], buffer, told);
-    };
-    let text = driver.report(alloc, version);
-    handle.put(driver);
-    hand_out(text, &[], buffer, told)
+    match version_numbered(version) {
+        Some(version) => closed_report(alloc, handle, version, buffer, told),
+        None => {
+            *told = Told::text(0);
+            MISUSED
+        }
+    }
 }
 
 /// Frees a manager, whatever it has come to; the handle is null then.
