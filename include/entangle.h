@@ -1,4 +1,5 @@
-/* Entangle, for C: the report of an input, what is said of its fault, and the check of a report.
+/* Entangle, for C: the report of an input, what is said of its fault, the check of a report, and managers that a caller
+ * keeps and drives.
  *
  * The calls are those of the static library of the crate ent_c, libent_c.a; docs/EMBEDDING.md says how it is built and
  * linked. docs/LANGUAGE.md has the language of inputs, docs/REPORTS.md the reports, docs/ERRORS.md faults and statuses.
@@ -21,7 +22,21 @@
  *   - The call isn't made from a signal handler, nor from a forked child of a process that has threads.
  *   - The stack has room for it: docs/EMBEDDING.md says how much was measured.
  *
- * Calls keep nothing: they may be made from any number of threads at once, and what they allocate they free.
+ * Calls without a manager keep nothing: they may be made from any number of threads at once, and what they allocate
+ * they free.
+ *
+ * A manager stands behind an `entangle_manager *`, which the caller keeps in one place, and null at first. Each of its
+ * calls takes the address of that place. Beside what is asked above:
+ *
+ *   - The pointer is null, or was written there by a call of this header. It isn't copied, nor looked behind, and its
+ *     place isn't among what a call writes.
+ *   - One manager goes to one call at a time, by whatever threads; order their calls by a lock. Managers know nothing
+ *     of each other.
+ *   - What entangle_open opened is given to entangle_free in the end, or its memory is lost. Where a call says that
+ *     memory ran out, the manager is there as before.
+ *
+ * A manager is open, closed (by entangle_close) or null. A call that wants another one of these answers
+ * ENTANGLE_MISUSED, and changes nothing.
  */
 #ifndef ENTANGLE_H
 #define ENTANGLE_H
@@ -37,8 +52,10 @@ extern "C" {
 /* What a call answers: the exit statuses of the program. */
 enum entangle_status {
     ENTANGLE_DONE = 0,          /* the report is handed out; there is no fault to explain; the check says yes */
-    ENTANGLE_REFUSED = 1,       /* the input is refused; the check says no, or the report is too long */
-    ENTANGLE_MISUSED = 2,       /* a pointer is null, or the version of a report is neither 1 nor 2 */
+    ENTANGLE_REFUSED = 1,       /* the input, the script or the call is refused; the check says no, or the report is too
+                                   long */
+    ENTANGLE_MISUSED = 2,       /* a pointer is null, the version of a report is neither 1 nor 2, or the manager isn't
+                                   of the state that the call wants */
     ENTANGLE_OUT_OF_MEMORY = 3, /* E900 */
     ENTANGLE_UNREADABLE = 4     /* it doesn't come: bytes in memory can be read */
 };
@@ -54,12 +71,49 @@ struct entangle_told {
 };
 typedef struct entangle_told entangle_told;
 
+/* Where a transaction stands. */
+enum entangle_kind {
+    ENTANGLE_DORMANT = 1, /* it waits for a run */
+    ENTANGLE_READY,       /* a member of a run that is on, which may begin its next statement, or end */
+    ENTANGLE_OUT,         /* a member whose statement is being carried out */
+    ENTANGLE_POSTED,      /* a member whose entangled statement waits for an answer */
+    ENTANGLE_PREPARED,    /* a member that asked to commit, and waits for the others of its group */
+    ENTANGLE_COMMITTED,   /* this and the next three are fates */
+    ENTANGLE_GAVE_UP,
+    ENTANGLE_ROLLED_BACK,
+    ENTANGLE_FAILED
+};
+
+struct entangle_position {
+    uint64_t runs;    /* in how many runs it was, where it is dormant or has a fate; else 0 */
+    uint64_t number;  /* the number of its commit, from 1; 0 where it hasn't committed */
+    uint32_t kind;    /* an enum entangle_kind */
+    uint32_t failure; /* why it failed: 1 or 2, as F1 or F2 of docs/REPORTS.md; else 0 */
+};
+typedef struct entangle_position entangle_position;
+
+/* A manager. C doesn't look behind the pointer. */
+typedef struct entangle_manager entangle_manager;
+
 /* The calls of the library, for languages that can't use the functions below. They ask what is asked above, and that no
  * pointer is null, also where length or capacity is 0. */
 int32_t ent_c_report(const uint8_t *input, size_t length, uint32_t version, uint8_t *buffer, size_t capacity,
                      entangle_told *told);
 int32_t ent_c_explain(const uint8_t *input, size_t length, uint8_t *buffer, size_t capacity, entangle_told *told);
 int32_t ent_c_check(const uint8_t *report, size_t length, uint8_t *buffer, size_t capacity, entangle_told *told);
+int32_t ent_c_open(entangle_manager **manager, const uint8_t *input, size_t length, entangle_told *told);
+int32_t ent_c_submit(entangle_manager **manager, const uint8_t *script, size_t length, uint64_t *number,
+                     entangle_told *told);
+int32_t ent_c_run(entangle_manager **manager);
+int32_t ent_c_standing(entangle_manager **manager, uint64_t number, entangle_position *position);
+int32_t ent_c_answers(entangle_manager **manager, uint64_t number, uint8_t *buffer, size_t capacity,
+                      entangle_told *told);
+int32_t ent_c_table(entangle_manager **manager, const uint8_t *name, size_t length, uint8_t *buffer, size_t capacity,
+                    entangle_told *told);
+int32_t ent_c_close(entangle_manager **manager);
+int32_t ent_c_closed_report(entangle_manager **manager, uint32_t version, uint8_t *buffer, size_t capacity,
+                            entangle_told *told);
+void ent_c_free(entangle_manager **manager);
 
 /* Whether a pointer is null where it may not be. */
 static inline bool entangle_is_misused(const void *text, size_t length, const void *buffer, size_t capacity,
@@ -105,6 +159,99 @@ static inline int32_t entangle_check(const void *report, size_t length, void *bu
     if (entangle_is_misused(report, length, buffer, capacity, told)) return ENTANGLE_MISUSED;
     return ent_c_check(report ? (const uint8_t *)report : &none, length, buffer ? (uint8_t *)buffer : &none, capacity,
                        told);
+}
+
+/* ---- managers */
+
+/* Opens a manager over an input: its tables are made and loaded, and its scripts, if it has any, are submitted in order
+ * and wait for a run. The pointer has to be null.
+ *
+ * ENTANGLE_DONE: the manager is open. ENTANGLE_REFUSED, ENTANGLE_OUT_OF_MEMORY: the pointer is still null, and the
+ * fault is told. ENTANGLE_MISUSED: the pointer isn't null, and stays as it was. */
+static inline int32_t entangle_open(entangle_manager **manager, const void *input, size_t length, entangle_told *told) {
+    uint8_t none = 0;
+    if (!manager || entangle_is_misused(input, length, &none, 0, told)) return ENTANGLE_MISUSED;
+    return ent_c_open(manager, input ? (const uint8_t *)input : &none, length, told);
+}
+
+/* Submits a script: the text of one, from its BEGIN TRANSACTION on, and of nothing else. It waits for the next run.
+ *
+ * ENTANGLE_DONE: `*number` is its transaction, from 1 in order of submission. ENTANGLE_REFUSED: the fault is told,
+ * whose place counts from the start of this text; or E406: 10,000 scripts were submitted. ENTANGLE_OUT_OF_MEMORY: E900 is
+ * told. After a refusal nothing has changed, `*number` neither. */
+static inline int32_t entangle_submit(entangle_manager **manager, const void *script, size_t length, uint64_t *number,
+                                      entangle_told *told) {
+    uint8_t none = 0;
+    if (!manager || !number || entangle_is_misused(script, length, &none, 0, told)) return ENTANGLE_MISUSED;
+    return ent_c_submit(manager, script ? (const uint8_t *)script : &none, length, number, told);
+}
+
+/* Makes one run, where anything waits for one: the first 64 scripts that wait take part, and it ends where none of them
+ * gets any further. Those that have neither committed nor ended otherwise wait for the next run, unless they gave up.
+ *
+ * ENTANGLE_DONE: it was made, or nothing waited. ENTANGLE_OUT_OF_MEMORY: what was done stands, and the call may be made
+ * again, which goes on from there. */
+static inline int32_t entangle_run(entangle_manager **manager) {
+    if (!manager) return ENTANGLE_MISUSED;
+    return ent_c_run(manager);
+}
+
+/* Tells where a transaction stands, and its fate, if it has one.
+ *
+ * ENTANGLE_DONE: `*position` tells it. ENTANGLE_REFUSED: no script has this number, and `*position` is as it was. */
+static inline int32_t entangle_standing(entangle_manager **manager, uint64_t number, entangle_position *position) {
+    if (!manager || !position) return ENTANGLE_MISUSED;
+    return ent_c_standing(manager, number, position);
+}
+
+/* Hands out a transaction's answers so far, in the lines of a report: where it has committed all of them; as a member
+ * of a run that is on those that it has, which it may still lose; else there are none.
+ *
+ * ENTANGLE_DONE: the text is that. ENTANGLE_REFUSED: E401 is told: no script has this number. ENTANGLE_OUT_OF_MEMORY:
+ * E900 is told. */
+static inline int32_t entangle_answers(entangle_manager **manager, uint64_t number, void *buffer, size_t capacity,
+                                       entangle_told *told) {
+    uint8_t none = 0;
+    if (!manager || entangle_is_misused(&none, 0, buffer, capacity, told)) return ENTANGLE_MISUSED;
+    return ent_c_answers(manager, number, buffer ? (uint8_t *)buffer : &none, capacity, told);
+}
+
+/* Hands out a table as it stands, in the lines of a report: a line with its name and how many rows it has, and a line
+ * for each row, ascending. While a run is on this has changes that may still be taken back.
+ *
+ * ENTANGLE_DONE: the text is that. ENTANGLE_REFUSED: E401 is told: no table has this name. ENTANGLE_OUT_OF_MEMORY: E900
+ * is told. */
+static inline int32_t entangle_table(entangle_manager **manager, const void *name, size_t length, void *buffer,
+                                     size_t capacity, entangle_told *told) {
+    uint8_t none = 0;
+    if (!manager || entangle_is_misused(name, length, buffer, capacity, told)) return ENTANGLE_MISUSED;
+    return ent_c_table(manager, name ? (const uint8_t *)name : &none, length, buffer ? (uint8_t *)buffer : &none,
+                       capacity, told);
+}
+
+/* Closes a manager whose transactions all have a fate. Then its report can be asked for, and nothing else but to free
+ * it.
+ *
+ * ENTANGLE_DONE: it is closed. ENTANGLE_REFUSED: a transaction waits for a run (E405), and it stays open.
+ * ENTANGLE_OUT_OF_MEMORY: it stays open. */
+static inline int32_t entangle_close(entangle_manager **manager) {
+    if (!manager) return ENTANGLE_MISUSED;
+    return ent_c_close(manager);
+}
+
+/* Hands out the report of a manager that is closed, of this version (1 or 2), as often as it is asked for.
+ *
+ * ENTANGLE_DONE: the text is the report. ENTANGLE_OUT_OF_MEMORY: E900 is told. */
+static inline int32_t entangle_closed_report(entangle_manager **manager, uint32_t version, void *buffer,
+                                             size_t capacity, entangle_told *told) {
+    uint8_t none = 0;
+    if (!manager || entangle_is_misused(&none, 0, buffer, capacity, told)) return ENTANGLE_MISUSED;
+    return ent_c_closed_report(manager, version, buffer ? (uint8_t *)buffer : &none, capacity, told);
+}
+
+/* Frees a manager, whatever it has come to, and sets the pointer to null; where it is null, nothing is done. */
+static inline void entangle_free(entangle_manager **manager) {
+    if (manager) ent_c_free(manager);
 }
 
 #ifdef __cplusplus

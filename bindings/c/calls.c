@@ -89,6 +89,65 @@ static void misuse(void) {
     CHECK(entangle_report(NULL, 0, 1, NULL, 0, &told) == ENTANGLE_DONE && tells_text(&told, 13));
 }
 
+static const char TABLE[] = "CREATE TABLE T (a INT);";
+static const char SCRIPT[] = "BEGIN TRANSACTION;\nINSERT INTO T VALUES (1);\nCOMMIT;\n";
+static const char AFTER[] = "report 1\ntx 1 committed 1 after 1\n1 count 1\ntable T 1\n(1)\nend\n";
+
+/* A manager from its opening to its end; the calls that want another state change nothing. */
+static void managers(void) {
+    char buffer[256];
+    entangle_manager *manager = NULL;
+    entangle_told told;
+    entangle_position position = {7, 7, 7, 7};
+    uint64_t number = 7;
+    CHECK(entangle_run(&manager) == ENTANGLE_MISUSED && entangle_close(&manager) == ENTANGLE_MISUSED);
+    CHECK(entangle_submit(&manager, SCRIPT, sizeof SCRIPT - 1, &number, &told) == ENTANGLE_MISUSED && number == 7);
+    CHECK(entangle_standing(&manager, 1, &position) == ENTANGLE_MISUSED && position.kind == 7);
+    CHECK(entangle_answers(&manager, 1, buffer, sizeof buffer, &told) == ENTANGLE_MISUSED && tells_text(&told, 0));
+    CHECK(entangle_open(&manager, WRONG, WRONG_LENGTH, &told) == ENTANGLE_REFUSED && tells_fault(&told, 0) && !manager);
+    CHECK(entangle_open(&manager, TABLE, sizeof TABLE - 1, &told) == ENTANGLE_DONE && manager && tells_text(&told, 0));
+    entangle_manager *at = manager;
+    CHECK(entangle_open(&manager, TABLE, sizeof TABLE - 1, &told) == ENTANGLE_MISUSED && manager == at);
+    CHECK(entangle_submit(&manager, TABLE, sizeof TABLE - 1, &number, &told) == ENTANGLE_REFUSED && number == 7);
+    CHECK(told.code == 201 && told.has_place && told.offset == 0 && told.line == 1 && told.column == 1);
+    CHECK(entangle_submit(&manager, SCRIPT, sizeof SCRIPT - 1, &number, &told) == ENTANGLE_DONE && number == 1);
+    CHECK(entangle_standing(&manager, 2, &position) == ENTANGLE_REFUSED && position.runs == 7);
+    CHECK(entangle_standing(&manager, 1, &position) == ENTANGLE_DONE && position.kind == ENTANGLE_DORMANT);
+    CHECK(!position.runs && !position.number && !position.failure && entangle_close(&manager) == ENTANGLE_REFUSED);
+    CHECK(entangle_run(&manager) == ENTANGLE_DONE && entangle_standing(&manager, 1, &position) == ENTANGLE_DONE);
+    CHECK(position.kind == ENTANGLE_COMMITTED && position.number == 1 && position.runs == 1 && !position.failure);
+    memset(buffer, '#', sizeof buffer);
+    CHECK(entangle_answers(&manager, 1, buffer, 4, &told) == ENTANGLE_DONE && tells_text(&told, 10));
+    CHECK(!memcmp(buffer, "1 co#", 5) && entangle_table(&manager, "T", 1, buffer, 256, &told) == ENTANGLE_DONE);
+    CHECK(tells_text(&told, 14) && !memcmp(buffer, "table T 1\n(1)\n#", 15));
+    CHECK(entangle_table(&manager, "U", 1, buffer, 256, &told) == ENTANGLE_REFUSED && told.code == 401);
+    CHECK(entangle_closed_report(&manager, 1, buffer, 256, &told) == ENTANGLE_MISUSED && tells_text(&told, 0));
+    CHECK(entangle_close(&manager) == ENTANGLE_DONE && entangle_run(&manager) == ENTANGLE_MISUSED);
+    CHECK(entangle_closed_report(&manager, 3, buffer, 256, &told) == ENTANGLE_MISUSED && tells_text(&told, 0));
+    CHECK(entangle_closed_report(&manager, 1, buffer, 256, &told) == ENTANGLE_DONE);
+    CHECK(tells_text(&told, sizeof AFTER - 1) && !memcmp(buffer, AFTER, sizeof AFTER - 1));
+    CHECK(entangle_open(NULL, TABLE, 1, &told) == ENTANGLE_MISUSED && entangle_run(NULL) == ENTANGLE_MISUSED);
+    CHECK(entangle_submit(&manager, NULL, 1, &number, &told) == ENTANGLE_MISUSED && manager == at);
+    entangle_free(&manager);
+    CHECK(!manager);
+    entangle_free(&manager);
+    entangle_free(NULL);
+}
+
+/* Managers come and go, with all that they came to. */
+static void many_managers(void) {
+    for (int count = 0; count < 1000; count++) {
+        entangle_manager *manager = NULL;
+        entangle_told told;
+        uint64_t number;
+        CHECK(entangle_open(&manager, TABLE, sizeof TABLE - 1, &told) == ENTANGLE_DONE);
+        CHECK(entangle_submit(&manager, SCRIPT, sizeof SCRIPT - 1, &number, &told) == ENTANGLE_DONE);
+        CHECK(count % 3 == 0 || entangle_run(&manager) == ENTANGLE_DONE);
+        CHECK(count % 3 != 2 || entangle_close(&manager) == ENTANGLE_DONE);
+        entangle_free(&manager);
+    }
+}
+
 #ifdef REFUSING
 /* The allocation with this number fails, where it isn't below 0. */
 static long until = -1;
@@ -121,6 +180,44 @@ static void refusals(bool explains, int32_t whole) {
     CHECK(count > 0 && told.code == (explains ? 201 : 0));
     printf("%ld allocations refused\n", count);
 }
+
+/* Opens a manager, has it make a run and closes it, where one allocation behind a beginning fails: the first call for
+ * which that is so. Each call is made again then, and comes to the same. */
+static bool driven(long number) {
+    char buffer[256];
+    entangle_manager *manager = NULL;
+    entangle_told told;
+    uint64_t tx = 0;
+    int32_t status;
+    bool refused = false;
+    until = number;
+    while ((status = entangle_open(&manager, TABLE, sizeof TABLE - 1, &told)) != ENTANGLE_DONE)
+        CHECK(status == ENTANGLE_OUT_OF_MEMORY && told.code == 900 && !manager && (refused = true));
+    while ((status = entangle_submit(&manager, SCRIPT, sizeof SCRIPT - 1, &tx, &told)) != ENTANGLE_DONE)
+        CHECK(status == ENTANGLE_OUT_OF_MEMORY && told.code == 900 && !tx && (refused = true));
+    while ((status = entangle_run(&manager)) != ENTANGLE_DONE)
+        CHECK(status == ENTANGLE_OUT_OF_MEMORY && (refused = true));
+    while ((status = entangle_answers(&manager, 1, buffer, 256, &told)) != ENTANGLE_DONE)
+        CHECK(status == ENTANGLE_OUT_OF_MEMORY && told.code == 900 && (refused = true));
+    while ((status = entangle_table(&manager, "T", 1, buffer, 256, &told)) != ENTANGLE_DONE)
+        CHECK(status == ENTANGLE_OUT_OF_MEMORY && told.code == 900 && (refused = true));
+    while ((status = entangle_close(&manager)) != ENTANGLE_DONE)
+        CHECK(status == ENTANGLE_OUT_OF_MEMORY && (refused = true));
+    while ((status = entangle_closed_report(&manager, 1, buffer, 256, &told)) != ENTANGLE_DONE)
+        CHECK(status == ENTANGLE_OUT_OF_MEMORY && told.code == 900 && (refused = true));
+    until = -1;
+    CHECK(told.needed == sizeof AFTER - 1 && !memcmp(buffer, AFTER, sizeof AFTER - 1));
+    entangle_free(&manager);
+    return refused;
+}
+
+/* Each allocation of a manager's calls fails in turn, until none of them fails. */
+static void driven_refusals(void) {
+    long count = 0;
+    while (driven(count)) count++;
+    CHECK(count > 20);
+    printf("%ld allocations of a manager's calls refused\n", count);
+}
 #endif
 
 int main(void) {
@@ -128,7 +225,10 @@ int main(void) {
     faults();
     checks();
     misuse();
+    managers();
+    many_managers();
 #ifdef REFUSING
+    driven_refusals();
     refusals(false, ENTANGLE_DONE);
     refusals(true, ENTANGLE_REFUSED);
 #endif

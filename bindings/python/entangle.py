@@ -11,24 +11,67 @@
         print(fault.code, fault.line, fault.column)  # 201 1 19
         print(fault.explanation)
 
+A Manager keeps its tables between calls, and takes scripts one by one:
+
+    with entangle.Manager("CREATE TABLE T (a INT);") as manager:
+        tx = manager.submit("BEGIN TRANSACTION; INSERT INTO T VALUES (1); COMMIT;")
+        manager.run()
+        manager.standing(tx)                         # Standing(kind='committed', number=1, runs=1)
+        manager.table("T")                           # [(1,)]
+
 The work is done by a core that is proved, in the shared object that the environment's ENTANGLE_LIBRARY names; else in
 libentangle.so beside this file, or in ../archive, where tools/archive links it. A call runs the scripts of its input on
-the thread that makes it, and other threads of Python go on meanwhile. Each call stands alone: any number may be made at
-once.
+the thread that makes it, and other threads of Python go on meanwhile. Calls without a manager stand alone: any number
+may be made at once. Threads may share a manager, which has a lock inside.
 """
 
 from __future__ import annotations
 
 import ctypes
 import os
+import re
+import threading
 from dataclasses import dataclass
 from pathlib import Path
-from typing import Callable
+from types import TracebackType
+from typing import Callable, Union
 
-__all__ = ["Fault", "OutOfMemory", "Refused", "Verdict", "check", "explain", "report"]
+__all__ = [
+    "Answer",
+    "Fact",
+    "Fault",
+    "Manager",
+    "OutOfMemory",
+    "Refused",
+    "Row",
+    "Standing",
+    "StateError",
+    "Value",
+    "Verdict",
+    "check",
+    "explain",
+    "report",
+]
 
 _DONE, _REFUSED, _MISUSED, _OUT_OF_MEMORY = range(4)
+_NO_SUCH, _NOT_DONE, _NO_MEMORY = 401, 405, 900
+_KINDS = ("", "waiting", "running", "running", "running", "running", "committed", "gave up", "rolled back", "failed")
 _FIRST_CAPACITY = 4096
+
+# The calls that answer a status.
+_STATUSES = (
+    "report",
+    "explain",
+    "check",
+    "open",
+    "submit",
+    "run",
+    "standing",
+    "answers",
+    "table",
+    "close",
+    "closed_report",
+)
 
 
 class Fault(Exception):
@@ -47,13 +90,56 @@ class Fault(Exception):
 
 
 class Refused(Fault):
-    """The input is refused for its first fault; `explanation` is what `entangle run --explain` says of it."""
+    """The input, a script or a call is refused for its first fault.
+
+    `explanation` is what `entangle run --explain` says of the fault of an input, and empty of others.
+    """
 
     explanation: str = ""
 
 
 class OutOfMemory(Fault, MemoryError):
     """Memory ran out. Nothing is lost, and the call can be made again."""
+
+
+class StateError(Exception):
+    """The manager is closed or freed; or, where a report is asked for, it isn't closed."""
+
+
+Value = Union[int, str]
+Row = tuple[Value, ...]
+
+
+@dataclass(frozen=True)
+class Fact:
+    """A row of an answer relation: what an entangled statement put there."""
+
+    relation: str
+    values: Row
+
+
+# What a statement was answered: of INSERT, DELETE and UPDATE how many rows; of SET its value; of SELECT its rows; of an
+# entangled SELECT its facts. The first word says which: "count", "set", "rows" or "answer".
+Answer = tuple[str, Union[int, Value, list[Row], list[Fact]]]
+
+
+@dataclass(frozen=True)
+class Standing:
+    """Where a transaction stands.
+
+    `kind` is "waiting", or "running" of a run that memory stopped, or a fate: "committed", "gave up", "rolled back" or
+    "failed". `number` is that of its commit, `failure` "F1" or "F2"; `runs` is in how many runs it was.
+    """
+
+    kind: str
+    number: int = 0
+    runs: int = 0
+    failure: str = ""
+
+    @property
+    def is_finished(self) -> bool:
+        """Whether it has its fate."""
+        return self.kind not in ("waiting", "running")
 
 
 @dataclass(frozen=True)
@@ -78,6 +164,17 @@ class _Told(ctypes.Structure):
     ]
 
 
+class _Position(ctypes.Structure):
+    """`struct entangle_position` of include/entangle.h."""
+
+    _fields_ = [
+        ("runs", ctypes.c_uint64),
+        ("number", ctypes.c_uint64),
+        ("kind", ctypes.c_uint32),
+        ("failure", ctypes.c_uint32),
+    ]
+
+
 def _loaded() -> ctypes.CDLL:
     here = Path(__file__).resolve().parent
     places = [here / "libentangle.so", here.parent / "archive" / "libentangle.so"]
@@ -88,8 +185,19 @@ def _loaded() -> ctypes.CDLL:
     library.ent_c_report.argtypes = [*text, ctypes.c_uint32, *out]
     library.ent_c_explain.argtypes = [*text, *out]
     library.ent_c_check.argtypes = [*text, *out]
-    for call in (library.ent_c_report, library.ent_c_explain, library.ent_c_check):
-        call.restype = ctypes.c_int32
+    manager, number = ctypes.POINTER(ctypes.c_void_p), ctypes.c_uint64
+    library.ent_c_open.argtypes = [manager, *text, ctypes.POINTER(_Told)]
+    library.ent_c_submit.argtypes = [manager, *text, ctypes.POINTER(number), ctypes.POINTER(_Told)]
+    library.ent_c_run.argtypes = [manager]
+    library.ent_c_standing.argtypes = [manager, number, ctypes.POINTER(_Position)]
+    library.ent_c_answers.argtypes = [manager, number, *out]
+    library.ent_c_table.argtypes = [manager, *text, *out]
+    library.ent_c_close.argtypes = [manager]
+    library.ent_c_closed_report.argtypes = [manager, ctypes.c_uint32, *out]
+    library.ent_c_free.argtypes = [manager]
+    library.ent_c_free.restype = None
+    for name in _STATUSES:
+        library[f"ent_c_{name}"].restype = ctypes.c_int32
     return library
 
 
@@ -157,3 +265,171 @@ def check(text: str | bytes) -> Verdict:
         return Verdict(is_legal=True)
     _, line, rule = said.split()
     return Verdict(is_legal=False, line=int(line), rule=rule)
+
+
+# A value at the front of a text: a number, or a text in quotes, with each quote inside doubled.
+_VALUE = re.compile(r"(-?[0-9]+)|'((?:[^']|'')*)'")
+
+
+def _row_at(text: str, place: int) -> tuple[Row, int]:
+    """The row that stands at a place of a text, and where it ends."""
+    values: list[Value] = []
+    while text[place] != ")":
+        found = _VALUE.match(text, place + (1 if text[place] == "(" else 2))
+        assert found, "the lines of a report are rows"
+        number, quoted = found.groups()
+        values.append(int(number) if number is not None else quoted.replace("''", "'"))
+        place = found.end()
+    return tuple(values), place + 1
+
+
+def _facts_in(text: str) -> list[Fact]:
+    facts, place = [], 0
+    while place < len(text):
+        start = text.index("(", place)
+        values, end = _row_at(text, start)
+        facts.append(Fact(text[place + 1 : start], values))
+        place = end
+    return facts
+
+
+def _answers_in(lines: list[str]) -> list[Answer]:
+    answers: list[Answer] = []
+    rest = iter(lines)
+    for line in rest:
+        _, word, said = (line.split(" ", 2) + [""])[:3]
+        if word == "count":
+            answers.append((word, int(said)))
+        elif word == "set":
+            answers.append((word, _row_at(f"({said})", 0)[0][0]))
+        elif word == "rows":
+            answers.append((word, [_row_at(next(rest), 0)[0] for _ in range(int(said))]))
+        else:
+            answers.append((word, _facts_in(f" {said}" if said else "")))
+    return answers
+
+
+class Manager:
+    """Tables, and the scripts that were submitted over them. Each run lets those that wait take part, 64 at most.
+
+    It is freed by close(), by the end of a `with`, or with the object. Threads may share one: a lock inside gives it to
+    one call at a time.
+    """
+
+    def __init__(self, opening: str | bytes) -> None:
+        """Opens it over an input: its tables with their rows. Scripts that it has wait for a run.
+
+        Raises Refused for the first fault of the input, and OutOfMemory.
+        """
+        self._lock = threading.Lock()
+        self._handle = ctypes.c_void_p()
+        told, given = _Told(), _bytes_of(opening)
+        status = _LIBRARY.ent_c_open(self._place(), given, len(given), ctypes.byref(told))
+        try:
+            self._end(status, told)
+        except Refused as fault:
+            fault.explanation = explain(given) or ""
+            raise
+
+    def _place(self) -> ctypes._Pointer[ctypes.c_void_p]:
+        return ctypes.byref(self._handle)  # type: ignore[return-value]
+
+    @staticmethod
+    def _end(status: int, told: _Told) -> None:
+        """Raises what a status says."""
+        if status == _MISUSED:
+            raise StateError("the manager is closed, or isn't where that is asked for")
+        if status != _DONE:
+            raise _fault(status, told)
+
+    def _text(self, call: Callable[..., int], *given: object) -> str:
+        """The text that a call hands out; it is made again where the first buffer was too short."""
+        told, capacity = _Told(), _FIRST_CAPACITY
+        while True:
+            buffer = ctypes.create_string_buffer(capacity)
+            status = call(self._place(), *given, buffer, capacity, ctypes.byref(told))
+            if told.needed <= capacity:
+                self._end(status, told)
+                return ctypes.string_at(buffer, told.needed).decode()
+            capacity = told.needed
+
+    def submit(self, script: str | bytes) -> int:
+        """Submits the script of a text that has this script alone; the number of its transaction, from 1.
+
+        Raises Refused for the script's first fault, with its place in this text, or where 10,000 scripts were submitted
+        (E406); and OutOfMemory.
+        """
+        told, given, number = _Told(), _bytes_of(script), ctypes.c_uint64()
+        with self._lock:
+            status = _LIBRARY.ent_c_submit(
+                self._place(), given, len(given), ctypes.byref(number), ctypes.byref(told)
+            )
+        self._end(status, told)
+        return number.value
+
+    def run(self) -> None:
+        """Makes one run, where anything waits for one. After OutOfMemory what was done stands."""
+        with self._lock:
+            status = _LIBRARY.ent_c_run(self._place())
+        self._end(status, _Told(code=_NO_MEMORY))
+
+    def standing(self, tx: int) -> Standing:
+        """Where a transaction stands. Raises Refused (E401) where no script has this number."""
+        position = _Position()
+        with self._lock:
+            status = _LIBRARY.ent_c_standing(self._place(), tx, ctypes.byref(position))
+        self._end(status, _Told(code=_NO_SUCH))
+        failure = f"F{position.failure}" if position.failure else ""
+        return Standing(_KINDS[position.kind], position.number, position.runs, failure)
+
+    def answer_lines(self, tx: int) -> str:
+        """The lines in which a report has a transaction's answers; none as long as it waits, or didn't commit.
+
+        Raises Refused (E401) where no script has this number, and OutOfMemory.
+        """
+        with self._lock:
+            return self._text(_LIBRARY.ent_c_answers, tx)
+
+    def answers(self, tx: int) -> list[Answer]:
+        """What the statements of a transaction were answered, as answer_lines() has it."""
+        return _answers_in(self.answer_lines(tx).splitlines())
+
+    def table(self, name: str) -> list[Row]:
+        """The rows of a table, ascending. Raises Refused (E401) where no table has this name, and OutOfMemory."""
+        given = _bytes_of(name)
+        with self._lock:
+            lines = self._text(_LIBRARY.ent_c_table, given, len(given))
+        return [_row_at(line, 0)[0] for line in lines.splitlines()[1:]]
+
+    def finish(self) -> None:
+        """Closes the book, where every transaction has its fate; then report() is all that the manager is there for.
+
+        Raises Refused (E405) where a transaction waits for a run, and OutOfMemory; then it stays open.
+        """
+        with self._lock:
+            status = _LIBRARY.ent_c_close(self._place())
+        self._end(status, _Told(code=_NO_MEMORY if status == _OUT_OF_MEMORY else _NOT_DONE))
+
+    def report(self, version: int = 1) -> str:
+        """The report of a manager whose book is closed, of this version. Raises StateError where it isn't."""
+        if version not in (1, 2):
+            raise ValueError(f"a report has version 1 or 2, not {version}")
+        with self._lock:
+            return self._text(_LIBRARY.ent_c_closed_report, version)
+
+    def close(self) -> None:
+        """Frees the manager, whatever it has come to. Each call behind this raises StateError."""
+        with self._lock:
+            _LIBRARY.ent_c_free(self._place())
+
+    def __enter__(self) -> Manager:
+        return self
+
+    def __exit__(
+        self, kind: type[BaseException] | None, error: BaseException | None, trace: TracebackType | None
+    ) -> None:
+        self.close()
+
+    def __del__(self) -> None:
+        if getattr(self, "_handle", None):
+            self.close()

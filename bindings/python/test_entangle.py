@@ -21,6 +21,17 @@ def file(name, ending):
     return (ROWS / f"{name}.{ending}").read_bytes()
 
 
+def driven(text, version):
+    """The report of a manager that is opened over an input and run until it can be closed."""
+    with entangle.Manager(text) as manager:
+        while True:
+            try:
+                manager.finish()
+                return manager.report(version)
+            except entangle.Refused:
+                manager.run()
+
+
 class Rows(unittest.TestCase):
     def test_runs_are_those_of_the_program(self):
         count = 0
@@ -34,6 +45,19 @@ class Rows(unittest.TestCase):
                 self.assertIn(line, ("*", said))
             count += 1
         print(f"{count} rows of a run")
+        self.assertGreater(count, 100)
+
+    def test_managers_tell_what_the_program_does(self):
+        count = 0
+        for name, version, status, line in rows("run", "run --report 2"):
+            with self.subTest(name):
+                try:
+                    got, said, ended = driven(file(name, "in"), version), "", 0
+                except entangle.Refused as fault:
+                    got, said, ended = "", str(fault), 1
+                self.assertEqual((got.encode(), ended), (file(name, "out"), status))
+                self.assertIn(line, ("*", said))
+            count += 1
         self.assertGreater(count, 100)
 
     def test_explanations_of_faults_are_those_of_the_program(self):
@@ -93,6 +117,112 @@ class Calls(unittest.TestCase):
             thread.join()
         self.assertEqual(got, 8 * [alone])
         self.assertTrue(entangle.check(alone).is_legal)
+
+
+TABLES = "CREATE TABLE Flights (fno INT, dest TEXT);\nCREATE TABLE Trips (fno INT);\nINSERT INTO Flights VALUES (122, 'LA');\n"
+
+
+def trip(who, friend):
+    """The script of somebody who flies where a friend does."""
+    return f"""BEGIN TRANSACTION WITHIN 3 RUNS;
+SELECT '{who}', fno INTO ANSWER Trip
+  WHERE fno IN (SELECT fno FROM Flights) AND ('{friend}', fno) IN ANSWER Trip CHOOSE 1;
+SELECT * FROM Flights;
+SET @d = 'it''s';
+DELETE FROM Trips WHERE fno = 0;
+COMMIT;
+"""
+
+
+class Managers(unittest.TestCase):
+    def test_friends_are_answered_together(self):
+        with entangle.Manager(TABLES) as manager:
+            mickey = manager.submit(trip("Mickey", "Minnie"))
+            manager.run()
+            self.assertEqual(manager.standing(mickey), entangle.Standing("waiting", runs=1))
+            self.assertEqual(manager.answers(mickey), [])
+            minnie = manager.submit(trip("Minnie", "Mickey"))
+            manager.run()
+            self.assertEqual(manager.standing(minnie), entangle.Standing("committed", number=2, runs=1))
+            self.assertEqual(
+                manager.answers(mickey),
+                [
+                    ("answer", [entangle.Fact("Trip", ("Mickey", 122))]),
+                    ("rows", [(122, "LA")]),
+                    ("set", "it's"),
+                    ("count", 0),
+                ],
+            )
+            self.assertEqual(manager.table("Flights"), [(122, "LA")])
+
+    def test_who_finds_nobody_gives_up(self):
+        with entangle.Manager(TABLES) as manager:
+            eve = manager.submit(trip("Eve", "Finn"))
+            for _ in range(3):
+                self.assertFalse(manager.standing(eve).is_finished)
+                manager.run()
+            self.assertEqual(manager.standing(eve), entangle.Standing("gave up", runs=3))
+
+    def test_a_fault_of_a_script_changes_nothing(self):
+        with entangle.Manager(TABLES) as manager:
+            for script, code, offset in [
+                ("BEGIN TRANSACTION;\nINSERT INTO T VALUES (1);\nCOMMIT;", 301, 31),
+                ("CREATE TABLE T (a INT);", 201, 0),
+                ("BEGIN TRANSACTION; COMMIT; BEGIN TRANSACTION; COMMIT;", 201, 27),
+                (b"BEGIN \xff", 100, 6),
+            ]:
+                with self.subTest(script), self.assertRaises(entangle.Refused) as caught:
+                    manager.submit(script)
+                self.assertEqual((caught.exception.code, caught.exception.offset), (code, offset))
+            self.assertEqual(manager.submit("BEGIN TRANSACTION; COMMIT;"), 1)
+
+    def test_what_is_not_there_is_refused(self):
+        with entangle.Manager(TABLES) as manager:
+            for call in (
+                lambda: manager.standing(1),
+                lambda: manager.answers(0),
+                lambda: manager.table("Tours"),
+                lambda: manager.table("no name"),
+            ):
+                with self.assertRaises(entangle.Refused) as caught:
+                    call()
+                self.assertEqual(caught.exception.code, 401)
+            self.assertRaises(entangle.StateError, manager.report)
+            manager.submit("BEGIN TRANSACTION; COMMIT;")
+            with self.assertRaises(entangle.Refused) as caught:
+                manager.finish()
+            self.assertEqual(caught.exception.code, 405)
+
+    def test_a_closed_manager_has_its_report_alone(self):
+        manager = entangle.Manager(TABLES)
+        manager.finish()
+        self.assertEqual(manager.report(), "report 1\ntable Flights 1\n(122, 'LA')\ntable Trips 0\nend\n")
+        self.assertTrue(entangle.check(manager.report(2)).is_legal)
+        self.assertRaises(entangle.StateError, manager.run)
+        self.assertRaises(entangle.StateError, manager.table, "Flights")
+        manager.close()
+        manager.close()
+        self.assertRaises(entangle.StateError, manager.report)
+
+    def test_an_opening_with_a_fault_is_explained(self):
+        with self.assertRaises(entangle.Refused) as caught:
+            entangle.Manager("CREATE TABLE T (a INTEGER);")
+        self.assertTrue(caught.exception.explanation.startswith("E201 at 18\nline 1, column 19: "))
+
+    def test_threads_may_share_one(self):
+        with entangle.Manager("CREATE TABLE T (a INT);") as manager:
+
+            def one(number):
+                manager.submit(f"BEGIN TRANSACTION; INSERT INTO T VALUES ({number}); COMMIT;")
+                manager.run()
+
+            threads = [threading.Thread(target=one, args=(number,)) for number in range(32)]
+            for thread in threads:
+                thread.start()
+            for thread in threads:
+                thread.join()
+            manager.run()
+            self.assertEqual(manager.table("T"), [(number,) for number in range(32)])
 
 
 if __name__ == "__main__":

@@ -1,6 +1,7 @@
 //! The calls of the archive, made safely. All `unsafe` of this crate stands here.
 
 use crate::fault::{Fault, FaultKind, Place};
+use std::ptr::null_mut;
 
 /// What a call tells beside its text: `struct entangle_told` of `include/entangle.h`.
 #[repr(C)]
@@ -14,8 +15,25 @@ struct Told {
     has_place: bool,
 }
 
+/// Where a transaction stands: `struct entangle_position`.
+#[repr(C)]
+#[derive(Clone, Copy, Default)]
+pub(crate) struct Position {
+    pub(crate) runs: u64,
+    pub(crate) number: u64,
+    pub(crate) kind: u32,
+    pub(crate) failure: u32,
+}
+
+/// What stands behind a manager's pointer: nothing looks there.
+#[repr(C)]
+struct Opaque {
+    _private: [u8; 0],
+}
+
 const DONE: i32 = 0;
 const REFUSED: i32 = 1;
+const MISUSED: i32 = 2;
 const OUT_OF_MEMORY: i32 = 3;
 
 /// How many bytes a text is given at first.
@@ -35,6 +53,43 @@ unsafe extern "C" {
     fn ent_c_explain(input: *const u8, length: usize, buffer: *mut u8, capacity: usize, told: *mut Told) -> i32;
 
     fn ent_c_check(report: *const u8, length: usize, buffer: *mut u8, capacity: usize, told: *mut Told) -> i32;
+
+    fn ent_c_open(manager: *mut *mut Opaque, input: *const u8, length: usize, told: *mut Told) -> i32;
+
+    fn ent_c_submit(
+        manager: *mut *mut Opaque,
+        script: *const u8,
+        length: usize,
+        number: *mut u64,
+        told: *mut Told,
+    ) -> i32;
+
+    fn ent_c_run(manager: *mut *mut Opaque) -> i32;
+
+    fn ent_c_standing(manager: *mut *mut Opaque, number: u64, position: *mut Position) -> i32;
+
+    fn ent_c_answers(manager: *mut *mut Opaque, number: u64, buffer: *mut u8, capacity: usize, told: *mut Told) -> i32;
+
+    fn ent_c_table(
+        manager: *mut *mut Opaque,
+        name: *const u8,
+        length: usize,
+        buffer: *mut u8,
+        capacity: usize,
+        told: *mut Told,
+    ) -> i32;
+
+    fn ent_c_close(manager: *mut *mut Opaque) -> i32;
+
+    fn ent_c_closed_report(
+        manager: *mut *mut Opaque,
+        version: u32,
+        buffer: *mut u8,
+        capacity: usize,
+        told: *mut Told,
+    ) -> i32;
+
+    fn ent_c_free(manager: *mut *mut Opaque);
 }
 
 /// A call of the archive.
@@ -47,7 +102,7 @@ pub(crate) enum Call {
 }
 
 /// What a call answers: its text, where it has one, and its fault.
-pub(crate) enum Answer {
+pub(crate) enum Outcome {
     Done(String),
     /// The fault has the number 0 where the text is a verdict.
     Refused(String, Fault),
@@ -56,7 +111,7 @@ pub(crate) enum Answer {
 
 impl Call {
     /// Makes the call, again with a larger buffer where the first one was too short.
-    pub(crate) fn answer(self, input: &[u8]) -> Answer {
+    pub(crate) fn answer(self, input: &[u8]) -> Outcome {
         let mut text = vec![0; FIRST_CAPACITY.max(2 * input.len())];
         loop {
             let (status, told) = self.make(input, &mut text);
@@ -65,7 +120,7 @@ impl Call {
                 continue;
             }
             text.truncate(told.needed);
-            return answer_of(status, text, told);
+            return outcome_of(status, text, told);
         }
     }
 
@@ -88,17 +143,126 @@ impl Call {
     }
 }
 
-fn answer_of(status: i32, text: Vec<u8>, told: Told) -> Answer {
+/// The fault that is told.
+fn fault_of(kind: FaultKind, told: Told) -> Fault {
+    let place = told.has_place.then_some(Place { offset: told.offset, line: told.line, column: told.column });
+    Fault { code: told.code, kind, place }
+}
+
+fn outcome_of(status: i32, text: Vec<u8>, told: Told) -> Outcome {
     let text = String::from_utf8(text).expect("each text of the archive is UTF-8");
-    let fault = |kind| Fault {
-        code: told.code,
-        kind,
-        place: told.has_place.then_some(Place { offset: told.offset, line: told.line, column: told.column }),
-    };
     match status {
-        DONE => Answer::Done(text),
-        REFUSED => Answer::Refused(text, fault(FaultKind::Refused)),
-        OUT_OF_MEMORY => Answer::OutOfMemory(fault(FaultKind::OutOfMemory)),
+        DONE => Outcome::Done(text),
+        REFUSED => Outcome::Refused(text, fault_of(FaultKind::Refused, told)),
+        OUT_OF_MEMORY => Outcome::OutOfMemory(fault_of(FaultKind::OutOfMemory, told)),
         other => unreachable!("no call with these arguments answers {other}"),
+    }
+}
+
+/// Why a manager's call does nothing.
+pub(crate) enum Refusal {
+    /// The manager isn't of the state that the call wants: open, or closed.
+    Misused,
+    Fault(Fault),
+}
+
+/// What a status says, where what is told has the fault.
+fn status_said(status: i32, told: Told) -> Result<(), Refusal> {
+    match status {
+        DONE => Ok(()),
+        REFUSED => Err(Refusal::Fault(fault_of(FaultKind::Refused, told))),
+        MISUSED => Err(Refusal::Misused),
+        OUT_OF_MEMORY => Err(Refusal::Fault(Fault { code: 900, ..fault_of(FaultKind::OutOfMemory, told) })),
+        other => unreachable!("no call with these arguments answers {other}"),
+    }
+}
+
+/// The one owner of what stands behind a manager's pointer.
+pub(crate) struct Handle {
+    at: *mut Opaque,
+}
+
+// SAFETY: a handle owns all that is behind its pointer, which no other handle reaches, and the archive keeps nothing of
+// a thread: it has no thread locals and takes no lock. So it may move to another thread. That one thread calls at a
+// time is what `&mut` says of each call below.
+unsafe impl Send for Handle {}
+
+// Each call below passes the place of `at`, which is null or was written by the archive, and which `&mut self` keeps
+// from every other call; slices by their pointers and lengths, none of which is null or has 2^63 bytes; and structs of
+// its own frame, laid out as in C. No call keeps a pointer of what it is passed.
+impl Handle {
+    pub(crate) fn open(input: &[u8]) -> Result<Self, Refusal> {
+        let (mut handle, mut told) = (Handle { at: null_mut() }, Told::default());
+        // SAFETY: as said above.
+        let status = unsafe { ent_c_open(&mut handle.at, input.as_ptr(), input.len(), &mut told) };
+        status_said(status, told).map(|()| handle)
+    }
+
+    pub(crate) fn submit(&mut self, script: &[u8]) -> Result<u64, Refusal> {
+        let (mut number, mut told) = (0, Told::default());
+        // SAFETY: as said above.
+        let status = unsafe { ent_c_submit(&mut self.at, script.as_ptr(), script.len(), &mut number, &mut told) };
+        status_said(status, told).map(|()| number)
+    }
+
+    pub(crate) fn run(&mut self) -> Result<(), Refusal> {
+        // SAFETY: as said above.
+        status_said(unsafe { ent_c_run(&mut self.at) }, Told::default())
+    }
+
+    pub(crate) fn standing(&mut self, number: u64) -> Result<Position, Refusal> {
+        let mut position = Position::default();
+        // SAFETY: as said above.
+        let status = unsafe { ent_c_standing(&mut self.at, number, &mut position) };
+        status_said(status, Told { code: 401, ..Told::default() }).map(|()| position)
+    }
+
+    pub(crate) fn close(&mut self) -> Result<(), Refusal> {
+        // SAFETY: as said above.
+        status_said(unsafe { ent_c_close(&mut self.at) }, Told { code: 405, ..Told::default() })
+    }
+
+    pub(crate) fn answers(&mut self, number: u64) -> Result<String, Refusal> {
+        self.text(|at, buffer, told| {
+            // SAFETY: as said above.
+            unsafe { ent_c_answers(at, number, buffer.as_mut_ptr(), buffer.len(), told) }
+        })
+    }
+
+    pub(crate) fn table(&mut self, name: &[u8]) -> Result<String, Refusal> {
+        self.text(|at, buffer, told| {
+            // SAFETY: as said above.
+            unsafe { ent_c_table(at, name.as_ptr(), name.len(), buffer.as_mut_ptr(), buffer.len(), told) }
+        })
+    }
+
+    pub(crate) fn report(&mut self, version: u32) -> Result<String, Refusal> {
+        self.text(|at, buffer, told| {
+            // SAFETY: as said above.
+            unsafe { ent_c_closed_report(at, version, buffer.as_mut_ptr(), buffer.len(), told) }
+        })
+    }
+
+    /// The text that a call hands out, which is made again where the first buffer was too short.
+    fn text(&mut self, call: impl Fn(&mut *mut Opaque, &mut [u8], &mut Told) -> i32) -> Result<String, Refusal> {
+        let mut text = vec![0; FIRST_CAPACITY];
+        loop {
+            let mut told = Told::default();
+            let status = call(&mut self.at, &mut text, &mut told);
+            if told.needed > text.len() {
+                text = vec![0; told.needed];
+                continue;
+            }
+            status_said(status, told)?;
+            text.truncate(told.needed);
+            return Ok(String::from_utf8(text).expect("each text of the archive is UTF-8"));
+        }
+    }
+}
+
+impl Drop for Handle {
+    fn drop(&mut self) {
+        // SAFETY: as said above; a handle is dropped once, and the call leaves its pointer null.
+        unsafe { ent_c_free(&mut self.at) }
     }
 }

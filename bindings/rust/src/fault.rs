@@ -19,7 +19,7 @@ pub struct Fault {
 /// What kind of fault it is.
 #[derive(Clone, Copy, Debug, PartialEq, Eq, Hash)]
 pub enum FaultKind {
-    /// The input is refused, or a report is too long to be checked.
+    /// The input, a script or a call is refused, or a report is too long to be checked.
     Refused,
     /// Memory ran out; nothing is lost, and the call can be made again.
     OutOfMemory,

@@ -2,7 +2,7 @@
 //!
 //! The work is done by a core that is proved; this crate links its static library and calls it safely. An input's
 //! scripts are run on the thread that calls, and each call stands alone, so that calls may be made from any number of
-//! threads.
+//! threads. A [`Manager`] keeps its tables between calls, and takes scripts one by one.
 //!
 //! ```
 //! use entangle::{Version, report};
@@ -31,12 +31,16 @@
 //! # Ok::<(), entangle::Fault>(())
 //! ```
 
+mod answer;
 mod call;
 mod fault;
+mod manager;
 
+pub use answer::{Answer, Fact, Value};
 pub use fault::{Fault, FaultKind, Place};
+pub use manager::{Error, Failure, Fate, Manager, Shared, Standing, Tx};
 
-use call::{Answer, Call};
+use call::{Call, Outcome};
 
 /// Which text a report has.
 #[derive(Clone, Copy, Debug, Default, PartialEq, Eq, Hash)]
@@ -123,8 +127,8 @@ pub fn report(input: &str, version: Version) -> Result<String, Fault> {
 /// The first fault of the input; or that memory ran out.
 pub fn report_of_bytes(input: &[u8], version: Version) -> Result<String, Fault> {
     match Call::Report(version.number()).answer(input) {
-        Answer::Done(text) => Ok(text),
-        Answer::Refused(_, fault) | Answer::OutOfMemory(fault) => Err(fault),
+        Outcome::Done(text) => Ok(text),
+        Outcome::Refused(_, fault) | Outcome::OutOfMemory(fault) => Err(fault),
     }
 }
 
@@ -145,9 +149,9 @@ pub fn explain(input: &str) -> Result<Option<String>, Fault> {
 /// Memory ran out.
 pub fn explain_bytes(input: &[u8]) -> Result<Option<String>, Fault> {
     match Call::Explain.answer(input) {
-        Answer::Done(_) => Ok(None),
-        Answer::Refused(text, _) => Ok(Some(text)),
-        Answer::OutOfMemory(fault) => Err(fault),
+        Outcome::Done(_) => Ok(None),
+        Outcome::Refused(text, _) => Ok(Some(text)),
+        Outcome::OutOfMemory(fault) => Err(fault),
     }
 }
 
@@ -176,10 +180,10 @@ pub fn check(report: &str) -> Result<Verdict, Fault> {
 /// The report is too long (E603); or memory ran out.
 pub fn check_bytes(report: &[u8]) -> Result<Verdict, Fault> {
     match Call::Check.answer(report) {
-        Answer::Done(_) => Ok(Verdict::Yes),
-        Answer::Refused(_, fault) if fault.code != 0 => Err(fault),
-        Answer::Refused(text, _) => Ok(verdict_in(&text).expect("a verdict is `no`, a line and a rule")),
-        Answer::OutOfMemory(fault) => Err(fault),
+        Outcome::Done(_) => Ok(Verdict::Yes),
+        Outcome::Refused(_, fault) if fault.code != 0 => Err(fault),
+        Outcome::Refused(text, _) => Ok(verdict_in(&text).expect("a verdict is `no`, a line and a rule")),
+        Outcome::OutOfMemory(fault) => Err(fault),
     }
 }
 

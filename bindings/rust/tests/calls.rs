@@ -1,7 +1,8 @@
 //! What the calls promise beside the rows: places, long reports, and many threads.
 
-use entangle::{FaultKind, Place, Version, check, explain, report, report_of_bytes};
-use std::error::Error;
+use entangle::{Error, Failure, Fate, FaultKind, Manager, Place, Shared, Standing, Value, Version};
+use entangle::{check, explain, report, report_of_bytes};
+use std::error::Error as StandardError;
 use std::thread;
 
 #[test]
@@ -9,7 +10,7 @@ fn a_fault_has_its_place() {
     let fault = report("CREATE TABLE T (a INT);\nINSERT INTO T VALUES ('東', b);", Version::One).unwrap_err();
     assert_eq!((fault.code, fault.kind), (201, FaultKind::Refused));
     assert_eq!(fault.place, Some(Place { offset: 53, line: 2, column: 28 }));
-    let error: Box<dyn Error + Send + Sync> = Box::new(fault);
+    let error: Box<dyn StandardError + Send + Sync> = Box::new(fault);
     assert_eq!(error.to_string(), "E201 at 53");
 }
 
@@ -56,4 +57,79 @@ fn calls_may_be_made_from_many_threads() {
         }
     });
     assert!(check(&alone).is_ok());
+}
+
+const TABLE: &str = "CREATE TABLE T (a INT);";
+
+/// The number of the fault of an error.
+fn code_of(error: Error) -> u16 {
+    match error {
+        Error::Fault(fault) => fault.code,
+        Error::State => 0,
+    }
+}
+
+#[test]
+fn a_script_ends_as_it_says() {
+    let mut manager = Manager::open(TABLE).expect("the table is right");
+    let mut ended = |script: &str| {
+        let tx = manager.submit(script).expect("the script is right");
+        manager.run().expect("memory is there");
+        manager.standing(tx).expect("it was submitted").fate()
+    };
+    let rolled_back = ended("BEGIN TRANSACTION; INSERT INTO T VALUES (1); ROLLBACK;");
+    assert_eq!(rolled_back, Some(Fate::RolledBack { runs: 1 }));
+    let failed = ended("BEGIN TRANSACTION; SET @d = 9223372036854775807 + 1; COMMIT;");
+    assert_eq!(failed, Some(Fate::Failed { failure: Failure::Overflow, runs: 1 }));
+    let committed = ended("BEGIN TRANSACTION; INSERT INTO T VALUES (2); COMMIT;");
+    assert_eq!(committed, Some(Fate::Committed { number: 1, runs: 1 }));
+    assert_eq!(manager.table("T"), Ok(vec![vec![Value::Int(2)]]));
+    assert_eq!(manager.answer_lines(3).as_deref(), Ok("1 count 1\n"));
+    assert_eq!(manager.answers(2), Ok(Vec::new()));
+}
+
+#[test]
+fn a_refused_call_changes_nothing() {
+    let mut manager = Manager::open(TABLE).expect("the table is right");
+    let error = manager.submit("BEGIN TRANSACTION;\n INSERT INTO U VALUES (1); COMMIT;").unwrap_err();
+    let Error::Fault(fault) = error else { panic!("{error}") };
+    assert_eq!((fault.code, fault.place), (301, Some(Place { offset: 32, line: 2, column: 14 })));
+    assert_eq!(manager.standing(1).map_err(code_of), Err(401));
+    assert_eq!(manager.table("U").map_err(code_of), Err(401));
+    assert_eq!(manager.report(Version::One), Err(Error::State));
+    assert_eq!(manager.submit("BEGIN TRANSACTION; COMMIT;"), Ok(1));
+    assert_eq!(manager.close().map_err(code_of), Err(405));
+    assert_eq!(manager.standing(1), Ok(Standing::Waiting { runs: 0 }));
+    manager.run().expect("memory is there");
+    manager.close().expect("all have their fates");
+    assert_eq!(manager.run(), Err(Error::State));
+    assert!(manager.report(Version::Two).is_ok_and(|told| check(&told).is_ok()));
+}
+
+#[test]
+fn a_manager_moves_between_threads() {
+    let shared = Shared::new(Manager::open(TABLE).expect("the table is right"));
+    thread::scope(|scope| {
+        for number in 0..16 {
+            let shared = &shared;
+            scope.spawn(move || {
+                let script = format!("BEGIN TRANSACTION; INSERT INTO T VALUES ({number}); COMMIT;");
+                shared.lock().submit(&script).expect("the script is right");
+                shared.lock().run().expect("memory is there");
+            });
+        }
+    });
+    let mut manager = shared.into_inner();
+    thread::spawn(move || assert_eq!(manager.table("T").map(|rows| rows.len()), Ok(16))).join().expect("it is right");
+}
+
+#[test]
+fn a_thousand_managers_come_and_go() {
+    for number in 0..1000 {
+        let mut manager = Manager::open(TABLE).expect("the table is right");
+        manager.submit("BEGIN TRANSACTION; INSERT INTO T VALUES (1); COMMIT;").expect("the script is right");
+        if number % 2 == 0 {
+            manager.run().expect("memory is there");
+        }
+    }
 }

@@ -1,6 +1,6 @@
 //! The worked rows of the program, byte for byte: those whose command line is a run without threads, or a check.
 
-use entangle::{Verdict, Version, check_bytes, explain_bytes, report_of_bytes};
+use entangle::{Error, Fault, Manager, Verdict, Version, check_bytes, explain_bytes, report_of_bytes};
 use std::fs;
 use std::path::PathBuf;
 
@@ -30,9 +30,21 @@ fn rows() -> Vec<Row> {
     index.lines().skip(1).map(row).collect()
 }
 
+/// The report of a manager that is opened over an input and run until it can be closed.
+fn driven(input: &[u8], version: Version) -> Result<String, Error> {
+    let mut manager = Manager::open_bytes(input)?;
+    while let Err(error) = manager.close() {
+        assert!(matches!(error, Error::Fault(Fault { code: 405, place: None, .. })), "{error}");
+        manager.run()?;
+    }
+    manager.report(version)
+}
+
 /// What a run of this version gives: its status, its report and the line on standard error.
 fn ran(row: &Row, version: Version) {
-    let (status, output, line) = match report_of_bytes(&row.input, version) {
+    let report = report_of_bytes(&row.input, version);
+    assert_eq!(driven(&row.input, version), report.clone().map_err(Error::Fault), "{}", row.name);
+    let (status, output, line) = match report {
         Ok(report) => ("0", report, String::new()),
         Err(fault) => ("1", String::new(), fault.to_string()),
     };

@@ -13,8 +13,10 @@ use Rattle.ent_engine.specs.declared.fault.RunFault.{RunFault}
 use Rattle.ent_engine.specs.declared.fault.RunFault.TheVariants.{Check, Memory}
 use Rattle.ent_engine.specs.declared.options.ReportVersion.{ReportVersion}
 use Rattle.ent_engine.specs.declared.options.ReportVersion.TheVariants.{One}
+use Rattle.ent_driver.specs.Fault.{status as refusal_status}
+use Rattle.ent_driver.specs.declared.fault.DriverFault.{DriverFault}
 use Rattle.ent_c.specs.Text.{laid_over, IsReport, IsSaidOf, verdict_status}
-use Rattle.ent_c.specs.Told.{told_of_text, TellsFault}
+use Rattle.ent_c.specs.Told.{told_of_text, TellsFault, TellsRefusal}
 use Rattle.ent_c.specs.declared.told.Told.{Told}
 
 -- the buffer is as it was, no fault is told, and the status is 2
@@ -29,6 +31,11 @@ HandsOut text old new told = (new ≡ laid_over old text) × (told ≡ told_of_t
 abbrev pub Refuses : RunFault → List ℕ → List ℕ → List ℕ → Told → ℤ → Type 0
 Refuses fault bytes old new told status =
     (status ≡ pos (fault_status fault)) × (new ≡ old) × TellsFault fault bytes 0 told
+
+-- the same of a call that a driver refuses
+abbrev pub Declines : DriverFault → List ℕ → List ℕ → List ℕ → Told → ℤ → Type 0
+Declines fault bytes old new told status =
+    (status ≡ pos (refusal_status fault)) × (new ≡ old) × TellsRefusal fault bytes told
 
 -- the report of an input is handed out, or the fault is told for which it is refused
 abbrev pub Reports : ReportVersion → List ℕ → List ℕ → List ℕ → Told → ℤ → Type 0

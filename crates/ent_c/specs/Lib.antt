@@ -2,3 +2,5 @@ pub mod Text
 pub mod Version
 pub mod Told
 pub mod Calls
+pub mod Position
+pub mod Managers

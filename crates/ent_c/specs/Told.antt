@@ -2,6 +2,8 @@
 use Rattle.std.specs.Prelude.{◌≡◌, ℕ, List, true, false, take, Option, Some, None}
 use Rattle.std.specs.Str.{IsCharBoundary}
 use Rattle.std.specs.Str.Lossy.{utf8_valid_len}
+use Rattle.ent_driver.specs.Fault.{code_of as refusal_code, place_of as refusal_place}
+use Rattle.ent_driver.specs.declared.fault.DriverFault.{DriverFault}
 use Rattle.ent_engine.specs.Fault.{code_of, place_of}
 use Rattle.ent_engine.specs.declared.fault.RunFault.{RunFault}
 use Rattle.ent_fault_text.specs.Place.{IsPlaceAt}
@@ -25,8 +27,16 @@ TellsPlace (Some offset) bytes told =
     × (IsCharBoundary (text_of bytes) offset
     → IsPlaceAt (text_of bytes) offset (record { line = told.line; column = told.column }))
 
--- a fault of these bytes is told, beside a text of so many
-pub record TellsFault (fault : RunFault) (bytes : List ℕ) (count : ℕ) (told : Told) : Type 0 where
+-- a fault of this number, that stands there in these bytes, is told beside a text of so many bytes
+pub record TellsCode (number : ℕ) (place : Option ℕ) (bytes : List ℕ) (count : ℕ) (told : Told) : Type 0 where
   pub counted : told.needed ≡ count
-  pub number : told.code ≡ code_of fault
-  pub place : TellsPlace (place_of fault) bytes told
+  pub numbered : told.code ≡ number
+  pub placed : TellsPlace place bytes told
+
+-- a fault of these bytes is told, beside a text of so many
+abbrev pub TellsFault : RunFault → List ℕ → ℕ → Told → Type 0
+TellsFault fault bytes count told = TellsCode (code_of fault) (place_of fault) bytes count told
+
+-- a call is told to be refused, for a fault of the bytes that were handed in or for another, beside no text
+abbrev pub TellsRefusal : DriverFault → List ℕ → Told → Type 0
+TellsRefusal fault bytes told = TellsCode (refusal_code fault) (refusal_place fault) bytes 0 told

@@ -1,8 +1,9 @@
-//! Entangle for C, as a static library: the report of an input, what is said of its fault, and the check of a report.
+//! Entangle for C, as a static library: the report of an input, what is said of its fault, the check of a report, and
+//! managers that a caller keeps and drives.
 //!
 //! `include/entangle.h` declares the calls, and says of each what it asks of its caller. A text goes into a buffer of
-//! the caller's, as far as that reaches; what is told beside it goes into a [`Told`]. No call keeps anything: what it
-//! allocates it frees.
+//! the caller's, as far as that reaches; what is told beside it goes into a [`Told`]. Only a manager keeps anything
+//! between calls, behind a [`Handle`]; all else that a call allocates it frees.
 #![tactic(auto)]
 
 ghost use Rattle.std.specs.Prelude.{MatchOption};
@@ -11,6 +12,9 @@ ghost use Rattle.ent_c.specs.Version.{version_numbered};
 
 mod buffer;
 mod explanation;
+mod handle;
+mod manager;
+mod position;
 mod report;
 mod told;
 mod verdict;
@@ -22,14 +26,20 @@ use crate::report::report_of;
 use crate::verdict::{Judged, judge, status_after};
 use crate::version::version_numbered;
 use ent_engine::{ReportVersion, RunFault, status_of};
+pub use handle::Handle;
+pub use manager::{
+    ent_c_answers, ent_c_close, ent_c_closed_report, ent_c_free, ent_c_open, ent_c_run,
+    ent_c_standing, ent_c_submit, ent_c_table,
+};
+pub use position::Position;
 use std::alloc::Global;
 pub use told::Told;
 
 /// The report was handed out, or the input has no fault to explain.
-const DONE: i32 = 0;
+pub(crate) const DONE: i32 = 0;
 
 /// An argument isn't in its range.
-const MISUSED: i32 = 2;
+pub(crate) const MISUSED: i32 = 2;
 
 /// Hands out the report of an input, or tells the fault for which there is none.
 #[unsafe(no_mangle)]

@@ -1,7 +1,8 @@
 //! What C is told beside a text.
 ghost use Rattle.std.specs.Prelude.{◌≡◌};
-ghost use Rattle.ent_c.specs.Told.{TellsFault, told_of_text};
+ghost use Rattle.ent_c.specs.Told.{TellsCode, TellsFault, TellsRefusal, told_of_text};
 
+use ent_driver::DriverFault;
 use ent_engine::RunFault;
 use ent_fault_text::{Place, valid_text};
 
@@ -42,14 +43,28 @@ impl Told {
     pub(crate) fn fault(input: &[u8], fault: RunFault, needed: usize) -> Self
         ensures { TellsFault fault input.now needed result }
     {
+        Told::coded(input, fault.code(), fault.place(), needed)
+    }
+
+    /// What is told of a call that a driver refuses, of bytes that were handed in.
+    pub(crate) fn refusal(given: &[u8], fault: DriverFault) -> Self
+        ensures { TellsRefusal fault given.now result }
+    {
+        Told::coded(given, fault.code(), fault.place(), 0)
+    }
+
+    /// What is told of a fault of this number that stands there, beside a text of so many bytes.
+    fn coded(given: &[u8], code: u16, place: Option<usize>, needed: usize) -> Self
+        ensures { TellsCode code place given.now needed result }
+    {
         let nowhere = Told {
-            code: fault.code(),
+            code,
             ..Told::text(needed)
         };
-        let Some(offset) = fault.place() else {
+        let Some(offset) = place else {
             return nowhere;
         };
-        let place = Place::of(valid_text(input), offset);
+        let place = Place::of(valid_text(given), offset);
         Told {
             offset,
             line: place.line,

@@ -1,0 +1,295 @@
+//! Managers: tables that stay, scripts that come one by one, and runs.
+
+use crate::answer::{Answer, Value, answers_in, table_in};
+use crate::call::{Handle, Position, Refusal};
+use crate::{Fault, Version};
+use std::error::Error as StandardError;
+use std::fmt;
+use std::sync::{Mutex, MutexGuard, PoisonError};
+
+/// Why a call of a manager does nothing.
+#[derive(Clone, Copy, Debug, PartialEq, Eq, Hash)]
+pub enum Error {
+    /// The text that was handed in is refused, it isn't there, or memory ran out.
+    Fault(Fault),
+    /// The manager is closed; or, where a report is asked for, it isn't.
+    State,
+}
+
+impl fmt::Display for Error {
+    fn fmt(&self, f: &mut fmt::Formatter<'_>) -> fmt::Result {
+        match self {
+            Error::Fault(fault) => fault.fmt(f),
+            Error::State => f.write_str("the manager is closed, or isn't where that is asked for"),
+        }
+    }
+}
+
+impl StandardError for Error {}
+
+impl From<Refusal> for Error {
+    fn from(refusal: Refusal) -> Self {
+        match refusal {
+            Refusal::Misused => Error::State,
+            Refusal::Fault(fault) => Error::Fault(fault),
+        }
+    }
+}
+
+/// The number of a transaction: its script's place in the order of submission, from 1.
+pub type Tx = u64;
+
+/// What became of a transaction.
+#[derive(Clone, Copy, Debug, PartialEq, Eq, Hash)]
+pub enum Fate {
+    /// It committed, as the one of this number.
+    Committed {
+        /// The number of the commit, from 1.
+        number: u64,
+        /// In how many runs it was.
+        runs: u64,
+    },
+    /// It was in as many runs as its script asks for.
+    GaveUp {
+        /// In how many runs it was.
+        runs: u64,
+    },
+    /// Its script ends with ROLLBACK.
+    RolledBack {
+        /// In how many runs it was.
+        runs: u64,
+    },
+    /// A statement failed.
+    Failed {
+        /// Why.
+        failure: Failure,
+        /// In how many runs it was.
+        runs: u64,
+    },
+}
+
+/// Why a statement failed.
+#[derive(Clone, Copy, Debug, PartialEq, Eq, Hash)]
+pub enum Failure {
+    /// F1: a sum or a difference went beyond 64 bits.
+    Overflow,
+    /// F2: more than 65,536 rows would have stood in a table.
+    TableFull,
+}
+
+/// Where a transaction stands.
+#[derive(Clone, Copy, Debug, PartialEq, Eq, Hash)]
+pub enum Standing {
+    /// It waits for a run, after so many.
+    Waiting {
+        /// In how many runs it was.
+        runs: u64,
+    },
+    /// It is a member of a run that memory stopped; the next run goes on with it.
+    Running,
+    /// What became of it.
+    Finished(Fate),
+}
+
+impl Standing {
+    fn of(position: Position) -> Self {
+        let Position { runs, number, kind, failure } = position;
+        let fate = match kind {
+            1 => return Standing::Waiting { runs },
+            2..=5 => return Standing::Running,
+            6 => Fate::Committed { number, runs },
+            7 => Fate::GaveUp { runs },
+            8 => Fate::RolledBack { runs },
+            _ => Fate::Failed { failure: if failure == 1 { Failure::Overflow } else { Failure::TableFull }, runs },
+        };
+        Standing::Finished(fate)
+    }
+
+    /// Its fate, if it has one.
+    pub fn fate(self) -> Option<Fate> {
+        match self {
+            Standing::Finished(fate) => Some(fate),
+            Standing::Waiting { .. } | Standing::Running => None,
+        }
+    }
+}
+
+/// Tables, and the scripts that were submitted over them. Each run lets those that wait take part, 64 at most.
+///
+/// ```
+/// use entangle::{Answer, Fate, Manager, Value, Version};
+///
+/// let mut manager = Manager::open("CREATE TABLE Flights (fno INT); INSERT INTO Flights VALUES (122);")?;
+/// let script = |who: &str, friend: &str| {
+///     format!(
+///         "BEGIN TRANSACTION WITHIN 100 RUNS;
+///          SELECT '{who}', fno INTO ANSWER Trip
+///            WHERE fno IN (SELECT fno FROM Flights) AND ('{friend}', fno) IN ANSWER Trip CHOOSE 1;
+///          COMMIT;"
+///     )
+/// };
+/// let mickey = manager.submit(&script("Mickey", "Minnie"))?;
+/// manager.run()?;
+/// assert_eq!(manager.standing(mickey)?.fate(), None);
+///
+/// let minnie = manager.submit(&script("Minnie", "Mickey"))?;
+/// manager.run()?;
+/// assert_eq!(manager.standing(minnie)?.fate(), Some(Fate::Committed { number: 2, runs: 1 }));
+/// let Answer::Entangled(facts) = &manager.answers(mickey)?[0] else { unreachable!() };
+/// assert_eq!(facts[0].values, [Value::Text("Mickey".into()), Value::Int(122)]);
+///
+/// manager.close()?;
+/// assert!(manager.report(Version::One)?.contains("joint 1 1.1 2.1\n"));
+/// # Ok::<(), entangle::Error>(())
+/// ```
+///
+/// It may move to another thread. Threads that use one manager share a [`Shared`].
+pub struct Manager {
+    handle: Handle,
+}
+
+impl fmt::Debug for Manager {
+    fn fmt(&self, f: &mut fmt::Formatter<'_>) -> fmt::Result {
+        f.debug_struct("Manager").finish_non_exhaustive()
+    }
+}
+
+impl Manager {
+    /// Opens a manager over an input: its tables with their rows. Scripts that it has wait for a run.
+    ///
+    /// # Errors
+    ///
+    /// The first fault of the input; or that memory ran out.
+    pub fn open(input: &str) -> Result<Self, Error> {
+        Manager::open_bytes(input.as_bytes())
+    }
+
+    /// As [`Manager::open`], for bytes that may not be UTF-8.
+    ///
+    /// # Errors
+    ///
+    /// The first fault of the input; or that memory ran out.
+    pub fn open_bytes(input: &[u8]) -> Result<Self, Error> {
+        Ok(Manager { handle: Handle::open(input)? })
+    }
+
+    /// Submits the script of a text that has this script alone, which waits for the next run then.
+    ///
+    /// # Errors
+    ///
+    /// The script's first fault, with its place in this text; that 10,000 scripts were submitted (E406); or that memory
+    /// ran out.
+    pub fn submit(&mut self, script: &str) -> Result<Tx, Error> {
+        Ok(self.handle.submit(script.as_bytes())?)
+    }
+
+    /// Makes one run, where anything waits for one.
+    ///
+    /// # Errors
+    ///
+    /// Memory ran out; what was done stands, and the next call goes on.
+    pub fn run(&mut self) -> Result<(), Error> {
+        Ok(self.handle.run()?)
+    }
+
+    /// Where a transaction stands.
+    ///
+    /// # Errors
+    ///
+    /// No script has this number (E401).
+    pub fn standing(&mut self, tx: Tx) -> Result<Standing, Error> {
+        Ok(Standing::of(self.handle.standing(tx)?))
+    }
+
+    /// What the statements of a transaction were answered; nothing as long as it waits, and where it didn't commit.
+    ///
+    /// # Errors
+    ///
+    /// No script has this number (E401); or memory ran out.
+    pub fn answers(&mut self, tx: Tx) -> Result<Vec<Answer>, Error> {
+        let lines = self.handle.answers(tx)?;
+        Ok(answers_in(&lines).expect("the lines of a report are answers"))
+    }
+
+    /// The lines in which a report has these answers.
+    ///
+    /// # Errors
+    ///
+    /// As [`Manager::answers`].
+    pub fn answer_lines(&mut self, tx: Tx) -> Result<String, Error> {
+        Ok(self.handle.answers(tx)?)
+    }
+
+    /// The rows of a table, ascending.
+    ///
+    /// # Errors
+    ///
+    /// No table has this name (E401); or memory ran out.
+    pub fn table(&mut self, name: &str) -> Result<Vec<Vec<Value>>, Error> {
+        let lines = self.handle.table(name.as_bytes())?;
+        Ok(table_in(&lines).expect("the lines of a report are a table"))
+    }
+
+    /// Closes the manager, where every transaction has its fate. Then [`Manager::report`] is all that it is there for.
+    ///
+    /// # Errors
+    ///
+    /// A transaction waits for a run (E405), or memory ran out; the manager stays open.
+    pub fn close(&mut self) -> Result<(), Error> {
+        Ok(self.handle.close()?)
+    }
+
+    /// The report of a manager that is closed.
+    ///
+    /// # Errors
+    ///
+    /// The manager isn't closed; or memory ran out.
+    pub fn report(&mut self, version: Version) -> Result<String, Error> {
+        Ok(self.handle.report(version.number())?)
+    }
+}
+
+/// A manager that threads share: one call at a time has it.
+///
+/// ```
+/// use entangle::{Manager, Shared};
+/// use std::thread;
+///
+/// let shared = Shared::new(Manager::open("CREATE TABLE T (a INT);")?);
+/// thread::scope(|scope| {
+///     for number in 0..4 {
+///         let shared = &shared;
+///         scope.spawn(move || {
+///             let script = format!("BEGIN TRANSACTION; INSERT INTO T VALUES ({number}); COMMIT;");
+///             let mut manager = shared.lock();
+///             let tx = manager.submit(&script).expect("the script is right");
+///             manager.run().expect("memory is there");
+///             assert!(manager.standing(tx).expect("it was submitted").fate().is_some());
+///         });
+///     }
+/// });
+/// assert_eq!(shared.lock().table("T")?.len(), 4);
+/// # Ok::<(), entangle::Error>(())
+/// ```
+#[derive(Debug)]
+pub struct Shared {
+    manager: Mutex<Manager>,
+}
+
+impl Shared {
+    /// A manager to be shared.
+    pub fn new(manager: Manager) -> Self {
+        Shared { manager: Mutex::new(manager) }
+    }
+
+    /// The manager, as long as what is returned lives. A thread that panicked over it has left it whole: each call
+    /// leaves it so.
+    pub fn lock(&self) -> MutexGuard<'_, Manager> {
+        self.manager.lock().unwrap_or_else(PoisonError::into_inner)
+    }
+
+    /// The manager, once nobody shares it any more.
+    pub fn into_inner(self) -> Manager {
+        self.manager.into_inner().unwrap_or_else(PoisonError::into_inner)
+    }
+}
