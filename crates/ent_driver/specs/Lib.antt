@@ -3,3 +3,4 @@ pub mod Scripts
 pub mod OneRun
 pub mod Told
 pub mod Drives
+pub mod Renewal

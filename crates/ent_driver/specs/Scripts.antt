@@ -1,5 +1,5 @@
 -- Scripts that come in alone, and why they aren't taken.
-use Rattle.std.specs.Prelude.{◌≡◌, ◌<◌, ℕ, List, length, Ok, Err}
+use Rattle.std.specs.Prelude.{◌≡◌, ℕ, List, Ok, Err}
 use Rattle.ent_tree.specs.declared.script.Script.{Script}
 use Rattle.ent_sql.specs.Reading.{script_reading}
 use Rattle.ent_protocol.specs.Event.{Submit, Submitted, Full as IsFull, Faulty}
@@ -11,7 +11,7 @@ use Rattle.ent_engine.specs.declared.fault.RunFault.{RunFault}
 use Rattle.ent_engine.specs.declared.fault.RunFault.TheVariants.{NotUtf8, TooLong, Sql, Form, Check, Differs}
 use Rattle.ent_engine.specs.declared.fault.RunFault.TheVariants.{ReadFault, WriteFault, Memory}
 use Rattle.ent_driver.specs.declared.fault.DriverFault.{DriverFault}
-use Rattle.ent_driver.specs.declared.fault.DriverFault.TheVariants.{Text, Vacant, Absent, NotDone, Full}
+use Rattle.ent_driver.specs.declared.fault.DriverFault.TheVariants.{Text, Vacant, Absent, NotDone, Full, TooManyRows}
 
 -- bytes that read as this script, alone, whatever its form
 abbrev pub IsScript : List ℕ → Script → Type 0
@@ -51,3 +51,4 @@ IsNotTaken bytes s Full =
 IsNotTaken bytes s Vacant = ⊥
 IsNotTaken bytes s Absent = ⊥
 IsNotTaken bytes s NotDone = ⊥
+IsNotTaken bytes s TooManyRows = ⊥

@@ -3,18 +3,20 @@ ghost use Rattle.std.specs.Prelude.{◌≡◌, IfErr, IfOk, OnErr, OnOk};
 ghost use Rattle.ent_driver.specs.Drives.{Answers, Closes, IsNotClosed, IsUnanswered, Opens, Reports, Runs, StopsRun};
 ghost use Rattle.ent_driver.specs.Drives.{Shows, IsUnshown, Stands, StandsNowhere, Submits, IsNotSubmitted};
 ghost use Rattle.ent_driver.specs.Drives.{IsUnreported};
+ghost use Rattle.ent_driver.specs.Renewal.{IsNotRenewed, Renews};
 ghost use Rattle.ent_engine.specs.Reading.{IsRefused};
 
+use crate::closing::close;
 use crate::fault::DriverFault;
 use crate::one_run::run_once;
+use crate::renewal::renewed_core;
 use crate::script::submit;
 use crate::text::{answers_text, report_text, table_text};
-use ent_book::NamedTable;
 use ent_core::{Core, NotClosed, NotDone, Standing};
 use ent_engine::{MOST_BYTES, ReportVersion, RunFault, parse_bytes, submit_all};
 use ent_group::Tx;
-use ent_semantics::Book;
-use ent_value::{Refusal, Sequence};
+use ent_renewal::FinishedBook;
+use ent_value::Refusal;
 use std::alloc::Global;
 use std::mem::replace;
 
@@ -23,7 +25,7 @@ use std::mem::replace;
 pub enum Driver {
     Vacant,
     Open(Core),
-    Closed(Book<Sequence<NamedTable>>),
+    Closed(FinishedBook),
 }
 
 impl Driver {
@@ -123,7 +125,7 @@ impl Driver {
         ensures refused { IfErr result (λ fault. IsNotClosed self.old fault) }
     {
         match replace(self, Driver::Vacant) {
-            Driver::Open(core) => match core.close() {
+            Driver::Open(core) => match close(core) {
                 Ok(book) => {
                     *self = Driver::Closed(book);
                     Ok(())
@@ -149,7 +151,24 @@ impl Driver {
         ensures refused { IfErr result (λ fault. IsUnreported self.now fault) }
     {
         match self {
-            Driver::Closed(book) => Ok(report_text(alloc, book, version)?),
+            Driver::Closed(book) => Ok(report_text(alloc, book.book(), version)?),
+            _ => Err(DriverFault::Vacant),
+        }
+    }
+
+    /// Opens a core that goes on where the book ends: over its declarations, with the tables that it ends with. Nothing
+    /// is submitted to it yet, so that numbers begin at 1 again, and the book is let go. Else nothing changes.
+    pub fn renew(&mut self, alloc: Global) -> Result<(), DriverFault>
+        ensures ok { OnOk result (Renews self.old self.new) }
+        ensures err { OnErr result (self.new ≡ self.old) }
+        ensures refused { IfErr result (λ fault. IsNotRenewed self.old fault) }
+    {
+        match self {
+            Driver::Closed(book) => {
+                let renewed = renewed_core(alloc, book)?;
+                *self = Driver::Open(renewed);
+                Ok(())
+            }
             _ => Err(DriverFault::Vacant),
         }
     }

@@ -26,6 +26,9 @@ pub enum DriverFault {
     /// As many scripts as there may be were submitted before.
     #[error("E406: 10,000 scripts were submitted")]
     Full,
+    /// More rows stand in the tables together than an opening has.
+    #[error("E407: more than 65,536 rows stand in the tables together")]
+    TooManyRows,
 }
 
 impl From<AllocError> for DriverFault {
@@ -63,6 +66,7 @@ impl DriverFault {
             DriverFault::Absent => 401,
             DriverFault::NotDone => 405,
             DriverFault::Full => 406,
+            DriverFault::TooManyRows => 407,
         }
     }
 
@@ -72,8 +76,11 @@ impl DriverFault {
     {
         match self {
             DriverFault::Text(fault) => fault.place(),
-            DriverFault::Vacant | DriverFault::Absent | DriverFault::NotDone | DriverFault::Full =>
-                None,
+            DriverFault::Vacant
+            | DriverFault::Absent
+            | DriverFault::NotDone
+            | DriverFault::Full
+            | DriverFault::TooManyRows => None,
         }
     }
 
@@ -85,7 +92,10 @@ impl DriverFault {
         match self {
             DriverFault::Text(fault) => status_of(&fault),
             DriverFault::Vacant => 2,
-            DriverFault::Absent | DriverFault::NotDone | DriverFault::Full => 1,
+            DriverFault::Absent
+            | DriverFault::NotDone
+            | DriverFault::Full
+            | DriverFault::TooManyRows => 1,
         }
     }
 }

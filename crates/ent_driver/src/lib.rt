@@ -3,17 +3,22 @@
 //!
 //! A [`Driver`] is vacant, open over a core, or closed with that core's book. A caller may rely on it that each call
 //! makes of the core what its contract says, and that one which is refused leaves all as it was. Bytes come in as texts
-//! do, and texts go out as the report has them.
+//! do, and texts go out as the report has them. A driver that is closed may be renewed: then a core is open that goes on
+//! with the tables.
 #![tactic(auto)]
 
+mod closing;
 mod driver;
 mod fault;
 mod one_run;
+mod renewal;
 mod script;
 mod text;
 
 pub use driver::Driver;
+pub use ent_renewal::FinishedBook;
 pub use fault::DriverFault;
 pub use one_run::run_once;
+pub use renewal::renewed_core;
 pub use script::{read_script, submit};
 pub use text::{answers_text, report_text, table_text};

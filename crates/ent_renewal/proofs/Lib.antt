@@ -1,0 +1,6 @@
+pub mod Names
+pub mod Counted
+pub mod Again
+pub mod Formed
+pub mod Finished
+pub mod Onward
