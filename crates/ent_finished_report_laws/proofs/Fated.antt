@@ -30,6 +30,7 @@ use Rattle.ent_protocol.specs.Step.{Step}
 use Rattle.ent_protocol.specs.Uses.{blocker, entangled_uses, statement_uses}
 use Rattle.ent_protocol_laws.specs.Numbered.{from_by_number}
 use Rattle.ent_protocol_laws.proofs.Leaves.{found}
+use Rattle.ent_protocol_laws.proofs.Members.{tx_of}
 use Rattle.ent_lists.specs.Elements.{In, in_either, in_first, in_second, of_filter}
 use Rattle.ent_right_report_laws.specs.Reportable.{runs_of}
 
@@ -88,9 +89,6 @@ given_by {X} {Y} f (x ∷ xs) y at = by (f x) refl at (given_by f xs y)
     by (Some z) is (inl same) rest = (x, inl refl, is ∙ ap (λ w. Some w) (sym same))
     by (Some z) is (inr at) rest = let r = rest at in (r.0, inr r.1, r.2)
     by None is at rest = let r = rest at in (r.0, inr r.1, r.2)
-
-abbrev tx_of : Member → ℕ
-tx_of member = member.tx
 
 left_out : (s : State) (gone : List Member) (cause : Cause) → ((m : Member) → In m gone → In m (members s))
     → FatesFrom s (taken_out gone cause s)
