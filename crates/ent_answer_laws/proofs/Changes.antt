@@ -13,6 +13,7 @@ use Rattle.ent_semantics.specs.Database.{Rows, same_name}
 use Rattle.ent_semantics.specs.Term.{SourceColumn, Worth, expression_value}
 use Rattle.ent_history_form.specs.Parts.{IsRow, IsValue}
 use Rattle.ent_form_laws.proofs.KindedRows.{each_ascending}
+use Rattle.ent_form_laws.proofs.Known.{one_value}
 use Rattle.ent_answer_laws.proofs.Read.{AreRead}
 use Rattle.ent_answer_laws.proofs.Rows.{EachRow, all_inserted_rows, retained_rows}
 use Rattle.ent_answer_laws.proofs.Values.{AreValues, all_there_are, expression_is_value}
@@ -21,9 +22,6 @@ use Rattle.ent_answer_laws.proofs.Values.{AreValues, all_there_are, expression_i
 
 abbrev IsValueWhereThere : Option Value → Type 0
 IsValueWhereThere there = (value : Value) → there ≡ Some value → IsValue value
-
-one_value : (x y : Value) → Some x ≡ Some y → x ≡ y
-one_value x y e = cc
 
 module _ (worth : Operand → Value) (each : (operand : Operand) → AreRead (operand_spelling operand)
     → IsValue (worth operand)) where

@@ -210,8 +210,8 @@ module _ (laws : Laws) (declared : List Create) (script : Script) (plain : Plain
 
   grounds_form : is_form_grounding worth stored.tables form valuation ≡ true
   grounds_form =
-      sym (laws.grounds declared stored.tables environment bound after entangled form valuation
-      (laws.wide declared stored.tables stored.kinded) resolved)
+      sym (laws.forms.grounds declared stored.tables environment bound after entangled form valuation
+      (laws.forms.wide declared stored.tables stored.kinded) resolved)
       ∙ ap (λ (d : Database). is_grounding declared d environment entangled valuation) (sym stored.is) ∙ grounds
 
   form_many : length valuation ≡ length form.variables
@@ -231,7 +231,7 @@ module _ (laws : Laws) (declared : List Create) (script : Script) (plain : Plain
       let told = select_is_told declared (database_of declared stored.tables) environment rows held.values of.0 of.2.0
       of.2.1 in
       let same = laws.selects declared stored.tables environment bound of.0 atom.select of.1
-      (laws.wide declared stored.tables stored.kinded) of.3 in
+      (laws.forms.wide declared stored.tables stored.kinded) of.3 in
       let row = map (term_worth worth valuation) atom.terms in
       (subst (λ (rows : Rows). EachRow IsRow rows) same told row holds).1
 
@@ -250,10 +250,10 @@ module _ (laws : Laws) (declared : List Create) (script : Script) (plain : Plain
       atoms_hold in
       let ranged = laws.ranged (schemas_of declared) script plain form made there environment in
       record {
-        many = form_many ∙ laws.variables (schemas_of declared) bound after entangled form resolved;
+        many = form_many ∙ laws.forms.variables (schemas_of declared) bound after entangled form resolved;
         values = values_each valuation (λ number low.
             among_atoms worth valuation number form.atoms atoms (ranged number (omega (arith, low, form_many))));
-        kinds = laws.grounded (schemas_of declared) bound after entangled form environment stored.tables valuation
+        kinds = laws.forms.grounded (schemas_of declared) bound after entangled form environment stored.tables valuation
             resolved stored.kinded held.kinds
-            (laws.closes_grounds environment stored.tables form valuation ∙ grounds_form);
+            (laws.forms.closes_grounds environment stored.tables form valuation ∙ grounds_form);
       }

@@ -21,7 +21,7 @@ use Rattle.ent_semantics.specs.declared.answer.Failure.TheVariants.{TableFull}
 use Rattle.ent_semantics.specs.Change.{image, matched, unmatched, updated}
 use Rattle.ent_semantics.specs.Database.{Database, Environment, Name, Rows, columns_of, same_name, table_named}
 use Rattle.ent_semantics.specs.Database.{with_rows, with_value}
-use Rattle.ent_semantics.specs.Effect.{Effect, Meaning, changed, or_overflow}
+use Rattle.ent_semantics.specs.Effect.{Effect, Meaning, changed, or_overflow, setting}
 use Rattle.ent_semantics.specs.Entangled.{Valuation, bound_values}
 use Rattle.ent_semantics.specs.Selection.{meets, select_rows}
 use Rattle.ent_semantics.specs.Statement.{statement_meaning, table_worth}
@@ -54,11 +54,12 @@ pub record LeavesTold (statement : Statement) (effect : Effect Database) : Type 
 
 -- ---- other rows in one table
 
-rows_put : (database : Database) (table : Name) (rows : Rows) → HoldsRows database → EachRow IsRow rows
-    → HoldsRows (with_rows database table rows)
-rows_put database table rows held each name = by (same_name name table)
+pub rows_put : (P : List Value → Type 0) (database : Database) (table : Name) (rows : Rows)
+    → ((name : Name) → EachRow P (database name)) → EachRow P rows
+    → (name : Name) → EachRow P (with_rows database table rows name)
+rows_put P database table rows held each name = by (same_name name table)
   where
-    by : (b : Bool) → EachRow IsRow (if b then rows else database name)
+    by : (b : Bool) → EachRow P (if b then rows else database name)
     by true = each
     by false = held name
 
@@ -77,26 +78,62 @@ new_or_not : (there : Bool) → (if there then 0 else 1) ≤ 65536
 new_or_not true = omega arith
 new_or_not false = omega arith
 
--- a statement that answers how many rows it concerned
-abbrev IsCounting : Statement → Type 0
-IsCounting statement = (count : ℕ) → IsOfSort statement (answers.Count count)
-
 abbrev of_effect : (Effect Database) → Result (Effect Database) Failure
 of_effect effect = Ok effect
 
-module _ (declared : List Create) (database : Database) (environment : Environment) (rows : HoldsRows database)
-    (few : HoldsFew database) (held : HoldsValues environment) where
-  abbrev changed_to : Name → ℕ → Rows → Effect Database
+module _ (database : Database) (environment : Environment) where
+  abbrev pub changed_to : Name → ℕ → Rows → Effect Database
   changed_to table count new = record {
     database = with_rows database table new;
     environment = environment;
     answer = answers.Count count;
   }
 
+  -- a table that isn't too full gets its rows
+  pub changed_is : (table : Name) (count : ℕ) (new : Rows) (effect : Effect Database)
+      → changed (table_named table) count new database environment ≡ Ok effect
+      → (nat_le (set.len new) MOST_ROWS ≡ true) × (changed_to table count new ≡ effect)
+  changed_is table count new effect e = by (nat_le (set.len new) MOST_ROWS) refl e
+    where
+      by : (b : Bool) → nat_le (set.len new) MOST_ROWS ≡ b
+          → (if b then of_effect (changed_to table count new) else Err TableFull) ≡ Ok effect
+          → (nat_le (set.len new) MOST_ROWS ≡ true) × (changed_to table count new ≡ effect)
+      by true small is = (small, one_answer {E = Failure} (changed_to table count new) effect is)
+      by false full is = cc (is)
+
+  -- goes on with what is there
+  pub over_there : {A : Type 0} (there : Option A) (more : A → Meaning Database) (effect : Effect Database)
+      → or_overflow there more database environment ≡ Ok effect
+      → (x : A) × (there ≡ Some x) × (more x database environment ≡ Ok effect)
+  over_there (Some x) more effect e = (x, refl, e)
+  over_there None more effect e = cc (e)
+
+  abbrev pub set_to : Name → Value → Effect Database
+  set_to variable value = record {
+    database = database;
+    environment = with_value environment variable value;
+    answer = answers.Value value;
+  }
+
+  -- a host variable is bound to what is there
+  pub setting_is : (variable : Name) (there : Option Value) (effect : Effect Database)
+      → setting variable there database environment ≡ Ok effect
+      → (value : Value) × (there ≡ Some value) × (set_to variable value ≡ effect)
+  setting_is variable (Some value) effect e =
+      (value, refl, one_answer {E = Failure} (set_to variable value) effect e)
+  setting_is variable None effect e = cc (e)
+
+-- a statement that answers how many rows it concerned
+abbrev IsCounting : Statement → Type 0
+IsCounting statement = (count : ℕ) → IsOfSort statement (answers.Count count)
+
+module _ (declared : List Create) (database : Database) (environment : Environment) (rows : HoldsRows database)
+    (few : HoldsFew database) (held : HoldsValues environment) where
   counted_told : (statement : Statement) → IsCounting statement → (table : Name) (count : ℕ) (new : Rows)
-      → count ≤ 65536 → EachRow IsRow new → set.len new ≤ 65536 → LeavesTold statement (changed_to table count new)
+      → count ≤ 65536 → EachRow IsRow new → set.len new ≤ 65536
+      → LeavesTold statement (changed_to database environment table count new)
   counted_told statement counting table count new low each small = record {
-    rows = rows_put database table new rows each;
+    rows = rows_put IsRow database table new rows each;
     few = few_put database table new few small;
     values = held;
     sort = counting count;
@@ -106,22 +143,10 @@ module _ (declared : List Create) (database : Database) (environment : Environme
   changed_told : (statement : Statement) → IsCounting statement → (table : Name) (count : ℕ) (new : Rows)
       → count ≤ 65536 → EachRow IsRow new → (effect : Effect Database)
       → changed (table_named table) count new database environment ≡ Ok effect → LeavesTold statement effect
-  changed_told statement counting table count new low each effect e = by (nat_le (set.len new) MOST_ROWS) refl e
-    where
-      by : (b : Bool) → nat_le (set.len new) MOST_ROWS ≡ b
-          → (if b then of_effect (changed_to table count new) else Err TableFull) ≡ Ok effect
-          → LeavesTold statement effect
-      by true small is =
-          subst (LeavesTold statement) (one_answer {E = Failure} (changed_to table count new) effect is)
-          (counted_told statement counting table count new low each (few_enough (set.len new) small))
-      by false full is = cc (is)
-
-  -- goes on with what is there
-  over_there : {A : Type 0} (there : Option A) (more : A → Meaning Database) (effect : Effect Database)
-      → or_overflow there more database environment ≡ Ok effect
-      → (x : A) × (there ≡ Some x) × (more x database environment ≡ Ok effect)
-  over_there (Some x) more effect e = (x, refl, e)
-  over_there None more effect e = cc (e)
+  changed_told statement counting table count new low each effect e =
+      let is = changed_is database environment table count new effect e in
+      subst (LeavesTold statement) is.1
+      (counted_told statement counting table count new low each (few_enough (set.len new) is.0))
 
   module _ (wide : (name : Name) (row : List Value) → set.contains (database name) row ≡ true
       → length row ≡ length (columns_of declared name)) where
@@ -193,7 +218,8 @@ module _ (declared : List Create) (database : Database) (environment : Environme
         let read = separated_are_read (sign symbols.Comma) assignment_spelling update.assignments
         (all_first CanBeRead (comma_list assignment_spelling update.assignments) (tests_clause update.tests)
         can.1.1.1) in
-        let there = over_there (updated matches (image worth update.assignments columns) (database table))
+        let there = over_there database environment
+        (updated matches (image worth update.assignments columns) (database table))
         (changed (table_named table) (set.len (matched matches (database table)))) effect e in
         changed_told (statements.Update update) (λ count. tt) table (set.len (matched matches (database table)))
         there.0 (omega (arith, low, here))
@@ -201,16 +227,11 @@ module _ (declared : List Create) (database : Database) (environment : Environme
         (λ row values operand. operand_is_value environment held columns row values operand) read matches
         (database table) there.0 (under table) there.1) effect there.2
     leaves_told (statements.Set set) can fits valuation all effect e =
-        let there = over_there (expression_value (known_value environment) set.expression)
-        (λ value database environment.
-        Ok (record {
-          database = database;
-          environment = with_value environment set.variable.name value;
-          answer = answers.Value value;
-        })) effect e in
+        let there = setting_is database environment set.variable.name
+        (expression_value (known_value environment) set.expression) effect e in
         let is = expression_is_value (known_value environment) specification_spelling
         (known_is_value environment held) set.expression can.1.1.1 there.0 there.1 in
-        subst (LeavesTold (statements.Set set)) (one_answer {E = Failure} _ effect there.2)
+        subst (LeavesTold (statements.Set set)) there.2
         (record {
           rows = rows;
           few = few;

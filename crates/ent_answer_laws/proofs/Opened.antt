@@ -1,5 +1,5 @@
 -- An opening that can be told begins with rows that can be told.
-use Rattle.std.proofs.Common.{◌≡◌, Bool, true, false, List, [], map, sym, ap, subst, ◌∙◌, arith}
+use Rattle.std.proofs.Common.{◌≡◌, true, false, List, [], map, sym, ap, subst, ◌∙◌, arith}
 use Rattle.std.proofs.Common.{None}
 use Rattle.std.specs.List.{filter}
 use Rattle.std.proofs.lemmas.List.{length-map}
@@ -22,7 +22,7 @@ use Rattle.ent_lists.specs.Elements.{In, any_in, clash, contains_in, filter_empt
 use Rattle.ent_lists.specs.Elements.{of_all, of_map, shorter}
 use Rattle.ent_report_laws.specs.Tellable.{AreRowsOf, IsOpeningTold}
 use Rattle.ent_report_laws.proofs.Faultless.{opening_faultless}
-use Rattle.ent_report_laws.proofs.Opened.{Before}
+use Rattle.ent_report_laws.proofs.Opened.{Before, names_it}
 use Rattle.ent_answer_laws.specs.Held.{HoldsRowsOf}
 use Rattle.ent_answer_laws.proofs.Rows.{listed_few, listed_rows}
 
@@ -36,9 +36,6 @@ module _ (opening : Opening) (told : IsOpeningTold opening) where
         declarations = told.declarations;
         rows = tt;
       }))
-
-  abbrev names_it : Name → OpeningRow → Bool
-  names_it name row = same_name row.table.name name
 
   -- each row stands in a table that is declared
   row_declared : (row : OpeningRow) → In row opening.rows → (name : Name) → names_it name row ≡ true

@@ -1,23 +1,22 @@
 -- Sets of rows each of which is such, in order and counted.
-use Rattle.std.proofs.Common.{◌≡◌, ◌≤◌, ◌+◌, Bool, true, false, cond, ◌&&◌, ◌||◌, T, List, [], ◌∷◌, length, map}
+use Rattle.std.proofs.Common.{◌≡◌, ◌≤◌, ◌+◌, Bool, true, false, cond, ◌&&◌, ◌||◌, List, [], ◌∷◌, length}
 use Rattle.std.proofs.Common.{refl, sym, ap, subst, ◌∙◌, arith}
 use Rattle.std.specs.Cmp.{Equal-is}
-use Rattle.std.specs.FinMap as finite
-use Rattle.std.specs.FinMap.Entries.{below_all}
 use Rattle.std.specs.List.{AllByRecursion, filter, list_any}
-use Rattle.std.specs.Ordering.{eq_by_cmp, is_lt}
-use Rattle.std.specs.declared.cmp.Ordering.{Ordering}
-use Rattle.std.specs.declared.cmp.Ordering.TheVariants.{Less, Equal, Greater}
+use Rattle.std.specs.List.Sorted.{IsStrictlySortedBy}
+use Rattle.std.specs.Ordering.{eq_by_cmp}
 use Rattle.ent_set.specs.Sets as set
 use Rattle.ent_set.specs.Laws.{contains-from_list, contains-insert, contains-retain, from_list-ascending}
 use Rattle.ent_set.specs.Laws.{from_list-filter, len-empty, len-insert}
 use Rattle.ent_value.specs.Order.{exact_rows, rows_total}
 use Rattle.ent_value.specs.Value.{row_cmp}
 use Rattle.ent_value.specs.declared.value.Value.{Value}
+use Rattle.ent_rel.proofs.Keyed.{rows_ascend}
 use Rattle.ent_semantics.specs.Database.{Rows}
 use Rattle.ent_book.proofs.Ascending.{count_of_ascending}
 use Rattle.ent_lists.specs.Elements.{Pairs, and_both, pairs_index, shorter}
 use Rattle.ent_report_laws.specs.Tellable.{RowsRise}
+use Rattle.ent_report_laws.proofs.Shown.{IsBelow}
 
 -- each row of the set is such
 abbrev pub EachRow : (List Value → Type 0) → Rows → Type 0
@@ -68,44 +67,13 @@ module _ (P : List Value → Type 0) where
 
 -- ---- in order
 
-abbrev IsBelow : List Value → List Value → Type 0
-IsBelow row other = row_cmp row other ≡ Less
-
-first_part : (a b : Bool) → T (a && b) → T a
-first_part true b h = tt
-first_part false b h = h
-
-second_part : (a b : Bool) → T (a && b) → T b
-second_part true b h = h
-second_part false b h = absurd h
-
-is_less : (o : Ordering) → T (is_lt o) → o ≡ Less
-is_less Less h = refl
-is_less Equal h = absurd h
-is_less Greater h = absurd h
-
-abbrev rows_in : List (List Value × Unit {0}) → List (List Value)
-rows_in entries = map (λ (entry : List Value × Unit {0}). entry.0) entries
-
-below : (row : List Value) (entries : List (List Value × Unit {0})) → T (below_all row_cmp row entries)
-    → AllByRecursion (IsBelow row) (rows_in entries)
-below row [] h = tt
-below row (entry ∷ entries) h = (
-  is_less (row_cmp row entry.0) (first_part (is_lt (row_cmp row entry.0)) (below_all row_cmp row entries) h),
-  below row entries (second_part (is_lt (row_cmp row entry.0)) (below_all row_cmp row entries) h),
-)
-
-rise_in : (entries : List (List Value × Unit {0})) → T (finite.is_sorted row_cmp entries)
-    → Pairs IsBelow (rows_in entries)
-rise_in [] h = tt
-rise_in (entry ∷ entries) h = (
-  below entry.0 entries (first_part (below_all row_cmp entry.0 entries) (finite.is_sorted row_cmp entries) h),
-  rise_in entries (second_part (below_all row_cmp entry.0 entries) (finite.is_sorted row_cmp entries) h),
-)
+rise : (rows : List (List Value)) → IsStrictlySortedBy row_cmp rows → Pairs IsBelow rows
+unfolding IsStrictlySortedBy
+rise [] h = tt
+rise (row ∷ rows) h = (h.0, rise rows h.1)
 
 pub rows_rise : (rows : Rows) → RowsRise (set.ascending rows)
-rows_rise rows =
-    pairs_index IsBelow (set.ascending rows) (rise_in (finite.entries rows) (finite.entries_sorted rows))
+rows_rise rows = pairs_index IsBelow (set.ascending rows) (rise (set.ascending rows) (rows_ascend rows))
 
 -- ---- counted
 

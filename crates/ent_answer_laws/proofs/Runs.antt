@@ -39,10 +39,11 @@ use Rattle.ent_answer_laws.proofs.Read.{AreRead}
 use Rattle.ent_answer_laws.proofs.Stepping.{IsBehind, steps_on}
 use Rattle.ent_answer_laws.proofs.Stored.{IsStored}
 use Rattle.ent_answer_laws.proofs.Values.{AreValues}
-use Rattle.ent_answer_laws.proofs.Walking.{Behind, IsReadViewTold, Resolves, TakesNone, answers_any, entangled_form}
+use Rattle.ent_check_run.proofs.Along.{Resolves}
+use Rattle.ent_answer_laws.proofs.Walking.{Behind, IsReadViewTold, TakesNone, answers_any, entangled_form}
 use Rattle.ent_answer_laws.proofs.Walking.{first_behind, in_any_kind, next_behind, trees_of}
 
-one_run : (x y : Run) → Some x ≡ Some y → x ≡ y
+pub one_run : (x y : Run) → Some x ≡ Some y → x ≡ y
 one_run x y e = cc
 
 -- what a run leaves
@@ -118,7 +119,7 @@ module _ (laws : Laws) (declared : List Create) (none : declarations_fault [] de
     ordinary : (statement : TreeStatement) → IsAt n bound behind statement form → is_entangled statement ≡ false
         → (is_entangled statement ≡ false → valuation ≡ []) → CanAnswer statement form valuation
     ordinary statement at plainly takes =
-        let fits = laws.fits (schemas_of declared) bound behind statement form environment at.resolved plainly
+        let fits = laws.forms.fits (schemas_of declared) bound behind statement form environment at.resolved plainly
         held.kinds in
         record {
           many = answers_any statement valuation plainly;

@@ -64,13 +64,13 @@ module _ (declared : List Create) where
       (stored_wide declared database stored) statement can fits valuation answers.values effect e in
       let over = ap (λ (d : Database). statement_meaning declared statement valuation d environment) (sym stored.is)
       ∙ e in
-      let means = laws.means declared stored.tables environment valuation bound after statement form
-      (laws.wide declared stored.tables stored.kinded) (laws.distinct declared none) is answers.many in
+      let means = laws.forms.means declared stored.tables environment valuation bound after statement form
+      (laws.forms.wide declared stored.tables stored.kinded) (laws.distinct declared none) is answers.many in
       let own = of_form (form_meaning known_worth form valuation stored.tables environment) effect (sym means ∙ over) in
-      let kinded = laws.keeps schemas bound after statement form valuation stored.tables environment own.0 is
+      let kinded = laws.forms.keeps schemas bound after statement form valuation stored.tables environment own.0 is
       stored.kinded held.kinds own.1 in
-      let have = laws.binds schemas bound after statement form valuation stored.tables environment own.0 is held.kinds
-      answers.kinds own.1 in
+      let have = laws.forms.binds schemas bound after statement form valuation stored.tables environment own.0 is
+      held.kinds answers.kinds own.1 in
       record {
         stored = record {
           tables = own.0.database;

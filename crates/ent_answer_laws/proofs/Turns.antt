@@ -32,11 +32,12 @@ use Rattle.ent_answer_laws.specs.Laws.{Laws}
 use Rattle.ent_answer_laws.proofs.Read.{AreRead}
 use Rattle.ent_answer_laws.proofs.Runs.{IsLeft, RunsOn, runs_on}
 use Rattle.ent_answer_laws.proofs.Stored.{IsStored}
-use Rattle.ent_answer_laws.proofs.Walking.{IsReadViewTold, Resolves, Behind, all_behind, operations_so, resolved_so}
+use Rattle.ent_check_run.proofs.Along.{Resolves, resolved_so}
+use Rattle.ent_answer_laws.proofs.Walking.{IsReadViewTold, Behind, all_behind, operations_so}
 
 -- ---- a script that can run
 
-resolves : (found : Result Plain FormFault) → fault_of found ≡ None → (plain : Plain) × (found ≡ Ok plain)
+pub resolves : (found : Result Plain FormFault) → fault_of found ≡ None → (plain : Plain) × (found ≡ Ok plain)
 resolves (Ok plain) e = (plain, refl)
 resolves (Err fault) e = cc (e)
 
@@ -60,17 +61,41 @@ statements_are_read script readable =
 nothing_held : HoldsValuesOf none_bound nothing_bound
 nothing_held = record { kinds = λ name kind e. cc (e); values = λ name value e. cc (e) }
 
-ended_some : (end : End) (o : Option Run) (r : Run) → ended end o ≡ Some r → o ≡ Some r
+pub ended_some : (end : End) (o : Option Run) (r : Run) → ended end o ≡ Some r → o ≡ Some r
 ended_some Commit o r e = e
 ended_some Rollback o r e = cc (e)
 
-one_runs : (x y : Runs) → Some x ≡ Some y → x ≡ y
+pub one_runs : (x y : Runs) → Some x ≡ Some y → x ≡ y
 one_runs x y e = cc
 
-from_run : (o : Option Run) (f : Database → List ReadView) (s : ReadView) → In s (seen_from o f)
+pub from_run : (o : Option Run) (f : Database → List ReadView) (s : ReadView) → In s (seen_from o f)
     → (r : Run) × (o ≡ Some r) × In s (f r.database)
 from_run (Some r) f s at = (r, refl, at)
 from_run None f s at = absurd at
+
+-- ---- the operations of a turn
+
+abbrev pub operations_in : Turn → Option (List Operation)
+operations_in turn = operations_of turn.script.statements turn.oracle
+
+module _ (declared : List Create) where
+  pub turn_read_views : (turn : Turn) (database : Database) (operations : List Operation)
+      → operations_in turn ≡ Some operations
+      → script_read_views declared turn database ≡ read_views declared turn.tx 1 operations database nothing_bound
+  turn_read_views turn database operations e = rw e refl
+
+  pub no_turn_read_views : (turn : Turn) (database : Database) → operations_in turn ≡ None
+      → script_read_views declared turn database ≡ []
+  no_turn_read_views turn database e = rw e refl
+
+  pub operations_run : (turn : Turn) (database : Database) (over : Run)
+      → script_run declared turn.script turn.oracle database ≡ Some over
+      → (operations : List Operation) × (operations_in turn ≡ Some operations)
+      × (run declared operations database nothing_bound ≡ Some over)
+  operations_run turn database over e =
+      let from = λ (operations : List Operation). run declared operations database nothing_bound in
+      then_some from (operations_in turn) over
+      (ended_some turn.script.end (option_and_then from (operations_in turn)) over e)
 
 module _ (laws : Laws) (declared : List Create) (none : declarations_fault [] declared ≡ None) where
   abbrev AllGrounded : List ReadView → Type 0
@@ -88,26 +113,6 @@ module _ (laws : Laws) (declared : List Create) (none : declarations_fault [] de
         → IsStored declared over.database
     pub tells : (over : Run) → script_run declared turn.script turn.oracle database ≡ Some over
         → AllByRecursion CanBeCounted over.answers → AreAnswersTo turn.script.statements over.answers
-
-  abbrev operations_in : Turn → Option (List Operation)
-  operations_in turn = operations_of turn.script.statements turn.oracle
-
-  turn_read_views : (turn : Turn) (database : Database) (operations : List Operation) → operations_in turn ≡ Some operations
-      → script_read_views declared turn database ≡ read_views declared turn.tx 1 operations database nothing_bound
-  turn_read_views turn database operations e = rw e refl
-
-  no_turn_read_views : (turn : Turn) (database : Database) → operations_in turn ≡ None
-      → script_read_views declared turn database ≡ []
-  no_turn_read_views turn database e = rw e refl
-
-  operations_run : (turn : Turn) (database : Database) (over : Run)
-      → script_run declared turn.script turn.oracle database ≡ Some over
-      → (operations : List Operation) × (operations_in turn ≡ Some operations)
-      × (run declared operations database nothing_bound ≡ Some over)
-  operations_run turn database over e =
-      then_some (λ (operations : List Operation). run declared operations database nothing_bound) (operations_in turn) over
-      (ended_some turn.script.end
-      (option_and_then (λ (operations : List Operation). run declared operations database nothing_bound) (operations_in turn)) over e)
 
   pub turn_runs : (turn : Turn) → CanRun declared turn.script → (database : Database) → IsStored declared database
       → AllGrounded (script_read_views declared turn database) → TurnRuns turn database
@@ -142,17 +147,17 @@ module _ (laws : Laws) (declared : List Create) (none : declarations_fault [] de
           runs_on laws declared none turn.tx turn.script found.0 found.1 0 none_bound operations found.0.statements left
           database stored nothing_bound nothing_held
           (λ read_view at. grounded read_view (subst (λ (all : List ReadView). In read_view all)
-          (sym (turn_read_views turn database operations is)) at))
+          (sym (turn_read_views declared turn database operations is)) at))
 
       leaves_so : (over : Run) → script_run declared turn.script turn.oracle database ≡ Some over
           → IsStored declared over.database
       leaves_so over e =
-          let parts = operations_run turn database over e in (onward parts.0 parts.1).leaves over parts.2
+          let parts = operations_run declared turn database over e in (onward parts.0 parts.1).leaves over parts.2
 
       tells_so : (over : Run) → script_run declared turn.script turn.oracle database ≡ Some over
           → AllByRecursion CanBeCounted over.answers → AreAnswersTo turn.script.statements over.answers
       tells_so over e counted =
-          let parts = operations_run turn database over e in
+          let parts = operations_run declared turn database over e in
           subst (λ (all : List TreeStatement). AreAnswersTo all over.answers)
           (operations_so turn.script.statements turn.oracle parts.0 parts.1).0
           ((onward parts.0 parts.1).tells over parts.2 counted)
@@ -161,9 +166,9 @@ module _ (laws : Laws) (declared : List Create) (none : declarations_fault [] de
           → In read_view (script_read_views declared turn database) → IsReadViewTold turn.tx turn.script found.0 read_view
       sees_so (Some operations) is read_view at =
           (onward operations is).sees read_view
-          (subst (λ (all : List ReadView). In read_view all) (turn_read_views turn database operations is) at)
+          (subst (λ (all : List ReadView). In read_view all) (turn_read_views declared turn database operations is) at)
       sees_so None is read_view at =
-          absurd (subst (λ (all : List ReadView). In read_view all) (no_turn_read_views turn database is) at)
+          absurd (subst (λ (all : List ReadView). In read_view all) (no_turn_read_views declared turn database is) at)
 
       by : (o : Option (List Operation)) → operations_in turn ≡ o → TurnRuns turn database
       by o is = record {

@@ -21,6 +21,7 @@ use Rattle.ent_semantics.specs.Database.{Environment, Name, with_value, with_val
 use Rattle.ent_semantics.specs.Term.{SourceColumn, column_value, expression_value, in_64_bits, is_64_bits, known_value}
 use Rattle.ent_semantics.specs.Term.{no_value, number_of, operand_value, refers_to}
 use Rattle.ent_history_form.specs.Parts.{IsValue}
+use Rattle.ent_form_laws.proofs.Known.{one_value}
 use Rattle.ent_answer_laws.proofs.Read.{AreRead, literal_is_value}
 
 -- host variables have values that can be told
@@ -29,9 +30,6 @@ HoldsValues environment = (name : Name) (value : Value) → environment name ≡
 
 abbrev pub AreValues : List Value → Type 0
 AreValues values = AllByRecursion IsValue values
-
-one_value : (x y : Value) → Some x ≡ Some y → x ≡ y
-one_value x y e = cc
 
 pub no_value_is_value : IsValue no_value
 no_value_is_value = record { sfits = omega arith }

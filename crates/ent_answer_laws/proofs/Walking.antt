@@ -1,7 +1,6 @@
--- A script's statements with their forms, and what is there behind each.
-use Rattle.std.proofs.Common.{◌≡◌, ℕ, suc, ◌+◌, Bool, true, false, List, [], ◌∷◌, ◌++◌, map, refl, sym, ap}
+-- A script's statements, the answers of the oracle to them, and what is there behind each.
+use Rattle.std.proofs.Common.{◌≡◌, ℕ, suc, ◌+◌, Bool, true, false, List, [], ◌∷◌, map, refl, sym, ap}
 use Rattle.std.proofs.Common.{subst, ◌∙◌, arith, Option, Some, None, Ok, slice_get}
-use Rattle.std.proofs.Common.{append-nil, append_assoc}
 use Rattle.std.specs.List.{AllByRecursion}
 use Rattle.ent_value.specs.declared.value.Kind.{Kind}
 use Rattle.ent_tree.specs.declared.entangled.Entangled.{Entangled as TreeEntangled}
@@ -19,8 +18,8 @@ use Rattle.ent_closed.specs.declared.operand.Known.{Known}
 use Rattle.ent_closed.specs.declared.statement.Statement.{Statement}
 use Rattle.ent_closed.specs.declared.statement.Statement.TheVariants as forms
 use Rattle.ent_form.specs.Entangled.{entangled_in}
-use Rattle.ent_form.specs.Form.{script_in, statement_in, statements_from}
-use Rattle.ent_form.specs.Kinds.{Bound, none_bound}
+use Rattle.ent_form.specs.Form.{statement_in}
+use Rattle.ent_form.specs.Kinds.{Bound}
 use Rattle.ent_form.specs.declared.catalogue.TableSchema.{TableSchema}
 use Rattle.ent_form.specs.declared.fault.FormFault.{FormFault}
 use Rattle.ent_form.specs.declared.script.Plain.{Plain}
@@ -29,38 +28,6 @@ use Rattle.ent_form_laws.proofs.KindedSteps.{bound_given, one_answer}
 use Rattle.ent_form_laws.specs.Tables.{Answers}
 use Rattle.ent_lists.specs.Elements.{clash}
 use Rattle.ent_answer_laws.proofs.Grounding.{IsAnswered}
-
--- ---- statements and their forms
-
--- each with what those before it bind
-abbrev pub Resolves : List TableSchema → Bound → List TreeStatement → List (Statement Known) → Type 0
-Resolves schemas bound [] [] = Unit {0}
-Resolves schemas bound [] (form ∷ made) = ⊥
-Resolves schemas bound (tree ∷ more) [] = ⊥
-Resolves schemas bound (tree ∷ more) (form ∷ made) =
-    (behind : Bound) × (statement_in schemas bound tree ≡ Ok (form, behind)) × Resolves schemas behind more made
-
-made_so : (schemas : List TableSchema) (more : List TreeStatement) (bound : Bound) (made out : List (Statement Known))
-    → statements_from schemas bound made more ≡ Ok out
-    → (rest : List (Statement Known)) × (out ≡ made ++ rest) × Resolves schemas bound more rest
-made_so schemas [] bound made out e =
-    ([], sym (one_answer {E = FormFault} made out e) ∙ sym (append-nil made), tt)
-made_so schemas (tree ∷ more) bound made out e =
-    let w = bound_given (statement_in schemas bound tree) _ out e in
-    let behind = made_so schemas more w.0.1 (made ++ w.0.0 ∷ []) out w.2 in (
-      w.0.0 ∷ behind.0,
-      behind.1 ∙ append_assoc made (w.0.0 ∷ []) behind.0,
-      (w.0.1, w.1, behind.2),
-    )
-
-pub resolved_so : (schemas : List TableSchema) (script : Script) (plain : Plain)
-    → script_in schemas script ≡ Ok plain → Resolves schemas none_bound script.statements plain.statements
-resolved_so schemas script plain e =
-    let w = bound_given (statements_from schemas none_bound [] script.statements) _ plain e in
-    let made = made_so schemas script.statements none_bound [] w.0 w.1 in
-    let same : made.0 ≡ plain.statements =
-    sym made.1 ∙ ap (λ (p : Plain). p.statements) (one_answer {E = FormFault} _ plain w.2) in
-    subst (λ (all : List (Statement Known)). Resolves schemas none_bound script.statements all) same made.2
 
 -- ---- statements and the oracle's answers
 

@@ -1,3 +1,4 @@
 pub mod Held
 pub mod Answered
+pub mod Runs
 pub mod Laws

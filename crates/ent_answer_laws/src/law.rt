@@ -1,9 +1,10 @@
 //! Laws of answers and tables. Nothing here has a body but calls of laws; what holds is in the contracts.
 ghost use Rattle.std.specs.Prelude.{◌≡◌, ◌≤◌, Contains, List, [], None, Ok, Some, length, map, true};
 ghost use Rattle.std.specs.List.{AllByRecursion};
-ghost use Rattle.ent_answer_laws.specs.Answered.{AreGrounded, AreTurnsAnswered, CanBeCounted, CanRun, IsEffectTold};
+ghost use Rattle.ent_answer_laws.specs.Answered.{AreGrounded, CanBeCounted, CanRun, IsEffectTold};
 ghost use Rattle.ent_answer_laws.specs.Held.{CanAnswer, HoldsRowsOf, HoldsValuesOf};
 ghost use Rattle.ent_answer_laws.specs.Laws.{Laws};
+ghost use Rattle.ent_answer_laws.specs.Runs.{ReadViewsAreTold, RunsAreAnswered, RunsHoldRows};
 ghost use Rattle.ent_closed.specs.declared.entangled.Entangled.{Entangled};
 ghost use Rattle.ent_closed.specs.declared.operand.Known.{Known};
 ghost use Rattle.ent_closed.specs.declared.statement.Statement.{Statement};
@@ -14,19 +15,16 @@ ghost use Rattle.ent_form.specs.Form.{script_in, statement_in};
 ghost use Rattle.ent_form.specs.Kinds.{Bound};
 ghost use Rattle.ent_form.specs.OpeningFault.{declarations_fault};
 ghost use Rattle.ent_form.specs.declared.script.Plain.{Plain};
-ghost use Rattle.ent_history.specs.Told.{shown_table, told_member};
-ghost use Rattle.ent_history.specs.declared.history.History.{History};
+ghost use Rattle.ent_history.specs.Told.{shown_table};
 ghost use Rattle.ent_print.specs.Reading.{CanBeRead};
 ghost use Rattle.ent_print.specs.Spelling.{entangled_spelling, statement_spelling};
-ghost use Rattle.ent_report_laws.specs.Tellable.{AreAnswersTo, AreRowsOf, AreTablesOf, IsMemberTold};
+ghost use Rattle.ent_report_laws.specs.Tellable.{AreAnswersTo, AreRowsOf, AreTablesOf};
 ghost use Rattle.ent_report_laws.specs.Tellable.{IsOpeningTold};
 ghost use Rattle.ent_sql_laws.specs.Fits.{EntangledFits, StatementFits};
 ghost use Rattle.ent_semantics.specs.Database.{Database, Environment, opening_database};
 ghost use Rattle.ent_semantics.specs.Effect.{Effect};
 ghost use Rattle.ent_semantics.specs.Entangled.{Valuation, is_grounding};
-ghost use Rattle.ent_semantics.specs.Joint.{member_of};
-ghost use Rattle.ent_semantics.specs.Serial.{Run, Runs, ReadView, Turn, numbered, script_run, script_read_views};
-ghost use Rattle.ent_semantics.specs.Serial.{scripts_run, scripts_read_views};
+ghost use Rattle.ent_semantics.specs.Serial.{Run, Turn, script_run, script_read_views};
 ghost use Rattle.ent_semantics.specs.Statement.{statement_meaning};
 ghost use Rattle.ent_set.specs.Sets as set;
 ghost use Rattle.ent_tree.specs.declared.declaration.Create.{Create};
@@ -41,8 +39,8 @@ use ent_closed::closing_keeps_the_meaning;
 use ent_form_laws::{
     declared_columns_are_distinct, effects_keep_kinds, first_fault_is_first,
     groundings_are_of_their_kinds, kinded_tables_are_wide, resolved_grounds_the_same,
-    resolved_means_the_same, resolved_selects_the_same, resolved_statements_fit,
-    variables_are_the_written_ones,
+    resolved_means_the_same, resolved_offers_and_demands_the_same, resolved_selects_the_same,
+    resolved_statements_fit, variables_are_the_written_ones,
 };
 use ent_offer_laws::resolved_variables_are_ranged;
 
@@ -58,6 +56,7 @@ pub(crate) fn forms_run_as_statements()
     kinded_tables_are_wide();
     resolved_grounds_the_same();
     resolved_means_the_same();
+    resolved_offers_and_demands_the_same();
     resolved_selects_the_same();
     resolved_statements_fit();
     resolved_variables_are_ranged();
@@ -117,21 +116,8 @@ pub fn scripts_answer_what_can_be_told()
 
 /// So do scripts that run one after the other.
 pub fn runs_answer_what_can_be_told()
-    ensures rows { (declared : List Create) (turns : List Turn) (database : Database) (runs : Runs)
-        → declarations_fault [] declared ≡ None
-        → ((turn : Turn) → Contains turns turn → CanRun declared turn.script)
-        → HoldsRowsOf declared database
-        → AreGrounded declared (scripts_read_views declared turns database)
-        → scripts_run declared turns database ≡ Some runs
-        → HoldsRowsOf declared runs.database }
-    ensures answers { (declared : List Create) (turns : List Turn) (database : Database) (runs : Runs)
-        → declarations_fault [] declared ≡ None
-        → ((turn : Turn) → Contains turns turn → CanRun declared turn.script)
-        → HoldsRowsOf declared database
-        → AreGrounded declared (scripts_read_views declared turns database)
-        → scripts_run declared turns database ≡ Some runs
-        → AllByRecursion (AllByRecursion CanBeCounted) runs.answers
-        → AreTurnsAnswered turns runs.answers }
+    ensures rows { RunsHoldRows }
+    ensures answers { RunsAreAnswered }
 {
     forms_run_as_statements();
 }
@@ -139,14 +125,7 @@ pub fn runs_answer_what_can_be_told()
 /// Each entangled statement of such a run, with its grounding, is a member that a history of these tables and scripts
 /// can tell: a value that can be told for each written variable, of the kind that the form binds it in.
 pub fn read_views_can_be_told()
-    ensures { (history : History) (turns : List Turn) (database : Database) (read_view : ReadView)
-        → declarations_fault [] history.opening.tables ≡ None
-        → ((turn : Turn) → Contains turns turn → CanRun history.opening.tables turn.script)
-        → ((turn : Turn) → Contains turns turn → numbered history.scripts turn.tx ≡ Some turn.script)
-        → HoldsRowsOf history.opening.tables database
-        → AreGrounded history.opening.tables (scripts_read_views history.opening.tables turns database)
-        → Contains (scripts_read_views history.opening.tables turns database) read_view
-        → IsMemberTold history (told_member history.scripts (member_of read_view)) }
+    ensures { ReadViewsAreTold }
 {
     forms_run_as_statements();
 }

@@ -12,9 +12,10 @@ use Rattle.ent_semantics.specs.Change.{assigned_value, assigned_values, image, m
 use Rattle.ent_semantics.specs.Database.{Rows, same_name}
 use Rattle.ent_semantics.specs.Term.{SourceColumn, Worth, expression_value}
 use Rattle.ent_form_laws.proofs.KindedRows.{each_ascending}
+use Rattle.ent_form_laws.proofs.Known.{one_value}
 use Rattle.ent_answer_laws.proofs.Rows.{EachRow, all_inserted_rows, retained_rows}
 use Rattle.ent_character_laws.specs.Values.{IsWritten}
-use Rattle.ent_character_laws.proofs.Worth.{all_there_have, expression_has, one_value}
+use Rattle.ent_character_laws.proofs.Worth.{all_there_have, expression_has}
 
 module _ (P : Value → Type 0) (numbers : (number : ℤ) → P (Int number)) (assignments : List Assignment)
     (writes : AllByRecursion (λ (assignment : Assignment).

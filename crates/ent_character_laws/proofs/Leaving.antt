@@ -1,23 +1,19 @@
 -- What a statement leaves and answers has the property.
-use Rattle.std.proofs.Common.{◌≡◌, ℕ, ℤ, Bool, true, false, not, List, [], ◌∷◌, map, refl, subst, Option, Some, None}
-use Rattle.std.proofs.Common.{Result, Ok, Err}
-use Rattle.std.specs.Prelude.{nat_le, if◌then◌else◌}
+use Rattle.std.proofs.Common.{◌≡◌, ℕ, ℤ, not, List, [], ◌∷◌, map, subst}
+use Rattle.std.proofs.Common.{Ok}
+use Rattle.std.specs.Prelude.{if◌then◌else◌}
 use Rattle.std.specs.List.{AllByRecursion}
 use Rattle.ent_set.specs.Sets as set
-use Rattle.ent_value.specs.declared.limits.TheConstants.{MOST_ROWS}
 use Rattle.ent_value.specs.declared.value.Value.{Value}
 use Rattle.ent_value.specs.declared.value.Value.TheVariants.{Int}
 use Rattle.ent_tree.specs.declared.operand.ValueSpecification.{ValueSpecification}
 use Rattle.ent_tree.specs.declared.script.Statement.TheVariants as statements
 use Rattle.ent_print.specs.Spelling.{assignment_spelling, comma_list, sign, specification_spelling, tests_clause}
 use Rattle.ent_text.specs.declared.symbol.Symbol.TheVariants as symbols
-use Rattle.ent_semantics.specs.declared.answer.Answer.TheVariants as answers
 use Rattle.ent_semantics.specs.declared.answer.Failure.{Failure}
-use Rattle.ent_semantics.specs.declared.answer.Failure.TheVariants.{TableFull}
 use Rattle.ent_semantics.specs.Change.{image, matched, unmatched, updated}
-use Rattle.ent_semantics.specs.Database.{Database, Environment, Name, Rows, same_name, table_named, with_rows}
-use Rattle.ent_semantics.specs.Database.{with_value}
-use Rattle.ent_semantics.specs.Effect.{Effect, Meaning, changed, or_overflow}
+use Rattle.ent_semantics.specs.Database.{Database, Environment, Name, Rows, table_named}
+use Rattle.ent_semantics.specs.Effect.{Effect, changed}
 use Rattle.ent_semantics.specs.Entangled.{bound_values}
 use Rattle.ent_semantics.specs.Selection.{meets, select_rows}
 use Rattle.ent_semantics.specs.Statement.{table_worth}
@@ -25,6 +21,7 @@ use Rattle.ent_semantics.specs.Term.{expression_value, known_value, table_column
 use Rattle.ent_form_laws.proofs.KindedRows.{each_ascending}
 use Rattle.ent_form_laws.proofs.KindedSteps.{one_answer}
 use Rattle.ent_lists.specs.Elements.{all_first}
+use Rattle.ent_answer_laws.proofs.Leaving.{changed_is, changed_to, over_there, rows_put, setting_is}
 use Rattle.ent_answer_laws.proofs.Rows.{EachRow, inserted_rows, retained_rows}
 use Rattle.ent_character_laws.specs.Kept.{StatementsKeep}
 use Rattle.ent_character_laws.specs.Values.{BindsValues, HoldsValues, IsWritten, LeavesValues}
@@ -35,9 +32,6 @@ use Rattle.ent_character_laws.proofs.Worth.{all_bound_have, bound_has, expressio
 use Rattle.ent_character_laws.proofs.Worth.{operand_has}
 use Rattle.ent_character_laws.proofs.Written.{separated_are_written}
 
-abbrev of_effect : (Effect Database) → Result (Effect Database) Failure
-of_effect effect = Ok effect
-
 module _ (P : Value → Type 0) (numbers : (number : ℤ) → P (Int number)) where
   -- a row has such values
   abbrev Has : List Value → Type 0
@@ -45,41 +39,16 @@ module _ (P : Value → Type 0) (numbers : (number : ℤ) → P (Int number)) wh
 
   module _ (database : Database) (environment : Environment) (holds : HoldsValues P database)
       (binds : BindsValues P environment) where
-    abbrev changed_to : Name → ℕ → Rows → Effect Database
-    changed_to table count new = record {
-      database = with_rows database table new;
-      environment = environment;
-      answer = answers.Count count;
-    }
-
-    rows_put : (table : Name) (rows : Rows) → EachRow Has rows → HoldsValues P (with_rows database table rows)
-    rows_put table rows each name = by (same_name name table)
-      where
-        by : (b : Bool) → EachRow Has (if b then rows else database name)
-        by true = each
-        by false = holds name
-
-    counted : (table : Name) (count : ℕ) (new : Rows) → EachRow Has new → LeavesValues P (changed_to table count new)
+    counted : (table : Name) (count : ℕ) (new : Rows) → EachRow Has new
+        → LeavesValues P (changed_to database environment table count new)
     counted table count new each =
-        record { tables = rows_put table new each; variables = binds; answered = tt }
+        record { tables = rows_put Has database table new holds each; variables = binds; answered = tt }
 
     changed_have : (table : Name) (count : ℕ) (new : Rows) → EachRow Has new → (effect : Effect Database)
         → changed (table_named table) count new database environment ≡ Ok effect → LeavesValues P effect
-    changed_have table count new each effect e = by (nat_le (set.len new) MOST_ROWS) e
-      where
-        by : (b : Bool) → (if b then of_effect (changed_to table count new) else Err TableFull) ≡ Ok effect
-            → LeavesValues P effect
-        by true is =
-            subst (LeavesValues P) (one_answer {E = Failure} (changed_to table count new) effect is)
-            (counted table count new each)
-        by false is = cc (is)
-
-    -- goes on with what is there
-    over_there : {A : Type 0} (there : Option A) (more : A → Meaning Database) (effect : Effect Database)
-        → or_overflow there more database environment ≡ Ok effect
-        → (x : A) × (there ≡ Some x) × (more x database environment ≡ Ok effect)
-    over_there (Some x) more effect e = (x, refl, e)
-    over_there None more effect e = cc (e)
+    changed_have table count new each effect e =
+        subst (LeavesValues P) (changed_is database environment table count new effect e).1
+        (counted table count new each)
 
   pub statement_leaves : StatementsKeep P
   statement_leaves declared (statements.Select select) valuation database environment effect writes all holds binds e =
@@ -122,7 +91,7 @@ module _ (P : Value → Type 0) (numbers : (number : ℤ) → P (Int number)) wh
       let written = separated_are_written (IsWritten P) (sign symbols.Comma) assignment_spelling update.assignments
       (all_first (IsWritten P) (comma_list assignment_spelling update.assignments) (tests_clause update.tests)
       writes.1.1.1) in
-      let there = over_there database environment holds binds
+      let there = over_there database environment
       (updated matches (image worth update.assignments columns) (database table))
       (changed (table_named table) (set.len (matched matches (database table)))) effect e in
       changed_have database environment holds binds table (set.len (matched matches (database table))) there.0
@@ -130,17 +99,11 @@ module _ (P : Value → Type 0) (numbers : (number : ℤ) → P (Int number)) wh
       (operand_has P numbers environment binds columns) matches (database table) there.0 (holds table) there.1)
       effect there.2
   statement_leaves declared (statements.Set set) valuation database environment effect writes all holds binds e =
-      let there = over_there database environment holds binds
-      (expression_value (known_value environment) set.expression)
-      (λ value database environment.
-      Ok (record {
-        database = database;
-        environment = with_value environment set.variable.name value;
-        answer = answers.Value value;
-      })) effect e in
+      let there = setting_is database environment set.variable.name
+      (expression_value (known_value environment) set.expression) effect e in
       let has = expression_has P numbers (known_value environment) specification_spelling
       (known_has P numbers environment binds) set.expression writes.1.1.1 there.0 there.1 in
-      subst (LeavesValues P) (one_answer {E = Failure} _ effect there.2)
+      subst (LeavesValues P) there.2
       (record {
         tables = holds;
         variables = bound_has P numbers environment binds set.variable.name there.0 has;

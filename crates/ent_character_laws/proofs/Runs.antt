@@ -18,13 +18,11 @@ use Rattle.ent_semantics.specs.Statement.{statement_meaning}
 use Rattle.ent_form.specs.Catalogue.{schemas_of}
 use Rattle.ent_rules.proofs.Operations.{mapped_some}
 use Rattle.ent_lists.specs.Elements.{In, in_either, in_first, in_second}
+use Rattle.ent_answer_laws.proofs.Runs.{one_run}
 use Rattle.ent_answer_laws.proofs.Walking.{TakesNone, trees_of}
 use Rattle.ent_character_laws.specs.Values.{AnswersValues, BindsValues, HoldsValues, LeavesValues, WritesValues}
 use Rattle.ent_character_laws.proofs.Grounding.{IsFaultless, grounding_has}
 use Rattle.ent_character_laws.proofs.Leaving.{statement_leaves}
-
-one_run : (x y : Run) → Some x ≡ Some y → x ≡ y
-one_run x y e = cc
 
 module _ (P : Value → Type 0) (numbers : (number : ℤ) → P (Int number)) (declared : List Create) where
   abbrev pub AllGrounded : List ReadView → Type 0

@@ -1,43 +1,31 @@
 -- What scripts that run one after the other see, leave and answer has the property.
 use Rattle.std.proofs.Common.{◌≡◌, ℤ, List, [], ◌∷◌, refl, sym, subst, inl, inr, Option, Some, None}
 use Rattle.std.specs.List.{AllByRecursion, flat_map}
-use Rattle.std.specs.Option.{option_and_then, option_map}
+use Rattle.std.specs.Option.{option_map}
 use Rattle.ent_value.specs.declared.value.Value.{Value}
 use Rattle.ent_value.specs.declared.value.Value.TheVariants.{Int}
 use Rattle.ent_tree.specs.declared.declaration.Create.{Create}
-use Rattle.ent_tree.specs.declared.script.End.{End}
-use Rattle.ent_tree.specs.declared.script.End.TheVariants.{Commit, Rollback}
 use Rattle.ent_tree.specs.declared.script.Script.{Script}
 use Rattle.ent_tree.specs.declared.script.Statement.{Statement}
 use Rattle.ent_print.specs.Spelling.{end_word, line_spelling, sign, statement_spelling, word}
 use Rattle.ent_text.specs.declared.symbol.Symbol.TheVariants as symbols
 use Rattle.ent_semantics.specs.Database.{Database, nothing_bound}
-use Rattle.ent_semantics.specs.Serial.{Operation, Run, Runs, ReadView, Turn, operations_of, ended, ran_first, run, script_run}
-use Rattle.ent_semantics.specs.Serial.{script_read_views, scripts_run, scripts_read_views, seen_from, read_views}
+use Rattle.ent_semantics.specs.Serial.{Operation, Run, Runs, ReadView, Turn, ran_first, script_run}
+use Rattle.ent_semantics.specs.Serial.{script_read_views, scripts_run, scripts_read_views, seen_from}
 use Rattle.ent_form.specs.Catalogue.{schemas_of}
 use Rattle.ent_form.specs.Kinds.{none_bound}
 use Rattle.ent_form.specs.ScriptFaults.{script_faults}
 use Rattle.ent_rules.proofs.Operations.{mapped_some, then_some}
 use Rattle.ent_lists.specs.Elements.{In, all_first, all_second, contains_in, in_contains, in_either, in_first}
 use Rattle.ent_lists.specs.Elements.{in_second}
+use Rattle.ent_answer_laws.proofs.Turns.{from_run, no_turn_read_views, one_runs, operations_in, operations_run}
+use Rattle.ent_answer_laws.proofs.Turns.{turn_read_views}
 use Rattle.ent_answer_laws.proofs.Walking.{operations_so}
 use Rattle.ent_character_laws.specs.Kept.{CanKeep, RunsKeep, ReadViewsKeep}
 use Rattle.ent_character_laws.specs.Values.{AnswersValues, BindsValues, HoldsValues, IsWritten, ScriptWrites}
 use Rattle.ent_character_laws.specs.Values.{WritesValues}
 use Rattle.ent_character_laws.proofs.Grounding.{IsFaultless, all_faultless}
 use Rattle.ent_character_laws.proofs.Runs.{AllGrounded, AreSeen, IsLeft, IsReady, RunKeeps, run_keeps}
-
-ended_some : (end : End) (o : Option Run) (over : Run) → ended end o ≡ Some over → o ≡ Some over
-ended_some Commit o over e = e
-ended_some Rollback o over e = cc (e)
-
-one_runs : (x y : Runs) → Some x ≡ Some y → x ≡ y
-one_runs x y e = cc
-
-from_run : (o : Option Run) (more : Database → List ReadView) (read_view : ReadView) → In read_view (seen_from o more)
-    → (over : Run) × (o ≡ Some over) × In read_view (more over.database)
-from_run (Some over) more read_view at = (over, refl, at)
-from_run None more read_view at = absurd at
 
 module _ (P : Value → Type 0) where
   -- ---- scripts
@@ -71,17 +59,6 @@ module _ (P : Value → Type 0) where
 
     -- ---- one turn
 
-    abbrev operations_in : Turn → Option (List Operation)
-    operations_in turn = operations_of turn.script.statements turn.oracle
-
-    turn_read_views : (turn : Turn) (database : Database) (operations : List Operation) → operations_in turn ≡ Some operations
-        → script_read_views declared turn database ≡ read_views declared turn.tx 1 operations database nothing_bound
-    turn_read_views turn database operations e = rw e refl
-
-    no_turn_read_views : (turn : Turn) (database : Database) → operations_in turn ≡ None
-        → script_read_views declared turn database ≡ []
-    no_turn_read_views turn database e = rw e refl
-
     record TurnKeeps (turn : Turn) (database : Database) : Type 0 where
       pub sees : AreSeen P numbers declared (script_read_views declared turn database)
       pub leaves : (over : Run) → script_run declared turn.script turn.oracle database ≡ Some over
@@ -103,22 +80,20 @@ module _ (P : Value → Type 0) where
             (all_faultless (schemas_of declared) none_bound turn.script.statements resolved)))
             database holds nothing_bound nothing_binds
             (λ read_view at. grounded read_view (subst (λ (all : List ReadView). In read_view all)
-            (sym (turn_read_views turn database operations is)) at))
+            (sym (turn_read_views declared turn database operations is)) at))
 
         sees_so : (o : Option (List Operation)) → operations_in turn ≡ o
             → AreSeen P numbers declared (script_read_views declared turn database)
         sees_so (Some operations) is read_view at =
             (onward operations is).sees read_view
-            (subst (λ (all : List ReadView). In read_view all) (turn_read_views turn database operations is) at)
+            (subst (In read_view) (turn_read_views declared turn database operations is) at)
         sees_so None is read_view at =
-            absurd (subst (λ (all : List ReadView). In read_view all) (no_turn_read_views turn database is) at)
+            absurd (subst (In read_view) (no_turn_read_views declared turn database is) at)
 
         leaves_so : (over : Run) → script_run declared turn.script turn.oracle database ≡ Some over
             → IsLeft P numbers declared over
         leaves_so over e =
-            let from = λ (operations : List Operation). run declared operations database nothing_bound in
-            let operations = then_some from (operations_in turn) over
-            (ended_some turn.script.end (option_and_then from (operations_in turn)) over e) in
+            let operations = operations_run declared turn database over e in
             (onward operations.0 operations.1).leaves over operations.2
 
     -- ---- one turn after the other

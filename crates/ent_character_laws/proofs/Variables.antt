@@ -34,6 +34,7 @@ use Rattle.ent_history_form.specs.Parts.{IsName}
 use Rattle.ent_history_form.specs.Scripts.{IsScript}
 use Rattle.ent_report_laws.specs.Tellable.{IsMemberTold}
 use Rattle.ent_lists.specs.Elements.{all_filtered, all_first, all_index, all_joined, all_second}
+use Rattle.ent_answer_laws.proofs.Read.{AreRead}
 
 -- ---- what stands at a place
 
@@ -52,9 +53,6 @@ at_number so xs zero each = tt
 at_number so xs (suc n) each = got so xs n each
 
 -- ---- what lists of lexemes are made of
-
-abbrev AreRead : List Lexeme → Type 0
-AreRead lexemes = AllByRecursion CanBeRead lexemes
 
 front_read : (front behind : List Lexeme) → AreRead (front ++ behind) → AreRead front
 front_read = all_first CanBeRead

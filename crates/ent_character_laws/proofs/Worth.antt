@@ -19,10 +19,8 @@ use Rattle.ent_semantics.specs.Change.{all_there}
 use Rattle.ent_semantics.specs.Database.{Environment, Name, same_name, with_value, with_values}
 use Rattle.ent_semantics.specs.Term.{SourceColumn, column_value, expression_value, in_64_bits, is_64_bits, known_value}
 use Rattle.ent_semantics.specs.Term.{no_value, number_of, operand_value, refers_to}
+use Rattle.ent_form_laws.proofs.Known.{one_value}
 use Rattle.ent_character_laws.specs.Values.{BindsValues, IsWritten}
-
-pub one_value : (x y : Value) → Some x ≡ Some y → x ≡ y
-one_value x y e = cc
 
 module _ (P : Value → Type 0) (numbers : (number : ℤ) → P (Int number)) where
   abbrev AreWritten : List Lexeme → Type 0

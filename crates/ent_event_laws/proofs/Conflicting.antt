@@ -7,6 +7,7 @@ use Rattle.ent_protocol.specs.State.{State, Member, Use}
 use Rattle.ent_protocol.specs.Uses.{uses_conflict, is_conflicting, not_passed, conflicting, least, blocker}
 use Rattle.ent_lists.specs.Elements.{In, of_filter, to_filter, of_map, to_map, in_either, in_first, in_second}
 use Rattle.ent_lists.specs.Elements.{any_some, any_in, in_contains, contains_in, differ, other_number, turned}
+use Rattle.ent_protocol_laws.proofs.Members.{tx_of}
 use Rattle.ent_event_laws.specs.Beginning.{Counts, HoldsConflict, Blocks, IsBlockedBy, NobodyBlocks}
 
 -- ---- the least of some numbers
@@ -105,9 +106,6 @@ module _ (s : State) (asker : Member) (asked : List Use) where
   to_blocking : (holder : Member) → Blocks s asker asked holder → In holder (conflicting s asker asked)
   to_blocking holder h =
       to_filter (is_conflicting asked) (not_passed s asker) holder (to_passed holder h.0) (to_conflict holder h.1)
-
-  abbrev tx_of : Member → ℕ
-  tx_of holder = holder.tx
 
   -- what is said of whoever blocks
   abbrev IsTold : Option ℕ → Type 0

@@ -17,6 +17,7 @@ use Rattle.ent_protocol.specs.Uses.{statement_uses, entangled_uses, blocker}
 use Rattle.ent_lists.specs.Elements.{In, of_filter, to_filter, in_either, in_first, in_second, any_none, any_some}
 use Rattle.ent_lists.specs.Elements.{any_in, in_contains, contains_in, clash, not_so, turned, same_number}
 use Rattle.ent_lists.specs.Elements.{number_itself, other_number, differ, or_first, or_second, or_cases, neither}
+use Rattle.ent_protocol_laws.proofs.Leaves.{found}
 use Rattle.ent_event_laws.specs.Beginning.{BeginsByRow, IsNoMember, IsBusy, IsBefore, OthersArePrepared, WaitsForOther}
 use Rattle.ent_event_laws.specs.Beginning.{is_posted, has_prepared, is_out, absent, not_now, blocked, lent}
 use Rattle.ent_event_laws.specs.Beginning.{asks_blocked, held_back, posted, committed, prepared, rolls_back}
@@ -24,25 +25,12 @@ use Rattle.ent_event_laws.proofs.Conflicting.{blocker_told, is_blocker, no_block
 
 -- ---- who has a number
 
-first_in : {X : Type 0} (xs : List X) (x : X) → first_of xs ≡ Some x → In x xs
-first_in [] x e = absurd (none e)
-  where
-    none : None ≡ Some x → ⊥
-    none e = cc
-first_in (y ∷ ys) x e = inl (let same : x ≡ y = cc in same)
-
 none_first : {X : Type 0} (xs : List X) (x : X) → first_of xs ≡ None → In x xs → ⊥
 none_first [] x e at = at
 none_first (y ∷ ys) x e at = none e
   where
     none : Some y ≡ None → ⊥
     none e = cc
-
-found : (s : State) (tx : ℕ) (member : Member) → active_member s tx ≡ Some member
-    → In member s.active × (member.tx ≡ tx)
-found s tx member e =
-    let r = of_filter (is_tx tx) s.active member (first_in (filter (is_tx tx) s.active) member e) in
-    (r.0, same_number member.tx tx r.1)
 
 is_number : (member : Member) (tx : ℕ) → member.tx ≡ tx → is_tx tx member ≡ true
 is_number member tx same = ap (λ n. n == tx) same ∙ number_itself tx

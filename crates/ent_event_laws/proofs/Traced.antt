@@ -14,7 +14,8 @@ use Rattle.ent_semantics.specs.Serial.{Operation, Run, ReadView, Turn, after, an
 use Rattle.ent_semantics.specs.Serial.{ended, ran_first, run, script_run, script_read_views, scripts_run}
 use Rattle.ent_semantics.specs.Serial.{scripts_read_views, seen, seen_after, seen_from, read_views}
 use Rattle.ent_semantics.specs.Statement.{statement_meaning}
-use Rattle.ent_event_laws.specs.SerialTrace.{Stage, all_some, effects, goes_on, kept, left_by, runs_in}
+use Rattle.ent_semantics.specs.Change.{all_there}
+use Rattle.ent_event_laws.specs.SerialTrace.{Stage, effects, goes_on, kept, left_by, runs_in}
 use Rattle.ent_event_laws.specs.SerialTrace.{read_view_at, runs_left, script_trace, scripts_trace, seen_in}
 use Rattle.ent_event_laws.specs.SerialTrace.{serial_trace, starts_from}
 
@@ -139,10 +140,10 @@ module _ (declared : List Create) where
   next_scripts : (database : Database) (more : List Turn) (own : Option Run)
       → ((d : Database) → scripts_run declared more d ≡ runs_in d (scripts_trace declared more d))
       → option_and_then (λ run. option_map (ran_first run.answers) (scripts_run declared more run.database)) own
-      ≡ option_map (runs_left database) (all_some (own ∷ map kept (starts_from own (scripts_trace declared more))))
+      ≡ option_map (runs_left database) (all_there (own ∷ map kept (starts_from own (scripts_trace declared more))))
   next_scripts database more (Some own) h =
       ap (option_map (ran_first own.answers)) (h own.database)
-      ∙ first_run own database (all_some (map kept (scripts_trace declared more own.database)))
+      ∙ first_run own database (all_there (map kept (scripts_trace declared more own.database)))
   next_scripts database more None h = refl
 
   pub scripts_are : (turns : List Turn) (database : Database)

@@ -7,6 +7,7 @@ use Rattle.ent_tree.specs.declared.declaration.Create.{Create}
 use Rattle.ent_tree.specs.declared.script.Statement.{Statement}
 use Rattle.ent_tree.specs.declared.script.Statement.TheVariants as statements
 use Rattle.ent_semantics.specs.declared.answer.Failure.{Failure}
+use Rattle.ent_semantics.specs.Change.{all_there}
 use Rattle.ent_semantics.specs.Database.{Database, Environment, nothing_bound}
 use Rattle.ent_semantics.specs.Effect.{Effect}
 use Rattle.ent_semantics.specs.Entangled.{Valuation}
@@ -14,12 +15,6 @@ use Rattle.ent_semantics.specs.Serial.{Operation, Run, Runs, ReadView, Turn, ope
 use Rattle.ent_semantics.specs.Statement.{statement_meaning}
 
 -- ---- lists
-
--- all values of a list, or nothing where one is missing
-abbrev pub all_some : {A : Type 0} → List (Option A) → Option (List A)
-all_some [] = Some []
-all_some (None ∷ more) = None
-all_some (Some x ∷ more) = option_map (λ xs. x ∷ xs) (all_some more)
 
 -- the last of a list, or the given one where there is none
 abbrev pub last_behind : {A : Type 0} → A → List A → A
@@ -61,7 +56,7 @@ serial_trace declared place (operation ∷ more) database environment =
 
 -- the effects of all its statements, or nothing where one failed
 abbrev pub effects : List Stage → Option (List (Effect Database))
-effects stages = all_some (map (λ stage. result_ok stage.outcome) stages)
+effects stages = all_there (map (λ stage. result_ok stage.outcome) stages)
 
 -- what effects leave behind this database and environment, and their answers
 abbrev pub left_by : Database → Environment → List (Effect Database) → Run
@@ -139,7 +134,7 @@ runs_left database made =
 
 -- what they leave all together, or nothing where one leaves nothing
 abbrev pub runs_in : Database → List ScriptTrace → Option Runs
-runs_in database all = option_map (runs_left database) (all_some (map kept all))
+runs_in database all = option_map (runs_left database) (all_there (map kept all))
 
 -- ---- the oracle's answers
 

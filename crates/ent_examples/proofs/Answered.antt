@@ -15,6 +15,7 @@ use Rattle.ent_protocol.specs.PoolEvents.{IsPresentComponent, Lends, Joins}
 use Rattle.ent_lists.specs.Elements.{in_contains}
 use Rattle.ent_protocol.specs.PostedBy.{is_present}
 use Rattle.ent_protocol.specs.State.{State}
+use Rattle.ent_termination.proofs.Taken.{none_taken}
 use Rattle.ent_examples.specs.Wish.{Friend, posted, joint_done}
 use Rattle.ent_examples.specs.Wish as wishes
 use Rattle.ent_examples.proofs.Choice.{taken, least_taken, have_partners}
@@ -108,21 +109,14 @@ module _ (s : State) (friends : List Friend) (asked : pool s ≡ map posted frie
 
 -- ---- what isn't outstanding
 
-none_taken : (job : Job) (before behind : List Job) → ◌≡◌ {A = List Job} [] (before ++ job ∷ behind) → ⊥
-none_taken job [] behind e = cc
-none_taken job (x ∷ before) behind e = cc
-
-pub not_lent : (job : Job) (jobs left : List Job) → jobs ≡ [] → IsTaken job jobs left → ⊥
-not_lent job jobs left e h = none_taken job h.before h.behind (sym e ∙ h.is_there)
-
 pub nothing_out : (s : State) (asked : List Posted) → s.lent ≡ [] → IsOut s asked → ⊥
 nothing_out s asked e h = none_there h.0 (subst (λ jobs. Contains jobs h.0) e h.1)
 
 pub stale_joint : (s : State) (done : Done) → s.lent ≡ [] → IsOutstandingJoint s done → ⊥
-stale_joint s done e h = not_lent done.job s.lent h.left e h.taken
+stale_joint s done e h = none_taken done.job s.lent h.left e h.taken
 
 pub stale_single : (s : State) (done : Done) → s.lent ≡ [] → IsOutstandingSingle s done → ⊥
-stale_single s done e h = not_lent done.job s.lent h.1 e h.3
+stale_single s done e h = none_taken done.job s.lent h.1 e h.3
 
 one_or_joint : (single : Single) (asked : List Posted) → One single ≡ Joint asked → ⊥
 one_or_joint single asked e = cc

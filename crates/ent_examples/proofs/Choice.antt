@@ -22,10 +22,11 @@ use Rattle.ent_closed.specs.declared.operand.Operand.TheVariants as operands
 use Rattle.ent_closed.specs.declared.statement.Select.{Select}
 use Rattle.ent_closed.specs.Form.{Tables, form_rows, is_form_grounding, operand_worth}
 use Rattle.ent_coordination.specs.Choice.{IsLeastChoice, AreGroundings, all_heads, all_posts, choice_cmp}
+use Rattle.ent_lists.specs.Elements.{and_both}
 use Rattle.ent_protocol.specs.Job.{tables_of}
 use Rattle.ent_protocol.specs.Partners.{partners_opening, LA, flight_122}
 use Rattle.ent_examples.specs.Wish.{Friend, posted, joint_job}
-use Rattle.ent_examples.proofs.Listed.{image_of, image_there, each_passes, one_passes, both_parts}
+use Rattle.ent_examples.proofs.Listed.{image_of, image_there, each_passes, one_passes}
 use Rattle.ent_examples.proofs.Meets.{meets}
 
 -- the tables that the job of answering them sees
@@ -107,7 +108,7 @@ met : (friends : List Friend) → have_partners friends ≡ true → (demand : F
 met friends h demand there =
     let asker = image_of post friends demand (subst (λ facts. Contains facts demand) (posts_are friends) there) in
     let partner = one_passes _ friends (each_passes _ friends asker.0 h asker.1) in
-    let same = both_parts _ _ partner.2 in
+    let same = and_both _ _ partner.2 in
     let relation = equal_names _ _ same.0 in
     let name = equal_names _ _ same.1 in
     subst (λ facts. Contains facts demand) (sym (heads_are friends))

@@ -7,8 +7,9 @@ use Rattle.std.proofs.lemmas.List.Kept.{AllPairs-cons}
 use Rattle.ent_coordination.specs.Component.{IsIn, IsInRemainder, IsSupported, AreJoined, AreLinked, AreLinkedIn}
 use Rattle.ent_coordination.specs.Component.{IsComponent}
 use Rattle.ent_coordination.specs.Pool.{Posted, CanMeet}
+use Rattle.ent_lists.specs.Elements.{and_both, or_first, or_second}
 use Rattle.ent_examples.specs.Wish.{Friend, posted}
-use Rattle.ent_examples.proofs.Listed.{image_of, image_there, each_passes, one_passes, unless, both_parts}
+use Rattle.ent_examples.proofs.Listed.{image_of, image_there, each_passes, one_passes, unless}
 use Rattle.ent_examples.proofs.Listed.{by_first, first_there, filtered_of, filtered_there, all_where}
 use Rattle.ent_examples.proofs.Meets.{meets, can_meet, met_by, no_post}
 
@@ -25,7 +26,7 @@ pub ascending : (friends : List Friend) → ascends friends ≡ true
     → AllPairs (λ (one other : Posted). one.tx < other.tx) (map posted friends)
 ascending [] h = λ i j d i<j j<n. absurd (omega arith)
 ascending (friend ∷ friends) h =
-    let parts = both_parts _ _ h in
+    let parts = and_both _ _ h in
     AllPairs-cons (λ (one other : Posted). one.tx < other.tx) (posted friend) (map posted friends)
     (all_where (λ other. friend.tx < other.tx) (map posted friends) (λ other there.
     let x = image_of posted friends other there in
@@ -68,7 +69,7 @@ module _ (friends : List Friend) (among : ℕ → Bool) where
   supported served asker zero post h e =
       let is = in_pool asker h in
       let partner = one_passes _ friends (each_passes _ chosen is.0 served is.1) in
-      let parts = both_parts _ _ partner.2 in (
+      let parts = and_both _ _ partner.2 in (
         posted partner.0,
         (image_there posted friends partner.0 partner.1, parts.0),
         subst (λ p. CanMeet p 0 (posted partner.0)) (sym is.2) (can_meet is.0 partner.0 parts.1),
@@ -88,14 +89,6 @@ module _ (friends : List Friend) (among : ℕ → Bool) where
       }
 
   -- ---- links lead from them to them
-
-  either_true : (a b : Bool) → a ≡ true → (a || b) ≡ true
-  either_true true b h = refl
-  either_true false b h = cc
-
-  or_true : (a b : Bool) → b ≡ true → (a || b) ≡ true
-  or_true true b h = refl
-  or_true false b h = h
 
   onward : are_closed ≡ true → (friend : Friend) → Contains chosen friend → (next : Posted)
       → Contains (map posted friends) next → AreJoined (posted friend) next
@@ -119,9 +112,9 @@ module _ (friends : List Friend) (among : ℕ → Bool) where
       of : CanMeet (posted friend) h.0 next ⊎ CanMeet next h.0 (posted friend)
           → (other : Friend) × Contains chosen other × (next ≡ posted other)
       of (inl k) =
-          by (either_true _ _ (met_by friend is.0 h.0 (subst (λ p. CanMeet (posted friend) h.0 p) is.2 k)).1)
+          by (or_first _ _ (met_by friend is.0 h.0 (subst (λ p. CanMeet (posted friend) h.0 p) is.2 k)).1)
       of (inr k) =
-          by (or_true _ _ (met_by is.0 friend h.0 (subst (λ p. CanMeet p h.0 (posted friend)) is.2 k)).1)
+          by (or_second _ _ (met_by is.0 friend h.0 (subst (λ p. CanMeet p h.0 (posted friend)) is.2 k)).1)
 
   reached : are_closed ≡ true → (n : ℕ) (x last : Posted) (friend : Friend) → Contains chosen friend
       → x ≡ posted friend → AreLinkedIn n (map posted friends) x last

@@ -27,7 +27,8 @@ use Rattle.ent_semantics.specs.Selection.{meets, item_row, select_worth, select_
 use Rattle.ent_semantics.specs.Serial.{ReadView, Turn, numbered}
 use Rattle.ent_examples.specs.Friends.{friends_opening, friends_scripts, flies_with, alone, to_LA, LA, Mickey, Minnie}
 use Rattle.ent_examples.specs.Friends.{flight_122, flight_136, good_book, takes, together, flies}
-use Rattle.ent_examples.proofs.Lists.{one_case, two_cases, two_apart}
+use Rattle.ent_protocol.proofs.PartnersPool.{one_case, two_cases}
+use Rattle.ent_examples.proofs.Lists.{two_apart}
 
 abbrev flights : List (List Value)
 flights =

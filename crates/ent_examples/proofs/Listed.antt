@@ -1,8 +1,9 @@
 -- Elements of lists, taken off one by one, and what a test of all of them says of each.
-use Rattle.std.proofs.Common.{◌≡◌, ◌⊎◌, inl, inr, ℕ, zero, suc, ◌<◌, Bool, true, false, ◌&&◌, ◌||◌, List, [], ◌∷◌, map}
-use Rattle.std.proofs.Common.{refl, sym, subst, ap, arith, rules, ◌∙◌}
-use Rattle.std.specs.Prelude.{All, Contains, not, cond, ◌==◌}
+use Rattle.std.proofs.Common.{◌≡◌, ◌⊎◌, inl, inr, zero, suc, ◌<◌, Bool, true, false, ◌||◌, List, [], ◌∷◌, map}
+use Rattle.std.proofs.Common.{refl, sym, subst, ap, arith, ◌∙◌}
+use Rattle.std.specs.Prelude.{All, Contains, not, cond}
 use Rattle.std.specs.List.{filter, list_all, list_any}
+use Rattle.ent_lists.specs.Elements.{and_both}
 
 pub none_there : {A : Type 0} (z : A) → Contains [] z → ⊥
 none_there z h = let r : h.0 < 0 = h.1 in omega arith
@@ -39,15 +40,11 @@ image_of f (x ∷ xs) z h =
     by_first (f x) z (map f xs) (λ e. (x, first_there x xs, e)) (λ there.
     let rest = image_of f xs z there in (rest.0, later_there x rest.0 xs rest.1, rest.2)) h
 
-pub both_parts : (a b : Bool) → (a && b) ≡ true → (a ≡ true) × (b ≡ true)
-both_parts true b h = (refl, h)
-both_parts false b h = cc
-
 pub each_passes : {A : Type 0} (p : A → Bool) (xs : List A) (x : A) → list_all p xs ≡ true → Contains xs x
     → p x ≡ true
 each_passes p [] x h there = absurd (none_there x there)
 each_passes p (y ∷ ys) x h there =
-    let parts = both_parts (p y) (list_all p ys) h in
+    let parts = and_both (p y) (list_all p ys) h in
     by_first y x ys (λ e. ap p e ∙ parts.0) (λ later. each_passes p ys x parts.1 later) there
 
 -- some element passes where a test of any of them does
@@ -96,9 +93,3 @@ all_where P (x ∷ xs) h (suc k) d l = all_where P xs (λ y there. h y (later_th
 pub unless : (a b : Bool) → (not a || b) ≡ true → a ≡ true → b ≡ true
 unless true b h e = h
 unless false b h e = cc
-
-pub both_true : (a b : Bool) → a ≡ true → b ≡ true → (a && b) ≡ true
-both_true a b h k = (λ i. h i && k i)
-
-pub same_number : (n m : ℕ) → (n == m) ≡ true → n ≡ m
-same_number n m e = grind (arith, rules)

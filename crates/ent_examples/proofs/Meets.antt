@@ -11,9 +11,10 @@ use Rattle.ent_semantics.specs.declared.answer.Fact.{Fact}
 use Rattle.ent_semantics.specs.Database.{Name, same_name}
 use Rattle.ent_semantics.specs.Names.{equal_names, name_itself}
 use Rattle.ent_coordination.specs.Pool.{CanMeet, Unify, fact_under}
+use Rattle.ent_lists.specs.Elements.{and_both, both_and}
 use Rattle.ent_protocol.specs.Partners.{flight_122}
 use Rattle.ent_examples.specs.Wish.{Wish, Friend, posted}
-use Rattle.ent_examples.proofs.Listed.{first_or_later, none_there, both_parts, both_true}
+use Rattle.ent_examples.proofs.Listed.{first_or_later, none_there}
 
 -- the other is the one that is asked for
 abbrev pub meets : Wish → Wish → Bool
@@ -23,7 +24,8 @@ meets wish other = same_name wish.relation other.relation && same_name wish.part
 abbrev pub atom : Name → Name → Atom Value
 atom relation name = record { relation = relation; terms = terms.Known (Text name) ∷ terms.Variable 0 ∷ [] }
 
-under_122 : (relation name other_relation other : Name) → relation ≡ other_relation → name ≡ other
+-- under flight 122 two atoms of one relation and one name are one fact
+pub under_122 : (relation name other_relation other : Name) → relation ≡ other_relation → name ≡ other
     → Unify (kinds.Int ∷ []) (atom relation name) (kinds.Int ∷ []) (atom other_relation other)
 under_122 relation name other_relation other e f =
     record {
@@ -37,7 +39,7 @@ under_122 relation name other_relation other e f =
 pub can_meet : (friend other : Friend) → meets friend.wish other.wish ≡ true
     → CanMeet (posted friend) 0 (posted other)
 can_meet friend other h =
-    let parts = both_parts _ _ h in
+    let parts = and_both _ _ h in
     record {
       post = atom friend.wish.relation friend.wish.partner;
       is_post = refl;
@@ -66,7 +68,7 @@ unified : (relation name other_relation other : Name) (values other_values : Lis
     → fact_under values (atom relation name) ≡ fact_under other_values (atom other_relation other)
     → (same_name relation other_relation && same_name name other) ≡ true
 unified relation name other_relation other values other_values e =
-    both_true _ _ (itself _ _ (ap (λ (fact : Fact). fact.relation) e))
+    both_and _ _ (itself _ _ (ap (λ (fact : Fact). fact.relation) e))
     (itself _ _ (first_name name other _ _ (ap (λ (fact : Fact). fact.values) e)))
 
 pub met_by : (friend other : Friend) (index : ℕ) → CanMeet (posted friend) index (posted other)

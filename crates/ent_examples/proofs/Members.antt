@@ -11,23 +11,14 @@ use Rattle.ent_protocol.specs.Begin.{holding, lending}
 use Rattle.ent_protocol.specs.Finish.{IsTaken, finished, stepped}
 use Rattle.ent_protocol.specs.Job.{Job, Changed}
 use Rattle.ent_protocol.specs.Partners.{flight_122}
+use Rattle.ent_protocol.specs.Run.{fresh as started}
 use Rattle.ent_protocol.specs.State.{State, Member}
 use Rattle.ent_protocol.specs.Uses.{shared, exclusive}
 use Rattle.ent_examples.specs.Wish.{Wish}
 
 -- at its first statement, in this attempt
 abbrev pub fresh : ℕ → ℕ → Member
-fresh tx attempt =
-    record {
-      tx = tx;
-      attempt = attempt;
-      group = tx;
-      place = 1;
-      bound = [];
-      answers = [];
-      uses = [];
-      posted = false;
-    }
+fresh tx attempt = record (started (record { tx = tx; runs = 0 })) { attempt = attempt }
 
 -- its first statement was answered with flight 122, and it is of the group of this label
 abbrev pub answered : ℕ → ℕ → ℕ → Wish → Member

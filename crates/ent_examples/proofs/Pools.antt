@@ -1,22 +1,10 @@
 -- The friends' pool is safe, and with a third it isn't.
-use Rattle.std.proofs.Common.{◌≡◌, ℕ, [], ◌∷◌, refl}
-use Rattle.std.proofs.Common.{arith}
-use Rattle.std.specs.Prelude.{Contains}
-use Rattle.ent_coordination.specs.Pool.{CanMeet, IsSafe, IsUnsafeAt, HasHeadFor, Unify}
-use Rattle.ent_examples.specs.Friends.{Mickey, Minnie, flight_122}
+use Rattle.std.proofs.Common.{◌≡◌, ℕ, refl, arith}
+use Rattle.std.specs.Prelude.{Contains, codes}
+use Rattle.ent_coordination.specs.Pool.{CanMeet, IsSafe, IsUnsafeAt, HasHeadFor}
+use Rattle.ent_examples.specs.Friends.{Mickey, Minnie}
 use Rattle.ent_examples.specs.Pool.{friend, flies_as, with_third}
-use Rattle.ent_value.specs.declared.value.Kind.TheVariants as kinds
-
--- under flight 122 the first one's post is a head of a statement of the second one's name
-unify : Unify (kinds.Int ∷ []) (flies_as Minnie) (kinds.Int ∷ []) (flies_as Minnie)
-unify =
-    record {
-      values = flight_122 ∷ [];
-      of_kinds = (refl, tt);
-      other_values = flight_122 ∷ [];
-      of_other_kinds = (refl, tt);
-      one_fact = refl;
-    }
+use Rattle.ent_examples.proofs.Meets.{under_122}
 
 meets : (tx : ℕ) → CanMeet (friend 1 Mickey Minnie) 0 (friend tx Minnie Mickey)
 meets tx =
@@ -25,7 +13,7 @@ meets tx =
       is_post = refl;
       head = flies_as Minnie;
       is_head = (0, omega arith, refl);
-      unify = unify;
+      unify = under_122 (codes "R") (codes "Minnie") (codes "R") (codes "Minnie") refl refl;
     }
 
 has : (tx : ℕ) → Contains with_third (friend tx Minnie Mickey) → HasHeadFor with_third 1 0 tx

@@ -1,7 +1,7 @@
 -- Why a run can't end yet.
 use Rattle.std.proofs.Common.{◌≡◌, ◌≢◌, inl, inr, ℕ, zero, suc, ◌<◌, ◌≤◌, Bool, true, false, List, [], ◌∷◌}
 use Rattle.std.proofs.Common.{map, refl, sym, ap, subst, ◌∙◌, arith}
-use Rattle.std.specs.Prelude.{All, AllPairs, Contains, nat_le}
+use Rattle.std.specs.Prelude.{All, Contains, nat_le}
 use Rattle.std.specs.List.{list_all}
 use Rattle.std.proofs.lemmas.List.Elements.{All-contains}
 use Rattle.ent_group.specs.Cycle.{IsOnCycle, Closes, links, links_to}
@@ -14,6 +14,7 @@ use Rattle.ent_protocol.specs.State.{State, Member}
 use Rattle.ent_protocol.specs.Waits.{waits, IsDeadlock}
 use Rattle.ent_examples.specs.Wish.{Friend, posted}
 use Rattle.ent_examples.proofs.Answered.{at_most, first_at_least}
+use Rattle.ent_examples.proofs.Lists.{two_apart}
 use Rattle.ent_examples.proofs.Listed.{none_there, by_first, first_there, later_there, each_passes, image_of}
 
 not_true : (b : Bool) → b ≡ false → b ≡ true → ⊥
@@ -92,14 +93,6 @@ both_linked zero d h = (1, omega arith, refl)
 both_linked (suc zero) d h = (0, omega arith, refl)
 both_linked (suc (suc k)) d h = absurd (let r : suc (suc k) < 2 = h in omega arith)
 
-two_apart : AllPairs (λ (x y : ℕ). x ≢ y) (2 ∷ 1 ∷ [])
-two_apart zero zero d i<j j<n = absurd (omega arith)
-two_apart zero (suc zero) d i<j j<n = λ e. omega arith
-two_apart zero (suc (suc j)) d i<j j<n = absurd (omega arith)
-two_apart (suc i) zero d i<j j<n = absurd (omega arith)
-two_apart (suc i) (suc zero) d i<j j<n = absurd (omega arith)
-two_apart (suc i) (suc (suc j)) d i<j j<n = absurd (omega arith)
-
 pub two_wait : (s : State) → waits s ≡ each_other → IsDeadlock s (2 ∷ 1 ∷ [])
 two_wait s e =
     record {
@@ -108,7 +101,7 @@ two_wait s e =
           not_empty = omega arith;
           linked = subst (λ pairs. All (Contains pairs) (links (2 ∷ 1 ∷ []))) (sym e) both_linked;
         };
-        distinct = two_apart;
+        distinct = two_apart (λ (x y : ℕ). x ≢ y) 2 1 (λ e. omega arith);
       };
       greatest = λ tx h. at_most_2 tx (subst (λ pairs. IsOnCycle pairs tx) e h);
     }

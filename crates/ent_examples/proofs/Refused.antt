@@ -19,7 +19,7 @@ use Rattle.ent_examples.specs.Friends.{Minnie}
 use Rattle.ent_examples.specs.Friends.{flight_122, flight_136, takes, together, flies, answered_apart}
 use Rattle.ent_examples.specs.Friends.{answered_elsewhere, left_out, answered_twice, widowed}
 use Rattle.ent_examples.proofs.Good.{turn, read_view, one_not_two, grounds}
-use Rattle.ent_examples.proofs.Lists.{one_case, two_cases}
+use Rattle.ent_protocol.proofs.PartnersPool.{one_case, two_cases}
 
 -- ---- the turns of a book of the friends
 

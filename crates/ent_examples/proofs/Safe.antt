@@ -7,8 +7,9 @@ use Rattle.std.specs.Ordering.{is_lt}
 use Rattle.std.specs.declared.cmp.Ordering.TheVariants.{Less}
 use Rattle.ent_coordination.specs.Pool.{Posted, CanMeet, IsSafe, Unsafe, HasHeadFor, IsFirstUnsafe, IsUnsafeAt}
 use Rattle.ent_coordination.specs.Pool.{unsafe_cmp}
+use Rattle.ent_lists.specs.Elements.{both_and, number_itself, same_number}
 use Rattle.ent_examples.specs.Wish.{Friend, posted}
-use Rattle.ent_examples.proofs.Listed.{image_of, image_there, each_passes, unless, both_true, same_number}
+use Rattle.ent_examples.proofs.Listed.{image_of, image_there, each_passes, unless}
 use Rattle.ent_examples.proofs.Meets.{meets, met_by, can_meet}
 
 -- two of the pool whose posted statements meet
@@ -55,14 +56,11 @@ pub met_twice : (test : Friend → Friend → Friend → Friend → Bool) (frien
     → test friend first again second ≡ true
 met_twice test friends h friend first again second a b c d e k l =
     unless _ _ (each_passes _ friends second (each_passes _ friends again (each_passes _ friends first
-    (each_passes _ friends friend h a) b) c) d) (both_true _ _ e (both_true _ _ k l))
+    (each_passes _ friends friend h a) b) c) d) (both_and _ _ e (both_and _ _ k l))
 
 -- each post meets heads of one transaction
 abbrev pub one_head_each : List Friend → Bool
 one_head_each = all_met_twice (λ friend first again second. first.tx == second.tx)
-
-equal_itself : (n : ℕ) → (n == n) ≡ true
-equal_itself n = grind (arith, rules)
 
 pub safe : (friends : List Friend) → one_head_each friends ≡ true → IsSafe (map posted friends)
 safe friends h asker first second index a b c k l =
@@ -72,7 +70,7 @@ safe friends h asker first second index a b c k l =
     ∙ ap (λ (p : Posted). p.tx) two.asker_is in
     let e = met_twice (λ friend first again second. first.tx == second.tx) friends h one.friend one.other two.friend
     two.other one.asks one.offers two.asks two.offers
-    (ap (λ n. n == two.friend.tx) same ∙ equal_itself two.friend.tx) one.meet two.meet in
+    (ap (λ n. n == two.friend.tx) same ∙ number_itself two.friend.tx) one.meet two.meet in
     ap (λ (p : Posted). p.tx) one.owner_is ∙ same_number _ _ e ∙ sym (ap (λ (p : Posted). p.tx) two.owner_is)
 
 -- ---- where it isn't safe
@@ -140,7 +138,7 @@ none_less friends fault h other at less =
         unless _ _ (met_twice (λ friend first again second.
         not (nat_lt first.tx second.tx) || not (is_lt (unsafe_cmp (fault_of friend first second) fault))) friends h
         one.friend one.other two.friend two.other one.asks one.offers two.asks two.offers
-        (ap (λ n. n == two.friend.tx) (sym asker ∙ again) ∙ equal_itself two.friend.tx) one.meet two.meet)
+        (ap (λ n. n == two.friend.tx) (sym asker ∙ again) ∙ number_itself two.friend.tx) one.meet two.meet)
         (sym (λ i. nat_lt (first i) (second i)) ∙ below other.first other.second at.0)
 
 pub first_unsafe : (friends : List Friend) (friend first second : Friend) → Contains friends friend

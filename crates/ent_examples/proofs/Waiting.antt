@@ -1,6 +1,6 @@
 -- A run in which nobody is left but friends that nobody answers may end.
 use Rattle.std.proofs.Common.{◌≡◌, inl, inr, ℕ, zero, ◌<◌, Bool, true, false, ◌||◌, not, List, [], ◌∷◌, map}
-use Rattle.std.proofs.Common.{ap, subst, ◌∙◌, arith}
+use Rattle.std.proofs.Common.{ap, subst, arith}
 use Rattle.std.specs.Prelude.{slice_get}
 use Rattle.std.specs.List.{list_all}
 use Rattle.ent_group.specs.Cycle.{IsOnCycle, Closes}

@@ -1,5 +1,5 @@
 -- The statements of the plays as they are written.
-use Rattle.std.specs.Prelude.{List, [], ◌∷◌, Some, None, codes}
+use Rattle.std.specs.Prelude.{[], ◌∷◌, Some, None, codes}
 use Rattle.ent_value.specs.declared.value.Value.{Value}
 use Rattle.ent_value.specs.declared.value.Value.TheVariants.{Text}
 use Rattle.ent_tree.specs.declared.entangled.Condition.TheVariants.{InSelect, InAnswer}

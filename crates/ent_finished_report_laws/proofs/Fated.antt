@@ -19,16 +19,18 @@ use Rattle.ent_protocol.specs.Event.{Event, Reply}
 use Rattle.ent_protocol.specs.Event as events
 use Rattle.ent_protocol.specs.Finish.{Finishes, FinishesBy, finished}
 use Rattle.ent_protocol.specs.Job.{Bound, Changed, Choice, Done, Fault, Job, Outcome, Shown}
-use Rattle.ent_protocol.specs.Member.{Asks, Commits, Next, Ordinary, RollsBack, active_member, is_lent, is_of, is_tx}
+use Rattle.ent_protocol.specs.Member.{Asks, Commits, Next, Ordinary, RollsBack, active_member, is_lent, is_of}
 use Rattle.ent_protocol.specs.Member.{next_of}
 use Rattle.ent_protocol.specs.PoolEvents.{AnswersBy, JoinsOrIsStale, Picks}
 use Rattle.ent_protocol.specs.Rollback.{Asked, Cause, Failing, NoOne, fate_of, fated_as, fated_by, group_members}
 use Rattle.ent_protocol.specs.Rollback.{is_last_run, or_gives_up, own_fate, rolled_back, taken_out}
 use Rattle.ent_protocol.specs.Run.{BreaksIfAny, EndsWhileRunning, Forms, StartsWith, SubmitsForm, SubmitsUnless}
-use Rattle.ent_protocol.specs.State.{Dormant, Member, State, Submitted, by_number, first_of, members}
+use Rattle.ent_protocol.specs.State.{Dormant, Member, State, Submitted, by_number, members}
 use Rattle.ent_protocol.specs.Step.{Step}
 use Rattle.ent_protocol.specs.Uses.{blocker, entangled_uses, statement_uses}
 use Rattle.ent_protocol_laws.specs.Numbered.{from_by_number}
+use Rattle.ent_protocol_laws.proofs.Leaves.{found}
+use Rattle.ent_protocol_laws.proofs.Members.{tx_of}
 use Rattle.ent_lists.specs.Elements.{In, in_either, in_first, in_second, of_filter}
 use Rattle.ent_right_report_laws.specs.Reportable.{runs_of}
 
@@ -88,9 +90,6 @@ given_by {X} {Y} f (x ∷ xs) y at = by (f x) refl at (given_by f xs y)
     by (Some z) is (inr at) rest = let r = rest at in (r.0, inr r.1, r.2)
     by None is at rest = let r = rest at in (r.0, inr r.1, r.2)
 
-abbrev tx_of : Member → ℕ
-tx_of member = member.tx
-
 left_out : (s : State) (gone : List Member) (cause : Cause) → ((m : Member) → In m gone → In m (members s))
     → FatesFrom s (taken_out gone cause s)
 left_out s gone cause of_run fated at =
@@ -144,10 +143,6 @@ finished_stay s m statement (Choice groundings) = refl
 
 -- ---- one event
 
-first_in : {X : Type 0} (xs : List X) (x : X) → first_of xs ≡ Some x → In x xs
-first_in [] x e = cc (e)
-first_in (y ∷ ys) x e = inl (let same : x ≡ y = cc in same)
-
 module _ {F : Type 0} (forms : Forms F) where
   as_is : (s same new : State) → same.fates ≡ s.fates → new ≡ same → FatesFrom s new
   as_is s same new fates e = stay s new (ap (λ (t : State). t.fates) e ∙ fates)
@@ -193,8 +188,7 @@ module _ {F : Type 0} (forms : Forms F) where
   begins : (s : State) (tx : ℕ) (member : Option Member) (reply : Reply F) (new : State)
       → active_member s tx ≡ member → BeginsMember s tx member reply new → FatesFrom s new
   begins s tx (Some m) reply new is step =
-      unless (m.posted || is_lent s tx) s m
-      (of_filter (is_tx tx) s.active m (first_in (filter (is_tx tx) s.active) m is)).0 reply new step
+      unless (m.posted || is_lent s tx) s m (found s tx m is).0 reply new step
   begins s tx None reply new is step = as_is s s new refl step.1
 
   by_outcome : (s : State) (m : Member) (left : List Job) (c : Statement Value) (outcome : Outcome) (reply : Reply F)

@@ -1,5 +1,5 @@
 -- Finished books over an input that is read can be reported.
-use Rattle.std.proofs.Common.{◌≡◌, ◌<◌, ◌≤◌, ℕ, List, [], ◌∷◌, length, refl, sym, ap, subst, ◌∙◌, None, Result, Ok}
+use Rattle.std.proofs.Common.{◌≡◌, ◌<◌, ◌≤◌, ℕ, List, [], length, refl, sym, ap, subst, ◌∙◌, None, Result, Ok}
 use Rattle.std.proofs.Common.{Err, AllPairs, Contains}
 use Rattle.std.specs.List.{AllByRecursion}
 use Rattle.ent_value.specs.Refusal.{◌>>=◌}
@@ -18,6 +18,7 @@ use Rattle.ent_form.specs.ScriptFaults.{script_faults}
 use Rattle.ent_form.specs.declared.catalogue.TableSchema.{TableSchema}
 use Rattle.ent_form.specs.declared.fault.FormFault.{FormFault}
 use Rattle.ent_form.specs.declared.script.Plain.{Plain}
+use Rattle.ent_form.proofs.FirstFault.{headless}
 use Rattle.ent_print.specs.Reading.{IsReadable}
 use Rattle.ent_sql_laws.specs.Fits.{ScriptFits}
 use Rattle.ent_semantics.specs.declared.book.Book.{Book}
@@ -44,10 +45,6 @@ no_fault : (form : Result Plain FormFault) (made : List (Statement Known))
     → (form >>= λ plain. Ok plain.statements) ≡ Ok made → fault_of form ≡ None
 no_fault (Ok plain) made e = refl
 no_fault (Err fault) made e = cc (e)
-
-none_first : (faults : List FormFault) → head_of faults ≡ None → faults ≡ []
-none_first [] e = refl
-none_first (fault ∷ more) e = cc (e)
 
 -- what other laws say of scripts, and of states that are reached
 pub record Laws : Type 0 where
@@ -88,7 +85,7 @@ module _ (laws : Laws) (s : State) (finished : IsFinished resolved_forms s)
 
   no_faults : (own : Submitted) → In own s.submitted → script_faults (schemas_of s.opening.tables) own.script ≡ []
   no_faults own at =
-      none_first (script_faults (schemas_of s.opening.tables) own.script)
+      headless (script_faults (schemas_of s.opening.tables) own.script)
       (sym (laws.first (schemas_of s.opening.tables) own.script)
       ∙ no_fault (script_in (schemas_of s.opening.tables) own.script) own.form
       (laws.resolved s own finished.reached (in_contains s.submitted own at)))

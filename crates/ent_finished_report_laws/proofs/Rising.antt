@@ -1,5 +1,5 @@
 -- Every event keeps that joint answers name their members by number.
-use Rattle.std.proofs.Common.{◌≡◌, ◌<◌, List, [], ◌∷◌, map, refl, sym, ap, subst, inl, inr}
+use Rattle.std.proofs.Common.{◌≡◌, ◌<◌, List, [], ◌∷◌, refl, sym, ap, subst, inl, inr}
 use Rattle.std.specs.List.{AllByRecursion}
 use Rattle.ent_closed.specs.declared.statement.Statement.{Statement}
 use Rattle.ent_value.specs.declared.value.Value.{Value}
@@ -14,7 +14,7 @@ use Rattle.ent_protocol.specs.Reached.{IsReached}
 use Rattle.ent_protocol.specs.Run.{Forms}
 use Rattle.ent_protocol.specs.State.{State, Member}
 use Rattle.ent_protocol_laws.proofs.Acts.{AreKept, reached}
-use Rattle.ent_lists.specs.Elements.{In, Pairs, all_filtered, all_joined, index_pairs, of_all, pairs_unmapped, to_all}
+use Rattle.ent_lists.specs.Elements.{In, Pairs, all_filtered, all_joined, index_pairs, of_all, to_all}
 
 abbrev pub Before : JointMember → JointMember → Type 0
 Before first second = first.tx < second.tx

@@ -1,5 +1,5 @@
 -- What the report of a legal book over texts of whole characters tells is of whole characters.
-use Rattle.std.proofs.Common.{◌≡◌, ℕ, List, [], ◌∷◌, map, refl, sym, ap, subst, Contains, Option, Some, None}
+use Rattle.std.proofs.Common.{◌≡◌, ℕ, List, map, refl, sym, subst, Contains, Option, Some, None}
 use Rattle.std.specs.List.{AllByRecursion}
 use Rattle.ent_set.specs.Sets as set
 use Rattle.ent_value.specs.declared.value.Value.{Value}
@@ -28,6 +28,7 @@ use Rattle.ent_history.specs.Told.{opening_row, shown_table, told_by, told_fate,
 use Rattle.ent_history.specs.Told.{told_rows}
 use Rattle.ent_lists.specs.Elements.{In, all_by, all_map, contains_in, in_contains, in_flat, of_all, of_map, to_all}
 use Rattle.ent_lists.specs.Elements.{to_flat, to_map}
+use Rattle.ent_report_laws.proofs.Opened.{row_again}
 use Rattle.ent_answer_laws.specs.Answered.{CanRun}
 use Rattle.ent_unplaced_laws.specs.Unplaced.{unplaced_book, unplaced_opening}
 use Rattle.ent_right_report_laws.specs.Reportable.{CanBeReported}
@@ -47,10 +48,6 @@ pub record Laws : Type 0 where
   pub read_views : ReadViewsKeep IsOfCharacters
   pub spelled : (script : Script) → script_spelling (unplaced_script script) ≡ script_spelling script
   pub unplaced : (opening : Opening) → opening_database (unplaced_opening opening) ≡ opening_database opening
-
-values_again : (name : Name) (values : List Value) → row_of (opening_row name values) ≡ values
-values_again name [] = refl
-values_again name (value ∷ values) = ap (λ more. value ∷ more) (values_again name values)
 
 module _ (laws : Laws) (book : Book Database) (legal : IsLegal book) (reported : CanBeReported book)
     (opening : IsOpeningOfCharacters book.opening) (scripts : AllByRecursion IsScriptOfCharacters book.scripts) where
@@ -100,7 +97,7 @@ module _ (laws : Laws) (book : Book Database) (legal : IsLegal book) (reported :
   opening_row_holds : (name : Name) (values : List Value) → In values (set.ascending (opening_database bare name))
       → IsRowOfCharacters (row_of (opening_row name values))
   opening_row_holds name values at =
-      subst IsRowOfCharacters (sym (values_again name values))
+      subst IsRowOfCharacters (sym (row_again name values))
       (of_all IsRowOfCharacters (set.ascending (opening_database bare name)) values
       (laws.shows (opening_database bare) name bare_holds) at)
 

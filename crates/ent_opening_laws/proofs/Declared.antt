@@ -12,6 +12,7 @@ use Rattle.ent_set.specs.Sets as set
 use Rattle.ent_set.specs.Laws.{any_map, contains-ascending, contains-from_list}
 use Rattle.ent_tree.specs.declared.declaration.Create.{Create}
 use Rattle.ent_tree.specs.declared.declaration.Opening.{Opening}
+use Rattle.ent_rel.proofs.Keyed.{keys_ascend}
 use Rattle.ent_semantics.specs.Database.{Name, same_name}
 use Rattle.ent_semantics.specs.Names.{equal_names, names_turned}
 use Rattle.ent_semantics.specs.Uses.{is_among}
@@ -20,7 +21,7 @@ use Rattle.ent_history.specs.Told.{declared_under, told_opening}
 use Rattle.ent_rules.specs.Formed.{is_declared}
 use Rattle.ent_lists.specs.Elements.{In, Pairs, in_flat, neither, of_all, pairs_by, pairs_joined}
 use Rattle.ent_opening_laws.specs.Alike.{AreDeclaredAlike}
-use Rattle.ent_opening_laws.proofs.Rising.{elements_rise}
+use Rattle.ent_opening_laws.proofs.Rising.{rise}
 
 -- ---- names
 
@@ -49,7 +50,8 @@ Before name other = name_cmp name other ≡ Less
 
 pub names_rise : (opening : Opening) → Pairs Before (names_by_bytes opening)
 names_rise opening =
-    elements_rise name_cmp (set.from_list {R = name_cmp} (map (λ create. create.name.name) opening.tables))
+    rise name_cmp (names_by_bytes opening)
+    (keys_ascend (set.from_list {R = name_cmp} (map (λ create. create.name.name) opening.tables)))
 
 pub other_name : (name other : Name) → Before name other → same_name name other ≡ false
 other_name name other e = texts_ties name other ∙ ap is_eq e

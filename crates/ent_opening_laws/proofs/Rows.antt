@@ -22,21 +22,15 @@ use Rattle.ent_history.specs.Told.{opening_row, told_opening, told_rows}
 use Rattle.ent_rules.specs.Formed.{is_declared}
 use Rattle.ent_lists.specs.Elements.{In, Pairs, any_in, any_some, clash, filter_empty, filter_joined, filter_whole}
 use Rattle.ent_lists.specs.Elements.{not_so, of_all, of_filter, of_map}
+use Rattle.ent_report_laws.proofs.Opened.{names_it, row_again}
 use Rattle.ent_opening_laws.specs.Alike.{AreAlike}
 use Rattle.ent_opening_laws.proofs.Declared.{named, names_apart, tables_told}
 
 -- ---- rows of some tables
 
-abbrev names_it : Name → OpeningRow → Bool
-names_it name row = same_name row.table.name name
-
-values_again : (values : List Value) → row_of (opening_row [] values) ≡ values
-values_again [] = refl
-values_again (value ∷ values) = ap (λ more. value ∷ more) (values_again values)
-
 rows_again : (name : Name) (rows : List (List Value)) → map row_of (map (opening_row name) rows) ≡ rows
 rows_again name [] = refl
-rows_again name (row ∷ rows) = λ i. values_again row i ∷ rows_again name rows i
+rows_again name (row ∷ rows) = λ i. row_again name row i ∷ rows_again name rows i
 
 module _ (rows : Name → List (List Value)) (name : Name) where
   abbrev rows_of : Name → List OpeningRow

@@ -14,16 +14,17 @@ use Rattle.ent_tree.specs.declared.declaration.Create.{Create}
 use Rattle.ent_tree.specs.declared.declaration.Opening.{Opening}
 use Rattle.ent_tree.specs.declared.declaration.OpeningRow.{OpeningRow}
 use Rattle.ent_tree.specs.declared.operand.Identifier.{Identifier}
+use Rattle.ent_rel.proofs.Keyed.{rows_ascend}
 use Rattle.ent_semantics.specs.Database.{Name, opening_database, row_of, same_name}
 use Rattle.ent_semantics.specs.Kinds.{RowsHaveKinds}
 use Rattle.ent_semantics.specs.Names.{name_itself}
 use Rattle.ent_form.specs.Catalogue.{column_schema, is_among, schemas_of, table_schema}
 use Rattle.ent_form.specs.Opening.{rows_named}
 use Rattle.ent_form.specs.OpeningFault.{opening_fault, refused_where, repeated}
-use Rattle.ent_form.specs.declared.fault.FormFault.{FormFault}
 use Rattle.ent_form.specs.declared.fault.FormFault.TheVariants.{Repeated}
 use Rattle.ent_form_laws.specs.Kinds.{AreKinded, column_kinds}
 use Rattle.ent_form_laws.specs.Opened.{opening_tables}
+use Rattle.ent_form_laws.proofs.KindedSteps.{not_refused}
 use Rattle.ent_book.specs.Report.{names_by_bytes}
 use Rattle.ent_history.specs.Text.{rows_under}
 use Rattle.ent_history.specs.Told.{declared_under, opening_row, told_opening, told_rows}
@@ -36,14 +37,10 @@ use Rattle.ent_opening_laws.specs.Read.{AreUnplaced, IsOpeningRead, IsTableRead,
 use Rattle.ent_opening_laws.proofs.Counted.{few_rows, few_tables}
 use Rattle.ent_opening_laws.proofs.Declared.{Rises, named, names_rise, one_under, tables_rise, under_is}
 use Rattle.ent_opening_laws.proofs.Faultless.{HasColumnsOnce, both_before, columns_once}
-use Rattle.ent_opening_laws.proofs.Rising.{elements_rise}
+use Rattle.ent_opening_laws.proofs.Rising.{rise}
 use Rattle.ent_opening_laws.proofs.Rows.{row_itself, row_stands, rows_shown}
 
 -- ---- names of columns
-
-not_refused : (test : Bool) (fault : FormFault) → refused_where test fault ≡ None → test ≡ false
-not_refused true fault e = cc (e)
-not_refused false fault e = refl
 
 abbrev AreOthers : Identifier → Identifier → Type 0
 AreOthers first second = same_name first.name second.name ≡ false
@@ -208,7 +205,7 @@ module _ (opening : Opening) (read : IsOpeningRead opening) (unplaced : AreUnpla
             in
             ((some_values create.columns row table.some kinds, values), kinds)),
         pairs_index (λ (row other : List Value). row_cmp row other ≡ Less) (set.ascending rows)
-            (elements_rise row_cmp rows),
+            (rise row_cmp (set.ascending rows) (rows_ascend rows)),
       )
 
   pub opening_is_told : IsOpeningTold told

@@ -1,13 +1,11 @@
 -- The database of a legal book has no rows under names that aren't declared.
-use Rattle.std.proofs.Common.{◌≡◌, ℕ, zero, suc, true, false, Bool, List, [], ◌∷◌, map, refl, sym, ap, subst, ◌∙◌, inl}
-use Rattle.std.proofs.Common.{inr, Option, Some, None, Result, Ok, Err}
+use Rattle.std.proofs.Common.{◌≡◌, ℕ, zero, suc, false, List, [], ◌∷◌, map, refl, sym, ap, subst, ◌∙◌, inl}
+use Rattle.std.proofs.Common.{inr, Some, None, Result, Ok}
 use Rattle.std.specs.List.{AllByRecursion}
 use Rattle.std.specs.Option.{option_and_then, option_map}
 use Rattle.ent_set.specs.Sets as set
 use Rattle.ent_tree.specs.declared.declaration.Create.{Create}
 use Rattle.ent_tree.specs.declared.declaration.Opening.{Opening}
-use Rattle.ent_tree.specs.declared.script.End.{End}
-use Rattle.ent_tree.specs.declared.script.End.TheVariants.{Commit, Rollback}
 use Rattle.ent_tree.specs.declared.script.Script.{Script}
 use Rattle.ent_tree.specs.declared.script.Statement.{Statement}
 use Rattle.ent_semantics.specs.declared.answer.Failure.{Failure}
@@ -17,19 +15,20 @@ use Rattle.ent_semantics.specs.Book.{IsLegal}
 use Rattle.ent_semantics.specs.Database.{Database, Environment, Name, nothing_bound, opening_database}
 use Rattle.ent_semantics.specs.Effect.{Effect}
 use Rattle.ent_semantics.specs.Entangled.{Valuation}
-use Rattle.ent_semantics.specs.Serial.{Operation, Run, Runs, Turn, operation_first, operations_of, ended, is_entangled, numbered}
-use Rattle.ent_semantics.specs.Serial.{ran_first, run, script_run, scripts_run, with_answer}
+use Rattle.ent_semantics.specs.Serial.{Operation, Run, Runs, Turn, operations_of, numbered}
+use Rattle.ent_semantics.specs.Serial.{ran_first, run, script_run, scripts_run}
 use Rattle.ent_semantics.specs.Statement.{statement_meaning}
 use Rattle.ent_semantics.specs.Uses.{KeepsOthers, changes}
-use Rattle.ent_form.specs.AllFaults.{fault_of, head_of}
+use Rattle.ent_form.specs.AllFaults.{head_of}
 use Rattle.ent_form.specs.Catalogue.{schemas_of}
 use Rattle.ent_form.specs.Form.{script_in}
 use Rattle.ent_form.specs.OpeningFault.{opening_fault}
 use Rattle.ent_form.specs.ScriptFaults.{script_faults}
-use Rattle.ent_form.specs.declared.fault.FormFault.{FormFault}
 use Rattle.ent_form.specs.declared.script.Plain.{Plain}
 use Rattle.ent_lists.specs.Elements.{In, clash, got_in, in_contains, not_so, of_all, to_map}
 use Rattle.ent_report_laws.proofs.Sound.{Laws}
+use Rattle.ent_answer_laws.proofs.Turns.{ended_some, resolves}
+use Rattle.ent_answer_laws.proofs.Walking.{operations_so}
 use Rattle.ent_rules.specs.Formed.{is_declared}
 use Rattle.ent_rules.proofs.Operations.{goes_on, mapped_some, then_some}
 use Rattle.ent_rules.proofs.Tables.{Keeps}
@@ -39,38 +38,10 @@ use Rattle.ent_rules.proofs.Tables.{Keeps}
 abbrev pub statement_of : Operation → Statement
 statement_of operation = operation.statement
 
-first_operation : (st : Statement) (more : List Statement) (valuation : Valuation) (oracle : List Valuation)
-    (operations : List Operation) → operation_first st valuation (operations_of more oracle) ≡ Some operations
-    → ((rest : List Operation) → operations_of more oracle ≡ Some rest → map statement_of rest ≡ more)
-    → map statement_of operations ≡ st ∷ more
-first_operation st more valuation oracle operations e rest =
-    let x = mapped_some (λ (others : List Operation). record { statement = st; valuation = valuation } ∷ others)
-    (operations_of more oracle) operations e in
-    ap (map statement_of) x.2 ∙ ap (λ others. st ∷ others) (rest x.0 x.1)
-
-next_operation : (st : Statement) (more : List Statement) (b : Bool) (oracle : List Valuation) (operations : List Operation)
-    → with_answer st b oracle (operations_of more) ≡ Some operations
-    → ((others : List Valuation) (rest : List Operation) → operations_of more others ≡ Some rest
-    → map statement_of rest ≡ more)
-    → map statement_of operations ≡ st ∷ more
-next_operation st more false oracle operations e rest = first_operation st more [] oracle operations e (rest oracle)
-next_operation st more true [] operations e rest = cc (e)
-next_operation st more true (valuation ∷ oracle) operations e rest = first_operation st more valuation oracle operations e (rest oracle)
-
 -- the operations of a script are its statements
 pub operations_are : (sts : List Statement) (oracle : List Valuation) (operations : List Operation)
     → operations_of sts oracle ≡ Some operations → map statement_of operations ≡ sts
-operations_are [] [] operations e = ap (map statement_of) (sym (one operations e))
-  where
-    one : (operations : List Operation) → Some [] ≡ Some operations → [] ≡ operations
-    one operations e = cc
-operations_are [] (valuation ∷ oracle) operations e = cc (e)
-operations_are (st ∷ more) oracle operations e =
-    next_operation st more (is_entangled st) oracle operations e (λ others rest f. operations_are more others rest f)
-
-ended_some : (end : End) (o : Option Run) (r : Run) → ended end o ≡ Some r → o ≡ Some r
-ended_some Commit o r e = e
-ended_some Rollback o r e = cc (e)
+operations_are sts oracle operations e = (operations_so sts oracle operations e).0
 
 pub record ScriptRan (declared : List Create) (script : Script) (oracle : List Valuation) (d : Database) (r : Run)
     : Type 0 where
@@ -155,10 +126,6 @@ module _ (keeps : Keeps) (declared : List Create) (name : Name) where
 abbrev pub IsFaultless : Opening → Script → Type 0
 IsFaultless opening script = script_faults (schemas_of opening.tables) script ≡ []
 
-no_fault : {A : Type 0} (form : Result A FormFault) → fault_of form ≡ None → (plain : A) × (form ≡ Ok plain)
-no_fault (Ok plain) e = (plain, refl)
-no_fault (Err fault) e = cc (e)
-
 pub numbered_in : {X : Type 0} (xs : List X) (n : ℕ) (x : X) → numbered xs n ≡ Some x → In x xs
 numbered_in xs zero x e = cc (e)
 numbered_in xs (suc k) x e = got_in xs k x e
@@ -170,7 +137,7 @@ module _ (laws : Laws) (keeps : Keeps) (book : Book Database) (legal : IsLegal b
   pub script_form : AllByRecursion (IsFaultless book.opening) book.scripts → (script : Script)
       → In script book.scripts → (plain : Plain) × (script_in (schemas_of book.opening.tables) script ≡ Ok plain)
   script_form faultless script at =
-      no_fault (script_in (schemas_of book.opening.tables) script)
+      resolves (script_in (schemas_of book.opening.tables) script)
       (laws.first (schemas_of book.opening.tables) script
       ∙ ap head_of (of_all (IsFaultless book.opening) book.scripts script faultless at))
 

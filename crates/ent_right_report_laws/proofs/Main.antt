@@ -1,5 +1,5 @@
 -- The report of a legal book that can be reported tells of a legal book.
-use Rattle.std.proofs.Common.{◌≡◌, ◌≤◌, ℕ, false, List, [], map, length, sym, ap, subst, ◌∙◌, None, Some, arith}
+use Rattle.std.proofs.Common.{◌≡◌, ◌≤◌, ℕ, false, List, [], map, length, sym, ap, subst, ◌∙◌, None, arith}
 use Rattle.std.specs.Prelude.{◌↔◌, AllPairs, Contains}
 use Rattle.std.specs.List.{All, AllByRecursion, range_with_len}
 use Rattle.std.proofs.lemmas.List.{length-map}
@@ -19,27 +19,26 @@ use Rattle.ent_semantics.specs.declared.book.Fated.{Fated}
 use Rattle.ent_semantics.specs.declared.book.JointAnswer.{JointAnswer}
 use Rattle.ent_semantics.specs.Book.{IsLegal, book_read_views}
 use Rattle.ent_semantics.specs.Database.{Database, Name, opening_database}
-use Rattle.ent_semantics.specs.Joint.{member_of}
-use Rattle.ent_semantics.specs.Serial.{Runs, ReadView, Turn, numbered, scripts_run, scripts_read_views}
+use Rattle.ent_semantics.specs.Serial.{Runs, Turn}
 use Rattle.ent_book.specs.Report2.{report_2_text}
 use Rattle.ent_form.specs.Catalogue.{schemas_of}
 use Rattle.ent_form.specs.OpeningFault.{declarations_fault, opening_fault}
 use Rattle.ent_form.specs.ScriptFaults.{script_faults}
-use Rattle.ent_history.specs.declared.history.History.{History}
 use Rattle.ent_history.specs.Text.{history_text}
-use Rattle.ent_history.specs.Told.{book_of, told_by, told_member, told_opening}
+use Rattle.ent_history.specs.Told.{book_of, told_by, told_opening}
 use Rattle.ent_history_form.specs.Answers.{AreRuns}
 use Rattle.ent_history_form.specs.Stands.{Tells}
 use Rattle.ent_lists.specs.Elements.{all_by, all_map, of_all, to_all}
-use Rattle.ent_report_laws.specs.Tellable.{AreTablesOf, CanBeTold, IsMemberTold, IsOpeningTold}
+use Rattle.ent_report_laws.specs.Tellable.{AreTablesOf, CanBeTold, IsOpeningTold}
 use Rattle.ent_report_laws.proofs.Sound.{Laws as Resolving}
 use Rattle.ent_rules.specs.Formed.{is_declared}
 use Rattle.ent_rules.proofs.Tables.{Keeps}
 use Rattle.ent_script_reader.proofs.Kept.{script_kept}
 use Rattle.ent_script_reader.proofs.Twice.{script_once}
 use Rattle.ent_opening_laws.specs.Read.{AreUnplaced, IsOpeningRead}
-use Rattle.ent_answer_laws.specs.Answered.{AreGrounded, AreTurnsAnswered, CanBeCounted, CanRun}
+use Rattle.ent_answer_laws.specs.Answered.{AreGrounded, CanBeCounted, CanRun}
 use Rattle.ent_answer_laws.specs.Held.{HoldsRowsOf}
+use Rattle.ent_answer_laws.specs.Runs.{ReadViewsAreTold, RunsAreAnswered, RunsHoldRows}
 use Rattle.ent_unplaced_laws.specs.Unplaced.{unplaced_book, unplaced_create, unplaced_opening}
 use Rattle.ent_right_report_laws.specs.Reportable.{CanBeReported, runs_of}
 use Rattle.ent_right_report_laws.proofs.Again.{book_again}
@@ -75,29 +74,9 @@ pub record Laws : Type 0 where
   pub told_tables : (opening : Opening) → IsOpeningTold opening → declarations_fault [] opening.tables ≡ None
   pub told_rows : (opening : Opening) → IsOpeningTold opening
       → HoldsRowsOf opening.tables (opening_database opening)
-  pub rows : (declared : List Create) (turns : List Turn) (database : Database) (runs : Runs)
-      → declarations_fault [] declared ≡ None
-      → ((turn : Turn) → Contains turns turn → CanRun declared turn.script)
-      → HoldsRowsOf declared database
-      → AreGrounded declared (scripts_read_views declared turns database)
-      → scripts_run declared turns database ≡ Some runs
-      → HoldsRowsOf declared runs.database
-  pub answers : (declared : List Create) (turns : List Turn) (database : Database) (runs : Runs)
-      → declarations_fault [] declared ≡ None
-      → ((turn : Turn) → Contains turns turn → CanRun declared turn.script)
-      → HoldsRowsOf declared database
-      → AreGrounded declared (scripts_read_views declared turns database)
-      → scripts_run declared turns database ≡ Some runs
-      → AllByRecursion (AllByRecursion CanBeCounted) runs.answers
-      → AreTurnsAnswered turns runs.answers
-  pub read_views : (history : History) (turns : List Turn) (database : Database) (read_view : ReadView)
-      → declarations_fault [] history.opening.tables ≡ None
-      → ((turn : Turn) → Contains turns turn → CanRun history.opening.tables turn.script)
-      → ((turn : Turn) → Contains turns turn → numbered history.scripts turn.tx ≡ Some turn.script)
-      → HoldsRowsOf history.opening.tables database
-      → AreGrounded history.opening.tables (scripts_read_views history.opening.tables turns database)
-      → Contains (scripts_read_views history.opening.tables turns database) read_view
-      → IsMemberTold history (told_member history.scripts (member_of read_view))
+  pub rows : RunsHoldRows
+  pub answers : RunsAreAnswered
+  pub read_views : ReadViewsAreTold
   pub shown : (declared : List Create) (database : Database) → HoldsRowsOf declared database
       → AreTablesOf declared (map (shown_create database) declared)
   -- the text of what is told
