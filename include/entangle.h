@@ -35,7 +35,7 @@
  *   - What entangle_open opened is given to entangle_free in the end, or its memory is lost. Where a call says that
  *     memory ran out, the manager is there as before.
  *
- * A manager is open, closed (by entangle_close) or null. A call that wants another one of these answers
+ * A manager is open (by entangle_open or entangle_renew), closed (by entangle_close) or null. A call that wants another one of these answers
  * ENTANGLE_MISUSED, and changes nothing.
  */
 #ifndef ENTANGLE_H
@@ -111,6 +111,7 @@ int32_t ent_c_answers(entangle_manager **manager, uint64_t number, uint8_t *buff
 int32_t ent_c_table(entangle_manager **manager, const uint8_t *name, size_t length, uint8_t *buffer, size_t capacity,
                     entangle_told *told);
 int32_t ent_c_close(entangle_manager **manager);
+int32_t ent_c_renew(entangle_manager **manager);
 int32_t ent_c_closed_report(entangle_manager **manager, uint32_t version, uint8_t *buffer, size_t capacity,
                             entangle_told *told);
 void ent_c_free(entangle_manager **manager);
@@ -177,8 +178,8 @@ static inline int32_t entangle_open(entangle_manager **manager, const void *inpu
 /* Submits a script: the text of one, from its BEGIN TRANSACTION on, and of nothing else. It waits for the next run.
  *
  * ENTANGLE_DONE: `*number` is its transaction, from 1 in order of submission. ENTANGLE_REFUSED: the fault is told,
- * whose place counts from the start of this text; or E406: 10,000 scripts were submitted. ENTANGLE_OUT_OF_MEMORY: E900 is
- * told. After a refusal nothing has changed, `*number` neither. */
+ * whose place counts from the start of this text; or E406: 10,000 scripts were submitted. ENTANGLE_OUT_OF_MEMORY: E900
+ * is told. After a refusal nothing has changed, `*number` neither. */
 static inline int32_t entangle_submit(entangle_manager **manager, const void *script, size_t length, uint64_t *number,
                                       entangle_told *told) {
     uint8_t none = 0;
@@ -229,8 +230,8 @@ static inline int32_t entangle_table(entangle_manager **manager, const void *nam
                        capacity, told);
 }
 
-/* Closes a manager whose transactions all have a fate. Then its report can be asked for, and nothing else but to free
- * it.
+/* Closes a manager whose transactions all have a fate. Then its report can be asked for, and it can be opened again, by
+ * entangle_renew, or freed.
  *
  * ENTANGLE_DONE: it is closed. ENTANGLE_REFUSED: a transaction waits for a run (E405), and it stays open.
  * ENTANGLE_OUT_OF_MEMORY: it stays open. */
@@ -247,6 +248,17 @@ static inline int32_t entangle_closed_report(entangle_manager **manager, uint32_
     uint8_t none = 0;
     if (!manager || entangle_is_misused(&none, 0, buffer, capacity, told)) return ENTANGLE_MISUSED;
     return ent_c_closed_report(manager, version, buffer ? (uint8_t *)buffer : &none, capacity, told);
+}
+
+/* Opens a manager that is closed again: over the same tables, with the rows that they ended with. No script is
+ * submitted to it, numbers begin at 1 again, and its report is gone. So a service goes on when 10,000 scripts were
+ * submitted.
+ *
+ * ENTANGLE_DONE: it is open. ENTANGLE_REFUSED: more than 65,536 rows stand in its tables together (E407), and it stays
+ * closed. ENTANGLE_OUT_OF_MEMORY: it stays closed. */
+static inline int32_t entangle_renew(entangle_manager **manager) {
+    if (!manager) return ENTANGLE_MISUSED;
+    return ent_c_renew(manager);
 }
 
 /* Frees a manager, whatever it has come to, and sets the pointer to null; where it is null, nothing is done. */

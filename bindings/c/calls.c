@@ -122,10 +122,14 @@ static void managers(void) {
     CHECK(tells_text(&told, 14) && !memcmp(buffer, "table T 1\n(1)\n#", 15));
     CHECK(entangle_table(&manager, "U", 1, buffer, 256, &told) == ENTANGLE_REFUSED && told.code == 401);
     CHECK(entangle_closed_report(&manager, 1, buffer, 256, &told) == ENTANGLE_MISUSED && tells_text(&told, 0));
+    CHECK(entangle_renew(&manager) == ENTANGLE_MISUSED);
     CHECK(entangle_close(&manager) == ENTANGLE_DONE && entangle_run(&manager) == ENTANGLE_MISUSED);
     CHECK(entangle_closed_report(&manager, 3, buffer, 256, &told) == ENTANGLE_MISUSED && tells_text(&told, 0));
     CHECK(entangle_closed_report(&manager, 1, buffer, 256, &told) == ENTANGLE_DONE);
     CHECK(tells_text(&told, sizeof AFTER - 1) && !memcmp(buffer, AFTER, sizeof AFTER - 1));
+    CHECK(entangle_renew(&manager) == ENTANGLE_DONE && entangle_standing(&manager, 1, &position) == ENTANGLE_REFUSED);
+    CHECK(entangle_table(&manager, "T", 1, buffer, 256, &told) == ENTANGLE_DONE && tells_text(&told, 14));
+    CHECK(entangle_submit(&manager, SCRIPT, sizeof SCRIPT - 1, &number, &told) == ENTANGLE_DONE && number == 1);
     CHECK(entangle_open(NULL, TABLE, 1, &told) == ENTANGLE_MISUSED && entangle_run(NULL) == ENTANGLE_MISUSED);
     CHECK(entangle_submit(&manager, NULL, 1, &number, &told) == ENTANGLE_MISUSED && manager == at);
     entangle_free(&manager);

@@ -54,7 +54,7 @@ __all__ = [
 ]
 
 _DONE, _REFUSED, _MISUSED, _OUT_OF_MEMORY = range(4)
-_NO_SUCH, _NOT_DONE, _NO_MEMORY = 401, 405, 900
+_NO_SUCH, _NOT_DONE, _TOO_MANY_ROWS, _NO_MEMORY = 401, 405, 407, 900
 _KINDS = ("", "waiting", "running", "running", "running", "running", "committed", "gave up", "rolled back", "failed")
 _FIRST_CAPACITY = 4096
 
@@ -193,6 +193,7 @@ def _loaded() -> ctypes.CDLL:
     library.ent_c_answers.argtypes = [manager, number, *out]
     library.ent_c_table.argtypes = [manager, *text, *out]
     library.ent_c_close.argtypes = [manager]
+    library.ent_c_renew.argtypes = [manager]
     library.ent_c_closed_report.argtypes = [manager, ctypes.c_uint32, *out]
     library.ent_c_free.argtypes = [manager]
     library.ent_c_free.restype = None
@@ -402,13 +403,24 @@ class Manager:
         return [_row_at(line, 0)[0] for line in lines.splitlines()[1:]]
 
     def finish(self) -> None:
-        """Closes the book, where every transaction has its fate; then report() is all that the manager is there for.
+        """Closes the book, where every transaction has its fate; then report() and renew() are all that is left to do.
 
         Raises Refused (E405) where a transaction waits for a run, and OutOfMemory; then it stays open.
         """
         with self._lock:
             status = _LIBRARY.ent_c_close(self._place())
         self._end(status, _Told(code=_NO_MEMORY if status == _OUT_OF_MEMORY else _NOT_DONE))
+
+    def renew(self) -> None:
+        """Opens a manager whose book is closed again: over the same tables, with the rows that they ended with.
+
+        No script is submitted to it, and numbers begin at 1 again; so a service goes on when 10,000 scripts were
+        submitted. Raises Refused (E407) where more than 65,536 rows stand in the tables together, and OutOfMemory; then
+        the book stays closed. Raises StateError where it isn't.
+        """
+        with self._lock:
+            status = _LIBRARY.ent_c_renew(self._place())
+        self._end(status, _Told(code=_NO_MEMORY if status == _OUT_OF_MEMORY else _TOO_MANY_ROWS))
 
     def report(self, version: int = 1) -> str:
         """The report of a manager whose book is closed, of this version. Raises StateError where it isn't."""

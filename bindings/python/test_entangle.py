@@ -193,6 +193,17 @@ class Managers(unittest.TestCase):
                 manager.finish()
             self.assertEqual(caught.exception.code, 405)
 
+    def test_a_closed_manager_goes_on_with_its_tables(self):
+        with entangle.Manager(TABLES) as manager:
+            self.assertRaises(entangle.StateError, manager.renew)
+            for number in range(3):
+                tx = manager.submit(f"BEGIN TRANSACTION; INSERT INTO Flights VALUES ({number}, 'LA'); COMMIT;")
+                self.assertEqual(tx, 1)
+                manager.run()
+                manager.finish()
+                manager.renew()
+            self.assertEqual(manager.table("Flights"), [(0, "LA"), (1, "LA"), (2, "LA"), (122, "LA")])
+
     def test_a_closed_manager_has_its_report_alone(self):
         manager = entangle.Manager(TABLES)
         manager.finish()

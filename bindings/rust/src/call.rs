@@ -80,6 +80,7 @@ unsafe extern "C" {
     ) -> i32;
 
     fn ent_c_close(manager: *mut *mut Opaque) -> i32;
+    fn ent_c_renew(manager: *mut *mut Opaque) -> i32;
 
     fn ent_c_closed_report(
         manager: *mut *mut Opaque,
@@ -220,6 +221,11 @@ impl Handle {
     pub(crate) fn close(&mut self) -> Result<(), Refusal> {
         // SAFETY: as said above.
         status_said(unsafe { ent_c_close(&mut self.at) }, Told { code: 405, ..Told::default() })
+    }
+
+    pub(crate) fn renew(&mut self) -> Result<(), Refusal> {
+        // SAFETY: as said above.
+        status_said(unsafe { ent_c_renew(&mut self.at) }, Told { code: 407, ..Told::default() })
     }
 
     pub(crate) fn answers(&mut self, number: u64) -> Result<String, Refusal> {

@@ -230,13 +230,25 @@ impl Manager {
         Ok(table_in(&lines).expect("the lines of a report are a table"))
     }
 
-    /// Closes the manager, where every transaction has its fate. Then [`Manager::report`] is all that it is there for.
+    /// Closes the manager, where every transaction has its fate. Then it is there for [`Manager::report`] and
+    /// [`Manager::renew`] alone.
     ///
     /// # Errors
     ///
     /// A transaction waits for a run (E405), or memory ran out; the manager stays open.
     pub fn close(&mut self) -> Result<(), Error> {
         Ok(self.handle.close()?)
+    }
+
+    /// Opens a manager that is closed again: over the same tables, with the rows that they ended with. No script is
+    /// submitted to it, and numbers begin at 1 again. So a service goes on when 10,000 scripts were submitted.
+    ///
+    /// # Errors
+    ///
+    /// The manager isn't closed; or more than 65,536 rows stand in the tables together (E407), or memory ran out: then
+    /// it stays closed.
+    pub fn renew(&mut self) -> Result<(), Error> {
+        Ok(self.handle.renew()?)
     }
 
     /// The report of a manager that is closed.

@@ -107,6 +107,21 @@ fn a_refused_call_changes_nothing() {
 }
 
 #[test]
+fn a_closed_manager_goes_on_with_its_tables() {
+    let mut manager = Manager::open(TABLE).expect("the table is right");
+    assert_eq!(manager.renew(), Err(Error::State));
+    let insert = |number: i64| format!("BEGIN TRANSACTION; INSERT INTO T VALUES ({number}); COMMIT;");
+    for number in 0..3 {
+        assert_eq!(manager.submit(&insert(number)), Ok(1));
+        manager.run().expect("memory is there");
+        manager.close().expect("all have their fates");
+        manager.renew().expect("there are few rows");
+        assert_eq!(manager.standing(1).map_err(code_of), Err(401));
+    }
+    assert_eq!(manager.table("T"), Ok((0..3).map(|number| vec![Value::Int(number)]).collect()));
+}
+
+#[test]
 fn a_manager_moves_between_threads() {
     let shared = Shared::new(Manager::open(TABLE).expect("the table is right"));
     thread::scope(|scope| {

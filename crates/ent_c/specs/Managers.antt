@@ -10,6 +10,7 @@ use Rattle.ent_engine.specs.Reading.{IsRefused}
 use Rattle.ent_engine.specs.declared.fault.RunFault.{RunFault}
 use Rattle.ent_driver.specs.Drives.{Closes, IsNotClosed, IsNotSubmitted, Opens, Runs, Stands, StandsNowhere}
 use Rattle.ent_driver.specs.Drives.{StopsRun, Submits}
+use Rattle.ent_driver.specs.Renewal.{IsNotRenewed, Renews}
 use Rattle.ent_driver.specs.Fault.{status as refusal_status}
 use Rattle.ent_driver.specs.declared.driver.Driver.{Driver}
 use Rattle.ent_driver.specs.declared.driver.Driver.TheVariants.{Vacant}
@@ -71,3 +72,9 @@ abbrev pub ClosesManager : Held → Held → ℤ → Type 0
 ClosesManager old new status =
     (Closes (behind old) (behind new) × (status ≡ pos 0))
     ⊎ ((fault : DriverFault) × IsNotClosed (behind old) fault × (new ≡ old) × (status ≡ pos (refusal_status fault)))
+
+-- the book that was left goes on in the manager; or nothing changes
+abbrev pub RenewsManager : Held → Held → ℤ → Type 0
+RenewsManager old new status =
+    (Renews (behind old) (behind new) × (status ≡ pos 0))
+    ⊎ ((fault : DriverFault) × IsNotRenewed (behind old) fault × (new ≡ old) × (status ≡ pos (refusal_status fault)))

@@ -28,8 +28,8 @@ use crate::version::version_numbered;
 use ent_engine::{ReportVersion, RunFault, status_of};
 pub use handle::Handle;
 pub use manager::{
-    ent_c_answers, ent_c_close, ent_c_closed_report, ent_c_free, ent_c_open, ent_c_run,
-    ent_c_standing, ent_c_submit, ent_c_table,
+    ent_c_answers, ent_c_close, ent_c_closed_report, ent_c_free, ent_c_open, ent_c_renew,
+    ent_c_run, ent_c_standing, ent_c_submit, ent_c_table,
 };
 pub use position::Position;
 use std::alloc::Global;

@@ -4,7 +4,8 @@ ghost use Rattle.std.specs.declared.option.Option.TheVariants.{None};
 ghost use Rattle.ent_driver.specs.Drives.{Answers, IsUnanswered, IsUnreported, IsUnshown, Opens, Reports, Shows};
 ghost use Rattle.ent_engine.specs.Reading.{IsRefused};
 ghost use Rattle.ent_c.specs.Calls.{HandsOut, IsMisused, Declines};
-ghost use Rattle.ent_c.specs.Managers.{ClosesManager, HandsOutOr, OpensManager, RunsManager, StandsIn, SubmitsTo};
+ghost use Rattle.ent_c.specs.Managers.{ClosesManager, HandsOutOr, OpensManager, RenewsManager, RunsManager};
+ghost use Rattle.ent_c.specs.Managers.{StandsIn, SubmitsTo};
 ghost use Rattle.ent_c.specs.Managers.{behind};
 ghost use Rattle.ent_c.specs.Version.{version_numbered};
 
@@ -202,6 +203,22 @@ pub extern "C" fn ent_c_close(alloc: Global, handle: &mut Handle) -> i32
     let closed = driver.close();
     handle.put(driver);
     match closed {
+        Ok(()) => DONE,
+        Err(fault) => fault.status() as i32,
+    }
+}
+
+/// Opens a manager that was closed again, over the tables that its book ends with. Nothing is submitted to it yet.
+#[unsafe(no_mangle)]
+pub extern "C" fn ent_c_renew(alloc: Global, handle: &mut Handle) -> i32
+    ensures { RenewsManager handle.old.held handle.new.held result }
+{
+    let Some(mut driver) = handle.take(alloc) else {
+        return MISUSED;
+    };
+    let renewed = driver.renew(alloc);
+    handle.put(driver);
+    match renewed {
         Ok(()) => DONE,
         Err(fault) => fault.status() as i32,
     }
