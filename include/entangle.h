@@ -35,8 +35,8 @@
  *   - What entangle_open opened is given to entangle_free in the end, or its memory is lost. Where a call says that
  *     memory ran out, the manager is there as before.
  *
- * A manager is open (by entangle_open or entangle_renew), closed (by entangle_close) or null. A call that wants another one of these answers
- * ENTANGLE_MISUSED, and changes nothing.
+ * A manager is open (by entangle_open or entangle_renew), closed (by entangle_close) or null. A call that wants another
+ * one of these answers ENTANGLE_MISUSED, and changes nothing.
  */
 #ifndef ENTANGLE_H
 #define ENTANGLE_H
@@ -92,6 +92,37 @@ struct entangle_position {
 };
 typedef struct entangle_position entangle_position;
 
+/* What entangle_make is asked for: one event of a manager, and the result of the job that it lends. */
+enum entangle_move {
+    ENTANGLE_START_RUN = 1, /* a run starts */
+    ENTANGLE_BEGIN,         /* a transaction begins its next statement, or ends as its script does */
+    ENTANGLE_PICK,          /* a component of the statements that are posted is answered together */
+    ENTANGLE_BREAK_CYCLE,   /* a deadlock is looked for, and broken */
+    ENTANGLE_END_RUN        /* the run ends, where nothing can move in it */
+};
+
+/* The reply to a move, as docs/SCENARIOS.md lists them. The last three are refusals, which change nothing. */
+enum entangle_reply {
+    ENTANGLE_REPLY_STARTED = 1,
+    ENTANGLE_REPLY_BLOCKED,     /* it stays: another transaction blocks it */
+    ENTANGLE_REPLY_HELD_BACK,   /* it stays: a demand would meet offers of two */
+    ENTANGLE_REPLY_POSTED,      /* its entangled statement waits for an answer */
+    ENTANGLE_REPLY_PREPARED,    /* it waits for the others of its group */
+    ENTANGLE_REPLY_COMMITTED,   /* its group committed */
+    ENTANGLE_REPLY_ROLLED_BACK, /* its group is rolled back */
+    ENTANGLE_REPLY_STEPPED,     /* its statement is answered */
+    ENTANGLE_REPLY_FAILED,      /* its statement failed, and its group is rolled back */
+    ENTANGLE_REPLY_NOTHING,     /* there is no component to be answered */
+    ENTANGLE_REPLY_ANSWERED,    /* the component has its answers */
+    ENTANGLE_REPLY_NO_CHOICE,   /* no values serve it */
+    ENTANGLE_REPLY_BROKEN,      /* there was a deadlock, and a group is rolled back for it */
+    ENTANGLE_REPLY_NO_CYCLE,    /* there is no deadlock */
+    ENTANGLE_REPLY_ENDED,
+    ENTANGLE_REPLY_ABSENT,  /* E401: it is no member of the run; or nothing waits for one */
+    ENTANGLE_REPLY_NOT_NOW, /* E402 */
+    ENTANGLE_REPLY_BUSY     /* E404: the run can't end yet */
+};
+
 /* A manager. C doesn't look behind the pointer. */
 typedef struct entangle_manager entangle_manager;
 
@@ -105,6 +136,8 @@ int32_t ent_c_open(entangle_manager **manager, const uint8_t *input, size_t leng
 int32_t ent_c_submit(entangle_manager **manager, const uint8_t *script, size_t length, uint64_t *number,
                      entangle_told *told);
 int32_t ent_c_run(entangle_manager **manager);
+int32_t ent_c_make(entangle_manager **manager, uint32_t move, uint64_t number, uint32_t *reply);
+int32_t ent_c_why(entangle_manager **manager, uint64_t number, uint8_t *buffer, size_t capacity, entangle_told *told);
 int32_t ent_c_standing(entangle_manager **manager, uint64_t number, entangle_position *position);
 int32_t ent_c_answers(entangle_manager **manager, uint64_t number, uint8_t *buffer, size_t capacity,
                       entangle_told *told);
@@ -195,6 +228,28 @@ static inline int32_t entangle_submit(entangle_manager **manager, const void *sc
 static inline int32_t entangle_run(entangle_manager **manager) {
     if (!manager) return ENTANGLE_MISUSED;
     return ent_c_run(manager);
+}
+
+/* Makes one move, an enum entangle_move, where the caller orders the events of a run itself. `number` is the
+ * transaction that begins; the other moves don't look at it.
+ *
+ * ENTANGLE_DONE: `*reply` is its reply, an enum entangle_reply. ENTANGLE_OUT_OF_MEMORY: what was done stands, the move
+ * may be made again, and `*reply` is as it was. ENTANGLE_MISUSED: there is no such move, or the manager isn't open. */
+static inline int32_t entangle_make(entangle_manager **manager, uint32_t move, uint64_t number, uint32_t *reply) {
+    if (!manager || !reply) return ENTANGLE_MISUSED;
+    return ent_c_make(manager, move, number, reply);
+}
+
+/* Hands out a line that says what keeps a transaction from moving now, as docs/EXPLAIN.md has it, with its end. It
+ * begins with where it stands: dormant, ready, blocked, held back, posted, out or prepared; or it is its fate.
+ *
+ * ENTANGLE_DONE: the text is that. ENTANGLE_REFUSED: E401 is told: no script has this number. ENTANGLE_OUT_OF_MEMORY:
+ * E900 is told. */
+static inline int32_t entangle_why(entangle_manager **manager, uint64_t number, void *buffer, size_t capacity,
+                                   entangle_told *told) {
+    uint8_t none = 0;
+    if (!manager || entangle_is_misused(&none, 0, buffer, capacity, told)) return ENTANGLE_MISUSED;
+    return ent_c_why(manager, number, buffer ? (uint8_t *)buffer : &none, capacity, told);
 }
 
 /* Tells where a transaction stands, and its fate, if it has one.

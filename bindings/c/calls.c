@@ -93,6 +93,29 @@ static const char TABLE[] = "CREATE TABLE T (a INT);";
 static const char SCRIPT[] = "BEGIN TRANSACTION;\nINSERT INTO T VALUES (1);\nCOMMIT;\n";
 static const char AFTER[] = "report 1\ntx 1 committed 1 after 1\n1 count 1\ntable T 1\n(1)\nend\n";
 
+/* The events of a run of one script, one at a time. */
+static void moves(entangle_manager **manager) {
+    static const uint32_t made[] = {ENTANGLE_START_RUN, ENTANGLE_BEGIN, ENTANGLE_PICK, ENTANGLE_BREAK_CYCLE,
+                                    ENTANGLE_END_RUN,   ENTANGLE_BEGIN, ENTANGLE_BEGIN, ENTANGLE_END_RUN};
+    static const uint32_t replied[] = {ENTANGLE_REPLY_STARTED,  ENTANGLE_REPLY_STEPPED,   ENTANGLE_REPLY_NOTHING,
+                                       ENTANGLE_REPLY_NO_CYCLE, ENTANGLE_REPLY_BUSY,      ENTANGLE_REPLY_COMMITTED,
+                                       ENTANGLE_REPLY_ABSENT,   ENTANGLE_REPLY_ENDED};
+    static const char dormant[] = "dormant after 0, and waits for a run\n", ready[] = "ready, and nothing";
+    char buffer[64];
+    entangle_told told;
+    uint32_t reply = 77;
+    CHECK(entangle_make(manager, 6, 1, &reply) == ENTANGLE_MISUSED && reply == 77);
+    CHECK(entangle_make(manager, ENTANGLE_BEGIN, 1, NULL) == ENTANGLE_MISUSED);
+    CHECK(entangle_why(manager, 1, buffer, sizeof buffer, &told) == ENTANGLE_DONE);
+    CHECK(tells_text(&told, sizeof dormant - 1) && !memcmp(buffer, dormant, sizeof dormant - 1));
+    for (size_t at = 0; at < sizeof made / sizeof *made; at++) {
+        CHECK(entangle_make(manager, made[at], 1, &reply) == ENTANGLE_DONE && reply == replied[at]);
+        CHECK(entangle_why(manager, 1, buffer, sizeof buffer, &told) == ENTANGLE_DONE);
+        CHECK(at > 4 || !memcmp(buffer, ready, sizeof ready - 1));
+    }
+    CHECK(entangle_why(manager, 2, buffer, sizeof buffer, &told) == ENTANGLE_REFUSED && told.code == 401);
+}
+
 /* A manager from its opening to its end; the calls that want another state change nothing. */
 static void managers(void) {
     char buffer[256];
@@ -130,6 +153,7 @@ static void managers(void) {
     CHECK(entangle_renew(&manager) == ENTANGLE_DONE && entangle_standing(&manager, 1, &position) == ENTANGLE_REFUSED);
     CHECK(entangle_table(&manager, "T", 1, buffer, 256, &told) == ENTANGLE_DONE && tells_text(&told, 14));
     CHECK(entangle_submit(&manager, SCRIPT, sizeof SCRIPT - 1, &number, &told) == ENTANGLE_DONE && number == 1);
+    moves(&manager);
     CHECK(entangle_open(NULL, TABLE, 1, &told) == ENTANGLE_MISUSED && entangle_run(NULL) == ENTANGLE_MISUSED);
     CHECK(entangle_submit(&manager, NULL, 1, &number, &told) == ENTANGLE_MISUSED && manager == at);
     entangle_free(&manager);

@@ -57,6 +57,28 @@ _DONE, _REFUSED, _MISUSED, _OUT_OF_MEMORY = range(4)
 _NO_SUCH, _NOT_DONE, _TOO_MANY_ROWS, _NO_MEMORY = 401, 405, 407, 900
 _KINDS = ("", "waiting", "running", "running", "running", "running", "committed", "gave up", "rolled back", "failed")
 _FIRST_CAPACITY = 4096
+_STEPS = ("", "start run", "begin", "pick", "break cycle", "end run")
+_REPLIES = (
+    "",
+    "started",
+    "blocked",
+    "held back",
+    "posted",
+    "prepared",
+    "committed",
+    "rolled back",
+    "stepped",
+    "failed",
+    "nothing",
+    "answered",
+    "no choice",
+    "broken",
+    "no cycle",
+    "ended",
+    "absent",
+    "not now",
+    "busy",
+)
 
 # The calls that answer a status.
 _STATUSES = (
@@ -66,10 +88,13 @@ _STATUSES = (
     "open",
     "submit",
     "run",
+    "make",
+    "why",
     "standing",
     "answers",
     "table",
     "close",
+    "renew",
     "closed_report",
 )
 
@@ -189,6 +214,8 @@ def _loaded() -> ctypes.CDLL:
     library.ent_c_open.argtypes = [manager, *text, ctypes.POINTER(_Told)]
     library.ent_c_submit.argtypes = [manager, *text, ctypes.POINTER(number), ctypes.POINTER(_Told)]
     library.ent_c_run.argtypes = [manager]
+    library.ent_c_make.argtypes = [manager, ctypes.c_uint32, number, ctypes.POINTER(ctypes.c_uint32)]
+    library.ent_c_why.argtypes = [manager, number, *out]
     library.ent_c_standing.argtypes = [manager, number, ctypes.POINTER(_Position)]
     library.ent_c_answers.argtypes = [manager, number, *out]
     library.ent_c_table.argtypes = [manager, *text, *out]
@@ -373,6 +400,29 @@ class Manager:
         with self._lock:
             status = _LIBRARY.ent_c_run(self._place())
         self._end(status, _Told(code=_NO_MEMORY))
+
+    def step(self, what: str, tx: int = 0) -> str:
+        """Makes one event, for a caller that orders those of a run itself, and tells the reply.
+
+        It is one of "start run", "begin" (of a transaction), "pick", "break cycle" and "end run"; the job that it lends
+        is carried out within it. The reply is in the words of docs/SCENARIOS.md; "absent", "not now" and "busy" are
+        refusals, which change nothing. Raises OutOfMemory: what was done stands, and the step may be made again.
+        """
+        if what not in _STEPS[1:]:
+            raise ValueError(f"a step is one of {', '.join(_STEPS[1:])}, not {what}")
+        reply = ctypes.c_uint32()
+        with self._lock:
+            status = _LIBRARY.ent_c_make(self._place(), _STEPS.index(what), tx, ctypes.byref(reply))
+        self._end(status, _Told(code=_NO_MEMORY))
+        return _REPLIES[reply.value]
+
+    def why(self, tx: int) -> str:
+        """What keeps a transaction from moving now, in words that begin with where it stands; or its fate.
+
+        Raises Refused (E401) where no script has this number, and OutOfMemory.
+        """
+        with self._lock:
+            return self._text(_LIBRARY.ent_c_why, tx).rstrip("\n")
 
     def standing(self, tx: int) -> Standing:
         """Where a transaction stands. Raises Refused (E401) where no script has this number."""

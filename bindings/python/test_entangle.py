@@ -193,6 +193,26 @@ class Managers(unittest.TestCase):
                 manager.finish()
             self.assertEqual(caught.exception.code, 405)
 
+    def test_events_are_made_one_at_a_time(self):
+        alone = """BEGIN TRANSACTION WITHIN 1 RUNS;
+            SELECT 'Eve', fno INTO ANSWER R WHERE fno IN (SELECT fno FROM Flights) AND ('Finn', fno) IN ANSWER R
+            CHOOSE 1; COMMIT;"""
+        with entangle.Manager(TABLES) as manager:
+            eve = manager.submit(alone)
+            self.assertEqual(manager.why(eve), "dormant after 0, and waits for a run")
+            self.assertEqual(manager.step("end run"), "not now")
+            self.assertEqual(manager.step("start run"), "started")
+            self.assertEqual(manager.step("begin", 2), "absent")
+            self.assertEqual(manager.step("begin", eve), "posted")
+            self.assertEqual(manager.step("end run"), "busy")
+            self.assertEqual(manager.step("pick"), "nothing")
+            self.assertEqual(manager.step("break cycle"), "no cycle")
+            self.assertIn("('Finn', _) IN ANSWER R", manager.why(eve))
+            self.assertEqual(manager.step("end run"), "ended")
+            self.assertEqual(manager.why(eve), "gave up after 1")
+            self.assertRaises(ValueError, manager.step, "end")
+            self.assertRaises(entangle.Refused, manager.why, 2)
+
     def test_a_closed_manager_goes_on_with_its_tables(self):
         with entangle.Manager(TABLES) as manager:
             self.assertRaises(entangle.StateError, manager.renew)

@@ -66,6 +66,10 @@ unsafe extern "C" {
 
     fn ent_c_run(manager: *mut *mut Opaque) -> i32;
 
+    fn ent_c_make(manager: *mut *mut Opaque, step: u32, number: u64, reply: *mut u32) -> i32;
+
+    fn ent_c_why(manager: *mut *mut Opaque, number: u64, buffer: *mut u8, capacity: usize, told: *mut Told) -> i32;
+
     fn ent_c_standing(manager: *mut *mut Opaque, number: u64, position: *mut Position) -> i32;
 
     fn ent_c_answers(manager: *mut *mut Opaque, number: u64, buffer: *mut u8, capacity: usize, told: *mut Told) -> i32;
@@ -209,6 +213,20 @@ impl Handle {
     pub(crate) fn run(&mut self) -> Result<(), Refusal> {
         // SAFETY: as said above.
         status_said(unsafe { ent_c_run(&mut self.at) }, Told::default())
+    }
+
+    pub(crate) fn make(&mut self, step: u32, number: u64) -> Result<u32, Refusal> {
+        let mut reply = 0;
+        // SAFETY: as said above.
+        let status = unsafe { ent_c_make(&mut self.at, step, number, &mut reply) };
+        status_said(status, Told::default()).map(|()| reply)
+    }
+
+    pub(crate) fn why(&mut self, number: u64) -> Result<String, Refusal> {
+        self.text(|at, buffer, told| {
+            // SAFETY: as said above.
+            unsafe { ent_c_why(at, number, buffer.as_mut_ptr(), buffer.len(), told) }
+        })
     }
 
     pub(crate) fn standing(&mut self, number: u64) -> Result<Position, Refusal> {

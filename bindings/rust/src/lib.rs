@@ -35,10 +35,12 @@ mod answer;
 mod call;
 mod fault;
 mod manager;
+mod step;
 
 pub use answer::{Answer, Fact, Value};
 pub use fault::{Fault, FaultKind, Place};
 pub use manager::{Error, Failure, Fate, Manager, Shared, Standing, Tx};
+pub use step::{Reply, Step};
 
 use call::{Call, Outcome};
 

@@ -2,6 +2,7 @@
 
 use crate::answer::{Answer, Value, answers_in, table_in};
 use crate::call::{Handle, Position, Refusal};
+use crate::step::{Reply, Step};
 use crate::{Fault, Version};
 use std::error::Error as StandardError;
 use std::fmt;
@@ -190,6 +191,29 @@ impl Manager {
     /// Memory ran out; what was done stands, and the next call goes on.
     pub fn run(&mut self) -> Result<(), Error> {
         Ok(self.handle.run()?)
+    }
+
+    /// Makes one event, for a caller that orders those of a run itself.
+    ///
+    /// # Errors
+    ///
+    /// Memory ran out; what was done stands, and the step may be made again.
+    pub fn step(&mut self, step: Step) -> Result<Reply, Error> {
+        let (step, number) = step.numbers();
+        let reply = self.handle.make(step, number)?;
+        Ok(Reply::numbered(reply).expect("each step has one of the replies"))
+    }
+
+    /// What keeps a transaction from moving now, in words that begin with where it stands: `dormant`, `ready`,
+    /// `blocked`, `held back`, `posted`, `out` or `prepared`; else its fate.
+    ///
+    /// # Errors
+    ///
+    /// No script has this number (E401); or memory ran out.
+    pub fn why(&mut self, tx: Tx) -> Result<String, Error> {
+        let mut line = self.handle.why(tx)?;
+        line.truncate(line.trim_end().len());
+        Ok(line)
     }
 
     /// Where a transaction stands.

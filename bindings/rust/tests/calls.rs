@@ -1,6 +1,6 @@
 //! What the calls promise beside the rows: places, long reports, and many threads.
 
-use entangle::{Error, Failure, Fate, FaultKind, Manager, Place, Shared, Standing, Value, Version};
+use entangle::{Error, Failure, Fate, FaultKind, Manager, Place, Reply, Shared, Standing, Step, Value, Version};
 use entangle::{check, explain, report, report_of_bytes};
 use std::error::Error as StandardError;
 use std::thread;
@@ -119,6 +119,35 @@ fn a_closed_manager_goes_on_with_its_tables() {
         assert_eq!(manager.standing(1).map_err(code_of), Err(401));
     }
     assert_eq!(manager.table("T"), Ok((0..3).map(|number| vec![Value::Int(number)]).collect()));
+}
+
+#[test]
+fn events_are_made_one_at_a_time() {
+    let mut manager = Manager::open(TABLE).expect("the table is right");
+    let alone = "BEGIN TRANSACTION WITHIN 1 RUNS;
+        SELECT 'Eve', a INTO ANSWER R WHERE a IN (SELECT a FROM T) AND ('Finn', a) IN ANSWER R CHOOSE 1; COMMIT;";
+    let eve = manager.submit(alone).expect("the script is right");
+    let writer = manager.submit("BEGIN TRANSACTION; INSERT INTO T VALUES (1); COMMIT;").expect("so is this");
+    assert_eq!(manager.why(eve).as_deref(), Ok("dormant after 0, and waits for a run"));
+    let steps = [
+        (Step::EndRun, Reply::NotNow),
+        (Step::StartRun, Reply::Started),
+        (Step::Begin(3), Reply::Absent),
+        (Step::Begin(eve), Reply::Posted),
+        (Step::Begin(writer), Reply::Stepped),
+        (Step::Pick, Reply::Nothing),
+        (Step::BreakCycle, Reply::NoCycle),
+        (Step::EndRun, Reply::Busy),
+        (Step::Begin(writer), Reply::Committed),
+    ];
+    for (step, reply) in steps {
+        assert_eq!(manager.step(step), Ok(reply), "{step:?}");
+    }
+    let why = manager.why(eve).expect("it was submitted");
+    assert!(why.starts_with("posted") && why.contains("('Finn', _) IN ANSWER R"), "{why}");
+    assert_eq!(manager.step(Step::EndRun), Ok(Reply::Ended));
+    assert_eq!(manager.why(eve).as_deref(), Ok("gave up after 1"));
+    assert_eq!(manager.why(3).map_err(code_of), Err(401));
 }
 
 #[test]

@@ -4,3 +4,4 @@ pub mod Told
 pub mod Calls
 pub mod Position
 pub mod Managers
+pub mod Moving

@@ -1,6 +1,6 @@
 -- What C's calls do with a manager. `old` and `new` are what the caller's handle holds before and after the call, and
 -- `status` is what the call answers.
-use Rattle.std.specs.Prelude.{◌≡◌, ◌⊎◌, ℕ, ℤ, pos, List, []}
+use Rattle.std.specs.Prelude.{◌≡◌, ◌⊎◌, ℕ, ℤ, pos, List}
 use Rattle.std.specs.declared.option.Option.{Option}
 use Rattle.std.specs.declared.option.Option.TheVariants.{None, Some}
 use Rattle.ent_core.specs.Standing.{standing_seen}

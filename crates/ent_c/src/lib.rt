@@ -14,6 +14,7 @@ mod buffer;
 mod explanation;
 mod handle;
 mod manager;
+mod moving;
 mod position;
 mod report;
 mod told;
@@ -31,6 +32,7 @@ pub use manager::{
     ent_c_answers, ent_c_close, ent_c_closed_report, ent_c_free, ent_c_open, ent_c_renew,
     ent_c_run, ent_c_standing, ent_c_submit, ent_c_table,
 };
+pub use moving::{ent_c_make, ent_c_why};
 pub use position::Position;
 use std::alloc::Global;
 pub use told::Told;

@@ -1,5 +1,5 @@
 //! Managers that a caller of C keeps and drives.
-ghost use Rattle.std.specs.Prelude.{◌≡◌, [], IfErr, IfOk, MatchOption, MatchResult, pos};
+ghost use Rattle.std.specs.Prelude.{◌≡◌, [], IfErr, IfOk, MatchOption, pos};
 ghost use Rattle.std.specs.declared.option.Option.TheVariants.{None};
 ghost use Rattle.ent_driver.specs.Drives.{Answers, IsUnanswered, IsUnreported, IsUnshown, Opens, Reports, Shows};
 ghost use Rattle.ent_engine.specs.Reading.{IsRefused};
@@ -20,7 +20,7 @@ use ent_engine::{ReportVersion, RunFault, status_of};
 use std::alloc::Global;
 
 /// Hands a text out, or tells why there is none, of the bytes that were handed in.
-fn hand_out(
+pub(crate) fn hand_out(
     text: Result<Vec<u8>, DriverFault>,
     given: &[u8],
     buffer: &mut [u8],

@@ -1,0 +1,2 @@
+pub mod OneQuery
+pub mod Outside

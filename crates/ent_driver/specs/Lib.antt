@@ -4,3 +4,5 @@ pub mod OneRun
 pub mod Told
 pub mod Drives
 pub mod Renewal
+pub mod Moves
+pub mod Why

@@ -10,15 +10,20 @@
 mod closing;
 mod driver;
 mod fault;
+mod moves;
 mod one_run;
+mod piece;
 mod renewal;
 mod script;
 mod text;
+mod why;
 
 pub use driver::Driver;
 pub use ent_renewal::FinishedBook;
 pub use fault::DriverFault;
+pub use moves::{Move, make_move, reply_text};
 pub use one_run::run_once;
 pub use renewal::renewed_core;
 pub use script::{read_script, submit};
 pub use text::{answers_text, report_text, table_text};
+pub use why::why_text;

@@ -1,4 +1,4 @@
-use Rattle.std.proofs.Common.{◌≡◌, inl, inr, pos, refl, subst, sym, to_z, w32}
+use Rattle.std.proofs.Common.{inl, inr, pos, refl, subst, sym, to_z, w32}
 use Rattle.ent_c.specs.Managers.{Held, OpensManager}
 use Rattle.ent_c.proofs.Statuses.{of_byte}
 use Rattle.ent_c.proofs.manager.ent_c_open.Goals as goal

@@ -1,9 +1,8 @@
 use Rattle.std.proofs.Common.{◌≡◌, ◌∙◌, Some, ap, inl, inr, refl, sym}
 use Rattle.ent_driver.specs.Drives.{Runs, StopsRun}
-use Rattle.ent_driver.specs.declared.driver.Driver.TheVariants as drivers
 use Rattle.ent_driver.specs.declared.fault.DriverFault.TheVariants.{Vacant}
 use Rattle.ent_c.specs.Managers.{behind}
-use Rattle.ent_c.proofs.Behind.{behind_both, behind_none}
+use Rattle.ent_c.proofs.Behind.{behind_both}
 use Rattle.ent_c.proofs.Statuses.{of_byte}
 use Rattle.ent_c.proofs.manager.ent_c_run.Goals as goal
 

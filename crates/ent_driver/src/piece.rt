@@ -1,0 +1,159 @@
+//! Pieces of a line: transactions, tables and demands.
+ghost use Rattle.std.specs.Prelude.{◌≡◌, ◌<◌, ◌++◌, OnOk};
+ghost use Rattle.std.specs.Option.{option_copied};
+ghost use Rattle.std.specs.Fmt.{decimal};
+ghost use Rattle.ent_driver.specs.Why.{both_text, demand_text, mode_text, more_terms_text, more_txs_text, numbered_demand};
+ghost use Rattle.ent_driver.specs.Why.{relation_text, table_name, term_text, terms_text, tx_text, txs_text};
+ghost use Rattle.ent_tree.specs.declared.limits.TheConstants.{MOST_PARTS};
+
+use ent_closed::{Atom, Term};
+use ent_group::Tx;
+use ent_lock::Mode;
+use ent_tree::Opening;
+use ent_value::{Name, Value, print_value};
+use std::alloc::{AllocError, Global};
+
+pub(crate) fn append_number(alloc: Global, out: &mut Vec<u8>, number: u64) -> Result<(), AllocError>
+    ensures { OnOk result (out.new.items ≡ out.old.items ++ decimal number) }
+{
+    let digits = format!(in alloc; "{number}")?;
+    out.extend_from_slice(digits.as_bytes())
+}
+
+pub(crate) fn append_tx(alloc: Global, out: &mut Vec<u8>, tx: Tx) -> Result<(), AllocError>
+    ensures { OnOk result (out.new.items ≡ out.old.items ++ tx_text tx) }
+{
+    out.extend_from_slice(b"tx ")?;
+    append_number(alloc, out, tx)
+}
+
+/// Transactions after the first, each behind a comma and a space.
+fn append_more_txs(alloc: Global, out: &mut Vec<u8>, more: &[Tx]) -> Result<(), AllocError>
+    ensures { OnOk result (out.new.items ≡ out.old.items ++ more_txs_text more.now) }
+{
+    for tx in more {
+        out.extend_from_slice(b", ")?;
+        append_tx(alloc, out, *tx)?;
+    }
+    Ok(())
+}
+
+pub(crate) fn append_txs(alloc: Global, out: &mut Vec<u8>, members: &[Tx]) -> Result<(), AllocError>
+    ensures { OnOk result (out.new.items ≡ out.old.items ++ txs_text members.now) }
+{
+    if let [first, more @ ..] = members {
+        append_tx(alloc, out, *first)?;
+        append_more_txs(alloc, out, more)?;
+    }
+    Ok(())
+}
+
+pub(crate) fn append_both(
+    alloc: Global,
+    out: &mut Vec<u8>,
+    first: Tx,
+    second: Tx,
+) -> Result<(), AllocError>
+    ensures { OnOk result (out.new.items ≡ out.old.items ++ both_text first second) }
+{
+    append_tx(alloc, out, first)?;
+    out.extend_from_slice(b" and ")?;
+    append_tx(alloc, out, second)
+}
+
+/// How a table is used.
+pub(crate) fn append_mode(out: &mut Vec<u8>, mode: Mode) -> Result<(), AllocError>
+    ensures { OnOk result (out.new.items ≡ out.old.items ++ mode_text mode) }
+{
+    match mode {
+        Mode::Shared => out.extend_from_slice(b"shared"),
+        Mode::Exclusive => out.extend_from_slice(b"exclusively"),
+    }
+}
+
+/// The name of the table of a number.
+pub(crate) fn append_table_name(
+    out: &mut Vec<u8>,
+    opening: &Opening,
+    table: usize,
+) -> Result<(), AllocError>
+    ensures { OnOk result (out.new.items ≡ out.old.items ++ table_name opening.now table) }
+{
+    match opening.tables.get(table) {
+        Some(create) => out.extend_from_slice(create.name.name.as_bytes()),
+        None => out.extend_from_slice(b".."),
+    }
+}
+
+/// A value where it is known.
+fn append_term(alloc: Global, out: &mut Vec<u8>, term: &Term<Value>) -> Result<(), AllocError>
+    ensures { OnOk result (out.new.items ≡ out.old.items ++ term_text term.now) }
+{
+    match term {
+        Term::Known(value) => print_value(alloc, out, value),
+        Term::Variable(_) => out.extend_from_slice(b"_"),
+    }
+}
+
+/// Terms after the first, each behind a comma and a space.
+fn append_more_terms(
+    alloc: Global,
+    out: &mut Vec<u8>,
+    more: &[Term<Value>],
+) -> Result<(), AllocError>
+    ensures { OnOk result (out.new.items ≡ out.old.items ++ more_terms_text more.now) }
+{
+    for term in more {
+        out.extend_from_slice(b", ")?;
+        append_term(alloc, out, term)?;
+    }
+    Ok(())
+}
+
+fn append_terms(alloc: Global, out: &mut Vec<u8>, terms: &[Term<Value>]) -> Result<(), AllocError>
+    ensures { OnOk result (out.new.items ≡ out.old.items ++ terms_text terms.now) }
+{
+    if let [first, more @ ..] = terms {
+        append_term(alloc, out, first)?;
+        append_more_terms(alloc, out, more)?;
+    }
+    Ok(())
+}
+
+/// The answer relation behind the terms.
+fn append_relation(out: &mut Vec<u8>, relation: &Name) -> Result<(), AllocError>
+    ensures { OnOk result (out.new.items ≡ out.old.items ++ relation_text relation.now) }
+{
+    out.extend_from_slice(b") IN ANSWER ")?;
+    out.extend_from_slice(relation.as_bytes())?;
+    Ok(())
+}
+
+/// A demand as it is written.
+fn append_demand(alloc: Global, out: &mut Vec<u8>, post: &Atom<Value>) -> Result<(), AllocError>
+    ensures { OnOk result (out.new.items ≡ out.old.items ++ demand_text post.now) }
+{
+    out.extend_from_slice(b"(")?;
+    append_terms(alloc, out, post.terms.as_slice())?;
+    append_relation(out, &post.relation)
+}
+
+/// The demand of an index, by its number and as it is written.
+pub(crate) fn append_numbered_demand(
+    alloc: Global,
+    out: &mut Vec<u8>,
+    index: usize,
+    post: Option<&Atom<Value>>,
+) -> Result<(), AllocError>
+    requires { index < MOST_PARTS }
+    ensures { OnOk result (out.new.items ≡ out.old.items ++ numbered_demand index (option_copied post.entry)) }
+{
+    match post {
+        Some(post) => {
+            append_number(alloc, out, index as u64 + 1)?;
+            out.extend_from_slice(b", ")?;
+            append_demand(alloc, out, post)
+        }
+        None => out.extend_from_slice(b".."),
+    }
+}
