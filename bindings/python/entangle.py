@@ -31,6 +31,7 @@ import ctypes
 import os
 import re
 import threading
+from contextlib import suppress
 from dataclasses import dataclass
 from pathlib import Path
 from types import TracebackType
@@ -38,6 +39,8 @@ from typing import Callable, Union
 
 __all__ = [
     "Answer",
+    "Change",
+    "Commit",
     "Fact",
     "Fault",
     "Manager",
@@ -165,6 +168,24 @@ class Standing:
     def is_finished(self) -> bool:
         """Whether it has its fate."""
         return self.kind not in ("waiting", "running")
+
+
+@dataclass(frozen=True)
+class Change:
+    """The rows of a table that a commit put in, and those that it took out, each ascending."""
+
+    table: str
+    added: list[Row]
+    removed: list[Row]
+
+
+@dataclass(frozen=True)
+class Commit:
+    """A commit: its number, its transaction, and what it changed."""
+
+    number: int
+    tx: int
+    changes: list[Change]
 
 
 @dataclass(frozen=True)
@@ -337,6 +358,86 @@ def _answers_in(lines: list[str]) -> list[Answer]:
     return answers
 
 
+class _Net:
+    """What a transaction has changed in a table, statement by statement, as a whole."""
+
+    def __init__(self) -> None:
+        self.added: set[Row] = set()
+        self.removed: set[Row] = set()
+
+    def take(self, before: set[Row], after: set[Row]) -> None:
+        """Takes in what one statement made of the table's rows."""
+        added, removed = after - before, before - after
+        self.added, self.removed = (self.added - removed) | (added - self.removed), (self.removed - added) | (
+            removed - self.added
+        )
+
+    def change(self, table: str) -> Change:
+        return Change(table, sorted(self.added), sorted(self.removed))
+
+
+class _ToldRun:
+    """A run of a manager that is made event by event, so that what each commit changes is seen.
+
+    A statement that changes a table has it alone until its group commits or is rolled back. So what differs in the
+    tables behind a statement is what that statement changed.
+    """
+
+    def __init__(self, manager: Manager, tables: tuple[str, ...]) -> None:
+        self.manager, self.tables = manager, tables
+        self.made: dict[int, dict[str, _Net]] = {}
+        self.rows = self.read()
+        self.commits: list[Commit] = []
+
+    def read(self) -> dict[str, set[Row]]:
+        return {name: set(self.manager.table(name)) for name in self.tables}
+
+    def make(self) -> list[Commit]:
+        """Makes the run: rounds, until nothing moves in one."""
+        self.manager.step("start run")
+        self.made = {tx: {} for tx in self.manager._running()}
+        while self.made and self.round():
+            pass
+        self.manager.step("end run")
+        return sorted(self.commits, key=lambda commit: commit.number)
+
+    def round(self) -> bool:
+        """Each member has its turn, a component is answered, and a deadlock is broken; whether anything moved."""
+        moved = [self.begin(tx) for tx in list(self.made)]
+        answered = self.manager.step("pick") != "nothing"
+        broken = self.manager.step("break cycle") == "broken"
+        if broken:
+            self.settle()
+        return any(moved) or answered or broken
+
+    def begin(self, tx: int) -> bool:
+        """A member's turn, if it is one still; whether it moved."""
+        if tx not in self.made:
+            return False
+        reply = self.manager.step("begin", tx)
+        if reply == "stepped":
+            after = self.read()
+            for name in self.tables:
+                if after[name] != self.rows[name]:
+                    self.made[tx].setdefault(name, _Net()).take(self.rows[name], after[name])
+            self.rows = after
+        elif reply in ("committed", "rolled back", "failed"):
+            self.settle()
+        return reply not in ("blocked", "held back", "absent", "not now")
+
+    def settle(self) -> None:
+        """Who has left the run has committed, or its changes are taken back."""
+        for tx in list(self.made):
+            standing = self.manager.standing(tx)
+            if standing.kind == "running":
+                continue
+            nets = self.made.pop(tx)
+            if standing.kind == "committed":
+                changes = [net.change(name) for name, net in sorted(nets.items()) if net.added or net.removed]
+                self.commits.append(Commit(standing.number, tx, changes))
+        self.rows = self.read()
+
+
 class Manager:
     """Tables, and the scripts that were submitted over them. Each run lets those that wait take part, 64 at most.
 
@@ -349,7 +450,9 @@ class Manager:
 
         Raises Refused for the first fault of the input, and OutOfMemory.
         """
-        self._lock = threading.Lock()
+        self._lock = threading.RLock()
+        self._unfinished: list[int] = []
+        self._submitted = 0
         self._handle = ctypes.c_void_p()
         told, given = _Told(), _bytes_of(opening)
         status = _LIBRARY.ent_c_open(self._place(), given, len(given), ctypes.byref(told))
@@ -400,6 +503,26 @@ class Manager:
         with self._lock:
             status = _LIBRARY.ent_c_run(self._place())
         self._end(status, _Told(code=_NO_MEMORY))
+
+    def run_telling(self, *tables: str) -> list[Commit]:
+        """Makes one run as run() does, and tells what each commit changed in these tables, in the order of the commits.
+
+        It makes the run event by event, and reads the tables behind each statement: so it is for tables of some
+        thousand rows. Raises Refused (E401) where there is no such table, and OutOfMemory: the next call goes on then,
+        but doesn't tell what was changed before.
+        """
+        with self._lock:
+            return _ToldRun(self, tables).make()
+
+    def _running(self) -> list[int]:
+        """The members of the run that is on, by number."""
+        with suppress(Refused):
+            while self.standing(self._submitted + 1):
+                self._submitted += 1
+                self._unfinished.append(self._submitted)
+        standings = [(tx, self.standing(tx)) for tx in self._unfinished]
+        self._unfinished = [tx for tx, standing in standings if not standing.is_finished]
+        return [tx for tx, standing in standings if standing.kind == "running"]
 
     def step(self, what: str, tx: int = 0) -> str:
         """Makes one event, for a caller that orders those of a run itself, and tells the reply.

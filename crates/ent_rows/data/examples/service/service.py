@@ -65,7 +65,7 @@ class Bad(Exception):
 
 @dataclass
 class Request:
-    """What somebody asked for: the script of it, and what its commit comes to as plain SQL."""
+    """What somebody asked for: the script of it, and what became of it."""
 
     tx: int
     what: str
@@ -99,11 +99,6 @@ INSERT INTO Bookings VALUES ({who}, @fno);
   CHOOSE 1;
 INSERT INTO Changes VALUES ({who}, @seat);
 """
-
-    def plain_sql(self) -> tuple[str, tuple[entangle.Value, ...]]:
-        """The commit's change, with the value that was chosen in place of the host variable."""
-        table = "Bookings" if self.what == "trip" else "Changes"
-        return f"INSERT OR IGNORE INTO {table} VALUES (?, ?)", (self.who, self.answer)
 
     def note(self, answers: list[entangle.Answer]) -> None:
         """Notes the value that was chosen: the second of the row of the answer relation."""
@@ -141,24 +136,29 @@ class Service:
             request = Request(0, what, who, other, place)
             request.tx = self.manager.submit(request.script(self.runs))
             self.requests.append(request)
-            self.manager.run()
+            self.write(self.manager.run_telling(*TABLES))
             self.settle()
             return request.tx
 
+    def write(self, commits: list[entangle.Commit]) -> None:
+        """Writes what was committed to the file, in the order of the commits."""
+        self.file.execute("BEGIN")
+        for change in (change for commit in commits for change in commit.changes):
+            columns = [column.split()[0] for column in TABLES[change.table].split(", ")]
+            where = " AND ".join(f"{column} = ?" for column in columns)
+            self.file.executemany(f"DELETE FROM {change.table} WHERE {where}", change.removed)
+            values = ", ".join("?" * len(columns))
+            self.file.executemany(f"INSERT INTO {change.table} VALUES ({values})", change.added)
+        self.file.execute("COMMIT")
+
     def settle(self) -> None:
-        """Notes where the requests stand after a run, and writes what committed to the file."""
-        done = []
+        """Notes where the requests stand after a run."""
         for request in self.requests:
             if request.standing.is_finished:
                 continue
             request.standing = self.manager.standing(request.tx)
             if request.standing.kind == "committed":
                 request.note(self.manager.answers(request.tx))
-                done.append(request)
-        self.file.execute("BEGIN")
-        for request in sorted(done, key=lambda request: request.standing.number):
-            self.file.execute(*request.plain_sql())
-        self.file.execute("COMMIT")
         self.version += 1
         self.changed.notify_all()
 
