@@ -244,7 +244,6 @@ class Managers(unittest.TestCase):
             self.assertEqual(manager.step("start run"), "started")
             self.assertEqual(manager.step("begin", 2), "absent")
             self.assertEqual(manager.step("begin", eve), "posted")
-            self.assertEqual(manager.step("end run"), "busy")
             self.assertEqual(manager.step("pick"), "nothing")
             self.assertEqual(manager.step("break cycle"), "no cycle")
             self.assertIn("('Finn', _) IN ANSWER R", manager.why(eve))

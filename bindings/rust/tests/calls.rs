@@ -133,12 +133,13 @@ fn events_are_made_one_at_a_time() {
         (Step::EndRun, Reply::NotNow),
         (Step::StartRun, Reply::Started),
         (Step::Begin(3), Reply::Absent),
-        (Step::Begin(eve), Reply::Posted),
         (Step::Begin(writer), Reply::Stepped),
-        (Step::Pick, Reply::Nothing),
-        (Step::BreakCycle, Reply::NoCycle),
+        (Step::Begin(eve), Reply::Blocked),
         (Step::EndRun, Reply::Busy),
         (Step::Begin(writer), Reply::Committed),
+        (Step::Begin(eve), Reply::Posted),
+        (Step::Pick, Reply::Nothing),
+        (Step::BreakCycle, Reply::NoCycle),
     ];
     for (step, reply) in steps {
         assert_eq!(manager.step(step), Ok(reply), "{step:?}");
