@@ -11,7 +11,7 @@
  *   - `told->needed` is the length of the whole text. Where it is more than `capacity`, call again with a larger
  *     buffer: the same bytes give the same text, as long as memory doesn't run out. A buffer of capacity 0, which may
  *     be null, serves to ask for the length; the work is done for that, too.
- *   - The struct is written whole, unless ENTANGLE_MISUSED says that it is null.
+ *   - The struct is written whole, unless a call answers ENTANGLE_MISUSED: don't look at it then.
  *
  * What each call asks of its caller, and can't test:
  *
@@ -51,11 +51,12 @@ extern "C" {
 
 /* What a call answers: the exit statuses of the program. */
 enum entangle_status {
-    ENTANGLE_DONE = 0,          /* the report is handed out; there is no fault to explain; the check says yes */
+    ENTANGLE_DONE = 0,          /* the call did what it says: the report is handed out; there is no fault to explain;
+                                   the check says yes */
     ENTANGLE_REFUSED = 1,       /* the input, the script or the call is refused; the check says no, or the report is too
                                    long */
-    ENTANGLE_MISUSED = 2,       /* a pointer is null, the version of a report is neither 1 nor 2, or the manager isn't
-                                   of the state that the call wants */
+    ENTANGLE_MISUSED = 2,       /* a pointer is null, the version of a report is neither 1 nor 2, there is no such move,
+                                   or the manager isn't of the state that the call wants */
     ENTANGLE_OUT_OF_MEMORY = 3, /* E900 */
     ENTANGLE_UNREADABLE = 4     /* it doesn't come: bytes in memory can be read */
 };
@@ -222,6 +223,7 @@ static inline int32_t entangle_submit(entangle_manager **manager, const void *sc
 
 /* Makes one run, where anything waits for one: the first 64 scripts that wait take part, and it ends where none of them
  * gets any further. Those that have neither committed nor ended otherwise wait for the next run, unless they gave up.
+ * Where a run is on, by entangle_make or since memory ran out, that one is made to its end, and no other.
  *
  * ENTANGLE_DONE: it was made, or nothing waited. ENTANGLE_OUT_OF_MEMORY: what was done stands, and the call may be made
  * again, which goes on from there. */
@@ -285,10 +287,10 @@ static inline int32_t entangle_table(entangle_manager **manager, const void *nam
                        capacity, told);
 }
 
-/* Closes a manager whose transactions all have a fate. Then its report can be asked for, and it can be opened again, by
- * entangle_renew, or freed.
+/* Closes a manager whose transactions all have a fate, where no run is on. Then its report can be asked for, and it can
+ * be opened again, by entangle_renew, or freed.
  *
- * ENTANGLE_DONE: it is closed. ENTANGLE_REFUSED: a transaction waits for a run (E405), and it stays open.
+ * ENTANGLE_DONE: it is closed. ENTANGLE_REFUSED: a run is on, or a transaction waits for one (E405), and it stays open.
  * ENTANGLE_OUT_OF_MEMORY: it stays open. */
 static inline int32_t entangle_close(entangle_manager **manager) {
     if (!manager) return ENTANGLE_MISUSED;

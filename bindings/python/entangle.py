@@ -155,8 +155,9 @@ Answer = tuple[str, Union[int, Value, list[Row], list[Fact]]]
 class Standing:
     """Where a transaction stands.
 
-    `kind` is "waiting", or "running" of a run that memory stopped, or a fate: "committed", "gave up", "rolled back" or
-    "failed". `number` is that of its commit, `failure` "F1" or "F2"; `runs` is in how many runs it was.
+    `kind` is "waiting", or "running" as a member of a run that is on, by step() or since memory ran out, or a fate:
+    "committed", "gave up", "rolled back" or "failed". `number` is that of its commit, `failure` "F1" or "F2"; `runs` is
+    in how many runs it was.
     """
 
     kind: str
@@ -225,7 +226,10 @@ def _loaded() -> ctypes.CDLL:
     here = Path(__file__).resolve().parent
     places = [here / "libentangle.so", here.parent / "archive" / "libentangle.so"]
     found = next((str(place) for place in places if place.is_file()), str(places[0]))
-    library = ctypes.CDLL(os.environ.get("ENTANGLE_LIBRARY", found))
+    try:
+        library = ctypes.CDLL(os.environ.get("ENTANGLE_LIBRARY", found))
+    except OSError as error:
+        raise ImportError(f"{error}: tools/archive builds it, see docs/EMBEDDING.md") from None
     text = [ctypes.c_char_p, ctypes.c_size_t]
     out = [ctypes.c_char_p, ctypes.c_size_t, ctypes.POINTER(_Told)]
     library.ent_c_report.argtypes = [*text, ctypes.c_uint32, *out]
@@ -251,6 +255,11 @@ def _loaded() -> ctypes.CDLL:
 
 
 _LIBRARY = _loaded()
+
+
+def _number(tx: int) -> int:
+    """The number of a transaction, as C has it; no script has the number 0."""
+    return tx if 0 <= tx < 2**64 else 0
 
 
 def _bytes_of(text: str | bytes) -> bytes:
@@ -398,7 +407,8 @@ class _ToldRun:
         self.made = {tx: {} for tx in self.manager._running()}
         while self.made and self.round():
             pass
-        self.manager.step("end run")
+        ended = self.manager.step("end run")
+        assert ended in ("ended", "not now"), ended
         return sorted(self.commits, key=lambda commit: commit.number)
 
     def round(self) -> bool:
@@ -508,8 +518,9 @@ class Manager:
         """Makes one run as run() does, and tells what each commit changed in these tables, in the order of the commits.
 
         It makes the run event by event, and reads the tables behind each statement: so it is for tables of some
-        thousand rows. Raises Refused (E401) where there is no such table, and OutOfMemory: the next call goes on then,
-        but doesn't tell what was changed before.
+        thousand rows. Raises Refused (E401) where there is no such table, and OutOfMemory. Where a run is on, since
+        memory ran out or by step(), it goes on with that run, and doesn't tell what was changed or committed in it
+        before.
         """
         with self._lock:
             return _ToldRun(self, tables).make()
@@ -528,14 +539,15 @@ class Manager:
         """Makes one event, for a caller that orders those of a run itself, and tells the reply.
 
         It is one of "start run", "begin" (of a transaction), "pick", "break cycle" and "end run"; the job that it lends
-        is carried out within it. The reply is in the words of docs/SCENARIOS.md; "absent", "not now" and "busy" are
-        refusals, which change nothing. Raises OutOfMemory: what was done stands, and the step may be made again.
+        is carried out within it. The reply is in the words of docs/SCENARIOS.md, without what stands behind them;
+        "absent" (E401), "not now" (E402) and "busy" (E404) are refusals, which change nothing. Raises OutOfMemory: what
+        was done stands, and the step may be made again.
         """
         if what not in _STEPS[1:]:
             raise ValueError(f"a step is one of {', '.join(_STEPS[1:])}, not {what}")
         reply = ctypes.c_uint32()
         with self._lock:
-            status = _LIBRARY.ent_c_make(self._place(), _STEPS.index(what), tx, ctypes.byref(reply))
+            status = _LIBRARY.ent_c_make(self._place(), _STEPS.index(what), _number(tx), ctypes.byref(reply))
         self._end(status, _Told(code=_NO_MEMORY))
         return _REPLIES[reply.value]
 
@@ -545,40 +557,41 @@ class Manager:
         Raises Refused (E401) where no script has this number, and OutOfMemory.
         """
         with self._lock:
-            return self._text(_LIBRARY.ent_c_why, tx).rstrip("\n")
+            return self._text(_LIBRARY.ent_c_why, _number(tx)).rstrip("\n")
 
     def standing(self, tx: int) -> Standing:
         """Where a transaction stands. Raises Refused (E401) where no script has this number."""
         position = _Position()
         with self._lock:
-            status = _LIBRARY.ent_c_standing(self._place(), tx, ctypes.byref(position))
+            status = _LIBRARY.ent_c_standing(self._place(), _number(tx), ctypes.byref(position))
         self._end(status, _Told(code=_NO_SUCH))
         failure = f"F{position.failure}" if position.failure else ""
         return Standing(_KINDS[position.kind], position.number, position.runs, failure)
 
     def answer_lines(self, tx: int) -> str:
-        """The lines in which a report has a transaction's answers; none as long as it waits, or didn't commit.
+        """The lines in which a report has a transaction's answers: of one that committed all, of a member of a run that
+        is on those that it has, which it may still lose; else none.
 
         Raises Refused (E401) where no script has this number, and OutOfMemory.
         """
         with self._lock:
-            return self._text(_LIBRARY.ent_c_answers, tx)
+            return self._text(_LIBRARY.ent_c_answers, _number(tx))
 
     def answers(self, tx: int) -> list[Answer]:
         """What the statements of a transaction were answered, as answer_lines() has it."""
-        return _answers_in(self.answer_lines(tx).splitlines())
+        return _answers_in(self.answer_lines(tx).split("\n")[:-1])
 
     def table(self, name: str) -> list[Row]:
         """The rows of a table, ascending. Raises Refused (E401) where no table has this name, and OutOfMemory."""
         given = _bytes_of(name)
         with self._lock:
             lines = self._text(_LIBRARY.ent_c_table, given, len(given))
-        return [_row_at(line, 0)[0] for line in lines.splitlines()[1:]]
+        return [_row_at(line, 0)[0] for line in lines.split("\n")[1:-1]]
 
     def finish(self) -> None:
-        """Closes the book, where every transaction has its fate; then report() and renew() are all that is left to do.
+        """Closes the book, where every transaction has its fate and no run is on; then report() and renew() are left.
 
-        Raises Refused (E405) where a transaction waits for a run, and OutOfMemory; then it stays open.
+        Raises Refused (E405) where a run is on or a transaction waits for one, and OutOfMemory; then it stays open.
         """
         with self._lock:
             status = _LIBRARY.ent_c_close(self._place())
@@ -593,6 +606,8 @@ class Manager:
         """
         with self._lock:
             status = _LIBRARY.ent_c_renew(self._place())
+            if status == _DONE:
+                self._unfinished, self._submitted = [], 0
         self._end(status, _Told(code=_NO_MEMORY if status == _OUT_OF_MEMORY else _TOO_MANY_ROWS))
 
     def report(self, version: int = 1) -> str:

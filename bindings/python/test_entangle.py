@@ -119,7 +119,10 @@ class Calls(unittest.TestCase):
         self.assertTrue(entangle.check(alone).is_legal)
 
 
-TABLES = "CREATE TABLE Flights (fno INT, dest TEXT);\nCREATE TABLE Trips (fno INT);\nINSERT INTO Flights VALUES (122, 'LA');\n"
+TABLES = """CREATE TABLE Flights (fno INT, dest TEXT);
+CREATE TABLE Trips (fno INT);
+INSERT INTO Flights VALUES (122, 'LA');
+"""
 
 
 def trip(who, friend):
@@ -232,6 +235,24 @@ class Managers(unittest.TestCase):
         self.assertEqual(told[2], [entangle.Change("Trips", [("Bob", 122)], [])])
         self.assertEqual(told[4], [entangle.Change("Flights", [(122, "Oslo")], [(122, "LA")])])
         self.assertEqual(told[5], [])
+
+    def test_a_renewed_manager_tells_its_commits(self):
+        with entangle.Manager(TABLES) as manager:
+            for number in range(2):
+                manager.submit(f"BEGIN TRANSACTION; INSERT INTO Trips VALUES ({number}); COMMIT;")
+                change = entangle.Change("Trips", [(number,)], [])
+                self.assertEqual(manager.run_telling("Trips"), [entangle.Commit(1, 1, [change])])
+                manager.finish()
+                manager.renew()
+            self.assertRaises(entangle.Refused, manager.standing, 2**64 + 1)
+
+    def test_a_text_may_have_strange_spaces(self):
+        text = "a\x85b\u2028c\u2029d"
+        with entangle.Manager("CREATE TABLE T (a TEXT);") as manager:
+            tx = manager.submit(f"BEGIN TRANSACTION; INSERT INTO T VALUES ('{text}'); SELECT a FROM T; COMMIT;")
+            manager.run()
+            self.assertEqual(manager.table("T"), [(text,)])
+            self.assertEqual(manager.answers(tx)[1], ("rows", [(text,)]))
 
     def test_events_are_made_one_at_a_time(self):
         alone = """BEGIN TRANSACTION WITHIN 1 RUNS;

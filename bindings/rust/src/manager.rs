@@ -86,7 +86,8 @@ pub enum Standing {
         /// In how many runs it was.
         runs: u64,
     },
-    /// It is a member of a run that memory stopped; the next run goes on with it.
+    /// It is a member of a run that is on, by [`Manager::step`] or since memory ran out; [`Manager::run`] goes on with
+    /// that run.
     Running,
     /// What became of it.
     Finished(Fate),
@@ -184,7 +185,8 @@ impl Manager {
         Ok(self.handle.submit(script.as_bytes())?)
     }
 
-    /// Makes one run, where anything waits for one.
+    /// Makes one run, where anything waits for one. Where a run is on, by [`Manager::step`] or since memory ran out,
+    /// that one is made to its end, and no other.
     ///
     /// # Errors
     ///
@@ -225,7 +227,8 @@ impl Manager {
         Ok(Standing::of(self.handle.standing(tx)?))
     }
 
-    /// What the statements of a transaction were answered; nothing as long as it waits, and where it didn't commit.
+    /// What the statements of a transaction were answered: of one that committed all of it, of a member of a run that
+    /// is on what it has, which it may still lose; else nothing.
     ///
     /// # Errors
     ///
@@ -259,7 +262,7 @@ impl Manager {
     ///
     /// # Errors
     ///
-    /// A transaction waits for a run (E405), or memory ran out; the manager stays open.
+    /// A run is on, or a transaction waits for one (E405); or memory ran out. The manager stays open.
     pub fn close(&mut self) -> Result<(), Error> {
         Ok(self.handle.close()?)
     }

@@ -4,9 +4,10 @@
     python3 examples/service/service.py [--port N] [--file FILE] [--runs N]
 
 It serves one page on http://localhost:8000 (port 0 takes any that is free, and the first line says which). Each request
-becomes a script, which is submitted to one manager of the module `entangle`; then a run is made, in which all requests
-that wait take part. What committed is written to the SQLite file FILE (service.sqlite, if none is named), as plain SQL,
-in the order of the commits and in one transaction a run: what has to last stands there, and is what the service begins
+becomes a script, which is submitted to one manager of the module `entangle`; then a run is made, in which those that
+wait take part, 64 at most, and further ones until this request was in one. It takes 10,000 requests, then it has to be
+started again. What committed is written to the SQLite file FILE (service.sqlite, if none is named), as plain SQL, in
+the order of the commits and in one transaction a run: what has to last stands there, and is what the service begins
 with the next time. Requests that wait aren't kept. --runs is in how many runs a request may wait.
 
 The manager has to be there as a shared object: see docs/EMBEDDING.md.
@@ -114,6 +115,7 @@ class Service:
         self.requests: list[Request] = []
         self.version = 1
         self.changed = threading.Condition()
+        self.unwritten: list[entangle.Commit] = []
         self.file = sqlite3.connect(path, check_same_thread=False, isolation_level=None)
         self.begin_file()
         self.manager = entangle.Manager(opening(self.file))
@@ -136,20 +138,28 @@ class Service:
             request = Request(0, what, who, other, place)
             request.tx = self.manager.submit(request.script(self.runs))
             self.requests.append(request)
-            self.write(self.manager.run_telling(*TABLES))
+            while not self.has_been_in_a_run(request.tx):
+                self.unwritten += self.manager.run_telling(*TABLES)
+            self.write()
             self.settle()
             return request.tx
 
-    def write(self, commits: list[entangle.Commit]) -> None:
-        """Writes what was committed to the file, in the order of the commits."""
-        self.file.execute("BEGIN")
-        for change in (change for commit in commits for change in commit.changes):
-            columns = [column.split()[0] for column in TABLES[change.table].split(", ")]
-            where = " AND ".join(f"{column} = ?" for column in columns)
-            self.file.executemany(f"DELETE FROM {change.table} WHERE {where}", change.removed)
-            values = ", ".join("?" * len(columns))
-            self.file.executemany(f"INSERT INTO {change.table} VALUES ({values})", change.added)
-        self.file.execute("COMMIT")
+    def has_been_in_a_run(self, tx: int) -> bool:
+        """Whether a request has; where more than 64 wait, the later ones come first in the next run."""
+        standing = self.manager.standing(tx)
+        return standing.is_finished or standing.runs > 0
+
+    def write(self) -> None:
+        """Writes what was committed to the file, in the order of the commits; all of it, or nothing yet."""
+        with self.file:
+            self.file.execute("BEGIN IMMEDIATE")
+            for change in (change for commit in self.unwritten for change in commit.changes):
+                columns = [column.split()[0] for column in TABLES[change.table].split(", ")]
+                where = " AND ".join(f"{column} = ?" for column in columns)
+                self.file.executemany(f"DELETE FROM {change.table} WHERE {where}", change.removed)
+                values = ", ".join("?" * len(columns))
+                self.file.executemany(f"INSERT INTO {change.table} VALUES ({values})", change.added)
+        self.unwritten.clear()
 
     def settle(self) -> None:
         """Notes where the requests stand after a run."""
@@ -224,6 +234,8 @@ class Handler(BaseHTTPRequestHandler):
             self.tell(HTTPStatus.BAD_REQUEST, {"error": str(error)})
         except entangle.Fault as fault:
             self.tell(HTTPStatus.BAD_REQUEST, {"error": str(fault)})
+        except sqlite3.Error as error:
+            self.tell(HTTPStatus.INTERNAL_SERVER_ERROR, {"error": str(error)})
 
     def tell(self, status: HTTPStatus, value: object) -> None:
         self.answer(status, "application/json", json.dumps(value).encode())
