@@ -209,7 +209,30 @@ static void refusals(bool explains, int32_t whole) {
     printf("%ld allocations refused\n", count);
 }
 
-/* Opens a manager, has it make a run and closes it, where one allocation behind a beginning fails: the first call for
+/* Submits a script to a manager and makes its run event by event, each call again where memory ran out for it. */
+static bool moved(entangle_manager **manager) {
+    static const uint32_t made[] = {ENTANGLE_START_RUN, ENTANGLE_BEGIN, ENTANGLE_BEGIN, ENTANGLE_END_RUN};
+    static const uint32_t replied[] = {ENTANGLE_REPLY_STARTED, ENTANGLE_REPLY_STEPPED, ENTANGLE_REPLY_COMMITTED,
+                                       ENTANGLE_REPLY_ENDED};
+    char buffer[64];
+    entangle_told told;
+    uint64_t tx = 0;
+    int32_t status;
+    bool refused = false;
+    while ((status = entangle_submit(manager, SCRIPT, sizeof SCRIPT - 1, &tx, &told)) != ENTANGLE_DONE)
+        CHECK(status == ENTANGLE_OUT_OF_MEMORY && told.code == 900 && !tx && (refused = true));
+    for (size_t at = 0; at < sizeof made / sizeof *made; at++) {
+        uint32_t reply = 0;
+        while ((status = entangle_why(manager, tx, buffer, sizeof buffer, &told)) != ENTANGLE_DONE)
+            CHECK(status == ENTANGLE_OUT_OF_MEMORY && told.code == 900 && (refused = true));
+        while ((status = entangle_make(manager, made[at], tx, &reply)) != ENTANGLE_DONE)
+            CHECK(status == ENTANGLE_OUT_OF_MEMORY && !reply && (refused = true));
+        CHECK(reply == replied[at]);
+    }
+    return refused;
+}
+
+/* Opens a manager, has it make a run, closes it and goes on with its tables, where one allocation behind a beginning fails: the first call for
  * which that is so. Each call is made again then, and comes to the same. */
 static bool driven(long number) {
     char buffer[256];
@@ -233,8 +256,12 @@ static bool driven(long number) {
         CHECK(status == ENTANGLE_OUT_OF_MEMORY && (refused = true));
     while ((status = entangle_closed_report(&manager, 1, buffer, 256, &told)) != ENTANGLE_DONE)
         CHECK(status == ENTANGLE_OUT_OF_MEMORY && told.code == 900 && (refused = true));
-    until = -1;
     CHECK(told.needed == sizeof AFTER - 1 && !memcmp(buffer, AFTER, sizeof AFTER - 1));
+    while ((status = entangle_renew(&manager)) != ENTANGLE_DONE)
+        CHECK(status == ENTANGLE_OUT_OF_MEMORY && (refused = true));
+    refused = moved(&manager) || refused;
+    until = -1;
+    CHECK(entangle_table(&manager, "T", 1, buffer, 256, &told) == ENTANGLE_DONE && tells_text(&told, 14));
     entangle_free(&manager);
     return refused;
 }
