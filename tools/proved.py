@@ -28,6 +28,32 @@ def listed():
     return {name: (line, [it for it in below if it in lines]) for name, (line, below) in lines.items()}
 
 
+def kit():
+    """The kit's folder."""
+    page = subprocess.run(["rt", "doc"], capture_output=True, text=True, check=True).stdout.strip()
+    return os.path.dirname(page)
+
+
+def words_over(tree, name):
+    """The compiler's words for a crate, over libraries that are proved and built in a tree."""
+    crates, home = listed(), kit()
+    line = crates[name][0].partition(":")
+    is_program = os.path.exists(os.path.join(HERE, "crates", name, "src", "main.rt"))
+    root = os.path.join("src", "main.rt" if is_program else "lib.rt")
+    of_kit = dict.fromkeys(["core", "std", *(it for it in line[2].split("#")[0].split() if it not in crates)])
+    rlibs = {it: os.path.join(home, "rlibs", f"{it}.rlib") for it in of_kit}
+    folders = {it: os.path.join(tree, "crates", it, "out", "rlib") for it in needed(crates, name)[:-1]}
+    rlibs.update((it, os.path.join(folders[it], f"{it}.rlib")) for it in crates[name][1])
+    words = ["--crate-name", name, root, "-L", f"dependency={os.path.join(home, 'rlibs')}"]
+    words += ["--crate-type", "staticlib"] if "staticlib" in line[0] else []
+    for it, rlib in rlibs.items():
+        words += ["--extern", f"{it}={rlib}"]
+    for folder in folders.values():
+        words += ["-L", f"dependency={folder}"]
+    words += ["--antt-project", os.path.join(home, "rattle", "logic", "antt-project.json")]
+    return [*words, "--logic-built", os.path.join(home, "logic_built")]
+
+
 def needed(crates, name, seen=None):
     """The crates that one stands on, and itself last; each behind those that it stands on."""
     seen = {} if seen is None else seen
