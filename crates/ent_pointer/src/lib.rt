@@ -11,9 +11,6 @@ ghost use Rattle.std.specs.declared.option.Option.{Option};
 ghost use Rattle.std.specs.declared.option.Option.TheVariants.{None, Some};
 ghost use Rattle.ent_pointer.specs.Handle.{held_at};
 
-#[cfg(test)]
-mod tests;
-
 use std::alloc::{Allocator, Global};
 use std::marker::Model;
 use std::ptr::null_mut;
