@@ -12,13 +12,11 @@ use Rattle.ent_value.specs.Name.{is_word_byte}
 use Rattle.ent_value.specs.Print.{doubled}
 use Rattle.ent_text.specs.declared.keyword.Keyword.{Keyword}
 use Rattle.ent_text.specs.declared.keyword.Keyword.TheVariants as keywords
-use Rattle.ent_text.specs.declared.symbol.Symbol.{Symbol}
-use Rattle.ent_text.specs.declared.symbol.Symbol.TheVariants as symbols
 use Rattle.ent_text.specs.declared.token.TokenKind.{TokenKind}
 use Rattle.ent_text.specs.declared.token.TokenKind.TheVariants as kinds
 use Rattle.ent_text.specs.Keyword.{keyword_text}
-use Rattle.ent_text.specs.Symbol.{symbol_text}
 use Rattle.ent_text.specs.Spelling.{is_in_line}
+use Rattle.ent_text.proofs.Moved.{symbol_in_line}
 use Rattle.ent_print.specs.Lexeme.{Lexeme, Token, Negative, kind_text, lexeme_text, line_end, space, wants_before}
 use Rattle.ent_print.specs.Lexeme.{wants_behind, text_behind}
 use Rattle.ent_print.specs.Reading.{CanStand, CanBeRead}
@@ -120,22 +118,6 @@ keyword_in_line keywords.Update = refl
 keyword_in_line keywords.Values = refl
 keyword_in_line keywords.Where = refl
 keyword_in_line keywords.Within = refl
-
-symbol_in_line : (symbol : Symbol) → IsInLine (symbol_text symbol)
-symbol_in_line symbols.Open = refl
-symbol_in_line symbols.Close = refl
-symbol_in_line symbols.Comma = refl
-symbol_in_line symbols.Semicolon = refl
-symbol_in_line symbols.Dot = refl
-symbol_in_line symbols.Star = refl
-symbol_in_line symbols.Plus = refl
-symbol_in_line symbols.Minus = refl
-symbol_in_line symbols.Equal = refl
-symbol_in_line symbols.NotEqual = refl
-symbol_in_line symbols.Less = refl
-symbol_in_line symbols.LessOrEqual = refl
-symbol_in_line symbols.Greater = refl
-symbol_in_line symbols.GreaterOrEqual = refl
 
 pub kind_in_line : (kind : TokenKind) → CanStand kind → IsInLine (kind_text kind)
 kind_in_line (kinds.Word keyword) h = keyword_in_line keyword

@@ -45,7 +45,7 @@ doubled_plain (b ∷ text) plain =
     on others plain true e = rw e others
     on others plain false e = rw (e, plain) others
 
-symbol_in_line : (symbol : Symbol) → list_all is_in_line (symbol_text symbol) ≡ true
+pub symbol_in_line : (symbol : Symbol) → list_all is_in_line (symbol_text symbol) ≡ true
 symbol_in_line symbols.Open = refl
 symbol_in_line symbols.Close = refl
 symbol_in_line symbols.Comma = refl
