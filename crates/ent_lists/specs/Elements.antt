@@ -1,8 +1,11 @@
 -- Elements of lists, and what holds of each two of them: the laws that proofs of several crates cite.
 use Rattle.std.proofs.Common.{◌≡◌, ◌⊎◌, ℕ, zero, suc, ◌==◌, ◌<◌, ◌≤◌, Bool, true, false, cond, not, ◌||◌, ◌&&◌, List}
 use Rattle.std.proofs.Common.{[], ◌∷◌, ◌++◌, map, length, refl, sym, ap, subst, ◌∙◌, inl, inr, arith, rules, Some}
-use Rattle.std.proofs.Common.{All, AllPairs, Contains, slice_index_or, slice_get, flat_map}
-use Rattle.std.specs.List.{AllByRecursion, filter, list_any}
+use Rattle.std.proofs.Common.{All, AllPairs, Contains, nat_eq, slice_index_or, slice_get, flat_map, take}
+use Rattle.std.specs.List.{AllByRecursion, IsDistinct, filter, list_any}
+use Rattle.std.specs.List.Sorted.{IsStrictlySortedBy}
+use Rattle.std.specs.declared.cmp.Ordering.{Ordering}
+use Rattle.std.specs.declared.cmp.Ordering.TheVariants.{Less}
 
 -- ---- truth values
 
@@ -265,6 +268,23 @@ module _ {X : Type 0} where
   pairs_by R S [] f a = tt
   pairs_by R S (x ∷ xs) f a = (all_by (R x) (S x) xs (f x) a.0, pairs_by R S xs f a.1)
 
+  abbrev pub NotBoth : (X → Bool) → X → X → Type 0
+  NotBoth p x y = p x ≡ true → p y ≡ true → ⊥
+
+  -- where no two pass, one that passes is the only one
+  pub only_one : (p : X → Bool) (xs : List X) (x : X) → Pairs (NotBoth p) xs → In x xs → p x ≡ true
+      → filter p xs ≡ x ∷ []
+  only_one p [] x pairs at is = absurd at
+  only_one p (y ∷ ys) x pairs (inl same) is =
+      ap (λ b. cond b (y ∷ filter p ys) (filter p ys)) (ap p (sym same) ∙ is)
+      ∙ ap (λ rest. y ∷ rest) (filter_empty p ys (λ z at. not_so (p z) (λ other.
+      of_all (NotBoth p y) ys z pairs.0 at (ap p (sym same) ∙ is) other)))
+      ∙ ap (λ z. z ∷ []) (sym same)
+  only_one p (y ∷ ys) x pairs (inr at) is =
+      ap (λ b. cond b (y ∷ filter p ys) (filter p ys))
+      (not_so (p y) (λ here. of_all (NotBoth p y) ys x pairs.0 at here is))
+      ∙ only_one p ys x pairs.1 at is
+
   -- ---- some element
 
   pub any_none : (p : X → Bool) (xs : List X) → list_any p xs ≡ false → (x : X) → In x xs → p x ≡ false
@@ -360,6 +380,19 @@ module _ {X : Type 0} where
       one y x e = cc
   got_in (y ∷ ys) (suc k) x is = inr (got_in ys k x is)
 
+  -- where one more is behind
+  pub still_there : (xs : List X) (x y : X) (n : ℕ) → slice_get xs n ≡ Some x → slice_get (xs ++ y ∷ []) n ≡ Some x
+  still_there [] x y zero e = cc
+  still_there [] x y (suc n) e = cc
+  still_there (z ∷ xs) x y zero e = e
+  still_there (z ∷ xs) x y (suc n) e = still_there xs x y n e
+
+  pub taken_in : (k : ℕ) (xs : List X) (x : X) → In x (take k xs) → In x xs
+  taken_in zero xs x at = absurd at
+  taken_in (suc k) [] x at = absurd at
+  taken_in (suc k) (y ∷ ys) x (inl same) = inl same
+  taken_in (suc k) (y ∷ ys) x (inr at) = inr (taken_in k ys x at)
+
   pub all_index : (P : X → Type 0) (xs : List X) → All P xs → AllByRecursion P xs
   all_index P [] all = tt
   all_index P (x ∷ xs) all = (all 0 x (omega arith), all_index P xs (λ k d low. all (suc k) d (omega (arith, low))))
@@ -427,6 +460,23 @@ module _ {X Y : Type 0} (f : X → Y) where
     to_all (λ z. R (f x) (f z)) xs (λ z at. of_all (R (f x)) (map f xs) (f z) pairs.0 (to_map f xs z at)),
     pairs_unmapped R xs pairs.1,
   )
+
+pub distinct_pairs : (ns : List ℕ) → IsDistinct nat_eq ns → Pairs (λ (one other : ℕ). one ≡ other → ⊥) ns
+unfolding IsDistinct
+distinct_pairs [] distinct = tt
+distinct_pairs (n ∷ ns) distinct = (
+  to_all (λ m. n ≡ m → ⊥) ns (λ m at same.
+      clash (nat_eq n m) (ap (nat_eq n) (sym same) ∙ number_itself n)
+      (of_all (λ m. nat_eq n m ≡ false) ns m distinct.0 at)),
+  distinct_pairs ns distinct.1,
+)
+
+-- what is sorted rises: each element comes before those behind it
+pub rise : {K : Type 0} (R : K → K → Ordering) (xs : List K) → IsStrictlySortedBy R xs
+    → Pairs (λ x other. R x other ≡ Less) xs
+unfolding IsStrictlySortedBy
+rise R [] h = tt
+rise R (x ∷ xs) h = (h.0, rise R xs h.1)
 
 -- ---- lists of lists
 
