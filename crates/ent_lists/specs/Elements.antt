@@ -380,12 +380,11 @@ module _ {X : Type 0} where
       one y x e = cc
   got_in (y ∷ ys) (suc k) x is = inr (got_in ys k x is)
 
-  -- where one more is behind
-  pub still_there : (xs : List X) (x y : X) (n : ℕ) → slice_get xs n ≡ Some x → slice_get (xs ++ y ∷ []) n ≡ Some x
-  still_there [] x y zero e = cc
-  still_there [] x y (suc n) e = cc
-  still_there (z ∷ xs) x y zero e = e
-  still_there (z ∷ xs) x y (suc n) e = still_there xs x y n e
+  -- where more is behind
+  pub got_on : (xs more : List X) (n : ℕ) (x : X) → slice_get xs n ≡ Some x → slice_get (xs ++ more) n ≡ Some x
+  got_on [] more n x e = cc (e)
+  got_on (z ∷ xs) more zero x e = e
+  got_on (z ∷ xs) more (suc n) x e = got_on xs more n x e
 
   pub taken_in : (k : ℕ) (xs : List X) (x : X) → In x (take k xs) → In x xs
   taken_in zero xs x at = absurd at
