@@ -7,7 +7,7 @@ use Rattle.ent_protocol.specs.State.{State, Member, Use}
 use Rattle.ent_protocol.specs.Uses.{uses_conflict, is_conflicting, not_passed, conflicting, least, blocker}
 use Rattle.ent_lists.specs.Elements.{In, of_filter, to_filter, of_map, to_map, in_either, in_first, in_second}
 use Rattle.ent_lists.specs.Elements.{any_some, any_in, in_contains, contains_in, differ, other_number, turned}
-use Rattle.ent_protocol_laws.proofs.Members.{tx_of}
+use Rattle.ent_protocol_laws.proofs.Left.{tx_of}
 use Rattle.ent_event_laws.specs.Beginning.{Counts, HoldsConflict, Blocks, IsBlockedBy, NobodyBlocks}
 
 -- ---- the least of some numbers

@@ -17,7 +17,7 @@ use Rattle.ent_protocol.specs.Uses.{statement_uses, entangled_uses, blocker}
 use Rattle.ent_lists.specs.Elements.{In, of_filter, to_filter, in_either, in_first, in_second, any_none, any_some}
 use Rattle.ent_lists.specs.Elements.{any_in, in_contains, contains_in, clash, not_so, turned, same_number}
 use Rattle.ent_lists.specs.Elements.{number_itself, other_number, differ, or_first, or_second, or_cases, neither}
-use Rattle.ent_protocol_laws.proofs.Leaves.{found}
+use Rattle.ent_protocol_laws.proofs.Found.{found}
 use Rattle.ent_event_laws.specs.Beginning.{BeginsByRow, IsNoMember, IsBusy, IsBefore, OthersArePrepared, WaitsForOther}
 use Rattle.ent_event_laws.specs.Beginning.{is_posted, has_prepared, is_out, absent, not_now, blocked, lent}
 use Rattle.ent_event_laws.specs.Beginning.{asks_blocked, held_back, posted, committed, prepared, rolls_back}

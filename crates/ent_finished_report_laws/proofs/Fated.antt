@@ -29,8 +29,8 @@ use Rattle.ent_protocol.specs.State.{Dormant, Member, State, Submitted, by_numbe
 use Rattle.ent_protocol.specs.Step.{Step}
 use Rattle.ent_protocol.specs.Uses.{blocker, entangled_uses, statement_uses}
 use Rattle.ent_protocol_laws.specs.Numbered.{from_by_number}
-use Rattle.ent_protocol_laws.proofs.Leaves.{found}
-use Rattle.ent_protocol_laws.proofs.Members.{tx_of}
+use Rattle.ent_protocol_laws.proofs.Found.{found}
+use Rattle.ent_protocol_laws.proofs.Left.{tx_of}
 use Rattle.ent_lists.specs.Elements.{In, in_either, in_first, in_second, of_filter}
 use Rattle.ent_right_report_laws.specs.Reportable.{runs_of}
 

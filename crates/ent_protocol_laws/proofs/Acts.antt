@@ -1,7 +1,7 @@
 -- What holds of every state that is reached: what the opening's own state has and each change of a state keeps.
 use Rattle.std.proofs.Common.{◌≡◌, inl, inr, ℕ, zero, suc, Bool, true, false, not, ◌||◌, List, [], ◌∷◌, ◌++◌}
 use Rattle.std.proofs.Common.{map, refl, sym, ap, subst, Option, Some, None, Result, Ok, Err}
-use Rattle.std.specs.List.{filter, list_any}
+use Rattle.std.specs.List.{list_any}
 use Rattle.ent_value.specs.declared.value.Value.{Value}
 use Rattle.ent_tree.specs.declared.script.Script.{Script}
 use Rattle.ent_semantics.specs.Entangled.{Valuation}
@@ -20,17 +20,17 @@ use Rattle.ent_protocol.specs.Finish.{FinishesBy, Finishes, IsTaken, finished}
 use Rattle.ent_protocol.specs.Job.{Job, One, Joint, Done, Single, Outcome, Shown, Changed, Bound}
 use Rattle.ent_protocol.specs.Job.{Choice, Fault, IsOutcome, tables_of}
 use Rattle.ent_protocol.specs.Member.{Next, Ordinary, Asks, Commits, RollsBack, active_member, next_of, is_lent, is_of}
-use Rattle.ent_protocol.specs.Member.{is_tx}
 use Rattle.ent_protocol.specs.PoolEvents.{Picks, AnswersBy, JoinsOrIsStale, IsPresentComponent, IsOut, joining}
 use Rattle.ent_protocol.specs.PoolEvents.{joint_job}
 use Rattle.ent_protocol.specs.Reached.{opened, LeadsTo, IsReached}
 use Rattle.ent_protocol.specs.Rollback.{Cause, Asked, Failing, NoOne, rolled_back}
 use Rattle.ent_protocol.specs.Run.{Forms, SubmitsForm, SubmitsUnless, StartsWith, starting, submitting, BreaksIfAny}
 use Rattle.ent_protocol.specs.Run.{EndsWhileRunning, ending}
-use Rattle.ent_protocol.specs.State.{State, Member, Dormant, first_of}
+use Rattle.ent_protocol.specs.State.{State, Member, Dormant}
 use Rattle.ent_protocol.specs.Step.{Step}
 use Rattle.ent_protocol.specs.Uses.{statement_uses, entangled_uses, blocker}
-use Rattle.ent_lists.specs.Elements.{In, of_filter, neither, same_number}
+use Rattle.ent_lists.specs.Elements.{In, neither}
+use Rattle.ent_protocol_laws.proofs.Found.{found}
 
 -- a member that isn't prepared, has no statement in the pool, and no job of which is lent
 pub record IsIdle (s : State) (member : Member) : Type 0 where
@@ -116,16 +116,6 @@ safely kept =
       ends = kept.ends;
       recalls = kept.recalls;
     }
-
-first_in : {X : Type 0} (xs : List X) (x : X) → first_of xs ≡ Some x → In x xs
-first_in [] x e = cc (e)
-first_in (y ∷ ys) x e = inl (let same : x ≡ y = cc in same)
-
-found : (s : State) (tx : ℕ) (member : Member) → active_member s tx ≡ Some member
-    → In member s.active × (member.tx ≡ tx)
-found s tx member e =
-    let r = of_filter (is_tx tx) s.active member (first_in (filter (is_tx tx) s.active) member e) in
-    (r.0, same_number member.tx tx r.1)
 
 module _ {F : Type 0} (forms : Forms F) (P : State → Type 0) (kept : AreKeptSafe P) where
   as_is : (s new : State) → new ≡ s → P s → P new

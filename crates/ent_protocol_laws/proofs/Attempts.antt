@@ -1,6 +1,6 @@
 -- Every event keeps that nobody took part in more runs than its script asks for.
 use Rattle.std.proofs.Common.{◌≡◌, ◌<◌, ◌≤◌, ℕ, zero, suc, Bool, true, false, cond, ◌==◌, List, [], ◌∷◌, ◌++◌, map}
-use Rattle.std.proofs.Common.{length, take, drop, refl, sym, ap, subst, ◌∙◌, inl, inr, arith, Option, Some, None}
+use Rattle.std.proofs.Common.{length, take, drop, refl, sym, ap, subst, ◌∙◌, inr, arith, Option, Some, None}
 use Rattle.std.specs.List.{AllByRecursion, filter, filter_map, cons_option}
 use Rattle.ent_value.specs.declared.value.Value.{Value}
 use Rattle.ent_tree.specs.declared.script.Script.{Script}
@@ -26,16 +26,12 @@ use Rattle.ent_protocol_laws.specs.Attempts.{AsksForRun, AskForMost, HasRunLeft,
 use Rattle.ent_protocol_laws.proofs.Acts.{AreKept, reached}
 use Rattle.ent_protocol_laws.proofs.Left.{tx_of}
 use Rattle.ent_lists.specs.Elements.{In, of_all, to_all, of_filter, of_map, all_filtered, number_itself, clash}
+use Rattle.ent_lists.specs.Elements.{all_by, all_first, all_joined, all_second, taken_in}
 use Rattle.ent_protocol_laws.specs.Numbered.{from_by_number}
+use Rattle.ent_protocol_laws.proofs.Found.{numbered_on}
 use Rattle.ent_protocol_laws.proofs.Placed.{answered_tx}
 
 -- ---- lists
-
-taken_in : {X : Type 0} (k : ℕ) (xs : List X) (x : X) → In x (take k xs) → In x xs
-taken_in zero xs x at = absurd at
-taken_in (suc k) [] x at = absurd at
-taken_in (suc k) (y ∷ ys) x (inl same) = inl same
-taken_in (suc k) (y ∷ ys) x (inr at) = inr (taken_in k ys x at)
 
 dropped_in : {X : Type 0} (k : ℕ) (xs : List X) (x : X) → In x (drop k xs) → In x xs
 dropped_in zero xs x at = at
@@ -43,22 +39,6 @@ dropped_in (suc k) [] x at = absurd at
 dropped_in (suc k) (y ∷ ys) x at = inr (dropped_in k ys x at)
 
 module _ {X : Type 0} (P : X → Type 0) where
-  all_joined : (xs ys : List X) → AllByRecursion P xs → AllByRecursion P ys → AllByRecursion P (xs ++ ys)
-  all_joined [] ys first second = second
-  all_joined (x ∷ xs) ys first second = (first.0, all_joined xs ys first.1 second)
-
-  all_before : (xs ys : List X) → AllByRecursion P (xs ++ ys) → AllByRecursion P xs
-  all_before [] ys all = tt
-  all_before (x ∷ xs) ys all = (all.0, all_before xs ys all.1)
-
-  all_behind : (xs ys : List X) → AllByRecursion P (xs ++ ys) → AllByRecursion P ys
-  all_behind [] ys all = all
-  all_behind (x ∷ xs) ys all = all_behind xs ys all.1
-
-  all_turned : (Q : X → Type 0) (xs : List X) → ((x : X) → P x → Q x) → AllByRecursion P xs → AllByRecursion Q xs
-  all_turned Q [] to all = tt
-  all_turned Q (x ∷ xs) to all = (to x all.0, all_turned Q xs to all.1)
-
   all_mapped : {Y : Type 0} (Q : Y → Type 0) (f : X → Y) (xs : List X) → ((x : X) → P x → Q (f x))
       → AllByRecursion P xs → AllByRecursion Q (map f xs)
   all_mapped Q f [] to all = tt
@@ -75,13 +55,6 @@ module _ {X : Type 0} (P : X → Type 0) where
       by None e rest = rest
 
 -- ---- scripts by number
-
-numbered_on : {A : Type 0} (xs more : List A) (n : ℕ) (a : A) → numbered xs n ≡ Some a
-    → numbered (xs ++ more) n ≡ Some a
-numbered_on xs more zero a e = cc
-numbered_on [] more (suc n) a e = cc
-numbered_on (x ∷ xs) more (suc zero) a e = e
-numbered_on (x ∷ xs) more (suc (suc n)) a e = numbered_on xs more (suc n) a e
 
 numbered_last : {A : Type 0} (xs : List A) (a : A) → numbered (xs ++ a ∷ []) (suc (length xs)) ≡ Some a
 numbered_last [] a = refl
@@ -139,14 +112,14 @@ submits s script form asks h =
     record {
       dormant =
           all_joined (HasRunLeft (s.submitted ++ more)) s.dormant (new ∷ [])
-          (all_turned (HasRunLeft s.submitted) (HasRunLeft (s.submitted ++ more)) s.dormant
+          (all_by (HasRunLeft s.submitted) (HasRunLeft (s.submitted ++ more)) s.dormant
           (left_on s.submitted more) h.dormant)
           (record { own = own; is_own = numbered_last s.submitted own; left = omega (arith, asks) }, tt);
       prepared =
-          all_turned (MayTakePart s.submitted) (MayTakePart (s.submitted ++ more)) s.prepared
+          all_by (MayTakePart s.submitted) (MayTakePart (s.submitted ++ more)) s.prepared
           (part_on s.submitted more) h.prepared;
       active =
-          all_turned (MayTakePart s.submitted) (MayTakePart (s.submitted ++ more)) s.active
+          all_by (MayTakePart s.submitted) (MayTakePart (s.submitted ++ more)) s.active
           (part_on s.submitted more) h.active;
     }
 
@@ -310,8 +283,8 @@ within_kept =
     record {
       submits = λ s script form h asked.
           let more : List Submitted = record { script = script; form = form } ∷ [] in
-          submits s script form (all_behind AsksForRun s.submitted more asked).0
-          (h (all_before AsksForRun s.submitted more asked));
+          submits s script form (all_second AsksForRun s.submitted more asked).0
+          (h (all_first AsksForRun s.submitted more asked));
       starts = λ s off h asked. starts s (h asked);
       lends = λ s m statement idle next h asked. replaces s m _ idle.at refl refl (h asked);
       posts = λ s m statement idle next h asked. replaces s m _ idle.at refl refl (h asked);
@@ -356,11 +329,11 @@ pub stay_below : (most : ℕ) (s : State) → AskForMost most s → StayWithin s
 stay_below most s few h =
     record {
       dormant =
-          all_turned (HasRunLeft s.submitted) (λ (dormant : Dormant). dormant.runs < most) s.dormant
+          all_by (HasRunLeft s.submitted) (λ (dormant : Dormant). dormant.runs < most) s.dormant
           (λ d own. let low = own.left in let high = bound own.own d.tx own.is_own in omega (arith, low, high))
           h.dormant;
       members =
-          all_turned (MayTakePart s.submitted) (λ (member : Member). member.attempt ≤ most) (members s)
+          all_by (MayTakePart s.submitted) (λ (member : Member). member.attempt ≤ most) (members s)
           (λ m own. let low = own.within in let high = bound own.own m.tx own.is_own in omega (arith, low, high))
           h.members;
     }

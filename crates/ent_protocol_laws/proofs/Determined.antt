@@ -1,7 +1,6 @@
 -- What an event does is determined.
 use Rattle.std.proofs.Common.{◌≡◌, ◌⊎◌, inl, inr, ℕ, Bool, true, false, ◌||◌, List, [], ◌∷◌, ◌++◌, refl, sym}
 use Rattle.std.proofs.Common.{ap, subst, ◌∙◌, arith, Option, Some, None, Result, Ok, Err}
-use Rattle.std.specs.List.{filter}
 use Rattle.ent_value.specs.declared.value.Value.{Value}
 use Rattle.ent_tree.specs.declared.script.Script.{Script}
 use Rattle.ent_semantics.specs.Entangled.{Valuation}
@@ -17,17 +16,18 @@ use Rattle.ent_protocol.specs.Event as events
 use Rattle.ent_protocol.specs.Finish.{FinishesBy, Finishes, FinishesSingle, IsOutstandingSingle}
 use Rattle.ent_protocol.specs.Job.{Choice, Done, Fault, Job, Joint, One, Outcome, Shown, Changed, Bound, Single}
 use Rattle.ent_protocol.specs.Member.{Next, Ordinary, Asks, Commits, RollsBack, active_member, is_lent}
-use Rattle.ent_protocol.specs.Member.{is_tx, next_of}
+use Rattle.ent_protocol.specs.Member.{next_of}
 use Rattle.ent_protocol.specs.PoolEvents.{AnswersBy, JoinsOrIsStale, Picks, joint_job}
 use Rattle.ent_protocol.specs.Rollback.{NoOne, group_numbers, rolled_back}
 use Rattle.ent_protocol.specs.Run.{BreaksIfAny, EndsWhileRunning, Forms, StartsWith, SubmitsForm, SubmitsUnless}
-use Rattle.ent_protocol.specs.State.{State, Dormant, Member, first_of}
+use Rattle.ent_protocol.specs.State.{State, Dormant, Member}
 use Rattle.ent_protocol.specs.Step.{Step}
 use Rattle.ent_protocol.specs.Uses.{statement_uses, entangled_uses, blocker}
 use Rattle.ent_protocol_laws.specs.ByNumber.{StandByNumber}
 use Rattle.ent_protocol_laws.specs.Lent.{LentStandOnce}
 use Rattle.ent_protocol_laws.specs.Alike.{AreAlike}
-use Rattle.ent_lists.specs.Elements.{In, neither, of_filter}
+use Rattle.ent_lists.specs.Elements.{In, neither}
+use Rattle.ent_protocol_laws.proofs.Found.{found}
 use Rattle.ent_protocol_laws.proofs.Picked.{AreClasses, same_component}
 use Rattle.ent_protocol_laws.proofs.TakenOnce.{taken_alike}
 use Rattle.ent_protocol_laws.proofs.Pooled.{never_unsafe, pool_apart}
@@ -35,13 +35,6 @@ use Rattle.ent_protocol_laws.proofs.FirstUnsafe.{one_fault}
 use Rattle.ent_protocol_laws.proofs.Reasons.{BothCycles, begin_alike, no_reason, none_stands, reasons_alike}
 
 -- ---- parts that are equal
-
-first_in : {X : Type 0} (xs : List X) (x : X) → first_of xs ≡ Some x → In x xs
-first_in [] x e = cc
-first_in (y ∷ ys) x e = inl (let same : x ≡ y = cc in same)
-
-found : (s : State) (tx : ℕ) (member : Member) → active_member s tx ≡ Some member → In member s.active
-found s tx member e = (of_filter (is_tx tx) s.active member (first_in (filter (is_tx tx) s.active) member e)).0
 
 same_member : (m n : Member) → Some m ≡ Some n → m ≡ n
 same_member m n e = cc
@@ -120,7 +113,7 @@ module _ {F : Type 0} where
         → active_member s tx ≡ member → BeginsMember s tx member reply new → BeginsMember s tx member other another
         → Same reply other new another
     begins tx (Some m) reply other new another is h k =
-        unless tx (m.posted || is_lent s tx) m reply other new another (found s tx m is) refl h k
+        unless tx (m.posted || is_lent s tx) m reply other new another (found s tx m is).0 refl h k
     begins tx None reply other new another is h k = both _ _ _ _ _ _ h.0 h.1 k.0 k.1
 
   -- ---- results

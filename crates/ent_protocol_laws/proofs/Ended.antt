@@ -19,9 +19,9 @@ use Rattle.ent_protocol.specs.Step.{Step}
 use Rattle.ent_protocol_laws.specs.Standing.{GoesOn, StandOnce}
 use Rattle.ent_protocol_laws.specs.Last.{HasGivenUp, WaitsAgain}
 use Rattle.ent_lists.specs.Elements.{In, clash, contains_in, in_contains, in_second, index_pairs, not_so, pairs_across}
-use Rattle.ent_lists.specs.Elements.{pairs_second, same_number, to_filter, to_map}
+use Rattle.ent_lists.specs.Elements.{number_itself, pairs_second, same_number, to_filter, to_map}
 use Rattle.ent_protocol_laws.specs.Numbered.{to_by_number}
-use Rattle.ent_protocol_laws.proofs.Members.{number_itself, tx_of}
+use Rattle.ent_protocol_laws.proofs.Left.{tx_of}
 
 -- ---- one of those that are left
 

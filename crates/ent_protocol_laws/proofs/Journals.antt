@@ -14,8 +14,8 @@ use Rattle.ent_protocol.specs.State.{State, Member}
 use Rattle.ent_protocol.specs.Step.{Step}
 use Rattle.ent_protocol_laws.specs.Whole.{CommitsWhole}
 use Rattle.ent_protocol_laws.proofs.Leaves.{Leaves, left_behind}
-use Rattle.ent_lists.specs.Elements.{In, any_none, clash, contains_in, in_contains, same_number, to_filter, turned}
-use Rattle.ent_protocol_laws.proofs.Members.{number_itself}
+use Rattle.ent_lists.specs.Elements.{In, any_none, clash, contains_in, in_contains, number_itself, same_number}
+use Rattle.ent_lists.specs.Elements.{to_filter, turned}
 
 abbrev StaysOrGrows : State → Bool → State → Type 0
 StaysOrGrows s rolled new = (new.journal ≡ s.journal) ⊎ CommitsWhole s new

@@ -21,9 +21,10 @@ use Rattle.ent_protocol.specs.Tidy.{IsTidy, is_member}
 use Rattle.ent_protocol_laws.specs.ByNumber.{StandByNumber}
 use Rattle.ent_protocol_laws.proofs.Leaves.{Leaves, left_behind}
 use Rattle.ent_lists.specs.Elements.{In, clash, in_either, in_first, in_second, not_so, of_filter, same_number, to_map}
-use Rattle.ent_lists.specs.Elements.{any_none, to_filter, turned}
+use Rattle.ent_lists.specs.Elements.{any_none, number_itself, to_filter, turned}
 use Rattle.ent_protocol_laws.specs.Numbered.{from_by_number, to_by_number}
-use Rattle.ent_protocol_laws.proofs.Members.{among_in, in_among, is_in_run, number_itself, of_run, same_member, tx_of}
+use Rattle.ent_protocol_laws.proofs.Left.{in_among, tx_of}
+use Rattle.ent_protocol_laws.proofs.Members.{among_in, is_in_run, of_run, same_member}
 
 -- where one leaves, the others of its group do
 abbrev LeaveTogether : State → Bool → State → Type 0

@@ -21,9 +21,11 @@ use Rattle.ent_protocol.specs.Uses.{statement_uses}
 use Rattle.ent_protocol_laws.specs.Lent.{AreOther, LentStandOnce}
 use Rattle.ent_protocol_laws.proofs.Acts.{AreKept, IsIdle, ComesBack, reached}
 use Rattle.ent_protocol_laws.proofs.Asked.{asker_of}
+use Rattle.ent_protocol_laws.proofs.Found.{taken_fewer}
 use Rattle.ent_protocol_laws.proofs.Left.{tx_of}
-use Rattle.ent_lists.specs.Elements.{In, Pairs, of_all, to_all, in_first, in_second, in_either, of_filter, to_filter}
-use Rattle.ent_lists.specs.Elements.{pairs_filtered, pairs_behind, pairs_without, pairs_index, any_none, contains_in}
+use Rattle.ent_lists.specs.Elements.{In, Pairs, of_all, to_all, in_second, in_either, of_filter, to_filter}
+use Rattle.ent_lists.specs.Elements.{pairs_across, pairs_behind, pairs_filtered, pairs_index, pairs_second}
+use Rattle.ent_lists.specs.Elements.{pairs_without, any_none, contains_in}
 use Rattle.ent_lists.specs.Elements.{in_contains, to_map, clash, not_so, same_number, number_itself}
 use Rattle.ent_protocol_laws.proofs.Placed.{places_kept, places_opened}
 use Rattle.ent_protocol_laws.proofs.Places.{Stands, members_once}
@@ -126,33 +128,11 @@ one_active s h x y at bt same =
 
 -- ---- jobs that come back
 
-pub taken_fewer : (job : Job) (jobs left : List Job) → IsTaken job jobs left → (other : Job) → In other left
-    → In other jobs
-taken_fewer job jobs left t other at =
-    subst (In other) (sym t.is_there)
-    (elim (in_either t.before t.behind other (subst (In other) t.others at)) [
-      | inl a ↦ in_first t.before (job ∷ t.behind) other a
-      | inr b ↦ in_second t.before (job ∷ t.behind) other (inr b)
-    ])
-
 other_turned : (v w : Work) → AreOther v w → AreOther w v
 other_turned (One a) (One b) h = λ e. h (sym e)
 other_turned (One a) (Joint b) h = tt
 other_turned (Joint a) (One b) h = tt
 other_turned (Joint a) (Joint b) h = λ e. h (sym e)
-
-pairs_across : (R : Job → Job → Type 0) (before behind : List Job) (job other : Job) → Pairs R (before ++ job ∷ behind)
-    → In other before → R other job
-pairs_across R [] behind job other pairs at = absurd at
-pairs_across R (x ∷ before) behind job other pairs (inl same) =
-    subst (λ (y : Job). R y job) (sym same)
-    (of_all (R x) (before ++ job ∷ behind) job pairs.0 (in_second before (job ∷ behind) job (inl refl)))
-pairs_across R (x ∷ before) behind job other pairs (inr at) = pairs_across R before behind job other pairs.1 at
-
-pairs_after : (R : Job → Job → Type 0) (before behind : List Job) (job other : Job) → Pairs R (before ++ job ∷ behind)
-    → In other behind → R job other
-pairs_after R [] behind job other pairs at = of_all (R job) behind other pairs.0 at
-pairs_after R (x ∷ before) behind job other pairs at = pairs_after R before behind job other pairs.1 at
 
 -- what is left is of other transactions
 taken_other : (job : Job) (jobs left : List Job) → IsTaken job jobs left → Pairs OtherJob jobs → (own : Single)
@@ -162,8 +142,10 @@ taken_other job jobs left t pairs own is other single at other_is =
     let all = subst (Pairs OtherJob) t.is_there pairs in
     let apart : AreOther other.work job.work =
     elim (in_either t.before t.behind other (subst (In other) t.others at)) [
-      | inl a ↦ pairs_across OtherJob t.before t.behind job other all a
-      | inr b ↦ other_turned job.work other.work (pairs_after OtherJob t.before t.behind job other all b)
+      | inl a ↦ pairs_across OtherJob t.before (job ∷ t.behind) other job all a (inl refl)
+      | inr b ↦
+          other_turned job.work other.work
+          (of_all (OtherJob job) t.behind other (pairs_second OtherJob t.before (job ∷ t.behind) all).0 b)
     ] in
     subst (λ w. AreOther w (One own)) other_is (subst (AreOther other.work) is apart)
 

@@ -1,4 +1,5 @@
 pub mod Times
+pub mod Found
 pub mod Acts
 pub mod Onward
 pub mod Left

@@ -1,7 +1,6 @@
 -- The pool stays safe.
-use Rattle.std.proofs.Common.{◌≡◌, ◌⊎◌, ℕ, zero, suc, Bool, true, false, cond, ◌==◌, List, [], ◌∷◌, ◌++◌, map, take}
+use Rattle.std.proofs.Common.{◌≡◌, ◌⊎◌, ℕ, Bool, true, false, cond, ◌==◌, List, [], ◌∷◌, ◌++◌, map, take}
 use Rattle.std.proofs.Common.{refl, sym, ap, subst, ◌∙◌, inl, inr, Option, Some, None, Contains}
-use Rattle.std.specs.Prelude.{slice_get}
 use Rattle.std.specs.List.{filter}
 use Rattle.ent_value.specs.declared.value.Value.{Value}
 use Rattle.ent_tree.specs.declared.declaration.Opening.{Opening}
@@ -25,6 +24,7 @@ use Rattle.ent_protocol.specs.PostedBy.{IsPosted, IsPostedBy, in_pool, to_pool, 
 use Rattle.ent_protocol.specs.State.{State, Submitted, Member}
 use Rattle.ent_protocol.specs.Uses.{entangled_uses}
 use Rattle.ent_protocol_laws.proofs.Acts.{AreKeptSafe, safely_reached}
+use Rattle.ent_protocol_laws.proofs.Found.{numbered_on}
 use Rattle.ent_lists.specs.Elements.{In, contains_in, in_contains, in_first, in_second, of_filter, of_map}
 use Rattle.ent_protocol_laws.specs.Numbered.{from_by_number}
 
@@ -94,18 +94,6 @@ itself old new m at posted next =
 
 -- ---- a script is submitted
 
-still_there : {X : Type 0} (xs : List X) (x y : X) (n : ℕ) → slice_get xs n ≡ Some x
-    → slice_get (xs ++ y ∷ []) n ≡ Some x
-still_there [] x y zero e = cc
-still_there [] x y (suc n) e = cc
-still_there (z ∷ xs) x y zero e = e
-still_there (z ∷ xs) x y (suc n) e = still_there xs x y n e
-
-still_numbered : {X : Type 0} (xs : List X) (x y : X) (n : ℕ) → numbered xs n ≡ Some x
-    → numbered (xs ++ y ∷ []) n ≡ Some x
-still_numbered xs x y zero e = cc
-still_numbered xs x y (suc n) e = still_there xs x y n e
-
 still_next : (all : List Submitted) (own : Submitted) (m : Member) (asked : Entangled Value)
     → next_in (numbered all m.tx) m ≡ Asks asked
     → next_in (numbered (all ++ own ∷ []) m.tx) m ≡ next_in (numbered all m.tx) m
@@ -116,7 +104,7 @@ still_next all own m asked e = by (numbered all m.tx) refl
     by None none = let wrong : RollsBack ≡ Asks asked = rw none at e in cc
     by (Some mine) there =
         ap (λ (found : Option Submitted). next_in found m)
-        (still_numbered all mine own m.tx there ∙ sym there)
+        (numbered_on all (own ∷ []) m.tx mine there ∙ sym there)
 
 submits : (s : State) (script : Script) (form : List (Statement Known)) → PoolRight s
     → PoolRight (submitting s script form)

@@ -32,7 +32,7 @@ module _ {X : Type 0} (number : X → ℕ) where
   from_by_number (x ∷ xs) y at =
       elim (from_inserted x (by_number number xs) y at) [ inl a ↦ inl a | inr b ↦ inr (from_by_number xs y b) ]
 
-  to_inserted : (x : X) (xs : List X) (y : X) → (y ≡ x) ⊎ In y xs → In y (inserted number x xs)
+  pub to_inserted : (x : X) (xs : List X) (y : X) → (y ≡ x) ⊎ In y xs → In y (inserted number x xs)
   to_inserted x [] y (inl same) = inl same
   to_inserted x [] y (inr bad) = absurd bad
   to_inserted x (z ∷ xs) y at = by (nat_lt (number x) (number z)) at (to_inserted x xs y)
