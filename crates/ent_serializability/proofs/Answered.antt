@@ -12,8 +12,8 @@ use Rattle.ent_coordination.specs.Pool.{Posted}
 use Rattle.ent_protocol.specs.Member.{is_tx, Asks, next_of}
 use Rattle.ent_protocol.specs.PoolEvents.{answered_by, answered_among, joint_members, joined_label}
 use Rattle.ent_protocol.specs.State.{State, Submitted, Member}
-use Rattle.ent_serializability.proofs.Undo.{number_itself, same_number, differ}
 use Rattle.ent_lists.specs.Elements.{any_in, In, Pairs, of_all, to_all, in_either, in_first, in_second}
+use Rattle.ent_lists.specs.Elements.{number_itself, same_number, differ}
 use Rattle.ent_serializability.proofs.Joints.{OtherTx}
 
 -- ---- what an answer keeps of a member

@@ -16,10 +16,9 @@ use Rattle.ent_protocol.specs.Uses.{entangled_uses}
 use Rattle.ent_serializability.specs.History.{History}
 use Rattle.ent_serializability.specs.Faithful.{is_used}
 use Rattle.ent_serializability.proofs.Answered.{OtherPostedQuery, IsPresent}
-use Rattle.ent_serializability.proofs.Undo.{number_itself}
 use Rattle.ent_lists.specs.Elements.{In, Pairs, of_all, to_all, all_joined, any_in, to_map, to_filter, pairs_by}
 use Rattle.ent_lists.specs.Elements.{in_first, in_second, in_either, nobody, pairs_joined}
-use Rattle.ent_lists.specs.Elements.{all_index, contains_in, in_contains, in_flat, index_pairs}
+use Rattle.ent_lists.specs.Elements.{all_index, contains_in, in_contains, in_flat, index_pairs, number_itself}
 use Rattle.ent_serializability.proofs.Outcomes.{seen_same, used_first, used_second}
 use Rattle.ent_serializability.proofs.Operations.{HoldsUses}
 use Rattle.ent_serializability.proofs.Locks.{used_got}

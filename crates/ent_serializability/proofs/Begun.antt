@@ -15,9 +15,8 @@ use Rattle.ent_serializability.specs.Faithful.{number_of, is_used, is_owned}
 use Rattle.ent_serializability.specs.History.{History, Replays}
 use Rattle.ent_serializability.specs.SerialState.{Follows, IsWhole}
 use Rattle.ent_lists.specs.Elements.{In, Pairs, of_all, to_all, all_by, in_first, in_second, in_either, of_map, to_map}
-use Rattle.ent_lists.specs.Elements.{clash, any_none, pairs_across, map_joined}
+use Rattle.ent_lists.specs.Elements.{clash, any_none, pairs_across, map_joined, same_number, other_number}
 use Rattle.ent_serializability.proofs.Frame.{Laws, IsCovered, apart_turned, WritesWithin, held}
-use Rattle.ent_serializability.proofs.Undo.{same_number, other_number}
 use Rattle.ent_serializability.proofs.Sound.{Fit, AreApart, fit_turned}
 use Rattle.ent_serializability.proofs.Acts.{Keeps}
 use Rattle.ent_serializability.proofs.Locks.{holds_more, used_from, free_active, free_prepared, apart_holding}

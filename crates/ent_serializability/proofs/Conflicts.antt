@@ -8,8 +8,7 @@ use Rattle.ent_serializability.specs.Faithful.{is_used}
 use Rattle.ent_serializability.specs.Present.{AreApart, UsesAreApart}
 use Rattle.ent_serializability.specs.Conflicts.{AreInConflict, ConflictsStandInGroups}
 use Rattle.ent_lists.specs.Elements.{any_in, clash, in_either}
-use Rattle.ent_lists.specs.Elements.{contains_in, in_contains}
-use Rattle.ent_serializability.proofs.Undo.{same_number, number_itself}
+use Rattle.ent_lists.specs.Elements.{contains_in, in_contains, same_number, number_itself}
 
 both : (a b : Bool) → (a && b) ≡ true → (a ≡ true) × (b ≡ true)
 both true b e = (refl, e)

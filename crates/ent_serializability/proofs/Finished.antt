@@ -22,9 +22,9 @@ use Rattle.ent_serializability.specs.History.{History}
 use Rattle.ent_serializability.specs.SerialState.{Follows}
 use Rattle.ent_lists.specs.Elements.{In, Same, of_all, to_all, all_joined, all_filtered, of_filter, to_filter}
 use Rattle.ent_lists.specs.Elements.{in_either, in_first, in_second, of_map, to_map, map_joined, clash, turned}
-use Rattle.ent_lists.specs.Elements.{pairs_at, pairs_map, pairs_by}
+use Rattle.ent_lists.specs.Elements.{pairs_at, pairs_map, pairs_by, same_number, other_number, differ}
 use Rattle.ent_serializability.proofs.Frame.{Laws, apart_turned}
-use Rattle.ent_serializability.proofs.Undo.{at_number, same_number, other_number, differ, set_elsewhere}
+use Rattle.ent_serializability.proofs.Undo.{at_number, set_elsewhere}
 use Rattle.ent_serializability.proofs.Sound.{AreApart, has_tx, last}
 use Rattle.ent_serializability.proofs.Acts.{OwnsFirst, Makes, sound_made}
 use Rattle.ent_serializability.proofs.Outcomes.{SameAt, Lands}

@@ -21,10 +21,9 @@ use Rattle.ent_lists.specs.Elements.{contains_in, in_contains, in_flat}
 use Rattle.ent_serializability.proofs.Asks.{Ask, ask_of, ask_member, ask_heads, history_asks, read_views_asks}
 use Rattle.ent_serializability.proofs.Frame.{Laws, serial_joined}
 use Rattle.ent_serializability.proofs.Joints.{JointsRight, AsksOf, OtherTx}
-use Rattle.ent_serializability.proofs.Journals.{pairs_index}
 use Rattle.ent_serializability.proofs.Kept.{Kept}
 use Rattle.ent_serializability.proofs.Legal.{to_flat}
-use Rattle.ent_lists.specs.Elements.{In, of_all, all_joined, of_map, to_map, map_joined}
+use Rattle.ent_lists.specs.Elements.{In, of_all, all_joined, of_map, to_map, map_joined, pairs_index}
 use Rattle.ent_serializability.proofs.Reached.{reached_kept}
 use Rattle.ent_serializability.proofs.SerialStates.{kept_serial}
 

@@ -29,10 +29,9 @@ use Rattle.ent_serializability.proofs.GroupRuns.{unprepared, group_runs, its_pre
 use Rattle.ent_serializability.proofs.Joints.{JointsRight, AsksOf, right_part, of_own}
 use Rattle.ent_serializability.proofs.Kept.{Kept}
 use Rattle.ent_lists.specs.Elements.{In, all_joined, of_filter, to_filter, in_first, in_second, in_either, map_joined}
-use Rattle.ent_lists.specs.Elements.{any_in, any_some}
+use Rattle.ent_lists.specs.Elements.{any_in, any_some, same_number, number_itself}
 use Rattle.ent_serializability.proofs.Reached.{reached_kept}
 use Rattle.ent_serializability.proofs.Runs.{member_history, history_member}
-use Rattle.ent_serializability.proofs.Undo.{same_number, number_itself}
 
 -- ---- what members see that run each from one database
 

@@ -14,7 +14,7 @@ use Rattle.ent_serializability.specs.GroupRuns.{UnownedIsSettled}
 use Rattle.ent_serializability.specs.GroupAnswers.{AreOthers}
 use Rattle.ent_serializability.specs.History.{History, Replays, AreSerial}
 use Rattle.ent_serializability.specs.SerialState.{Follows, IsWhole}
-use Rattle.ent_lists.specs.Elements.{contains_in, in_contains}
+use Rattle.ent_lists.specs.Elements.{contains_in, in_contains, same_number, number_itself, other_number}
 use Rattle.ent_serializability.proofs.Frame.{Laws, IsCovered, Apart, apart_turned, gather, serial_joined, serial_parts}
 use Rattle.ent_serializability.proofs.Frame.{serial_kept, owned, unowned}
 use Rattle.ent_serializability.proofs.Kept.{Kept, history_of, active_at, in_all, one_history}
@@ -25,7 +25,6 @@ use Rattle.ent_lists.specs.Elements.{pairs_first, pairs_second, pairs_across, pa
 use Rattle.ent_serializability.proofs.Reached.{reached_kept}
 use Rattle.ent_serializability.proofs.Runs.{member_history, history_member}
 use Rattle.ent_serializability.proofs.Sound.{Fit, has_tx, alone}
-use Rattle.ent_serializability.proofs.Undo.{same_number, number_itself, other_number}
 
 module _ {F : Type 0} (forms : Forms F) (laws : Laws) (s : State) (kept : Kept forms s) where
   abbrev own : History → Member

@@ -14,8 +14,7 @@ use Rattle.ent_protocol.specs.Member.{Ordinary, next_in, statement_next, environ
 use Rattle.ent_protocol.specs.PostedBy.{next_same}
 use Rattle.ent_protocol.specs.State.{Submitted, Member, Use}
 use Rattle.ent_protocol.specs.Uses.{statement_uses, entangled_uses}
-use Rattle.ent_lists.specs.Elements.{In, of_all, to_all}
-use Rattle.ent_serializability.proofs.Undo.{number_itself}
+use Rattle.ent_lists.specs.Elements.{In, of_all, to_all, number_itself}
 use Rattle.ent_serializability.proofs.Outcomes.{SameAt, HasRoom}
 use Rattle.ent_serializability.proofs.Operations.{HoldsUses}
 

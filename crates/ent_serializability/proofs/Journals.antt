@@ -1,6 +1,6 @@
 -- The journal and the fates of a state that is reached fit together.
-use Rattle.std.proofs.Common.{◌≡◌, ◌⊎◌, ◌<◌, ◌+◌, ℕ, zero, suc, List, [], ◌∷◌, map, length, refl, sym, ap, subst}
-use Rattle.std.proofs.Common.{◌∙◌, inl, inr, arith, Some, AllPairs, slice_index_or, slice_get}
+use Rattle.std.proofs.Common.{◌≡◌, ◌⊎◌, ◌+◌, ℕ, zero, suc, List, [], ◌∷◌, map, refl, sym, ap, subst}
+use Rattle.std.proofs.Common.{◌∙◌, inl, inr, arith, Some, slice_get}
 use Rattle.std.specs.List.{AllByRecursion}
 use Rattle.ent_tree.specs.declared.script.Script.{Script}
 use Rattle.ent_semantics.specs.declared.book.Entry.{Entry}
@@ -19,25 +19,9 @@ use Rattle.ent_lists.specs.Elements.{In, Pairs, of_all, to_all, all_first, of_ma
 use Rattle.ent_serializability.proofs.Frame.{Laws}
 use Rattle.ent_serializability.proofs.Locks.{by_number_same, by_number_pairs}
 use Rattle.ent_serializability.proofs.Kept.{Kept, OtherFated, entry_from}
-use Rattle.ent_lists.specs.Elements.{contains_in, in_contains}
+use Rattle.ent_lists.specs.Elements.{contains_in, in_contains, pairs_index}
 use Rattle.ent_serializability.proofs.Books.{numbered_map}
 use Rattle.ent_serializability.proofs.Reached.{reached_kept}
-
--- ---- pairs by index
-
-nth_in : {X : Type 0} (xs : List X) (k : ℕ) (d : X) → k < length xs → In (slice_index_or xs k d) xs
-nth_in [] k d low = absurd (omega (arith, low))
-nth_in (x ∷ xs) zero d low = inl refl
-nth_in (x ∷ xs) (suc k) d low = inr (nth_in xs k d (omega (arith, low)))
-
-pub pairs_index : {X : Type 0} (R : X → X → Type 0) (xs : List X) → Pairs R xs → AllPairs R xs
-pairs_index R [] pairs i j d before low = absurd (omega (arith, low))
-pairs_index R (x ∷ xs) pairs zero zero d before low = absurd (omega (arith, before))
-pairs_index R (x ∷ xs) pairs zero (suc j) d before low =
-    of_all (R x) xs (slice_index_or xs j d) pairs.0 (nth_in xs j d (omega (arith, low)))
-pairs_index R (x ∷ xs) pairs (suc i) zero d before low = absurd (omega (arith, before))
-pairs_index R (x ∷ xs) pairs (suc i) (suc j) d before low =
-    pairs_index R xs pairs.1 i j d (omega (arith, before)) (omega (arith, low))
 
 -- ---- numbers of commits
 

@@ -22,13 +22,12 @@ use Rattle.ent_serializability.specs.History.{History, AreSerial}
 use Rattle.ent_serializability.specs.SerialState.{Follows, IsWhole}
 use Rattle.ent_serializability.proofs.Joints.{JointsStand}
 use Rattle.ent_lists.specs.Elements.{In, Pairs, Same, of_all, to_all, all_map, all_joined, all_first, all_second}
-use Rattle.ent_lists.specs.Elements.{of_map, to_map, in_second, in_either, pairs_map}
+use Rattle.ent_lists.specs.Elements.{of_map, to_map, in_second, in_either, pairs_map, same_number, number_itself}
 use Rattle.ent_serializability.proofs.Frame.{Laws}
 use Rattle.ent_serializability.proofs.Sound.{Sound, Fit}
 use Rattle.ent_serializability.proofs.Acts.{Keeps, sound_mapped, pairs_within}
 use Rattle.ent_serializability.proofs.Jobs.{JobRight, OtherJob}
 use Rattle.ent_serializability.proofs.Operations.{HoldsUses}
-use Rattle.ent_serializability.proofs.Undo.{same_number, number_itself}
 
 -- a posted member holds the uses of its statement
 abbrev pub PostedHolds : List Submitted → Member → Type 0
@@ -232,16 +231,6 @@ numbered_low xs (suc n) x e = low xs n x e
     low [] n x e = cc (e)
     low (y ∷ ys) zero x e = omega arith
     low (y ∷ ys) (suc n) x e = let h = low ys n x e in omega (arith, h)
-
-pub numbered_more : {X : Type 0} (xs ys : List X) (n : ℕ) (x : X) → numbered xs n ≡ Some x
-    → numbered (xs ++ ys) n ≡ Some x
-numbered_more xs ys zero x e = e
-numbered_more {X} xs ys (suc n) x e = more xs n e
-  where
-    more : (zs : List X) (n : ℕ) → slice_get zs n ≡ Some x → slice_get (zs ++ ys) n ≡ Some x
-    more [] n e = cc (e)
-    more (z ∷ zs) zero e = e
-    more (z ∷ zs) (suc n) e = more zs n e
 
 -- ---- members of a state
 

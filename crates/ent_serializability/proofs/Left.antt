@@ -18,9 +18,8 @@ use Rattle.ent_lists.specs.Elements.{In, Pairs, Same, of_all, to_all, all_joined
 use Rattle.ent_lists.specs.Elements.{of_filter, to_filter, in_either, in_first, any_some, any_in, any_none, of_map}
 use Rattle.ent_lists.specs.Elements.{pairs_at, pairs_joined, pairs_filtered, pairs_across, clash, turned, pairs_map}
 use Rattle.ent_lists.specs.Elements.{pairs_by, pairs_first, not_so, map_joined, map_filtered, same_filtered}
-use Rattle.ent_lists.specs.Elements.{filter_same, in_second}
+use Rattle.ent_lists.specs.Elements.{filter_same, in_second, same_number, number_itself, differ}
 use Rattle.ent_serializability.proofs.Frame.{Laws, Apart, serial_joined}
-use Rattle.ent_serializability.proofs.Undo.{same_number, number_itself, differ}
 use Rattle.ent_serializability.proofs.Sound.{Fit, fit_turned, leaves, stays, HaveLeft, sound_committed, sound_taken}
 use Rattle.ent_serializability.proofs.Sound.{restored_used}
 use Rattle.ent_serializability.proofs.Outcomes.{SameAt}

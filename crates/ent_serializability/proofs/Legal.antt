@@ -26,11 +26,11 @@ use Rattle.ent_serializability.proofs.Left.{committed_stays}
 use Rattle.ent_serializability.proofs.Runs.{everyone, history_member}
 use Rattle.ent_serializability.proofs.Asks.{Ask, ask_of, ask_member, ask_heads, history_asks, read_views_asks}
 use Rattle.ent_serializability.proofs.Joints.{JointsRight, AsksOf, OtherTx, stand_left, members_in, in_members}
-use Rattle.ent_lists.specs.Elements.{contains_in, in_contains, in_flat}
+use Rattle.ent_lists.specs.Elements.{contains_in, in_contains, in_flat, pairs_index}
 use Rattle.ent_serializability.proofs.Books.{turn_of, turns_of, turn_run, turn_read_views, committed_whole}
 use Rattle.ent_serializability.proofs.Books.{run_gives_book}
 use Rattle.ent_serializability.proofs.Books.{read_views_grounded}
-use Rattle.ent_serializability.proofs.Journals.{journal_right, pairs_index}
+use Rattle.ent_serializability.proofs.Journals.{journal_right}
 use Rattle.ent_serializability.proofs.Reached.{reached_kept}
 
 pub to_flat : (histories : List History) (x : History) (ask : Ask) → In x histories → In ask (history_asks x)

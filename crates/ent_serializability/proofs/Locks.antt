@@ -8,54 +8,18 @@ use Rattle.ent_lock.specs.declared.mode.Mode.TheVariants.{Shared, Exclusive}
 use Rattle.ent_protocol.specs.Begin.{same_use, use_rank, with_uses, holding}
 use Rattle.ent_protocol.specs.State.{State, Member, Use, inserted, by_number}
 use Rattle.ent_protocol.specs.Uses.{uses_conflict, is_conflicting, not_passed, conflicting, least, blocker}
+use Rattle.ent_protocol_laws.specs.Numbered.{from_inserted, to_inserted, from_by_number, to_by_number}
 use Rattle.ent_serializability.specs.Faithful.{is_used, is_owned}
 use Rattle.ent_lists.specs.Elements.{In, Pairs, Same, of_all, to_all, any_none, any_some, any_in, in_first, in_second}
-use Rattle.ent_lists.specs.Elements.{to_filter, clash, not_so}
+use Rattle.ent_lists.specs.Elements.{to_filter, clash, not_so, same_number, number_itself, other_number}
 use Rattle.ent_serializability.proofs.Frame.{Apart}
-use Rattle.ent_serializability.proofs.Undo.{same_number, number_itself, other_number}
 use Rattle.ent_serializability.proofs.Operations.{HoldsUses}
 
 -- ---- lists by number
 
 module _ {X : Type 0} (number : X → ℕ) where
-  pub from_inserted : (x : X) (xs : List X) (y : X) → In y (inserted number x xs) → (y ≡ x) ⊎ In y xs
-  from_inserted x [] y (inl same) = inl same
-  from_inserted x [] y (inr bad) = absurd bad
-  from_inserted x (z ∷ xs) y at =
-      by (nat_lt (number x) (number z)) at (λ (h : In y (inserted number x xs)). from_inserted x xs y h)
-    where
-      by : (b : Bool) → In y (cond b (x ∷ z ∷ xs) (z ∷ inserted number x xs))
-          → (In y (inserted number x xs) → (y ≡ x) ⊎ In y xs) → (y ≡ x) ⊎ In y (z ∷ xs)
-      by true (inl same) rest = inl same
-      by true (inr more) rest = inr more
-      by false (inl same) rest = inr (inl same)
-      by false (inr more) rest = elim (rest more) [ inl a ↦ inl a | inr b ↦ inr (inr b) ]
-
-  pub to_inserted : (x : X) (xs : List X) (y : X) → (y ≡ x) ⊎ In y xs → In y (inserted number x xs)
-  to_inserted x [] y (inl same) = inl same
-  to_inserted x [] y (inr bad) = absurd bad
-  to_inserted x (z ∷ xs) y at =
-      by (nat_lt (number x) (number z)) at (λ h. to_inserted x xs y h)
-    where
-      by : (b : Bool) → (y ≡ x) ⊎ In y (z ∷ xs) → ((y ≡ x) ⊎ In y xs → In y (inserted number x xs))
-          → In y (cond b (x ∷ z ∷ xs) (z ∷ inserted number x xs))
-      by true (inl same) rest = inl same
-      by true (inr more) rest = inr more
-      by false (inl same) rest = inr (rest (inl same))
-      by false (inr (inl same)) rest = inl same
-      by false (inr (inr more)) rest = inr (rest (inr more))
-
   pub by_number_same : (xs : List X) → Same (by_number number xs) xs
-  by_number_same [] y = (λ at. at, λ at. at)
-  by_number_same (x ∷ xs) y =
-      let rest = by_number_same xs y in (
-        λ at. elim (from_inserted x (by_number number xs) y at) [ inl a ↦ inl a | inr b ↦ inr (rest.0 b) ],
-        λ at. to_inserted x (by_number number xs) y (turn rest.1 at),
-      )
-    where
-      turn : (In y xs → In y (by_number number xs)) → (y ≡ x) ⊎ In y xs → (y ≡ x) ⊎ In y (by_number number xs)
-      turn f (inl a) = inl a
-      turn f (inr b) = inr (f b)
+  by_number_same xs y = (from_by_number number xs y, to_by_number number xs y)
 
   inserted_pairs : (R : X → X → Type 0) → ((x y : X) → R x y → R y x) → (x : X) (xs : List X)
       → AllByRecursion (R x) xs → Pairs R xs → Pairs R (inserted number x xs)
@@ -67,7 +31,7 @@ module _ {X : Type 0} (number : X → ℕ) where
       by true rest = (all, pairs)
       by false rest = (
         to_all (R z) (inserted number x xs) (λ y at.
-            elim (from_inserted x xs y at) [
+            elim (from_inserted number x xs y at) [
               | inl same ↦ subst (R z) (sym same) (turn x z all.0)
               | inr more ↦ of_all (R z) xs y pairs.0 more
             ]),

@@ -1,7 +1,6 @@
 -- Each entangled statement that was passed stands in exactly one joint answer, and nothing else does.
-use Rattle.std.proofs.Common.{◌≡◌, ◌<◌, ◌+◌, ℕ, zero, suc, ◌==◌, Bool, true, false, cond, ◌&&◌, List, [], ◌∷◌, ◌++◌}
+use Rattle.std.proofs.Common.{◌≡◌, ◌<◌, ◌+◌, ℕ, zero, suc, ◌==◌, true, ◌&&◌, List, [], ◌∷◌, ◌++◌}
 use Rattle.std.proofs.Common.{map, length, take, refl, sym, ap, subst, ◌∙◌, inl, inr, arith, Some, slice_get}
-use Rattle.std.specs.List.{filter}
 use Rattle.ent_tree.specs.declared.entangled.Entangled.{Entangled}
 use Rattle.ent_tree.specs.declared.script.Statement.{Statement}
 use Rattle.ent_tree.specs.declared.script.Statement.TheVariants as statements
@@ -18,47 +17,17 @@ use Rattle.ent_serializability.specs.Answered.{HasAsked, stands_in, IsAnsweredOn
 use Rattle.ent_serializability.specs.Faithful.{AreFaithful}
 use Rattle.ent_serializability.specs.History.{History}
 use Rattle.ent_serializability.specs.SerialState.{Follows, IsWhole}
-use Rattle.ent_lists.specs.Elements.{contains_in, in_contains}
+use Rattle.ent_lists.specs.Elements.{contains_in, in_contains, same_number, number_itself}
 use Rattle.ent_serializability.proofs.Asks.{Ask, ask_member, asks_at, asks_of, history_asks, next_environment}
 use Rattle.ent_serializability.proofs.Frame.{Laws}
 use Rattle.ent_serializability.proofs.Joints.{in_members, of_own}
 use Rattle.ent_serializability.proofs.Kept.{Kept, entry_from, member_of, history_of, active_at, prepared_at}
 use Rattle.ent_lists.specs.Elements.{In, Pairs, of_all, to_all, in_first, in_second, in_either, of_map, to_map, any_in}
-use Rattle.ent_lists.specs.Elements.{any_some, pairs_second, pairs_across, filter_empty, not_so}
+use Rattle.ent_lists.specs.Elements.{any_some, pairs_second, pairs_across}
+use Rattle.ent_lists.specs.Elements.{NotBoth, and_both, both_and, only_one}
 use Rattle.ent_serializability.proofs.Reached.{reached_kept}
-use Rattle.ent_serializability.proofs.Undo.{same_number, number_itself}
-
--- ---- one of a list
-
-module _ {X : Type 0} (p : X → Bool) where
-  abbrev NotBoth : X → X → Type 0
-  NotBoth x y = p x ≡ true → p y ≡ true → ⊥
-
-  only_one : (xs : List X) (x : X) → Pairs NotBoth xs → In x xs → p x ≡ true → (y : X) × (filter p xs ≡ y ∷ [])
-  only_one [] x pairs at is = absurd at
-  only_one (y ∷ ys) x pairs (inl same) is = (
-    y,
-    ap (λ b. cond b (y ∷ filter p ys) (filter p ys)) (ap p (sym same) ∙ is)
-        ∙ ap (λ rest. y ∷ rest) (filter_empty p ys (λ z zt. not_so (p z) (λ other.
-        of_all (NotBoth y) ys z pairs.0 zt (ap p (sym same) ∙ is) other))),
-  )
-  only_one (y ∷ ys) x pairs (inr at) is =
-      let rest = only_one ys x pairs.1 at is in (
-        rest.0,
-        ap (λ b. cond b (y ∷ filter p ys) (filter p ys))
-            (not_so (p y) (λ here. of_all (NotBoth y) ys x pairs.0 at here is))
-            ∙ rest.1,
-      )
 
 -- ---- the joint answers of a statement
-
-and_both : (a b : Bool) → (a && b) ≡ true → (a ≡ true) × (b ≡ true)
-and_both true b e = (refl, e)
-and_both false b e = cc
-
-both_and : (a b : Bool) → a ≡ true → b ≡ true → (a && b) ≡ true
-both_and true b e f = f
-both_and false b e f = cc
 
 module _ (tx place : ℕ) where
   member_there : (joint : JointAnswer) → stands_in tx place joint ≡ true
@@ -308,9 +277,11 @@ module _ {F : Type 0} (forms : Forms F) (s : State) (kept : Kept forms s) where
   asked_once : (tx place : ℕ) → HasAsked s tx place → IsAnsweredOnce s tx place
   asked_once tx place asked =
       let by = asker tx place asked in
-      let joint = kept.joined.right.up by.asks.ask (by.history, by.at, by.asks.at) in
-      only_one (stands_in tx place) s.joints joint.0 (not_both tx place s.joints kept.joined.right.once) joint.1
-      (there_member tx place joint.0 (ask_member by.asks.ask) joint.2 (by.asks.own ∙ by.own) by.asks.here)
+      let joint = kept.joined.right.up by.asks.ask (by.history, by.at, by.asks.at) in (
+        joint.0,
+        only_one (stands_in tx place) s.joints joint.0 (not_both tx place s.joints kept.joined.right.once) joint.1
+            (there_member tx place joint.0 (ask_member by.asks.ask) joint.2 (by.asks.own ∙ by.own) by.asks.here),
+      )
 
   -- ---- nothing else
 

@@ -32,10 +32,9 @@ use Rattle.ent_protocol.specs.Uses.{exclusive, statement_uses}
 use Rattle.ent_serializability.specs.Faithful.{number_of, is_used, is_owned, IsFaithful, IsFaithfulEntangled, AreAlike}
 use Rattle.ent_serializability.specs.History.{History}
 use Rattle.ent_serializability.specs.SerialState.{IsOracled, Follows}
-use Rattle.ent_lists.specs.Elements.{all_joined}
+use Rattle.ent_lists.specs.Elements.{all_joined, same_number, number_itself}
 use Rattle.ent_serializability.proofs.Asks.{asks_at}
 use Rattle.ent_serializability.proofs.Frame.{Laws, held, WritesWithin, IsCovered}
-use Rattle.ent_serializability.proofs.Undo.{same_number, number_itself}
 use Rattle.ent_serializability.proofs.Acts.{OwnsFirst, Makes}
 use Rattle.ent_serializability.proofs.Scripts.{replays_pushed, take_one, length_one}
 

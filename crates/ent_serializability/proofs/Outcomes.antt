@@ -31,8 +31,8 @@ use Rattle.ent_protocol.specs.Member.{seen_now}
 use Rattle.ent_protocol.specs.State.{Use}
 use Rattle.ent_protocol.specs.Uses.{shared, exclusive, statement_uses, entangled_uses}
 use Rattle.ent_serializability.specs.Faithful.{is_used}
-use Rattle.ent_lists.specs.Elements.{or_first, or_second, or_cases}
-use Rattle.ent_serializability.proofs.Undo.{at_number, same_number, number_itself, differ}
+use Rattle.ent_lists.specs.Elements.{or_first, or_second, or_cases, same_number, number_itself, differ}
+use Rattle.ent_serializability.proofs.Undo.{at_number}
 
 -- ---- what a job sees
 

@@ -1,7 +1,7 @@
 -- Every state that is reached keeps what the opening's own state has.
 use Rattle.std.proofs.Common.{◌≡◌, inl, inr, ℕ, zero, suc, ◌==◌, Bool, true, false, ◌||◌, List, [], ◌∷◌, map, refl}
 use Rattle.std.proofs.Common.{sym, ap, subst, ◌∙◌, not, Option, Some, None, Result, Ok, Err}
-use Rattle.std.specs.List.{AllByRecursion, filter, list_any}
+use Rattle.std.specs.List.{AllByRecursion, list_any}
 use Rattle.ent_value.specs.declared.value.Value.{Value}
 use Rattle.ent_tree.specs.declared.script.Script.{Script}
 use Rattle.ent_semantics.specs.Database.{nothing_bound}
@@ -21,20 +21,20 @@ use Rattle.ent_protocol.specs.Finish.{FinishesBy, Finishes, FinishesSingle, IsTa
 use Rattle.ent_protocol.specs.Job.{Job, Work, One, Joint, Done, Single, Outcome, Shown, Changed, Bound}
 use Rattle.ent_protocol.specs.Job.{Choice, Fault, IsOutcome, IsEffect, tables_of}
 use Rattle.ent_protocol.specs.Member.{Next, Ordinary, Asks, Commits, RollsBack, active_member, next_of, is_lent}
-use Rattle.ent_protocol.specs.Member.{is_of, is_tx, is_single_of, environment_of}
+use Rattle.ent_protocol.specs.Member.{is_of, is_single_of, environment_of}
 use Rattle.ent_protocol.specs.PoolEvents.{Picks, AnswersBy, Joins, JoinsOrIsStale, IsPresentComponent}
 use Rattle.ent_protocol.specs.PoolEvents.{answered_groups}
 use Rattle.ent_protocol.specs.Reached.{opened, LeadsTo, IsReached}
 use Rattle.ent_protocol.specs.Rollback.{Asked, Failing, NoOne}
 use Rattle.ent_protocol.specs.Run.{Forms, SubmitsForm, SubmitsUnless, StartsWith, BreaksIfAny, EndsWhileRunning}
-use Rattle.ent_protocol.specs.State.{State, Member, Dormant, first_of}
+use Rattle.ent_protocol.specs.State.{State, Member, Dormant}
 use Rattle.ent_protocol.specs.Step.{Step}
 use Rattle.ent_protocol.specs.Uses.{statement_uses, entangled_uses, blocker}
+use Rattle.ent_protocol_laws.proofs.Found.{found, taken_fewer, taken_there}
 use Rattle.ent_serializability.specs.Faithful.{AreFaithful}
-use Rattle.ent_lists.specs.Elements.{In, Pairs, of_all, of_filter, in_first, in_second, in_either, neither, not_so}
+use Rattle.ent_lists.specs.Elements.{In, Pairs, of_all, in_either, neither, not_so}
 use Rattle.ent_lists.specs.Elements.{pairs_first, pairs_second, pairs_across, pairs_joined}
 use Rattle.ent_serializability.proofs.Frame.{Laws}
-use Rattle.ent_serializability.proofs.Undo.{same_number}
 use Rattle.ent_serializability.proofs.Operations.{HoldsUses}
 use Rattle.ent_serializability.proofs.Outcomes.{lands}
 use Rattle.ent_serializability.proofs.Jobs.{JobRight, WorkRight, SingleRight, PostedQueryRight, OtherJob, OtherWork}
@@ -43,32 +43,12 @@ use Rattle.ent_serializability.proofs.Stands.{lends, posts, prepares}
 use Rattle.ent_serializability.proofs.Left.{commits}
 use Rattle.ent_serializability.proofs.Finished.{finishes_by}
 use Rattle.ent_serializability.proofs.Joined.{joins}
-use Rattle.ent_lists.specs.Elements.{contains_in, in_contains}
+use Rattle.ent_lists.specs.Elements.{contains_in, in_contains, same_number}
 use Rattle.ent_serializability.proofs.Aside.{with_jobs, picks, present_all, component_on}
 use Rattle.ent_serializability.proofs.Aside.{queries_apart, queries_some, groups_answered}
 use Rattle.ent_serializability.proofs.Runs.{submits, starts, rolls_back, ends, kept_opened}
 
--- ---- what is found and taken
-
-first_in : {X : Type 0} (xs : List X) (x : X) → first_of xs ≡ Some x → In x xs
-first_in [] x e = cc (e)
-first_in (y ∷ ys) x e = inl (let same : x ≡ y = cc in same)
-
-found : (s : State) (tx : ℕ) (m : Member) → active_member s tx ≡ Some m → In m s.active × (m.tx ≡ tx)
-found s tx m e =
-    let r = of_filter (is_tx tx) s.active m (first_in (filter (is_tx tx) s.active) m e) in
-    (r.0, same_number m.tx tx r.1)
-
-taken_in : (job : Job) (jobs left : List Job) → IsTaken job jobs left → In job jobs
-taken_in job jobs left t = subst (In job) (sym t.is_there) (in_second t.before (job ∷ t.behind) job (inl refl))
-
-taken_fewer : (job : Job) (jobs left : List Job) → IsTaken job jobs left → (other : Job) → In other left → In other jobs
-taken_fewer job jobs left t other at =
-    subst (In other) (sym t.is_there)
-    (elim (in_either t.before t.behind other (subst (In other) t.others at)) [
-      | inl a ↦ in_first t.before (job ∷ t.behind) other a
-      | inr b ↦ in_second t.before (job ∷ t.behind) other (inr b)
-    ])
+-- ---- what is taken
 
 taken_apart : (job : Job) (jobs left : List Job) → IsTaken job jobs left → Pairs OtherJob jobs → Pairs OtherJob left
 taken_apart job jobs left t pairs =
@@ -198,7 +178,7 @@ module _ {F : Type 0} (forms : Forms F) (laws : Laws) where
       let right : SingleRight s.submitted s.active s.tables (tables_of done.job.tables) of_job =
       subst (WorkRight s.submitted s.active s.tables (tables_of done.job.tables)) is
       (of_all (JobRight s.submitted s.active s.tables) s.lent done.job kept.jobs
-      (taken_in done.job s.lent step.left step.taken)) in
+      (taken_there done.job s.lent step.left step.taken)) in
       let x = history_of forms (record s { lent = step.left }) left step.member f.0 in
       let same : right.member ≡ x.0.member =
       one_member forms s kept right.member step.member right.at f.0 (right.tx ∙ sym f.1) ∙ x.2 in
@@ -253,7 +233,7 @@ module _ {F : Type 0} (forms : Forms F) (laws : Laws) where
       let right : AllByRecursion (PostedQueryRight s.active s.tables (tables_of done.job.tables)) out.asked =
       subst (WorkRight s.submitted s.active s.tables (tables_of done.job.tables)) out.is_joint
       (of_all (JobRight s.submitted s.active s.tables) s.lent done.job kept.jobs
-      (taken_in done.job s.lent out.left out.taken)) in
+      (taken_there done.job s.lent out.left out.taken)) in
       let chosen : IsOutcome (Joint out.asked) (tables_of done.job.tables) (Choice step.groundings) =
       subst (λ w. IsOutcome w (tables_of done.job.tables) (Choice step.groundings)) out.is_joint
       (subst (IsOutcome done.job.work (tables_of done.job.tables)) step.choice step.meant) in

@@ -17,6 +17,7 @@ use Rattle.ent_protocol.specs.Reached.{opened}
 use Rattle.ent_protocol.specs.Rollback.{Cause, NoOne, is_among, taken_out, rolled_back, group_members}
 use Rattle.ent_protocol.specs.Run.{Forms, submitting, starting, ending, fresh}
 use Rattle.ent_protocol.specs.State.{State, Submitted, Dormant, Member, members, by_number}
+use Rattle.ent_protocol_laws.proofs.Found.{numbered_on}
 use Rattle.ent_serializability.specs.Faithful.{AreFaithful}
 use Rattle.ent_serializability.specs.History.{History, AreSerial}
 use Rattle.ent_serializability.specs.SerialState.{Follows, IsWhole}
@@ -24,15 +25,14 @@ use Rattle.ent_group.specs.declared.members.TheConstants.{MOST_MEMBERS}
 use Rattle.ent_lists.specs.Elements.{In, Pairs, of_all, to_all, all_by, all_joined, all_second, all_map, in_first}
 use Rattle.ent_lists.specs.Elements.{in_second, in_either, of_map, nobody, pairs_joined, pairs_first, pairs_second}
 use Rattle.ent_lists.specs.Elements.{pairs_across, pairs_map, pairs_by, pairs_of, pairs_filtered, of_filter, to_filter}
-use Rattle.ent_lists.specs.Elements.{filter_empty, clash}
+use Rattle.ent_lists.specs.Elements.{filter_empty, clash, same_number, number_itself}
 use Rattle.ent_serializability.proofs.Frame.{Laws, IsCovered}
 use Rattle.ent_serializability.proofs.Sound.{Fit, AreApart, Sound, IsOwner}
-use Rattle.ent_serializability.proofs.Undo.{same_number, number_itself}
 use Rattle.ent_serializability.proofs.Locks.{by_number_same, by_number_pairs}
 use Rattle.ent_serializability.proofs.Jobs.{JobRight, WorkRight}
 use Rattle.ent_serializability.proofs.Kept.{Kept, PostedHolds, OtherDormant, OtherMember, member_of, history_of}
 use Rattle.ent_serializability.proofs.Kept.{map_map}
-use Rattle.ent_serializability.proofs.Kept.{active_at, numbered_low, numbered_more, prepared_at, one_history}
+use Rattle.ent_serializability.proofs.Kept.{active_at, numbered_low, prepared_at, one_history}
 use Rattle.ent_serializability.proofs.Left.{takes_out, among_in, in_among, fit_at}
 use Rattle.ent_serializability.proofs.Asks.{history_asks}
 use Rattle.ent_serializability.proofs.Joints.{JointsStand, stand_started}
@@ -58,7 +58,7 @@ module _ {F : Type 0} (forms : Forms F) (s : State) (kept : Kept forms s) (scrip
   follows_more x f =
       record {
         own = f.own;
-        submitted = numbered_more s.submitted (own ∷ []) x.member.tx f.own f.submitted;
+        submitted = numbered_on s.submitted (own ∷ []) x.member.tx f.own f.submitted;
         beginning = f.beginning;
         place = f.place;
         oracled = f.oracled;
@@ -68,7 +68,7 @@ module _ {F : Type 0} (forms : Forms F) (s : State) (kept : Kept forms s) (scrip
   whole_more x f =
       record {
         own = f.own;
-        submitted = numbered_more s.submitted (own ∷ []) x.member.tx f.own f.submitted;
+        submitted = numbered_on s.submitted (own ∷ []) x.member.tx f.own f.submitted;
         whole = f.whole;
         commits = f.commits;
         oracled = f.oracled;
@@ -81,7 +81,7 @@ module _ {F : Type 0} (forms : Forms F) (s : State) (kept : Kept forms s) (scrip
       let f = of_all (Follows s.submitted) kept.others x.0 kept.follow x.1 in
       let here : numbered s.submitted m.tx ≡ Some f.own =
       ap (λ (z : Member). numbered s.submitted z.tx) x.2 ∙ f.submitted in
-      numbered_more s.submitted (own ∷ []) m.tx f.own here ∙ sym here
+      numbered_on s.submitted (own ∷ []) m.tx f.own here ∙ sym here
 
   job_more : (seen : Tables) (work : Work) → WorkRight s.submitted s.active s.tables seen work
       → WorkRight more s.active s.tables seen work
@@ -163,7 +163,7 @@ module _ {F : Type 0} (forms : Forms F) (s : State) (kept : Kept forms s) (scrip
             (record { tx = suc (length s.submitted); runs = 0 } ∷ [])
             (all_by (λ (d : Dormant). (o : Submitted) × (numbered s.submitted d.tx ≡ Some o))
             (λ (d : Dormant). (o : Submitted) × (numbered more d.tx ≡ Some o)) s.dormant
-            (λ d r. (r.0, numbered_more s.submitted (own ∷ []) d.tx r.0 r.1)) kept.scripts)
+            (λ d r. (r.0, numbered_on s.submitted (own ∷ []) d.tx r.0 r.1)) kept.scripts)
             ((own, numbered_last s.submitted own), tt);
         joined = kept.joined;
         committed_fated = kept.committed_fated;
@@ -183,7 +183,7 @@ module _ {F : Type 0} (forms : Forms F) (s : State) (kept : Kept forms s) (scrip
             ];
         fated_scripts = all_by (λ (f : Fated). (o : Submitted) × (numbered s.submitted f.tx ≡ Some o))
             (λ (f : Fated). (o : Submitted) × (numbered more f.tx ≡ Some o)) s.fates
-            (λ f r. (r.0, numbered_more s.submitted (own ∷ []) f.tx r.0 r.1)) kept.fated_scripts;
+            (λ f r. (r.0, numbered_on s.submitted (own ∷ []) f.tx r.0 r.1)) kept.fated_scripts;
       }
 
 -- ---- a run starts

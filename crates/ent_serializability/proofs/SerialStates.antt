@@ -11,8 +11,7 @@ use Rattle.ent_serializability.specs.SerialState.{IsSerialState}
 use Rattle.ent_serializability.proofs.Frame.{Laws}
 use Rattle.ent_lists.specs.Elements.{pairs_by}
 use Rattle.ent_serializability.proofs.Kept.{Kept, member_of}
-use Rattle.ent_lists.specs.Elements.{contains_in, in_contains}
-use Rattle.ent_serializability.proofs.Journals.{pairs_index}
+use Rattle.ent_lists.specs.Elements.{contains_in, in_contains, pairs_index}
 use Rattle.ent_serializability.proofs.Reached.{reached_kept}
 use Rattle.ent_serializability.proofs.Sound.{Fit}
 

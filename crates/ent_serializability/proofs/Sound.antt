@@ -16,11 +16,11 @@ use Rattle.ent_lists.specs.Elements.{In, Pairs, of_all, to_all, all_by, all_join
 use Rattle.ent_lists.specs.Elements.{filter_empty, filter_joined, same_parted, pairs_of, pairs_filtered, pairs_joined}
 use Rattle.ent_lists.specs.Elements.{pairs_first, pairs_second, pairs_across, pairs_parted, pairs_by, in_first}
 use Rattle.ent_lists.specs.Elements.{in_second, in_either, all_first, all_second, any_none, any_some, clash, turned}
-use Rattle.ent_lists.specs.Elements.{not_so}
+use Rattle.ent_lists.specs.Elements.{not_so, number_itself, other_number}
 use Rattle.ent_serializability.proofs.Frame.{Laws, IsCovered, Apart, apart_turned, owned, owned_used, gather}
 use Rattle.ent_serializability.proofs.Frame.{serial_joined}
 use Rattle.ent_serializability.proofs.Frame.{serial_parts, serial_kept}
-use Rattle.ent_serializability.proofs.Undo.{number_itself, other_number, at_number, set_elsewhere, back, back_all}
+use Rattle.ent_serializability.proofs.Undo.{at_number, set_elsewhere, back, back_all}
 use Rattle.ent_serializability.proofs.Undo.{put_at, put_length, named_at, wide_length, declared_or_empty, WasWide}
 use Rattle.ent_serializability.proofs.Undo.{wide_back}
 

@@ -24,9 +24,8 @@ use Rattle.ent_serializability.specs.History.{History}
 use Rattle.ent_serializability.specs.SerialState.{Follows, IsWhole}
 use Rattle.ent_lists.specs.Elements.{In, of_all, all_joined, all_filtered, of_filter, to_filter, in_either}
 use Rattle.ent_lists.specs.Elements.{pairs_joined, any_none, clash, map_joined, map_filtered, same_filtered, Same}
-use Rattle.ent_lists.specs.Elements.{pairs_filtered, in_first, in_second}
+use Rattle.ent_lists.specs.Elements.{pairs_filtered, in_first, in_second, other_number, differ, same_number, got_in}
 use Rattle.ent_serializability.proofs.Frame.{Laws}
-use Rattle.ent_serializability.proofs.Undo.{other_number, differ, same_number}
 use Rattle.ent_serializability.proofs.Sound.{has_tx, first}
 use Rattle.ent_serializability.proofs.Outcomes.{seen_same, seen_room}
 use Rattle.ent_serializability.proofs.Operations.{HoldsUses}
@@ -41,12 +40,7 @@ use Rattle.ent_serializability.proofs.Begun.{taking, jobs_begun, new_at, kept_be
 
 pub numbered_in : {X : Type 0} (xs : List X) (n : ℕ) (x : X) → numbered xs n ≡ Some x → In x xs
 numbered_in xs zero x e = cc (e)
-numbered_in {X} xs (suc n) x e = found xs n e
-  where
-    found : (ys : List X) (n : ℕ) → slice_get ys n ≡ Some x → In x ys
-    found [] n e = cc (e)
-    found (y ∷ ys) zero e = inl (let same : x ≡ y = cc in same)
-    found (y ∷ ys) (suc n) e = inr (found ys n e)
+numbered_in xs (suc n) x e = got_in xs n x e
 
 -- a statement stands next: as it is written, as its form, and closed
 pub record IsNext {F : Type 0} (forms : Forms F) (s : State) (x : History) (follows : Follows s.submitted x)

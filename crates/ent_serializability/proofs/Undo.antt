@@ -1,7 +1,7 @@
 -- What is put back, table by table.
 use Rattle.std.proofs.Common.{◌≡◌, ◌⊎◌, ◌<◌, ℕ, zero, suc, ◌==◌, Bool, true, false, cond, List, [], ◌∷◌, length}
 use Rattle.std.proofs.Common.{refl, sym, ap}
-use Rattle.std.proofs.Common.{◌∙◌, inl, inr, arith, rules, slice_index_or, slice_set}
+use Rattle.std.proofs.Common.{◌∙◌, inl, inr, arith, slice_index_or, slice_set}
 use Rattle.std.specs.List.{AllByRecursion, filter}
 use Rattle.std.proofs.lemmas.List.{get_or-set_same, get_or-set_other, length-set}
 use Rattle.ent_set.specs.Sets as set
@@ -12,19 +12,7 @@ use Rattle.ent_form_laws.specs.Tables.{database_of, AreWide}
 use Rattle.ent_protocol.specs.Rollback.{put_back}
 use Rattle.ent_protocol.specs.State.{Change}
 use Rattle.ent_serializability.specs.Faithful.{number_of}
-use Rattle.ent_lists.specs.Elements.{In, clash}
-
-pub same_number : (a b : ℕ) → (a == b) ≡ true → a ≡ b
-same_number a b is = grind (arith, rules)
-
-pub number_itself : (a : ℕ) → (a == a) ≡ true
-number_itself a = grind (arith, rules)
-
-pub other_number : (a b : ℕ) → (a ≡ b → ⊥) → (a == b) ≡ false
-other_number a b differs = grind (arith, rules)
-
-pub differ : (a b : ℕ) → (a == b) ≡ false → a ≡ b → ⊥
-differ a b is same = clash (a == b) (ap (λ (n : ℕ). n == b) same ∙ number_itself b) is
+use Rattle.ent_lists.specs.Elements.{In, clash, same_number, differ}
 
 -- ---- the rows of a table
 
