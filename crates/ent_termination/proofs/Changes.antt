@@ -1,7 +1,6 @@
 -- What an event makes of a state, in few cases.
 use Rattle.std.proofs.Common.{◌≡◌, inl, inr, ℕ, suc, Bool, true, false, ◌||◌, List, [], ◌∷◌, ◌++◌, length, refl}
 use Rattle.std.proofs.Common.{ap, subst, ◌∙◌, Option, Some, None, Result, Ok, Err, map, if◌then◌else◌}
-use Rattle.std.specs.List.{filter}
 use Rattle.ent_value.specs.declared.value.Value.{Value}
 use Rattle.ent_tree.specs.declared.script.Script.{Script}
 use Rattle.ent_semantics.specs.declared.answer.Answer.TheVariants as answers
@@ -20,9 +19,9 @@ use Rattle.ent_protocol.specs.Event.{Event, Reply}
 use Rattle.ent_protocol.specs.Event as events
 use Rattle.ent_protocol.specs.Finish.{FinishesBy, Finishes, IsTaken, noted, stepped, table_of, variable_of, with_bound}
 use Rattle.ent_protocol.specs.Finish.{with_change}
-use Rattle.ent_protocol.specs.Job.{Job, One, Joint, Done, Single, Outcome, Shown, Changed, Bound}
+use Rattle.ent_protocol.specs.Job.{Job, Joint, Done, Outcome, Shown, Changed, Bound}
 use Rattle.ent_protocol.specs.Job.{Choice, Fault, IsOutcome, tables_of}
-use Rattle.ent_protocol.specs.Member.{Next, Ordinary, Asks, active_member, next_of, is_lent, is_prepared, is_tx}
+use Rattle.ent_protocol.specs.Member.{Next, Ordinary, Asks, active_member, next_of, is_lent, is_prepared}
 use Rattle.ent_protocol.specs.Member as nexts
 use Rattle.ent_protocol.specs.PoolEvents.{AnswersBy, JoinsOrIsStale, IsPresentComponent, CanBePicked, joining}
 use Rattle.ent_protocol.specs.PoolEvents.{joint_job}
@@ -30,25 +29,18 @@ use Rattle.ent_protocol.specs.PoolEvents as pool_events
 use Rattle.ent_protocol.specs.Rollback.{Cause, Asked, Failing, NoOne, rolled_back}
 use Rattle.ent_protocol.specs.Run.{Forms, SubmitsForm, SubmitsUnless, StartsWith, starting, submitting, BreaksIfAny}
 use Rattle.ent_protocol.specs.Run.{EndsWhileRunning, ending}
-use Rattle.ent_protocol.specs.State.{State, Member, Change, Dormant, first_of}
+use Rattle.ent_protocol.specs.State.{State, Member, Change, Dormant}
 use Rattle.ent_protocol.specs.Step.{Step}
 use Rattle.ent_protocol.specs.Uses.{statement_uses, entangled_uses, blocker}
+use Rattle.ent_protocol_laws.proofs.Acts.{ComesBack}
+use Rattle.ent_protocol_laws.proofs.Found.{found}
 use Rattle.ent_termination.specs.Progress.{brings_work, is_progress}
-use Rattle.ent_lists.specs.Elements.{In, of_filter, neither, same_number}
+use Rattle.ent_lists.specs.Elements.{In, neither}
 
 -- a member that isn't prepared, and whose statement isn't posted
 pub record IsIdle (s : State) (member : Member) : Type 0 where
   pub at : In member s.active
   pub unposted : member.posted ≡ false
-
--- the job of a statement that came back, its member, and the other jobs
-pub record ComesBack (s : State) (member : Member) (left : List Job) : Type 0 where
-  pub job : Job
-  pub taken : IsTaken job s.lent left
-  pub single : Single
-  pub is_single : job.work ≡ One single
-  pub at : In member s.active
-  pub own : member.tx ≡ single.tx
 
 -- a joint job that came back, and the other jobs
 pub record JointBack (s : State) (asked : List Posted) (left : List Job) : Type 0 where
@@ -119,19 +111,6 @@ pub record IsAct {F : Type 0} (s : State) (reply : Reply F) (new : State) : Type
   pub is : new ≡ after s act
   pub progress : is_progress reply ≡ worth s act
   pub work : brings_work reply ≡ opens s act
-
-first_in : {X : Type 0} (xs : List X) (x : X) → first_of xs ≡ Some x → In x xs
-first_in [] x e = absurd (none e)
-  where
-    none : None ≡ Some x → ⊥
-    none e = cc
-first_in (y ∷ ys) x e = inl (let same : x ≡ y = cc in same)
-
-found : (s : State) (tx : ℕ) (member : Member) → active_member s tx ≡ Some member
-    → In member s.active × (member.tx ≡ tx)
-found s tx member e =
-    let r = of_filter (is_tx tx) s.active member (first_in (filter (is_tx tx) s.active) member e) in
-    (r.0, same_number member.tx tx r.1)
 
 groundings_enough : (tables : Tables) (asked : List Posted) (groundings : List Valuation)
     → AreGroundings tables asked groundings → length groundings ≡ length asked

@@ -1,11 +1,11 @@
 -- How many members a state has, and what they have not begun.
-use Rattle.std.proofs.Common.{◌≡◌, ◌⊎◌, ◌≤◌, ◌+◌, ◌-◌, inl, inr, ℕ, zero, suc, pred, Bool, true, false, cond, not, ◌==◌}
+use Rattle.std.proofs.Common.{◌≡◌, ◌≤◌, ◌+◌, ◌-◌, inl, ℕ, zero, suc, pred, Bool, true, false, cond, not, ◌==◌}
 use Rattle.std.proofs.Common.{List, [], ◌∷◌, ◌++◌, map, length, refl, sym, ap, subst, ◌∙◌, arith, Option, Some, None}
 use Rattle.std.proofs.Common.{sum_by}
 use Rattle.std.proofs.lemmas.List.{length-append}
 use Rattle.std.proofs.lemmas.List.Sums.{sum_by-append}
 use Rattle.std.specs.List.{filter}
-use Rattle.ent_protocol_laws.specs.Numbered.{Below, one_of, below_apart}
+use Rattle.ent_protocol_laws.specs.Numbered.{Below, one_of, below_apart, to_by_number}
 use Rattle.ent_semantics.specs.Entangled.{Valuation}
 use Rattle.ent_semantics.specs.Serial.{numbered}
 use Rattle.ent_coordination.specs.Pool.{Posted}
@@ -14,8 +14,7 @@ use Rattle.ent_protocol.specs.Commit.{preparing, committing}
 use Rattle.ent_protocol.specs.Member.{Commits, RollsBack, is_of, is_tx, next_in, next_of}
 use Rattle.ent_protocol.specs.PoolEvents.{answered_among, answered_by, in_joined_group}
 use Rattle.ent_protocol.specs.Rollback.{Cause, group_members, is_among, rolled_back}
-use Rattle.ent_protocol.specs.State.{State, Submitted, Member, members, inserted, by_number}
-use Rattle.std.proofs.Common.{nat_lt}
+use Rattle.ent_protocol.specs.State.{State, Submitted, Member, members}
 use Rattle.ent_termination.specs.Within.{begun, statements_behind, statements_in_run, unbegun, unbegun_of}
 use Rattle.ent_termination.proofs.LentJobs.{IsPlaced}
 use Rattle.ent_lists.specs.Elements.{In, Pairs, to_filter, any_in, in_second, shorter, same_number, number_itself}
@@ -103,24 +102,6 @@ one_begins all m own ms ascend at tx k less =
 pub members_counted : (s : State) → length (members s) ≡ length s.prepared + length s.active
 members_counted s = length-append s.prepared s.active
 
-to_inserted : (x : Member) (ms : List Member) (y : Member) → (y ≡ x) ⊎ In y ms → In y (inserted member_tx x ms)
-to_inserted x [] y (inl same) = inl same
-to_inserted x [] y (inr bad) = absurd bad
-to_inserted x (z ∷ ms) y at = by (nat_lt x.tx z.tx) at (to_inserted x ms y)
-  where
-    by : (b : Bool) → (y ≡ x) ⊎ In y (z ∷ ms) → ((y ≡ x) ⊎ In y ms → In y (inserted member_tx x ms))
-        → In y (cond b (x ∷ z ∷ ms) (z ∷ inserted member_tx x ms))
-    by true (inl same) rest = inl same
-    by true (inr there) rest = inr there
-    by false (inl same) rest = inr (rest (inl same))
-    by false (inr (inl same)) rest = inl same
-    by false (inr (inr there)) rest = inr (rest (inr there))
-
-to_by_number : (ms : List Member) (y : Member) → In y ms → In y (by_number member_tx ms)
-to_by_number [] y at = absurd at
-to_by_number (x ∷ ms) y (inl same) = to_inserted x (by_number member_tx ms) y (inl same)
-to_by_number (x ∷ ms) y (inr at) = to_inserted x (by_number member_tx ms) y (inr (to_by_number ms y at))
-
 among_itself : (gone : List Member) (m : Member) → In m gone → is_among gone m.tx ≡ true
 among_itself gone m at = any_in (is_tx m.tx) gone m at (number_itself m.tx)
 
@@ -129,7 +110,7 @@ leaves : (s : State) (m : Member) → In m s.active → not (is_among (group_mem
 leaves s m at =
     ap not
     (among_itself (group_members s m.group) m
-    (to_by_number (filter (is_of m.group) (members s)) m
+    (to_by_number member_tx (filter (is_of m.group) (members s)) m
     (to_filter (is_of m.group) (members s) m (in_second s.prepared s.active m at) (number_itself m.group))))
 
 two_counted : (a b c d n m : ℕ) → n ≡ a + b → m ≡ c + d → a ≤ c → suc b ≤ d → suc n ≤ m

@@ -16,7 +16,7 @@ use Rattle.ent_lists.specs.Elements.{In, Pairs, of_all, index_pairs, of_map, to_
 use Rattle.ent_protocol_laws.specs.Numbered.{Apart, keys_apart, one_passes, from_by_number, to_by_number}
 use Rattle.ent_protocol_laws.specs.Numbered.{by_number_ascends}
 use Rattle.ent_protocol_laws.specs.Numbered.{keys_ascend}
-use Rattle.ent_termination.proofs.Numbers.{tx_of}
+use Rattle.ent_protocol_laws.proofs.Left.{tx_of}
 
 abbrev fated_tx : Fated → ℕ
 fated_tx fated = fated.tx

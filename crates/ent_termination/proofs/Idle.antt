@@ -30,7 +30,8 @@ use Rattle.ent_termination.specs.Idle.{IsHeldUp, IsIdleRound}
 use Rattle.ent_lists.specs.Elements.{In, Pairs, of_all, in_first, in_second, clash, neither, not_so, same_number}
 use Rattle.ent_lists.specs.Elements.{filter_empty, index_pairs, pairs_across, contains_in, to_map}
 use Rattle.ent_protocol_laws.specs.Numbered.{Apart, Below, below_apart, one_passes}
-use Rattle.ent_termination.proofs.Numbers.{tx_of, is_running, members_apart}
+use Rattle.ent_protocol_laws.proofs.Left.{tx_of}
+use Rattle.ent_termination.proofs.Numbers.{is_running, members_apart}
 use Rattle.ent_termination.proofs.Ready.{begins_next}
 
 -- ---- where an active member stands

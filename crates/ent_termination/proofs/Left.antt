@@ -2,7 +2,6 @@
 -- which job it lends.
 use Rattle.std.proofs.Common.{◌≡◌, inl, inr, ℕ, Bool, true, false, cond, List, [], ◌∷◌, ◌++◌, refl, sym}
 use Rattle.std.proofs.Common.{subst, Option, Some, None, Result, Ok, Err}
-use Rattle.std.specs.List.{filter}
 use Rattle.ent_value.specs.declared.value.Value.{Value}
 use Rattle.ent_tree.specs.declared.script.Script.{Script}
 use Rattle.ent_semantics.specs.Entangled.{Valuation}
@@ -17,18 +16,19 @@ use Rattle.ent_protocol.specs.Event.{Event, Reply}
 use Rattle.ent_protocol.specs.Event as events
 use Rattle.ent_protocol.specs.Finish.{FinishesBy, Finishes, IsTaken, finished}
 use Rattle.ent_protocol.specs.Job.{Job, Done, Outcome, Shown, Changed, Bound, Choice, Fault}
-use Rattle.ent_protocol.specs.Member.{Next, Ordinary, Asks, Commits, RollsBack, active_member, is_prepared, is_tx}
+use Rattle.ent_protocol.specs.Member.{Next, Ordinary, Asks, Commits, RollsBack, active_member, is_prepared}
 use Rattle.ent_protocol.specs.Member.{next_of}
 use Rattle.ent_protocol.specs.PoolEvents.{Picks, AnswersBy, JoinsOrIsStale, joining, joint_job}
 use Rattle.ent_protocol.specs.Rollback.{Cause, Asked, Failing, NoOne, rolled_back}
 use Rattle.ent_protocol.specs.Run.{Forms, SubmitsForm, SubmitsUnless, StartsWith, starting, submitting, BreaksIfAny}
 use Rattle.ent_protocol.specs.Run.{EndsWhileRunning, ending}
-use Rattle.ent_protocol.specs.State.{State, Member, Dormant, first_of}
+use Rattle.ent_protocol.specs.State.{State, Member, Dormant}
 use Rattle.ent_protocol.specs.Step.{Step}
 use Rattle.ent_protocol.specs.Uses.{statement_uses, entangled_uses, blocker}
+use Rattle.ent_protocol_laws.proofs.Found.{found}
 use Rattle.ent_termination.specs.Input.{adds_script}
 use Rattle.ent_termination.specs.Lending.{lent_by}
-use Rattle.ent_lists.specs.Elements.{In, of_filter, same_number}
+use Rattle.ent_lists.specs.Elements.{In}
 
 -- a job came back, and these are the others
 pub record CameBack (s : State) (left : List Job) : Type 0 where
@@ -60,16 +60,6 @@ pub record Leaves (s : State) (P : Bool → List Job → State → Type 0) : Typ
       → P false [] (record s { lent = left; tried = asked ∷ s.tried })
   pub ends : s.running ≡ true → P false [] (ending s)
   pub recalls : P false [] (record s { lent = [] })
-
-first_in : {X : Type 0} (xs : List X) (x : X) → first_of xs ≡ Some x → In x xs
-first_in [] x e = cc
-first_in (y ∷ ys) x e = inl (let same : x ≡ y = cc in same)
-
-pub found : (s : State) (tx : ℕ) (member : Member) → active_member s tx ≡ Some member
-    → In member s.active × (member.tx ≡ tx)
-found s tx member e =
-    let r = of_filter (is_tx tx) s.active member (first_in (filter (is_tx tx) s.active) member e) in
-    (r.0, same_number member.tx tx r.1)
 
 module _ {F : Type 0} (s : State) (P : Bool → List Job → State → Type 0) (leaves : Leaves s P) where
   -- what is said of a reply and a state, where these are others

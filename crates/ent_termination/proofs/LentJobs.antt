@@ -1,7 +1,6 @@
 -- Lent jobs: the place of a statement's job is one of its script, and no joint job is of statements that were tried.
 use Rattle.std.proofs.Common.{◌≡◌, ◌⊎◌, ◌≤◌, inl, inr, ℕ, zero, suc, List, [], ◌∷◌, ◌++◌, length, refl, sym, ap}
 use Rattle.std.proofs.Common.{subst, ◌∙◌, arith, Option, Some, None, Contains}
-use Rattle.std.specs.Prelude.{slice_get}
 use Rattle.ent_value.specs.declared.value.Value.{Value}
 use Rattle.ent_tree.specs.declared.script.End.{End}
 use Rattle.ent_tree.specs.declared.script.End.TheVariants as ends
@@ -17,11 +16,12 @@ use Rattle.ent_protocol.specs.Member.{Next, Ordinary, Asks, Commits, RollsBack, 
 use Rattle.ent_protocol.specs.PoolEvents.{joint_job}
 use Rattle.ent_protocol.specs.State.{State, Submitted, Member}
 use Rattle.ent_protocol_laws.specs.Lent.{AreOther, LentStandOnce}
+use Rattle.ent_protocol_laws.proofs.Found.{numbered_on, taken_fewer}
 use Rattle.ent_termination.proofs.Changes.{Act, Stays, Submits, Starts, Lends, Posts, Prepares, Steps, Fails, Picks}
 use Rattle.ent_termination.proofs.Changes.{Answers}
 use Rattle.ent_termination.proofs.Changes.{Tries, Ends, Recalls, after}
 use Rattle.ent_termination.proofs.Changes as acts
-use Rattle.ent_lists.specs.Elements.{In, Pairs, in_first, in_second, in_either, of_filter, contains_in, in_contains}
+use Rattle.ent_lists.specs.Elements.{In, Pairs, in_either, of_filter, contains_in, in_contains}
 use Rattle.ent_lists.specs.Elements.{index_pairs}
 use Rattle.ent_termination.proofs.Lists.{pairs_around}
 
@@ -66,18 +66,6 @@ placed_next s m x e h = placed_in (numbered s.submitted m.tx) m x e h
 
 -- ---- a script is submitted
 
-still_there : {X : Type 0} (xs : List X) (x y : X) (n : ℕ) → slice_get xs n ≡ Some x
-    → slice_get (xs ++ y ∷ []) n ≡ Some x
-still_there [] x y zero e = cc
-still_there [] x y (suc n) e = cc
-still_there (z ∷ xs) x y zero e = e
-still_there (z ∷ xs) x y (suc n) e = still_there xs x y n e
-
-still_numbered : {X : Type 0} (xs : List X) (x y : X) (n : ℕ) → numbered xs n ≡ Some x
-    → numbered (xs ++ y ∷ []) n ≡ Some x
-still_numbered xs x y zero e = cc
-still_numbered xs x y (suc n) e = still_there xs x y n e
-
 still_placed : (all : List Submitted) (own : Submitted) (tx place : ℕ) → IsPlaced (numbered all tx) place
     → IsPlaced (numbered (all ++ own ∷ []) tx) place
 still_placed all own tx place h = by (numbered all tx) refl h
@@ -86,7 +74,7 @@ still_placed all own tx place h = by (numbered all tx) refl h
         → IsPlaced (numbered (all ++ own ∷ []) tx) place
     by None none h = absurd h
     by (Some mine) there h =
-        subst (λ (found : Option Submitted). IsPlaced found place) (sym (still_numbered all mine own tx there)) h
+        subst (λ (found : Option Submitted). IsPlaced found place) (sym (numbered_on all (own ∷ []) tx mine there)) h
 
 -- ---- what is kept
 
@@ -119,19 +107,6 @@ fewer s new from submitted tried h =
       untried = λ job asked at is there.
           h.untried job asked (from job at) is (subst (λ (all : List (List Posted)). Contains all asked) tried there);
     }
-
-pub of_left : (s : State) (job : Job) (left : List Job) → IsTaken job s.lent left → (other : Job) → In other left
-    → In other s.lent
-of_left s job left taken other at =
-    subst (In other) (sym taken.is_there)
-    (elim (in_either taken.before taken.behind other (subst (In other) taken.others at)) [
-      | inl a ↦ in_first taken.before (job ∷ taken.behind) other a
-      | inr b ↦ in_second taken.before (job ∷ taken.behind) other (inr b)
-    ])
-
-pub taken_there : (s : State) (job : Job) (left : List Job) → IsTaken job s.lent left → In job s.lent
-taken_there s job left taken =
-    subst (In job) (sym taken.is_there) (in_second taken.before (job ∷ taken.behind) job (inl refl))
 
 lends : (s : State) (m : Member) (statement : Statement Value) (all : List Job)
     → all ≡ s.lent ++ single_job s m statement ∷ [] → next_of s m ≡ Ordinary statement → LentRight s
@@ -187,10 +162,10 @@ tries : (s : State) (asked : List Posted) (left : List Job) (job : Job) → IsTa
     → LentRight (record s { lent = left; tried = asked ∷ s.tried })
 tries s asked left job taken work once h =
     record {
-      placed = λ other single at is. h.placed other single (of_left s job left taken other at) is;
+      placed = λ other single at is. h.placed other single (taken_fewer job s.lent left taken other at) is;
       untried = λ other more at is there. elim (contains_in (asked ∷ s.tried) more there) [
         | inl same ↦ apart other more at is same
-        | inr old ↦ h.untried other more (of_left s job left taken other at) is (in_contains s.tried more old)
+        | inr old ↦ h.untried other more (taken_fewer job s.lent left taken other at) is (in_contains s.tried more old)
       ];
     }
   where
@@ -237,12 +212,12 @@ kept_right s (acts.Commits m idle) once h = fewer s _ (λ job at. at) refl refl 
 kept_right s (acts.RollsBack m cause at) once h =
     fewer s _ (λ job there. (of_filter _ s.lent job there).0) refl refl h
 kept_right s (Steps m own left tables changes back tx place posted) once h =
-    fewer s _ (of_left s back.job left back.taken) refl refl h
+    fewer s _ (taken_fewer back.job s.lent left back.taken) refl refl h
 kept_right s (Fails m cause left back) once h =
-    fewer s _ (λ job there. of_left s back.job left back.taken job (of_filter _ left job there).0) refl refl h
+    fewer s _ (λ job there. taken_fewer back.job s.lent left back.taken job (of_filter _ left job there).0) refl refl h
 kept_right s (Picks asked can) once h = picks s asked can.untried h
 kept_right s (Answers asked groundings left back enough) once h =
-    fewer s _ (of_left s back.job left back.taken) refl refl h
+    fewer s _ (taken_fewer back.job s.lent left back.taken) refl refl h
 kept_right s (Tries asked left back) once h = tries s asked left back.job back.taken back.is_joint once h
 kept_right s Ends once h =
     record {

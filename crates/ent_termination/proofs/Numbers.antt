@@ -1,49 +1,21 @@
 -- The members of a run, by number.
-use Rattle.std.proofs.Common.{◌≡◌, ◌↔◌, ◌<◌, inl, inr, ℕ, true, false, ◌==◌, List, [], ◌∷◌, map}
-use Rattle.std.proofs.Common.{length, sym, ap, subst, ◌∙◌, nat_eq, AllPairs, Contains}
+use Rattle.std.proofs.Common.{◌≡◌, ◌↔◌, ◌<◌, inl, inr, ℕ, true, List, map}
+use Rattle.std.proofs.Common.{length, ap, subst, ◌∙◌, AllPairs, Contains}
 use Rattle.std.proofs.lemmas.List.{length-map}
-use Rattle.std.specs.List.{IsDistinct}
 use Rattle.ent_protocol.specs.Lookup.{running_members}
 use Rattle.ent_protocol.specs.Rollback.{is_among}
 use Rattle.ent_protocol.specs.State.{State, Member, members, by_number}
 use Rattle.ent_protocol.specs.Tidy.{is_member}
 use Rattle.ent_protocol_laws.specs.ByNumber.{StandByNumber}
-use Rattle.ent_lists.specs.Elements.{In, Pairs, of_all, to_all, in_first, in_second, in_either, clash, or_first}
-use Rattle.ent_lists.specs.Elements.{or_second, or_cases, number_itself, same_number, to_map, of_map, pairs_index}
-use Rattle.ent_lists.specs.Elements.{contains_in, in_contains}
+use Rattle.ent_lists.specs.Elements.{In, Pairs, in_first, in_second}
+use Rattle.ent_lists.specs.Elements.{or_cases, to_map, of_map, pairs_index}
+use Rattle.ent_lists.specs.Elements.{contains_in, in_contains, distinct_pairs}
 use Rattle.ent_protocol_laws.specs.Numbered.{Apart, from_by_number, to_by_number, by_number_ascends, by_number_long}
 use Rattle.ent_protocol_laws.specs.Numbered.{keys_apart, keys_ascend}
-
-abbrev pub tx_of : Member → ℕ
-tx_of member = member.tx
-
--- ---- who is among them
-
-pub in_among : (gone : List Member) (m : Member) → In m gone → is_among gone m.tx ≡ true
-in_among [] m at = absurd at
-in_among (x ∷ xs) m (inl same) =
-    or_first (x.tx == m.tx) (is_among xs m.tx) (ap (λ (y : Member). x.tx == y.tx) same ∙ number_itself x.tx)
-in_among (x ∷ xs) m (inr at) = or_second (x.tx == m.tx) (is_among xs m.tx) (in_among xs m at)
-
-among_in : (ms : List Member) (tx : ℕ) → is_among ms tx ≡ true → In tx (map tx_of ms)
-among_in [] tx is = cc
-among_in (m ∷ ms) tx is =
-    elim (or_cases (m.tx == tx) (is_among ms tx) is) [
-      | inl here ↦ inl (sym (same_number m.tx tx here))
-      | inr there ↦ inr (among_in ms tx there)
-    ]
+use Rattle.ent_protocol_laws.proofs.Left.{tx_of}
+use Rattle.ent_protocol_laws.proofs.Members.{among_in, is_in_run}
 
 -- ---- by number
-
-distinct_pairs : (ns : List ℕ) → IsDistinct nat_eq ns → Pairs (λ (one other : ℕ). one ≡ other → ⊥) ns
-unfolding IsDistinct
-distinct_pairs [] distinct = tt
-distinct_pairs (n ∷ ns) distinct = (
-  to_all (λ m. n ≡ m → ⊥) ns (λ m at same.
-      clash (nat_eq n m) (ap (nat_eq n) (sym same) ∙ number_itself n)
-      (of_all (λ m. nat_eq n m ≡ false) ns m distinct.0 at)),
-  distinct_pairs ns distinct.1,
-)
 
 pub members_apart : (s : State) → StandByNumber s → Pairs (Apart tx_of) (members s)
 members_apart s h = keys_apart tx_of (members s) (distinct_pairs (map tx_of (members s)) h.distinct)
@@ -60,24 +32,17 @@ pub is_running : (s : State) (m : Member) → In m (members s) → In m.tx (runn
 is_running s m at =
     to_map tx_of (by_number tx_of (members s)) m (to_by_number tx_of (members s) m at)
 
-member_is : (s : State) (m : Member) → In m (members s) → is_member s m.tx ≡ true
-member_is s m at =
-    elim (in_either s.prepared s.active m at) [
-      | inl a ↦ or_first (is_among s.prepared m.tx) (is_among s.active m.tx) (in_among s.prepared m a)
-      | inr b ↦ or_second (is_among s.prepared m.tx) (is_among s.active m.tx) (in_among s.active m b)
-    ]
-
 in_members : (s : State) (ms : List Member) (tx : ℕ) → ((m : Member) → In m ms → In m (members s))
     → is_among ms tx ≡ true → In tx (running_members s)
 in_members s ms tx of_run is =
-    let r = of_map tx_of ms tx (among_in ms tx is) in
-    subst (λ n. In n (running_members s)) (sym r.2) (is_running s r.0 (of_run r.0 r.1))
+    let r = among_in ms tx is in
+    subst (λ n. In n (running_members s)) r.2 (is_running s r.0 (of_run r.0 r.1))
 
 pub are_members : (s : State) (tx : ℕ) → Contains (running_members s) tx ↔ (is_member s tx ≡ true)
 are_members s tx = (
   λ there.
       let r = of_map tx_of (by_number tx_of (members s)) tx (contains_in (running_members s) tx there) in
-      ap (is_member s) r.2 ∙ member_is s r.0 (from_by_number tx_of (members s) r.0 r.1),
+      ap (is_member s) r.2 ∙ is_in_run s r.0 (from_by_number tx_of (members s) r.0 r.1),
   λ is. in_contains (running_members s) tx
       (elim (or_cases (is_among s.prepared tx) (is_among s.active tx) is) [
         | inl a ↦ in_members s s.prepared tx (in_first s.prepared s.active) a

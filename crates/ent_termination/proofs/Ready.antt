@@ -15,8 +15,8 @@ use Rattle.ent_protocol.specs.Lookup as lookups
 use Rattle.ent_protocol.specs.Member.{Next, Ordinary, Asks, Commits, RollsBack, active_member, is_lent, is_tx, next_of}
 use Rattle.ent_protocol.specs.State.{State, Dormant, Member, first_of}
 use Rattle.ent_protocol.specs.Uses.{statement_uses, entangled_uses, blocker}
+use Rattle.ent_protocol_laws.proofs.Found.{found}
 use Rattle.ent_termination.specs.Idle.{IsTurnTaken}
-use Rattle.ent_termination.proofs.Left.{found}
 
 -- the first of two lists is the first of the one, or that of the other
 of_either : (xs ys : List Standing) (x : Standing) → first_of (xs ++ ys) ≡ Some x

@@ -1,5 +1,5 @@
 -- Tries that are left.
-use Rattle.std.proofs.Common.{◌≡◌, ◌<◌, ◌≤◌, ◌+◌, ℕ, zero, suc, Bool, true, false, cond, not, ◌==◌, List, [], ◌∷◌, ◌++◌}
+use Rattle.std.proofs.Common.{◌≡◌, ◌<◌, ◌≤◌, ◌+◌, ℕ, Bool, true, false, cond, not, ◌==◌, List, [], ◌∷◌, ◌++◌}
 use Rattle.std.proofs.Common.{map, length, take, refl, sym, ap, subst, ◌∙◌, inl, inr, arith, Option, Some, None}
 use Rattle.std.proofs.lemmas.List.Sums.{sum_by-append, sum_by-cons, sum_by-take-drop}
 use Rattle.std.proofs.lemmas.List.Filters.{sum_by-filter_both}
@@ -29,8 +29,10 @@ use Rattle.ent_termination.specs.Input.{adds_script}
 use Rattle.ent_termination.specs.Tries.{present_run, runs_beyond, tries_left}
 use Rattle.ent_termination.proofs.Left.{Leaves, left_behind}
 use Rattle.ent_lists.specs.Elements.{In, Pairs, of_all, clash, same_number, number_itself, filter_joined, pairs_second}
+use Rattle.ent_lists.specs.Elements.{taken_in}
 use Rattle.ent_protocol_laws.specs.Numbered.{Apart, one_of, to_by_number}
-use Rattle.ent_termination.proofs.Numbers.{tx_of, in_among, members_apart}
+use Rattle.ent_protocol_laws.proofs.Left.{tx_of, in_among}
+use Rattle.ent_termination.proofs.Numbers.{members_apart}
 use Rattle.ent_termination.proofs.Sums.{sum_by_number, sum_fewer, sum_filtered, sum_given, sum_lowered, sum_mapped}
 use Rattle.ent_termination.proofs.Sums.{sum_without}
 
@@ -107,12 +109,6 @@ one_replaced s other apart new old at tx attempt submitted dormant running prepa
 starts_lower : (submitted : List Submitted) (dormant : Dormant) → HasRunLeft submitted dormant
     → of_member submitted (fresh dormant) + 1 ≤ of_dormant submitted dormant
 starts_lower submitted dormant h = rw h.is_own (let low = h.left in omega (arith, low))
-
-taken_in : {X : Type 0} (k : ℕ) (xs : List X) (x : X) → In x (take k xs) → In x xs
-taken_in zero xs x at = absurd at
-taken_in (suc k) [] x at = absurd at
-taken_in (suc k) (y ∷ ys) x (inl same) = inl same
-taken_in (suc k) (y ∷ ys) x (inr at) = inr (taken_in k ys x at)
 
 starts : (s : State) (first : Dormant) (more : List Dormant) → StayWithin s → s.running ≡ false
     → s.dormant ≡ first ∷ more → NoMore s (starting s)

@@ -5,6 +5,8 @@ use Rattle.std.proofs.Common.{sum_by}
 use Rattle.std.proofs.lemmas.List.{length-append, length-map}
 use Rattle.std.specs.Prelude.{◌↔◌}
 use Rattle.ent_protocol_laws.specs.Numbered.{one_of, below_apart}
+use Rattle.ent_protocol_laws.proofs.Acts.{ComesBack}
+use Rattle.ent_protocol_laws.proofs.Found.{taken_there}
 use Rattle.ent_value.specs.declared.value.Value.{Value}
 use Rattle.ent_semantics.specs.Entangled.{Valuation}
 use Rattle.ent_semantics.specs.Serial.{numbered}
@@ -25,12 +27,12 @@ use Rattle.ent_termination.specs.Within.{IsWithin, begun, statements_behind, unb
 use Rattle.ent_termination.proofs.Answering.{is_asked, left_asked, left_components}
 use Rattle.ent_termination.proofs.PostedQueries.{asked_there, one_component, present_in_other, some_asked}
 use Rattle.ent_termination.proofs.Changes.{Act, Submits, Starts, Lends, Posts, Prepares, Steps, Fails, Picks, Answers}
-use Rattle.ent_termination.proofs.Changes.{Tries, Ends, Recalls, ComesBack, IsIdle, JointBack, after, opens, worth}
+use Rattle.ent_termination.proofs.Changes.{Tries, Ends, Recalls, IsIdle, JointBack, after, opens, worth}
 use Rattle.ent_termination.proofs.Changes as acts
 use Rattle.ent_termination.proofs.Counts.{answered_begun, begun_unposted, behind_placed, committed_begun}
 use Rattle.ent_termination.proofs.Counts.{committed_counted}
 use Rattle.ent_termination.proofs.Counts.{gone_begun, group_leaves, one_begins, prepared_begun, prepared_counted}
-use Rattle.ent_termination.proofs.LentJobs.{IsPlaced, placed_next, taken_there}
+use Rattle.ent_termination.proofs.LentJobs.{IsPlaced, placed_next}
 use Rattle.ent_lists.specs.Elements.{In, any_in, clash, contains_in, in_contains, number_itself, filter_empty}
 use Rattle.ent_lists.specs.Elements.{in_first, in_second, turned}
 use Rattle.ent_termination.proofs.Lists.{sum_mapped}
@@ -87,7 +89,7 @@ record StandsThere (s : State) (m : Member) : Type 0 where
 
 stands_there : (s : State) (m : Member) (left : List Job) → ComesBack s m left → IsKnown s → StandsThere s m
 stands_there s m left back known =
-    let lent = taken_there s back.job left back.taken in
+    let lent = taken_there back.job s.lent left back.taken in
     let b = known.once.before back.job back.single (in_contains s.lent back.job lent) back.is_single in
     let same : b.member ≡ m =
     one_of member_tx s.active b.member m (below_apart member_tx s.active known.active)
@@ -131,7 +133,7 @@ steps most left s m own jobs tables changes back tx place unposted known w =
 untried : (s : State) (asked : List Posted) (left : List Job) → JointBack s asked left → IsKnown s
     → Contains s.tried asked → ⊥
 untried s asked left back known there =
-    known.lent.untried back.job asked (taken_there s back.job left back.taken) back.is_joint there
+    known.lent.untried back.job asked (taken_there back.job s.lent left back.taken) back.is_joint there
 
 answers : (most left : ℕ) (s : State) (asked : List Posted) (groundings : List Valuation) (jobs : List Job)
     → JointBack s asked jobs → length groundings ≡ length asked → IsKnown s → IsWithin most left s
