@@ -19,9 +19,9 @@ use Rattle.ent_semantics.specs.Serial.{numbered}
 use Rattle.ent_book.specs.Report.{entry_answers, fate_answers}
 use Rattle.ent_history.specs.Told.{commits, entries_of, entry_if, fates_from, has_committed, journal_of, told_fate}
 use Rattle.ent_rules.specs.Account.{commit_number, is_number}
-use Rattle.ent_lists.specs.Elements.{In, Pairs, of_all, contains_in, in_contains, index_pairs, pairs_index}
-use Rattle.ent_lists.specs.Elements.{pairs_mapped, filter_empty, got_in, not_so, number_itself, of_filter, of_map}
-use Rattle.ent_lists.specs.Elements.{pairs_filtered, same_number, to_filter, to_map}
+use Rattle.ent_lists.specs.Elements.{In, Pairs, contains_in, in_contains, index_pairs, pairs_index}
+use Rattle.ent_lists.specs.Elements.{pairs_mapped, got_in, number_itself, of_filter, of_map}
+use Rattle.ent_lists.specs.Elements.{pairs_filtered, same_number, to_filter, to_map, NotBoth, only_one}
 
 -- ---- numbers that differ
 
@@ -147,22 +147,6 @@ commits_are journal (fated ∷ more) = by (has_committed fated.fate) (commits_ar
         (filter (λ f. has_committed f.fate) more))
     by true rest = ap suc rest
     by false rest = rest
-
-module _ {X : Type 0} (p : X → Bool) where
-  abbrev NotBoth : X → X → Type 0
-  NotBoth x y = p x ≡ true → p y ≡ true → ⊥
-
-  only_one : (xs : List X) (x : X) → Pairs NotBoth xs → In x xs → p x ≡ true → filter p xs ≡ x ∷ []
-  only_one [] x pairs at is = absurd at
-  only_one (y ∷ ys) x pairs (inl same) is =
-      ap (λ b. cond b (y ∷ filter p ys) (filter p ys)) (ap p (sym same) ∙ is)
-      ∙ ap (λ rest. y ∷ rest) (filter_empty p ys (λ z at. not_so (p z) (λ other.
-      of_all (NotBoth y) ys z pairs.0 at (ap p (sym same) ∙ is) other)))
-      ∙ ap (λ z. z ∷ []) (sym same)
-  only_one (y ∷ ys) x pairs (inr at) is =
-      ap (λ b. cond b (y ∷ filter p ys) (filter p ys))
-      (not_so (p y) (λ here. of_all (NotBoth y) ys x pairs.0 at here is))
-      ∙ only_one ys x pairs.1 at is
 
 -- ---- the journal of a book
 

@@ -14,8 +14,9 @@ use Rattle.ent_rules.specs.declared.finding.Thing.TheVariants as thing
 use Rattle.ent_rules.proofs.Accounts.{Other, one_account}
 use Rattle.ent_rules.proofs.Found.{unless_holds, holds_unless}
 use Rattle.ent_lists.specs.Elements.{In, Pairs, of_all, to_all, and_both, both_and, turned, clash, neither, any_some}
-use Rattle.ent_lists.specs.Elements.{any_none, not_so, same_number, number_itself, other_number, in_flat, to_flat}
-use Rattle.ent_lists.specs.Elements.{of_filter, to_filter, filter_empty, pairs_filtered, pairs_joined, got_in, pairs_by}
+use Rattle.ent_lists.specs.Elements.{any_none, same_number, number_itself, other_number, in_flat, to_flat}
+use Rattle.ent_lists.specs.Elements.{of_filter, to_filter, pairs_filtered, pairs_joined, got_in, pairs_by}
+use Rattle.ent_lists.specs.Elements.{NotBoth, only_one}
 use Rattle.ent_rules.proofs.Lists.{back, none_first, none_second, both_none}
 
 -- two transactions committed with one number
@@ -363,34 +364,17 @@ module _ (all : List Account) where
 
 -- ---- one transaction a number
 
-module _ {X : Type 0} (p : X → Bool) where
-  abbrev NotBoth : X → X → Type 0
-  NotBoth x y = p x ≡ true → p y ≡ true → ⊥
-
-  only_one : (xs : List X) (x : X) → Pairs NotBoth xs → In x xs → p x ≡ true → (y : X) × (filter p xs ≡ y ∷ [])
-  only_one [] x pairs at is = absurd at
-  only_one (y ∷ ys) x pairs (inl same) is = (
-    y,
-    ap (λ b. cond b (y ∷ filter p ys) (filter p ys)) (ap p (sym same) ∙ is)
-        ∙ ap (λ rest. y ∷ rest) (filter_empty p ys (λ z zt. not_so (p z) (λ other.
-        of_all (NotBoth y) ys z pairs.0 zt (ap p (sym same) ∙ is) other))),
-  )
-  only_one (y ∷ ys) x pairs (inr at) is =
-      let rest = only_one ys x pairs.1 at is in (
-        rest.0,
-        ap (λ b. cond b (y ∷ filter p ys) (filter p ys))
-            (not_so (p y) (λ here. of_all (NotBoth y) ys x pairs.0 at here is))
-            ∙ rest.1,
-      )
-
 module _ (all : List Account) (is : IsNumbered all) where
   one_of : (n : ℕ) → 0 < n → n ≤ commit_count all → (a : Account) × (filter (committed_as n) all ≡ a ∷ [])
   one_of n positive most =
-      let r = each_number all is n positive most in
-      only_one (committed_as n) all r.0
-      (pairs_by NotSame (NotBoth (committed_as n)) all (λ x y not_same first second.
-      not_same n (committed_is n (commit_number x.fate) first) (committed_is n (commit_number y.fate) second)) is.apart)
-      r.1 (is_committed n (commit_number r.0.fate) r.2)
+      let r = each_number all is n positive most in (
+        r.0,
+        only_one (committed_as n) all r.0
+            (pairs_by NotSame (NotBoth (committed_as n)) all (λ x y not_same first second.
+            not_same n (committed_is n (commit_number x.fate) first) (committed_is n (commit_number y.fate) second))
+            is.apart)
+            r.1 (is_committed n (commit_number r.0.fate) r.2),
+      )
 
   -- the transaction that committed with a number stands at it
   pub at_its_number : (k : ℕ) (a : Account) → In a all → commit_number a.fate ≡ Some (suc k)
