@@ -3,7 +3,6 @@ use Rattle.std.proofs.Common.{◌≡◌, ◌≤◌, ◌+◌, Bool, true, false, 
 use Rattle.std.proofs.Common.{refl, sym, ap, subst, ◌∙◌, arith}
 use Rattle.std.specs.Cmp.{Equal-is}
 use Rattle.std.specs.List.{AllByRecursion, filter, list_any}
-use Rattle.std.specs.List.Sorted.{IsStrictlySortedBy}
 use Rattle.std.specs.Ordering.{eq_by_cmp}
 use Rattle.ent_set.specs.Sets as set
 use Rattle.ent_set.specs.Laws.{contains-from_list, contains-insert, contains-retain, from_list-ascending}
@@ -14,7 +13,7 @@ use Rattle.ent_value.specs.declared.value.Value.{Value}
 use Rattle.ent_rel.proofs.Keyed.{rows_ascend}
 use Rattle.ent_semantics.specs.Database.{Rows}
 use Rattle.ent_book.proofs.Ascending.{count_of_ascending}
-use Rattle.ent_lists.specs.Elements.{Pairs, and_both, pairs_index, shorter}
+use Rattle.ent_lists.specs.Elements.{and_both, pairs_index, shorter, rise}
 use Rattle.ent_report_laws.specs.Tellable.{RowsRise}
 use Rattle.ent_report_laws.proofs.Shown.{IsBelow}
 
@@ -67,13 +66,8 @@ module _ (P : List Value → Type 0) where
 
 -- ---- in order
 
-rise : (rows : List (List Value)) → IsStrictlySortedBy row_cmp rows → Pairs IsBelow rows
-unfolding IsStrictlySortedBy
-rise [] h = tt
-rise (row ∷ rows) h = (h.0, rise rows h.1)
-
 pub rows_rise : (rows : Rows) → RowsRise (set.ascending rows)
-rows_rise rows = pairs_index IsBelow (set.ascending rows) (rise (set.ascending rows) (rows_ascend rows))
+rows_rise rows = pairs_index IsBelow (set.ascending rows) (rise row_cmp (set.ascending rows) (rows_ascend rows))
 
 -- ---- counted
 

@@ -19,9 +19,8 @@ use Rattle.ent_semantics.specs.Uses.{is_among}
 use Rattle.ent_book.specs.Report.{names_by_bytes}
 use Rattle.ent_history.specs.Told.{declared_under, told_opening}
 use Rattle.ent_rules.specs.Formed.{is_declared}
-use Rattle.ent_lists.specs.Elements.{In, Pairs, in_flat, neither, of_all, pairs_by, pairs_joined}
+use Rattle.ent_lists.specs.Elements.{In, Pairs, in_flat, neither, of_all, pairs_by, pairs_joined, rise}
 use Rattle.ent_opening_laws.specs.Alike.{AreDeclaredAlike}
-use Rattle.ent_opening_laws.proofs.Rising.{rise}
 
 -- ---- names
 

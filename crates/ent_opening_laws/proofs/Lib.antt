@@ -2,7 +2,6 @@ pub mod Columns
 pub mod Meant
 pub mod Faults
 pub mod Legal
-pub mod Rising
 pub mod Declared
 pub mod Rows
 pub mod Faultless

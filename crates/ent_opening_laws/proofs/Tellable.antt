@@ -33,11 +33,11 @@ use Rattle.ent_history_form.specs.Parts.{IsName, IsRow, IsValue}
 use Rattle.ent_report_laws.specs.Tellable.{AreRowsOf, IsOpeningTold}
 use Rattle.ent_rules.specs.Formed.{is_declared}
 use Rattle.ent_lists.specs.Elements.{In, Pairs, any_in, in_flat, neither, of_all, pairs_before, pairs_index, to_all}
+use Rattle.ent_lists.specs.Elements.{rise}
 use Rattle.ent_opening_laws.specs.Read.{AreUnplaced, IsOpeningRead, IsTableRead, IsUnplaced}
 use Rattle.ent_opening_laws.proofs.Counted.{few_rows, few_tables}
 use Rattle.ent_opening_laws.proofs.Declared.{Rises, named, names_rise, one_under, tables_rise, under_is}
 use Rattle.ent_opening_laws.proofs.Faultless.{HasColumnsOnce, both_before, columns_once}
-use Rattle.ent_opening_laws.proofs.Rising.{rise}
 use Rattle.ent_opening_laws.proofs.Rows.{row_itself, row_stands, rows_shown}
 
 -- ---- names of columns
