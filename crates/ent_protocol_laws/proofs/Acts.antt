@@ -1,5 +1,5 @@
 -- What holds of every state that is reached: what the opening's own state has and each change of a state keeps.
-use Rattle.std.proofs.Common.{◌≡◌, inl, inr, ℕ, zero, suc, Bool, true, false, not, ◌||◌, List, [], ◌∷◌, ◌++◌}
+use Rattle.std.proofs.Common.{◌≡◌, inl, inr, ℕ, zero, suc, Bool, true, false, ◌||◌, List, [], ◌∷◌, ◌++◌}
 use Rattle.std.proofs.Common.{map, refl, sym, ap, subst, Option, Some, None, Result, Ok, Err}
 use Rattle.std.specs.List.{list_any}
 use Rattle.ent_value.specs.declared.value.Value.{Value}
@@ -29,7 +29,7 @@ use Rattle.ent_protocol.specs.Run.{EndsWhileRunning, ending}
 use Rattle.ent_protocol.specs.State.{State, Member, Dormant}
 use Rattle.ent_protocol.specs.Step.{Step}
 use Rattle.ent_protocol.specs.Uses.{statement_uses, entangled_uses, blocker}
-use Rattle.ent_lists.specs.Elements.{In, neither}
+use Rattle.ent_lists.specs.Elements.{In, neither, turned}
 use Rattle.ent_protocol_laws.proofs.Found.{found}
 
 -- a member that isn't prepared, has no statement in the pool, and no job of which is lent
@@ -138,14 +138,10 @@ module _ {F : Type 0} (forms : Forms F) (P : State → Type 0) (kept : AreKeptSa
   entangled s m asked (Some holder) reply new step idle next h = as_is s new step.1 h
   entangled s m asked None reply new step idle next h = asks_to_post s m asked reply new step idle next h
 
-  unready : (b : Bool) → not b ≡ true → b ≡ false
-  unready true e = sym e
-  unready false e = refl
-
   commit : (prepared : State) (group : ℕ) (ready : Bool) (reply : Reply F) (new : State)
       → is_ready prepared group ≡ ready → BeginsCommit prepared group ready reply new → P prepared → P new
   commit prepared group true reply new is step h =
-      as_is _ new step.1 (kept.commits prepared group (unready (list_any (is_of group) prepared.active) is) h)
+      as_is _ new step.1 (kept.commits prepared group (turned (list_any (is_of group) prepared.active) is) h)
   commit prepared group false reply new is step h = as_is prepared new step.1 h
 
   next_step : (s : State) (m : Member) (is : Next) (reply : Reply F) (new : State) → next_of s m ≡ is

@@ -1,21 +1,21 @@
 -- The settled database is each table as before the first change of it.
-use Rattle.std.proofs.Common.{◌≡◌, ◌≢◌, ◌<◌, ◌+◌, inl, inr, ℕ, zero, suc, Bool, true, false, cond, not, ◌&&◌, ◌||◌}
-use Rattle.std.proofs.Common.{◌==◌, List, [], ◌∷◌, ◌++◌, map, refl, sym, ap, subst, ◌∙◌, arith, rules, slice_set}
+use Rattle.std.proofs.Common.{◌≡◌, ◌≢◌, ◌<◌, ◌+◌, ℕ, zero, suc, Bool, true, false, cond, not, ◌&&◌}
+use Rattle.std.proofs.Common.{◌==◌, List, [], ◌∷◌, ◌++◌, map, refl, sym, ap, subst, ◌∙◌, arith, slice_set}
 use Rattle.std.specs.Prelude.{reverse}
 use Rattle.std.proofs.lemmas.Grind.{reverse_onto}
-use Rattle.std.specs.List.{enumerate_from, filter, list_any}
+use Rattle.std.specs.List.{enumerate_from, filter}
 use Rattle.ent_semantics.specs.Database.{Rows}
 use Rattle.ent_semantics.specs.declared.book.Fated.{Fated}
 use Rattle.ent_closed.specs.Form.{Tables}
-use Rattle.ent_protocol.specs.Member.{is_tx}
 use Rattle.ent_protocol.specs.Reached.{settled}
 use Rattle.ent_protocol.specs.Rollback.{put_back}
 use Rattle.ent_protocol.specs.State.{State, Change, Dormant, Member, members}
 use Rattle.ent_protocol.specs.Tidy.{IsTidy, is_member}
 use Rattle.ent_protocol_laws.specs.Standing.{StandOnce}
 use Rattle.ent_protocol_laws.specs.Settled.{has_fate, is_open_change, rows_before, tables_before_changes}
-use Rattle.ent_lists.specs.Elements.{In, in_first, in_second, index_pairs, not_so, of_all, pairs_across, same_number}
-use Rattle.ent_lists.specs.Elements.{to_map}
+use Rattle.ent_lists.specs.Elements.{In, in_second, index_pairs, not_so, of_all, pairs_across, same_number}
+use Rattle.ent_lists.specs.Elements.{to_map, any_some, filter_same, number_itself, other_number}
+use Rattle.ent_protocol_laws.proofs.Members.{of_run}
 
 -- ---- each table by its number and its rows
 
@@ -61,12 +61,6 @@ first_stays : (changes : List Change) (last : Change) (present : Rows)
 first_stays [] last present = refl
 first_stays (first ∷ more) last present = refl
 
-itself : (n : ℕ) → (n == n) ≡ true
-itself n = grind (arith, rules)
-
-other : (n m : ℕ) → (n ≡ m → ⊥) → (n == m) ≡ false
-other n m differ = not_so (n == m) (λ is. differ (same_number n m is))
-
 pub put_back_placed : (changes : List Change) (tables : Tables)
     → put_back changes tables ≡ placed (worded changes) 0 tables
 put_back_placed [] tables = placed_same tables 0
@@ -82,40 +76,19 @@ put_back_placed (change ∷ more) tables =
         → worded more table x ≡ worded (change ∷ more) table x
     elsewhere table x differ =
         ap (λ b. rows_before (reverse (with_first b table)) x)
-        (sym (other change.table table (λ e. differ (sym e))))
+        (sym (other_number change.table table (λ e. differ (sym e))))
 
     here : (x : Rows) → worded more change.table change.before ≡ worded (change ∷ more) change.table x
     here x =
         sym (first_stays (reverse (changes_of more change.table)) change x)
         ∙ ap (λ changes. rows_before changes x) (sym (reverse_onto (changes_of more change.table) change []))
-        ∙ ap (λ b. rows_before (reverse (with_first b change.table)) x) (sym (itself change.table))
+        ∙ ap (λ b. rows_before (reverse (with_first b change.table)) x) (sym (number_itself change.table))
 
 -- ---- what is noted is of members, and they have no fate
 
-any_some : {X : Type 0} (p : X → Bool) (xs : List X) → list_any p xs ≡ true → (x : X) × In x xs × (p x ≡ true)
-any_some p [] e = cc
-any_some {X} p (x ∷ xs) e = by (p x) refl e (any_some p xs)
-  where
-    by : (b : Bool) → p x ≡ b → (b || list_any p xs) ≡ true
-        → (list_any p xs ≡ true → (y : X) × In y xs × (p y ≡ true)) → (y : X) × In y (x ∷ xs) × (p y ≡ true)
-    by true is e rest = (x, inl refl, is)
-    by false is e rest = let r = rest e in (r.0, inr r.1, r.2)
-
-member_of : (s : State) (tx : ℕ) → is_member s tx ≡ true → (member : Member) × In member (members s) × (member.tx ≡ tx)
-member_of s tx is = by (list_any (is_tx tx) s.prepared) refl is
-  where
-    by : (b : Bool) → list_any (is_tx tx) s.prepared ≡ b → (b || list_any (is_tx tx) s.active) ≡ true
-        → (member : Member) × In member (members s) × (member.tx ≡ tx)
-    by true there e =
-        let r = any_some (is_tx tx) s.prepared there in
-        (r.0, in_first s.prepared s.active r.0 r.1, same_number r.0.tx tx r.2)
-    by false there e =
-        let r = any_some (is_tx tx) s.active e in
-        (r.0, in_second s.prepared s.active r.0 r.1, same_number r.0.tx tx r.2)
-
 without_fate : (s : State) → StandOnce s → (tx : ℕ) → is_member s tx ≡ true → has_fate s tx ≡ false
 without_fate s once tx is = not_so (has_fate s tx) (λ has.
-    let m = member_of s tx is in
+    let m = of_run s tx is in
     let f = any_some (λ (fated : Fated). fated.tx == tx) s.fates has in
     let of_members = map (λ (member : Member). member.tx) (members s) in
     let of_dormant = map (λ (dormant : Dormant). dormant.tx) s.dormant in
@@ -125,14 +98,6 @@ without_fate s once tx is = not_so (has_fate s tx) (λ has.
     (to_map (λ (member : Member). member.tx) (members s) m.0 m.1)
     (in_second of_dormant of_fates f.0.tx (to_map (λ (fated : Fated). fated.tx) s.fates f.0 f.1))
     (m.2 ∙ sym (same_number f.0.tx tx f.2)))
-
-filter_alike : {X : Type 0} (p q : X → Bool) (xs : List X) → ((x : X) → In x xs → p x ≡ q x)
-    → filter p xs ≡ filter q xs
-filter_alike p q [] same = refl
-filter_alike p q (x ∷ xs) same =
-    let one = same x (inl refl) in
-    let rest = filter_alike p q xs (λ y at. same y (inr at)) in
-    λ i. cond (one i) (x ∷ rest i) (rest i)
 
 pub settled_before : (s : State) → IsTidy s → StandOnce s → settled s ≡ tables_before_changes s
 settled_before s tidy once =
@@ -148,4 +113,4 @@ settled_before s tidy once =
 
     open_ones : (table : ℕ) → filter (is_open_change s table) s.changes ≡ changes_of s.changes table
     open_ones table =
-        filter_alike (is_open_change s table) (λ (change : Change). change.table == table) s.changes (each table)
+        filter_same (is_open_change s table) (λ (change : Change). change.table == table) s.changes (each table)

@@ -1,6 +1,6 @@
 -- Tables that are put back, and changes that are noted.
 use Rattle.std.proofs.Common.{◌≡◌, ◌⊎◌, ◌<◌, inl, inr, ℕ, zero, suc, Bool, true, false, cond, ◌&&◌, ◌==◌, List, [], ◌∷◌}
-use Rattle.std.proofs.Common.{◌++◌, length, refl, sym, ap, ◌∙◌, arith, rules, slice_index_or, slice_set}
+use Rattle.std.proofs.Common.{◌++◌, length, refl, sym, ap, ◌∙◌, arith, slice_index_or, slice_set}
 use Rattle.std.specs.List.{filter, list_any}
 use Rattle.ent_set.specs.Sets as set
 use Rattle.ent_value.specs.declared.value.Value.{Value}
@@ -16,7 +16,7 @@ use Rattle.ent_protocol.specs.State.{State, Change, Member}
 use Rattle.ent_protocol.specs.Step.{Step}
 use Rattle.ent_protocol_laws.specs.Restored.{HasNotChanged, IsFirstChange, IsNoted, rolls_back, rows_at}
 use Rattle.ent_protocol_laws.proofs.Leaves.{Leaves, left_behind}
-use Rattle.ent_lists.specs.Elements.{clash, neither, same_number}
+use Rattle.ent_lists.specs.Elements.{clash, neither, same_number, number_itself, and_both}
 
 -- ---- one table
 
@@ -42,14 +42,7 @@ set_long [] table rows = refl
 set_long (first ∷ more) zero rows = refl
 set_long (first ∷ more) (suc n) rows = ap suc (set_long more n rows)
 
-itself : (n : ℕ) → (n == n) ≡ true
-itself n = grind (arith, rules)
-
 -- ---- changes that are put back
-
-both_hold : (a b : Bool) → (a && b) ≡ true → (a ≡ true) × (b ≡ true)
-both_hold true b e = (refl, e)
-both_hold false b e = cc
 
 module _ (mine : Change → Bool) (table : ℕ) where
   abbrev own : Change → Bool
@@ -72,14 +65,14 @@ module _ (mine : Change → Bool) (table : ℕ) where
           let other : (change.table == table) ≡ false = ap (λ b. b && (change.table == table)) (sym is) ∙ not_own in
           behind
           ∙ set_other tables change.table table change.before (λ same. clash (change.table == table)
-          (ap (λ n. n == table) same ∙ itself table) other)
+          (ap (λ n. n == table) same ∙ number_itself table) other)
       by false is not_own behind others = others
 
   brought_back : (newer older : List Change) (change : Change) (tables : Tables) → own change ≡ true
       → list_any own older ≡ false → table < length tables
       → at (put_back (filter mine (newer ++ change ∷ older)) tables) table ≡ change.before
   brought_back [] older change tables is none low =
-      let two = both_hold (mine change) (change.table == table) is in
+      let two = and_both (mine change) (change.table == table) is in
       ap (λ b. at (put_back (cond b (change ∷ filter mine older) (filter mine older)) tables) table) two.0
       ∙ untouched older (slice_set tables change.table change.before) none
       ∙ same_table (same_number change.table table two.1)
@@ -138,7 +131,7 @@ changed s table tx (first ∷ more) removed added = by (first == table) refl
         )
     by false is =
         inl (set_other s.tables first table _ (λ same. clash (first == table)
-        (ap (λ n. n == table) same ∙ itself table) is))
+        (ap (λ n. n == table) same ∙ number_itself table) is))
 
 finishes : (s : State) (table : ℕ) (member : Member) (statement : Statement Value) (outcome : Outcome)
     → IsNoted s (finished s member statement outcome) table
