@@ -8,11 +8,7 @@ use Rattle.ent_serializability.specs.Faithful.{is_used}
 use Rattle.ent_serializability.specs.Present.{AreApart, UsesAreApart}
 use Rattle.ent_serializability.specs.Conflicts.{AreInConflict, ConflictsStandInGroups}
 use Rattle.ent_lists.specs.Elements.{any_in, clash, in_either}
-use Rattle.ent_lists.specs.Elements.{contains_in, in_contains, same_number, number_itself}
-
-both : (a b : Bool) → (a && b) ≡ true → (a ≡ true) × (b ≡ true)
-both true b e = (refl, e)
-both false b e = cc (e)
+use Rattle.ent_lists.specs.Elements.{contains_in, in_contains, same_number, number_itself, and_both}
 
 -- of two uses in conflict one is exclusive
 one_exclusive : (one other : Mode) → in_conflict one other ≡ true
@@ -23,7 +19,7 @@ one_exclusive Exclusive other e = inl refl
 
 no_conflict : (one other : Member) → AreApart one other → AreInConflict one other → ⊥
 no_conflict one other apart conflict =
-    let two = both (conflict.first.table == conflict.second.table)
+    let two = and_both (conflict.first.table == conflict.second.table)
     (in_conflict conflict.first.mode conflict.second.mode) conflict.conflict in
     let table = conflict.first.table in
     let same : (conflict.second.table == table) ≡ true =

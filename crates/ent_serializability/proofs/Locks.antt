@@ -11,7 +11,7 @@ use Rattle.ent_protocol.specs.Uses.{uses_conflict, is_conflicting, not_passed, c
 use Rattle.ent_protocol_laws.specs.Numbered.{from_inserted, to_inserted, from_by_number, to_by_number}
 use Rattle.ent_serializability.specs.Faithful.{is_used, is_owned}
 use Rattle.ent_lists.specs.Elements.{In, Pairs, Same, of_all, to_all, any_none, any_some, any_in, in_first, in_second}
-use Rattle.ent_lists.specs.Elements.{to_filter, clash, not_so, same_number, number_itself, other_number}
+use Rattle.ent_lists.specs.Elements.{to_filter, clash, not_so, same_number, number_itself, other_number, and_both}
 use Rattle.ent_serializability.proofs.Frame.{Apart}
 use Rattle.ent_serializability.proofs.Operations.{HoldsUses}
 
@@ -96,14 +96,10 @@ uses_table table own = own.table == table
 abbrev owns_table : ℕ → Use → Bool
 owns_table table own = (own.table == table) && (mode_rank own.mode == 1)
 
-both : (a b : Bool) → (a && b) ≡ true → (a ≡ true) × (b ≡ true)
-both true b e = (refl, e)
-both false b e = cc
-
 one_use : (own other : Use) → same_use own other ≡ true
     → (own.table ≡ other.table) × (mode_rank own.mode ≡ mode_rank other.mode)
 one_use own other e =
-    let r = both (own.table == other.table) (mode_rank own.mode == mode_rank other.mode) e in
+    let r = and_both (own.table == other.table) (mode_rank own.mode == mode_rank other.mode) e in
     (same_number own.table other.table r.0, same_number (mode_rank own.mode) (mode_rank other.mode) r.1)
 
 pub used_got : (asked uses : List Use) (table : ℕ) → is_used asked table ≡ true
@@ -183,14 +179,14 @@ free_of asked holder out table = (
   λ owned. not_so (is_used holder.uses table) (λ used.
       let own = any_some (owns_table table) asked owned in
       let other = any_some (uses_table table) holder.uses used in
-      let two = both (own.0.table == table) (mode_rank own.0.mode == 1) own.2 in
+      let two = and_both (own.0.table == table) (mode_rank own.0.mode == 1) own.2 in
       clash (uses_conflict own.0 other.0)
       (conflict_is own.0 other.0 table two.0 other.2 (exclusive_first own.0.mode other.0.mode two.1))
       (none own.0 own.1 other.0 other.1)),
   λ owned. not_so (is_used asked table) (λ used.
       let own = any_some (uses_table table) asked used in
       let other = any_some (owns_table table) holder.uses owned in
-      let two = both (other.0.table == table) (mode_rank other.0.mode == 1) other.2 in
+      let two = and_both (other.0.table == table) (mode_rank other.0.mode == 1) other.2 in
       clash (uses_conflict own.0 other.0)
       (conflict_is own.0 other.0 table own.2 two.0 (exclusive_second own.0.mode other.0.mode two.1))
       (none own.0 own.1 other.0 other.1)),

@@ -1,6 +1,6 @@
 -- Every state that is reached keeps what the opening's own state has.
 use Rattle.std.proofs.Common.{◌≡◌, inl, inr, ℕ, zero, suc, ◌==◌, Bool, true, false, ◌||◌, List, [], ◌∷◌, map, refl}
-use Rattle.std.proofs.Common.{sym, ap, subst, ◌∙◌, not, Option, Some, None, Result, Ok, Err}
+use Rattle.std.proofs.Common.{sym, ap, subst, ◌∙◌, Option, Some, None, Result, Ok, Err}
 use Rattle.std.specs.List.{AllByRecursion, list_any}
 use Rattle.ent_value.specs.declared.value.Value.{Value}
 use Rattle.ent_tree.specs.declared.script.Script.{Script}
@@ -43,7 +43,7 @@ use Rattle.ent_serializability.proofs.Stands.{lends, posts, prepares}
 use Rattle.ent_serializability.proofs.Left.{commits}
 use Rattle.ent_serializability.proofs.Finished.{finishes_by}
 use Rattle.ent_serializability.proofs.Joined.{joins}
-use Rattle.ent_lists.specs.Elements.{contains_in, in_contains, same_number}
+use Rattle.ent_lists.specs.Elements.{contains_in, in_contains, same_number, turned}
 use Rattle.ent_serializability.proofs.Aside.{with_jobs, picks, present_all, component_on}
 use Rattle.ent_serializability.proofs.Aside.{queries_apart, queries_some, groups_answered}
 use Rattle.ent_serializability.proofs.Runs.{submits, starts, rolls_back, ends, kept_opened}
@@ -116,11 +116,7 @@ module _ {F : Type 0} (forms : Forms F) (laws : Laws) where
       → (prepared.running ≡ false → ⊥) → Kept forms new
   commit prepared group true reply new is step kept on =
       as_is _ new step.1
-      (commits forms laws prepared kept group (unready (list_any (is_of group) prepared.active) is) on)
-    where
-      unready : (b : Bool) → not b ≡ true → b ≡ false
-      unready true e = sym e
-      unready false e = refl
+      (commits forms laws prepared kept group (turned (list_any (is_of group) prepared.active) is) on)
   commit prepared group false reply new is step kept on = as_is prepared new step.1 kept
 
   next_step : (s : State) (m : Member) (is : Next) (reply : Reply F) (new : State) → next_of s m ≡ is

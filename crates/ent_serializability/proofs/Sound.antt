@@ -16,7 +16,7 @@ use Rattle.ent_lists.specs.Elements.{In, Pairs, of_all, to_all, all_by, all_join
 use Rattle.ent_lists.specs.Elements.{filter_empty, filter_joined, same_parted, pairs_of, pairs_filtered, pairs_joined}
 use Rattle.ent_lists.specs.Elements.{pairs_first, pairs_second, pairs_across, pairs_parted, pairs_by, in_first}
 use Rattle.ent_lists.specs.Elements.{in_second, in_either, all_first, all_second, any_none, any_some, clash, turned}
-use Rattle.ent_lists.specs.Elements.{not_so, number_itself, other_number}
+use Rattle.ent_lists.specs.Elements.{not_so, number_itself, other_number, and_both}
 use Rattle.ent_serializability.proofs.Frame.{Laws, IsCovered, Apart, apart_turned, owned, owned_used, gather}
 use Rattle.ent_serializability.proofs.Frame.{serial_joined}
 use Rattle.ent_serializability.proofs.Frame.{serial_parts, serial_kept}
@@ -185,10 +185,6 @@ module _ (declared : List Create) (laws : Laws) (base : Database) (ps us : List 
   abbrev touches : Name → History → Bool
   touches name x = gone x.member.tx && owned declared x.member.uses name
 
-  both : (a b : Bool) → (a && b) ≡ true → (a ≡ true) × (b ≡ true)
-  both true b e = (refl, e)
-  both false b e = cc
-
   not_both : (a b : Bool) → (a && b) ≡ false → a ≡ true → b ≡ false
   not_both true b e is = e
   not_both false b e is = cc
@@ -199,7 +195,7 @@ module _ (declared : List Create) (laws : Laws) (base : Database) (ps us : List 
       by : (b : Bool) → list_any (touches name) (ps ++ us) ≡ b → IsChanged name ⊎ IsKept name
       by true is =
           let r = any_some (touches name) (ps ++ us) is in
-          let two = both (gone r.0.member.tx) (owned declared r.0.member.uses name) r.2 in
+          let two = and_both (gone r.0.member.tx) (owned declared r.0.member.uses name) r.2 in
           inl (record { by = r.0; at = r.1; goes = two.0; owns = two.1 })
       by false is =
           inr (λ x at goes. not_both (gone x.member.tx) (owned declared x.member.uses name)
