@@ -11,6 +11,7 @@ use Rattle.ent_protocol.specs.State.{State, Submitted, Member}
 use Rattle.ent_semantics.specs.Serial.{numbered}
 use Rattle.ent_termination.proofs.PostedQueries.{AreAsked, AskTheSame}
 use Rattle.ent_lists.specs.Elements.{In, Pairs, clash, number_itself, of_filter, of_map, same_number, to_filter, to_map}
+use Rattle.ent_lists.specs.Elements.{turned}
 use Rattle.ent_termination.proofs.ReachedStates.{member_tx}
 
 -- what a member asks depends on the scripts alone
@@ -98,14 +99,10 @@ module _ (s new : State) (m own : Member) (active : new.active ≡ map (replaced
         down = λ a there. let r = others_ask a there in (r.0, ap not r.1);
         up = λ a there kept. elim (asked_before a there) [
           | inl here ↦
-              clash (a.tx == m.tx) (ap (λ n. n == m.tx) here.0 ∙ number_itself m.tx) (falls (a.tx == m.tx) kept)
+              clash (a.tx == m.tx) (ap (λ n. n == m.tx) here.0 ∙ number_itself m.tx) (turned (a.tx == m.tx) kept)
           | inr old ↦ old
         ];
       }
-    where
-      falls : (b : Bool) → not b ≡ true → b ≡ false
-      falls true e = sym e
-      falls false e = refl
 
 -- who prepares asks nothing
 pub prepared_asks : (s : State) (m : Member) → Pairs (Below member_tx) s.active → In m s.active → m.posted ≡ false
