@@ -1,6 +1,6 @@
 -- The tables that statements use are declared.
-use Rattle.std.proofs.Common.{◌≡◌, ◌⊎◌, ◌<◌, ℕ, zero, suc, Bool, true, false, cond, List, [], ◌∷◌, ◌++◌, length, map}
-use Rattle.std.proofs.Common.{refl, sym, ap, subst, inl, inr, arith, nat_lt, All, Contains, Option, Some, None, Ok}
+use Rattle.std.proofs.Common.{◌≡◌, ◌⊎◌, ◌<◌, ℕ, suc, Bool, true, false, cond, List, [], ◌∷◌, ◌++◌, length, map}
+use Rattle.std.proofs.Common.{refl, sym, ap, subst, inl, inr, arith, All, Contains, Option, Some, None, Ok}
 use Rattle.std.specs.Prelude.{slice_index_or}
 use Rattle.std.specs.List.{AllByRecursion, flat_map, list_any}
 use Rattle.ent_value.specs.declared.value.Value.{Value}
@@ -33,18 +33,15 @@ use Rattle.ent_protocol.specs.PostedBy.{in_pool, is_present}
 use Rattle.ent_protocol.specs.State.{State, Submitted, Member, Use, inserted}
 use Rattle.ent_protocol.specs.Uses.{entangled_uses, shared, statement_uses}
 use Rattle.ent_protocol.specs.Waits.{next_uses}
+use Rattle.ent_protocol_laws.specs.Numbered.{from_inserted}
 use Rattle.ent_headline.specs.Resolved.{resolved_forms}
-use Rattle.ent_lists.specs.Elements.{In, contains_in, in_either, in_flat, of_all}
+use Rattle.ent_lists.specs.Elements.{In, contains_in, in_either, in_flat, of_all, all_joined, nth_in}
+use Rattle.ent_lists.specs.Elements.{all_first, all_second}
 use Rattle.ent_headline.proofs.Lists.{numbered_in}
 use Rattle.ent_headline.proofs.Places.{statements_given}
 use Rattle.ent_headline.proofs.Steps.{bound_given, one_answer}
 
 -- ---- lists
-
-nth_in : {X : Type 0} (xs : List X) (k : ℕ) (d : X) → k < length xs → In (slice_index_or xs k d) xs
-nth_in [] k d low = absurd (omega (arith, low))
-nth_in (x ∷ xs) zero d low = inl refl
-nth_in (x ∷ xs) (suc k) d low = inr (nth_in xs k d (omega (arith, low)))
 
 pub index_all : {X : Type 0} (P : X → Type 0) (xs : List X) → ((x : X) → In x xs → P x) → All P xs
 index_all P xs f = λ k d low. f (slice_index_or xs k d) (nth_in xs k d low)
@@ -54,19 +51,6 @@ of_index P [] x all at = absurd at
 of_index P (y ∷ ys) x all (inl same) = subst P (sym same) (all 0 x (omega arith))
 of_index P (y ∷ ys) x all (inr at) = of_index P ys x (λ k d low. all (suc k) d (omega (arith, low))) at
 
-from_inserted : (own : Use) (xs : List Use) (y : Use) → In y (inserted use_rank own xs) → (y ≡ own) ⊎ In y xs
-from_inserted own [] y (inl same) = inl same
-from_inserted own [] y (inr bad) = absurd bad
-from_inserted own (z ∷ xs) y at =
-    by (nat_lt (use_rank own) (use_rank z)) at (λ (h : In y (inserted use_rank own xs)). from_inserted own xs y h)
-  where
-    by : (b : Bool) → In y (cond b (own ∷ z ∷ xs) (z ∷ inserted use_rank own xs))
-        → (In y (inserted use_rank own xs) → (y ≡ own) ⊎ In y xs) → (y ≡ own) ⊎ In y (z ∷ xs)
-    by true (inl same) rest = inl same
-    by true (inr more) rest = inr more
-    by false (inl same) rest = inr (inl same)
-    by false (inr more) rest = elim (rest more) [ inl a ↦ inl a | inr b ↦ inr (inr b) ]
-
 -- a use that is held was held before or is asked for
 of_uses : (asked held : List Use) (y : Use) → In y (with_uses asked held) → In y asked ⊎ In y held
 of_uses [] held y at = inr at
@@ -74,7 +58,7 @@ of_uses (own ∷ more) held y at =
     by (list_any (same_use own) held) at (of_uses more held y)
     (λ there. elim (of_uses more (inserted use_rank own held) y there) [
       | inl a ↦ inl (inr a)
-      | inr b ↦ elim (from_inserted own held y b) [ inl same ↦ inl (inl same) | inr before ↦ inr before ]
+      | inr b ↦ elim (from_inserted use_rank own held y b) [ inl same ↦ inl (inl same) | inr before ↦ inr before ]
     ])
   where
     by : (b : Bool) → In y (with_uses more (cond b held (inserted use_rank own held)))
@@ -97,26 +81,16 @@ shared_below : (n : ℕ) (sources : List ℕ) → AllByRecursion (λ number. num
 shared_below n [] all = tt
 shared_below n (source ∷ sources) all = (all.0, shared_below n sources all.1)
 
-all_joined : {X : Type 0} (P : X → Type 0) (xs ys : List X) → AllByRecursion P xs → AllByRecursion P ys
-    → AllByRecursion P (xs ++ ys)
-all_joined P [] ys h k = k
-all_joined P (x ∷ xs) ys h k = (h.0, all_joined P xs ys h.1 k)
-
-all_parted : {X : Type 0} (P : X → Type 0) (xs ys : List X) → AllByRecursion P (xs ++ ys)
-    → AllByRecursion P xs × AllByRecursion P ys
-all_parted P [] ys h = (tt, h)
-all_parted P (x ∷ xs) ys h = let rest = all_parted P xs ys h.1 in ((h.0, rest.0), rest.1)
-
 atoms_below : (n : ℕ) (atoms : List (Membership Value))
     → AllByRecursion (λ number. number < n) (flat_map (λ atom. atom.select.sources) atoms)
     → AllByRecursion (Below n)
     (flat_map (λ (membership : Membership Value). map shared membership.select.sources) atoms)
 atoms_below n [] all = tt
 atoms_below n (atom ∷ atoms) all =
-    let parts = all_parted (λ (number : ℕ). number < n) atom.select.sources
-    (flat_map (λ (a : Membership Value). a.select.sources) atoms) all in
-    all_joined (Below n) (map shared atom.select.sources) _ (shared_below n atom.select.sources parts.0)
-    (atoms_below n atoms parts.1)
+    let rest = flat_map (λ (a : Membership Value). a.select.sources) atoms in
+    all_joined (Below n) (map shared atom.select.sources) _
+    (shared_below n atom.select.sources (all_first (λ (number : ℕ). number < n) atom.select.sources rest all))
+    (atoms_below n atoms (all_second (λ (number : ℕ). number < n) atom.select.sources rest all))
 
 uses_below : (n : ℕ) (statement : Statement Value)
     → AllByRecursion (λ number. number < n) (tables_named statement)

@@ -42,6 +42,7 @@ use Rattle.ent_form.specs.Scope.{Scope, with_source, source_place, sources_from,
 use Rattle.ent_form.specs.Scope.{table_scope}
 use Rattle.ent_form.specs.Steps.{there}
 use Rattle.ent_serializability.specs.Faithful.{number_of, IsFaithfulEntangled, AreAlike}
+use Rattle.ent_lists.specs.Elements.{all_joined}
 use Rattle.ent_headline.proofs.FittedRows.{row_long, image_long}
 use Rattle.ent_headline.proofs.Numbers.{width_numbered, Found, found_named, found_in}
 use Rattle.ent_headline.proofs.Steps.{one_answer, bound_given, demand_given, there_given}
@@ -69,11 +70,6 @@ module _ (creates : List Create) where
   pub record Named (names : List Name) (tables : List ℕ) : Type 0 where
     pub numbers : tables ≡ map (number_of creates) names
     pub declared : AllByRecursion (λ name. number_of creates name < length creates) names
-
-  all_joined : {A : Type 0} (P : A → Type 0) (xs ys : List A)
-      → AllByRecursion P xs → AllByRecursion P ys → AllByRecursion P (xs ++ ys)
-  all_joined P [] ys h k = k
-  all_joined P (x ∷ xs) ys h k = (h.0, all_joined P xs ys h.1 k)
 
   none_named : Named [] []
   none_named = record { numbers = refl; declared = tt }

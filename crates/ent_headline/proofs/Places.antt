@@ -21,7 +21,7 @@ use Rattle.ent_protocol.specs.Reached.{IsReached, settled}
 use Rattle.ent_protocol.specs.State.{State, Submitted, Member}
 use Rattle.ent_headline.specs.Resolved.{resolved_forms}
 use Rattle.ent_headline.specs.Kinds.{bound_behind, HasKindsThere}
-use Rattle.ent_lists.specs.Elements.{In, of_all, contains_in, in_contains, of_map}
+use Rattle.ent_lists.specs.Elements.{In, of_all, contains_in, in_contains, of_map, all_joined, all_by}
 use Rattle.ent_headline.proofs.Lists.{numbered_in}
 use Rattle.ent_headline.proofs.Posted.{plain_given}
 use Rattle.ent_headline.proofs.Replayed.{Laws, Stands, run_kept, of_both}
@@ -34,16 +34,6 @@ no_kinds name kind e = cc
 all_taken : {A B : Type 0} (f : A → B) (xs : List A) → map f xs ≡ take (length xs) (map f xs)
 all_taken f [] = refl
 all_taken f (x ∷ xs) = ap (λ more. f x ∷ more) (all_taken f xs)
-
-and_both : {X : Type 0} (P : X → Type 0) (xs ys : List X) → AllByRecursion P xs → AllByRecursion P ys
-    → AllByRecursion P (xs ++ ys)
-and_both P [] ys h k = k
-and_both P (x ∷ xs) ys h k = (h.0, and_both P xs ys h.1 k)
-
-each : {X : Type 0} (P Q : X → Type 0) → ((x : X) → P x → Q x) → (xs : List X) → AllByRecursion P xs
-    → AllByRecursion Q xs
-each P Q f [] h = tt
-each P Q f (x ∷ xs) h = (f x h.0, each P Q f xs h.1)
 
 -- what was done is a beginning of a script that was submitted
 record Begins (all : List Submitted) (history : History) : Type 0 where
@@ -130,14 +120,16 @@ kinds_there laws s opens reached state member there =
     × (statements_from (schemas_of creates) none_bound [] own.script.statements ≡ Ok out) =
     λ own at. (own.form, statements_given s reached own at) in
     let whole = of_both (IsWhole s.submitted) state.committed state.prepared state.whole in
-    let begun = each (IsWhole s.submitted) (Begins s.submitted) (of_whole s.submitted) in
-    let others = each (Follows s.submitted) (Begins s.submitted) (of_follow s.submitted) state.others state.follow in
+    let committed =
+    all_by (IsWhole s.submitted) (Begins s.submitted) state.committed (of_whole s.submitted) whole.0 in
+    let prepared = all_by (IsWhole s.submitted) (Begins s.submitted) state.prepared (of_whole s.submitted) whole.1 in
+    let others = all_by (Follows s.submitted) (Begins s.submitted) state.others (of_follow s.submitted) state.follow in
     let earlier = serial laws creates opens.apart s.submitted resolved state.committed (opening_database s.opening)
-    (database_of creates (settled s)) (begun state.committed whole.0)
+    (database_of creates (settled s)) committed
     (record { tables = opening_tables s.opening; kinded = opens.kinded; is = sym opens.is }) state.settles in
     let now = serial laws creates opens.apart s.submitted resolved (state.prepared ++ state.others)
     (database_of creates (settled s)) (database_of creates s.tables)
-    (and_both (Begins s.submitted) state.prepared state.others (begun state.prepared whole.1) others) earlier.0
+    (all_joined (Begins s.submitted) state.prepared state.others prepared others) earlier.0
     state.stands in
     let known = (of_both (IsKnown laws creates opens.apart s.submitted resolved) state.prepared state.others now.1).1 in
     let at = of_map (λ (history : History). history.member) state.others member

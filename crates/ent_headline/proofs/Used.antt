@@ -1,6 +1,6 @@
 -- The uses of a closed form, by the names that its statement uses.
-use Rattle.std.proofs.Common.{◌≡◌, ℕ, ◌<◌, Bool, true, false, ◌||◌, ◌&&◌, List, [], ◌∷◌, ◌++◌, length, map, refl, sym}
-use Rattle.std.proofs.Common.{ap, subst, ◌∙◌, inl, inr, ◌⊎◌, arith, rules}
+use Rattle.std.proofs.Common.{◌≡◌, ℕ, ◌<◌, Bool, true, false, ◌&&◌, List, [], ◌∷◌, ◌++◌, length, map, refl, sym}
+use Rattle.std.proofs.Common.{ap, subst, ◌∙◌, inl, inr}
 use Rattle.std.specs.Prelude.{◌==◌}
 use Rattle.std.specs.List.{AllByRecursion, flat_map, list_any}
 use Rattle.std.proofs.lemmas.Bool.{eqb-true, or_right}
@@ -21,6 +21,7 @@ use Rattle.ent_semantics.specs.Uses.{is_among}
 use Rattle.ent_protocol.specs.State.{Use}
 use Rattle.ent_protocol.specs.Uses.{shared, exclusive, statement_uses}
 use Rattle.ent_serializability.specs.Faithful.{number_of, is_used, is_owned}
+use Rattle.ent_lists.specs.Elements.{number_itself, or_cases, or_first}
 use Rattle.ent_headline.proofs.Named.{read_by, changed_by}
 
 -- ---- what a closed form uses
@@ -49,17 +50,6 @@ uses_are environment (forms.Set variable expression) = refl
 
 -- ---- uses of tables under some names
 
-number_itself : (a : ℕ) → (a == a) ≡ true
-number_itself a = grind (arith, rules)
-
-or_cases : (a b : Bool) → (a || b) ≡ true → (a ≡ true) ⊎ (b ≡ true)
-or_cases true b e = inl refl
-or_cases false b e = inr e
-
-or_left : (a b : Bool) → a ≡ true → (a || b) ≡ true
-or_left true b e = refl
-or_left false b e = cc
-
 and_left : (a b : Bool) → (a && b) ≡ true → a ≡ true
 and_left true b e = refl
 and_left false b e = e
@@ -77,7 +67,7 @@ module _ (creates : List Create) where
   passing test make name is [] there = cc
   passing test make name is (first ∷ names) there =
       elim (or_cases (same_name first name) (is_among names name) there) [
-        | inl here ↦ or_left (test (make (number_of creates first))) (list_any test (map make (numbers names)))
+        | inl here ↦ or_first (test (make (number_of creates first))) (list_any test (map make (numbers names)))
             (ap (λ (n : Name). test (make (number_of creates n))) (equal_names first name here) ∙ is)
         | inr more ↦ or_right (test (make (number_of creates first))) (list_any test (map make (numbers names)))
             (passing test make name is names more)
@@ -106,7 +96,7 @@ module _ (creates : List Create) where
         list_any-append test (map shared (numbers reads)) (map exclusive (numbers changes))
         ∙ elim (or_cases (is_among reads name) (is_among changes name)
         (sym (list_any-append (λ table. same_name table name) reads changes) ∙ there)) [
-          | inl here ↦ or_left _ _ (passing test shared name is reads here)
+          | inl here ↦ or_first _ _ (passing test shared name is reads here)
           | inr more ↦ or_right _ _ (passing test exclusive name is changes more)
         ]
 
