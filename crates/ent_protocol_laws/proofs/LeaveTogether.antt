@@ -25,6 +25,7 @@ use Rattle.ent_lists.specs.Elements.{any_none, number_itself, to_filter, turned}
 use Rattle.ent_protocol_laws.specs.Numbered.{from_by_number, to_by_number}
 use Rattle.ent_protocol_laws.proofs.Left.{in_among, tx_of}
 use Rattle.ent_protocol_laws.proofs.Members.{among_in, is_in_run, of_run, same_member}
+use Rattle.ent_protocol_laws.proofs.Places.{replaced_tx}
 
 -- where one leaves, the others of its group do
 abbrev LeaveTogether : State → Bool → State → Type 0
@@ -47,13 +48,6 @@ not_there : (new : State) (m : Member) → (Stays new m → ⊥) → is_member n
 not_there new m none = not_so (is_member new m.tx) (λ is. none (of_run new m.tx is))
 
 -- ---- members that go on
-
-replaced_tx : (new m : Member) → (replaced new m).tx ≡ m.tx
-replaced_tx new m = by (m.tx == new.tx) refl
-  where
-    by : (b : Bool) → (m.tx == new.tx) ≡ b → (cond b new m).tx ≡ m.tx
-    by true is = sym (same_number m.tx new.tx is)
-    by false is = refl
 
 -- others of their numbers in their places
 mapped : (s new : State) (f g : Member → Member) → ((m : Member) → (f m).tx ≡ m.tx) → ((m : Member) → (g m).tx ≡ m.tx)

@@ -111,7 +111,7 @@ replaced_other : (new x : Member) → (x.tx ≡ new.tx → ⊥) → replaced new
 replaced_other new x differs =
     ap (λ b. cond b new x) (not_so (x.tx == new.tx) (λ e. differs (same_number x.tx new.tx e)))
 
-replaced_here : (new x : Member) → x.tx ≡ new.tx → replaced new x ≡ new
+pub replaced_here : (new x : Member) → x.tx ≡ new.tx → replaced new x ≡ new
 replaced_here new x same = ap (λ b. cond b new x) (ap (λ n. n == new.tx) same ∙ number_itself new.tx)
 
 -- one of another transaction
