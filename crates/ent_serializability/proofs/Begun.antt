@@ -11,6 +11,8 @@ use Rattle.ent_protocol.specs.Member.{is_single_of, is_lent}
 use Rattle.ent_protocol.specs.Run.{Forms}
 use Rattle.ent_protocol.specs.State.{State, Member, Use}
 use Rattle.ent_protocol.specs.Uses.{blocker}
+use Rattle.ent_protocol_laws.proofs.Lent.{replaced_here}
+use Rattle.ent_protocol_laws.proofs.Places.{replaced_tx}
 use Rattle.ent_serializability.specs.Faithful.{number_of, is_used, is_owned}
 use Rattle.ent_serializability.specs.History.{History, Replays}
 use Rattle.ent_serializability.specs.SerialState.{Follows, IsWhole}
@@ -23,8 +25,8 @@ use Rattle.ent_serializability.proofs.Locks.{holds_more, used_from, free_active,
 use Rattle.ent_serializability.proofs.Jobs.{JobRight, OtherJob, Stays, jobs_moved, stays_as_is}
 use Rattle.ent_serializability.proofs.Asks.{history_asks}
 use Rattle.ent_serializability.proofs.Joints.{JointsStand, stand_moved}
-use Rattle.ent_serializability.proofs.Kept.{Kept, PostedHolds, member_of, kept_mapped, replaced_here, replaced_other}
-use Rattle.ent_serializability.proofs.Kept.{replaced_tx, map_unchanged, one_history, active_at, prepared_at, in_all}
+use Rattle.ent_serializability.proofs.Kept.{Kept, PostedHolds, member_of, kept_mapped, replaced_other}
+use Rattle.ent_serializability.proofs.Kept.{map_unchanged, one_history, active_at, prepared_at, in_all}
 use Rattle.ent_serializability.proofs.Kept.{one_member}
 
 -- a member that takes uses, and is posted or not

@@ -17,6 +17,8 @@ use Rattle.ent_protocol.specs.Member.{Ordinary, next_of, environment_of, is_sing
 use Rattle.ent_protocol.specs.Run.{Forms}
 use Rattle.ent_protocol.specs.State.{State, Member}
 use Rattle.ent_protocol.specs.Uses.{statement_uses}
+use Rattle.ent_protocol_laws.proofs.Lent.{replaced_here}
+use Rattle.ent_protocol_laws.proofs.Places.{replaced_tx}
 use Rattle.ent_serializability.specs.Faithful.{is_used, is_owned, AreFaithful}
 use Rattle.ent_serializability.specs.History.{History}
 use Rattle.ent_serializability.specs.SerialState.{Follows}
@@ -35,7 +37,7 @@ use Rattle.ent_serializability.proofs.Jobs.{Stays, Moves, jobs_moved, stays_as_i
 use Rattle.ent_serializability.proofs.Asks.{asks_at, asks_of, history_asks, asks_pushed, replays_in}
 use Rattle.ent_serializability.proofs.Joints.{Was, stand_moved, unchanged}
 use Rattle.ent_serializability.proofs.Kept.{Kept, OtherMember, PostedHolds, member_of, history_of, active_at, in_all}
-use Rattle.ent_serializability.proofs.Kept.{one_history, one_member, replaced_here, replaced_other, replaced_tx}
+use Rattle.ent_serializability.proofs.Kept.{one_history, one_member, replaced_other}
 use Rattle.ent_serializability.proofs.Stands.{ordinary_next, follows_of}
 
 module _ {F : Type 0} (forms : Forms F) (laws : Laws) (s : State) (kept : Kept forms s) (x : History)

@@ -1,5 +1,5 @@
 -- What holds of every state that is reached.
-use Rattle.std.proofs.Common.{◌≡◌, ◌≤◌, ℕ, zero, suc, ◌==◌, Bool, true, false, cond, List, [], ◌∷◌, ◌++◌, map, length}
+use Rattle.std.proofs.Common.{◌≡◌, ◌≤◌, ℕ, zero, suc, ◌==◌, true, false, cond, List, [], ◌∷◌, ◌++◌, map, length}
 use Rattle.std.proofs.Common.{refl, sym, ap, subst, ◌∙◌, inl, inr, arith, Some, Ok, slice_get}
 use Rattle.std.specs.List.{AllByRecursion}
 use Rattle.ent_value.specs.declared.value.Value.{Value}
@@ -22,7 +22,7 @@ use Rattle.ent_serializability.specs.History.{History, AreSerial}
 use Rattle.ent_serializability.specs.SerialState.{Follows, IsWhole}
 use Rattle.ent_serializability.proofs.Joints.{JointsStand}
 use Rattle.ent_lists.specs.Elements.{In, Pairs, Same, of_all, to_all, all_map, all_joined, all_first, all_second}
-use Rattle.ent_lists.specs.Elements.{of_map, to_map, in_second, in_either, pairs_map, same_number, number_itself}
+use Rattle.ent_lists.specs.Elements.{of_map, to_map, in_second, in_either, pairs_map}
 use Rattle.ent_serializability.proofs.Frame.{Laws}
 use Rattle.ent_serializability.proofs.Sound.{Sound, Fit}
 use Rattle.ent_serializability.proofs.Acts.{Keeps, sound_mapped, pairs_within}
@@ -196,19 +196,8 @@ module _ {F : Type 0} (forms : Forms F) (laws : Laws) (s : State) (kept : Kept f
 
 -- ---- one member in the place of another
 
-pub replaced_here : (new member : Member) → member.tx ≡ new.tx → replaced new member ≡ new
-replaced_here new member same =
-    ap (λ b. cond b new member) (ap (λ n. n == new.tx) same ∙ number_itself new.tx)
-
 pub replaced_other : (new member : Member) → (member.tx == new.tx) ≡ false → replaced new member ≡ member
 replaced_other new member is = ap (λ b. cond b new member) is
-
-pub replaced_tx : (new member : Member) → (replaced new member).tx ≡ member.tx
-replaced_tx new member = by (member.tx == new.tx) refl
-  where
-    by : (b : Bool) → (member.tx == new.tx) ≡ b → (cond b new member).tx ≡ member.tx
-    by true is = sym (same_number member.tx new.tx is)
-    by false is = refl
 
 -- two members of one number are one
 pub one_history : (xs : List History) (x y : History) → Pairs Fit xs → In x xs → In y xs

@@ -7,18 +7,20 @@ use Rattle.ent_semantics.specs.Serial.{numbered}
 use Rattle.ent_semantics.specs.declared.book.Fated.{Fated}
 use Rattle.ent_protocol.specs.Commit.{committing, committing_members, commit_fates, entry_of}
 use Rattle.ent_protocol.specs.Job.{Job, Work, One, Joint}
-use Rattle.ent_protocol.specs.Member.{is_of, is_tx, is_single_of}
+use Rattle.ent_protocol.specs.Member.{is_of, is_single_of}
 use Rattle.ent_protocol.specs.Rollback.{Cause, fated_by, is_among, goes_with, dormant_by, taken_out, put_back}
 use Rattle.ent_protocol.specs.Run.{Forms}
 use Rattle.ent_protocol.specs.State.{State, Submitted, Member, Dormant, members, by_number}
+use Rattle.ent_protocol_laws.proofs.Left.{in_among}
+use Rattle.ent_protocol_laws.proofs.Members.{among_in}
 use Rattle.ent_serializability.specs.History.{History}
 use Rattle.ent_serializability.specs.SerialState.{Follows, IsWhole}
 use Rattle.ent_serializability.specs.Faithful.{is_used}
 use Rattle.ent_lists.specs.Elements.{In, Pairs, Same, of_all, to_all, all_joined, all_first, all_second, all_filtered}
-use Rattle.ent_lists.specs.Elements.{of_filter, to_filter, in_either, in_first, any_some, any_in, any_none, of_map}
+use Rattle.ent_lists.specs.Elements.{of_filter, to_filter, in_either, in_first, any_none, of_map}
 use Rattle.ent_lists.specs.Elements.{pairs_at, pairs_joined, pairs_filtered, pairs_across, clash, turned, pairs_map}
 use Rattle.ent_lists.specs.Elements.{pairs_by, pairs_first, not_so, map_joined, map_filtered, same_filtered}
-use Rattle.ent_lists.specs.Elements.{filter_same, in_second, same_number, number_itself, differ}
+use Rattle.ent_lists.specs.Elements.{filter_same, in_second, same_number, differ}
 use Rattle.ent_serializability.proofs.Frame.{Laws, Apart, serial_joined}
 use Rattle.ent_serializability.proofs.Sound.{Fit, fit_turned, leaves, stays, HaveLeft, sound_committed, sound_taken}
 use Rattle.ent_serializability.proofs.Sound.{restored_used}
@@ -39,14 +41,6 @@ module _ {F : Type 0} (forms : Forms F) (laws : Laws) (s : State) (kept : Kept f
   -- of two in it, one that leaves and one that stays are of two groups, or are one
   pub fit_at : (x y : History) → In x all → In y all → (x ≡ y) ⊎ Fit x y
   fit_at x y at bt = pairs_at Fit fit_turned all x y kept.sound.fit at bt
-
-  pub among_in : (gone : List Member) (tx : ℕ) → is_among gone tx ≡ true → (m : Member) × In m gone × (m.tx ≡ tx)
-  among_in gone tx is =
-      let r = any_some (is_tx tx) gone is in
-      (r.0, r.1, same_number r.0.tx tx r.2)
-
-  pub in_among : (gone : List Member) (m : Member) → In m gone → is_among gone m.tx ≡ true
-  in_among gone m at = any_in (is_tx m.tx) gone m at (number_itself m.tx)
 
   -- a committed transaction isn't among members
   pub committed_stays : (gone : List Member) → ((m : Member) → In m gone → In m (members s)) → (y : History)

@@ -17,7 +17,9 @@ use Rattle.ent_protocol.specs.Reached.{opened}
 use Rattle.ent_protocol.specs.Rollback.{Cause, NoOne, is_among, taken_out, rolled_back, group_members}
 use Rattle.ent_protocol.specs.Run.{Forms, submitting, starting, ending, fresh}
 use Rattle.ent_protocol.specs.State.{State, Submitted, Dormant, Member, members, by_number}
+use Rattle.ent_protocol_laws.proofs.Left.{in_among}
 use Rattle.ent_protocol_laws.proofs.Found.{numbered_on}
+use Rattle.ent_protocol_laws.proofs.Members.{among_in}
 use Rattle.ent_serializability.specs.Faithful.{AreFaithful}
 use Rattle.ent_serializability.specs.History.{History, AreSerial}
 use Rattle.ent_serializability.specs.SerialState.{Follows, IsWhole}
@@ -33,7 +35,7 @@ use Rattle.ent_serializability.proofs.Jobs.{JobRight, WorkRight}
 use Rattle.ent_serializability.proofs.Kept.{Kept, PostedHolds, OtherDormant, OtherMember, member_of, history_of}
 use Rattle.ent_serializability.proofs.Kept.{map_map}
 use Rattle.ent_serializability.proofs.Kept.{active_at, numbered_low, prepared_at, one_history}
-use Rattle.ent_serializability.proofs.Left.{takes_out, among_in, in_among, fit_at}
+use Rattle.ent_serializability.proofs.Left.{takes_out, fit_at}
 use Rattle.ent_serializability.proofs.Asks.{history_asks}
 use Rattle.ent_serializability.proofs.Joints.{JointsStand, stand_started}
 
@@ -387,7 +389,7 @@ module _ {F : Type 0} (forms : Forms F) (laws : Laws) (s : State) (kept : Kept f
         → is_among (group_members s group) x.member.tx ≡ true
         → x.member.group ≡ group
     gone_group x at is =
-        let r = among_in forms laws s kept (group_members s group) x.member.tx is in
+        let r = among_in (group_members s group) x.member.tx is in
         let g = of_group r.0 r.1 in
         let y = member_history r.0 g.0 in
         let same = one_history (kept.prepared ++ kept.others) x y.0 kept.sound.fit at y.1
@@ -399,7 +401,7 @@ module _ {F : Type 0} (forms : Forms F) (laws : Laws) (s : State) (kept : Kept f
         → is_among (group_members s group) x.member.tx ≡ false → x.member.group ≡ group → ⊥
     stays_group x at is same =
         clash (is_among (group_members s group) x.member.tx)
-        (in_among forms laws s kept (group_members s group) x.member
+        (in_among (group_members s group) x.member
         ((by_number_same (λ (y : Member). y.tx) (filter (is_of group) (members s)) x.member).1
         (to_filter (is_of group) (members s) x.member (history_member x at)
         (ap (λ n. n == group) same ∙ number_itself group)))) is
@@ -427,7 +429,7 @@ module _ {F : Type 0} (forms : Forms F) (laws : Laws) (s : State) (kept : Kept f
         ]) closed_group
 
   pub everyone : (m : Member) → In m (members s) → is_among (members s) m.tx ≡ true
-  everyone m at = in_among forms laws s kept (members s) m at
+  everyone m at = in_among (members s) m at
 
   all_out : Kept forms (taken_out (members s) NoOne s)
   all_out =
