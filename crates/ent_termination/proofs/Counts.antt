@@ -6,6 +6,7 @@ use Rattle.std.proofs.lemmas.List.{length-append}
 use Rattle.std.proofs.lemmas.List.Sums.{sum_by-append}
 use Rattle.std.specs.List.{filter}
 use Rattle.ent_protocol_laws.specs.Numbered.{Below, one_of, below_apart, to_by_number}
+use Rattle.ent_protocol_laws.proofs.Left.{in_among}
 use Rattle.ent_semantics.specs.Entangled.{Valuation}
 use Rattle.ent_semantics.specs.Serial.{numbered}
 use Rattle.ent_coordination.specs.Pool.{Posted}
@@ -17,7 +18,7 @@ use Rattle.ent_protocol.specs.Rollback.{Cause, group_members, is_among, rolled_b
 use Rattle.ent_protocol.specs.State.{State, Submitted, Member, members}
 use Rattle.ent_termination.specs.Within.{begun, statements_behind, statements_in_run, unbegun, unbegun_of}
 use Rattle.ent_termination.proofs.LentJobs.{IsPlaced}
-use Rattle.ent_lists.specs.Elements.{In, Pairs, to_filter, any_in, in_second, shorter, same_number, number_itself}
+use Rattle.ent_lists.specs.Elements.{In, Pairs, to_filter, in_second, shorter, same_number, number_itself}
 use Rattle.ent_lists.specs.Elements.{clash}
 use Rattle.ent_termination.proofs.Lists.{shorter_without, sum_filtered, sum_without, sum_mapped_less}
 use Rattle.ent_termination.proofs.Lists.{sum_below}
@@ -102,14 +103,11 @@ one_begins all m own ms ascend at tx k less =
 pub members_counted : (s : State) → length (members s) ≡ length s.prepared + length s.active
 members_counted s = length-append s.prepared s.active
 
-among_itself : (gone : List Member) (m : Member) → In m gone → is_among gone m.tx ≡ true
-among_itself gone m at = any_in (is_tx m.tx) gone m at (number_itself m.tx)
-
 -- a group's member is one of those that leave with it
 leaves : (s : State) (m : Member) → In m s.active → not (is_among (group_members s m.group) m.tx) ≡ false
 leaves s m at =
     ap not
-    (among_itself (group_members s m.group) m
+    (in_among (group_members s m.group) m
     (to_by_number member_tx (filter (is_of m.group) (members s)) m
     (to_filter (is_of m.group) (members s) m (in_second s.prepared s.active m at) (number_itself m.group))))
 
