@@ -20,7 +20,7 @@ use Rattle.ent_form.specs.declared.catalogue.ColumnSchema.{ColumnSchema}
 use Rattle.ent_form.specs.declared.fault.FormFault.TheVariants.{Repeated}
 use Rattle.ent_form_laws.specs.Tables.{database_of}
 use Rattle.ent_form_laws.specs.Kinds.{AreKinded}
-use Rattle.ent_form_laws.proofs.KindedSteps.{not_refused, nothing_first, nothing_later}
+use Rattle.ent_form_laws.proofs.Steps.{not_refused, nothing_first, nothing_later}
 use Rattle.ent_history_form.specs.Parts.{IsRow}
 use Rattle.ent_rules.specs.Formed.{is_declared}
 use Rattle.ent_lists.specs.Elements.{In, Pairs, any_some, clash, contains_in, in_contains, neither, of_all}

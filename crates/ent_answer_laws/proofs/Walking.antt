@@ -24,7 +24,7 @@ use Rattle.ent_form.specs.declared.catalogue.TableSchema.{TableSchema}
 use Rattle.ent_form.specs.declared.fault.FormFault.{FormFault}
 use Rattle.ent_form.specs.declared.script.Plain.{Plain}
 use Rattle.ent_form_laws.specs.Kinds.{AnswersInKind}
-use Rattle.ent_form_laws.proofs.KindedSteps.{bound_given, one_answer}
+use Rattle.ent_form_laws.proofs.Steps.{bound_given, one_answer}
 use Rattle.ent_form_laws.specs.Tables.{Answers}
 use Rattle.ent_lists.specs.Elements.{clash}
 use Rattle.ent_answer_laws.proofs.Grounding.{IsAnswered}

@@ -13,9 +13,9 @@ pub mod Images
 pub mod Updating
 pub mod Statements
 pub mod Declared
-pub mod KindedSteps
 pub mod KindedRows
 pub mod Opened
+pub mod NamesApart
 pub mod Known
 pub mod Columns
 pub mod Found

@@ -24,7 +24,7 @@ use Rattle.ent_form.specs.OpeningFault.{opening_fault, refused_where, repeated}
 use Rattle.ent_form.specs.declared.fault.FormFault.TheVariants.{Repeated}
 use Rattle.ent_form_laws.specs.Kinds.{AreKinded, column_kinds}
 use Rattle.ent_form_laws.specs.Opened.{opening_tables}
-use Rattle.ent_form_laws.proofs.KindedSteps.{not_refused}
+use Rattle.ent_form_laws.proofs.Steps.{not_refused}
 use Rattle.ent_book.specs.Report.{names_by_bytes}
 use Rattle.ent_history.specs.Text.{rows_under}
 use Rattle.ent_history.specs.Told.{declared_under, opening_row, told_opening, told_rows}

@@ -16,7 +16,7 @@ use Rattle.ent_form.specs.OpeningFault.{◌before◌, declarations_fault, refuse
 use Rattle.ent_form.specs.declared.fault.FormFault.TheVariants.{Repeated}
 use Rattle.ent_form_laws.specs.Kinds.{AreKinded, column_kinds}
 use Rattle.ent_form_laws.specs.Tables.{database_of}
-use Rattle.ent_form_laws.proofs.KindedSteps.{not_refused, nothing_first, nothing_later}
+use Rattle.ent_form_laws.proofs.Steps.{not_refused, nothing_first, nothing_later}
 use Rattle.ent_lists.specs.Elements.{In, Pairs, clash, neither, nth_in, of_all}
 use Rattle.ent_protocol.specs.Reached.{named_tables}
 use Rattle.ent_renewal.specs.Renewal.{HoldsTablesOf}
