@@ -12,6 +12,7 @@ pub mod Changing
 pub mod Images
 pub mod Updating
 pub mod Statements
+pub mod Ordinary
 pub mod Declared
 pub mod KindedRows
 pub mod Opened
