@@ -30,7 +30,7 @@ use Rattle.ent_sql_laws.specs.Fits.{StatementFits}
 use Rattle.ent_history_form.specs.Answers.{IsOfSort}
 use Rattle.ent_history_form.specs.Parts.{IsRow}
 use Rattle.ent_form_laws.proofs.KindedRows.{each_ascending}
-use Rattle.ent_form_laws.proofs.KindedSteps.{one_answer}
+use Rattle.ent_form_laws.proofs.Steps.{one_answer}
 use Rattle.ent_lists.specs.Elements.{all_first}
 use Rattle.ent_report_laws.specs.Tellable.{IsAnswerTold}
 use Rattle.ent_answer_laws.specs.Answered.{CanBeCounted}

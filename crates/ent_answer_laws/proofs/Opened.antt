@@ -16,7 +16,7 @@ use Rattle.ent_form.specs.OpeningFault.{declarations_fault, first_of, opening_ro
 use Rattle.ent_history.specs.Text.{rows_under}
 use Rattle.ent_history.specs.Told.{opening_row}
 use Rattle.ent_history_form.specs.Parts.{IsRow}
-use Rattle.ent_form_laws.proofs.KindedSteps.{nothing_first}
+use Rattle.ent_form_laws.proofs.Steps.{nothing_first}
 use Rattle.ent_rules.specs.Formed.{is_declared}
 use Rattle.ent_lists.specs.Elements.{In, any_in, clash, contains_in, filter_empty, in_flat, index_pairs, not_so}
 use Rattle.ent_lists.specs.Elements.{of_all, of_map, shorter}

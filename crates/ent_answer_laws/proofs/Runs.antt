@@ -29,6 +29,7 @@ use Rattle.ent_form.specs.OpeningFault.{declarations_fault}
 use Rattle.ent_form.specs.declared.script.Plain.{Plain}
 use Rattle.ent_sql_laws.specs.Fits.{Each, StatementFits}
 use Rattle.ent_form_laws.specs.Kinds.{AnswersInKind}
+use Rattle.ent_form_laws.proofs.Ordinary.{answers_any, in_any_kind}
 use Rattle.ent_lists.specs.Elements.{In, got_in, in_contains, in_either, in_first, in_second}
 use Rattle.ent_report_laws.specs.Tellable.{AreAnswersTo}
 use Rattle.ent_answer_laws.specs.Answered.{CanBeCounted}
@@ -40,8 +41,8 @@ use Rattle.ent_answer_laws.proofs.Stepping.{IsBehind, steps_on}
 use Rattle.ent_answer_laws.proofs.Stored.{IsStored}
 use Rattle.ent_answer_laws.proofs.Values.{AreValues}
 use Rattle.ent_check_run.proofs.Along.{Resolves}
-use Rattle.ent_answer_laws.proofs.Walking.{Behind, IsReadViewTold, TakesNone, answers_any, entangled_form}
-use Rattle.ent_answer_laws.proofs.Walking.{first_behind, in_any_kind, next_behind, trees_of}
+use Rattle.ent_answer_laws.proofs.Walking.{Behind, IsReadViewTold, TakesNone, entangled_form}
+use Rattle.ent_answer_laws.proofs.Walking.{first_behind, next_behind, trees_of}
 
 pub one_run : (x y : Run) → Some x ≡ Some y → x ≡ y
 one_run x y e = cc

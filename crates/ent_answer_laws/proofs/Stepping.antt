@@ -17,7 +17,7 @@ use Rattle.ent_form.specs.Kinds.{Bound}
 use Rattle.ent_form.specs.OpeningFault.{declarations_fault}
 use Rattle.ent_sql_laws.specs.Fits.{StatementFits}
 use Rattle.ent_form_laws.specs.Kinds.{HasKinds}
-use Rattle.ent_form_laws.proofs.KindedSteps.{one_answer}
+use Rattle.ent_form_laws.proofs.Steps.{one_answer}
 use Rattle.ent_form_laws.specs.Tables.{database_of, effect_of}
 use Rattle.ent_history_form.specs.Answers.{IsOfSort}
 use Rattle.ent_report_laws.specs.Tellable.{IsAnswerTold}

@@ -2,17 +2,13 @@
 use Rattle.std.proofs.Common.{◌≡◌, ℕ, suc, ◌+◌, Bool, true, false, List, [], ◌∷◌, map, refl, sym, ap}
 use Rattle.std.proofs.Common.{subst, ◌∙◌, arith, Option, Some, None, Ok, slice_get}
 use Rattle.std.specs.List.{AllByRecursion}
-use Rattle.ent_value.specs.declared.value.Kind.{Kind}
 use Rattle.ent_tree.specs.declared.entangled.Entangled.{Entangled as TreeEntangled}
 use Rattle.ent_tree.specs.declared.script.Script.{Script}
 use Rattle.ent_tree.specs.declared.script.Statement.{Statement as TreeStatement}
 use Rattle.ent_tree.specs.declared.script.Statement.TheVariants as trees
-use Rattle.ent_semantics.specs.Database.{Environment}
 use Rattle.ent_semantics.specs.Entangled.{Valuation}
 use Rattle.ent_semantics.specs.Serial.{Operation, ReadView, operation_first, operations_of, is_entangled}
 use Rattle.ent_semantics.specs.Serial.{numbered, with_answer}
-use Rattle.ent_closed.specs.Closing.{closed}
-use Rattle.ent_closed.specs.Kinds.{Fits}
 use Rattle.ent_closed.specs.declared.entangled.Entangled.{Entangled}
 use Rattle.ent_closed.specs.declared.operand.Known.{Known}
 use Rattle.ent_closed.specs.declared.statement.Statement.{Statement}
@@ -23,9 +19,7 @@ use Rattle.ent_form.specs.Kinds.{Bound}
 use Rattle.ent_form.specs.declared.catalogue.TableSchema.{TableSchema}
 use Rattle.ent_form.specs.declared.fault.FormFault.{FormFault}
 use Rattle.ent_form.specs.declared.script.Plain.{Plain}
-use Rattle.ent_form_laws.specs.Kinds.{AnswersInKind}
-use Rattle.ent_form_laws.proofs.KindedSteps.{bound_given, one_answer}
-use Rattle.ent_form_laws.specs.Tables.{Answers}
+use Rattle.ent_form_laws.proofs.Steps.{bound_given, one_answer}
 use Rattle.ent_lists.specs.Elements.{clash}
 use Rattle.ent_answer_laws.proofs.Grounding.{IsAnswered}
 
@@ -93,24 +87,7 @@ pub first_behind : {A : Type 0} (n : ℕ) (x : A) (rest whole : List A) → Behi
 first_behind n x rest whole behind =
     let same : n ≡ n + 0 = omega arith in ap (λ (m : ℕ). slice_get whole m) same ∙ sym (behind 0)
 
--- ---- what a statement is answered by
-
-pub in_any_kind : (environment : Environment) (form : Statement Known) (valuation : Valuation)
-    (kinds : List (List Kind)) → Fits kinds (closed environment form) → AnswersInKind form valuation
-in_any_kind environment (forms.Entangled entangled) valuation kinds fits = absurd fits
-in_any_kind environment (forms.Select select) valuation kinds fits = tt
-in_any_kind environment (forms.Insert table values) valuation kinds fits = tt
-in_any_kind environment (forms.Delete table tests) valuation kinds fits = tt
-in_any_kind environment (forms.Update table image tests) valuation kinds fits = tt
-in_any_kind environment (forms.Set variable expression) valuation kinds fits = tt
-
-pub answers_any : (tree : TreeStatement) (valuation : Valuation) → is_entangled tree ≡ false → Answers tree valuation
-answers_any (trees.Entangled entangled) valuation plain = cc (plain)
-answers_any (trees.Select select) valuation plain = tt
-answers_any (trees.Insert insert) valuation plain = tt
-answers_any (trees.Delete delete) valuation plain = tt
-answers_any (trees.Update update) valuation plain = tt
-answers_any (trees.Set setting) valuation plain = tt
+-- ---- what can be told of read views
 
 -- the form of an entangled statement
 pub entangled_form : (schemas : List TableSchema) (bound after : Bound) (entangled : TreeEntangled)

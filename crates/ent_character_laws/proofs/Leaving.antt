@@ -19,7 +19,7 @@ use Rattle.ent_semantics.specs.Selection.{meets, select_rows}
 use Rattle.ent_semantics.specs.Statement.{table_worth}
 use Rattle.ent_semantics.specs.Term.{expression_value, known_value, table_columns}
 use Rattle.ent_form_laws.proofs.KindedRows.{each_ascending}
-use Rattle.ent_form_laws.proofs.KindedSteps.{one_answer}
+use Rattle.ent_form_laws.proofs.Steps.{one_answer}
 use Rattle.ent_lists.specs.Elements.{all_first}
 use Rattle.ent_answer_laws.proofs.Leaving.{changed_is, changed_to, over_there, rows_put, setting_is}
 use Rattle.ent_answer_laws.proofs.Rows.{EachRow, inserted_rows, retained_rows}

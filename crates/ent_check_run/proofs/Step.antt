@@ -33,6 +33,7 @@ use Rattle.ent_form.specs.Kinds.{Bound}
 use Rattle.ent_form.specs.declared.fault.FormFault.{FormFault}
 use Rattle.ent_form_laws.specs.Kinds.{AreKinded, AnswersInKind, HasKinds}
 use Rattle.ent_form_laws.specs.Tables.{database_of, effect_of, Answers, HaveDistinctColumns}
+use Rattle.ent_form_laws.proofs.Ordinary.{answers_any, in_any_kind}
 use Rattle.ent_rules.specs.Placed.{Placed, grounding_of, member_at}
 use Rattle.ent_rules.specs.Replay.{ground_finding, is_answered, ungrounded}
 use Rattle.ent_rules.specs.Verdict.{first_of}
@@ -183,23 +184,6 @@ unseen tx place (trees.Insert insert) valuation database environment plain = ref
 unseen tx place (trees.Delete delete) valuation database environment plain = refl
 unseen tx place (trees.Update update) valuation database environment plain = refl
 unseen tx place (trees.Set setting) valuation database environment plain = refl
-
-answers_any : (tree : TreeStatement) (valuation : Valuation) → is_entangled tree ≡ false → Answers tree valuation
-answers_any (trees.Entangled entangled) valuation plain = cc (plain)
-answers_any (trees.Select select) valuation plain = tt
-answers_any (trees.Insert insert) valuation plain = tt
-answers_any (trees.Delete delete) valuation plain = tt
-answers_any (trees.Update update) valuation plain = tt
-answers_any (trees.Set setting) valuation plain = tt
-
-in_any_kind : (environment : Environment) (form : Statement Known) (valuation : Valuation) (kinds : List (List Kind))
-    → Fits kinds (closed environment form) → AnswersInKind form valuation
-in_any_kind environment (forms.Entangled entangled) valuation kinds fits = absurd fits
-in_any_kind environment (forms.Select select) valuation kinds fits = tt
-in_any_kind environment (forms.Insert table values) valuation kinds fits = tt
-in_any_kind environment (forms.Delete table tests) valuation kinds fits = tt
-in_any_kind environment (forms.Update table image tests) valuation kinds fits = tt
-in_any_kind environment (forms.Set variable expression) valuation kinds fits = tt
 
 no_grounding : (seat : Option Placed) (statement : Statement Value) (kinds : List (List Kind)) → Fits kinds statement
     → grounding_in seat statement ≡ []

@@ -34,7 +34,7 @@ use Rattle.ent_semantics.specs.declared.answer.Failure.{Failure}
 use Rattle.ent_semantics.specs.declared.answer.Failure.TheVariants.{TableFull}
 use Rattle.ent_semantics.specs.Change.{matched, updated, all_there}
 use Rattle.ent_semantics.specs.Database.{Name, Rows, Environment, same_name, with_value, with_values}
-use Rattle.ent_semantics.specs.Effect.{Effect, Meaning, changed, or_overflow}
+use Rattle.ent_semantics.specs.Effect.{Effect, changed}
 use Rattle.ent_semantics.specs.Entangled.{Valuation}
 use Rattle.ent_semantics.specs.Names.{equal_names}
 use Rattle.ent_semantics.specs.Selection.{meets}
@@ -53,9 +53,10 @@ use Rattle.ent_form.specs.Ordinary.{tests_in, select_in, row_from, insert_in, de
 use Rattle.ent_form.specs.Scope.{table_in, table_scope}
 use Rattle.ent_form.specs.Steps.{there}
 use Rattle.ent_form_laws.specs.Kinds.{HasKinds, AnswersInKind}
+use Rattle.ent_form_laws.proofs.Kept.{over_overflow}
 use Rattle.ent_form_laws.proofs.Known.{value_kinded, expression_kinded}
 use Rattle.ent_form_laws.proofs.Noted.{OfVariable, OfItems, conditions_keep, items_weaker, items_noted}
-use Rattle.ent_form_laws.proofs.KindedSteps.{one_answer, bound_given, demand_given, there_given}
+use Rattle.ent_form_laws.proofs.Steps.{one_answer, bound_given, demand_given, there_given}
 
 -- ---- one host variable more
 
@@ -194,12 +195,6 @@ module _ (schemas : List TableSchema) (bound : Bound) (tables : Tables) (environ
   abbrev Stays : Effect Tables → Type 0
   Stays effect = HasKinds bound effect.environment
 
-  over_overflow : {A : Type 0} (there : Option A) (more : A → Meaning Tables) (P : Effect Tables → Type 0)
-      → ((x : A) → there ≡ Some x → IfOk (more x tables environment) P)
-      → IfOk (or_overflow there more tables environment) P
-  over_overflow None more P h = tt
-  over_overflow (Some x) more P h = h x refl
-
   changed_stays : (number count : ℕ) (rows : Rows)
       → IfOk (changed (table_numbered number) count rows tables environment) Stays
   changed_stays number count rows =
@@ -238,7 +233,7 @@ module _ (schemas : List TableSchema) (bound : Bound) (tables : Tables) (environ
       let value = operand_worth (known_worth environment) in
       let matches = meets value tests in
       over_overflow (updated matches (λ row. all_there (map (expression_value (value row)) image)) rows)
-      (changed (table_numbered table) (set.len (matched matches rows))) Stays
+      (changed (table_numbered table) (set.len (matched matches rows))) tables environment Stays
       (λ after _. changed_stays table (set.len (matched matches rows)) after)
   stays (forms.Set variable expression) valuation h = absurd h
 
@@ -293,7 +288,7 @@ module _ (schemas : List TableSchema) (bound : Bound) (tables : Tables) (environ
         database = database;
         environment = with_value environment set.variable.name value;
         answer = answers.Value value;
-      })) (λ effect. HasKinds (with_kind bound set.variable.name w.0.1) effect.environment)
+      })) tables environment (λ effect. HasKinds (with_kind bound set.variable.name w.0.1) effect.environment)
       (λ value there. one_more bound environment set.variable.name w.0.1 value have
       (expression_kinded (values_in bound) (known_worth environment) (value_kinded bound environment have)
       set.expression w.0 w.1 value there))))

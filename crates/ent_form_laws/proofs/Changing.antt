@@ -37,7 +37,7 @@ use Rattle.ent_form_laws.proofs.Heads.{grown}
 use Rattle.ent_form_laws.proofs.Putting.{put_at, insertion_same, deletion_same}
 use Rattle.ent_form_laws.proofs.Selecting.{where_same}
 use Rattle.ent_form_laws.proofs.Sources.{name_of, told, names_seen}
-use Rattle.ent_form_laws.proofs.Steps.{same_given, bind_given, demand_given, there_given}
+use Rattle.ent_form_laws.proofs.Steps.{one_answer, bound_given, demand_given, there_given}
 use Rattle.ent_form_laws.proofs.Terms.{value_same, kind_value_same}
 
 module _ (environment : Environment) (bound : Bound) where
@@ -45,12 +45,12 @@ module _ (environment : Environment) (bound : Bound) where
       → length values ≡ length columns → row_from bound made columns values ≡ Ok out
       → map (known_worth environment) out ≡ map (known_worth environment) made ++ map (known_value environment) values
   row_same [] [] made out l e =
-      ap (map (known_worth environment)) (sym (same_given made out e))
+      ap (map (known_worth environment)) (sym (one_answer made out e))
       ∙ sym (append-nil (map (known_worth environment) made))
   row_same [] (value ∷ values) made out l e = absurd (omega arith)
   row_same (column ∷ columns) [] made out l e = absurd (omega arith)
   row_same (column ∷ columns) (value ∷ values) made out l e =
-      let w = bind_given (kind_in (values_in bound) column.kind value) _ out e in
+      let w = bound_given (kind_in (values_in bound) column.kind value) _ out e in
       row_same columns values (made ++ w.0 ∷ []) out (omega arith) w.2
       ∙ grown (known_worth environment) made w.0 (known_value environment value) (map (known_value environment) values)
       (sym (kind_value_same environment bound column.kind value w.0 w.1))
@@ -59,23 +59,23 @@ module _ (environment : Environment) (bound : Bound) where
       → expression_in (values_in bound) expression ≡ Ok found
       → expression_value (known_value environment) expression ≡ expression_value (known_worth environment) found.0
   expression_same (Single term) found e =
-      let w = bind_given (value_in bound term) _ found e in
+      let w = bound_given (value_in bound term) _ found e in
       ap (λ (v : Value). Some v) (value_same environment bound term w.0 w.1)
-      ∙ ap (λ (f : Expression Known × Kind). expression_value (known_worth environment) f.0) (same_given _ found w.2)
+      ∙ ap (λ (f : Expression Known × Kind). expression_value (known_worth environment) f.0) (one_answer _ found w.2)
   expression_same (Sum left right) found e =
-      let v = bind_given (kind_in (values_in bound) kinds.Int left) _ found e in
-      let w = bind_given (kind_in (values_in bound) kinds.Int right) _ found v.2 in
+      let v = bound_given (kind_in (values_in bound) kinds.Int left) _ found e in
+      let w = bound_given (kind_in (values_in bound) kinds.Int right) _ found v.2 in
       let l = kind_value_same environment bound kinds.Int left v.0 v.1 in
       let r = kind_value_same environment bound kinds.Int right w.0 w.1 in
       (λ i. expression_value (λ (x : Value). x) (Sum (l i) (r i)))
-      ∙ ap (λ (f : Expression Known × Kind). expression_value (known_worth environment) f.0) (same_given _ found w.2)
+      ∙ ap (λ (f : Expression Known × Kind). expression_value (known_worth environment) f.0) (one_answer _ found w.2)
   expression_same (Difference left right) found e =
-      let v = bind_given (kind_in (values_in bound) kinds.Int left) _ found e in
-      let w = bind_given (kind_in (values_in bound) kinds.Int right) _ found v.2 in
+      let v = bound_given (kind_in (values_in bound) kinds.Int left) _ found e in
+      let w = bound_given (kind_in (values_in bound) kinds.Int right) _ found v.2 in
       let l = kind_value_same environment bound kinds.Int left v.0 v.1 in
       let r = kind_value_same environment bound kinds.Int right w.0 w.1 in
       (λ i. expression_value (λ (x : Value). x) (Difference (l i) (r i)))
-      ∙ ap (λ (f : Expression Known × Kind). expression_value (known_worth environment) f.0) (same_given _ found w.2)
+      ∙ ap (λ (f : Expression Known × Kind). expression_value (known_worth environment) f.0) (one_answer _ found w.2)
 
 module _ (creates : List Create) (tables : Tables) (fitting : AreWide creates tables) (environment : Environment)
     (valuation : Valuation) (bound : Bound) where
@@ -90,11 +90,11 @@ module _ (creates : List Create) (tables : Tables) (fitting : AreWide creates ta
   unfolding insert_in
   insert_same insert form e =
       let name = insert.table.name in
-      let found = bind_given (table_in (schemas_of creates) insert.table) _ form e in
+      let found = bound_given (table_in (schemas_of creates) insert.table) _ form e in
       let there_it_is = there_given (catalogue.table_named (schemas_of creates) name) (NoTable insert.table.place)
       found.0 found.1 in
       let kept = demand_given (length insert.values == length found.0.1.columns) (Arity insert.place) _ form found.2 in
-      let row = bind_given (row_from bound [] found.0.1.columns insert.values) _ form kept.1 in
+      let row = bound_given (row_from bound [] found.0.1.columns insert.values) _ form kept.1 in
       let here = told creates tables name 0 found.0 fitting there_it_is in
       let put = put_at creates tables name 0 found.0 fitting there_it_is in
       let number : here.number ≡ found.0.0 = let c = here.counted in omega arith in
@@ -106,7 +106,7 @@ module _ (creates : List Create) (tables : Tables) (fitting : AreWide creates ta
       ∙ insertion_same creates tables name put.0 put.2 environment (map (known_worth environment) row.0) rows
       ∙ ap (λ (n : ℕ). effect_of creates (insertion (table_numbered n) (map (known_worth environment) row.0) tables
       environment)) place
-      ∙ ap (λ (f : Statement Known). effect_of creates (meaning f)) (same_given _ form row.2)
+      ∙ ap (λ (f : Statement Known). effect_of creates (meaning f)) (one_answer _ form row.2)
 
   pub delete_same : (delete : Delete) (form : Statement Known)
       → delete_in (schemas_of creates) bound delete ≡ Ok form
@@ -116,11 +116,11 @@ module _ (creates : List Create) (tables : Tables) (fitting : AreWide creates ta
   unfolding delete_in
   delete_same delete form e =
       let name = delete.table.name in
-      let found = bind_given (table_in (schemas_of creates) delete.table) _ form e in
+      let found = bound_given (table_in (schemas_of creates) delete.table) _ form e in
       let there_it_is = there_given (catalogue.table_named (schemas_of creates) name) (NoTable delete.table.place)
       found.0 found.1 in
       let scope = table_scope name found.0 in
-      let tests = bind_given (tests_in scope bound delete.tests) _ form found.2 in
+      let tests = bound_given (tests_in scope bound delete.tests) _ form found.2 in
       let here = told creates tables name 0 found.0 fitting there_it_is in
       let put = put_at creates tables name 0 found.0 fitting there_it_is in
       let number : here.number ≡ found.0.0 = let c = here.counted in omega arith in
@@ -138,7 +138,7 @@ module _ (creates : List Create) (tables : Tables) (fitting : AreWide creates ta
       (meets (operand_worth (known_worth environment)) tests.0) rows
       ∙ ap (λ (n : ℕ). effect_of creates (deletion (table_numbered n)
       (meets (operand_worth (known_worth environment)) tests.0) tables environment)) place
-      ∙ ap (λ (f : Statement Known). effect_of creates (meaning f)) (same_given _ form tests.2)
+      ∙ ap (λ (f : Statement Known). effect_of creates (meaning f)) (one_answer _ form tests.2)
 
   setting_same : (variable : Name) (value : Option Value)
       → setting variable value (database_of creates tables) environment
@@ -153,8 +153,8 @@ module _ (creates : List Create) (tables : Tables) (fitting : AreWide creates ta
       ≡ effect_of creates (meaning form)
   unfolding set_in
   set_same set form after e =
-      let found = bind_given (expression_in (values_in bound) set.expression) _ (form, after) e in
+      let found = bound_given (expression_in (values_in bound) set.expression) _ (form, after) e in
       ap (λ value. setting set.variable.name value (database_of creates tables) environment)
       (expression_same environment bound set.expression found.0 found.1)
       ∙ setting_same set.variable.name (expression_value (known_worth environment) found.0.0)
-      ∙ ap (λ (both : Statement Known × Bound). effect_of creates (meaning both.0)) (same_given _ (form, after) found.2)
+      ∙ ap (λ (both : Statement Known × Bound). effect_of creates (meaning both.0)) (one_answer _ (form, after) found.2)

@@ -34,7 +34,7 @@ use Rattle.ent_form.specs.Steps.{there}
 use Rattle.ent_closed.specs.Kinds.{operand_kind, expression_kind}
 use Rattle.ent_form_laws.specs.Kinds.{HasKinds}
 use Rattle.ent_form_laws.proofs.Known.{value_kinded}
-use Rattle.ent_form_laws.proofs.KindedSteps.{one_answer, bound_given, demand_given, there_given, equal_kinds}
+use Rattle.ent_form_laws.proofs.Steps.{one_answer, bound_given, demand_given, there_given, equal_kinds}
 
 -- ---- columns
 

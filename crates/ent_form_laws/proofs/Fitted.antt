@@ -46,7 +46,7 @@ use Rattle.ent_form_laws.specs.Kinds.{column_kinds, kinds_numbered, AreDeclared,
 use Rattle.ent_form_laws.proofs.Columns.{kinds_seen, image_kinded}
 use Rattle.ent_form_laws.proofs.Found.{found_in, sources_seen}
 use Rattle.ent_form_laws.proofs.Known.{row_kinded}
-use Rattle.ent_form_laws.proofs.KindedSteps.{one_answer, bound_given, demand_given}
+use Rattle.ent_form_laws.proofs.Steps.{one_answer, bound_given, demand_given}
 
 -- ---- tables that are declared
 

@@ -19,7 +19,7 @@ use Rattle.ent_form.specs.Scope.{Scope, visible, with_source, source_place, sour
 use Rattle.ent_form.specs.Steps.{there}
 use Rattle.ent_form_laws.specs.Kinds.{column_kinds, kinds_numbered, AreKinded, AreDeclared}
 use Rattle.ent_form_laws.proofs.Columns.{kind_seen, kinds_seen}
-use Rattle.ent_form_laws.proofs.KindedSteps.{one_answer, bound_given, demand_given, there_given}
+use Rattle.ent_form_laws.proofs.Steps.{one_answer, bound_given, demand_given, there_given}
 
 -- a table's number, and the kinds that stand there
 pub record Found (schemas : List TableSchema) (number : ℕ) (schema : TableSchema) : Type 0 where

@@ -28,6 +28,7 @@ use Rattle.ent_tree.specs.declared.select.Select.{Select as TreeSelect}
 use Rattle.ent_closed.specs.Closing.{operand_over}
 use Rattle.ent_closed.specs.Form.{Tables, known_worth, operand_worth, term_worth, form_rows, membership_holds}
 use Rattle.ent_closed.specs.Form.{is_form_grounding}
+use Rattle.ent_closed.specs.declared.entangled.Atom.{Atom}
 use Rattle.ent_closed.specs.declared.entangled.Entangled.{Entangled}
 use Rattle.ent_closed.specs.declared.entangled.Membership.{Membership}
 use Rattle.ent_closed.specs.declared.entangled.Term.{Term}
@@ -44,7 +45,7 @@ use Rattle.ent_semantics.specs.Term.{no_value}
 use Rattle.ent_form.specs.declared.catalogue.TableSchema.{TableSchema}
 use Rattle.ent_form.specs.declared.fault.FormFault.TheVariants.{Arity, WrongKind, Unbound}
 use Rattle.ent_form.specs.Catalogue.{is_among}
-use Rattle.ent_form.specs.Entangled.{index_of, noted_items, variables_of, demanded_in, member_in}
+use Rattle.ent_form.specs.Entangled.{index_of, variables_of, demanded_in, member_in}
 use Rattle.ent_form.specs.Entangled.{members_from, membership_in, memberships_from, term_in, terms_in, Offer, no_offer}
 use Rattle.ent_form.specs.Entangled.{item_in, offer_from, heads_from, atom_from, post_in, others_from}
 use Rattle.ent_form.specs.Entangled.{kinds_of as kinds_demanded, entangled_in}
@@ -59,10 +60,9 @@ use Rattle.ent_form_laws.specs.Kinds.{kinds_numbered, AreKinded, HasKinds}
 use Rattle.ent_form_laws.proofs.Columns.{kind_seen, operand_kinded}
 use Rattle.ent_form_laws.proofs.Found.{sources_at, rows_kinded, sources_seen}
 use Rattle.ent_form_laws.proofs.Kept.{operand_value_kind}
-use Rattle.ent_form_laws.proofs.Noted.{OfVariable, OfVariables, OfItems, OfConditions, terms_weaker, items_all}
-use Rattle.ent_form_laws.proofs.Noted.{conditions_all}
-use Rattle.ent_form_laws.proofs.Noted.{items_once, conditions_once}
-use Rattle.ent_form_laws.proofs.KindedSteps.{one_answer, bound_given, demand_given, there_given}
+use Rattle.ent_form_laws.proofs.Noted.{OfVariable, OfVariables, OfItems, OfConditions, terms_weaker}
+use Rattle.ent_form_laws.proofs.Noted.{variables_all, variables_once}
+use Rattle.ent_form_laws.proofs.Steps.{one_answer, bound_given, demand_given, there_given}
 
 -- ---- the kinds of a sub-select's rows
 
@@ -171,7 +171,7 @@ select_kinds law schemas bound environment tables have kinded select found e =
 -- ---- what is demanded
 
 -- a variable is demanded in a kind
-abbrev IsDemanded : Bound → Name → Type 0
+abbrev pub IsDemanded : Bound → Name → Type 0
 IsDemanded demanded name = (kind : Kind) × (demanded name ≡ Some kind)
 
 abbrev Grows : Bound → Bound → Type 0
@@ -232,18 +232,18 @@ module _ (names : List Name) (bound : Bound) where
 -- ---- demanded in sub-selects
 
 -- the terms of a condition that demands of a sub-select
-abbrev OfSubselect : (Name → Type 0) → Condition → Type 0
+abbrev pub OfSubselect : (Name → Type 0) → Condition → Type 0
 OfSubselect P (conditions.InSelect tuple select) = OfVariables P tuple.terms
 OfSubselect P (conditions.InAnswer tuple relation) = Unit {0}
 OfSubselect P (conditions.Test test) = Unit {0}
 
 -- those of all others
-abbrev OfOther : (Name → Type 0) → Condition → Type 0
+abbrev pub OfOther : (Name → Type 0) → Condition → Type 0
 OfOther P (conditions.InSelect tuple select) = Unit {0}
 OfOther P (conditions.InAnswer tuple relation) = OfVariables P tuple.terms
 OfOther P (conditions.Test test) = OfVariables P (test.left ∷ test.right ∷ [])
 
-of_both : (P : Name → Type 0) (all : List Condition) → AllByRecursion (OfSubselect P) all
+pub of_both : (P : Name → Type 0) (all : List Condition) → AllByRecursion (OfSubselect P) all
     → AllByRecursion (OfOther P) all → OfConditions P all
 of_both P [] h k = tt
 of_both P (conditions.InSelect tuple select ∷ more) h k = (h.0, of_both P more h.1 k.1)
@@ -292,7 +292,7 @@ module _ (names : List Name) (demanded bound : Bound) where
       let w = bound_given (there (demanded variable.name) (Unbound variable.place)) _ found e in
       (w.0, there_given (demanded variable.name) (Unbound variable.place) w.0 w.1)
 
-  items_demanded : (all : List EntangledItem) (offer out : Offer)
+  pub items_demanded : (all : List EntangledItem) (offer out : Offer)
       → offer_from names demanded bound offer all ≡ Ok out → OfItems (IsDemanded demanded) all
   unfolding item_in
   items_demanded [] offer out e = tt
@@ -308,8 +308,8 @@ module _ (names : List Name) (demanded bound : Bound) where
       let w = bound_given (term_in names demanded bound term) _ out e in
       (term_demanded term w.0 w.1, terms_demanded more (made ++ w.0.0 ∷ []) out w.2)
 
-  others_demanded : (all : List Condition) (posts : List _) (tests : List (Test (Term Known)))
-      → (found : List _ × List (Test (Term Known)))
+  pub others_demanded : (all : List Condition) (posts : List (Atom Known)) (tests : List (Test (Term Known)))
+      → (found : List (Atom Known) × List (Test (Term Known)))
       → others_from names demanded bound posts tests all ≡ Ok found
       → AllByRecursion (OfOther (IsDemanded demanded)) all
   unfolding post_in test_in
@@ -479,10 +479,6 @@ side_by_side demanded (first ∷ names) (value ∷ valuation) l apart all met =
     ∙ met name kind (ap (λ b. b || is_among names name) other ∙ among) is) in
     λ i. here i ∷ rest i
 
-none_twice : IsDistinct same_name []
-unfolding IsDistinct
-none_twice = tt
-
 pub grounding_kinds : ItemLaw → (schemas : List TableSchema) (bound : Bound) (entangled : TreeEntangled)
     → (found : Entangled Known × Bound) (environment : Environment) (tables : Tables) (valuation : Valuation)
     → entangled_in schemas bound entangled ≡ Ok found → AreKinded schemas tables → HasKinds bound environment
@@ -498,13 +494,10 @@ grounding_kinds law schemas bound entangled found environment tables valuation e
     let demanded : Bound = body.0.1 in
     let grown = memberships_grow schemas bound names entangled.conditions [] none_bound body.0 body.1 in
     let all : AllByRecursion (IsDemanded demanded) names =
-    conditions_all (IsDemanded demanded) entangled.conditions (noted_items [] entangled.items)
-    (items_all (IsDemanded demanded) entangled.items [] tt
-    (items_demanded names demanded bound entangled.items no_offer offer.0 offer.1))
+    variables_all (IsDemanded demanded) entangled
+    (items_demanded names demanded bound entangled.items no_offer offer.0 offer.1)
     (of_both (IsDemanded demanded) entangled.conditions grown.1
     (others_demanded names demanded bound entangled.conditions [] [] others.0 others.1)) in
-    let once : IsDistinct same_name names =
-    conditions_once entangled.conditions (noted_items [] entangled.items) (items_once entangled.items [] none_twice) in
     let met = memberships_met law schemas bound environment tables have kinded names valuation entangled.conditions []
     none_bound body.0 body.1 in
     subst (λ (f : Entangled Known × Bound). is_form_grounding (known_worth environment) tables f.0 valuation ≡ true
@@ -517,4 +510,4 @@ grounding_kinds law schemas bound entangled found environment tables valuation e
     eqb-true _ _ parts.0 ∙ length-map names (λ name. unwrap_or (demanded name) Int) in
     let values = met.2 (ap (list_all (membership_holds (known_worth environment) tables valuation)) (sym met.1)
     ∙ holding.0) (λ name kind is. cc) in
-    side_by_side demanded names valuation many once all (λ name kind _ is. values name kind is))
+    side_by_side demanded names valuation many (variables_once entangled) all (λ name kind _ is. values name kind is))

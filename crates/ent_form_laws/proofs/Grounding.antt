@@ -37,7 +37,7 @@ use Rattle.ent_form.specs.Ordinary.{select_in}
 use Rattle.ent_form_laws.specs.Tables.{database_of, AreWide}
 use Rattle.ent_form_laws.proofs.Heads.{tests_hold, others_same, all_behind, and_assoc, and_true, grown}
 use Rattle.ent_form_laws.proofs.Selecting.{select_same}
-use Rattle.ent_form_laws.proofs.Steps.{same_given, bind_given, demand_given}
+use Rattle.ent_form_laws.proofs.Steps.{one_answer, bound_given, demand_given}
 use Rattle.ent_form_laws.proofs.Terms.{worth, form_worth, variable_same, kind_value_same}
 use Rattle.ent_form_laws.proofs.Variables.{variables_written}
 use Rattle.ent_form_laws.proofs.Whole.{parts_of, kinds_counted}
@@ -58,19 +58,19 @@ module _ (environment : Environment) (names : List Name) (valuation : Valuation)
       → demanded_in names demanded variable kind earlier ≡ Ok out → said (terms.Variable variable) ≡ meant out.0
   variable_meant demanded variable kind None out e =
       variable_same names valuation variable.name l
-      ∙ ap (λ (o : Term Known × Bound). meant o.0) (same_given
+      ∙ ap (λ (o : Term Known × Bound). meant o.0) (one_answer
       (resolved.Variable (index_of names variable.name), with_kind demanded variable.name kind) out e)
   variable_meant demanded variable kind (Some earlier) out e =
       let kept = demand_given (same_kind earlier kind) (WrongKind variable.place) _ out e in
       variable_same names valuation variable.name l
-      ∙ ap (λ (o : Term Known × Bound). meant o.0) (same_given _ out kept.1)
+      ∙ ap (λ (o : Term Known × Bound). meant o.0) (one_answer _ out kept.1)
 
   member_same : (bound demanded : Bound) (kind : Kind) (term : TreeTerm) (out : Term Known × Bound)
       → member_in names bound demanded kind term ≡ Ok out → said term ≡ meant out.0
   member_same bound demanded kind (terms.Value value) out e =
-      let w = bind_given (kind_in (values_in bound) kind value) _ out e in
+      let w = bound_given (kind_in (values_in bound) kind value) _ out e in
       kind_value_same environment bound kind value w.0 w.1
-      ∙ ap (λ (o : Term Known × Bound). meant o.0) (same_given _ out w.2)
+      ∙ ap (λ (o : Term Known × Bound). meant o.0) (one_answer _ out w.2)
   member_same bound demanded kind (terms.Variable variable) out e =
       variable_meant demanded variable kind (demanded variable.name) out e
 
@@ -79,12 +79,12 @@ module _ (environment : Environment) (names : List Name) (valuation : Valuation)
       → members_from names bound made demanded kinds all ≡ Ok out
       → map meant out.0 ≡ map meant made ++ map said all
   members_same bound [] [] made demanded out same e =
-      ap (λ (o : List (Term Known) × Bound). map meant o.0) (sym (same_given (made, demanded) out e))
+      ap (λ (o : List (Term Known) × Bound). map meant o.0) (sym (one_answer (made, demanded) out e))
       ∙ sym (append-nil (map meant made))
   members_same bound [] (term ∷ more) made demanded out same e = absurd (omega arith)
   members_same bound (kind ∷ kinds) [] made demanded out same e = absurd (omega arith)
   members_same bound (kind ∷ kinds) (term ∷ more) made demanded out same e =
-      let w = bind_given (member_in names bound demanded kind term) _ out e in
+      let w = bound_given (member_in names bound demanded kind term) _ out e in
       members_same bound kinds more (made ++ w.0.0 ∷ []) w.0.1 out (omega arith) w.2
       ∙ grown meant made w.0.0 (said term) (map said more) (sym (member_same bound demanded kind term w.0 w.1))
 
@@ -101,15 +101,15 @@ module _ (environment : Environment) (names : List Name) (valuation : Valuation)
         → in_rows tuple select ≡ holds_there out.0
     unfolding membership_in
     membership_same bound demanded tuple select out e =
-        let found = bind_given (select_in (schemas_of creates) bound select) _ out e in
+        let found = bound_given (select_in (schemas_of creates) bound select) _ out e in
         let kept = demand_given (length tuple.terms == length found.0.1) (Arity tuple.place) _ out found.2 in
-        let members = bind_given (members_from names bound [] demanded found.0.1 tuple.terms) _ out kept.1 in
+        let members = bound_given (members_from names bound [] demanded found.0.1 tuple.terms) _ out kept.1 in
         let long : length tuple.terms ≡ length found.0.1 = same_length _ _ kept.0 in
         let values : map meant members.0.0 ≡ map said tuple.terms = members_same bound found.0.1 tuple.terms []
         demanded members.0 long members.1 in
         (λ i. set.contains (select_same creates tables fitting environment bound select found.0.0 found.0.1 found.1
         i) (sym values i))
-        ∙ ap (λ (o : Membership Known × Bound). holds_there o.0) (same_given _ out members.2)
+        ∙ ap (λ (o : Membership Known × Bound). holds_there o.0) (one_answer _ out members.2)
 
     -- the tuples among conditions are rows of their selects
     abbrev selects_hold : List Condition → Bool
@@ -123,10 +123,10 @@ module _ (environment : Environment) (names : List Name) (valuation : Valuation)
         → memberships_from (schemas_of creates) bound names made demanded all ≡ Ok out
         → list_all holds_there out.0 ≡ (list_all holds_there made && selects_hold all)
     memberships_same bound [] made demanded out e =
-        ap (λ (o : List (Membership Known) × Bound). list_all holds_there o.0) (sym (same_given (made, demanded) out e))
+        ap (λ (o : List (Membership Known) × Bound). list_all holds_there o.0) (sym (one_answer (made, demanded) out e))
         ∙ sym (and_true (list_all holds_there made))
     memberships_same bound (conditions.InSelect tuple select ∷ more) made demanded out e =
-        let w = bind_given (membership_in (schemas_of creates) bound names demanded tuple select) _ out e in
+        let w = bound_given (membership_in (schemas_of creates) bound names demanded tuple select) _ out e in
         memberships_same bound more (made ++ w.0.0 ∷ []) w.0.1 out w.2
         ∙ ap (λ b. b && selects_hold more) (all_behind holds_there made w.0.0)
         ∙ and_assoc (list_all holds_there made) (holds_there w.0.0) (selects_hold more)

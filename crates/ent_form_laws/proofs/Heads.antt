@@ -27,7 +27,7 @@ use Rattle.ent_form.specs.Entangled.{term_in, terms_in, Offer, with_term, with_b
 use Rattle.ent_form.specs.Entangled.{heads_from, atom_from, post_in, others_from}
 use Rattle.ent_form.specs.Kinds.{Bound}
 use Rattle.ent_form.specs.Lookup.{test_in}
-use Rattle.ent_form_laws.proofs.Steps.{same_given, bind_given, demand_given}
+use Rattle.ent_form_laws.proofs.Steps.{one_answer, bound_given, demand_given}
 use Rattle.ent_form_laws.proofs.Terms.{worth, form_worth, term_same, test_same, atom_same}
 
 -- the host variable that is bound to a value, where one is
@@ -79,7 +79,7 @@ module _ (environment : Environment) (names : List Name) (valuation : Valuation)
       → (out.terms ≡ offer.terms ++ found.0 ∷ [])
       × (map bound_value out.binds ≡ map bound_value offer.binds ++ binds_of binds (meant found.0))
   bind_same offer None found out e =
-      let made : with_term offer found.0 ≡ out = same_given (with_term offer found.0) out e in (
+      let made : with_term offer found.0 ≡ out = one_answer (with_term offer found.0) out e in (
         ap (λ (o : Offer). o.terms) (sym made),
         ap (λ (o : Offer). map bound_value o.binds) (sym made)
             ∙ sym (append-nil (map bound_value offer.binds)),
@@ -88,7 +88,7 @@ module _ (environment : Environment) (names : List Name) (valuation : Valuation)
       let kept = demand_given (not (is_among (map (λ binding. binding.name) offer.bound) variable.name))
       (Repeated variable.place) (Ok (with_bind offer variable.name found)) out e in
       let made : with_bind offer variable.name found
-      ≡ out = same_given (with_bind offer variable.name found) out kept.1 in (
+      ≡ out = one_answer (with_bind offer variable.name found) out kept.1 in (
         ap (λ (o : Offer). o.terms) (sym made),
         ap (λ (o : Offer). map bound_value o.binds) (sym made)
             ∙ map-append bound_value offer.binds (record { variable = variable.name; term = found.0 } ∷ []),
@@ -100,15 +100,15 @@ module _ (environment : Environment) (names : List Name) (valuation : Valuation)
       × (map bound_value out.binds ≡ map bound_value offer.binds ++ flat_map (item_binds said) items)
   unfolding item_in
   offer_same demanded bound [] offer out e =
-      let made : offer ≡ out = same_given offer out e in (
+      let made : offer ≡ out = one_answer offer out e in (
         ap (λ (o : Offer). map meant o.terms) (sym made)
             ∙ sym (append-nil (map meant offer.terms)),
         ap (λ (o : Offer). map bound_value o.binds) (sym made)
             ∙ sym (append-nil (map bound_value offer.binds)),
       )
   offer_same demanded bound (item ∷ more) offer out e =
-      let step = bind_given (item_in names demanded bound offer item) _ out e in
-      let w = bind_given (term_in names demanded bound item.term) _ step.0 step.1 in
+      let step = bound_given (item_in names demanded bound offer item) _ out e in
+      let w = bound_given (term_in names demanded bound item.term) _ step.0 step.1 in
       let same = term_same environment names valuation l demanded bound item.term w.0 w.1 in
       let one = bind_same offer item.binds w.0 step.0 w.2 in
       let rest = offer_same demanded bound more step.0 out step.2 in (
@@ -127,7 +127,7 @@ module _ (environment : Environment) (names : List Name) (valuation : Valuation)
       (made out : List (Atom Known))
       → heads_from terms earlier made relations ≡ Ok out
       → map fact out ≡ map fact made ++ facts (map (λ relation. relation.name) relations) (map meant terms)
-  heads_same terms [] earlier made out e = ap (map fact) (sym (same_given made out e))
+  heads_same terms [] earlier made out e = ap (map fact) (sym (one_answer made out e))
       ∙ sym (append-nil (map fact made))
   heads_same terms (relation ∷ more) earlier made out e =
       let head : Atom Known = record { relation = relation.name; terms = terms } in
@@ -140,8 +140,8 @@ module _ (environment : Environment) (names : List Name) (valuation : Valuation)
       → fact post ≡ record { relation = relation.name; values = map said tuple.terms }
   unfolding post_in
   post_same demanded bound tuple relation post e =
-      let w = bind_given (atom_from names demanded bound [] tuple.terms) _ post e in
-      ap fact (sym (same_given _ post w.2))
+      let w = bound_given (atom_from names demanded bound [] tuple.terms) _ post e in
+      ap fact (sym (one_answer _ post w.2))
       ∙ ap (λ (values : List Value). let f : Fact = record { relation = relation.name; values = values } in f)
       (atom_same environment names valuation l demanded bound tuple.terms [] w.0 w.1)
 
@@ -158,7 +158,7 @@ module _ (environment : Environment) (names : List Name) (valuation : Valuation)
       → (map fact out.0 ≡ map fact posts ++ flat_map (condition_posts said) all)
       × (list_all (holds meant) out.1 ≡ (list_all (holds meant) tests && tests_hold all))
   others_same demanded bound [] posts tests out e =
-      let made : (posts, tests) ≡ out = same_given (posts, tests) out e in (
+      let made : (posts, tests) ≡ out = one_answer (posts, tests) out e in (
         ap (λ (o : List (Atom Known) × List (Test (Term Known))). map fact o.0) (sym made)
             ∙ sym (append-nil (map fact posts)),
         ap (λ (o : List (Atom Known) × List (Test (Term Known))). list_all (holds meant) o.1) (sym made)
@@ -167,7 +167,7 @@ module _ (environment : Environment) (names : List Name) (valuation : Valuation)
   others_same demanded bound (conditions.InSelect tuple select ∷ more) posts tests out e =
       others_same demanded bound more posts tests out e
   others_same demanded bound (conditions.InAnswer tuple relation ∷ more) posts tests out e =
-      let w = bind_given (post_in names demanded bound tuple relation) _ out e in
+      let w = bound_given (post_in names demanded bound tuple relation) _ out e in
       let rest = others_same demanded bound more (posts ++ w.0 ∷ []) tests out w.2 in (
         rest.0
             ∙ grown fact posts w.0 _ (flat_map (condition_posts said) more)
@@ -175,7 +175,7 @@ module _ (environment : Environment) (names : List Name) (valuation : Valuation)
         rest.1,
       )
   others_same demanded bound (conditions.Test test ∷ more) posts tests out e =
-      let w = bind_given (test_in (terms_in names demanded bound) test) _ out e in
+      let w = bound_given (test_in (terms_in names demanded bound) test) _ out e in
       let same = test_same environment names valuation l demanded bound test w.0 w.1 in
       let rest = others_same demanded bound more posts (tests ++ w.0 ∷ []) out w.2 in (
         rest.0,

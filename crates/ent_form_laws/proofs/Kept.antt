@@ -140,7 +140,7 @@ module _ (worth : Known → Value) (kinds : List Kind) (image : List (Expression
 -- ---- tables
 
 -- what goes on with what is there
-over_overflow : {A : Type 0} (there : Option A) (more : A → Meaning Tables) (tables : Tables)
+pub over_overflow : {A : Type 0} (there : Option A) (more : A → Meaning Tables) (tables : Tables)
     (environment : Environment)
     → (P : Effect Tables → Type 0) → ((x : A) → there ≡ Some x → IfOk (more x tables environment) P)
     → IfOk (or_overflow there more tables environment) P

@@ -24,7 +24,7 @@ use Rattle.ent_form.specs.Lookup.{Lookup, value_place, value_in, values_in, kind
 use Rattle.ent_form.specs.Ordinary.{row_from}
 use Rattle.ent_form.specs.Steps.{there}
 use Rattle.ent_form_laws.specs.Kinds.{HasKinds}
-use Rattle.ent_form_laws.proofs.KindedSteps.{one_answer, bound_given, demand_given, there_given, equal_kinds}
+use Rattle.ent_form_laws.proofs.Steps.{one_answer, bound_given, demand_given, there_given, equal_kinds}
 
 -- ---- sums and differences
 

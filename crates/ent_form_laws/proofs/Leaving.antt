@@ -14,7 +14,7 @@ use Rattle.ent_form.specs.Kinds.{Bound}
 use Rattle.ent_form_laws.specs.Kinds.{AreKinded, HasKinds}
 use Rattle.ent_form_laws.proofs.Fitted.{statement_fits}
 use Rattle.ent_form_laws.proofs.Kept.{FitsIfOrdinary, if_ordinary}
-use Rattle.ent_form_laws.proofs.KindedSteps.{one_answer, bound_given}
+use Rattle.ent_form_laws.proofs.Steps.{one_answer, bound_given}
 
 module _ (schemas : List TableSchema) (bound : Bound) (tables : Tables) (environment : Environment)
     (kinded : AreKinded schemas tables) (have : HasKinds bound environment) where

@@ -12,10 +12,11 @@ pub mod Changing
 pub mod Images
 pub mod Updating
 pub mod Statements
+pub mod Ordinary
 pub mod Declared
-pub mod KindedSteps
 pub mod KindedRows
 pub mod Opened
+pub mod NamesApart
 pub mod Known
 pub mod Columns
 pub mod Found

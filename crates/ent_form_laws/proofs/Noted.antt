@@ -1,11 +1,13 @@
 -- The variables of a statement: those of its terms, each once.
-use Rattle.std.proofs.Common.{◌≡◌, Bool, true, false, ◌||◌, List, [], ◌∷◌, ◌++◌, refl, ◌∙◌}
+use Rattle.std.proofs.Common.{◌≡◌, true, false, List, [], ◌∷◌, ◌++◌, refl, ◌∙◌}
 use Rattle.std.specs.Prelude.{if◌then◌else◌}
 use Rattle.std.specs.List.{AllByRecursion, IsDistinct}
 use Rattle.std.proofs.lemmas.Bool.{or_parts}
 use Rattle.std.proofs.lemmas.List.Folds.{list_any-append}
+use Rattle.ent_lists.specs.Elements.{or_first, or_second}
 use Rattle.ent_tree.specs.declared.entangled.Condition.{Condition}
 use Rattle.ent_tree.specs.declared.entangled.Condition.TheVariants as conditions
+use Rattle.ent_tree.specs.declared.entangled.Entangled.{Entangled as TreeEntangled}
 use Rattle.ent_tree.specs.declared.entangled.EntangledItem.{EntangledItem}
 use Rattle.ent_tree.specs.declared.entangled.Term.{Term}
 use Rattle.ent_tree.specs.declared.entangled.Term.TheVariants as terms
@@ -14,6 +16,7 @@ use Rattle.ent_semantics.specs.Entangled.{condition_terms}
 use Rattle.ent_semantics.specs.Names.{name_itself}
 use Rattle.ent_form.specs.Catalogue.{is_among}
 use Rattle.ent_form.specs.Entangled.{noted, noted_terms, noted_items, noted_condition, noted_conditions}
+use Rattle.ent_form.specs.Entangled.{variables_of}
 
 -- what holds of the variable of a term, if it has one
 abbrev pub OfVariable : (Name → Type 0) → Term → Type 0
@@ -34,21 +37,13 @@ OfConditions P all = AllByRecursion (λ condition. OfVariables P (condition_term
 abbrev IsAmong : List Name → Name → Type 0
 IsAmong names name = is_among names name ≡ true
 
-or_here : (left right : Bool) → left ≡ true → (left || right) ≡ true
-or_here true right e = refl
-or_here false right e = cc
-
-or_there : (left right : Bool) → right ≡ true → (left || right) ≡ true
-or_there true right e = refl
-or_there false right e = e
-
 term_keeps : (names : List Name) (term : Term) (name : Name) → IsAmong names name → IsAmong (noted names term) name
 term_keeps names (terms.Value value) name h = h
 term_keeps names (terms.Variable variable) name h =
     elim (is_among names variable.name) as (λ b.
     IsAmong (if b then names else (names ++ variable.name ∷ [])) name) [
       | true ↦ h
-      | false ↦ list_any-append (λ other. same_name other name) names (variable.name ∷ []) ∙ or_here _ _ h
+      | false ↦ list_any-append (λ other. same_name other name) names (variable.name ∷ []) ∙ or_first _ _ h
     ]
 
 terms_keep : (all : List Term) (names : List Name) (name : Name) → IsAmong names name
@@ -83,28 +78,28 @@ term_noted names (terms.Variable variable) =
     → IsAmong (if b then names else (names ++ variable.name ∷ [])) variable.name) [
       | true ↦ λ e. e
       | false ↦ λ _. list_any-append (λ other. same_name other variable.name) names (variable.name ∷ [])
-          ∙ or_there _ _ (or_here _ _ (name_itself variable.name))
+          ∙ or_second _ _ (or_first _ _ (name_itself variable.name))
     ] refl
 
-weaker : (P Q : Name → Type 0) → ((name : Name) → P name → Q name) → (term : Term) → OfVariable P term
+pub variable_weaker : (P Q : Name → Type 0) → ((name : Name) → P name → Q name) → (term : Term) → OfVariable P term
     → OfVariable Q term
-weaker P Q each (terms.Value value) h = tt
-weaker P Q each (terms.Variable variable) h = each variable.name h
+variable_weaker P Q each (terms.Value value) h = tt
+variable_weaker P Q each (terms.Variable variable) h = each variable.name h
 
 pub items_weaker : (P Q : Name → Type 0) → ((name : Name) → P name → Q name) → (items : List EntangledItem)
     → OfItems P items → OfItems Q items
 items_weaker P Q each [] h = tt
-items_weaker P Q each (item ∷ more) h = (weaker P Q each item.term h.0, items_weaker P Q each more h.1)
+items_weaker P Q each (item ∷ more) h = (variable_weaker P Q each item.term h.0, items_weaker P Q each more h.1)
 
 pub terms_weaker : (P Q : Name → Type 0) → ((name : Name) → P name → Q name) → (all : List Term) → OfVariables P all
     → OfVariables Q all
 terms_weaker P Q each [] h = tt
-terms_weaker P Q each (term ∷ more) h = (weaker P Q each term h.0, terms_weaker P Q each more h.1)
+terms_weaker P Q each (term ∷ more) h = (variable_weaker P Q each term h.0, terms_weaker P Q each more h.1)
 
 pub items_noted : (items : List EntangledItem) (names : List Name) → OfItems (IsAmong (noted_items names items)) items
 items_noted [] names = tt
 items_noted (item ∷ more) names = (
-  weaker (IsAmong (noted names item.term)) (IsAmong (noted_items (noted names item.term) more))
+  variable_weaker (IsAmong (noted names item.term)) (IsAmong (noted_items (noted names item.term) more))
       (items_keep more (noted names item.term)) item.term (term_noted names item.term),
   items_noted more (noted names item.term),
 )
@@ -132,7 +127,7 @@ module _ (P : Name → Type 0) where
   terms_all [] names h k = h
   terms_all (term ∷ more) names h k = terms_all more (noted names term) (term_all names term h k.0) k.1
 
-  pub items_all : (items : List EntangledItem) (names : List Name) → AllByRecursion P names → OfItems P items
+  items_all : (items : List EntangledItem) (names : List Name) → AllByRecursion P names → OfItems P items
       → AllByRecursion P (noted_items names items)
   items_all [] names h k = h
   items_all (item ∷ more) names h k = items_all more (noted names item.term) (term_all names item.term h k.0) k.1
@@ -144,7 +139,7 @@ module _ (P : Name → Type 0) where
   condition_all (conditions.Test test) names h k =
       term_all (noted names test.left) test.right (term_all names test.left h k.0) k.1.0
 
-  pub conditions_all : (all : List Condition) (names : List Name) → AllByRecursion P names → OfConditions P all
+  conditions_all : (all : List Condition) (names : List Name) → AllByRecursion P names → OfConditions P all
       → AllByRecursion P (noted_conditions names all)
   conditions_all [] names h k = h
   conditions_all (condition ∷ more) names h k =
@@ -174,7 +169,7 @@ terms_once : (all : List Term) (names : List Name) → IsDistinct same_name name
 terms_once [] names h = h
 terms_once (term ∷ more) names h = terms_once more (noted names term) (term_once names term h)
 
-pub items_once : (items : List EntangledItem) (names : List Name) → IsDistinct same_name names
+items_once : (items : List EntangledItem) (names : List Name) → IsDistinct same_name names
     → IsDistinct same_name (noted_items names items)
 items_once [] names h = h
 items_once (item ∷ more) names h = items_once more (noted names item.term) (term_once names item.term h)
@@ -186,8 +181,24 @@ condition_once (conditions.InAnswer tuple relation) names h = terms_once tuple.t
 condition_once (conditions.Test test) names h =
     term_once (noted names test.left) test.right (term_once names test.left h)
 
-pub conditions_once : (all : List Condition) (names : List Name) → IsDistinct same_name names
+conditions_once : (all : List Condition) (names : List Name) → IsDistinct same_name names
     → IsDistinct same_name (noted_conditions names all)
 conditions_once [] names h = h
 conditions_once (condition ∷ more) names h =
     conditions_once more (noted_condition names condition) (condition_once condition names h)
+
+-- ---- the variables of a statement
+
+pub variables_all : (P : Name → Type 0) (entangled : TreeEntangled) → OfItems P entangled.items
+    → OfConditions P entangled.conditions → AllByRecursion P (variables_of entangled)
+variables_all P entangled of_items of_conditions =
+    conditions_all P entangled.conditions (noted_items [] entangled.items)
+    (items_all P entangled.items [] tt of_items) of_conditions
+
+none_twice : IsDistinct same_name []
+unfolding IsDistinct
+none_twice = tt
+
+pub variables_once : (entangled : TreeEntangled) → IsDistinct same_name (variables_of entangled)
+variables_once entangled =
+    conditions_once entangled.conditions (noted_items [] entangled.items) (items_once entangled.items [] none_twice)

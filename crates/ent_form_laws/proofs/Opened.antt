@@ -28,7 +28,7 @@ use Rattle.ent_form_laws.specs.Tables.{database_of, AreWide}
 use Rattle.ent_form_laws.specs.Kinds.{column_kinds, AreKinded}
 use Rattle.ent_form_laws.specs.Opened.{opening_tables}
 use Rattle.ent_form_laws.proofs.KindedRows.{HaveKinds, listed_kinds, each_ascending}
-use Rattle.ent_form_laws.proofs.KindedSteps.{equal_kinds, nothing_first, nothing_later, not_refused, held, found_there}
+use Rattle.ent_form_laws.proofs.Steps.{equal_kinds, nothing_first, nothing_later, not_refused, held, found_there}
 
 -- ---- a row without a fault
 
@@ -220,9 +220,15 @@ opened_under opening e i name =
     (λ none. ap (λ (rows : List OpeningRow). set.from_list {R = row_cmp} (map row_of rows))
     (no_rows (schemas_of opening.tables) name none opening.rows (nothing_later declared rows e))) i
 
+-- an opening without a fault declares each table once
+pub declared_once : (opening : Opening) → opening_fault opening ≡ None → declarations_fault [] opening.tables ≡ None
+declared_once opening e =
+    nothing_first (declarations_fault [] opening.tables)
+    (first_of (opening_row_fault (schemas_of opening.tables)) opening.rows) e
+
 -- ---- wide tables
 
-as_many : (columns : List Column) (row : List Value)
+pub as_many : (columns : List Column) (row : List Value)
     → kinds_of row ≡ map (λ (column : ColumnSchema). column.kind) (map column_schema columns)
     → length row ≡ length columns
 as_many columns row e =

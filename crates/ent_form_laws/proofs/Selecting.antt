@@ -36,7 +36,7 @@ use Rattle.ent_form.specs.Scope.{column_in}
 use Rattle.ent_form_laws.specs.Tables.{database_of, AreWide}
 use Rattle.ent_form_laws.proofs.Rows.{combinations_wide, selected_alike}
 use Rattle.ent_form_laws.proofs.Sources.{name_of, sources_seen}
-use Rattle.ent_form_laws.proofs.Steps.{same_given, bind_given, demand_given}
+use Rattle.ent_form_laws.proofs.Steps.{one_answer, bound_given, demand_given}
 use Rattle.ent_form_laws.proofs.Terms.{value_same}
 
 -- ---- a column by its number
@@ -96,7 +96,7 @@ first_meant (column ∷ columns) (value ∷ row) reference first found rest e =
 
 one_meant : (all : List (ℕ × Kind)) (place : ℕ) (found : ℕ × Kind) → only_one all place ≡ Ok found → all ≡ found ∷ []
 one_meant [] place found e = cc
-one_meant (x ∷ []) place found e = ap (λ (y : ℕ × Kind). y ∷ []) (same_given x found e)
+one_meant (x ∷ []) place found e = ap (λ (y : ℕ × Kind). y ∷ []) (one_answer x found e)
 one_meant (x ∷ y ∷ more) place found e = cc
 
 unqualified : {A : Type 0} (names : List Name) (qualifier : Option Identifier) (more : Result A FormFault) (x : A)
@@ -127,24 +127,24 @@ module _ (environment : Environment) (bound : Bound) (scope : Scope) where
   pub operand_same : (row : List Value) (operand : TreeOperand) (found : Operand Known × Kind)
       → operand_in scope bound operand ≡ Ok found → said row operand ≡ meant row found.0
   operand_same row (operands.Value value) found e =
-      let w = bind_given (value_in bound value) _ found e in
+      let w = bound_given (value_in bound value) _ found e in
       value_same environment bound value w.0 w.1
-      ∙ ap (λ (found : Operand Known × Kind). meant row found.0) (same_given _ found w.2)
+      ∙ ap (λ (found : Operand Known × Kind). meant row found.0) (one_answer _ found w.2)
   operand_same row (operands.Column reference) found e =
-      let w = bind_given (column_in scope reference) _ found e in
+      let w = bound_given (column_in scope reference) _ found e in
       column_same scope row reference w.0 w.1
-      ∙ ap (λ (found : Operand Known × Kind). meant row found.0) (same_given _ found w.2)
+      ∙ ap (λ (found : Operand Known × Kind). meant row found.0) (one_answer _ found w.2)
 
   test_same : (row : List Value) (test : Test TreeOperand) (form : Test (Operand Known))
       → test_in (operands_in scope bound) test ≡ Ok form → holds (said row) test ≡ holds (meant row) form
   unfolding test_in
   test_same row test form e =
-      let left = bind_given (operand_in scope bound test.left) _ form e in
-      let right = bind_given (operand_in scope bound test.right) _ form left.2 in
+      let left = bound_given (operand_in scope bound test.left) _ form e in
+      let right = bound_given (operand_in scope bound test.right) _ form left.2 in
       let kept = demand_given (same_kind left.0.1 right.0.1) (WrongKind (operand_place test.right)) _ form right.2 in
       (λ i. compares test.comparison (value_cmp (operand_same row test.left left.0 left.1 i)
       (operand_same row test.right right.0 right.1 i)))
-      ∙ ap (λ (form : Test (Operand Known)). holds (meant row) form) (same_given _ form kept.1)
+      ∙ ap (λ (form : Test (Operand Known)). holds (meant row) form) (one_answer _ form kept.1)
 
   and_assoc : (a b c : Bool) → ((a && b) && c) ≡ (a && (b && c))
   and_assoc true b c = refl
@@ -162,9 +162,9 @@ module _ (environment : Environment) (bound : Bound) (scope : Scope) where
       → tests_from (operands_in scope bound) made tests ≡ Ok forms
       → meets meant forms row ≡ (meets meant made row && meets said tests row)
   tests_same row [] made forms e =
-      ap (λ xs. meets meant xs row) (sym (same_given made forms e)) ∙ sym (and_true (meets meant made row))
+      ap (λ xs. meets meant xs row) (sym (one_answer made forms e)) ∙ sym (and_true (meets meant made row))
   tests_same row (test ∷ more) made forms e =
-      let w = bind_given (test_in (operands_in scope bound) test) _ forms e in
+      let w = bound_given (test_in (operands_in scope bound) test) _ forms e in
       tests_same row more (made ++ w.0 ∷ []) forms w.2
       ∙ ap (λ b. b && meets said more row) (all_behind (holds (meant row)) made w.0)
       ∙ and_assoc (meets meant made row) (holds (meant row) w.0) (meets said more row)
@@ -179,10 +179,10 @@ module _ (environment : Environment) (bound : Bound) (scope : Scope) where
       → items_from (operands_in scope bound) shown listed ≡ Ok out
       → map (meant row) out.0 ≡ map (meant row) shown.0 ++ map (said row) listed
   listed_same row [] shown out e =
-      ap (λ (s : Shown). map (meant row) s.0) (sym (same_given shown out e))
+      ap (λ (s : Shown). map (meant row) s.0) (sym (one_answer shown out e))
       ∙ sym (append-nil (map (meant row) shown.0))
   listed_same row (item ∷ more) shown out e =
-      let w = bind_given (operand_in scope bound item) _ out e in
+      let w = bound_given (operand_in scope bound item) _ out e in
       listed_same row more (with_item shown w.0) out w.2
       ∙ ap (λ xs. xs ++ map (said row) more) (map-append (meant row) shown.0 (w.0.0 ∷ []))
       ∙ append_assoc (map (meant row) shown.0) (meant row w.0.0 ∷ []) (map (said row) more)
@@ -208,7 +208,7 @@ module _ (environment : Environment) (bound : Bound) (scope : Scope) where
       → items_in scope bound all ≡ Ok out → item_row said all row ≡ map (meant row) out.0
   items_same row items.All out l e =
       sym (columns_shown [] row scope.columns 0 refl l)
-      ∙ ap (λ (s : Shown). map (meant row) s.0) (same_given (all_shown scope) out e)
+      ∙ ap (λ (s : Shown). map (meant row) s.0) (one_answer (all_shown scope) out e)
   items_same row (items.Listed listed) out l e = sym (listed_same row listed ([], []) out e)
 
 -- ---- the whole SELECT
@@ -220,13 +220,13 @@ module _ (creates : List Create) (tables : Tables) (fitting : AreWide creates ta
       ≡ form_rows (known_worth environment) tables form
   unfolding select_in
   select_same bound select form kinds e =
-      let found = bind_given (sources_in (schemas_of creates) select.sources) _ (form, kinds) e in
+      let found = bound_given (sources_in (schemas_of creates) select.sources) _ (form, kinds) e in
       let scope = found.0 in
-      let tests = bind_given (tests_in scope bound select.tests) _ (form, kinds) found.2 in
-      let shown = bind_given (items_in scope bound select.items) _ (form, kinds) tests.2 in
+      let tests = bound_given (tests_in scope bound select.tests) _ (form, kinds) found.2 in
+      let shown = bound_given (items_in scope bound select.items) _ (form, kinds) tests.2 in
       let seen = sources_seen creates tables fitting select.sources no_source scope found.1 in
       let made : record { sources = scope.tables; items = shown.0.0; tests = tests.0 } ≡ form =
-      ap (λ (both : Select Known × List Kind). both.0) (same_given _ (form, kinds) shown.2) in
+      ap (λ (both : Select Known × List Kind). both.0) (one_answer _ (form, kinds) shown.2) in
       let wide : AllByRecursion (λ row. length row ≡ length scope.columns)
       (combinations (map (λ source. database_of creates tables source.table.name) select.sources)) =
       subst (λ n. AllByRecursion (λ row. length row ≡ n)

@@ -16,7 +16,7 @@ use Rattle.ent_form.specs.declared.catalogue.TableSchema.{TableSchema}
 use Rattle.ent_form.specs.declared.fault.FormFault.TheVariants.{NoTable, Ambiguous}
 use Rattle.ent_form.specs.Catalogue.{column_schema, table_schema, schemas_of, table_from, table_named, is_among}
 use Rattle.ent_form.specs.Scope.{Visible, Scope, visible, with_source, source_place, sources_from}
-use Rattle.ent_form_laws.proofs.Steps.{same_given, bind_given, demand_given, there_given}
+use Rattle.ent_form_laws.proofs.Steps.{one_answer, bound_given, demand_given, there_given}
 use Rattle.ent_form.specs.Steps.{there}
 use Rattle.ent_form_laws.specs.Tables.{database_of, AreWide}
 
@@ -127,7 +127,7 @@ module _ (creates : List Create) (tables : Tables) (fitting : AreWide creates ta
   pub sources_seen : (sources : List Source) (scope out : Scope)
       → sources_from (schemas_of creates) scope sources ≡ Ok out → Seen scope out sources
   sources_seen [] scope out e =
-      let is : scope ≡ out = same_given scope out e in
+      let is : scope ≡ out = one_answer scope out e in
       record {
         widths = [];
         columns = ap (λ (s : Scope). map name_of s.columns) (sym is) ∙ sym (append-nil (map name_of scope.columns));
@@ -139,7 +139,7 @@ module _ (creates : List Create) (tables : Tables) (fitting : AreWide creates ta
       }
   sources_seen (source ∷ more) scope out e =
       let name = source_name source in
-      let w = bind_given (there (table_named (schemas_of creates) source.table.name) (NoTable source.table.place)) _
+      let w = bound_given (there (table_named (schemas_of creates) source.table.name) (NoTable source.table.place)) _
       out e in
       let found : ℕ × TableSchema = w.0 in
       let kept = demand_given (not (is_among scope.names name)) (Ambiguous (source_place source)) _ out w.2 in

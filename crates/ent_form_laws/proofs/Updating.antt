@@ -39,7 +39,7 @@ use Rattle.ent_form_laws.proofs.Images.{names_of, image_same}
 use Rattle.ent_form_laws.proofs.Putting.{put_at, replacement_same}
 use Rattle.ent_form_laws.proofs.Selecting.{said, meant, where_same}
 use Rattle.ent_form_laws.proofs.Sources.{name_of, OfWidth, told, names_seen, names_again}
-use Rattle.ent_form_laws.proofs.Steps.{same_given, bind_given, there_given}
+use Rattle.ent_form_laws.proofs.Steps.{one_answer, bound_given, there_given}
 
 -- ---- rows of a width
 
@@ -141,13 +141,13 @@ module _ (creates : List Create) (tables : Tables) (fitting : AreWide creates ta
   unfolding update_in
   update_same update form e =
       let name = update.table.name in
-      let found = bind_given (table_in (schemas_of creates) update.table) _ form e in
+      let found = bound_given (table_in (schemas_of creates) update.table) _ form e in
       let there_it_is = there_given (catalogue.table_named (schemas_of creates) name) (NoTable update.table.place)
       found.0 found.1 in
       let scope = table_scope name found.0 in
       let schema = found.0.1.columns in
-      let tests = bind_given (tests_in scope bound update.tests) _ form found.2 in
-      let made = bind_given (image_in scope bound schema update.assignments) _ form tests.2 in
+      let tests = bound_given (tests_in scope bound update.tests) _ form found.2 in
+      let made = bound_given (image_in scope bound schema update.assignments) _ form tests.2 in
       let here = told creates tables name 0 found.0 fitting there_it_is in
       let put = put_at creates tables name 0 found.0 fitting there_it_is in
       let number : here.number ≡ found.0.0 = let c = here.counted in omega arith in
@@ -182,4 +182,4 @@ module _ (creates : List Create) (tables : Tables) (fitting : AreWide creates ta
       (updated_alike matches tree_image form_image (database name) (length schema) wide alike)
       ∙ replacement_same creates tables name put.0 put.2 environment matches form_image rows
       ∙ ap (λ (n : ℕ). effect_of creates (replacement (table_numbered n) matches form_image tables environment)) place
-      ∙ ap (λ (f : Statement Known). effect_of creates (meaning f)) (same_given _ form made.2)
+      ∙ ap (λ (f : Statement Known). effect_of creates (meaning f)) (one_answer _ form made.2)

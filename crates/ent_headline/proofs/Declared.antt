@@ -22,6 +22,7 @@ use Rattle.ent_form.specs.Kinds.{Bound, none_bound}
 use Rattle.ent_form.specs.declared.catalogue.TableSchema.{TableSchema}
 use Rattle.ent_form.specs.declared.fault.FormFault.{FormFault}
 use Rattle.ent_form_laws.specs.Kinds.{AreDeclared}
+use Rattle.ent_form_laws.proofs.Steps.{one_answer, bound_given}
 use Rattle.ent_coordination.specs.Pool.{Posted}
 use Rattle.ent_protocol.specs.Begin.{same_use, use_rank, with_uses}
 use Rattle.ent_protocol.specs.Finish.{table_of}
@@ -39,7 +40,6 @@ use Rattle.ent_lists.specs.Elements.{In, contains_in, in_either, in_flat, of_all
 use Rattle.ent_lists.specs.Elements.{all_first, all_second}
 use Rattle.ent_headline.proofs.Lists.{numbered_in}
 use Rattle.ent_headline.proofs.Places.{statements_given}
-use Rattle.ent_headline.proofs.Steps.{bound_given, one_answer}
 
 -- ---- lists
 

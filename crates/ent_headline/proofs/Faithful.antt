@@ -22,17 +22,18 @@ use Rattle.ent_form.specs.Catalogue.{schemas_of}
 use Rattle.ent_form.specs.Entangled.{entangled_in}
 use Rattle.ent_form.specs.Form.{statement_in, statements_from, script_in}
 use Rattle.ent_form.specs.Kinds.{Bound, none_bound}
-use Rattle.ent_form.specs.OpeningFault.{declarations_fault, first_of, opening_row_fault, opening_fault}
+use Rattle.ent_form.specs.OpeningFault.{declarations_fault, opening_fault}
 use Rattle.ent_form_laws.specs.Kinds.{AreKinded}
 use Rattle.ent_form_laws.specs.Opened.{opening_tables}
 use Rattle.ent_form_laws.specs.Tables.{database_of, AreWide, HaveDistinctColumns, effect_of, Answers}
+use Rattle.ent_form_laws.proofs.Opened.{declared_once}
+use Rattle.ent_form_laws.proofs.Steps.{one_answer, bound_given}
 use Rattle.ent_protocol.specs.Reached.{table_names}
 use Rattle.ent_protocol.specs.Uses.{shared, exclusive, statement_uses}
 use Rattle.ent_serializability.specs.Faithful.{number_of, is_used, is_owned, IsFaithfulEntangled, IsFaithful, InTurn}
 use Rattle.ent_serializability.specs.Faithful.{AreFaithful}
 use Rattle.ent_headline.specs.Resolved.{resolved_forms}
 use Rattle.ent_headline.proofs.Named.{IsRight, statement_right}
-use Rattle.ent_headline.proofs.Steps.{one_answer, bound_given, nothing_first}
 use Rattle.ent_headline.proofs.Used.{UsesOf, uses_are, used_there, owned_there, all_declared}
 use Rattle.ent_headline.proofs.Widths.{widths_kept}
 
@@ -155,8 +156,7 @@ pub resolved_faithful : (laws : Laws) (opening : Opening) → opening_fault open
 resolved_faithful laws opening e =
     let creates = opening.tables in
     let apart : HaveDistinctColumns opening.tables =
-    laws.columns creates (nothing_first (declarations_fault [] creates)
-    (first_of (opening_row_fault (schemas_of creates)) opening.rows) e) in
+    laws.columns creates (declared_once opening e) in
     let same : opening_tables opening ≡ map (opening_database opening) (table_names opening) =
     sym (map-map (opening_database opening) (λ (create : Create). create.name.name) creates) in
     record {

@@ -28,6 +28,7 @@ use Rattle.ent_form.specs.declared.catalogue.ColumnSchema.{ColumnSchema}
 use Rattle.ent_form.specs.declared.catalogue.TableSchema.{TableSchema}
 use Rattle.ent_form.specs.declared.fault.FormFault.{FormFault}
 use Rattle.ent_form_laws.specs.Kinds.{column_kinds, kinds_numbered}
+use Rattle.ent_form_laws.proofs.Steps.{one_answer, bound_given}
 use Rattle.ent_protocol.specs.Job.{Seen}
 use Rattle.ent_protocol.specs.Member.{Ordinary, next_in, next_of, statement_next, end_next, environment_of}
 use Rattle.ent_protocol.specs.Member.{declared_kinds, seen_now}
@@ -39,7 +40,6 @@ use Rattle.ent_headline.specs.Kinds.{bound_behind, HasKindsThere}
 use Rattle.ent_headline.proofs.Lists.{numbered_in, one_thing}
 use Rattle.ent_headline.proofs.Places.{statements_given}
 use Rattle.ent_headline.proofs.Replayed.{FitsLaw}
-use Rattle.ent_headline.proofs.Steps.{bound_given, one_answer}
 
 -- ---- the statement of a form at a place
 

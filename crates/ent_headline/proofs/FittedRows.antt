@@ -14,7 +14,7 @@ use Rattle.ent_form.specs.Ordinary.{Image, row_from, own_from, assignment_in, as
 use Rattle.ent_form.specs.Scope.{Scope}
 use Rattle.ent_form.specs.Steps.{there}
 use Rattle.ent_semantics.specs.Database.{Name}
-use Rattle.ent_headline.proofs.Steps.{one_answer, bound_given, demand_given}
+use Rattle.ent_form_laws.proofs.Steps.{one_answer, bound_given, demand_given}
 
 nothing_more : (n : ℕ) → n ≡ n + 0
 nothing_more n = omega arith

@@ -41,11 +41,11 @@ use Rattle.ent_form.specs.Ordinary.{update_in, set_in}
 use Rattle.ent_form.specs.Scope.{Scope, with_source, source_place, sources_from, sources_in, no_source, table_in}
 use Rattle.ent_form.specs.Scope.{table_scope}
 use Rattle.ent_form.specs.Steps.{there}
+use Rattle.ent_form_laws.proofs.Steps.{one_answer, bound_given, demand_given, there_given}
 use Rattle.ent_serializability.specs.Faithful.{number_of, IsFaithfulEntangled, AreAlike}
 use Rattle.ent_lists.specs.Elements.{all_joined}
 use Rattle.ent_headline.proofs.FittedRows.{row_long, image_long}
 use Rattle.ent_headline.proofs.Numbers.{width_numbered, Found, found_named, found_in}
-use Rattle.ent_headline.proofs.Steps.{one_answer, bound_given, demand_given, there_given}
 use Rattle.ent_headline.proofs.Widths.{FitsTable, FitsWidth}
 
 -- the tables that a form names, those that it reads and the one that it changes

@@ -16,6 +16,7 @@ use Rattle.ent_form_laws.specs.Opened.{opening_tables}
 use Rattle.ent_serializability.specs.History.{History, Replays, AreSerial}
 use Rattle.ent_serializability.specs.SerialState.{IsSerialState, Follows, IsWhole}
 use Rattle.ent_form_laws.specs.Tables.{database_of, HaveDistinctColumns}
+use Rattle.ent_form_laws.proofs.Steps.{one_answer, bound_given}
 use Rattle.ent_protocol.specs.Member.{environment_of}
 use Rattle.ent_protocol.specs.Reached.{IsReached, settled}
 use Rattle.ent_protocol.specs.State.{State, Submitted, Member}
@@ -25,7 +26,6 @@ use Rattle.ent_lists.specs.Elements.{In, of_all, contains_in, in_contains, of_ma
 use Rattle.ent_headline.proofs.Lists.{numbered_in}
 use Rattle.ent_headline.proofs.Posted.{plain_given}
 use Rattle.ent_headline.proofs.Replayed.{Laws, Stands, run_kept, of_both}
-use Rattle.ent_headline.proofs.Steps.{bound_given, one_answer}
 use Rattle.ent_headline.proofs.Submitted.{submitted_resolved}
 
 no_kinds : HasKinds none_bound nothing_bound

@@ -19,6 +19,7 @@ use Rattle.ent_form.specs.Form.{script_in}
 use Rattle.ent_form.specs.declared.catalogue.TableSchema.{TableSchema}
 use Rattle.ent_form.specs.declared.fault.FormFault.{FormFault}
 use Rattle.ent_form.specs.declared.script.Plain.{Plain}
+use Rattle.ent_form_laws.proofs.Steps.{one_answer}
 use Rattle.ent_protocol.specs.Member.{Next, Ordinary, Asks, Commits, RollsBack, next_in, next_of, posted_by, pool}
 use Rattle.ent_protocol.specs.Member.{statement_next, end_next, environment_of}
 use Rattle.ent_protocol.specs.Reached.{IsReached}
@@ -27,7 +28,6 @@ use Rattle.ent_protocol.specs.State.{State, Submitted, Member}
 use Rattle.ent_headline.specs.Resolved.{resolved_forms}
 use Rattle.ent_lists.specs.Elements.{In, in_contains, of_map, in_flat}
 use Rattle.ent_headline.proofs.Lists.{numbered_in}
-use Rattle.ent_headline.proofs.Steps.{one_answer}
 use Rattle.ent_headline.proofs.Submitted.{submitted_resolved}
 
 -- a statement in the pool is an entangled one of a resolved script, closed

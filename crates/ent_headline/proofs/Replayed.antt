@@ -34,8 +34,8 @@ use Rattle.ent_form.specs.declared.catalogue.TableSchema.{TableSchema}
 use Rattle.ent_form.specs.declared.fault.FormFault.{FormFault}
 use Rattle.ent_form_laws.specs.Kinds.{kinds_numbered, AnswersInKind, AreKinded, HasKinds}
 use Rattle.ent_form_laws.specs.Tables.{database_of, effect_of, Answers, AreWide, HaveDistinctColumns}
+use Rattle.ent_form_laws.proofs.Steps.{one_answer, bound_given}
 use Rattle.ent_headline.specs.Kinds.{bound_behind}
-use Rattle.ent_headline.proofs.Steps.{bound_given, one_answer}
 
 -- an ordinary statement fits the tables that it names
 abbrev pub FitsLaw : Type 0

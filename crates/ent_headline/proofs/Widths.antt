@@ -20,11 +20,12 @@ use Rattle.ent_semantics.specs.declared.answer.Failure.{Failure}
 use Rattle.ent_semantics.specs.declared.answer.Failure.TheVariants.{TableFull}
 use Rattle.ent_semantics.specs.Change.{all_there, matched, unmatched, updated}
 use Rattle.ent_semantics.specs.Database.{Rows, Environment, with_value}
-use Rattle.ent_semantics.specs.Effect.{Effect, Meaning, changed, or_overflow}
+use Rattle.ent_semantics.specs.Effect.{Effect, changed}
 use Rattle.ent_semantics.specs.Entangled.{Valuation}
 use Rattle.ent_semantics.specs.Selection.{meets}
 use Rattle.ent_semantics.specs.Term.{expression_value}
 use Rattle.ent_form_laws.specs.Tables.{AreWide}
+use Rattle.ent_form_laws.proofs.Kept.{over_overflow}
 use Rattle.ent_headline.proofs.Numbers.{width_numbered, wide_at, wide_with}
 use Rattle.ent_headline.proofs.Rows.{EachRow, of_ascending, to_ascending, each_inserted, each_all_inserted}
 use Rattle.ent_headline.proofs.Rows.{each_retained}
@@ -78,14 +79,6 @@ module _ (width : ℕ) (image : List Value → Option (List Value))
       (each_retained (Wide width) rows (λ row. not (matches row)) h) (images_wide old)) e
 
 -- ---- tables
-
--- what goes on with what is there
-over_overflow : {A : Type 0} (there : Option A) (more : A → Meaning Tables) (tables : Tables)
-    (environment : Environment)
-    → (P : Effect Tables → Type 0) → ((x : A) → there ≡ Some x → IfOk (more x tables environment) P)
-    → IfOk (or_overflow there more tables environment) P
-over_overflow None more tables environment P h = tt
-over_overflow (Some x) more tables environment P h = h x refl
 
 -- a table is declared, and a row that is made for it has a value for each of its columns
 pub record FitsTable (creates : List Create) (table values : ℕ) : Type 0 where

@@ -1,4 +1,3 @@
-pub mod Steps
 pub mod Statements
 pub mod Offers
 pub mod Noted

@@ -1,9 +1,10 @@
 -- The heads of resolved statements are of distinct relations.
-use Rattle.std.proofs.Common.{◌≡◌, ◌≢◌, ◌<◌, ◌||◌, ℕ, zero, suc, Bool, true, false, not, List, [], ◌∷◌, ◌++◌, map}
-use Rattle.std.proofs.Common.{length, Ok, refl, sym, ap, subst, arith}
+use Rattle.std.proofs.Common.{◌≡◌, ◌≢◌, ◌<◌, ℕ, zero, suc, true, false, not, List, [], ◌∷◌, ◌++◌, map}
+use Rattle.std.proofs.Common.{length, Ok, sym, ap, subst, arith}
 use Rattle.std.specs.Prelude.{Contains, slice_index_or}
 use Rattle.std.specs.List.{AllByRecursion}
 use Rattle.std.proofs.lemmas.List.{map-append}
+use Rattle.ent_lists.specs.Elements.{clash, neither, turned}
 use Rattle.ent_value.specs.declared.value.Value.{Value}
 use Rattle.ent_tree.specs.declared.operand.Identifier.{Identifier}
 use Rattle.ent_tree.specs.declared.script.Script.{Script}
@@ -24,9 +25,9 @@ use Rattle.ent_form.specs.Kinds.{Bound, none_bound}
 use Rattle.ent_form.specs.declared.catalogue.TableSchema.{TableSchema}
 use Rattle.ent_form.specs.declared.fault.FormFault.TheVariants.{Repeated}
 use Rattle.ent_form.specs.declared.script.Plain.{Plain}
+use Rattle.ent_form_laws.proofs.Steps.{one_answer, bound_given, demand_given}
 use Rattle.ent_plan.specs.Plan.{HasDistinctHeads}
 use Rattle.ent_offer_laws.proofs.Statements.{OfResolved, script_each}
-use Rattle.ent_offer_laws.proofs.Steps.{bind_given, demand_given, same_given}
 
 -- ---- heads
 
@@ -49,17 +50,6 @@ apart_put [] head apart new = (tt, tt)
 apart_put (first ∷ made) head apart new =
     (all_put (Differ first) made head apart.0 new.0, apart_put made head apart.1 new.1)
 
-not_either : (a b : Bool) → (a || b) ≡ false → (a ≡ false) × (b ≡ false)
-not_either true b is = absurd cc
-not_either false b is = (refl, is)
-
-true_or_false : (b : Bool) → b ≡ true → b ≡ false → ⊥
-true_or_false b is isnt = cc
-
-false_of : (b : Bool) → not b ≡ true → b ≡ false
-false_of true is = absurd cc
-false_of false is = refl
-
 names_of : List (Atom Known) → List Name
 names_of made = map (λ (head : Atom Known). head.relation) made
 
@@ -69,8 +59,8 @@ others_differ : (made : List (Atom Known)) (head : Atom Known) → is_among (nam
 unfolding names_of
 others_differ [] head new = tt
 others_differ (first ∷ made) head new =
-    let parts = not_either (same_name first.relation head.relation) (is_among (names_of made) head.relation) new in (
-      λ same. true_or_false (same_name first.relation head.relation)
+    let parts = neither (same_name first.relation head.relation) (is_among (names_of made) head.relation) new in (
+      λ same. clash (same_name first.relation head.relation)
           (subst (λ name. same_name first.relation name ≡ true) same (name_itself first.relation)) parts.0,
       others_differ made head parts.1,
     )
@@ -78,12 +68,12 @@ others_differ (first ∷ made) head new =
 heads_apart : (terms : List (Term Known)) (relations : List Identifier) (made out : List (Atom Known))
     → AreApart made → heads_from terms (names_of made) made relations ≡ Ok out → AreApart out
 unfolding names_of
-heads_apart terms [] made out apart e = subst AreApart (same_given made out e) apart
+heads_apart terms [] made out apart e = subst AreApart (one_answer made out e) apart
 heads_apart terms (relation ∷ more) made out apart e =
     let head : Atom Known = record { relation = relation.name; terms = terms } in
     let kept = demand_given (not (is_among (names_of made) relation.name)) (Repeated relation.place) _ out e in
     heads_apart terms more (made ++ head ∷ []) out
-    (apart_put made head apart (others_differ made head (false_of (is_among (names_of made) relation.name) kept.0)))
+    (apart_put made head apart (others_differ made head (turned (is_among (names_of made) relation.name) kept.0)))
     (subst (λ (names : List Name). heads_from terms names (made ++ head ∷ []) more ≡ Ok out)
     (sym (map-append (λ (head : Atom Known). head.relation) made (head ∷ []))) kept.1)
 
@@ -92,11 +82,11 @@ heads_apart terms (relation ∷ more) made out apart e =
 entangled_apart : OfResolved (λ entangled. AreApart entangled.heads)
 unfolding entangled_in names_of
 entangled_apart tables bound tree form e =
-    let body = bind_given (memberships_from tables bound (variables_of tree) [] none_bound tree.conditions) _ form e in
-    let offer = bind_given (offer_from (variables_of tree) body.0.1 bound no_offer tree.items) _ form body.2 in
-    let heads = bind_given (heads_from offer.0.terms [] [] tree.relations) _ form offer.2 in
-    let others = bind_given (others_from (variables_of tree) body.0.1 bound [] [] tree.conditions) _ form heads.2 in
-    let made = ap (λ (both : Entangled Known × Bound). both.0.heads) (same_given _ form others.2) in
+    let body = bound_given (memberships_from tables bound (variables_of tree) [] none_bound tree.conditions) _ form e in
+    let offer = bound_given (offer_from (variables_of tree) body.0.1 bound no_offer tree.items) _ form body.2 in
+    let heads = bound_given (heads_from offer.0.terms [] [] tree.relations) _ form offer.2 in
+    let others = bound_given (others_from (variables_of tree) body.0.1 bound [] [] tree.conditions) _ form heads.2 in
+    let made = ap (λ (both : Entangled Known × Bound). both.0.heads) (one_answer _ form others.2) in
     subst AreApart made (heads_apart offer.0.terms tree.relations [] heads.0 tt heads.1)
 
 -- ---- closed

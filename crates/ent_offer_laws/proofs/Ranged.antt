@@ -6,23 +6,21 @@ use Rattle.std.specs.List.{AllByRecursion, list_any}
 use Rattle.std.proofs.lemmas.Bool.{eqb-true}
 use Rattle.std.proofs.lemmas.List.{length-map}
 use Rattle.std.proofs.lemmas.List.Folds.{list_any-append}
+use Rattle.ent_lists.specs.Elements.{or_first, or_second}
 use Rattle.ent_value.specs.declared.value.Kind.{Kind}
 use Rattle.ent_value.specs.declared.value.Kind.TheVariants.{Int}
 use Rattle.ent_tree.specs.declared.entangled.Condition.{Condition}
 use Rattle.ent_tree.specs.declared.entangled.Condition.TheVariants as conditions
-use Rattle.ent_tree.specs.declared.entangled.EntangledItem.{EntangledItem}
 use Rattle.ent_tree.specs.declared.entangled.Term.{Term as TreeTerm}
 use Rattle.ent_tree.specs.declared.entangled.Term.TheVariants as terms
 use Rattle.ent_tree.specs.declared.entangled.Tuple.{Tuple}
 use Rattle.ent_tree.specs.declared.operand.Identifier.{Identifier}
-use Rattle.ent_tree.specs.declared.operand.Test.{Test}
 use Rattle.ent_tree.specs.declared.script.Script.{Script}
 use Rattle.ent_tree.specs.declared.select.Select.{Select as TreeSelect}
 use Rattle.ent_semantics.specs.Database.{Environment, Name, same_name}
 use Rattle.ent_semantics.specs.Names.{equal_names}
 use Rattle.ent_closed.specs.Closing.{closed_entangled, membership_over, term_over}
 use Rattle.ent_closed.specs.Form.{known_worth}
-use Rattle.ent_closed.specs.declared.entangled.Atom.{Atom}
 use Rattle.ent_closed.specs.declared.entangled.Entangled.{Entangled}
 use Rattle.ent_closed.specs.declared.entangled.Membership.{Membership}
 use Rattle.ent_closed.specs.declared.entangled.Term.{Term}
@@ -30,32 +28,22 @@ use Rattle.ent_closed.specs.declared.entangled.Term.TheVariants as resolved
 use Rattle.ent_closed.specs.declared.operand.Known.{Known}
 use Rattle.ent_closed.specs.declared.statement.Statement.TheVariants as statements
 use Rattle.ent_form.specs.Entangled.{index_of, variables_of, demanded_in, member_in, members_from, membership_in}
-use Rattle.ent_form.specs.Entangled.{memberships_from, term_in, terms_in, Offer, no_offer, item_in, offer_from}
-use Rattle.ent_form.specs.Entangled.{heads_from, atom_from, post_in, others_from, entangled_in}
+use Rattle.ent_form.specs.Entangled.{memberships_from, no_offer, offer_from, heads_from, others_from, entangled_in}
 use Rattle.ent_form.specs.Form.{script_in}
 use Rattle.ent_form.specs.Kinds.{Bound, same_kind, none_bound, with_kind}
-use Rattle.ent_form.specs.Lookup.{values_in, kind_in, test_in}
+use Rattle.ent_form.specs.Lookup.{values_in, kind_in}
 use Rattle.ent_form.specs.Ordinary.{select_in}
-use Rattle.ent_form.specs.Steps.{there}
 use Rattle.ent_form.specs.declared.catalogue.TableSchema.{TableSchema}
-use Rattle.ent_form.specs.declared.fault.FormFault.TheVariants.{Arity, WrongKind, Unbound}
+use Rattle.ent_form.specs.declared.fault.FormFault.TheVariants.{Arity, WrongKind}
 use Rattle.ent_form.specs.declared.script.Plain.{Plain}
+use Rattle.ent_form_laws.proofs.Grounded.{IsDemanded, OfSubselect, OfOther, of_both, items_demanded, others_demanded}
+use Rattle.ent_form_laws.proofs.Noted.{OfVariable, OfVariables, variable_weaker, items_weaker, terms_weaker}
+use Rattle.ent_form_laws.proofs.Steps.{one_answer, bound_given, demand_given}
 use Rattle.ent_plan.specs.Ranged.{is_variable, stands_in, IsRanged}
-use Rattle.ent_offer_laws.proofs.Noted.{OfVariable, OfVariables, OfItems, OfConditions, variable_weaker}
-use Rattle.ent_offer_laws.proofs.Noted.{variables_weaker}
 use Rattle.ent_offer_laws.proofs.Noted.{variable_at}
 use Rattle.ent_offer_laws.proofs.Statements.{OfResolved, script_each}
-use Rattle.ent_offer_laws.proofs.Steps.{bind_given, demand_given, same_given, there_given}
 
 -- ---- lists
-
-or_first : (a b : Bool) → a ≡ true → (a || b) ≡ true
-or_first true b e = refl
-or_first false b e = cc
-
-or_second : (a b : Bool) → b ≡ true → (a || b) ≡ true
-or_second true b e = refl
-or_second false b e = e
 
 module _ {X : Type 0} (p : X → Bool) where
   any_before : (xs ys : List X) → list_any p xs ≡ true → list_any p (xs ++ ys) ≡ true
@@ -71,29 +59,6 @@ any_map p f (x ∷ xs) = ap (λ b. p (f x) || b) (any_map p f xs)
 
 number_itself : (a : ℕ) → (a == a) ≡ true
 number_itself a = grind (arith, rules)
-
--- a variable is demanded in a kind
-abbrev IsDemanded : Bound → Name → Type 0
-IsDemanded demanded name = (kind : Kind) × (demanded name ≡ Some kind)
-
--- the terms of a condition that stand beside a sub-select
-abbrev OfSubselect : (Name → Type 0) → Condition → Type 0
-OfSubselect P (conditions.InSelect tuple select) = OfVariables P tuple.terms
-OfSubselect P (conditions.InAnswer tuple relation) = Unit {0}
-OfSubselect P (conditions.Test test) = Unit {0}
-
--- those of all others
-abbrev OfOther : (Name → Type 0) → Condition → Type 0
-OfOther P (conditions.InSelect tuple select) = Unit {0}
-OfOther P (conditions.InAnswer tuple relation) = OfVariables P tuple.terms
-OfOther P (conditions.Test test) = OfVariables P (test.left ∷ test.right ∷ [])
-
-of_both : (P : Name → Type 0) (all : List Condition) → AllByRecursion (OfSubselect P) all
-    → AllByRecursion (OfOther P) all → OfConditions P all
-of_both P [] h k = tt
-of_both P (conditions.InSelect tuple select ∷ more) h k = (h.0, of_both P more h.1 k.1)
-of_both P (conditions.InAnswer tuple relation ∷ more) h k = (k.0, of_both P more h.1 k.1)
-of_both P (conditions.Test test ∷ more) h k = (k.0, of_both P more h.1 k.1)
 
 module _ (environment : Environment) (names : List Name) where
   abbrev is_of : Name → Term Known → Bool
@@ -121,7 +86,7 @@ module _ (environment : Environment) (names : List Name) where
       → MemberStands demanded (terms.Variable variable) found
   demand_stands demanded variable kind None found e =
       subst (MemberStands demanded (terms.Variable variable))
-      (same_given (resolved.Variable (index_of names variable.name), with_kind demanded variable.name kind) found e) (
+      (one_answer (resolved.Variable (index_of names variable.name), with_kind demanded variable.name kind) found e) (
         number_itself (index_of names variable.name),
         λ name h.
             (elim (same_name variable.name name) as (λ b. same_name variable.name name ≡ b
@@ -135,14 +100,14 @@ module _ (environment : Environment) (names : List Name) where
   demand_stands demanded variable kind (Some earlier) found e =
       let kept = demand_given (same_kind earlier kind) (WrongKind variable.place) _ found e in
       subst (MemberStands demanded (terms.Variable variable))
-      (same_given (resolved.Variable (index_of names variable.name), demanded) found kept.1)
+      (one_answer (resolved.Variable (index_of names variable.name), demanded) found kept.1)
       (number_itself (index_of names variable.name), λ name h. inl h)
 
   member_stands : (bound demanded : Bound) (kind : Kind) (term : TreeTerm) (found : Term Known × Bound)
       → member_in names bound demanded kind term ≡ Ok found → MemberStands demanded term found
   member_stands bound demanded kind (terms.Value value) found e =
-      let w = bind_given (kind_in (values_in bound) kind value) _ found e in
-      subst (MemberStands demanded (terms.Value value)) (same_given (resolved.Known w.0, demanded) found w.2)
+      let w = bound_given (kind_in (values_in bound) kind value) _ found e in
+      subst (MemberStands demanded (terms.Value value)) (one_answer (resolved.Known w.0, demanded) found w.2)
       (tt, λ name h. inl h)
   member_stands bound demanded kind (terms.Variable variable) found e =
       demand_stands demanded variable kind (demanded variable.name) found e
@@ -157,12 +122,12 @@ module _ (environment : Environment) (names : List Name) where
       (demanded : Bound) (found : List (Term Known) × Bound) → length all ≡ length kinds
       → members_from names bound made demanded kinds all ≡ Ok found → MembersStand demanded all made found
   members_stand bound [] [] made demanded found l e =
-      subst (MembersStand demanded [] made) (same_given (made, demanded) found e)
+      subst (MembersStand demanded [] made) (one_answer (made, demanded) found e)
       (record { kept = λ name h. h; each = tt; demands = λ name h. inl h })
   members_stand bound [] (term ∷ more) made demanded found l e = absurd (omega (arith, l))
   members_stand bound (kind ∷ kinds) [] made demanded found l e = absurd (omega (arith, l))
   members_stand bound (kind ∷ kinds) (term ∷ more) made demanded found l e =
-      let w = bind_given (member_in names bound demanded kind term) _ found e in
+      let w = bound_given (member_in names bound demanded kind term) _ found e in
       let here = member_stands bound demanded kind term w.0 w.1 in
       let rest = members_stand bound kinds more (made ++ w.0.0 ∷ []) w.0.1 found (omega (arith, l)) w.2 in
       let put : (name : Name) → is_of name w.0.0 ≡ true → StandsIn found.0 name =
@@ -191,15 +156,15 @@ module _ (environment : Environment) (names : List Name) where
       → MembershipStands demanded tuple found
   unfolding membership_in
   membership_stands schemas bound demanded tuple select found e =
-      let inner = bind_given (select_in schemas bound select) _ found e in
+      let inner = bound_given (select_in schemas bound select) _ found e in
       let kept = demand_given (length tuple.terms == length inner.0.1) (Arity tuple.place) _ found inner.2 in
-      let members = bind_given (members_from names bound [] demanded inner.0.1 tuple.terms) _ found kept.1 in
+      let members = bound_given (members_from names bound [] demanded inner.0.1 tuple.terms) _ found kept.1 in
       let stand = members_stand bound inner.0.1 tuple.terms [] demanded members.0 (eqb-true _ _ kept.0) members.1 in
       let membership : Membership Known = record { terms = members.0.0; select = inner.0.0 } in
       let at : (name : Name) → StandsIn members.0.0 name → stands_at name membership ≡ true =
       λ name h. any_map (is_variable (index_of names name)) (term_over (known_worth environment)) members.0.0 ∙ h in
-      subst (MembershipStands demanded tuple) (same_given (membership, members.0.1) found members.2) (
-        variables_weaker (StandsIn members.0.0) (λ name. stands_at name membership ≡ true) at tuple.terms stand.each,
+      subst (MembershipStands demanded tuple) (one_answer (membership, members.0.1) found members.2) (
+        terms_weaker (StandsIn members.0.0) (λ name. stands_at name membership ≡ true) at tuple.terms stand.each,
         λ name h. elim (stand.demands name h) [ inl before ↦ inl before | inr stands ↦ inr (at name stands) ],
       )
 
@@ -213,10 +178,10 @@ module _ (environment : Environment) (names : List Name) where
       (made : List (Membership Known)) (demanded : Bound) (found : List (Membership Known) × Bound)
       → memberships_from schemas bound names made demanded all ≡ Ok found → MembershipsStand demanded all made found
   memberships_stand schemas bound [] made demanded found e =
-      subst (MembershipsStand demanded [] made) (same_given (made, demanded) found e)
+      subst (MembershipsStand demanded [] made) (one_answer (made, demanded) found e)
       (record { kept = λ name h. h; each = tt; demands = λ name h. inl h })
   memberships_stand schemas bound (conditions.InSelect tuple select ∷ more) made demanded found e =
-      let w = bind_given (membership_in schemas bound names demanded tuple select) _ found e in
+      let w = bound_given (membership_in schemas bound names demanded tuple select) _ found e in
       let here = membership_stands schemas bound demanded tuple select w.0 w.1 in
       let rest = memberships_stand schemas bound more (made ++ w.0.0 ∷ []) w.0.1 found w.2 in
       let put : (name : Name) → stands_at name w.0.0 ≡ true → StandsAmong found.0 name =
@@ -224,7 +189,7 @@ module _ (environment : Environment) (names : List Name) where
       record {
         kept = λ name h. rest.kept name (any_before (stands_at name) made (w.0.0 ∷ []) h);
         each = (
-          variables_weaker (λ name. stands_at name w.0.0 ≡ true) (StandsAmong found.0) put tuple.terms here.0,
+          terms_weaker (λ name. stands_at name w.0.0 ≡ true) (StandsAmong found.0) put tuple.terms here.0,
           rest.each,
         );
         demands = λ name h. elim (rest.demands name h) [
@@ -239,78 +204,26 @@ module _ (environment : Environment) (names : List Name) where
       let rest = memberships_stand schemas bound more made demanded found e in
       record { kept = rest.kept; each = (tt, rest.each); demands = rest.demands }
 
--- ---- all other terms stand for variables that are demanded
-
-module _ (names : List Name) (demanded bound : Bound) where
-  term_demanded : (term : TreeTerm) (found : Term Known × Kind) → term_in names demanded bound term ≡ Ok found
-      → OfVariable (IsDemanded demanded) term
-  term_demanded (terms.Value value) found e = tt
-  term_demanded (terms.Variable variable) found e =
-      let w = bind_given (there (demanded variable.name) (Unbound variable.place)) _ found e in
-      (w.0, there_given (demanded variable.name) (Unbound variable.place) w.0 w.1)
-
-  items_demanded : (all : List EntangledItem) (offer out : Offer)
-      → offer_from names demanded bound offer all ≡ Ok out → OfItems (IsDemanded demanded) all
-  unfolding item_in
-  items_demanded [] offer out e = tt
-  items_demanded (item ∷ more) offer out e =
-      let w = bind_given (item_in names demanded bound offer item) _ out e in
-      let t = bind_given (term_in names demanded bound item.term) _ w.0 w.1 in
-      (term_demanded item.term t.0 t.1, items_demanded more w.0 out w.2)
-
-  terms_demanded : (all : List TreeTerm) (made out : List (Term Known))
-      → atom_from names demanded bound made all ≡ Ok out → OfVariables (IsDemanded demanded) all
-  terms_demanded [] made out e = tt
-  terms_demanded (term ∷ more) made out e =
-      let w = bind_given (term_in names demanded bound term) _ out e in
-      (term_demanded term w.0 w.1, terms_demanded more (made ++ w.0.0 ∷ []) out w.2)
-
-  others_demanded : (all : List Condition) (posts : List (Atom Known)) (tests : List (Test (Term Known)))
-      → (found : List (Atom Known) × List (Test (Term Known)))
-      → others_from names demanded bound posts tests all ≡ Ok found
-      → AllByRecursion (OfOther (IsDemanded demanded)) all
-  unfolding post_in test_in
-  others_demanded [] posts tests found e = tt
-  others_demanded (conditions.InSelect tuple select ∷ more) posts tests found e =
-      (tt, others_demanded more posts tests found e)
-  others_demanded (conditions.InAnswer tuple relation ∷ more) posts tests found e =
-      let w = bind_given (post_in names demanded bound tuple relation) _ found e in
-      let t = bind_given (atom_from names demanded bound [] tuple.terms) _ w.0 w.1 in
-      (terms_demanded tuple.terms [] t.0 t.1, others_demanded more (posts ++ w.0 ∷ []) tests found w.2)
-  others_demanded (conditions.Test test ∷ more) posts tests found e =
-      let w = bind_given (test_in (terms_in names demanded bound) test) _ found e in
-      let left = bind_given (term_in names demanded bound test.left) _ w.0 w.1 in
-      let right = bind_given (term_in names demanded bound test.right) _ w.0 left.2 in (
-        (term_demanded test.left left.0 left.1, (term_demanded test.right right.0 right.1, tt)),
-        others_demanded more posts (tests ++ w.0 ∷ []) found w.2,
-      )
-
 -- ---- statements
-
-items_weaker : (P Q : Name → Type 0) → ((name : Name) → P name → Q name) → (items : List EntangledItem)
-    → OfItems P items → OfItems Q items
-items_weaker P Q each [] h = tt
-items_weaker P Q each (item ∷ more) h =
-    (variable_weaker P Q each item.term h.0, items_weaker P Q each more h.1)
 
 others_weaker : (P Q : Name → Type 0) → ((name : Name) → P name → Q name) → (all : List Condition)
     → AllByRecursion (OfOther P) all → AllByRecursion (OfOther Q) all
 others_weaker P Q each [] h = tt
 others_weaker P Q each (conditions.InSelect tuple select ∷ more) h = (tt, others_weaker P Q each more h.1)
 others_weaker P Q each (conditions.InAnswer tuple relation ∷ more) h =
-    (variables_weaker P Q each tuple.terms h.0, others_weaker P Q each more h.1)
+    (terms_weaker P Q each tuple.terms h.0, others_weaker P Q each more h.1)
 others_weaker P Q each (conditions.Test test ∷ more) h =
-    (variables_weaker P Q each (test.left ∷ test.right ∷ []) h.0, others_weaker P Q each more h.1)
+    (terms_weaker P Q each (test.left ∷ test.right ∷ []) h.0, others_weaker P Q each more h.1)
 
 entangled_ranged : (environment : Environment)
     → OfResolved (λ entangled. IsRanged (closed_entangled environment entangled))
 unfolding entangled_in
 entangled_ranged environment schemas bound tree form e =
     let names = variables_of tree in
-    let body = bind_given (memberships_from schemas bound names [] none_bound tree.conditions) _ form e in
-    let offer = bind_given (offer_from names body.0.1 bound no_offer tree.items) _ form body.2 in
-    let heads = bind_given (heads_from offer.0.terms [] [] tree.relations) _ form offer.2 in
-    let others = bind_given (others_from names body.0.1 bound [] [] tree.conditions) _ form heads.2 in
+    let body = bound_given (memberships_from schemas bound names [] none_bound tree.conditions) _ form e in
+    let offer = bound_given (offer_from names body.0.1 bound no_offer tree.items) _ form body.2 in
+    let heads = bound_given (heads_from offer.0.terms [] [] tree.relations) _ form offer.2 in
+    let others = bound_given (others_from names body.0.1 bound [] [] tree.conditions) _ form heads.2 in
     let stand = memberships_stand environment names schemas bound tree.conditions [] none_bound body.0 body.1 in
     let Stands : Name → Type 0 = StandsAmong environment names body.0.0 in
     let stands : (name : Name) → IsDemanded body.0.1 name → Stands name =
@@ -320,7 +233,7 @@ entangled_ranged environment schemas bound tree form e =
     let of_conditions = of_both Stands tree.conditions stand.each
     (others_weaker (IsDemanded body.0.1) Stands stands tree.conditions
     (others_demanded names body.0.1 bound tree.conditions [] [] others.0 others.1)) in
-    subst (λ (f : Entangled Known × Bound). IsRanged (closed_entangled environment f.0)) (same_given _ form others.2)
+    subst (λ (f : Entangled Known × Bound). IsRanged (closed_entangled environment f.0)) (one_answer _ form others.2)
     (λ number low.
     let found = variable_at Stands tree of_items of_conditions number
     (subst (λ n. number < n) (length-map names (λ name. unwrap_or (body.0.1 name) Int)) low) in

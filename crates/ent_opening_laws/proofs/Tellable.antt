@@ -18,13 +18,14 @@ use Rattle.ent_rel.proofs.Keyed.{rows_ascend}
 use Rattle.ent_semantics.specs.Database.{Name, opening_database, row_of, same_name}
 use Rattle.ent_semantics.specs.Kinds.{RowsHaveKinds}
 use Rattle.ent_semantics.specs.Names.{name_itself}
-use Rattle.ent_form.specs.Catalogue.{column_schema, is_among, schemas_of, table_schema}
+use Rattle.ent_form.specs.Catalogue.{is_among, schemas_of, table_schema}
 use Rattle.ent_form.specs.Opening.{rows_named}
 use Rattle.ent_form.specs.OpeningFault.{opening_fault, refused_where, repeated}
 use Rattle.ent_form.specs.declared.fault.FormFault.TheVariants.{Repeated}
 use Rattle.ent_form_laws.specs.Kinds.{AreKinded, column_kinds}
 use Rattle.ent_form_laws.specs.Opened.{opening_tables}
-use Rattle.ent_form_laws.proofs.KindedSteps.{not_refused}
+use Rattle.ent_form_laws.proofs.NamesApart.{schema_kinds}
+use Rattle.ent_form_laws.proofs.Steps.{not_refused}
 use Rattle.ent_book.specs.Report.{names_by_bytes}
 use Rattle.ent_history.specs.Text.{rows_under}
 use Rattle.ent_history.specs.Told.{declared_under, opening_row, told_opening, told_rows}
@@ -89,11 +90,6 @@ columns_apart create e =
     (none_again [] (map (λ column. column.name) create.columns) e).1)
 
 -- ---- rows
-
-schema_kinds : (columns : List Column)
-    → map (λ column. column.kind) (map column_schema columns) ≡ map (λ column. column.kind) columns
-schema_kinds [] = refl
-schema_kinds (column ∷ columns) = ap (λ more. column.kind ∷ more) (schema_kinds columns)
 
 kinded_at : (opening : Opening) (creates : List Create)
     → AreKinded (schemas_of creates)

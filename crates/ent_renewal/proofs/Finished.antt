@@ -12,10 +12,11 @@ use Rattle.ent_closed.specs.declared.statement.Statement.{Statement}
 use Rattle.ent_form.specs.Catalogue.{schemas_of}
 use Rattle.ent_form.specs.Form.{statements_from}
 use Rattle.ent_form.specs.Kinds.{none_bound}
-use Rattle.ent_form.specs.OpeningFault.{declarations_fault, first_of, opening_row_fault, opening_fault}
+use Rattle.ent_form.specs.OpeningFault.{opening_fault}
 use Rattle.ent_form_laws.specs.Kinds.{HasKinds}
 use Rattle.ent_form_laws.specs.Opened.{opening_tables}
 use Rattle.ent_form_laws.specs.Tables.{HaveDistinctColumns, database_of}
+use Rattle.ent_form_laws.proofs.Opened.{declared_once}
 use Rattle.ent_protocol.specs.Member.{environment_of}
 use Rattle.ent_protocol.specs.Reached.{IsFinishedBook, IsReached, settled, table_names, named_tables}
 use Rattle.ent_protocol.specs.State.{State, Submitted}
@@ -25,7 +26,6 @@ use Rattle.ent_headline.specs.Resolved.{resolved_forms}
 use Rattle.ent_headline.proofs.Lists.{numbered_in}
 use Rattle.ent_headline.proofs.Places.{Opens, statements_given}
 use Rattle.ent_headline.proofs.Replayed.{Laws, Stands, of_both, run_kept}
-use Rattle.ent_headline.proofs.Steps.{nothing_first}
 use Rattle.ent_lists.specs.Elements.{In}
 use Rattle.ent_renewal.specs.Renewal.{HoldsTablesOf}
 use Rattle.ent_renewal.proofs.Names.{held_tables, named_same}
@@ -78,11 +78,7 @@ module _ (laws : Laws) (s : State) (opens : Opens s) (reached : IsReached resolv
   settled_held e =
       let creates = s.opening.tables in
       subst (HoldsTablesOf creates) (sym settled_stands.is ∙ (λ i name. sym (named_same creates (settled s) name) i))
-      (held_tables creates settled_stands.tables none settled_stands.kinded)
-    where
-      none : declarations_fault [] s.opening.tables ≡ None
-      none = nothing_first (declarations_fault [] s.opening.tables)
-          (first_of (opening_row_fault (schemas_of s.opening.tables)) s.opening.rows) e
+      (held_tables creates settled_stands.tables (declared_once s.opening e) settled_stands.kinded)
 
 pub book_held : (laws : Laws) → ((s : State) → opening_fault s.opening ≡ None → Opens s)
     → ((s : State) → opening_fault s.opening ≡ None → IsReached resolved_forms s → IsSerialState s)

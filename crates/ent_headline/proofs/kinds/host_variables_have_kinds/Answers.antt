@@ -1,9 +1,6 @@
-use Rattle.std.proofs.Common.{[]}
-use Rattle.ent_form.specs.Catalogue.{schemas_of}
-use Rattle.ent_form.specs.OpeningFault.{declarations_fault, first_of, opening_row_fault}
+use Rattle.ent_form_laws.proofs.Opened.{declared_once}
 use Rattle.ent_headline.proofs.Places.{Opens, kinds_there}
 use Rattle.ent_headline.proofs.Replayed.{Laws}
-use Rattle.ent_headline.proofs.Steps.{nothing_first}
 use Rattle.ent_headline.proofs.kinds.host_variables_have_kinds.Goals as goal
 
 pub returns : goal.returns
@@ -20,11 +17,9 @@ returns c s member e reached there =
       tables = c.effects_keep_kinds.ensures.tables;
       bound = c.effects_keep_kinds.ensures.bound;
     } in
-    let creates = s.opening.tables in
     let opens : Opens s =
     record {
-      apart = c.declared_columns_are_distinct.ensures creates (nothing_first (declarations_fault [] creates)
-          (first_of (opening_row_fault (schemas_of creates)) s.opening.rows) e);
+      apart = c.declared_columns_are_distinct.ensures s.opening.tables (declared_once s.opening e);
       kinded = c.opening_tables_are_kinded.ensures.kinds s.opening e;
       is = c.opening_tables_are_kinded.ensures.database s.opening e;
     } in

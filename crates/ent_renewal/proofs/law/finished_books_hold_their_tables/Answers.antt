@@ -1,8 +1,5 @@
-use Rattle.std.proofs.Common.{[]}
-use Rattle.ent_form.specs.Catalogue.{schemas_of}
-use Rattle.ent_form.specs.OpeningFault.{declarations_fault, first_of, opening_row_fault}
+use Rattle.ent_form_laws.proofs.Opened.{declared_once}
 use Rattle.ent_headline.proofs.Replayed.{Laws}
-use Rattle.ent_headline.proofs.Steps.{nothing_first}
 use Rattle.ent_renewal.proofs.Finished.{book_held}
 use Rattle.ent_renewal.proofs.law.finished_books_hold_their_tables.Goals as goal
 
@@ -22,9 +19,7 @@ returns c =
     } in
     book_held laws
     (λ s e. record {
-      apart = c.declared_columns_are_distinct.ensures s.opening.tables
-          (nothing_first (declarations_fault [] s.opening.tables)
-          (first_of (opening_row_fault (schemas_of s.opening.tables)) s.opening.rows) e);
+      apart = c.declared_columns_are_distinct.ensures s.opening.tables (declared_once s.opening e);
       kinded = c.opening_tables_are_kinded.ensures.kinds s.opening e;
       is = c.opening_tables_are_kinded.ensures.database s.opening e;
     })
