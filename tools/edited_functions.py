@@ -1,0 +1,105 @@
+"""Edits of a crate's sources, and the functions that they change."""
+
+import os
+import re
+
+FUNCTION = re.compile(r'( *)(?:pub(?:\([^)]*\))? )?(?:const )?(?:unsafe )?(?:extern "C" )?fn (\w+)')
+
+
+def head_of(line):
+    """The trait and the type that an `impl` line names, without their generics."""
+    words, depth = "", 0
+    for letter in line.replace("->", ""):
+        depth += (letter == "<") - (letter == ">")
+        words += letter if depth == 0 and letter != ">" else ""
+    named = words.removeprefix("impl").split("{")[0].split(" where ")[0].split(" for ")
+    names = [it.split("::")[-1].strip() for it in named]
+    return (names[0] if len(names) > 1 else ""), names[-1]
+
+
+def functions_in(text):
+    """Each function of a file: its first and last line from 0, and its path within the file's module."""
+    lines, owner, found = text.split("\n"), (), []
+    for number, line in enumerate(lines):
+        if line.startswith("impl"):
+            trait, name = head_of(line)
+            owner = (f"{name}{trait}" if trait else name,)
+        elif line.startswith("}"):
+            owner = ()
+        function = FUNCTION.match(line)
+        if function:
+            # it ends at the brace that closes it, which stands below its first letter
+            closing = (it for it in range(number, len(lines)) if lines[it].startswith(function[1] + "}"))
+            first = number
+            while first and lines[first - 1].strip().startswith("#["):
+                first -= 1
+            found.append((first, next(closing, number), (*owner, function[2])))
+    return found
+
+
+class Edit:
+    """Texts of a crate's files, each with what takes its place, and the functions in which they stand.
+
+    It has no functions where a text stands outside of all, or doesn't stand once.
+    """
+
+    def __init__(self, path, folder):
+        self.path, self.name = path, os.path.basename(path)
+        with open(path, encoding="utf-8") as file:
+            self.text = file.read()
+        self.pairs = list(self.read())
+        self.places = self.find(folder)
+        self.functions = [place[0] for place in self.places]
+
+    def read(self):
+        """Each file, text and what takes its place."""
+        name = old = None
+        for line in self.text.split("\n"):
+            word, _, text = line.partition(": ")
+            name, old = (text.strip(), old) if word == "file" else (name, text if word == "old" else old)
+            if word == "new" or line == "new:":
+                yield name, old, text
+
+    def find(self, folder):
+        """The functions in which its texts stand: the path of each, as the prover takes it, and its file and lines."""
+        places = {}
+        for name, old, _ in self.pairs:
+            path = os.path.join(folder, name)
+            if not name.startswith("src/") or not os.path.isfile(path):
+                return []
+            with open(path, encoding="utf-8") as file:
+                text = file.read()
+            if text.count(old) != 1:
+                return []
+            line = text[: text.index(old)].count("\n")
+            around = [it for it in functions_in(text) if it[0] <= line <= it[1]]
+            if not around:
+                return []
+            first, last, own = around[-1]
+            module = os.path.splitext(name)[0].split("/")[1:]
+            module = [] if module in (["lib"], ["main"]) else module
+            places["::".join([*module, *own])] = name, first + 1, last + 1
+        return [(function, *place) for function, place in places.items()]
+
+    def make(self, folder):
+        """Makes it in a copy of the crate."""
+        for name, old, new in self.pairs:
+            path = os.path.join(folder, name)
+            with open(path, encoding="utf-8") as file:
+                text = file.read()
+            with open(path, "w", encoding="utf-8") as file:
+                file.write(text.replace(old, new))
+
+    def is_of(self, name):
+        """Whether a function of this name is one that it changes, or a part of one."""
+        own = name.split("::", 1)[1]
+        return any(own == it or f"fn::{it.split('::')[-1]}::" in own or own.endswith("::" + it) for it in self.functions)
+
+    def is_blamed(self, error):
+        """Whether an error stands in a function that it changes, or in its proof."""
+        name, line = error.removeprefix("./").split(":")[:2]
+        for function, file, first, last in self.places:
+            proof = os.path.join("proofs", *function.split("::"))
+            if name == file and first <= int(line) <= last or name.startswith(proof + "/"):
+                return True
+        return False
