@@ -8,6 +8,7 @@ use Rattle.ent_value.specs.Order.{rows_total, exact_rows}
 use Rattle.ent_value.specs.declared.value.Value.{Value}
 use Rattle.ent_rel.specs.Relation.{RowSet}
 use Rattle.ent_rel.specs.Change.{deletion, replacement, images_of}
+use Rattle.ent_select.proofs.Narrowed.{agree}
 
 retain_same : (s : RowSet) (p q : List Value → Bool)
     → ((row : List Value) → IsTrue (set.contains s row) → p row ≡ q row) → set.retain s p ≡ set.retain s q
@@ -24,22 +25,11 @@ retain_same s p q same = same_set rows_total exact_rows _ _ (λ row.
 -- tests that were made ready agree with those of the statement, which want these first values
 module _ (s : RowSet) (first prepared met : List Value → Bool) (same : (row : List Value) → prepared row ≡ met row)
     (wants : (row : List Value) → IsTrue (set.contains s row) → IsTrue (met row) → IsTrue (first row)) where
-  agree : (row : List Value) → IsTrue (set.contains s row) → (first row && prepared row) ≡ met row
-  agree row here = by (met row) refl
-    where
-      by : (b : Bool) → met row ≡ b → (first row && prepared row) ≡ met row
-      by true e = ap (λ a. a && prepared row) (wants row here e) ∙ same row
-      by false e = ap (λ a. first row && a) (same row ∙ e) ∙ none (first row) ∙ sym e
-        where
-          none : (a : Bool) → (a && false) ≡ false
-          none true = refl
-          none false = refl
-
   retained : set.retain s (λ row. first row && prepared row) ≡ set.retain s met
-  retained = retain_same s _ _ agree
+  retained = retain_same s _ _ (agree s first prepared met same wants)
 
   left : set.retain s (λ row. not (first row && prepared row)) ≡ set.retain s (λ row. not (met row))
-  left = retain_same s _ _ (λ row here. ap not (agree row here))
+  left = retain_same s _ _ (λ row here. ap not (agree s first prepared met same wants row here))
 
   pub deletion_met : deletion s (λ row. first row && prepared row) ≡ deletion s met
   deletion_met = λ i. (set.len (retained i), left i)

@@ -1,24 +1,16 @@
 -- Tables that are lent stand at their numbers.
-use Rattle.std.proofs.Common.{◌≡◌, ◌≢◌, ◌⊎◌, inl, inr, ℕ, zero, suc, List, [], ◌∷◌, map, refl, sym, ap, ◌∙◌, subst}
-use Rattle.std.proofs.Common.{arith}
+use Rattle.std.proofs.Common.{◌≡◌, ◌≢◌, inl, inr, ℕ, zero, suc, List, [], ◌∷◌, map, refl, ap, ◌∙◌, subst}
 use Rattle.std.specs.Prelude.{slice_index_or}
 use Rattle.std.specs.List.{AllByRecursion}
-use Rattle.std.proofs.lemmas.Bool.{cases_lt}
 use Rattle.ent_set.specs.Sets as set
 use Rattle.ent_semantics.specs.Database.{Rows}
 use Rattle.ent_closed.specs.Form.{Tables}
 use Rattle.ent_tree.specs.declared.declaration.Create.{Create}
 use Rattle.ent_protocol.specs.Job.{Seen, laid, tables_of}
-use Rattle.ent_protocol.specs.Member.{declared_kinds, seen_now}
+use Rattle.ent_protocol.specs.Member.{seen_now}
 use Rattle.ent_protocol.specs.State.{Use}
 use Rattle.ent_job.specs.Work.{StandAtNumbers}
-
-same_or_not : (a b : ℕ) → (a ≡ b) ⊎ (a ≢ b)
-same_or_not a b =
-    elim (cases_lt a b) [
-      | inl less ↦ inr (λ e. omega arith)
-      | inr not_less ↦ elim (cases_lt b a) [ inl more ↦ inr (λ e. omega arith) | inr not_more ↦ inl (omega arith) ]
-    ]
+use Rattle.ent_match.proofs.Marks.{same_or_not}
 
 abbrev at : Tables → ℕ → Rows
 at tables number = slice_index_or tables number set.empty

@@ -1,17 +1,14 @@
 -- An index of keys has just the values under which a tuple is a row.
 use Rattle.std.proofs.Common.{◌≡◌, ℕ, zero, suc, ◌<◌, Bool, true, false, cond, List, [], ◌∷◌, length, map}
 use Rattle.std.proofs.Common.{Option, Some, None}
-use Rattle.std.proofs.Common.{refl, sym, ap, subst, ◌∙◌, arith, T}
+use Rattle.std.proofs.Common.{refl, sym, ap, subst, ◌∙◌, arith}
 use Rattle.std.specs.Prelude.{◌==◌, ◌||◌, ◌&&◌, nat_lt, slice_get, slice_index_or, unwrap_or}
 use Rattle.std.specs.List.{AllByRecursion, list_any}
 use Rattle.std.specs.Cmp.{Equal-is, both_ways}
-use Rattle.std.specs.FinMap as finite
-use Rattle.std.specs.FinMap.Entries.{below_all}
-use Rattle.std.specs.Ordering.{eq_by_cmp, is_eq, is_lt, nat_cmp, ordering_then}
+use Rattle.std.specs.Ordering.{eq_by_cmp, is_eq, nat_cmp, ordering_then}
 use Rattle.std.proofs.lemmas.Cmp.{nat_cmp_total}
 use Rattle.ent_set.specs.Sets as set
 use Rattle.ent_set.specs.Laws.{any_same_set, from_list-ascending}
-use Rattle.std.specs.declared.cmp.Ordering.{Ordering}
 use Rattle.std.specs.declared.cmp.Ordering.TheVariants.{Less, Equal, Greater}
 use Rattle.std.proofs.lemmas.Bool.{eq-eqb, eqb-true}
 use Rattle.std.proofs.lemmas.Cmp.{eq_by_cmp_equiv}
@@ -20,6 +17,7 @@ use Rattle.std.proofs.Math.Dec.{eqb}
 use Rattle.ent_value.specs.Value.{value_cmp, row_cmp}
 use Rattle.ent_value.specs.Order.{exact_values, rows_total, exact_rows}
 use Rattle.ent_value.specs.declared.value.Value.{Value}
+use Rattle.ent_rel.proofs.Keyed.{elements_ascend}
 use Rattle.ent_semantics.specs.Term.{no_value}
 use Rattle.ent_plan.specs.Plan.{slot_value}
 use Rattle.ent_plan.specs.declared.slot.Slot.{Slot}
@@ -27,7 +25,6 @@ use Rattle.ent_plan.specs.declared.slot.Slot.TheVariants.{Fixed, Class}
 use Rattle.ent_join.specs.Index.{known_cmp, begun_cmp, begins_so}
 use Rattle.ent_join.specs.Keyed.{class_numbers, value_under, is_found, agree, key_under, keys_under}
 use Rattle.ent_join.specs.Keyed.{IsIndexOf, ascending_classes, index_under}
-use Rattle.std.specs.List.Sorted.{IsStrictlySortedBy}
 use Rattle.ent_join.proofs.Begun.{equal_then, get_there, is_equal}
 use Rattle.ent_join.proofs.Deduped.{all_alike, all_members, all_map}
 use Rattle.ent_join.proofs.Steps.{value_cmp-self}
@@ -242,35 +239,6 @@ wide_alike columns classes rows left alike =
     (λ key h. eqb-true (length key) (length classes) h) left
     (all_alike left (keys_under columns classes rows) alike (λ key. length key == length classes)
     (keys_are_wide columns classes rows))
-
--- ---- the elements of a set ascend
-
-and_parts : (a b : Bool) → T (a && b) → T a × T b
-and_parts true b h = (tt, h)
-and_parts false b h = absurd h
-
-less_from : (o : Ordering) → T (is_lt o) → o ≡ Less
-less_from Less h = refl
-less_from Equal h = absurd h
-less_from Greater h = absurd h
-
-below_from : {K : Type 0} (R : K → K → Ordering) (k : K) (es : List (K × Unit {0})) → T (below_all R k es)
-    → AllByRecursion (λ y. R k y ≡ Less) (map (λ (e : K × Unit {0}). e.0) es)
-below_from R k [] h = tt
-below_from R k (e ∷ es) h =
-    let p = and_parts (is_lt (R k e.0)) (below_all R k es) h in
-    (less_from (R k e.0) p.0, below_from R k es p.1)
-
-sorted_from : {K : Type 0} (R : K → K → Ordering) (es : List (K × Unit {0})) → T (finite.is_sorted R es)
-    → IsStrictlySortedBy R (map (λ (e : K × Unit {0}). e.0) es)
-unfolding IsStrictlySortedBy
-sorted_from R [] h = tt
-sorted_from R (e ∷ es) h =
-    let p = and_parts (below_all R e.0 es) (finite.is_sorted R es) h in
-    (below_from R e.0 es p.0, sorted_from R es p.1)
-
-elements_ascend : {K : Type 0} (R : K → K → Ordering) (s : set.Set R) → IsStrictlySortedBy R (set.ascending s)
-elements_ascend R s = sorted_from R (finite.entries s) (finite.entries_sorted s)
 
 -- ---- the index of keys
 

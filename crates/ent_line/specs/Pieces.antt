@@ -1,13 +1,14 @@
 -- How the parts of a line are read from the left: a thing and the bytes behind it, or nothing of the sort.
 use Rattle.std.specs.Prelude.{ℕ, zero, suc, pos, negsuc, ◌+◌, ◌-◌, ◌*◌, Bool, true, false, not, List, [], ◌∷◌, length}
 use Rattle.std.specs.Prelude.{Result, Ok, Err, nat_le, ◌==◌, if◌then◌else◌, slice_index, take, drop, codes}
-use Rattle.std.specs.List.{take_while, prefix_len}
+use Rattle.std.specs.List.{take_while}
 use Rattle.std.specs.Char.{is_ascii_digit, is_ascii_control}
 use Rattle.std.specs.Cmp.Lexicographic.{pointwise}
 use Rattle.ent_value.specs.Refusal.{◌>>=◌}
 use Rattle.ent_value.specs.declared.text.TheConstants.{LONGEST_TEXT}
 use Rattle.ent_value.specs.declared.value.Value.{Value}
 use Rattle.ent_value.specs.declared.value.Value.TheVariants.{Int, Text}
+use Rattle.ent_text.specs.Lexing.{after}
 use Rattle.ent_line.specs.declared.fault.LineFault.{LineFault}
 use Rattle.ent_line.specs.declared.fault.LineFault.TheVariants.{Misfit}
 
@@ -16,10 +17,6 @@ Read A = Result (A × List ℕ) LineFault
 
 abbrev pub wanted : {A : Type 0} → Bool → A → Result A LineFault
 wanted test x = if test then Ok x else Err Misfit
-
--- what stands behind the longest front of such bytes
-abbrev pub after : (ℕ → Bool) → List ℕ → List ℕ
-after test bytes = drop (prefix_len test bytes) bytes
 
 -- what stands behind these bytes, where they stand in front
 unfoldable pub behind : List ℕ → List ℕ → Result (List ℕ) LineFault

@@ -67,11 +67,14 @@ sorted_from R (e ∷ es) h = let p = and_parts (below_all R e.0 es) (finite.is_s
     (below_from R e.0 es p.0, sorted_from R es p.1)
 
 -- the elements of a set ascend
+pub elements_ascend : {K : Type 0} (R : K → K → Ordering) (s : set.Set R) → IsStrictlySortedBy R (set.ascending s)
+elements_ascend R s = sorted_from R (finite.entries s) (finite.entries_sorted s)
+
 pub keys_ascend : (s : KeySet) → IsStrictlySortedBy key_cmp (set.ascending s)
-keys_ascend s = sorted_from key_cmp (finite.entries s) (finite.entries_sorted s)
+keys_ascend s = elements_ascend key_cmp s
 
 pub rows_ascend : (s : RowSet) → IsStrictlySortedBy row_cmp (set.ascending s)
-rows_ascend s = sorted_from row_cmp (finite.entries s) (finite.entries_sorted s)
+rows_ascend s = elements_ascend row_cmp s
 
 or_left : (a b : Bool) → a ≡ true → (a || b) ≡ true
 or_left true b h = refl

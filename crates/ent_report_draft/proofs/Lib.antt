@@ -1,6 +1,6 @@
 mod Ends
 mod Steps
-mod LinesRead
+pub mod LinesRead
 mod AnswerLines
 mod FrameLines
 mod JointLines

@@ -1,7 +1,6 @@
 -- What is read of a line is what stands there.
-use Rattle.std.proofs.Common.{◌≡◌, ℕ, Bool, true, false, cond, eqb, List, [], ◌∷◌, ◌++◌, length, Ok, Err, Result, refl}
-use Rattle.std.proofs.Common.{ap, sym, subst, ◌∙◌, arith}
-use Rattle.std.proofs.lemmas.Bool.{eqb-true}
+use Rattle.std.proofs.Common.{◌≡◌, ℕ, cond, eqb, List, [], ◌∷◌, ◌++◌, length, Ok, Err, Result, refl}
+use Rattle.std.proofs.Common.{ap, sym, subst, ◌∙◌}
 use Rattle.std.proofs.lemmas.List.{append-nil}
 use Rattle.std.specs.List.{AllByRecursion}
 use Rattle.ent_value.specs.Print.{quoted, row_text}
@@ -14,26 +13,19 @@ use Rattle.ent_line.specs.declared.fault.LineFault.{LineFault}
 use Rattle.ent_line.specs.declared.fault.LineFault.TheVariants.{Misfit}
 use Rattle.ent_line.specs.Pieces.{Read, row_at}
 use Rattle.ent_line.specs.Written as written
+use Rattle.ent_line.proofs.Numbers.{chosen}
+use Rattle.ent_line.proofs.Values.{bind_ok}
 use Rattle.ent_tree.specs.declared.declaration.Create.{Create}
 use Rattle.ent_report_lines.specs.Openings.{IsDeclared}
 use Rattle.ent_history_form.specs.Opening.{IsDeclaration}
 use Rattle.ent_report_lines.specs.Joints as sections
 use Rattle.ent_report_lines.specs.Heads as heads
+use Rattle.ent_report_lines.proofs.Steps.{no_bytes, same_ok}
 use Rattle.ent_semantics.specs.declared.answer.Fact.{Fact}
 use Rattle.ent_history_form.specs.Answers as answers
 use Rattle.ent_history_form.specs.Joints as joints
 use Rattle.ent_history_form.specs.Parts as parts
 use Rattle.ent_report_draft.specs.Reading.{Reads, IsRowLine, whole_row_at}
-
-abbrev ok : {A : Type 0} → A → Result A LineFault
-ok x = Ok x
-
-abbrev ok_or : {A : Type 0} → A → Result A LineFault → A
-ok_or other (Ok x) = x
-ok_or other (Err fault) = other
-
-same_ok : {A : Type 0} (x y : A) → ok x ≡ ok y → x ≡ y
-same_ok x y h = ap (ok_or x) h
 
 pub reads : {A : Type 0} (is : A → Type 0) (meant : Result A LineFault) (read : Result A (Refusal LineFault))
     → ((x : A) → meant ≡ Ok x → is x) → ((x : A) → is x → meant ≡ Ok x)
@@ -117,20 +109,6 @@ pub record RowParts : Type 0 where
       → (bytes ≡ row_text values ++ rest) × written.IsRow values
   pub only : (values : List Value) (rest : List ℕ) → written.IsRow values
       → row_at (row_text values ++ rest) ≡ Ok (values, rest)
-
-bind_ok : {A B : Type 0} (r : Result A LineFault) (f : A → Result B LineFault) (y : B) → (r >>= f) ≡ Ok y
-    → (x : A) × (r ≡ Ok x) × (f x ≡ Ok y)
-bind_ok (Ok x) f y h = (x, refl, h)
-bind_ok (Err e) f y h = cc
-
-chosen : {A : Type 0} (b : Bool) (x : Result A LineFault) (e : LineFault) (y : A) → cond b x (Err e) ≡ Ok y
-    → (b ≡ true) × (x ≡ Ok y)
-chosen true x e y h = (refl, h)
-chosen false x e y h = cc
-
-no_bytes : (bytes : List ℕ) → eqb (length bytes) 0 ≡ true → bytes ≡ []
-no_bytes [] h = refl
-no_bytes (b ∷ bytes) h = absurd (omega (arith, eqb-true (length (b ∷ bytes)) 0 h))
 
 end_only : (rest : List ℕ) (values row : List Value)
     → cond (eqb (length rest) 0) (Ok values) (Err Misfit) ≡ Ok row → (rest ≡ []) × (values ≡ row)

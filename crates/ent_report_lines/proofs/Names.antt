@@ -21,14 +21,15 @@ use Rattle.ent_text.specs.declared.fault.TextFault.TheVariants.{TextTooLong}
 use Rattle.ent_text.specs.declared.token.Token.{Token}
 use Rattle.ent_text.specs.declared.token.TokenKind.{TokenKind}
 use Rattle.ent_text.specs.declared.token.TokenKind.TheVariants as kinds
-use Rattle.ent_text.specs.Lexing.{Piece, after as after_token, keyword_of, word_at, word_kind}
+use Rattle.ent_text.specs.Lexing.{Piece, after, keyword_of, word_at, word_kind}
 use Rattle.ent_text.specs.Spelling.{IsInAnyCase}
 use Rattle.ent_text.proofs.Firsts.{class_of_letter, word_is_read}
+use Rattle.ent_text.proofs.Fronts.{after_is, parts, taken_is}
 use Rattle.ent_text.proofs.Words.{found_is_keyword, keyword_is_found}
 use Rattle.ent_semantics.specs.Database.{Name}
-use Rattle.ent_line.specs.Pieces.{after, wanted}
+use Rattle.ent_line.specs.Pieces.{wanted}
 use Rattle.ent_line.specs.Written.{Stops}
-use Rattle.ent_line.proofs.Fronts.{after_is, parts, taken_is}
+use Rattle.ent_line.proofs.Fronts.{so_stops}
 use Rattle.ent_line.proofs.Numbers.{chosen, is_first, is_rest}
 use Rattle.ent_report_lines.specs.Names.{IsName, is_keyword, is_name, name_at}
 
@@ -110,7 +111,8 @@ pub name_again : (name : Name) (rest : List ℕ) → IsName name → Stops is_wo
 name_again name rest is stop =
     let e = is_name_of name is in
     let all = word_bytes name e in
-    named (name ++ rest) name rest (taken_is is_word_byte name rest all stop) (after_is is_word_byte name rest all stop) e
+    let ends = so_stops is_word_byte rest stop in
+    named (name ++ rest) name rest (taken_is is_word_byte name rest all ends) (after_is is_word_byte name rest all ends) e
 
 -- ---- the test by the tokens of the word
 
@@ -135,7 +137,7 @@ word_is_text word e =
 -- ---- the tokens of a word
 
 read_as : List ℕ → Result Piece TextFault
-read_as word = Ok (Some (word_kind word), after_token is_word_byte word)
+read_as word = Ok (Some (word_kind word), after is_word_byte word)
 
 taken_whole : (word : List ℕ) → list_all is_word_byte word ≡ true → take_while is_word_byte word ≡ word
 taken_whole word all =
@@ -146,7 +148,7 @@ word_is_read_as : (word : List ℕ) → list_all is_word_byte word ≡ true → 
 unfolding word_at read_as
 word_is_read_as word all small =
     ap (λ (w : List ℕ). cond (ltb LONGEST_NAME (length w)) (Err (TextTooLong 0))
-    (Ok (Some (word_kind w), after_token is_word_byte word))) (taken_whole word all)
+    (Ok (Some (word_kind w), after is_word_byte word))) (taken_whole word all)
     ∙ ap (λ (t : Bool). cond t (Err (TextTooLong 0)) (read_as word)) (le-ltb LONGEST_NAME (length word) small)
 
 led_kind : (word : List ℕ) (size : ℕ) (more : ℕ → List ℕ → List Token)

@@ -3,12 +3,12 @@ use Rattle.std.specs.Prelude.{◌&&◌, ℕ, Bool, true, false, List}
 use Rattle.std.specs.List.{take_while}
 use Rattle.std.specs.Option.{is_none}
 use Rattle.ent_value.specs.Name.{is_word, is_word_byte}
-use Rattle.ent_text.specs.Lexing.{keyword_of}
+use Rattle.ent_text.specs.Lexing.{after, keyword_of}
 use Rattle.ent_text.specs.declared.token.TokenKind.{TokenKind}
 use Rattle.ent_text.specs.declared.token.TokenKind.TheVariants as kinds
 use Rattle.ent_print.specs.Reading.{CanStand}
 use Rattle.ent_semantics.specs.Database.{Name}
-use Rattle.ent_line.specs.Pieces.{Read, after, wanted}
+use Rattle.ent_line.specs.Pieces.{Read, wanted}
 
 abbrev pub is_keyword : TokenKind → Bool
 is_keyword (kinds.Word keyword) = true

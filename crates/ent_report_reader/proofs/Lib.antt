@@ -1,6 +1,6 @@
-mod OneLine
-mod Fronts
+pub mod OneLine
+pub mod Fronts
 mod FirstPieces
-mod ScriptSteps
+pub mod ScriptSteps
 mod Whole
 mod WholeRead

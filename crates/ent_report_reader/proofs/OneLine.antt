@@ -1,4 +1,4 @@
--- Each thing that stands but a script is one line.
+-- Each thing that stands but a script is one line: no line ends inside it.
 use Rattle.std.proofs.Common.{◌≡◌, ◌⊎◌, inl, inr, ℕ, suc, ◌+◌, ◌&&◌, true, List, [], ◌∷◌, ◌++◌, length, Option, Some, None, refl, ap, sym, ◌∙◌, subst, append_assoc}
 use Rattle.std.specs.Prelude.{codes, negsuc, pos, slice_get}
 use Rattle.std.specs.List.{AllByRecursion, list_all, flat_map}
@@ -26,9 +26,12 @@ use Rattle.ent_semantics.specs.declared.book.Fate.{Fate}
 use Rattle.ent_semantics.specs.declared.book.Fate.TheVariants as fates
 use Rattle.ent_book.specs.Report.{line, after_text, fact_text, facts_text, failure_text, fate_text}
 use Rattle.ent_book.specs.Report2.{bindings_text, column_text, columns_text, kind_text, more_columns_text}
+use Rattle.ent_report_lines.specs.Fates.{transaction_text}
+use Rattle.ent_report_lines.specs.Joints.{joint_text}
+use Rattle.ent_report_lines.specs.Openings.{opening_text}
 use Rattle.ent_history_form.specs.Parts.{IsName, IsRow, IsValue}
 use Rattle.ent_history_form.specs.Draft.{Draft}
-use Rattle.ent_history_form.specs.Opening.{HeadingStands, OpeningRowStands, OpeningStands}
+use Rattle.ent_history_form.specs.Opening.{HeadingStands, IsDeclaration, OpeningRowStands, OpeningStands}
 use Rattle.ent_history_form.specs.Answers.{AnswerRowStands, AnswerStands, IsAnswer, IsFact, TxStands, answer_line_text, answers_so_far}
 use Rattle.ent_history_form.specs.Joints.{Binds, BindsRight, JointStands, MemberStands, member_binds, place_text}
 use Rattle.ent_history_form.specs.Tables.{EndStands, TableRowStands, TableStands}
@@ -108,19 +111,20 @@ columns_in_line (column ∷ columns) are =
     in_line_append (column_text column) (more_columns_text columns) (column_in_line column are.0)
     (more_columns_in_line columns are.1)
 
+pub opening_in_line : (create : Create) (count : ℕ) → IsDeclaration create → IsInLine (opening_text create count)
+opening_in_line create number declared =
+    let name = create.name.name in
+    let count = codes ") " ++ decimal number in
+    let columns = columns_text create.columns ++ count in
+    in_line_append (codes "opening ") (name ++ (codes " (" ++ columns)) refl
+    (in_line_append name (codes " (" ++ columns) (name_in_line name declared.name)
+    (in_line_append (codes " (") columns refl
+    (in_line_append (columns_text create.columns) count (columns_in_line create.columns declared.columns)
+    (in_line_append (codes ") ") (decimal number) refl (number_in_line number)))))
+
 pub opening_line : (draft : Draft) (text : List ℕ) (next : Draft) → OpeningStands draft text next → IsOneLine text
 opening_line draft text next s =
-    let name = s.create.name.name in
-    let count = codes ") " ++ decimal s.count in
-    let columns = columns_text s.create.columns ++ count in (
-      codes "opening " ++ (name ++ (codes " (" ++ columns)),
-      in_line_append (codes "opening ") (name ++ (codes " (" ++ columns)) refl
-          (in_line_append name (codes " (" ++ columns) (name_in_line name s.declaration.name)
-          (in_line_append (codes " (") columns refl
-          (in_line_append (columns_text s.create.columns) count (columns_in_line s.create.columns s.declaration.columns)
-          (in_line_append (codes ") ") (decimal s.count) refl (number_in_line s.count))))),
-      s.text_is,
-    )
+    (opening_text s.create s.count, opening_in_line s.create s.count s.declaration, s.text_is)
 
 pub opening_row_line : (draft : Draft) (text : List ℕ) (next : Draft) → OpeningRowStands draft text next
     → IsOneLine text
@@ -145,20 +149,21 @@ fate_in_line (fates.Failed failure runs) =
     in_line_append (codes "failed ") (failure_text failure ++ after_text runs) refl
     (in_line_append (failure_text failure) (after_text runs) (failure_in_line failure) (after_in_line runs))
 
+pub tx_in_line : (number : ℕ) (fate : Fate) → IsInLine (transaction_text number fate)
+tx_in_line number fate =
+    let behind = codes " " ++ fate_text fate in
+    in_line_append (codes "tx ") (decimal number ++ behind) refl
+    (in_line_append (decimal number) behind (number_in_line number)
+    (in_line_append (codes " ") (fate_text fate) refl (fate_in_line fate)))
+
 pub tx_line : (draft : Draft) (text : List ℕ) (next : Draft) → TxStands draft text next → IsOneLine text
 tx_line draft text next s =
-    let number = decimal (length draft.told.transactions + 1) in
-    let fate = codes " " ++ fate_text s.fate in (
-      codes "tx " ++ (number ++ fate),
-      in_line_append (codes "tx ") (number ++ fate) refl
-          (in_line_append number fate (number_in_line (length draft.told.transactions + 1))
-          (in_line_append (codes " ") (fate_text s.fate) refl (fate_in_line s.fate))),
-      s.text_is,
-    )
+    let number = length draft.told.transactions + 1 in
+    (transaction_text number s.fate, tx_in_line number s.fate, s.text_is)
 
 -- ---- answers
 
-facts_in_line : (facts : List Fact) → AllByRecursion IsFact facts → IsInLine (facts_text facts)
+pub facts_in_line : (facts : List Fact) → AllByRecursion IsFact facts → IsInLine (facts_text facts)
 facts_in_line [] are = refl
 facts_in_line (fact ∷ facts) are =
     in_line_append (fact_text fact) (facts_text facts)
@@ -221,16 +226,15 @@ places_in_line (place ∷ places) =
     (behind_place place.0 (codes ".") (decimal place.1) refl (number_in_line place.1)))
     (places_in_line places)
 
+pub joint_in_line : (number : ℕ) (places : List (ℕ × ℕ)) → IsInLine (joint_text number places)
+joint_in_line number places =
+    in_line_append (codes "joint ") (decimal number ++ flat_map place_text places) refl
+    (in_line_append (decimal number) (flat_map place_text places) (number_in_line number) (places_in_line places))
+
 pub joint_line : (draft : Draft) (text : List ℕ) (next : Draft) → JointStands draft text next → IsOneLine text
 joint_line draft text next s =
-    let number = decimal (length draft.told.joint_answers + 1) in
-    let places = flat_map place_text s.places in (
-      codes "joint " ++ (number ++ places),
-      in_line_append (codes "joint ") (number ++ places) refl
-          (in_line_append number places (number_in_line (length draft.told.joint_answers + 1))
-          (places_in_line s.places)),
-      s.text_is,
-    )
+    let number = length draft.told.joint_answers + 1 in
+    (joint_text number s.places, joint_in_line number s.places, s.text_is)
 
 bindings_in_line : (names : List Name) (values : List Value) → AllByRecursion IsInLine names
     → AllByRecursion IsValue values → IsInLine (bindings_text names values)

@@ -34,7 +34,7 @@ next_script draft = length draft.told.scripts + 1
 
 -- ---- the text of a script
 
-script_lines_whole : (script : Script) → HasWholeLines (script_text script)
+pub script_lines_whole : (script : Script) → HasWholeLines (script_text script)
 script_lines_whole script =
     let end = end_is_line script.end in
     let body = flat_map line_text script.statements in
@@ -52,7 +52,7 @@ record InFront (told : History) (number : ℕ) (first behind more : List ℕ) (s
   behind_is : behind ≡ script_text script ++ more
   small : line_count (script_text script) ≤ most
 
-few_lines : (told : History) (script : Script) → IsScript told script → line_count (script_text script) ≤ most
+pub few_lines : (told : History) (script : Script) → IsScript told script → line_count (script_text script) ≤ most
 few_lines told script is =
     let counted = script_count told script is in let statements = is.fits.2 in omega arith
 

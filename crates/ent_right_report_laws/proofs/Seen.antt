@@ -1,45 +1,18 @@
 -- What the entangled statements of a run see: each is of the turn of its transaction, and stands at its place.
 use Rattle.std.proofs.Common.{◌≡◌, ℕ, suc, ◌+◌, List, [], ◌∷◌, map, refl, sym, ap, subst, ◌∙◌, inl, inr, arith, Option}
-use Rattle.std.proofs.Common.{Some, None, Result, Ok, Err, slice_get}
+use Rattle.std.proofs.Common.{Some, None, slice_get}
 use Rattle.ent_tree.specs.declared.declaration.Create.{Create}
 use Rattle.ent_tree.specs.declared.script.Statement.{Statement}
 use Rattle.ent_tree.specs.declared.script.Statement.TheVariants as statements
-use Rattle.ent_semantics.specs.declared.answer.Failure.{Failure}
 use Rattle.ent_semantics.specs.Database.{Database, Environment, nothing_bound}
-use Rattle.ent_semantics.specs.Effect.{Effect}
-use Rattle.ent_semantics.specs.Entangled.{Valuation}
 use Rattle.ent_semantics.specs.Serial.{Operation, Run, ReadView, Turn, operations_of, numbered, script_run, script_read_views}
 use Rattle.ent_semantics.specs.Serial.{scripts_read_views, seen, seen_after, seen_from, read_views}
 use Rattle.ent_semantics.specs.Statement.{statement_meaning}
+use Rattle.ent_rules.proofs.Operations.{in_after, seen_one}
 use Rattle.ent_lists.specs.Elements.{In, in_either}
 use Rattle.ent_right_report_laws.proofs.Kept.{operations_are, statement_of}
 
 -- ---- what a statement sees
-
-record SeenOne (tx place : ℕ) (st : Statement) (s : ReadView) : Type 0 where
-  own : s.tx ≡ tx
-  here : s.place ≡ place
-  is : st ≡ statements.Entangled s.entangled
-
-seen_one : (tx place : ℕ) (st : Statement) (valuation : Valuation) (d : Database) (v : Environment) (s : ReadView)
-    → In s (seen tx place (record { statement = st; valuation = valuation }) d v) → SeenOne tx place st s
-seen_one tx place (statements.Entangled entangled) valuation d v s (inl same) =
-    record {
-      own = ap (λ (x : ReadView). x.tx) same;
-      here = ap (λ (x : ReadView). x.place) same;
-      is = ap (λ (x : ReadView). statements.Entangled x.entangled) (sym same);
-    }
-seen_one tx place (statements.Entangled entangled) valuation d v s (inr bad) = absurd bad
-seen_one tx place (statements.Select select) valuation d v s at = absurd at
-seen_one tx place (statements.Insert insert) valuation d v s at = absurd at
-seen_one tx place (statements.Delete delete) valuation d v s at = absurd at
-seen_one tx place (statements.Update update) valuation d v s at = absurd at
-seen_one tx place (statements.Set setting) valuation d v s at = absurd at
-
-in_after : (m : Result (Effect Database) Failure) (f : Database → Environment → List ReadView) (s : ReadView)
-    → In s (seen_after m f) → (d : Database) × (v : Environment) × In s (f d v)
-in_after (Ok effect) f s at = (effect.database, effect.environment, at)
-in_after (Err failure) f s at = absurd at
 
 in_from : (o : Option Run) (f : Database → List ReadView) (s : ReadView) → In s (seen_from o f)
     → (d : Database) × In s (f d)

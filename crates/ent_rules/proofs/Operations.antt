@@ -42,7 +42,7 @@ then_some f None y e = cc (e)
 then_some f (Some x) y e = (x, refl, e)
 
 -- what is seen after a statement
-in_after : (m : Result (Effect Database) Failure) (f : Database → Environment → List ReadView) (s : ReadView)
+pub in_after : (m : Result (Effect Database) Failure) (f : Database → Environment → List ReadView) (s : ReadView)
     → In s (seen_after m f) → (d : Database) × (v : Environment) × In s (f d v)
 in_after (Ok effect) f s at = (effect.database, effect.environment, at)
 in_after (Err failure) f s at = absurd at
@@ -65,13 +65,13 @@ goes_on (Err failure) more r e = cc (e)
 
 -- ---- what a statement sees
 
-record SeenOne (tx place : ℕ) (st : Statement) (valuation : Valuation) (s : ReadView) : Type 0 where
-  own : s.tx ≡ tx
-  here : s.place ≡ place
-  is : st ≡ statements.Entangled s.entangled
-  value : s.valuation ≡ valuation
+pub record SeenOne (tx place : ℕ) (st : Statement) (valuation : Valuation) (s : ReadView) : Type 0 where
+  pub own : s.tx ≡ tx
+  pub here : s.place ≡ place
+  pub is : st ≡ statements.Entangled s.entangled
+  pub value : s.valuation ≡ valuation
 
-seen_one : (tx place : ℕ) (st : Statement) (valuation : Valuation) (d : Database) (v : Environment) (s : ReadView)
+pub seen_one : (tx place : ℕ) (st : Statement) (valuation : Valuation) (d : Database) (v : Environment) (s : ReadView)
     → In s (seen tx place (record { statement = st; valuation = valuation }) d v) → SeenOne tx place st valuation s
 seen_one tx place (statements.Entangled entangled) valuation d v s (inl same) =
     record {

@@ -1,5 +1,5 @@
 mod Combinations
 mod Fronts
-mod Narrowed
+pub mod Narrowed
 mod Searched
 mod Wanted

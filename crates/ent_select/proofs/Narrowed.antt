@@ -21,7 +21,7 @@ in_order s =
 -- tests that were made ready agree with those of the statement, which want these first values
 module _ (s : RowSet) (first prepared met : List Value → Bool) (same : (row : List Value) → prepared row ≡ met row)
     (wants : (row : List Value) → IsTrue (set.contains s row) → IsTrue (met row) → IsTrue (first row)) where
-  agree : (row : List Value) → IsTrue (set.contains s row) → (first row && prepared row) ≡ met row
+  pub agree : (row : List Value) → IsTrue (set.contains s row) → (first row && prepared row) ≡ met row
   agree row here = by (met row) refl
     where
       by : (b : Bool) → met row ≡ b → (first row && prepared row) ≡ met row

@@ -13,9 +13,10 @@ use Rattle.ent_report_lines.specs.Heads.{heads_at, heads_line}
 use Rattle.ent_history_form.specs.Parts.{IsNumber, IsValue}
 use Rattle.ent_history_form.specs.Answers.{HasSoMany, IsAnswer, answer_line_text}
 use Rattle.ent_script_reader.proofs.BreaksOff.{same_behind, same_line}
+use Rattle.ent_report_draft.proofs.LinesRead.{from_facts}
+use Rattle.ent_report_reader.proofs.OneLine.{facts_in_line}
 use Rattle.ent_unambiguous_laws.proofs.Fronts.{number_once, once, unlined, value_once}
-use Rattle.ent_unambiguous_laws.proofs.InLines.{facts_in_line}
-use Rattle.ent_unambiguous_laws.proofs.Known.{Known, from_facts}
+use Rattle.ent_unambiguous_laws.proofs.Known.{Known}
 
 -- what stands behind the place
 abbrev pub answer_tail : Answer → ℕ → List ℕ

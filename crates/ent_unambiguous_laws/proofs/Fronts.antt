@@ -17,7 +17,7 @@ use Rattle.ent_report_lines.proofs.Names.{name_again}
 use Rattle.ent_history_form.specs.Parts.{IsName, IsNumber, IsRow, IsValue}
 use Rattle.ent_script_reader.proofs.BreaksOff.{same_behind, same_line}
 use Rattle.ent_script_reader.proofs.InLine.{IsInLine}
-use Rattle.ent_unambiguous_laws.proofs.Known.{from_row, from_value}
+use Rattle.ent_report_draft.proofs.LinesRead.{from_row, from_value}
 
 -- ---- what is read
 

@@ -1,7 +1,6 @@
 mod Known
 mod Fronts
 mod Bindings
-mod InLines
 mod Lines
 mod AnswerTexts
 mod Scripts

@@ -14,8 +14,9 @@ use Rattle.ent_history_form.specs.Opening.{IsDeclaration}
 use Rattle.ent_history_form.specs.Answers.{IsFate}
 use Rattle.ent_history_form.specs.Joints.{PlacesRise}
 use Rattle.ent_script_reader.proofs.BreaksOff.{same_behind}
+use Rattle.ent_report_draft.proofs.LinesRead.{from_declaration, from_rise}
 use Rattle.ent_unambiguous_laws.proofs.Fronts.{behind_both, once}
-use Rattle.ent_unambiguous_laws.proofs.Known.{Known, from_declaration, from_rise}
+use Rattle.ent_unambiguous_laws.proofs.Known.{Known}
 
 pub opening_once : Known → (one other : Create) (count number : ℕ) → IsDeclaration one → IsDeclaration other
     → IsNumber count → IsNumber number → opening_text one count ≡ opening_text other number

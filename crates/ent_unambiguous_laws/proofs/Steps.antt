@@ -31,10 +31,10 @@ use Rattle.ent_history_form.specs.Joints.{BindsRight, JointStands, MemberStands,
 use Rattle.ent_history_form.specs.Tables.{EndStands, TableRowStands, TableStands, table_line_text, with_table_row}
 use Rattle.ent_history_form.specs.Stands.{Stands}
 use Rattle.ent_script_reader.proofs.BreaksOff.{same_behind}
+use Rattle.ent_report_reader.proofs.OneLine.{joint_in_line, opening_in_line, tx_in_line}
 use Rattle.ent_unambiguous_laws.proofs.AnswerTexts.{answer_once}
 use Rattle.ent_unambiguous_laws.proofs.Bindings.{binds_once}
 use Rattle.ent_unambiguous_laws.proofs.Fronts.{behind_both, line_is, line_once, number_once, row_once, said, unlined}
-use Rattle.ent_unambiguous_laws.proofs.InLines.{joint_in_line, opening_in_line, tx_in_line}
 use Rattle.ent_unambiguous_laws.proofs.Known.{Known}
 use Rattle.ent_unambiguous_laws.proofs.Lines.{fate_once, opening_once, places_once}
 use Rattle.ent_unambiguous_laws.proofs.Scripts.{script_once}
