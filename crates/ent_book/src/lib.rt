@@ -20,6 +20,7 @@ mod write;
 mod written;
 
 pub use answer::append_answers;
-pub use table::{NamedTable, append_table};
+pub use script::line_count;
+pub use table::{NamedTable, append_table, table_named};
 pub use write::{WriteFault, write_report, write_report_2};
 pub use written::written_variables;
