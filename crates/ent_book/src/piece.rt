@@ -6,7 +6,8 @@ ghost use Rattle.ent_book.specs.Report.{row_line, rows_text};
 use ent_value::{Row, print_row};
 use std::alloc::{AllocError, Global};
 
-pub(crate) fn append_number(alloc: Global, out: &mut Vec<u8>, number: u64) -> Result<(), AllocError>
+/// A number in decimal digits, without zeros in front of them.
+pub fn append_number(alloc: Global, out: &mut Vec<u8>, number: u64) -> Result<(), AllocError>
     ensures { OnOk result (out.new.items ≡ out.old.items ++ decimal number) }
 {
     let digits = format!(in alloc; "{number}")?;

@@ -7,8 +7,8 @@ use ent_print::print_script;
 use ent_tree::Script;
 use std::alloc::{AllocError, Global};
 
-/// How many lines are ended in a text.
-fn line_count(text: &[u8]) -> u64
+/// How many lines are ended in a text, each by its LF.
+pub fn line_count(text: &[u8]) -> u64
     ensures { result ≡ line_count text.now }
 {
     let mut count = 0u64;

@@ -18,8 +18,8 @@ pub struct NamedTable {
     pub table: Arc<Table>,
 }
 
-/// The first table of a name.
-fn table_named<'a>(tables: &'a [NamedTable], name: &Name) -> Option<&'a Table>
+/// The first table of a name; none where no table has it.
+pub fn table_named<'a>(tables: &'a [NamedTable], name: &Name) -> Option<&'a Table>
     ensures { MatchOption result (tables_database tables.now name.now ≡ set.empty)
         (λ table. tables_database tables.now name.now ≡ table.now.rows) }
 {

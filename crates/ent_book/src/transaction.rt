@@ -9,7 +9,8 @@ use crate::piece::append_number;
 use ent_semantics::{Entry, Failure, Fate, Fated};
 use std::alloc::{AllocError, Global};
 
-fn append_after(alloc: Global, out: &mut Vec<u8>, runs: u64) -> Result<(), AllocError>
+/// How many runs a transaction took part in, as the report has it behind another word: ` after ` and the number.
+pub fn append_after(alloc: Global, out: &mut Vec<u8>, runs: u64) -> Result<(), AllocError>
     ensures { OnOk result (out.new.items ≡ out.old.items ++ after_text runs) }
 {
     out.extend_from_slice(b" after ")?;
@@ -25,7 +26,9 @@ fn append_failure(out: &mut Vec<u8>, failure: Failure) -> Result<(), AllocError>
     }
 }
 
-fn append_fate(alloc: Global, out: &mut Vec<u8>, fate: Fate) -> Result<(), AllocError>
+/// A fate as the report has it: `committed` and the number of the commit, `gave up`, `rolled back`, or `failed` and the
+/// failure, `F1` or `F2`; and behind it after how many runs.
+pub fn append_fate(alloc: Global, out: &mut Vec<u8>, fate: Fate) -> Result<(), AllocError>
     ensures { OnOk result (out.new.items ≡ out.old.items ++ fate_text fate) }
 {
     match fate {

@@ -8,8 +8,7 @@ use Rattle.ent_set.specs.Sets as set
 use Rattle.ent_value.specs.Order.{exact_rows, rows_total}
 use Rattle.ent_value.specs.Value.{row_cmp}
 use Rattle.ent_rel.specs.Relation.{Relation}
-use Rattle.ent_select.specs.Tables.{rows_in}
-use Rattle.ent_check.specs.Places.{no_table}
+use Rattle.ent_select.specs.Tables.{no_table, rows_in}
 
 pub rows_at : (tables : List Relation) (number : ℕ)
     → (slice_index_or tables number no_table).rows ≡ slice_index_or (rows_in tables) number set.empty

@@ -2,5 +2,4 @@ pub mod Above
 pub mod Offers
 pub mod Order
 pub mod Seats
-pub mod Places
 pub mod Told

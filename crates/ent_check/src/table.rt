@@ -3,10 +3,9 @@ ghost use Rattle.std.specs.Prelude.{◌≡◌, ◌<◌, IfOk, length, map, slice
 ghost use Rattle.std.specs.Arc.{arc_value};
 ghost use Rattle.ent_set.specs.Sets as set;
 ghost use Rattle.ent_form_laws.specs.Tables.{database_of};
-ghost use Rattle.ent_check.specs.Places.{no_table};
 ghost use Rattle.ent_rules.specs.Table.{tables_findings};
 ghost use Rattle.ent_rules.specs.Verdict.{first_of};
-ghost use Rattle.ent_select.specs.Tables.{rows_in};
+ghost use Rattle.ent_select.specs.Tables.{no_table, rows_in};
 
 use crate::alike::same_rows;
 use crate::ground::table_at;

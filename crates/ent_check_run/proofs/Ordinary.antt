@@ -28,8 +28,7 @@ use Rattle.ent_eval.specs.Change.{IsApplicable}
 use Rattle.ent_eval.specs.Meant.{CanBeApplied, IsMeant, changed_table, effect_of, rows_under}
 use Rattle.ent_eval.specs.declared.outcome.Outcome.{Outcome}
 use Rattle.ent_eval.specs.declared.outcome.Outcome.TheVariants as outcomes
-use Rattle.ent_check.specs.Places.{no_table}
-use Rattle.ent_select.specs.Tables.{kinds_in, rows_in}
+use Rattle.ent_select.specs.Tables.{kinds_in, no_table, rows_in}
 use Rattle.ent_check_run.specs.Sorts.{IsOrdinary, IsSet}
 
 -- ---- tables under their numbers

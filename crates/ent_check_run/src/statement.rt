@@ -9,8 +9,7 @@ ghost use Rattle.ent_closing.specs.Environment.{environment_of};
 ghost use Rattle.ent_eval.specs.Change.{IsApplicable};
 ghost use Rattle.ent_eval.specs.Meant.{changed_table, set_variable};
 ghost use Rattle.ent_rel.specs.Change.{changed_rows};
-ghost use Rattle.ent_check.specs.Places.{no_table};
-ghost use Rattle.ent_select.specs.Tables.{kinds_in, rows_in};
+ghost use Rattle.ent_select.specs.Tables.{kinds_in, no_table, rows_in};
 ghost use Rattle.ent_select.specs.Worth.{itself};
 ghost use Rattle.ent_semantics.specs.Database.{with_value, with_values};
 ghost use Rattle.ent_set.specs.Sets as set;
@@ -19,8 +18,8 @@ ghost use Rattle.ent_value.specs.Refusal.{Gives};
 use ent_check::{bindings_of, facts_of, tables_of};
 use ent_closed::{Entangled, Statement};
 use ent_closing::Environment;
-use ent_eval::{Outcome, statement_outcome};
-use ent_rel::{Delta, Table, TableFull};
+use ent_eval::{Outcome, statement_outcome, table_changed};
+use ent_rel::{Delta, Table};
 use ent_semantics::{Answer, Fact, Failure};
 use ent_tree::Duplicate;
 use ent_value::{Refusal, Sequence, Value};
@@ -51,28 +50,6 @@ fn changed_table(statement: &Statement<Value>) -> usize
         Statement::Delete { table, .. } => *table,
         Statement::Update { table, .. } => *table,
         _ => 0,
-    }
-}
-
-/// What a change makes of the table of a number.
-fn table_changed(
-    alloc: Global,
-    tables: &[Arc<Table>],
-    number: usize,
-    delta: &Delta,
-) -> Result<Arc<Table>, AllocError>
-    requires there { number < length tables.now }
-    requires applicable { IsApplicable (slice_index_or (map arc_value tables.now) number no_table) delta.now }
-    ensures rows { let before = slice_index_or (map arc_value tables.now) number no_table in
-        IfOk result (λ table. (arc_value table).rows ≡ changed_rows before.rows delta.now.removed delta.now.added) }
-    ensures kinds { let before = slice_index_or (map arc_value tables.now) number no_table in
-        IfOk result (λ table. (arc_value table).kinds ≡ before.kinds) }
-{
-    match tables[number].apply(alloc, delta) {
-        Ok(table) => Ok(Arc::new(alloc, table)?),
-        Err(Refusal::Memory) => Err(AllocError),
-        // The change fits.
-        Err(Refusal::Fault(TableFull)) => unreachable!(),
     }
 }
 

@@ -1,24 +1,17 @@
 //! Pieces of a line: transactions, tables and demands.
 ghost use Rattle.std.specs.Prelude.{◌≡◌, ◌<◌, ◌++◌, OnOk};
 ghost use Rattle.std.specs.Option.{option_copied};
-ghost use Rattle.std.specs.Fmt.{decimal};
 ghost use Rattle.ent_driver.specs.Why.{both_text, demand_text, mode_text, more_terms_text, more_txs_text, numbered_demand};
 ghost use Rattle.ent_driver.specs.Why.{relation_text, table_name, term_text, terms_text, tx_text, txs_text};
 ghost use Rattle.ent_tree.specs.declared.limits.TheConstants.{MOST_PARTS};
 
+use ent_book::append_number;
 use ent_closed::{Atom, Term};
 use ent_group::Tx;
 use ent_lock::Mode;
 use ent_tree::Opening;
 use ent_value::{Name, Value, print_value};
 use std::alloc::{AllocError, Global};
-
-pub(crate) fn append_number(alloc: Global, out: &mut Vec<u8>, number: u64) -> Result<(), AllocError>
-    ensures { OnOk result (out.new.items ≡ out.old.items ++ decimal number) }
-{
-    let digits = format!(in alloc; "{number}")?;
-    out.extend_from_slice(digits.as_bytes())
-}
 
 pub(crate) fn append_tx(alloc: Global, out: &mut Vec<u8>, tx: Tx) -> Result<(), AllocError>
     ensures { OnOk result (out.new.items ≡ out.old.items ++ tx_text tx) }

@@ -1,6 +1,6 @@
 //! What keeps a transaction from moving, told in a line.
 ghost use Rattle.std.specs.Prelude.{◌≡◌, ◌<◌, ◌++◌, length, ℕ, IfErr, IfOk, OnOk, Some};
-ghost use Rattle.ent_book.specs.Report.{after_text, failure_text, fate_text};
+ghost use Rattle.ent_book.specs.Report.{fate_text};
 ghost use Rattle.ent_core.specs.Obstacle.{FaresSo, IsObstacle};
 ghost use Rattle.ent_core.specs.declared.obstacle.Obstacle.TheVariants as obstacles;
 ghost use Rattle.ent_driver.specs.Why.{Explains, IsUnexplained, IsUntold, Says, SaysOutside, TellsWhy};
@@ -15,27 +15,20 @@ ghost use Rattle.ent_protocol.specs.Lookup.{standing};
 use crate::driver::Driver;
 use crate::fault::DriverFault;
 use crate::piece::{
-    append_both, append_mode, append_number, append_numbered_demand, append_table_name, append_tx,
-    append_txs,
+    append_both, append_mode, append_numbered_demand, append_table_name, append_tx, append_txs,
 };
+use ent_book::{append_after, append_fate, append_number};
 use ent_core::{Core, Obstacle, Standing};
 use ent_form::FormFault;
 use ent_group::{Members, Tx};
 use ent_match::{Demand, Posted, Unsafe};
 use ent_members::Conflict;
 use ent_protocol_laws::members_stand_by_number;
-use ent_semantics::{Failure, Fate};
+use ent_semantics::Fate;
 use ent_tree::Opening;
 use std::alloc::{AllocError, Global};
 
 // ---- transactions that are no members of a run
-
-fn append_after(alloc: Global, out: &mut Vec<u8>, runs: u64) -> Result<(), AllocError>
-    ensures { OnOk result (out.new.items ≡ out.old.items ++ after_text runs) }
-{
-    out.extend_from_slice(b" after ")?;
-    append_number(alloc, out, runs)
-}
 
 fn dormant_text(alloc: Global, runs: u64) -> Result<Vec<u8>, AllocError>
     ensures { IfOk result (λ words. words.items ≡ dormant_text runs) }
@@ -44,41 +37,6 @@ fn dormant_text(alloc: Global, runs: u64) -> Result<Vec<u8>, AllocError>
     append_after(alloc, &mut out, runs)?;
     out.extend_from_slice(b", and waits for a run")?;
     Ok(out)
-}
-
-fn append_failure(out: &mut Vec<u8>, failure: Failure) -> Result<(), AllocError>
-    ensures { OnOk result (out.new.items ≡ out.old.items ++ failure_text failure) }
-{
-    match failure {
-        Failure::Overflow => out.extend_from_slice(b"F1"),
-        Failure::TableFull => out.extend_from_slice(b"F2"),
-    }
-}
-
-/// A fate, as the report has it.
-fn append_fate(alloc: Global, out: &mut Vec<u8>, fate: Fate) -> Result<(), AllocError>
-    ensures { OnOk result (out.new.items ≡ out.old.items ++ fate_text fate) }
-{
-    match fate {
-        Fate::Committed { number, runs } => {
-            out.extend_from_slice(b"committed ")?;
-            append_number(alloc, out, number)?;
-            append_after(alloc, out, runs)
-        }
-        Fate::GaveUp { runs } => {
-            out.extend_from_slice(b"gave up")?;
-            append_after(alloc, out, runs)
-        }
-        Fate::RolledBack { runs } => {
-            out.extend_from_slice(b"rolled back")?;
-            append_after(alloc, out, runs)
-        }
-        Fate::Failed { failure, runs } => {
-            out.extend_from_slice(b"failed ")?;
-            append_failure(out, failure)?;
-            append_after(alloc, out, runs)
-        }
-    }
 }
 
 fn fate_text(alloc: Global, fate: Fate) -> Result<Vec<u8>, AllocError>

@@ -5,6 +5,7 @@
 //! the meaning of its own work over its own tables.
 #![tactic(auto)]
 
+mod at_number;
 mod change;
 mod done;
 mod evaluation;
@@ -15,6 +16,7 @@ mod row;
 mod shared;
 mod term;
 
+pub use at_number::table_changed;
 pub use done::{Done, NotDone, evaluate};
 pub use ent_job::{Job, Seen, Single, Work};
 pub use evaluation::statement_outcome;

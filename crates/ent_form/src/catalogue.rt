@@ -99,7 +99,8 @@ fn column_schema(alloc: Global, column: &Column) -> Result<ColumnSchema, AllocEr
     })
 }
 
-fn table_schema(alloc: Global, create: &Create) -> Result<TableSchema, AllocError>
+/// A declared table, as statements are resolved against it: its name, and its columns as they are declared.
+pub fn table_schema(alloc: Global, create: &Create) -> Result<TableSchema, AllocError>
     ensures { IfOk result (λ schema. schema ≡ table_schema create.now) }
 {
     let _limit = create.columns.len();

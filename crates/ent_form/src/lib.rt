@@ -20,7 +20,7 @@ mod script;
 mod select;
 mod variable;
 
-pub use catalogue::{Catalogue, ColumnSchema, TableSchema};
+pub use catalogue::{Catalogue, ColumnSchema, TableSchema, table_schema};
 pub use fault::FormFault;
 pub use row::opening_rows;
 pub use script::{Plain, resolve};

@@ -1,5 +1,5 @@
 //! Tables under their names, and their rows as an opening has them.
-ghost use Rattle.std.specs.Prelude.{◌≡◌, ◌≤◌, ◌+◌, ◌++◌, MatchOption, OnOk, length};
+ghost use Rattle.std.specs.Prelude.{◌≡◌, ◌≤◌, ◌+◌, ◌++◌, OnOk, length};
 ghost use Rattle.ent_set.specs.Sets as set;
 ghost use Rattle.ent_semantics.specs.Kinds.{RowsHaveKinds};
 ghost use Rattle.ent_book.specs.Tables.{tables_database};
@@ -9,24 +9,10 @@ ghost use Rattle.ent_renewal.specs.Renewal.{rows_together};
 ghost use Rattle.ent_renewal.specs.Rows.{table_rows};
 
 use crate::row::push_rows;
-use ent_book::NamedTable;
-use ent_rel::Table;
+use ent_book::{NamedTable, table_named};
 use ent_tree::{Create, MOST_OPENING_ROWS, MOST_TABLES, OpeningRow};
 use ent_value::{Limited, MOST_ROWS, Name};
 use std::alloc::{AllocError, Global};
-
-/// The first table of a name.
-fn table_named<'a>(tables: &'a [NamedTable], name: &Name) -> Option<&'a Table>
-    ensures { MatchOption result (tables_database tables.now name.now ≡ set.empty)
-        (λ table. tables_database tables.now name.now ≡ table.now.rows) }
-{
-    for entry in tables {
-        if entry.name == *name {
-            return Some(&*entry.table);
-        }
-    }
-    None
-}
 
 /// How many rows stand under a name.
 fn rows_under(tables: &[NamedTable], name: &Name) -> usize

@@ -17,7 +17,6 @@ mod members;
 mod opened;
 mod opening;
 mod reading;
-mod schema;
 mod scripts;
 mod tables;
 mod told;

@@ -11,8 +11,7 @@ ghost use Rattle.ent_report_draft.specs.Opened.{EndsBelow, OpeningTakes, Opens, 
 
 use crate::kinds::is_of_kinds;
 use crate::lists::{last, take_last};
-use crate::schema::table_schema;
-use ent_form::Catalogue;
+use ent_form::{Catalogue, table_schema};
 use ent_tree::{
     Create, Identifier, Literal, MOST_OPENING_ROWS, MOST_PARTS, MOST_TABLES, Opening, OpeningRow,
 };

@@ -8,8 +8,9 @@ ghost use Rattle.ent_history_form.specs.Scripts.{ScriptBreaksOff};
 ghost use Rattle.ent_report_reader.specs.Steps.{Steps, StepsScript};
 
 use crate::lines::{first_line, front_lines};
+use ent_book::line_count;
 use ent_report_draft::Draft;
-use ent_script_reader::{line_count, scripts_break_off_in_their_lines};
+use ent_script_reader::scripts_break_off_in_their_lines;
 use ent_value::Refusal;
 use std::alloc::{AllocError, Global};
 

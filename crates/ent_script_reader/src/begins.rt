@@ -1,13 +1,13 @@
 //! Whether lines begin a script of a report.
 ghost use Rattle.std.specs.Prelude.{◌≡◌, ◌↔◌, ◌++◌, ℕ, IfOk, IsTrue, codes, string_bytes};
 ghost use Rattle.ent_book.specs.Report.{line};
-ghost use Rattle.ent_book.specs.Report2.{line_count};
 ghost use Rattle.ent_form.specs.Catalogue.{schemas_of};
 ghost use Rattle.ent_history.specs.declared.history.History.{History};
 ghost use Rattle.ent_script_reader.specs.Begins.{HasWholeLines, BeginsScript};
 ghost use Rattle.ent_script_reader.specs.Filling.{filling};
 
 use crate::reader::read_script;
+use ent_book::line_count;
 use ent_form::Catalogue;
 use std::alloc::{AllocError, Global};
 
@@ -24,19 +24,6 @@ fn has_whole_lines(text: &[u8]) -> bool
         None => true,
         Some(byte) => *byte == b'\n',
     }
-}
-
-/// How many lines are ended in a text.
-pub fn line_count(text: &[u8]) -> u64
-    ensures { result ≡ line_count text.now }
-{
-    let mut count = 0u64;
-    for byte in text {
-        if *byte == b'\n' {
-            count += 1;
-        }
-    }
-    count
 }
 
 /// The lines, so many more, each a statement that has no fault wherever it stands, and COMMIT.

@@ -11,6 +11,6 @@ mod only;
 mod reader;
 mod unplaced;
 
-pub use begins::{begins_script, line_count};
+pub use begins::begins_script;
 pub use laws::scripts_break_off_in_their_lines;
 pub use reader::read_script;

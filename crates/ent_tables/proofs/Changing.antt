@@ -8,9 +8,8 @@ use Rattle.ent_value.specs.declared.value.Value.{Value}
 use Rattle.ent_rel.specs.Relation.{Relation}
 use Rattle.ent_undo.specs.Change.{Change as Noted}
 use Rattle.ent_closed.specs.Form.{Tables}
-use Rattle.ent_select.specs.Tables.{kinds_in, rows_in}
+use Rattle.ent_select.specs.Tables.{kinds_in, no_table, rows_in}
 use Rattle.ent_protocol.specs.Job.{applied}
-use Rattle.ent_tables.specs.AtNumber.{no_table}
 use Rattle.ent_tables.specs.Stored.{AreOfTables, Stored, changed, changes_seen, stored_of, taken_back}
 use Rattle.ent_tables.proofs.Notes.{all_pop, all_push, ends, seen_newest}
 use Rattle.ent_tables.proofs.Places.{get_there, index_map, set_there}

@@ -5,10 +5,10 @@ use Rattle.std.specs.List.{AllByRecursion}
 use Rattle.ent_set.specs.Sets as set
 use Rattle.ent_tree.specs.declared.declaration.Create.{Create}
 use Rattle.ent_rel.specs.Relation.{Relation}
-use Rattle.ent_select.specs.Tables.{kinds_in, rows_in}
+use Rattle.ent_select.specs.Tables.{kinds_in, no_table, rows_in}
 use Rattle.ent_protocol.specs.Member.{declared_kinds, seen_now}
 use Rattle.ent_protocol.specs.State.{Use}
-use Rattle.ent_tables.specs.AtNumber.{no_table, seen_at, seen_in}
+use Rattle.ent_tables.specs.AtNumber.{seen_at, seen_in}
 use Rattle.ent_tables.specs.Stored.{kinds_declared}
 
 -- a place of a list, seen by f

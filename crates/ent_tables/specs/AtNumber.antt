@@ -1,13 +1,9 @@
 -- Tables under their numbers.
-use Rattle.std.specs.Prelude.{ℕ, List, [], map, slice_index_or}
-use Rattle.ent_set.specs.Sets as set
+use Rattle.std.specs.Prelude.{ℕ, List, map, slice_index_or}
 use Rattle.ent_rel.specs.Relation.{Relation}
 use Rattle.ent_protocol.specs.Job.{Seen}
 use Rattle.ent_protocol.specs.State.{Use}
-
--- what stands for a table that isn't there
-abbrev pub no_table : Relation
-no_table = record { kinds = []; rows = set.empty }
+use Rattle.ent_select.specs.Tables.{no_table}
 
 abbrev pub seen_of : ℕ → Relation → Seen
 seen_of number table = record { table = number; kinds = table.kinds; rows = table.rows }

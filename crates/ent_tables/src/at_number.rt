@@ -2,14 +2,13 @@
 ghost use Rattle.std.specs.Prelude.{◌≡◌, ◌<◌, [], IfOk, length, map, slice_index_or};
 ghost use Rattle.std.specs.Arc.{arc_value};
 ghost use Rattle.std.specs.List.{AllByRecursion};
-ghost use Rattle.ent_rel.specs.Change.{changed_rows};
-ghost use Rattle.ent_eval.specs.Change.{IsApplicable};
-ghost use Rattle.ent_tables.specs.AtNumber.{no_table, seen_at, seen_in};
+ghost use Rattle.ent_select.specs.Tables.{no_table};
+ghost use Rattle.ent_tables.specs.AtNumber.{seen_at, seen_in};
 
 use ent_job::Seen;
 use ent_members::Use;
-use ent_rel::{Delta, Table, TableFull};
-use ent_value::{Refusal, Sequence};
+use ent_rel::Table;
+use ent_value::Sequence;
 use std::alloc::{AllocError, Global};
 use std::sync::Arc;
 
@@ -45,26 +44,4 @@ pub(crate) fn tables_seen(
         seen.push(table_seen(tables, own.table())?)?;
     }
     Ok(Sequence::from_vec(seen))
-}
-
-/// What a change makes of the table of a number.
-pub(crate) fn table_changed(
-    alloc: Global,
-    tables: &[Arc<Table>],
-    number: usize,
-    delta: &Delta,
-) -> Result<Arc<Table>, AllocError>
-    requires there { number < length tables.now }
-    requires applicable { IsApplicable (slice_index_or (map arc_value tables.now) number no_table) delta.now }
-    ensures rows { let before = slice_index_or (map arc_value tables.now) number no_table in
-        IfOk result (λ table. (arc_value table).rows ≡ changed_rows before.rows delta.now.removed delta.now.added) }
-    ensures kinds { let before = slice_index_or (map arc_value tables.now) number no_table in
-        IfOk result (λ table. (arc_value table).kinds ≡ before.kinds) }
-{
-    match tables[number].apply(alloc, delta) {
-        Ok(table) => Ok(Arc::new(alloc, table)?),
-        Err(Refusal::Memory) => Err(AllocError),
-        // The change fits.
-        Err(Refusal::Fault(TableFull)) => unreachable!(),
-    }
 }

@@ -14,7 +14,8 @@ ghost use Rattle.ent_protocol.specs.State.{Member};
 ghost use Rattle.ent_tables.specs.Stored.{changed, kinds_declared, relation_at, rolled_back, rolled_back_with};
 ghost use Rattle.ent_tables.specs.Stored.{settled, settled_with, taken_back};
 
-use crate::at_number::{table_at, table_changed, tables_seen};
+use crate::at_number::{table_at, tables_seen};
+use ent_eval::table_changed;
 use ent_form::Catalogue;
 use ent_group::{Members, Tx};
 use ent_job::Seen;

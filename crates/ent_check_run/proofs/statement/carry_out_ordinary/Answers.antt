@@ -8,8 +8,7 @@ use Rattle.ent_eval.specs.Change.{IsApplicable}
 use Rattle.ent_eval.specs.Meant.{changed_table, set_variable}
 use Rattle.ent_eval.specs.declared.outcome.Outcome.TheVariants as outcomes
 use Rattle.ent_rel.specs.Change.{changed_rows}
-use Rattle.ent_check.specs.Places.{no_table}
-use Rattle.ent_select.specs.Tables.{rows_in}
+use Rattle.ent_select.specs.Tables.{no_table, rows_in}
 use Rattle.ent_semantics.specs.Database.{with_value}
 use Rattle.ent_semantics.specs.declared.answer.Answer.TheVariants as answers
 use Rattle.ent_check_run.proofs.Ordinary.{applied_so, change_applies, change_there, is_set, meant_so, one_table}

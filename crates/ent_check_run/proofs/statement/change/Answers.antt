@@ -4,8 +4,7 @@ use Rattle.std.specs.Prelude.{slice_index_or}
 use Rattle.std.proofs.lemmas.List.{length-map, map-set}
 use Rattle.ent_rel.specs.Change.{changed_rows}
 use Rattle.ent_rel.specs.Relation.{Relation}
-use Rattle.ent_check.specs.Places.{no_table}
-use Rattle.ent_select.specs.Tables.{kinds_in, rows_in}
+use Rattle.ent_select.specs.Tables.{kinds_in, no_table, rows_in}
 use Rattle.ent_check_run.proofs.Ordinary.{set_kinds, set_rows}
 use Rattle.ent_check_run.proofs.statement.change.Goals as goal
 
