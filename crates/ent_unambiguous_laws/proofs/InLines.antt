@@ -19,8 +19,9 @@ use Rattle.ent_semantics.specs.declared.book.Fate.{Fate}
 use Rattle.ent_semantics.specs.declared.book.Fate.TheVariants as fates
 use Rattle.ent_book.specs.Report.{after_text, fact_text, facts_text, failure_text, fate_text}
 use Rattle.ent_book.specs.Report2.{column_text, columns_text, kind_text, more_columns_text}
+use Rattle.ent_history_form.specs.Joints.{place_text}
 use Rattle.ent_report_lines.specs.Fates.{transaction_text}
-use Rattle.ent_report_lines.specs.Joints.{joint_text, place_text}
+use Rattle.ent_report_lines.specs.Joints.{joint_text}
 use Rattle.ent_report_lines.specs.Openings.{opening_text}
 use Rattle.ent_history_form.specs.Parts.{IsName, IsValue}
 use Rattle.ent_history_form.specs.Opening.{IsDeclaration}

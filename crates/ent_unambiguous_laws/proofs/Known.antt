@@ -9,11 +9,11 @@ use Rattle.ent_semantics.specs.declared.book.Fate.{Fate}
 use Rattle.ent_line.specs.Written as written
 use Rattle.ent_report_lines.specs.Fates.{transaction_at, transaction_text}
 use Rattle.ent_report_lines.specs.Heads.{IsFact, heads_at, heads_line}
-use Rattle.ent_report_lines.specs.Joints.{PlacesRise, joint_at, joint_text}
-use Rattle.ent_report_lines.specs.Openings.{IsDeclared, opening_at, opening_text}
+use Rattle.ent_report_lines.specs.Joints.{joint_at, joint_text}
+use Rattle.ent_report_lines.specs.Openings.{opening_at, opening_text}
 use Rattle.ent_history_form.specs.Answers as answers
 use Rattle.ent_history_form.specs.Answers.{IsFate}
-use Rattle.ent_history_form.specs.Joints as joints
+use Rattle.ent_history_form.specs.Joints.{PlacesRise}
 use Rattle.ent_history_form.specs.Opening.{IsDeclaration}
 use Rattle.ent_history_form.specs.Parts as parts
 use Rattle.ent_script_reader.proofs.Alone.{IsReadAgain}
@@ -21,13 +21,13 @@ use Rattle.ent_script_reader.proofs.Alone.{IsReadAgain}
 -- scripts and lines that are written so are read again
 pub record Known : Type 0 where
   pub scripts : IsReadAgain
-  pub transactions : (tx : ℕ) (fate : Fate) → written.IsNumber tx → IsFate fate
+  pub transactions : (tx : ℕ) (fate : Fate) → parts.IsNumber tx → IsFate fate
       → transaction_at (transaction_text tx fate) ≡ Ok (tx, fate)
-  pub openings : (create : Create) (count : ℕ) → IsDeclared create → written.IsNumber count
+  pub openings : (create : Create) (count : ℕ) → IsDeclaration create → parts.IsNumber count
       → opening_at (opening_text create count) ≡ Ok (create, count)
-  pub heads : (place : ℕ) (facts : List Fact) → written.IsNumber place → facts ≢ [] → AllByRecursion IsFact facts
+  pub heads : (place : ℕ) (facts : List Fact) → parts.IsNumber place → facts ≢ [] → AllByRecursion IsFact facts
       → heads_at (heads_line place facts) ≡ Ok (place, facts)
-  pub joints : (number : ℕ) (places : List (ℕ × ℕ)) → written.IsNumber number → places ≢ [] → PlacesRise places
+  pub joints : (number : ℕ) (places : List (ℕ × ℕ)) → parts.IsNumber number → places ≢ [] → PlacesRise places
       → joint_at (joint_text number places) ≡ Ok (number, places)
 
 -- ---- what can stand in a report can be written
@@ -42,21 +42,6 @@ from_values (value ∷ values) h = (from_value value h.0, from_values values h.1
 
 pub from_row : (values : List Value) → parts.IsRow values → written.IsRow values
 from_row values h = (h.0, from_values values h.1)
-
-pub from_declaration : (create : Create) → IsDeclaration create → IsDeclared create
-from_declaration create h = record {
-  name = h.name;
-  unplaced = h.unplaced;
-  some = h.some;
-  few = h.few;
-  columns = h.columns;
-  distinct = h.distinct;
-}
-
-pub from_rise : (places : List (ℕ × ℕ)) → joints.PlacesRise places → PlacesRise places
-from_rise [] h = tt
-from_rise (place ∷ []) h = h
-from_rise (place ∷ next ∷ more) h = (h.0, h.1, h.2, from_rise (next ∷ more) h.3)
 
 pub from_facts : (facts : List Fact) → AllByRecursion answers.IsFact facts → AllByRecursion IsFact facts
 from_facts [] h = tt
