@@ -25,7 +25,7 @@ use Rattle.ent_closed.specs.Kinds.{Fits, tables_named}
 use Rattle.ent_closed.specs.declared.statement.Statement.{Statement}
 use Rattle.ent_closed.specs.declared.statement.Statement.TheVariants as statements
 use Rattle.ent_eval.specs.Change.{IsApplicable}
-use Rattle.ent_eval.specs.Meant.{CanBeApplied, IsMeant, changed_table, effect_of, rows_under}
+use Rattle.ent_eval.specs.Meant.{CanBeApplied, IsMeant, changed_number, effect_of, rows_under}
 use Rattle.ent_eval.specs.declared.outcome.Outcome.{Outcome}
 use Rattle.ent_eval.specs.declared.outcome.Outcome.TheVariants as outcomes
 use Rattle.ent_select.specs.Tables.{kinds_in, no_table, rows_in}
@@ -118,7 +118,7 @@ pub one_table : (statement : Statement Value) (tables : List Relation) (environm
     → form_meaning closed_worth statement [] (rows_in tables) environment
     ≡ effect_of statement (outcomes.Changed count delta) (rows_in tables) environment
     → (table : Relation) → tables_at tables (tables_named statement) ≡ table ∷ []
-    → tables_named statement ≡ changed_table statement ∷ []
+    → tables_named statement ≡ changed_number statement ∷ []
 one_table (statements.Select select) tables environment count delta kinds fits is table one =
     absurd (rows_are_no_count _ count (ap answer_or_count is))
 one_table (statements.Entangled entangled) tables environment count delta kinds fits is table one = absurd fits
@@ -131,18 +131,18 @@ one_relation : (x y : Relation) → x ∷ [] ≡ y ∷ [] → x ≡ y
 one_relation x y is = ap (λ tables. slice_index_or tables 0 x) is
 
 pub change_there : (many : ℕ) (statement : Statement Value)
-    → tables_named statement ≡ changed_table statement ∷ []
-    → AllByRecursion (λ number. number < many) (tables_named statement) → changed_table statement < many
+    → tables_named statement ≡ changed_number statement ∷ []
+    → AllByRecursion (λ number. number < many) (tables_named statement) → changed_number statement < many
 change_there many statement named all =
     let P : List ℕ → Type 0 = λ numbers. AllByRecursion (λ number. number < many) numbers in
     (subst P named all).0
 
 pub change_applies : (statement : Statement Value) (tables : List Relation) (delta : Delta)
-    → tables_named statement ≡ changed_table statement ∷ [] → (table : Relation)
+    → tables_named statement ≡ changed_number statement ∷ [] → (table : Relation)
     → tables_at tables (tables_named statement) ≡ table ∷ [] → IsApplicable table delta
-    → IsApplicable (slice_index_or tables (changed_table statement) no_table) delta
+    → IsApplicable (slice_index_or tables (changed_number statement) no_table) delta
 change_applies statement tables delta named table one is =
-    let same : slice_index_or tables (changed_table statement) no_table ≡ table =
+    let same : slice_index_or tables (changed_number statement) no_table ≡ table =
     one_relation _ table (sym (ap (tables_at tables) named) ∙ one) in
     subst (λ (relation : Relation). IsApplicable relation delta) (sym same) is
 

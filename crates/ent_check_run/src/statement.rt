@@ -7,7 +7,7 @@ ghost use Rattle.ent_closed.specs.Form.{closed_worth, form_bound, form_heads, fo
 ghost use Rattle.ent_closed.specs.Kinds.{Fits, tables_named};
 ghost use Rattle.ent_closing.specs.Environment.{environment_of};
 ghost use Rattle.ent_eval.specs.Change.{IsApplicable};
-ghost use Rattle.ent_eval.specs.Meant.{changed_table, set_variable};
+ghost use Rattle.ent_eval.specs.Meant.{changed_number, set_variable};
 ghost use Rattle.ent_rel.specs.Change.{changed_rows};
 ghost use Rattle.ent_select.specs.Tables.{kinds_in, no_table, rows_in};
 ghost use Rattle.ent_select.specs.Worth.{itself};
@@ -42,14 +42,12 @@ fn tables_named(alloc: Global, statement: &Statement<Value>) -> Result<Vec<usize
 }
 
 /// The number of the table that a statement changes; 0 where it changes none.
-fn changed_table(statement: &Statement<Value>) -> usize
-    ensures { result ≡ changed_table statement.now }
+fn changed_number(statement: &Statement<Value>) -> usize
+    ensures { result ≡ changed_number statement.now }
 {
-    match statement {
-        Statement::Insert { table, .. } => *table,
-        Statement::Delete { table, .. } => *table,
-        Statement::Update { table, .. } => *table,
-        _ => 0,
+    match statement.changed_table() {
+        Some(table) => table,
+        None => 0,
     }
 }
 
@@ -122,7 +120,7 @@ fn carry_out_ordinary(
     match statement_outcome(alloc, statement, &named)? {
         Outcome::Rows(rows) => Ok(Answer::Rows(rows)),
         Outcome::Changed { count, delta } => {
-            change(alloc, tables, changed_table(statement), &delta)?;
+            change(alloc, tables, changed_number(statement), &delta)?;
             Ok(Answer::Count(count))
         }
         Outcome::Value(value) => {

@@ -1,4 +1,4 @@
--- Kinds of operands and expressions, the tables that a statement names, and statements that fit the kinds of these.
+-- Kinds of operands and expressions, the tables that a statement names and changes, and statements that fit them.
 use Rattle.std.specs.Prelude.{◌≡◌, ℕ, List, [], ◌∷◌, map, length, slice_get, Option, Some}
 use Rattle.std.specs.List.{flat_map}
 use Rattle.ent_value.specs.Value.{kind_of, kinds_of}
@@ -35,6 +35,13 @@ tables_named (statements.Insert table values) = table ∷ []
 tables_named (statements.Delete table tests) = table ∷ []
 tables_named (statements.Update table image tests) = table ∷ []
 tables_named (statements.Set variable expression) = []
+
+-- the number of the table that a statement changes: INSERT, DELETE and UPDATE theirs, and no other statement any
+abbrev pub changed_tables : {K : Type 0} → Statement K → List ℕ
+changed_tables (statements.Insert table values) = table ∷ []
+changed_tables (statements.Delete table tests) = table ∷ []
+changed_tables (statements.Update table image tests) = table ∷ []
+changed_tables other = []
 
 -- An ordinary statement has as many tables as it names, and the row or the image that it puts in has the kinds of the
 -- table's columns.

@@ -1,4 +1,7 @@
 //! Statements over tables by their number.
+ghost use Rattle.std.specs.Prelude.{◌≡◌, option_to_list};
+ghost use Rattle.ent_closed.specs.Kinds.{changed_tables};
+
 use crate::entangled::Entangled;
 use crate::operand::Operand;
 use ent_tree::{Expression, MOST_PARTS, MOST_SOURCES, Test};
@@ -46,4 +49,18 @@ pub enum Statement<K> {
         variable: Name,
         expression: Expression<K>,
     },
+}
+
+impl<K> Statement<K> {
+    /// The number of the table that the statement changes; none for a statement that changes no table.
+    pub fn changed_table(&self) -> Option<usize>
+        ensures { option_to_list result ≡ changed_tables self.now }
+    {
+        match self {
+            Statement::Insert { table, .. }
+            | Statement::Delete { table, .. }
+            | Statement::Update { table, .. } => Some(*table),
+            Statement::Select(_) | Statement::Entangled(_) | Statement::Set { .. } => None,
+        }
+    }
 }

@@ -7,6 +7,7 @@ use Rattle.std.proofs.lemmas.Bool.Decides.{nat_tests}
 use Rattle.std.proofs.lemmas.Option.{slice_get_within}
 use Rattle.ent_set.specs.Sets as set
 use Rattle.ent_value.specs.declared.value.Value.{Value}
+use Rattle.ent_closed.specs.Kinds.{changed_tables}
 use Rattle.ent_closed.specs.declared.statement.Statement.{Statement}
 use Rattle.ent_closed.specs.declared.statement.Statement.TheVariants as statements
 use Rattle.ent_eval.specs.Change.{IsApplicable}
@@ -21,7 +22,7 @@ use Rattle.ent_members.specs.Run.{Run}
 use Rattle.ent_protocol.specs.Event.{Reply}
 use Rattle.ent_protocol.specs.Event as replies
 use Rattle.ent_protocol.specs.Begin.{replaced}
-use Rattle.ent_protocol.specs.Finish.{FinishesBy, FinishesSingle, IsTaken, noted, stepped, table_of, with_change}
+use Rattle.ent_protocol.specs.Finish.{FinishesBy, FinishesSingle, IsTaken, noted, stepped, with_change}
 use Rattle.ent_protocol.specs.Job.{Done, Job, One, Outcome, Work, Shown, Changed, Bound, Choice, Fault, IsEvaluated}
 use Rattle.ent_protocol.specs.Job.{Seen, Single, tables_of}
 use Rattle.ent_protocol.specs.Member.{Ordinary, active_member, declared_kinds, is_tx, next_of}
@@ -111,8 +112,8 @@ changes_one : (s : State) (seen : Seen) (delta : Delta) (statement : Statement V
     → StandAtNumbers (seen ∷ [])
     → seen.kinds ≡ declared_kinds s.opening.tables seen.table
     → SameWhereUsed (statement_uses statement) (tables_of (seen ∷ [])) s.tables
-    → All (λ table. table < length s.opening.tables) (table_of statement)
-    → AllByRecursion (CanChange s delta) (table_of statement)
+    → All (λ table. table < length s.opening.tables) (changed_tables statement)
+    → AllByRecursion (CanChange s delta) (changed_tables statement)
 changes_one s seen delta (statements.Select select) applicable used stand kinds same there = tt
 changes_one s seen delta (statements.Entangled entangled) applicable used stand kinds same there = tt
 changes_one s seen delta (statements.Insert table values) applicable used stand kinds same there =
@@ -126,7 +127,7 @@ changes_one s seen delta (statements.Set variable expression) applicable used st
 pub may_carry_out : (s : State) (job : Job) (single : Single) (outcome : Outcome) → IsOne single job.tables
     → CanBeMade job.tables outcome → SeesDeclared s.opening.tables job
     → SameWhereUsed (statement_uses single.statement) (tables_of job.tables) s.tables
-    → All (λ table. table < length s.opening.tables) (table_of single.statement)
+    → All (λ table. table < length s.opening.tables) (changed_tables single.statement)
     → MayCarryOut s single.statement outcome
 may_carry_out s job single (Shown rows) one made declared same there = tt
 may_carry_out s job single (Bound value) one made declared same there = tt
@@ -194,9 +195,9 @@ went_on s run run' stored stored' single member left (Changed count removed adde
     let before = steps.prepared ∙ sym prepared in
     let rest = h.1 in
     let rows = ap (λ (x : Stored). x.tables) rest
-    ∙ ap (with_change (table_of single.statement) removed added) (sym tables) in
+    ∙ ap (with_change (changed_tables single.statement) removed added) (sym tables) in
     let notes = ap (λ (x : Stored). x.changes) rest
-    ∙ (λ i. noted (own i) (table_of single.statement) (sym tables i) (sym changes i)) in (
+    ∙ (λ i. noted (own i) (changed_tables single.statement) (sym tables i) (sym changes i)) in (
       ap (λ (a : Answer). replies.Stepped a) (one_answer (answers.Count count) answer shown),
       λ i. record s {
         prepared = before i;
@@ -273,7 +274,7 @@ out_idle s job single index present stand there work =
 pub out_change : (s : State) (job : Job) (single : Single) (index : ℕ) (outcome : Outcome) → LentIsPresent s
     → LentIsDeclared s
     → ((member : Member) (statement : Statement Value) → next_of s member ≡ Ordinary statement
-    → All (λ table. table < length s.opening.tables) (table_of statement))
+    → All (λ table. table < length s.opening.tables) (changed_tables statement))
     → slice_get s.lent index ≡ Some job → job.work ≡ One single → IsWork job.work job.tables
     → CanBeMade job.tables outcome → MayCarryOut s single.statement outcome
 out_change s job single index outcome present declared changed there work fits made =

@@ -2,13 +2,14 @@
 use Rattle.std.specs.Prelude.{◌≡◌, ℕ, ◌<◌, length}
 use Rattle.std.specs.List.{AllByRecursion}
 use Rattle.ent_value.specs.declared.value.Value.{Value}
+use Rattle.ent_closed.specs.Kinds.{changed_tables}
 use Rattle.ent_closed.specs.declared.statement.Statement.{Statement}
 use Rattle.ent_eval.specs.Change.{IsApplicable}
 use Rattle.ent_rel.specs.declared.change.Delta.{Delta}
 use Rattle.ent_members.specs.Places.{Changes}
 use Rattle.ent_members.specs.Run.{Run}
 use Rattle.ent_semantics.specs.declared.answer.Answer.TheVariants as answers
-use Rattle.ent_protocol.specs.Finish.{noted, stepped, table_of, variable_of, with_bound, with_change}
+use Rattle.ent_protocol.specs.Finish.{noted, stepped, variable_of, with_bound, with_change}
 use Rattle.ent_protocol.specs.Job.{Outcome, Shown, Changed, Bound, Choice, Fault, Single}
 use Rattle.ent_protocol.specs.State.{Member}
 use Rattle.ent_tables.specs.Stored.{Stored, relation_at}
@@ -22,8 +23,8 @@ pub record MayChange (stored : Stored) (delta : Delta) (table : ℕ) : Type 0 wh
 abbrev pub changing : Single → Delta → Stored → Stored
 changing single delta stored =
     record stored {
-      tables = with_change (table_of single.statement) delta.removed delta.added stored.tables;
-      changes = noted single.tx (table_of single.statement) stored.tables stored.changes;
+      tables = with_change (changed_tables single.statement) delta.removed delta.added stored.tables;
+      changes = noted single.tx (changed_tables single.statement) stored.tables stored.changes;
     }
 
 -- a member that took the value that its statement binds
@@ -36,7 +37,7 @@ binding statement value member =
 abbrev pub MayAdvance : Stored → Statement Value → Outcome → Type 0
 MayAdvance stored statement (Shown rows) = Unit {0}
 MayAdvance stored statement (Changed count removed added) =
-    AllByRecursion (MayChange stored (record { removed = removed; added = added })) (table_of statement)
+    AllByRecursion (MayChange stored (record { removed = removed; added = added })) (changed_tables statement)
 MayAdvance stored statement (Bound value) = Unit {0}
 MayAdvance stored statement (Choice groundings) = Unit {0}
 MayAdvance stored statement (Fault failure) = Unit {0}

@@ -3,13 +3,14 @@ use Rattle.std.specs.Prelude.{◌≡◌, ◌<◌, ℕ, List, Option, Some, None,
 use Rattle.std.specs.List.{AllByRecursion}
 use Rattle.ent_set.specs.Sets as set
 use Rattle.ent_value.specs.declared.value.Value.{Value}
+use Rattle.ent_closed.specs.Kinds.{changed_tables}
 use Rattle.ent_closed.specs.declared.statement.Statement.{Statement}
 use Rattle.ent_eval.specs.Change.{IsApplicable}
 use Rattle.ent_eval.specs.Result.{answer_of}
 use Rattle.ent_form.specs.declared.fault.FormFault.{FormFault}
 use Rattle.ent_protocol.specs.Event.{Reply}
 use Rattle.ent_protocol.specs.Event as replies
-use Rattle.ent_protocol.specs.Finish.{FinishesBy, FinishesSingle, IsOutstandingSingle, IsTaken, table_of}
+use Rattle.ent_protocol.specs.Finish.{FinishesBy, FinishesSingle, IsOutstandingSingle, IsTaken}
 use Rattle.ent_protocol.specs.Job.{Done, Job, One, Outcome, Shown, Changed, Bound, Choice, Fault, Single}
 use Rattle.ent_protocol.specs.Member.{active_member, declared_kinds}
 use Rattle.ent_protocol.specs.State.{State, Member}
@@ -31,7 +32,7 @@ pub record CanChange (s : State) (delta : Delta) (table : ℕ) : Type 0 where
 abbrev pub MayCarryOut : State → Statement Value → Outcome → Type 0
 MayCarryOut s statement (Shown rows) = Unit {0}
 MayCarryOut s statement (Changed count removed added) =
-    AllByRecursion (CanChange s (record { removed = removed; added = added })) (table_of statement)
+    AllByRecursion (CanChange s (record { removed = removed; added = added })) (changed_tables statement)
 MayCarryOut s statement (Bound value) = Unit {0}
 MayCarryOut s statement (Choice groundings) = Unit {0}
 MayCarryOut s statement (Fault failure) = Unit {0}

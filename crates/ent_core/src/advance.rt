@@ -1,9 +1,10 @@
 //! A member goes on with the outcome of its statement.
-ghost use Rattle.std.specs.Prelude.{◌≡◌, [], IfOk, IsSome, OnErr, OnOk, option_to_list};
+ghost use Rattle.std.specs.Prelude.{◌≡◌, [], IfOk, IsSome, OnErr, OnOk};
 ghost use Rattle.std.specs.List.{AllByRecursion};
+ghost use Rattle.ent_closed.specs.Kinds.{changed_tables};
 ghost use Rattle.ent_core.specs.Advance.{MayChange, binding, changing};
 ghost use Rattle.ent_members.specs.Places.{Changes, found};
-ghost use Rattle.ent_protocol.specs.Finish.{stepped, table_of, variable_of, with_bound};
+ghost use Rattle.ent_protocol.specs.Finish.{stepped, variable_of, with_bound};
 ghost use Rattle.ent_semantics.specs.declared.answer.Answer.TheVariants as answers;
 
 use ent_closed::Statement;
@@ -16,18 +17,6 @@ use ent_semantics::Answer;
 use ent_tables::StoredTables;
 use ent_value::{Name, Row, Value};
 use std::alloc::{AllocError, Global};
-
-/// The table that a statement changes, by its number.
-fn table_of(statement: &Statement<Value>) -> Option<usize>
-    ensures { option_to_list result ≡ table_of statement.now }
-{
-    match statement {
-        Statement::Insert { table, .. } => Some(*table),
-        Statement::Delete { table, .. } => Some(*table),
-        Statement::Update { table, .. } => Some(*table),
-        _ => None,
-    }
-}
 
 /// What a statement binds to a value: the host variable of a SET, and else nothing.
 fn bound_by(
@@ -86,7 +75,7 @@ pub(crate) fn change(
     delta: &Delta,
 ) -> Result<(), AllocError>
     requires member { IsSome (found run.old.active single.now.tx) }
-    requires may { AllByRecursion (MayChange tables.old delta.now) (table_of single.now.statement) }
+    requires may { AllByRecursion (MayChange tables.old delta.now) (changed_tables single.now.statement) }
     ensures ok { OnOk result (Changes (stepped (answers.Count count)) single.now.tx run.old.active run.new.active) }
     ensures prepared { run.new.prepared ≡ run.old.prepared }
     ensures tables { OnOk result (tables.new ≡ changing single.now delta.now tables.old) }
@@ -94,7 +83,7 @@ pub(crate) fn change(
     ensures kept { OnErr result (tables.new ≡ tables.old) }
 {
     let answer = Answer::Count(count);
-    let Some(table) = table_of(single.statement()) else {
+    let Some(table) = single.statement().changed_table() else {
         return run.step(single.tx(), answer);
     };
     tables.change(alloc, single.tx(), table, delta)?;

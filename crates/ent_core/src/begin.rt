@@ -27,7 +27,7 @@ use ent_group::Tx;
 use ent_headline::{begun_statements_are_work, used_tables_are_declared};
 use ent_job::{Job, Single, Work};
 use ent_match::{PostFault, Posted, same_statements_are_alike};
-use ent_members::{Member, Uses, entangled_uses, statement_uses, uses_are_kept_by_closing};
+use ent_members::{Member, Uses, entangled_uses, statement_uses};
 use ent_next::{Next, next_form, next_of};
 use ent_protocol_laws::{
     attempts_stay_within, members_stand_by_number, transactions_are_counted,
@@ -87,7 +87,6 @@ fn plan_ordinary(
 {
     // Laws: the tables that it uses are there, it fits them, and nobody else is of its number.
     members_stand_by_number::<FormFault>();
-    uses_are_kept_by_closing();
     used_tables_are_declared();
     begun_statements_are_work();
     let uses = statement_uses(&statement);
@@ -184,7 +183,6 @@ fn plan_of(store: &Store, member: &Member) -> Result<Plan, AllocError>
 fn job_uses(job: &Job) -> Uses
     ensures { result ≡ job_uses job.now }
 {
-    uses_are_kept_by_closing();
     match job.work() {
         Work::One(single) => statement_uses(single.statement()),
         Work::Joint(_) => Uses::new(),
@@ -238,7 +236,6 @@ fn post(store: &mut Store, tx: Tx, query: Posted) -> Result<Reply, AllocError>
     ensures ok { IfOk result (λ reply. Begins store.old tx (reply_seen reply) store.new) }
     ensures err { OnErr result (store.new ≡ store.old) }
 {
-    uses_are_kept_by_closing();
     same_statements_are_alike();
     members_stand_by_number::<FormFault>();
     let uses = entangled_uses(query.statement());

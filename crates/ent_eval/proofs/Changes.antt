@@ -29,7 +29,7 @@ use Rattle.ent_closed.specs.declared.statement.Statement.TheVariants as statemen
 use Rattle.ent_select.specs.Tables.{rows_in}
 use Rattle.ent_select.specs.Worth.{value_in}
 use Rattle.ent_eval.specs.Change.{or_full, image_or_overflow, replacement_of, Changes, IsFault}
-use Rattle.ent_eval.specs.Meant.{rows_under, changed_table, effect_of, IsMeant, CanBeApplied}
+use Rattle.ent_eval.specs.Meant.{rows_under, changed_number, effect_of, IsMeant, CanBeApplied}
 use Rattle.ent_eval.specs.Worth.{image_of, there_or_overflow}
 use Rattle.ent_eval.specs.declared.outcome.Outcome.{Outcome}
 use Rattle.ent_eval.specs.declared.outcome.Outcome.TheVariants as outcomes
@@ -93,19 +93,19 @@ with_change tables environment number (Err failure) = Err failure
 -- an outcome that is a change of the table of a number
 changed_so : (statement : Statement Value) (tables : Tables) (environment : Environment) (table : Relation)
     (meant : Result (ℕ × RowSet) Failure) (outcome : Outcome)
-    → slice_index_or tables (changed_table statement) set.empty ≡ table.rows → Changes table meant outcome
-    → with_change tables environment (changed_table statement) meant ≡ effect_of statement outcome tables environment
+    → slice_index_or tables (changed_number statement) set.empty ≡ table.rows → Changes table meant outcome
+    → with_change tables environment (changed_number statement) meant ≡ effect_of statement outcome tables environment
 changed_so statement tables environment table meant (outcomes.Changed count delta) here changes =
-    ap (with_change tables environment (changed_table statement)) changes.0
+    ap (with_change tables environment (changed_number statement)) changes.0
     ∙ ap (λ rows. Ok (record {
-      database = slice_set tables (changed_table statement)
+      database = slice_set tables (changed_number statement)
           (changed_rows rows delta.removed delta.added);
       environment = environment;
       answer = answers.Count count;
     }))
     (sym here)
 changed_so statement tables environment table meant (outcomes.Fault failure) here changes =
-    ap (with_change tables environment (changed_table statement)) changes
+    ap (with_change tables environment (changed_number statement)) changes
 changed_so statement tables environment table meant (outcomes.Rows rows) here changes = absurd changes
 changed_so statement tables environment table meant (outcomes.Value value) here changes = absurd changes
 

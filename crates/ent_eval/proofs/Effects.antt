@@ -19,7 +19,7 @@ use Rattle.ent_closed.specs.Form.{Tables, closed_worth, form_meaning}
 use Rattle.ent_closed.specs.declared.entangled.Membership.{Membership}
 use Rattle.ent_closed.specs.declared.statement.Statement.{Statement}
 use Rattle.ent_closed.specs.declared.statement.Statement.TheVariants as statements
-use Rattle.ent_protocol.specs.Job.{Single, Seen, laid, tables_of, changed_table, IsEffect}
+use Rattle.ent_protocol.specs.Job.{Single, Seen, laid, tables_of, rows_to_change, IsEffect}
 use Rattle.ent_protocol.specs.Job as jobs
 use Rattle.ent_protocol.specs.State.{Use}
 use Rattle.ent_protocol.specs.Uses.{shared, statement_uses}
@@ -88,9 +88,9 @@ changed_there (seen ∷ other ∷ more) number table after one named = absurd cc
 -- what a change makes of the table that the statement changes
 abbrev IsChange : Statement Value → Tables → Delta → Type 0
 IsChange statement tables delta =
-    changed_table statement (slice_set tables (meant.changed_table statement)
-    (changed_rows (slice_index_or tables (meant.changed_table statement) set.empty) delta.removed delta.added))
-    ≡ changed_rows (changed_table statement tables) delta.removed delta.added
+    rows_to_change statement (slice_set tables (meant.changed_number statement)
+    (changed_rows (slice_index_or tables (meant.changed_number statement) set.empty) delta.removed delta.added))
+    ≡ changed_rows (rows_to_change statement tables) delta.removed delta.added
 
 -- a statement of this outcome has this effect
 effect_is : (statement : Statement Value) (tables : Tables) (outcome : Outcome)

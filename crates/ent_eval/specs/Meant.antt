@@ -9,7 +9,7 @@ use Rattle.ent_semantics.specs.Effect.{Meaning}
 use Rattle.ent_semantics.specs.Entangled.{Valuation}
 use Rattle.ent_semantics.specs.declared.answer.Answer.TheVariants as answers
 use Rattle.ent_closed.specs.Form.{Tables, closed_worth, form_meaning}
-use Rattle.ent_closed.specs.Kinds.{tables_named}
+use Rattle.ent_closed.specs.Kinds.{changed_tables, tables_named}
 use Rattle.ent_closed.specs.declared.statement.Statement.{Statement}
 use Rattle.ent_closed.specs.declared.statement.Statement.TheVariants as statements
 use Rattle.ent_eval.specs.Change.{IsApplicable}
@@ -20,14 +20,9 @@ use Rattle.ent_eval.specs.declared.outcome.Outcome.TheVariants as outcomes
 abbrev pub rows_under : Tables → List ℕ → List Rows
 rows_under tables numbers = map (λ number. slice_index_or tables number set.empty) numbers
 
--- the table that a statement changes; one that changes none has no use for it
-abbrev pub changed_table : Statement Value → ℕ
-changed_table (statements.Select select) = 0
-changed_table (statements.Entangled entangled) = 0
-changed_table (statements.Insert table values) = table
-changed_table (statements.Delete table tests) = table
-changed_table (statements.Update table image tests) = table
-changed_table (statements.Set variable expression) = 0
+-- the number of the table that a statement changes; one that changes none has no use for it
+abbrev pub changed_number : Statement Value → ℕ
+changed_number statement = slice_index_or (changed_tables statement) 0 0
 
 -- the host variable that a SET binds; others have no use for it
 abbrev pub set_variable : Statement Value → Name
@@ -43,7 +38,7 @@ abbrev pub effect_of : Statement Value → Outcome → Meaning Tables
 effect_of statement (outcomes.Rows rows) tables environment =
     Ok (record { database = tables; environment = environment; answer = answers.Rows rows })
 effect_of statement (outcomes.Changed count delta) tables environment =
-    let number = changed_table statement in
+    let number = changed_number statement in
     let after = changed_rows (slice_index_or tables number set.empty) delta.removed delta.added in
     Ok (record { database = slice_set tables number after; environment = environment; answer = answers.Count count })
 effect_of statement (outcomes.Value value) tables environment =

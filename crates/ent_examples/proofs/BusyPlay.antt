@@ -12,6 +12,7 @@ use Rattle.ent_protocol.specs.Reached.{opened}
 use Rattle.ent_protocol.specs.Rollback.{NoOne, rolled_back}
 use Rattle.ent_protocol.specs.Run.{Forms, submitting, starting, ending}
 use Rattle.ent_protocol.specs.State.{State}
+use Rattle.ent_protocol.proofs.Alone.{alone}
 use Rattle.ent_examples.specs.Busy.{deletes_form, is_busy, cycle_stands}
 use Rattle.ent_examples.specs.HeldBack.{mickey, minnie, two_friends}
 use Rattle.ent_examples.specs.Scripts.{ScriptOf, asks_form, script}
@@ -21,7 +22,7 @@ use Rattle.ent_examples.proofs.Choice.{taken}
 use Rattle.ent_examples.proofs.Component.{everyone}
 use Rattle.ent_examples.proofs.HeldBackPlay.{together}
 use Rattle.ent_examples.proofs.Listed.{none_there, by_first, each_passes}
-use Rattle.ent_examples.proofs.Members.{fresh, answered, alone}
+use Rattle.ent_examples.proofs.Members.{fresh, answered}
 use Rattle.ent_examples.proofs.Reasons.{none_out, least_mover, least_untried, least_out, two_wait}
 use Rattle.ent_examples.proofs.Safe.{safe}
 use Rattle.ent_examples.proofs.Steps.{plays_on, submits}

@@ -6,7 +6,7 @@ use Rattle.std.specs.Prelude.{nat_le, slice_index_or, slice_set, is_some, if◌t
 use Rattle.std.specs.List.{cons_option, filter_map, list_all, list_any}
 use Rattle.std.specs.Ordering.{eq_by_cmp}
 use Rattle.ent_set.specs.Laws.{ascending-from_list, contains-from_list, from_list-filter, len-insert}
-use Rattle.ent_set.specs.Laws.{without-filter, without-nothing, contains-empty, len-empty}
+use Rattle.ent_set.specs.Laws.{without-filter, len-empty}
 use Rattle.ent_set.specs.Sets as set
 use Rattle.ent_value.specs.Order.{rows_total, exact_rows}
 use Rattle.ent_value.specs.Value.{row_cmp}
@@ -23,19 +23,13 @@ use Rattle.ent_closed.specs.declared.operand.Operand.{Operand}
 use Rattle.ent_closed.specs.declared.statement.Statement.TheVariants as forms
 use Rattle.ent_closed.specs.Form.{Tables, closed_worth, form_meaning, operand_worth, table_numbered}
 use Rattle.ent_protocol.specs.Job.{IsEffect, Changed}
+use Rattle.ent_protocol.proofs.Inserted.{another_row, one_row}
 
 abbrev Row : Type 0
 Row = List Value
 
 pub no_row : set.len (set.from_list {R = row_cmp} []) ≡ 0
 no_row = len-empty row_cmp
-
-pub one_row : (r : Row) → set.len (set.from_list {R = row_cmp} (r ∷ [])) ≡ 1
-one_row r =
-    len-insert rows_total exact_rows (set.empty {R = row_cmp}) r
-    ∙ ap (λ b. cond b (set.len (set.empty {R = row_cmp})) (set.len (set.empty {R = row_cmp}) + 1))
-    (contains-empty row_cmp r)
-    ∙ ap (λ n. n + 1) (len-empty row_cmp)
 
 -- the table, which holds these rows
 module _ (table : ℕ) (tables : Tables) (rows : List Row)
@@ -48,26 +42,12 @@ module _ (table : ℕ) (tables : Tables) (rows : List Row)
     abbrev row : Row
     row = map (λ value. value) values
 
-    abbrev Comes : Bool → Bool → Type 0
-    Comes is_there fits =
-        IsEffect (forms.Insert table values) tables (cond fits (Ok (record {
-          database = slice_set tables table (set.insert present row);
-          environment = nothing_bound;
-          answer = answers.Count (cond is_there 0 1);
-        })) (Err TableFull)) (Changed 1 [] (row ∷ []))
-
     pub inserted : list_any (eq_by_cmp row_cmp row) rows ≡ false
         → set.len (set.from_list {R = row_cmp} rows) ≡ length rows
         → nat_le (length rows + 1) MOST_ROWS ≡ true
         → IsEffect (forms.Insert table values) tables
         (form_meaning closed_worth (forms.Insert table values) [] tables nothing_bound) (Changed 1 [] (row ∷ []))
-    inserted is_new distinct room =
-        subst (λ b. Comes b (nat_le (set.len (set.insert present row)) MOST_ROWS)) (sym absent)
-        (subst (λ b. Comes false b) (sym fits) (
-          refl,
-          found (set.insert present row)
-              ∙ ap (λ kept. set.insert kept row) (sym (without-nothing rows_total exact_rows present)),
-        ))
+    inserted is_new distinct room = another_row table values tables absent fits found
       where
         absent : set.contains present row ≡ false
         absent =

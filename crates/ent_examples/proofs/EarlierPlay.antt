@@ -10,6 +10,7 @@ use Rattle.ent_protocol.specs.PoolEvents.{joining}
 use Rattle.ent_protocol.specs.Reached.{opened}
 use Rattle.ent_protocol.specs.Run.{Forms, submitting, starting, ending}
 use Rattle.ent_protocol.specs.State.{State}
+use Rattle.ent_protocol.proofs.Alone.{alone}
 use Rattle.ent_examples.specs.Earlier.{first_booked, job_outlives, next_attempt}
 use Rattle.ent_examples.specs.Grown.{A_for_B, B_for_A, A_and_B}
 use Rattle.ent_examples.specs.Scripts.{ScriptOf, asks_form, books_form, script}
@@ -18,7 +19,7 @@ use Rattle.ent_examples.proofs.Answered.{lends, joins, nothing_out, stale_single
 use Rattle.ent_examples.proofs.Choice.{taken}
 use Rattle.ent_examples.proofs.Component.{everyone}
 use Rattle.ent_examples.proofs.GrownPlay.{two_together}
-use Rattle.ent_examples.proofs.Members.{fresh, answered, alone, books}
+use Rattle.ent_examples.proofs.Members.{fresh, answered, books}
 use Rattle.ent_examples.proofs.Safe.{safe}
 use Rattle.ent_examples.proofs.Steps.{plays_on, submits}
 use Rattle.ent_examples.proofs.Waiting.{quiet}

@@ -13,6 +13,7 @@ use Rattle.ent_protocol.specs.Reached.{opened}
 use Rattle.ent_protocol.specs.Rollback.{Failing, rolled_back}
 use Rattle.ent_protocol.specs.Run.{Forms, submitting, starting, ending}
 use Rattle.ent_protocol.specs.State.{State}
+use Rattle.ent_protocol.proofs.Alone.{alone}
 use Rattle.ent_examples.specs.Failure.{sets_too_much, set_done, set_fails, partner_gives_up}
 use Rattle.ent_examples.specs.HeldBack.{mickey, minnie, two_friends}
 use Rattle.ent_examples.specs.Scripts.{ScriptOf, asks_form, script}
@@ -21,7 +22,7 @@ use Rattle.ent_examples.proofs.Answered.{lends, joins, nothing_out}
 use Rattle.ent_examples.proofs.Choice.{taken}
 use Rattle.ent_examples.proofs.Component.{everyone}
 use Rattle.ent_examples.proofs.HeldBackPlay.{together}
-use Rattle.ent_examples.proofs.Members.{fresh, answered, alone}
+use Rattle.ent_examples.proofs.Members.{fresh, answered}
 use Rattle.ent_examples.proofs.Safe.{safe}
 use Rattle.ent_examples.proofs.Steps.{plays_on, submits}
 use Rattle.ent_examples.proofs.Waiting.{quiet}

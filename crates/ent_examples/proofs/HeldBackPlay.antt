@@ -10,13 +10,14 @@ use Rattle.ent_protocol.specs.Reached.{opened}
 use Rattle.ent_protocol.specs.Run.{Forms, submitting, starting, ending}
 use Rattle.ent_protocol.specs.State.{State}
 use Rattle.ent_tree.specs.declared.script.End.TheVariants.{Commit}
+use Rattle.ent_protocol.proofs.Alone.{alone}
 use Rattle.ent_examples.specs.HeldBack.{mickey, minnie, two_friends, holds_back, posts_later}
 use Rattle.ent_examples.specs.Scripts.{ScriptOf, asks_form, script}
 use Rattle.ent_examples.specs.Wish.{Friend, posted, wants, joint_job, first_asks}
 use Rattle.ent_examples.proofs.Answered.{AreTogether, lends, joins, nothing_out}
 use Rattle.ent_examples.proofs.Choice.{taken}
 use Rattle.ent_examples.proofs.Component.{everyone}
-use Rattle.ent_examples.proofs.Members.{fresh, answered, alone}
+use Rattle.ent_examples.proofs.Members.{fresh, answered}
 use Rattle.ent_examples.proofs.Safe.{safe, first_unsafe}
 use Rattle.ent_examples.proofs.Steps.{plays_on, submits}
 use Rattle.ent_examples.proofs.Waiting.{quiet}

@@ -1,9 +1,7 @@
 -- Three who are linked roll back, event by event.
-use Rattle.std.proofs.Common.{inl, ℕ, Bool, List, [], ◌∷◌, ◌++◌, map, refl, ap}
+use Rattle.std.proofs.Common.{inl, ℕ, Bool, List, [], ◌∷◌, ◌++◌, map, refl}
 use Rattle.std.specs.Prelude.{codes, nat_lt, pos}
-use Rattle.ent_set.specs.Laws.{without-nothing}
 use Rattle.ent_set.specs.Sets as set
-use Rattle.ent_value.specs.Order.{rows_total, exact_rows}
 use Rattle.ent_value.specs.declared.value.Value.{Value}
 use Rattle.ent_value.specs.declared.value.Value.TheVariants.{Int}
 use Rattle.ent_closed.specs.declared.statement.Statement.{Statement}
@@ -21,6 +19,8 @@ use Rattle.ent_protocol.specs.Run.{Forms, submitting, starting}
 use Rattle.ent_protocol.specs.State.{State}
 use Rattle.ent_protocol.specs.Partners.{partners_opening, flight_122, booking_job, booking_done}
 use Rattle.ent_protocol.specs.Rollback.{Asked, rolled_back}
+use Rattle.ent_protocol.proofs.Alone.{alone}
+use Rattle.ent_protocol.proofs.Inserted.{only_row}
 use Rattle.ent_examples.specs.Grown.{A_for_B, B_for_A, A_and_B}
 use Rattle.ent_examples.specs.Linked.{A, B_for_C, C_for_B, B_and_C, sets_136, updates_form, update_job, update_done}
 use Rattle.ent_examples.specs.Linked.{first_link, second_link}
@@ -30,7 +30,7 @@ use Rattle.ent_examples.proofs.Answered.{AreTogether, lends, joins, nothing_out}
 use Rattle.ent_examples.proofs.Changed.{inserted, updated, no_row}
 use Rattle.ent_examples.proofs.Choice.{taken}
 use Rattle.ent_examples.proofs.Component.{everyone}
-use Rattle.ent_examples.proofs.Members.{fresh, answered, alone, books, holds, booked, books_in}
+use Rattle.ent_examples.proofs.Members.{fresh, answered, books, holds, booked, books_in}
 use Rattle.ent_examples.proofs.Safe.{safe}
 use Rattle.ent_examples.proofs.Steps.{plays_on, submits}
 
@@ -62,7 +62,7 @@ one_evaluated =
 update_evaluated : IsEvaluated update_done
 update_evaluated =
     updated 1 (tables_of update_job.tables) booking (A ∷ Int (pos 136) ∷ []) (sets_136 (λ value. value))
-    (ap (λ rows. set.insert rows booking) (without-nothing rows_total exact_rows set.empty)) (λ other. refl) refl
+    (only_row booking) (λ other. refl) refl
 
 module _ {F : Type 0} {resolved : Forms F}
     (one : ScriptOf resolved 2 (asks_form A_for_B ∷ books_form (codes "A") ∷ []) Commit)

@@ -1,5 +1,5 @@
--- Members as they come to stand, and jobs that are lent alone.
-use Rattle.std.proofs.Common.{ℕ, false, [], ◌∷◌, refl}
+-- Members as they come to stand.
+use Rattle.std.proofs.Common.{ℕ, false, [], ◌∷◌}
 use Rattle.std.specs.Prelude.{codes}
 use Rattle.ent_value.specs.declared.value.Value.{Value}
 use Rattle.ent_value.specs.declared.value.Value.TheVariants.{Text}
@@ -8,8 +8,8 @@ use Rattle.ent_closed.specs.declared.statement.Statement.TheVariants as forms
 use Rattle.ent_semantics.specs.Database.{Name}
 use Rattle.ent_semantics.specs.declared.answer.Answer.TheVariants as answers
 use Rattle.ent_protocol.specs.Begin.{holding, lending}
-use Rattle.ent_protocol.specs.Finish.{IsTaken, finished, stepped}
-use Rattle.ent_protocol.specs.Job.{Job, Changed}
+use Rattle.ent_protocol.specs.Finish.{finished, stepped}
+use Rattle.ent_protocol.specs.Job.{Changed}
 use Rattle.ent_protocol.specs.Partners.{flight_122}
 use Rattle.ent_protocol.specs.Run.{fresh as started}
 use Rattle.ent_protocol.specs.State.{State, Member}
@@ -33,9 +33,6 @@ answered tx attempt group wish =
       uses = shared 0 ∷ [];
       posted = false;
     }
-
-pub alone : (job : Job) → IsTaken job (job ∷ []) []
-alone job = record { before = []; behind = []; is_there = refl; others = refl }
 
 -- INSERT INTO Bookings VALUES (name, 122)
 abbrev pub books : Name → Statement Value

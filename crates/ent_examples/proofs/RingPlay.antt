@@ -3,13 +3,13 @@ use Rattle.std.proofs.Common.{inl, [], ◌∷◌, ◌++◌, map, refl}
 use Rattle.ent_tree.specs.declared.script.End.TheVariants.{Commit}
 use Rattle.ent_protocol.specs.Begin.{posting}
 use Rattle.ent_protocol.specs.Commit.{preparing, committing}
-use Rattle.ent_protocol.specs.Finish.{IsTaken}
 use Rattle.ent_protocol.specs.Partners.{partners_opening}
 use Rattle.ent_protocol.specs.Play.{Plays}
 use Rattle.ent_protocol.specs.PoolEvents.{joining}
 use Rattle.ent_protocol.specs.Reached.{opened}
 use Rattle.ent_protocol.specs.Run.{Forms, submitting, starting, ending}
 use Rattle.ent_protocol.specs.State.{State}
+use Rattle.ent_protocol.proofs.Alone.{alone}
 use Rattle.ent_examples.specs.Grown.{A_for_B, C_for_A}
 use Rattle.ent_examples.specs.Ring.{B_for_C, ring_of_three, ring_closes, ring_commits}
 use Rattle.ent_examples.specs.Scripts.{ScriptOf, asks_form, script}
@@ -56,9 +56,6 @@ module _ {F : Type 0} {resolved : Forms F} (one : ScriptOf resolved 8 (asks_form
   abbrev joined : State
   joined = joining (record picked { lent = [] }) (map posted ring_of_three) (taken ring_of_three)
 
-  alone : IsTaken (joint_job ring_of_three) picked.lent []
-  alone = record { before = []; behind = []; is_there = refl; others = refl }
-
   closes : Plays resolved (opened partners_opening) (ring_closes one two three) joined
   closes = (
     one_in,
@@ -85,7 +82,7 @@ module _ {F : Type 0} {resolved : Forms F} (one : ScriptOf resolved 8 (asks_form
                   picked,
                   inl (lends three_posted ring_of_three refl everyone _ _ three_together refl
                       (nothing_out three_posted _ refl) refl),
-                  (joined, inl (joins picked ring_of_three refl everyone _ _ three_together refl [] alone), refl),
+                  (joined, inl (joins picked ring_of_three refl everyone _ _ three_together refl [] (alone _)), refl),
                 ),
               ),
             ),

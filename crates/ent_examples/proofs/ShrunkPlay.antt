@@ -11,6 +11,7 @@ use Rattle.ent_protocol.specs.Reached.{opened}
 use Rattle.ent_protocol.specs.Rollback.{Asked, rolled_back}
 use Rattle.ent_protocol.specs.Run.{Forms, submitting, starting, ending}
 use Rattle.ent_protocol.specs.State.{State}
+use Rattle.ent_protocol.proofs.Alone.{alone}
 use Rattle.ent_examples.specs.Grown.{A_for_B, B_for_A, C_for_A, A_and_B}
 use Rattle.ent_examples.specs.Scripts.{ScriptOf, asks_form, script}
 use Rattle.ent_examples.specs.Shrunk.{C_for_D, D_for_C, C_and_D, group_forms, comes_and_goes, is_picked_again}
@@ -19,7 +20,7 @@ use Rattle.ent_examples.proofs.Answered.{AreTogether, lends, joins, nothing_out,
 use Rattle.ent_examples.proofs.Choice.{taken}
 use Rattle.ent_examples.proofs.Component.{everyone}
 use Rattle.ent_examples.proofs.GrownPlay.{two_together}
-use Rattle.ent_examples.proofs.Members.{fresh, answered, alone}
+use Rattle.ent_examples.proofs.Members.{fresh, answered}
 use Rattle.ent_examples.proofs.Safe.{safe}
 use Rattle.ent_examples.proofs.Steps.{plays_on, submits}
 use Rattle.ent_examples.proofs.Waiting.{quiet}

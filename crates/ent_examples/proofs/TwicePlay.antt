@@ -1,9 +1,7 @@
 -- Results that come twice, event by event.
-use Rattle.std.proofs.Common.{◌≡◌, inl, inr, List, [], ◌∷◌, ◌++◌, map, refl, ap}
+use Rattle.std.proofs.Common.{inl, inr, List, [], ◌∷◌, ◌++◌, map, refl}
 use Rattle.std.specs.Prelude.{codes}
-use Rattle.ent_set.specs.Laws.{without-nothing}
 use Rattle.ent_set.specs.Sets as set
-use Rattle.ent_value.specs.Order.{rows_total, exact_rows}
 use Rattle.ent_value.specs.declared.value.Value.{Value}
 use Rattle.ent_tree.specs.declared.script.End.TheVariants.{Commit}
 use Rattle.ent_protocol.specs.Begin.{lending, posting}
@@ -15,16 +13,18 @@ use Rattle.ent_protocol.specs.Reached.{opened}
 use Rattle.ent_protocol.specs.Run.{Forms, submitting, starting, ending}
 use Rattle.ent_protocol.specs.State.{State}
 use Rattle.ent_protocol.specs.Partners.{partners_opening, Mickey, Minnie, flight_122, first_booked, booking_job}
+use Rattle.ent_protocol.proofs.Alone.{alone}
+use Rattle.ent_protocol.proofs.Inserted.{one_row, only_row}
 use Rattle.ent_examples.specs.HeldBack.{mickey, minnie, two_friends}
 use Rattle.ent_examples.specs.Scripts.{ScriptOf, asks_form, books_form, script}
 use Rattle.ent_examples.specs.Twice.{Mickey_booked, Minnie_booked, joint_comes_twice, single_comes_twice}
 use Rattle.ent_examples.specs.Wish.{posted, wants, first_asks, joint_job, joint_done}
 use Rattle.ent_examples.proofs.Answered.{lends, joins, nothing_out, stale_joint, stale_single, not_joint, not_single}
-use Rattle.ent_examples.proofs.Changed.{inserted, no_row, one_row}
+use Rattle.ent_examples.proofs.Changed.{inserted, no_row}
 use Rattle.ent_examples.proofs.Choice.{taken}
 use Rattle.ent_examples.proofs.Component.{everyone}
 use Rattle.ent_examples.proofs.HeldBackPlay.{together}
-use Rattle.ent_examples.proofs.Members.{fresh, answered, alone, books, holds, booked, books_in}
+use Rattle.ent_examples.proofs.Members.{fresh, answered, books, holds, booked, books_in}
 use Rattle.ent_examples.proofs.Safe.{safe}
 use Rattle.ent_examples.proofs.Steps.{plays_on, submits}
 use Rattle.ent_examples.proofs.Waiting.{quiet}
@@ -36,12 +36,9 @@ one_evaluated : IsEvaluated Mickey_booked
 one_evaluated =
     inserted 1 (tables_of (booking_job 1 Mickey set.empty).tables) [] refl (λ other. refl) Mickeys refl no_row refl
 
-booked_is : first_booked ≡ set.from_list (Mickeys ∷ [])
-booked_is = ap (λ rows. set.insert rows Mickeys) (without-nothing rows_total exact_rows set.empty)
-
 two_evaluated : IsEvaluated Minnie_booked
 two_evaluated =
-    inserted 1 (tables_of (booking_job 2 Minnie first_booked).tables) (Mickeys ∷ []) booked_is (λ other. refl)
+    inserted 1 (tables_of (booking_job 2 Minnie first_booked).tables) (Mickeys ∷ []) (only_row Mickeys) (λ other. refl)
     (Minnie ∷ flight_122 ∷ []) refl (one_row Mickeys) refl
 
 module _ {F : Type 0} {resolved : Forms F}

@@ -11,7 +11,7 @@ use Rattle.ent_tree.specs.declared.script.Statement.{Statement as TreeStatement}
 use Rattle.ent_semantics.specs.Database.{Environment}
 use Rattle.ent_semantics.specs.Serial.{numbered}
 use Rattle.ent_closed.specs.Closing.{closed}
-use Rattle.ent_closed.specs.Kinds.{tables_named}
+use Rattle.ent_closed.specs.Kinds.{tables_named, changed_tables}
 use Rattle.ent_closed.specs.declared.entangled.Membership.{Membership}
 use Rattle.ent_closed.specs.declared.operand.Known.{Known}
 use Rattle.ent_closed.specs.declared.statement.Statement.{Statement}
@@ -25,7 +25,6 @@ use Rattle.ent_form_laws.specs.Kinds.{AreDeclared}
 use Rattle.ent_form_laws.proofs.Steps.{one_answer, bound_given}
 use Rattle.ent_coordination.specs.Pool.{Posted}
 use Rattle.ent_protocol.specs.Begin.{same_use, use_rank, with_uses}
-use Rattle.ent_protocol.specs.Finish.{table_of}
 use Rattle.ent_protocol.specs.Member.{Ordinary, posted_by, end_next, environment_of, next_in, next_of, pool}
 use Rattle.ent_protocol.specs.Member.{statement_next}
 use Rattle.ent_protocol.specs.PoolEvents.{IsPresentComponent, joint_uses}
@@ -112,7 +111,7 @@ next_below n (statements.Update table image tests) all = all
 next_below n (statements.Set variable expression) all = all
 
 changed_below : (n : ℕ) (statement : Statement Value) → AllByRecursion (Below n) (statement_uses statement)
-    → (table : ℕ) → In table (table_of statement) → table < n
+    → (table : ℕ) → In table (changed_tables statement) → table < n
 changed_below n (statements.Select select) all table at = absurd at
 changed_below n (statements.Entangled entangled) all table at = absurd at
 changed_below n (statements.Insert own values) all table (inl same) = subst (λ k. k < n) (sym same) all.0
@@ -215,10 +214,10 @@ next_declared laws s reached m =
 
 pub changed_declared : DeclaredLaws → (s : State) → IsReached resolved_forms s → (m : Member)
     → (statement : Statement Value) → next_of s m ≡ Ordinary statement
-    → All (λ table. table < length s.opening.tables) (table_of statement)
+    → All (λ table. table < length s.opening.tables) (changed_tables statement)
 changed_declared laws s reached m statement next =
     let n = length s.opening.tables in
-    index_all (λ (table : ℕ). table < n) (table_of statement)
+    index_all (λ (table : ℕ). table < n) (changed_tables statement)
     (changed_below n statement
     (subst (λ next. AllByRecursion (Below n) (next_uses next)) next (next_used laws s reached m)))
 

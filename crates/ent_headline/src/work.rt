@@ -1,12 +1,12 @@
 //! Laws of what is lent. What holds is in the contracts.
 ghost use Rattle.std.specs.Prelude.{◌≡◌, ◌<◌, All, Contains, List, None, length};
 ghost use Rattle.ent_value.specs.declared.value.Value.{Value};
+ghost use Rattle.ent_closed.specs.Kinds.{changed_tables};
 ghost use Rattle.ent_closed.specs.declared.statement.Statement.{Statement};
 ghost use Rattle.ent_job.specs.Work.{IsJoint, IsOne};
 ghost use Rattle.ent_form.specs.OpeningFault.{opening_fault};
 ghost use Rattle.ent_coordination.specs.Pool.{Posted};
 ghost use Rattle.ent_protocol.specs.Begin.{single_job};
-ghost use Rattle.ent_protocol.specs.Finish.{table_of};
 ghost use Rattle.ent_protocol.specs.Member.{Ordinary, next_of};
 ghost use Rattle.ent_protocol.specs.PoolEvents.{IsPresentComponent, joint_job, joint_uses};
 ghost use Rattle.ent_protocol.specs.Reached.{IsReached};
@@ -30,7 +30,7 @@ pub fn used_tables_are_declared()
     ensures changed { (s : State) (member : Member) (statement : Statement Value)
         → IsReached resolved_forms s
         → next_of s member ≡ Ordinary statement
-        → All (λ table. table < length s.opening.tables) (table_of statement) }
+        → All (λ table. table < length s.opening.tables) (changed_tables statement) }
     ensures joint { (s : State) (asked : List Posted)
         → IsReached resolved_forms s
         → IsPresentComponent s asked

@@ -8,8 +8,7 @@ use Rattle.ent_closed.specs.declared.entangled.Membership.{Membership}
 use Rattle.ent_closed.specs.declared.operand.Known.{Known}
 use Rattle.ent_closed.specs.declared.statement.Statement.{Statement}
 use Rattle.ent_closed.specs.declared.statement.Statement.TheVariants as statements
-use Rattle.ent_protocol.specs.Uses.{statement_uses}
-use Rattle.ent_members.specs.Uses.{membership_uses, uses_of}
+use Rattle.ent_protocol.specs.Uses.{membership_uses, statement_uses}
 
 same_sources : (environment : Environment) (memberships : List (Membership Known))
     → flat_map membership_uses (map (membership_over (known_worth environment)) memberships)
@@ -19,7 +18,7 @@ same_sources environment (membership ∷ memberships) =
     ap (λ uses. membership_uses membership ++ uses) (same_sources environment memberships)
 
 pub uses_of_closed : (environment : Environment) (statement : Statement Known)
-    → statement_uses (closed environment statement) ≡ uses_of statement
+    → statement_uses (closed environment statement) ≡ statement_uses statement
 uses_of_closed environment (statements.Select select) = refl
 uses_of_closed environment (statements.Entangled entangled) = same_sources environment entangled.atoms
 uses_of_closed environment (statements.Insert table values) = refl

@@ -1,7 +1,6 @@
 pub mod Order
 pub mod Run
 pub mod RunAttempts
-pub mod Uses
 pub mod Places
 pub mod Passed
 pub mod Changes

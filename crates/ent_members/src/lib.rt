@@ -37,5 +37,5 @@ pub use run_attempts::{RunAttempt, RunAttempts};
 pub use search::member_numbers;
 pub use table_use::Use;
 pub use uses::{
-    MOST_USES, Uses, changed_table, entangled_uses, statement_uses, uses_are_kept_by_closing,
+    MOST_USES, Uses, entangled_uses, exclusive_table, statement_uses, uses_are_kept_by_closing,
 };

@@ -14,7 +14,7 @@ ghost use Rattle.ent_protocol.specs.PoolEvents.{answered_groups};
 ghost use Rattle.ent_protocol.specs.Rollback.{group_members, group_numbers};
 ghost use Rattle.ent_protocol.specs.Run.{fresh};
 ghost use Rattle.ent_protocol.specs.State.{Member as Seen, State, by_number, members};
-ghost use Rattle.ent_protocol.specs.Uses.{blocker};
+ghost use Rattle.ent_protocol.specs.Uses.{blocker, statement_uses};
 ghost use Rattle.ent_semantics.specs.Entangled.{Valuation};
 ghost use Rattle.ent_members.specs.Answered.{AnswerTogether, IsJoining, answer_tx, answered_from, member_answers};
 ghost use Rattle.ent_members.specs.Changes.{posting, stepping};
@@ -24,7 +24,6 @@ ghost use Rattle.ent_members.specs.Locks.{passed_numbers};
 ghost use Rattle.ent_members.specs.Moves.{Leave, Prepares, is_not_of, is_of_another};
 ghost use Rattle.ent_members.specs.Places.{Changes, found};
 ghost use Rattle.ent_members.specs.Run.{with_run, tx_of};
-ghost use Rattle.ent_members.specs.Uses.{uses_of};
 ghost use Rattle.ent_members.specs.Waits.{is_awaited};
 
 use crate::answer::{answer_each, numbers_of};
@@ -40,7 +39,7 @@ use crate::run_attempts::{RunAttempts, gather, gather_by_number};
 use crate::search::{is_among, member_by_number, member_in, member_numbers};
 use crate::start::fresh_members;
 use crate::table_use::Use;
-use crate::uses::{changed_table, statement_uses};
+use crate::uses::{exclusive_table, statement_uses};
 use ent_closed::Statement;
 use ent_group::{MOST_MEMBERS, Members, Tx};
 use ent_lock::LockTable;
@@ -202,7 +201,7 @@ impl Run {
 
     /// The same of one that asks for the uses of a statement, which are put together.
     fn uses_blocker<K>(&self, asker: &Member, statement: &Statement<K>) -> Option<Tx>
-        ensures { (s : State) → result ≡ blocker (with_run self.now s) asker.now (uses_of statement.now) }
+        ensures { (s : State) → result ≡ blocker (with_run self.now s) asker.now (statement_uses statement.now) }
     {
         self.blocker(asker, statement_uses(statement).as_slice())
     }
@@ -210,9 +209,9 @@ impl Run {
     /// The least member in conflict with one that asks for the uses of a statement, as [`Run::blocker`] says. What
     /// changes a table asks for one use, and needs no room for more.
     pub fn statement_blocker<K>(&self, asker: &Member, statement: &Statement<K>) -> Option<Tx>
-        ensures { (s : State) → result ≡ blocker (with_run self.now s) asker.now (uses_of statement.now) }
+        ensures { (s : State) → result ≡ blocker (with_run self.now s) asker.now (statement_uses statement.now) }
     {
-        match changed_table(statement) {
+        match exclusive_table(statement) {
             Some(table) => self.blocker(asker, &[Use::exclusive(table)]),
             None => self.uses_blocker(asker, statement),
         }

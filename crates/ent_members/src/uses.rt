@@ -1,14 +1,12 @@
 //! The uses that a statement asks for, in a fixed array.
-ghost use Rattle.std.specs.Prelude.{◌≡◌, ◌+◌, ◌≤◌, ◌<◌, List, [], ◌∷◌, ◌++◌, length, map, IfSome};
-ghost use Rattle.ent_value.specs.declared.value.Value.{Value};
+ghost use Rattle.std.specs.Prelude.{◌≡◌, ◌+◌, ◌≤◌, ◌<◌, List, [], ◌∷◌, ◌++◌, length, map, IfSome, option_to_list};
 ghost use Rattle.ent_closed.specs.declared.operand.Known.{Known};
-ghost use Rattle.ent_closed.specs.declared.entangled.Entangled.{Entangled as EntangledForm};
 ghost use Rattle.ent_closed.specs.declared.statement.Statement.{Statement as Form};
 ghost use Rattle.ent_closed.specs.Closing.{closed};
+ghost use Rattle.ent_closed.specs.Kinds.{changed_tables};
 ghost use Rattle.ent_semantics.specs.Database.{Environment};
 ghost use Rattle.ent_protocol.specs.State.{Use as Seen};
 ghost use Rattle.ent_protocol.specs.Uses.{shared, exclusive, entangled_uses, statement_uses};
-ghost use Rattle.ent_members.specs.Uses.{table_changed_by, uses_of, uses_of_entangled};
 
 use crate::table_use::Use;
 use ent_closed::{Entangled, Statement};
@@ -75,7 +73,7 @@ fn extend_shared(uses: &mut Uses, tables: &[usize])
 
 /// The uses that an entangled statement asks for: those of the sources of its sub-selects.
 pub fn entangled_uses<K>(entangled: &Entangled<K>) -> Uses
-    ensures { result ≡ uses_of_entangled entangled.now }
+    ensures { result ≡ entangled_uses entangled.now }
 {
     let mut uses = Uses::new();
     let _limit = entangled.atoms.len();
@@ -88,7 +86,7 @@ pub fn entangled_uses<K>(entangled: &Entangled<K>) -> Uses
 
 /// The uses that a statement asks for.
 pub fn statement_uses<K>(statement: &Statement<K>) -> Uses
-    ensures { result ≡ uses_of statement.now }
+    ensures { result ≡ statement_uses statement.now }
 {
     let mut uses = Uses::new();
     match statement {
@@ -105,24 +103,17 @@ pub fn statement_uses<K>(statement: &Statement<K>) -> Uses
     uses
 }
 
-/// The table that a statement changes; none for a statement that changes no table. Where there is one, its exclusive
-/// use is all that the statement asks for.
-pub fn changed_table<K>(statement: &Statement<K>) -> Option<usize>
-    ensures table { result ≡ table_changed_by statement.now }
-    ensures uses { IfSome result (λ table. uses_of statement.now ≡ exclusive table ∷ []) }
+/// The table that a statement changes, whose exclusive use is then all that the statement asks for; none for one that
+/// changes no table.
+pub fn exclusive_table<K>(statement: &Statement<K>) -> Option<usize>
+    ensures table { option_to_list result ≡ changed_tables statement.now }
+    ensures uses { IfSome result (λ table. statement_uses statement.now ≡ exclusive table ∷ []) }
 {
-    match statement {
-        Statement::Insert { table, .. }
-        | Statement::Delete { table, .. }
-        | Statement::Update { table, .. } => Some(*table),
-        Statement::Select(_) | Statement::Entangled(_) | Statement::Set { .. } => None,
-    }
+    statement.changed_table()
 }
 
-/// The uses that a closed statement asks for are the protocol's, and closing a statement changes none.
+/// Closing a statement changes none of the uses that it asks for.
 pub fn uses_are_kept_by_closing()
-    ensures entangled { (statement : EntangledForm Value) → uses_of_entangled statement ≡ entangled_uses statement }
-    ensures statement { (statement : Form Value) → uses_of statement ≡ statement_uses statement }
-    ensures closed { (environment : Environment) (statement : Form Known)
-        → statement_uses (closed environment statement) ≡ uses_of statement }
+    ensures { (environment : Environment) (statement : Form Known)
+        → statement_uses (closed environment statement) ≡ statement_uses statement }
 {}

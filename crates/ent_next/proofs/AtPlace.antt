@@ -9,7 +9,6 @@ use Rattle.ent_closed.specs.declared.entangled.Entangled.{Entangled}
 use Rattle.ent_closed.specs.declared.operand.Known.{Known}
 use Rattle.ent_closed.specs.declared.statement.Statement.{Statement}
 use Rattle.ent_closed.specs.declared.statement.Statement.TheVariants as statements
-use Rattle.ent_members.specs.Uses.{uses_of}
 use Rattle.ent_next.specs.Asked.{IsAskedAt}
 use Rattle.ent_protocol.specs.Member.{Asks, environment_of, next_in, statement_next}
 use Rattle.ent_protocol.specs.State.{Member, Submitted}
@@ -48,10 +47,10 @@ uses_next (statements.Set variable expression) = refl
 
 -- a form that stands there asks for the uses of what comes next
 pub uses_there : (laws : (environment : Environment) (statement : Statement Known)
-    → statement_uses (closed environment statement) ≡ uses_of statement)
+    → statement_uses (closed environment statement) ≡ statement_uses statement)
     (own : Submitted) (member : Member) (found : Option (Bor (Statement Known)))
     → option_copied found ≡ numbered own.form member.place
-    → IfSome found (λ form. next_uses (next_in (Some own) member) ≡ uses_of form.now)
+    → IfSome found (λ form. next_uses (next_in (Some own) member) ≡ statement_uses form.now)
 uses_there laws own member None is = tt
 uses_there laws own member (Some form) is =
     ap next_uses (at_statement own member form.now (sym is))

@@ -3,8 +3,8 @@ ghost use Rattle.std.specs.Prelude.{◌≡◌, [], IfSome, IsNone};
 ghost use Rattle.std.specs.Option.{option_copied};
 ghost use Rattle.ent_semantics.specs.Serial.{numbered};
 ghost use Rattle.ent_protocol.specs.Member.{next_in};
+ghost use Rattle.ent_protocol.specs.Uses.{statement_uses};
 ghost use Rattle.ent_protocol.specs.Waits.{next_uses};
-ghost use Rattle.ent_members.specs.Uses.{uses_of};
 ghost use Rattle.ent_next.specs.Form.{next_form};
 
 use crate::numbered::{script_of, with_number};
@@ -21,7 +21,7 @@ pub fn next_form<'a>(
 ) -> Option<&'a Statement<Known>>
     ensures form { option_copied result ≡ next_form (numbered submitted.now member.now.tx) member.now }
     ensures uses { IfSome result (λ form.
-        next_uses (next_in (numbered submitted.now member.now.tx) member.now) ≡ uses_of form.now) }
+        next_uses (next_in (numbered submitted.now member.now.tx) member.now) ≡ statement_uses form.now) }
     ensures nothing { IsNone result → next_uses (next_in (numbered submitted.now member.now.tx) member.now) ≡ [] }
 {
     uses_are_kept_by_closing();

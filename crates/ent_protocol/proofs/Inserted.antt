@@ -1,4 +1,4 @@
--- What an INSERT into a table without rows comes to.
+-- What an INSERT of a new row comes to, and one into a table without rows.
 use Rattle.std.proofs.Common.{◌≡◌, ℕ, ◌+◌, Bool, true, false, cond, List, [], ◌∷◌, map, refl, sym, ap, subst, ◌∙◌, Ok}
 use Rattle.std.proofs.Common.{Err}
 use Rattle.std.specs.Prelude.{nat_le, slice_index_or, slice_set}
@@ -13,7 +13,18 @@ use Rattle.ent_semantics.specs.declared.answer.Failure.TheVariants.{TableFull}
 use Rattle.ent_semantics.specs.Database.{Rows, nothing_bound}
 use Rattle.ent_closed.specs.declared.statement.Statement.TheVariants as forms
 use Rattle.ent_closed.specs.Form.{Tables, closed_worth, form_meaning}
-use Rattle.ent_protocol.specs.Job.{IsEffect, Changed}
+use Rattle.ent_protocol.specs.Job.{IsEffect, Changed, applied}
+
+-- a row that comes into none is the only one
+pub only_row : (row : List Value) → applied [] (row ∷ []) set.empty ≡ set.from_list (row ∷ [])
+only_row row = ap (λ rows. set.insert rows row) (without-nothing rows_total exact_rows set.empty)
+
+pub one_row : (row : List Value) → set.len (set.from_list {R = row_cmp} (row ∷ [])) ≡ 1
+one_row row =
+    len-insert rows_total exact_rows (set.empty {R = row_cmp}) row
+    ∙ ap (λ b. cond b (set.len (set.empty {R = row_cmp})) (set.len (set.empty {R = row_cmp}) + 1))
+    (contains-empty row_cmp row)
+    ∙ ap (λ n. n + 1) (len-empty row_cmp)
 
 module _ (table : ℕ) (values : List Value) (tables : Tables) where
   abbrev rows : Rows
@@ -47,23 +58,10 @@ module _ (table : ℕ) (values : List Value) (tables : Tables) where
       → ((other : Rows) → slice_index_or (slice_set tables table other) table set.empty ≡ other)
       → IsEffect (forms.Insert table values) tables
       (form_meaning closed_worth (forms.Insert table values) [] tables nothing_bound) (Changed 1 [] (row ∷ []))
-  new_row none found =
-      subst (λ b. Comes b (nat_le (set.len (set.insert rows row)) MOST_ROWS)) (sym absent)
-      (subst (λ b. Comes false b) (sym fits) (
-        refl,
-        found (set.insert rows row)
-            ∙ ap (λ kept. set.insert kept row) (sym (without-nothing rows_total exact_rows rows)),
-      ))
+  new_row none found = another_row absent fits found
     where
       absent : set.contains rows row ≡ false
       absent = ap (λ r. set.contains r row) none ∙ contains-empty row_cmp row
 
-      counted : set.len (set.insert (set.empty {R = row_cmp}) row) ≡ 0 + 1
-      counted =
-          len-insert rows_total exact_rows (set.empty {R = row_cmp}) row
-          ∙ ap (λ b. cond b (set.len (set.empty {R = row_cmp})) (set.len (set.empty {R = row_cmp}) + 1))
-          (contains-empty row_cmp row)
-          ∙ ap (λ n. n + 1) (len-empty row_cmp)
-
       fits : nat_le (set.len (set.insert rows row)) MOST_ROWS ≡ true
-      fits = ap (λ r. nat_le (set.len (set.insert r row)) MOST_ROWS) none ∙ ap (λ n. nat_le n MOST_ROWS) counted
+      fits = ap (λ r. nat_le (set.len (set.insert r row)) MOST_ROWS) none ∙ ap (λ n. nat_le n MOST_ROWS) (one_row row)

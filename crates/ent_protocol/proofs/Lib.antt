@@ -6,6 +6,7 @@ pub mod Led
 pub mod Closing
 pub mod Numbering
 pub mod Inserted
+pub mod Alone
 pub mod Ring
 pub mod WritersPlay
 pub mod PartnersPool

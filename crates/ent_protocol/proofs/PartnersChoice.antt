@@ -28,7 +28,7 @@ use Rattle.ent_protocol.proofs.PartnersPool.{two_cases}
 abbrev pub seen : Tables
 seen = tables_of (pair_job 1 2).tables
 
-abbrev flight_123 : Value
+abbrev pub flight_123 : Value
 flight_123 = Int (pos 123)
 
 abbrev flights : List (List Value)
@@ -37,7 +37,7 @@ flights = (flight_122 ∷ LA ∷ []) ∷ (flight_123 ∷ LA ∷ []) ∷ (Int (po
 sorted : set.ascending (opening_database partners_opening (codes "Flights")) ≡ flights
 sorted = ascending-from_list rows_total exact_rows flights tt
 
-abbrev LA_flights : List (List Value)
+abbrev pub LA_flights : List (List Value)
 LA_flights = (flight_122 ∷ []) ∷ (flight_123 ∷ []) ∷ []
 
 -- FROM Flights WHERE dest = 'LA'
@@ -56,10 +56,10 @@ rows_to_LA =
     (filter (meets (operand_worth (λ value. value)) to_LA.tests)
     (flat_map (λ row. map (λ others. row ++ others) ([] ∷ [])) rows)))) sorted
 
-abbrev goes : Value → Bool
+abbrev pub goes : Value → Bool
 goes x = list_any (eq_by_cmp row_cmp (x ∷ [])) LA_flights
 
-grounds : (tx : ℕ) (own partner x : Value)
+pub grounds : (tx : ℕ) (own partner x : Value)
     → is_form_grounding (λ value. value) seen (query tx own partner).statement (x ∷ []) ≡ ((goes x && true) && true)
 grounds tx own partner x =
     ap (λ rows. (set.contains rows (x ∷ []) && true) && true) rows_to_LA
@@ -116,7 +116,7 @@ not_one n = grind (arith, rules)
 too_long : (n : ℕ) (b : Bool) → ((suc (suc n) == 1) && b) ≡ true → ⊥
 too_long n b h = no_false (suc (suc n) == 1) b (not_one n) h
 
-one_value : (tx : ℕ) (own partner : Value) (values : Valuation)
+pub one_value : (tx : ℕ) (own partner : Value) (values : Valuation)
     → is_form_grounding (λ value. value) seen (query tx own partner).statement values ≡ true
     → (x : Value) × (values ≡ x ∷ []) × ((x ≡ flight_122) ⊎ (x ≡ flight_123))
 one_value tx own partner [] h = cc

@@ -3,7 +3,7 @@ use Rattle.std.proofs.Common.{◌≡◌, inl, ℕ, ◌+◌, false, cond, ◌||�
 use Rattle.std.proofs.Common.{refl, sym, ap, subst, ◌∙◌, arith}
 use Rattle.std.specs.Prelude.{codes, nat_le}
 use Rattle.std.specs.Ordering.{eq_by_cmp}
-use Rattle.ent_set.specs.Laws.{contains-empty, contains-insert, len-empty, len-insert, without-nothing}
+use Rattle.ent_set.specs.Laws.{contains-empty, contains-insert, len-insert}
 use Rattle.ent_set.specs.Sets as set
 use Rattle.ent_value.specs.Order.{rows_total, exact_rows}
 use Rattle.ent_value.specs.Value.{row_cmp}
@@ -19,8 +19,8 @@ use Rattle.ent_protocol.specs.Begin.{lending, holding, posting}
 use Rattle.ent_protocol.specs.Commit.{preparing, committing}
 use Rattle.ent_protocol.specs.Event as events
 use Rattle.ent_protocol.specs.Event.{Reply}
-use Rattle.ent_protocol.specs.Finish.{finished, stepped, IsTaken}
-use Rattle.ent_protocol.specs.Job.{Job, Changed, IsEvaluated, tables_of}
+use Rattle.ent_protocol.specs.Finish.{finished, stepped}
+use Rattle.ent_protocol.specs.Job.{Changed, IsEvaluated, tables_of}
 use Rattle.ent_protocol.specs.Partners.{Partners, partners_opening, committing_script, flies_form, reads_form, asks}
 use Rattle.ent_protocol.specs.Partners.{Mickey, Minnie, flight_122, pair, pair_job, booking_job}
 use Rattle.ent_protocol.specs.Partners.{booking_done, first_booked, partners_pass}
@@ -30,7 +30,8 @@ use Rattle.ent_protocol.specs.Reached.{opened}
 use Rattle.ent_protocol.specs.Run.{Forms, SubmitsForm, submitting, starting}
 use Rattle.ent_protocol.specs.State.{State, Member}
 use Rattle.ent_protocol.specs.Uses.{shared, exclusive}
-use Rattle.ent_protocol.proofs.Inserted.{new_row, another_row}
+use Rattle.ent_protocol.proofs.Alone.{alone}
+use Rattle.ent_protocol.proofs.Inserted.{another_row, new_row, one_row, only_row}
 use Rattle.ent_protocol.proofs.PairAnswered.{lends_pair, joins_pair}
 use Rattle.ent_protocol.proofs.PartnersChoice.{taken}
 use Rattle.ent_protocol.proofs.PartnersPool.{safe_one, safe_two}
@@ -83,7 +84,7 @@ abbrev no_rows : Rows
 no_rows = set.empty
 
 booked_is : first_booked ≡ set.insert no_rows mickeys
-booked_is = ap (λ rows. set.insert rows mickeys) (without-nothing rows_total exact_rows no_rows)
+booked_is = only_row mickeys
 
 absent : set.contains first_booked minnies ≡ false
 absent =
@@ -91,25 +92,16 @@ absent =
     ∙ contains-insert rows_total exact_rows no_rows mickeys minnies
     ∙ ap (λ b. eq_by_cmp row_cmp minnies mickeys || b) (contains-empty row_cmp minnies)
 
-one_row : set.len (set.insert no_rows mickeys) ≡ 0 + 1
-one_row =
-    len-insert rows_total exact_rows no_rows mickeys
-    ∙ ap (λ b. cond b (set.len no_rows) (set.len no_rows + 1)) (contains-empty row_cmp mickeys)
-    ∙ ap (λ n. n + 1) (len-empty row_cmp)
-
-two_rows : set.len (set.insert first_booked minnies) ≡ (0 + 1) + 1
+two_rows : set.len (set.insert first_booked minnies) ≡ 1 + 1
 two_rows =
     len-insert rows_total exact_rows first_booked minnies
     ∙ ap (λ b. cond b (set.len first_booked) (set.len first_booked + 1)) absent
-    ∙ ap (λ n. n + 1) (ap (λ rows. set.len rows) booked_is ∙ one_row)
+    ∙ ap (λ n. n + 1) (ap (λ rows. set.len rows) booked_is ∙ one_row mickeys)
 
 two_evaluated : IsEvaluated (booking_done 2 Minnie first_booked)
 two_evaluated =
     another_row 1 (Minnie ∷ flight_122 ∷ []) (tables_of (booking_job 2 Minnie first_booked).tables) absent
     (ap (λ n. nat_le n MOST_ROWS) two_rows) (λ other. refl)
-
-lent_alone : (job : Job) → IsTaken job (job ∷ []) []
-lent_alone job = record { before = []; behind = []; is_there = refl; others = refl }
 
 -- ---- states
 
@@ -190,7 +182,7 @@ module _ {F : Type 0} {resolved : Forms F} (partners : Partners resolved) where
                         record {
                           meant = one_evaluated;
                           left = [];
-                          taken = lent_alone (booking_job 1 Mickey set.empty);
+                          taken = alone (booking_job 1 Mickey set.empty);
                           member = holds 1 Mickey;
                           is_member = refl;
                           steps = (refl, refl);
@@ -213,7 +205,7 @@ module _ {F : Type 0} {resolved : Forms F} (partners : Partners resolved) where
                                 record {
                                   meant = two_evaluated;
                                   left = [];
-                                  taken = lent_alone (booking_job 2 Minnie first_booked);
+                                  taken = alone (booking_job 2 Minnie first_booked);
                                   member = holds 2 Minnie;
                                   is_member = refl;
                                   steps = (refl, refl);

@@ -6,12 +6,13 @@ use Rattle.std.specs.List.{AllByRecursion, filter}
 use Rattle.std.proofs.Math.Bool.{or-true}
 use Rattle.ent_value.specs.declared.value.Value.{Value}
 use Rattle.ent_semantics.specs.Entangled.{Valuation}
+use Rattle.ent_closed.specs.Kinds.{changed_tables}
 use Rattle.ent_closed.specs.declared.statement.Statement.{Statement}
 use Rattle.ent_closed.specs.Form.{Tables}
 use Rattle.ent_coordination.specs.Pool.{Posted}
 use Rattle.ent_protocol.specs.Begin.{replaced, with_member}
 use Rattle.ent_protocol.specs.Commit.{preparing, committing, committing_members}
-use Rattle.ent_protocol.specs.Finish.{finished, noted, table_of}
+use Rattle.ent_protocol.specs.Finish.{finished, noted}
 use Rattle.ent_protocol.specs.Job.{Job, Outcome, Shown, Changed, Bound, Choice, Fault}
 use Rattle.ent_protocol.specs.Member.{is_tx, is_of, active_member}
 use Rattle.ent_protocol.specs.PoolEvents.{joining, answered_among, answered_by, answered_groups}
@@ -187,7 +188,7 @@ still_there s new tx there =
 pub finishes_tidy : (s : State) (member : Member) (statement : Statement Value) (outcome : Outcome)
     → is_among s.active member.tx ≡ true → IsTidy s → IsTidy (finished s member statement outcome)
 finishes_tidy s member statement (Changed count removed added) there h =
-    notes (with_member _ s) member.tx (table_of statement) s.tables _ (still_there s _ member.tx there)
+    notes (with_member _ s) member.tx (changed_tables statement) s.tables _ (still_there s _ member.tx there)
     (steps s member _ h)
 finishes_tidy s member statement (Bound value) there h = steps s member _ h
 finishes_tidy s member statement (Shown rows) there h = steps s member _ h

@@ -13,7 +13,7 @@ use Rattle.ent_group.specs.Cycle.{IsOnCycle, links}
 use Rattle.ent_semantics.specs.declared.answer.Answer.TheVariants as answers
 use Rattle.ent_protocol.specs.Begin.{lending, holding}
 use Rattle.ent_protocol.specs.Commit.{preparing, committing}
-use Rattle.ent_protocol.specs.Finish.{finished, stepped, IsTaken}
+use Rattle.ent_protocol.specs.Finish.{finished, stepped}
 use Rattle.ent_protocol.specs.Job.{Changed, IsEvaluated, tables_of}
 use Rattle.ent_protocol.specs.Play.{Plays}
 use Rattle.ent_protocol.specs.Reached.{opened, table_names}
@@ -23,6 +23,7 @@ use Rattle.ent_protocol.specs.State.{State, Member}
 use Rattle.ent_protocol.specs.Uses.{exclusive}
 use Rattle.ent_protocol.specs.Waits.{IsDeadlock}
 use Rattle.ent_protocol.specs.Writers.{writers_opening, writer, insert_forms, insert_form, two_writers, job, done}
+use Rattle.ent_protocol.proofs.Alone.{alone}
 use Rattle.ent_protocol.proofs.Inserted.{new_row}
 use Rattle.ent_protocol.proofs.Ring.{waits_itself}
 
@@ -145,9 +146,6 @@ evaluated_in_A = new_row 0 (Int (pos 1) ∷ []) (tables_of (job 1 1 0).tables) r
 evaluated_in_B : (tx place : ℕ) → IsEvaluated (done tx place 1)
 evaluated_in_B tx place = new_row 1 (Int (pos tx) ∷ []) (tables_of (job tx place 1).tables) refl (λ other. refl)
 
-taken : (tx place table : ℕ) → IsTaken (job tx place table) (job tx place table ∷ []) []
-taken tx place table = record { before = []; behind = []; is_there = refl; others = refl }
-
 pub played : Plays insert_forms (opened writers_opening) two_writers last
 played = (
   _,
@@ -169,7 +167,7 @@ played = (
             record {
               meant = evaluated_in_A;
               left = [];
-              taken = taken 1 1 0;
+              taken = alone (job 1 1 0);
               member = holds (fresh 1) 0;
               is_member = refl;
               steps = (refl, refl);
@@ -186,7 +184,7 @@ played = (
                 record {
                   meant = evaluated_in_B 2 1;
                   left = [];
-                  taken = taken 2 1 1;
+                  taken = alone (job 2 1 1);
                   member = holds (fresh 2) 1;
                   is_member = refl;
                   steps = (refl, refl);
@@ -219,7 +217,7 @@ played = (
                           record {
                             meant = evaluated_in_B 1 2;
                             left = [];
-                            taken = taken 1 2 1;
+                            taken = alone (job 1 2 1);
                             member = holds first_writer 1;
                             is_member = refl;
                             steps = (refl, refl);

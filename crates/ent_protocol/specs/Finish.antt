@@ -5,6 +5,7 @@ use Rattle.ent_value.specs.declared.value.Value.{Value}
 use Rattle.ent_semantics.specs.declared.answer.Answer.{Answer}
 use Rattle.ent_semantics.specs.declared.answer.Answer.TheVariants as answers
 use Rattle.ent_semantics.specs.Database.{Name}
+use Rattle.ent_closed.specs.Kinds.{changed_tables}
 use Rattle.ent_closed.specs.declared.statement.Statement.{Statement}
 use Rattle.ent_closed.specs.declared.statement.Statement.TheVariants as statements
 use Rattle.ent_closed.specs.Form.{Tables}
@@ -23,13 +24,6 @@ pub record IsTaken (job : Job) (jobs left : List Job) : Type 0 where
   pub behind : List Job
   pub is_there : jobs ≡ before ++ job ∷ behind
   pub others : left ≡ before ++ behind
-
--- the table that a statement changes
-abbrev pub table_of : Statement Value → List ℕ
-table_of (statements.Insert table values) = table ∷ []
-table_of (statements.Delete table tests) = table ∷ []
-table_of (statements.Update table image tests) = table ∷ []
-table_of other = []
 
 -- the host variable that a SET binds
 abbrev pub variable_of : Statement Value → List Name
@@ -62,8 +56,8 @@ abbrev pub finished : State → Member → Statement Value → Outcome → State
 finished s member statement (Changed count removed added) =
     let steps = with_member (stepped (answers.Count count) member) s in
     record steps {
-      tables = with_change (table_of statement) removed added s.tables;
-      changes = noted member.tx (table_of statement) s.tables s.changes;
+      tables = with_change (changed_tables statement) removed added s.tables;
+      changes = noted member.tx (changed_tables statement) s.tables s.changes;
     }
 finished s member statement (Bound value) =
     with_member

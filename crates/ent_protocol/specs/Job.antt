@@ -8,9 +8,9 @@ use Rattle.ent_semantics.specs.declared.answer.Failure.{Failure}
 use Rattle.ent_semantics.specs.Database.{Rows, nothing_bound}
 use Rattle.ent_semantics.specs.Effect.{Effect}
 use Rattle.ent_semantics.specs.Entangled.{Valuation}
+use Rattle.ent_closed.specs.Kinds.{changed_tables}
 use Rattle.ent_closed.specs.declared.entangled.Entangled.{Entangled}
 use Rattle.ent_closed.specs.declared.statement.Statement.{Statement}
-use Rattle.ent_closed.specs.declared.statement.Statement.TheVariants as statements
 use Rattle.ent_closed.specs.Form.{Tables, closed_worth, form_meaning}
 use Rattle.ent_coordination.specs.Choice.{IsLeastChoiceIfAny}
 use Rattle.ent_coordination.specs.Pool.{Posted}
@@ -60,22 +60,20 @@ pub data Outcome : Type 0 where
 abbrev pub applied : List (List Value) → List (List Value) → Rows → Rows
 applied removed added rows = set.insert_all (set.without_all rows removed) added
 
--- the table that a statement may change, by its number
-abbrev pub changed_table : Statement Value → Tables → Rows
-changed_table statement tables = rows_of statement
+-- the rows of the table that a statement changes
+abbrev pub rows_to_change : Statement Value → Tables → Rows
+rows_to_change statement tables = rows_of (changed_tables statement)
   where
-    rows_of : Statement Value → Rows
-    rows_of (statements.Insert table values) = slice_index_or tables table set.empty
-    rows_of (statements.Delete table tests) = slice_index_or tables table set.empty
-    rows_of (statements.Update table image tests) = slice_index_or tables table set.empty
-    rows_of other = set.empty
+    rows_of : List ℕ → Rows
+    rows_of [] = set.empty
+    rows_of (table ∷ more) = slice_index_or tables table set.empty
 
 -- an outcome is what an ordinary statement leaves and answers over these tables
 abbrev pub IsEffect : Statement Value → Tables → Result (Effect Tables) Failure → Outcome → Type 0
 IsEffect statement tables (Ok effect) (Shown rows) = effect.answer ≡ answers.Rows rows
 IsEffect statement tables (Ok effect) (Changed count removed added) =
     (effect.answer ≡ answers.Count count)
-    × (changed_table statement effect.database ≡ applied removed added (changed_table statement tables))
+    × (rows_to_change statement effect.database ≡ applied removed added (rows_to_change statement tables))
 IsEffect statement tables (Ok effect) (Bound value) = effect.answer ≡ answers.Value value
 IsEffect statement tables (Err failure) (Fault other) = failure ≡ other
 IsEffect statement tables result outcome = ⊥

@@ -2,10 +2,10 @@
 use Rattle.std.specs.Prelude.{ℕ, Bool, not, ◌&&◌, ◌==◌, List, [], ◌∷◌, ◌++◌, map, Option, Some, None, nat_lt}
 use Rattle.std.specs.Prelude.{if◌then◌else◌}
 use Rattle.std.specs.List.{filter, flat_map, list_any}
-use Rattle.ent_value.specs.declared.value.Value.{Value}
 use Rattle.ent_lock.specs.declared.mode.Mode.TheVariants.{Shared, Exclusive}
 use Rattle.ent_lock.specs.Mode.{in_conflict}
 use Rattle.ent_closed.specs.declared.entangled.Entangled.{Entangled}
+use Rattle.ent_closed.specs.declared.entangled.Membership.{Membership}
 use Rattle.ent_closed.specs.declared.statement.Statement.{Statement}
 use Rattle.ent_closed.specs.declared.statement.Statement.TheVariants as statements
 use Rattle.ent_protocol.specs.State.{State, Member, Use}
@@ -16,12 +16,16 @@ shared table = record { table = table; mode = Shared }
 abbrev pub exclusive : ℕ → Use
 exclusive table = record { table = table; mode = Exclusive }
 
--- an entangled statement uses the sources of its sub-selects shared
-abbrev pub entangled_uses : Entangled Value → List Use
-entangled_uses entangled = flat_map (λ membership. map shared membership.select.sources) entangled.atoms
+abbrev pub membership_uses : {K : Type 0} → Membership K → List Use
+membership_uses membership = map shared membership.select.sources
 
--- a SELECT uses its sources shared; INSERT, DELETE and UPDATE their table exclusively; a SET nothing
-abbrev pub statement_uses : Statement Value → List Use
+-- an entangled statement uses the sources of its sub-selects shared
+abbrev pub entangled_uses : {K : Type 0} → Entangled K → List Use
+entangled_uses entangled = flat_map membership_uses entangled.atoms
+
+-- a SELECT uses its sources shared; INSERT, DELETE and UPDATE their table exclusively; a SET nothing; whatever its
+-- operands are
+abbrev pub statement_uses : {K : Type 0} → Statement K → List Use
 statement_uses (statements.Select select) = map shared select.sources
 statement_uses (statements.Entangled entangled) = entangled_uses entangled
 statement_uses (statements.Insert table values) = exclusive table ∷ []

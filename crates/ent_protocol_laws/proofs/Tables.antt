@@ -5,10 +5,11 @@ use Rattle.std.specs.List.{filter, list_any}
 use Rattle.ent_set.specs.Sets as set
 use Rattle.ent_value.specs.declared.value.Value.{Value}
 use Rattle.ent_semantics.specs.Database.{Rows}
+use Rattle.ent_closed.specs.Kinds.{changed_tables}
 use Rattle.ent_closed.specs.declared.statement.Statement.{Statement}
 use Rattle.ent_closed.specs.Form.{Tables}
 use Rattle.ent_protocol.specs.Event.{Event, Reply}
-use Rattle.ent_protocol.specs.Finish.{finished, noted, table_of, with_change}
+use Rattle.ent_protocol.specs.Finish.{finished, noted, with_change}
 use Rattle.ent_protocol.specs.Job.{Outcome, Shown, Changed, Bound, Choice, Fault, applied}
 use Rattle.ent_protocol.specs.Rollback.{Cause, group_members, is_among, put_back, rolled_back}
 use Rattle.ent_protocol.specs.Run.{Forms}
@@ -136,7 +137,7 @@ changed s table tx (first ∷ more) removed added = by (first == table) refl
 finishes : (s : State) (table : ℕ) (member : Member) (statement : Statement Value) (outcome : Outcome)
     → IsNoted s (finished s member statement outcome) table
 finishes s table member statement (Changed count removed added) =
-    changed s table member.tx (table_of statement) removed added
+    changed s table member.tx (changed_tables statement) removed added
 finishes s table member statement (Bound value) = inl refl
 finishes s table member statement (Shown rows) = inl refl
 finishes s table member statement (Choice groundings) = inl refl

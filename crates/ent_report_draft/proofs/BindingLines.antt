@@ -11,16 +11,17 @@ use Rattle.ent_value.specs.Print.{value_text}
 use Rattle.ent_value.specs.declared.value.Value.{Value}
 use Rattle.ent_semantics.specs.Database.{Name}
 use Rattle.ent_book.specs.Report2.{bindings_text}
+use Rattle.ent_history_form.specs.Parts.{IsName, IsNumber}
 use Rattle.ent_line.specs.declared.fault.LineFault.{LineFault}
 use Rattle.ent_line.specs.Pieces.{behind, number_at, value_at, wanted}
-use Rattle.ent_line.specs.Written.{IsNumber, IsOver, IsValue, Stops}
+use Rattle.ent_line.specs.Written.{IsOver, IsValue, Stops}
 use Rattle.ent_line.proofs.Numbers.{chosen, read_of, is_first, is_rest, number_found, number_again}
 use Rattle.ent_line.proofs.Values.{bind_ok, value_found, value_again}
 use Rattle.ent_line.proofs.Rows.{behind_found, behind_again}
 use Rattle.ent_report_lines.specs.Bindings.{member_line}
 use Rattle.ent_report_lines.proofs.Steps.{bind_with, same_ok, no_bytes}
 use Rattle.ent_report_lines.specs.Listing.{listed_at}
-use Rattle.ent_report_lines.specs.Names.{IsName, name_at}
+use Rattle.ent_report_lines.specs.Names.{name_at}
 use Rattle.ent_report_lines.proofs.Listing.{listed_found, listed_again, shorter_than_text}
 use Rattle.ent_report_lines.proofs.Names.{name_found, name_again}
 use Rattle.ent_history_form.specs.Parts as parts

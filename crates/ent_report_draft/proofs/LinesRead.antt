@@ -15,15 +15,10 @@ use Rattle.ent_line.specs.Pieces.{Read, row_at}
 use Rattle.ent_line.specs.Written as written
 use Rattle.ent_line.proofs.Numbers.{chosen}
 use Rattle.ent_line.proofs.Values.{bind_ok}
-use Rattle.ent_tree.specs.declared.declaration.Create.{Create}
-use Rattle.ent_report_lines.specs.Openings.{IsDeclared}
-use Rattle.ent_history_form.specs.Opening.{IsDeclaration}
-use Rattle.ent_report_lines.specs.Joints as sections
 use Rattle.ent_report_lines.specs.Heads as heads
 use Rattle.ent_report_lines.proofs.Steps.{no_bytes, same_ok}
 use Rattle.ent_semantics.specs.declared.answer.Fact.{Fact}
 use Rattle.ent_history_form.specs.Answers as answers
-use Rattle.ent_history_form.specs.Joints as joints
 use Rattle.ent_history_form.specs.Parts as parts
 use Rattle.ent_report_draft.specs.Reading.{Reads, IsRowLine, whole_row_at}
 
@@ -57,40 +52,6 @@ to_row values h = (h.0, to_values values h.1)
 
 pub from_row : (values : List Value) → parts.IsRow values → written.IsRow values
 from_row values h = (h.0, from_values values h.1)
-
--- ---- tables of the opening
-
-pub to_declaration : (create : Create) → IsDeclared create → IsDeclaration create
-to_declaration create h = record {
-  name = h.name;
-  unplaced = h.unplaced;
-  some = h.some;
-  few = h.few;
-  columns = h.columns;
-  distinct = h.distinct;
-}
-
-pub from_declaration : (create : Create) → IsDeclaration create → IsDeclared create
-from_declaration create h = record {
-  name = h.name;
-  unplaced = h.unplaced;
-  some = h.some;
-  few = h.few;
-  columns = h.columns;
-  distinct = h.distinct;
-}
-
--- ---- places
-
-pub to_rise : (places : List (ℕ × ℕ)) → sections.PlacesRise places → joints.PlacesRise places
-to_rise [] h = tt
-to_rise (place ∷ []) h = h
-to_rise (place ∷ next ∷ more) h = (h.0, h.1, h.2, to_rise (next ∷ more) h.3)
-
-pub from_rise : (places : List (ℕ × ℕ)) → joints.PlacesRise places → sections.PlacesRise places
-from_rise [] h = tt
-from_rise (place ∷ []) h = h
-from_rise (place ∷ next ∷ more) h = (h.0, h.1, h.2, from_rise (next ∷ more) h.3)
 
 -- ---- heads
 

@@ -12,9 +12,9 @@ use Rattle.ent_value.specs.declared.value.Value.{Value}
 use Rattle.ent_semantics.specs.Database.{Name}
 use Rattle.ent_semantics.specs.declared.answer.Fact.{Fact}
 use Rattle.ent_book.specs.Report.{fact_text, facts_text}
+use Rattle.ent_history_form.specs.Parts.{IsNumber}
 use Rattle.ent_line.specs.declared.fault.LineFault.{LineFault}
 use Rattle.ent_line.specs.Pieces.{behind, number_at, row_at, wanted}
-use Rattle.ent_line.specs.Written.{IsNumber}
 use Rattle.ent_line.proofs.Numbers.{chosen, read_of, is_first, is_rest, number_found, number_again}
 use Rattle.ent_line.proofs.Values.{bind_ok}
 use Rattle.ent_line.proofs.Rows.{behind_found, behind_again, row_found, row_again}

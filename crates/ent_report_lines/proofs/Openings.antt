@@ -8,15 +8,16 @@ use Rattle.ent_value.specs.Refusal.{◌>>=◌}
 use Rattle.ent_tree.specs.declared.declaration.Column.{Column}
 use Rattle.ent_tree.specs.declared.declaration.Create.{Create}
 use Rattle.ent_book.specs.Report2.{columns_text}
+use Rattle.ent_history_form.specs.Opening.{IsDeclaration}
+use Rattle.ent_history_form.specs.Parts.{IsNumber}
 use Rattle.ent_line.specs.declared.fault.LineFault.{LineFault}
 use Rattle.ent_line.specs.Pieces.{behind, number_at, wanted}
 use Rattle.ent_line.proofs.Numbers.{chosen, number_found, number_again}
 use Rattle.ent_line.proofs.Values.{bind_ok}
 use Rattle.ent_line.proofs.Rows.{behind_found, behind_again}
 use Rattle.ent_report_lines.proofs.Steps.{bind_with, same_ok, no_bytes}
-use Rattle.ent_line.specs.Written.{IsNumber}
 use Rattle.ent_report_lines.specs.Names.{name_at}
-use Rattle.ent_report_lines.specs.Openings.{IsDeclared, are_distinct, columns_at, create_of, opening_at, opening_text}
+use Rattle.ent_report_lines.specs.Openings.{are_distinct, columns_at, create_of, opening_at, opening_text}
 use Rattle.ent_report_lines.proofs.Columns.{columns_found, columns_again, distinct_found, distinct_again}
 use Rattle.ent_report_lines.proofs.Names.{name_found, name_again}
 
@@ -24,7 +25,7 @@ abbrev whole_line : List ℕ → List Column → ℕ × List ℕ → Result (Cre
 whole_line name columns count = wanted (eqb (length count.1) 0 && are_distinct columns) (create_of name columns, count.0)
 
 pub opening_found : (line : List ℕ) (create : Create) (count : ℕ) → opening_at line ≡ Ok (create, count)
-    → (line ≡ opening_text create count) × IsDeclared create × IsNumber count
+    → (line ≡ opening_text create count) × IsDeclaration create × IsNumber count
 unfolding opening_at
 opening_found line create count h =
     let word = bind_ok (behind (codes "opening ") line)
@@ -53,7 +54,7 @@ opening_found line create count h =
     let named = name_found word.0 name.0.1 table name.1 in
     let stand = columns_found opened.0 columns.0.1 those columns.1 in
     let number = number_found 9223372036854775807 closed.0 last.0.1 n (omega arith) last.1 in
-    subst (λ (told : Create × ℕ). (line ≡ opening_text told.0 told.1) × IsDeclared told.0 × IsNumber told.1) same (
+    subst (λ (told : Create × ℕ). (line ≡ opening_text told.0 told.1) × IsDeclaration told.0 × IsNumber told.1) same (
       behind_found (codes "opening ") line word.0 word.1
           ∙ ap (λ r. codes "opening " ++ r)
           (named.0
@@ -90,7 +91,7 @@ number_ends count small =
 no_comma : (count : ℕ) → slice_index (codes ") " ++ decimal count) 0 ≡ 44 → ⊥
 no_comma count e = absurd (omega (arith, e))
 
-pub opening_again : (create : Create) (count : ℕ) → IsDeclared create → IsNumber count
+pub opening_again : (create : Create) (count : ℕ) → IsDeclaration create → IsNumber count
     → opening_at (opening_text create count) ≡ Ok (create, count)
 unfolding opening_at at_place told_of
 opening_again create count is small =

@@ -1,12 +1,12 @@
 -- How the line of a joint answer is read, and which lines there are.
-use Rattle.std.specs.Prelude.{◌<◌, ◌==◌, ◌&&◌, ℕ, Bool, true, not, nat_lt, List, [], ◌∷◌, ◌++◌, length, Result, Ok}
+use Rattle.std.specs.Prelude.{◌==◌, ◌&&◌, ℕ, Bool, true, not, nat_lt, List, [], ◌∷◌, ◌++◌, length, Result, Ok}
 use Rattle.std.specs.Prelude.{codes}
 use Rattle.std.specs.List.{flat_map}
 use Rattle.std.specs.Fmt.{decimal}
 use Rattle.ent_value.specs.Refusal.{◌>>=◌}
+use Rattle.ent_history_form.specs.Joints.{place_text}
 use Rattle.ent_line.specs.declared.fault.LineFault.{LineFault}
 use Rattle.ent_line.specs.Pieces.{Read, behind, number_at, wanted}
-use Rattle.ent_line.specs.Written.{IsNumber}
 use Rattle.ent_report_lines.specs.Listing.{listed_at}
 
 -- a statement's transaction and place, behind a space
@@ -30,16 +30,6 @@ unfoldable pub joint_at : List ℕ → Result (ℕ × List (ℕ × ℕ)) LineFau
 joint_at line =
     behind (codes "joint ") line >>= λ rest. number_at rest >>= λ number. places_at number.1 >>= λ places.
     wanted ((length places.1 == 0) && (not (length places.0 == 0) && rise places.0)) (number.0, places.0)
-
--- a statement's transaction and place, behind a space
-abbrev pub place_text : ℕ × ℕ → List ℕ
-place_text place = codes " " ++ (decimal place.0 ++ (codes "." ++ decimal place.1))
-
--- numbers, of which the transactions' rise
-abbrev pub PlacesRise : List (ℕ × ℕ) → Type 0
-PlacesRise [] = Unit {0}
-PlacesRise (place ∷ []) = IsNumber place.0 × IsNumber place.1
-PlacesRise (place ∷ next ∷ more) = IsNumber place.0 × IsNumber place.1 × (place.0 < next.0) × PlacesRise (next ∷ more)
 
 -- a joint answer's number and the places of its members, without the end of the line
 abbrev pub joint_text : ℕ → List (ℕ × ℕ) → List ℕ

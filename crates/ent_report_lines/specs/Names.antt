@@ -1,4 +1,4 @@
--- How a name is read, and which there are.
+-- How a name is read.
 use Rattle.std.specs.Prelude.{◌&&◌, ℕ, Bool, true, false, List}
 use Rattle.std.specs.List.{take_while}
 use Rattle.std.specs.Option.{is_none}
@@ -6,7 +6,6 @@ use Rattle.ent_value.specs.Name.{is_word, is_word_byte}
 use Rattle.ent_text.specs.Lexing.{after, keyword_of}
 use Rattle.ent_text.specs.declared.token.TokenKind.{TokenKind}
 use Rattle.ent_text.specs.declared.token.TokenKind.TheVariants as kinds
-use Rattle.ent_print.specs.Reading.{CanStand}
 use Rattle.ent_semantics.specs.Database.{Name}
 use Rattle.ent_line.specs.Pieces.{Read, wanted}
 
@@ -22,7 +21,3 @@ is_name word = is_word word && is_none (keyword_of word)
 unfoldable pub name_at : List ℕ → Read Name
 name_at bytes =
     let word = take_while is_word_byte bytes in wanted (is_name word) (word, after is_word_byte bytes)
-
--- a letter, then letters, digits and `_`, at most 63 bytes, and no reserved word
-abbrev pub IsName : List ℕ → Type 0
-IsName word = CanStand (kinds.Name word)

@@ -1,21 +1,20 @@
 -- How the line of a table of the opening is read, and which lines there are.
-use Rattle.std.specs.Prelude.{◌≡◌, ◌≢◌, ◌≤◌, ◌==◌, ◌&&◌, ℕ, Bool, true, not, List, [], ◌∷◌, ◌++◌, length, Result, Ok}
+use Rattle.std.specs.Prelude.{◌==◌, ◌&&◌, ℕ, Bool, true, not, List, [], ◌∷◌, ◌++◌, length, Result, Ok}
 use Rattle.std.specs.Prelude.{codes}
-use Rattle.std.specs.Prelude.{slice_index, AllPairs, if◌then◌else◌}
-use Rattle.std.specs.List.{list_any, AllByRecursion}
+use Rattle.std.specs.Prelude.{slice_index, if◌then◌else◌}
+use Rattle.std.specs.List.{list_any}
 use Rattle.std.specs.Fmt.{decimal}
 use Rattle.ent_value.specs.Refusal.{◌>>=◌}
 use Rattle.ent_value.specs.declared.value.Kind.{Kind}
 use Rattle.ent_value.specs.declared.value.Kind.TheVariants as kinds
 use Rattle.ent_tree.specs.declared.declaration.Column.{Column}
 use Rattle.ent_tree.specs.declared.declaration.Create.{Create}
-use Rattle.ent_tree.specs.declared.limits.TheConstants.{MOST_PARTS}
 use Rattle.ent_semantics.specs.Database.{Name, same_name}
 use Rattle.ent_book.specs.Report2.{columns_text}
 use Rattle.ent_line.specs.declared.fault.LineFault.{LineFault}
 use Rattle.ent_line.specs.Pieces.{Read, behind, number_at, wanted}
 use Rattle.ent_report_lines.specs.Listing.{listed_at, with_one}
-use Rattle.ent_report_lines.specs.Names.{IsName, name_at}
+use Rattle.ent_report_lines.specs.Names.{name_at}
 
 -- ---- columns
 
@@ -60,15 +59,6 @@ opening_at line =
     behind (codes "opening ") line >>= λ rest. name_at rest >>= λ name. behind (codes " (") name.1 >>= λ rest.
     columns_at rest >>= λ columns. behind (codes ") ") columns.1 >>= λ rest. number_at rest >>= λ count.
     wanted ((length count.1 == 0) && are_distinct columns.0) (create_of name.0 columns.0, count.0)
-
--- a table that a line can open: its name and its columns, without places, 1 to 16 of them, of distinct names
-pub record IsDeclared (create : Create) : Type 0 where
-  pub name : IsName create.name.name
-  pub unplaced : create.name.place ≡ 0
-  pub some : 1 ≤ length create.columns
-  pub few : length create.columns ≤ MOST_PARTS
-  pub columns : AllByRecursion (λ column. IsName column.name.name × (column.name.place ≡ 0)) create.columns
-  pub distinct : AllPairs (λ (first second : Column). first.name.name ≢ second.name.name) create.columns
 
 -- a table's name, its columns, and how many rows follow, without the end of the line
 abbrev pub opening_text : Create → ℕ → List ℕ

@@ -5,12 +5,15 @@ ghost use Rattle.ent_value.specs.Name.{is_word_byte};
 ghost use Rattle.ent_tree.specs.declared.declaration.Create.{Create};
 ghost use Rattle.ent_semantics.specs.Database.{Name};
 ghost use Rattle.ent_semantics.specs.declared.answer.Fact.{Fact};
-ghost use Rattle.ent_line.specs.Written.{IsNumber, Stops};
-ghost use Rattle.ent_report_lines.specs.Names.{IsName, name_at};
-ghost use Rattle.ent_report_lines.specs.Openings.{IsDeclared, opening_at, opening_text};
+ghost use Rattle.ent_history_form.specs.Joints.{PlacesRise};
+ghost use Rattle.ent_history_form.specs.Opening.{IsDeclaration};
+ghost use Rattle.ent_history_form.specs.Parts.{IsName, IsNumber};
+ghost use Rattle.ent_line.specs.Written.{Stops};
+ghost use Rattle.ent_report_lines.specs.Names.{name_at};
+ghost use Rattle.ent_report_lines.specs.Openings.{opening_at, opening_text};
 ghost use Rattle.ent_report_lines.specs.Scripts.{script_at, script_text};
 ghost use Rattle.ent_report_lines.specs.Heads.{IsFact, heads_at, heads_line};
-ghost use Rattle.ent_report_lines.specs.Joints.{PlacesRise, joint_at, joint_text};
+ghost use Rattle.ent_report_lines.specs.Joints.{joint_at, joint_text};
 
 use crate::laws::counts_are_read_as_written;
 
@@ -25,8 +28,8 @@ pub fn names_are_read_as_written()
 /// The line of a table of the opening is read just where it is written.
 pub fn openings_are_read_as_written()
     ensures found { (line : List ℕ) (create : Create) (count : ℕ) → opening_at line ≡ Ok (create, count)
-        → (line ≡ opening_text create count) × IsDeclared create × IsNumber count }
-    ensures only { (create : Create) (count : ℕ) → IsDeclared create → IsNumber count
+        → (line ≡ opening_text create count) × IsDeclaration create × IsNumber count }
+    ensures only { (create : Create) (count : ℕ) → IsDeclaration create → IsNumber count
         → opening_at (opening_text create count) ≡ Ok (create, count) }
 {}
 

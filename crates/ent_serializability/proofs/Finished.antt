@@ -8,10 +8,11 @@ use Rattle.ent_semantics.specs.declared.answer.Answer.TheVariants as answers
 use Rattle.ent_semantics.specs.Serial.{Operation}
 use Rattle.ent_semantics.specs.Database.{Environment, nothing_bound}
 use Rattle.ent_closed.specs.Form.{Tables, closed_worth, form_meaning}
+use Rattle.ent_closed.specs.Kinds.{changed_tables}
 use Rattle.ent_closed.specs.declared.statement.Statement.{Statement}
 use Rattle.ent_form_laws.specs.Tables.{database_of}
 use Rattle.ent_protocol.specs.Begin.{replaced}
-use Rattle.ent_protocol.specs.Finish.{table_of, variable_of, with_change, with_bound, noted, stepped, finished}
+use Rattle.ent_protocol.specs.Finish.{variable_of, with_change, with_bound, noted, stepped, finished}
 use Rattle.ent_protocol.specs.Job.{Job, Outcome, Shown, Changed, Bound, Choice, Fault}
 use Rattle.ent_protocol.specs.Member.{Ordinary, next_of, environment_of, is_single_of}
 use Rattle.ent_protocol.specs.Run.{Forms}
@@ -321,8 +322,8 @@ module _ {F : Type 0} (forms : Forms F) (laws : Laws) (s : State) (kept : Kept f
       finishes_as (stepped (answers.Rows rows) x.member) (answers.Rows rows) [] [] [] refl refl refl refl refl refl tt
       lands_so
   finishes_by (Changed count removed added) lands_so =
-      finishes_as (stepped (answers.Count count) x.member) (answers.Count count) (table_of c) removed added refl refl
-      refl refl refl refl (owns_table c x.member holds) lands_so
+      finishes_as (stepped (answers.Count count) x.member) (answers.Count count) (changed_tables c) removed added refl
+      refl refl refl refl refl (owns_table c x.member holds) lands_so
   finishes_by (Bound value) lands_so =
       let bound = values_bound (variable_of c) value x.member.bound in
       finishes_as (stepped (answers.Value value)

@@ -20,12 +20,13 @@ use Rattle.ent_semantics.specs.Uses.{Covers, CoversAll}
 use Rattle.ent_closed.specs.Closing.{closed, closed_entangled}
 use Rattle.ent_closed.specs.Form.{Tables, closed_worth, known_worth, form_meaning, form_heads, form_bound}
 use Rattle.ent_closed.specs.Form.{is_form_grounding}
+use Rattle.ent_closed.specs.Kinds.{changed_tables}
 use Rattle.ent_closed.specs.declared.entangled.Entangled.{Entangled}
 use Rattle.ent_closed.specs.declared.operand.Known.{Known}
 use Rattle.ent_closed.specs.declared.statement.Statement.{Statement}
 use Rattle.ent_closed.specs.declared.statement.Statement.TheVariants as statements
 use Rattle.ent_form_laws.specs.Tables.{database_of, AreWide, effect_of, Answers}
-use Rattle.ent_protocol.specs.Finish.{table_of, with_change, with_bound}
+use Rattle.ent_protocol.specs.Finish.{with_change, with_bound}
 use Rattle.ent_protocol.specs.Member.{Ordinary, statement_next, environment_of}
 use Rattle.ent_protocol.specs.State.{Submitted, Member, Use}
 use Rattle.ent_protocol.specs.Uses.{exclusive, statement_uses}
@@ -49,7 +50,7 @@ owns_one table = ap (λ b. (b && true) || false) (number_itself table)
 
 -- the table that a statement changes is owned
 pub owns_table : (statement : Statement Value) (member : Member) → HoldsUses member (statement_uses statement)
-    → OwnsFirst member.uses (table_of statement)
+    → OwnsFirst member.uses (changed_tables statement)
 owns_table (statements.Select select) member holds = tt
 owns_table (statements.Entangled entangled) member holds = tt
 owns_table (statements.Insert table values) member holds = (holds table).1 (owns_one table)

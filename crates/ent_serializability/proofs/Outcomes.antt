@@ -18,18 +18,19 @@ use Rattle.ent_semantics.specs.Effect.{Effect, changed, or_overflow, insertion, 
 use Rattle.ent_semantics.specs.Entangled.{Valuation}
 use Rattle.ent_semantics.specs.Selection.{meets, selection, holds}
 use Rattle.ent_semantics.specs.Term.{expression_value}
+use Rattle.ent_closed.specs.Kinds.{changed_tables}
 use Rattle.ent_closed.specs.declared.entangled.Entangled.{Entangled}
 use Rattle.ent_closed.specs.declared.entangled.Membership.{Membership}
 use Rattle.ent_closed.specs.declared.statement.Statement.{Statement}
 use Rattle.ent_closed.specs.declared.statement.Statement.TheVariants as statements
 use Rattle.ent_closed.specs.Form.{Tables, table_numbered, closed_worth, operand_worth, term_worth, form_rows}
 use Rattle.ent_closed.specs.Form.{membership_holds, is_form_grounding, form_meaning}
-use Rattle.ent_protocol.specs.Finish.{table_of, variable_of, with_change, with_bound}
+use Rattle.ent_protocol.specs.Finish.{variable_of, with_change, with_bound}
 use Rattle.ent_protocol.specs.Job.{Outcome, Shown, Changed, Bound, Choice, Fault, laid, tables_of}
-use Rattle.ent_protocol.specs.Job.{applied, changed_table, IsEffect}
+use Rattle.ent_protocol.specs.Job.{applied, rows_to_change, IsEffect}
 use Rattle.ent_protocol.specs.Member.{seen_now}
 use Rattle.ent_protocol.specs.State.{Use}
-use Rattle.ent_protocol.specs.Uses.{shared, exclusive, statement_uses, entangled_uses}
+use Rattle.ent_protocol.specs.Uses.{shared, exclusive, statement_uses, entangled_uses, membership_uses}
 use Rattle.ent_serializability.specs.Faithful.{is_used}
 use Rattle.ent_lists.specs.Elements.{or_first, or_second, or_cases, same_number, number_itself, differ}
 use Rattle.ent_serializability.proofs.Undo.{at_number}
@@ -121,7 +122,7 @@ Lands statement tables environment result (Shown rows) =
     result ≡ Ok (record { database = tables; environment = environment; answer = answers.Rows rows })
 Lands statement tables environment result (Changed count removed added) =
     result ≡ Ok (record {
-      database = with_change (table_of statement) removed added tables;
+      database = with_change (changed_tables statement) removed added tables;
       environment = environment;
       answer = answers.Count count;
     })
@@ -147,12 +148,12 @@ same_count : (m n : ℕ) → answers.Count m ≡ answers.Count n → m ≡ n
 same_count m n e = cc
 
 module _ (statement : Statement Value) (table : ℕ) (seen tables : Tables)
-    (is_at : (there : Tables) → changed_table statement there ≡ at_number there table)
-    (is_table : table_of statement ≡ table ∷ []) (room : table < length seen)
+    (is_at : (there : Tables) → rows_to_change statement there ≡ at_number there table)
+    (is_table : changed_tables statement ≡ table ∷ []) (room : table < length seen)
     (same : at_number seen table ≡ at_number tables table) (environment : Environment) where
   applied_there : (rows : Rows) (removed added : List (List Value))
-      → changed_table statement (slice_set seen table rows) ≡ applied removed added (changed_table statement seen)
-      → slice_set tables table rows ≡ with_change (table_of statement) removed added tables
+      → rows_to_change statement (slice_set seen table rows) ≡ applied removed added (rows_to_change statement seen)
+      → slice_set tables table rows ≡ with_change (changed_tables statement) removed added tables
   applied_there rows removed added e =
       let rows_are : rows ≡ applied removed added (at_number tables table) =
       sym (get_or-set_same seen table rows set.empty room) ∙ sym (is_at (slice_set seen table rows)) ∙ e
@@ -318,16 +319,15 @@ used_second (x ∷ xs) ys table h =
     or_second (x.table == table) (is_used (xs ++ ys) table) (used_second xs ys table h)
 
 memberships_same : (one other : Tables) (values : Valuation) (atoms : List (Membership Value))
-    → SameAt (flat_map (λ (membership : Membership Value). map shared membership.select.sources) atoms) one other
+    → SameAt (flat_map membership_uses atoms) one other
     → list_all (membership_holds (λ value. value) one values) atoms
     ≡ list_all (membership_holds (λ value. value) other values) atoms
 memberships_same one other values [] same = refl
 memberships_same one other values (atom ∷ more) same =
-    let uses_of : Membership Value → List Use = λ membership. map shared membership.select.sources in
     let sources = sources_same one other atom.select.sources
-    (λ table used. same table (used_first (uses_of atom) (flat_map uses_of more) table used)) in
+    (λ table used. same table (used_first (membership_uses atom) (flat_map membership_uses more) table used)) in
     let rest = memberships_same one other values more
-    (λ table used. same table (used_second (uses_of atom) (flat_map uses_of more) table used)) in
+    (λ table used. same table (used_second (membership_uses atom) (flat_map membership_uses more) table used)) in
     λ i. set.contains (selection (meets (operand_worth (λ value. value)) atom.select.tests)
     (λ row. map (operand_worth (λ value. value) row) atom.select.items) (sources i))
     (map (term_worth (λ value. value) values) atom.terms) && rest i

@@ -6,6 +6,7 @@ use Rattle.ent_tree.specs.declared.script.Script.{Script}
 use Rattle.ent_semantics.specs.declared.answer.Answer.TheVariants as answers
 use Rattle.ent_semantics.specs.Entangled.{Valuation}
 use Rattle.ent_closed.specs.Form.{Tables}
+use Rattle.ent_closed.specs.Kinds.{changed_tables}
 use Rattle.ent_closed.specs.declared.entangled.Entangled.{Entangled}
 use Rattle.ent_closed.specs.declared.operand.Known.{Known}
 use Rattle.ent_closed.specs.declared.statement.Statement.{Statement}
@@ -17,7 +18,7 @@ use Rattle.ent_protocol.specs.Begin as begin
 use Rattle.ent_protocol.specs.Commit.{preparing, committing, is_ready}
 use Rattle.ent_protocol.specs.Event.{Event, Reply}
 use Rattle.ent_protocol.specs.Event as events
-use Rattle.ent_protocol.specs.Finish.{FinishesBy, Finishes, IsTaken, noted, stepped, table_of, variable_of, with_bound}
+use Rattle.ent_protocol.specs.Finish.{FinishesBy, Finishes, IsTaken, noted, stepped, variable_of, with_bound}
 use Rattle.ent_protocol.specs.Finish.{with_change}
 use Rattle.ent_protocol.specs.Job.{Job, Joint, Done, Outcome, Shown, Changed, Bound}
 use Rattle.ent_protocol.specs.Job.{Choice, Fault, IsOutcome, tables_of}
@@ -198,8 +199,8 @@ module _ {F : Type 0} where
       (Steps m (stepped (answers.Rows rows) m) left s.tables s.changes back refl refl refl) step.0 step.1 refl refl
   by_outcome s m left c (Changed count removed added) reply new step back =
       acts s reply _ new
-      (Steps m (stepped (answers.Count count) m) left (with_change (table_of c) removed added s.tables)
-      (noted m.tx (table_of c) s.tables s.changes) back refl refl refl) step.0 step.1 refl refl
+      (Steps m (stepped (answers.Count count) m) left (with_change (changed_tables c) removed added s.tables)
+      (noted m.tx (changed_tables c) s.tables s.changes) back refl refl refl) step.0 step.1 refl refl
   by_outcome s m left c (Bound value) reply new step back =
       acts s reply _ new
       (Steps m

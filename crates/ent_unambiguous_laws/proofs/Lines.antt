@@ -7,14 +7,13 @@ use Rattle.ent_tree.specs.declared.declaration.Create.{Create}
 use Rattle.ent_semantics.specs.declared.book.Fate.{Fate}
 use Rattle.ent_book.specs.Report.{fate_text}
 use Rattle.ent_report_lines.specs.Fates.{transaction_at, transaction_text}
-use Rattle.ent_report_lines.specs.Joints.{joint_at, joint_text, place_text}
+use Rattle.ent_report_lines.specs.Joints.{joint_at, joint_text}
 use Rattle.ent_report_lines.specs.Openings.{opening_at, opening_text}
 use Rattle.ent_history_form.specs.Parts.{IsNumber}
 use Rattle.ent_history_form.specs.Opening.{IsDeclaration}
 use Rattle.ent_history_form.specs.Answers.{IsFate}
-use Rattle.ent_history_form.specs.Joints.{PlacesRise}
+use Rattle.ent_history_form.specs.Joints.{PlacesRise, place_text}
 use Rattle.ent_script_reader.proofs.BreaksOff.{same_behind}
-use Rattle.ent_report_draft.proofs.LinesRead.{from_declaration, from_rise}
 use Rattle.ent_unambiguous_laws.proofs.Fronts.{behind_both, once}
 use Rattle.ent_unambiguous_laws.proofs.Known.{Known}
 
@@ -23,8 +22,8 @@ pub opening_once : Known → (one other : Create) (count number : ℕ) → IsDec
     → ◌≡◌ {A = Create × ℕ} (one, count) (other, number)
 opening_once known one other count number h k small little e =
     once opening_at (opening_text one count) (opening_text other number) (one, count) (other, number)
-    (known.openings one count (from_declaration one h) small)
-    (known.openings other number (from_declaration other k) little) e
+    (known.openings one count h small)
+    (known.openings other number k little) e
 
 -- whatever the number is
 pub fate_once : Known → (number : ℕ) (one other : Fate) → IsFate one → IsFate other
@@ -44,7 +43,7 @@ places_once known number one other some any h k e =
     let places : flat_map place_text one ≡ flat_map place_text other =
     behind_both (codes "joint ") (decimal number) (flat_map place_text one) (flat_map place_text other) e in
     let both = once joint_at (joint_text 1 one) (joint_text 1 other) (1, one) (1, other)
-    (known.joints 1 one (omega arith) some (from_rise one h))
-    (known.joints 1 other (omega arith) any (from_rise other k))
+    (known.joints 1 one (omega arith) some h)
+    (known.joints 1 other (omega arith) any k)
     (ap (λ (text : List ℕ). codes "joint " ++ (decimal 1 ++ text)) places) in
     ap (λ (x : ℕ × List (ℕ × ℕ)). x.1) both

@@ -1,9 +1,9 @@
 //! Whom each member waits for, as rows of marks.
 ghost use Rattle.std.specs.Prelude.{◌≡◌, ℕ, ◌≤◌, ◌<◌, length, slice_index, IfSome};
 ghost use Rattle.ent_members.specs.Run.{with_run};
-ghost use Rattle.ent_members.specs.Uses.{uses_of};
 ghost use Rattle.ent_members.specs.Waits.{is_awaited, waits_over};
 ghost use Rattle.ent_protocol.specs.State.{Member as Seen};
+ghost use Rattle.ent_protocol.specs.Uses.{statement_uses};
 ghost use Rattle.ent_waits.specs.Rows.{HasMarksOf, IsOfChangers, MarksAll, MarksOver, StandsAt, stops};
 ghost use Rattle.ent_waits.specs.Waits.{awaits_now, nothing};
 
@@ -12,7 +12,7 @@ use crate::waiting::is_waiting;
 use ent_closed::{Known, Statement};
 use ent_group::{MOST_MEMBERS, Row, Tx, with_mark};
 use ent_job::Job;
-use ent_members::{Member, Run, Use, changed_table, is_conflicting, statement_uses, waits_over};
+use ent_members::{Member, Run, Use, exclusive_table, is_conflicting, statement_uses, waits_over};
 use ent_next::{SubmittedScript, next_form};
 
 /// Whether a member blocks one that asks for uses and doesn't pass it.
@@ -76,7 +76,8 @@ pub(crate) fn row_of(run: &Run, asker: &Member, asked: &[Use]) -> Row
 
 /// The row of a member that asks for the uses of a statement, which are put together.
 fn row_of_uses(run: &Run, asker: &Member, form: &Statement<Known>) -> Row
-    ensures { MarksAll run.now.active (is_awaited (with_run run.now nothing) asker.now (uses_of form.now)) result }
+    ensures { MarksAll run.now.active (is_awaited (with_run run.now nothing) asker.now (statement_uses form.now))
+        result }
 {
     row_of(run, asker, statement_uses(form).as_slice())
 }
@@ -91,10 +92,11 @@ fn row_of_form(
 ) -> Row
     requires place { place < MOST_MEMBERS }
     requires known { IfSome known.old (IsOfChangers run.now) }
-    ensures row { MarksAll run.now.active (is_awaited (with_run run.now nothing) asker.now (uses_of form.now)) result }
+    ensures row { MarksAll run.now.active (is_awaited (with_run run.now nothing) asker.now (statement_uses form.now))
+        result }
     ensures known { IfSome known.new (IsOfChangers run.now) }
 {
-    match changed_table(form) {
+    match exclusive_table(form) {
         Some(table) => row_of_changer(run, asker, place, table, known),
         None => row_of_uses(run, asker, form),
     }

@@ -5,7 +5,7 @@ use Rattle.ent_set.specs.Sets as set
 use Rattle.ent_closed.specs.Kinds.{tables_named}
 use Rattle.ent_closing.specs.Environment.{environment_of}
 use Rattle.ent_eval.specs.Change.{IsApplicable}
-use Rattle.ent_eval.specs.Meant.{changed_table, set_variable}
+use Rattle.ent_eval.specs.Meant.{changed_number, set_variable}
 use Rattle.ent_eval.specs.declared.outcome.Outcome.TheVariants as outcomes
 use Rattle.ent_rel.specs.Change.{changed_rows}
 use Rattle.ent_select.specs.Tables.{no_table, rows_in}
@@ -41,7 +41,7 @@ change-requires-clause-there c =
     c.requires.fits
     (meant_so statement tables (map arc_value c.deref-2.result.now) (environment_of c.args.environment.now)
     c.in_ok-rows.field-0 (outcomes.Changed c.in-Changed.count c.in-Changed.delta) are c.in-Changed.is c.in_ok-rows.ensures.meaning) can.0 one in
-    subst (λ (n : ℕ). n < length c.args.tables.now.items) (sym c.changed_table.ensures)
+    subst (λ (n : ℕ). n < length c.args.tables.now.items) (sym c.changed_number.ensures)
     (change_there (length c.args.tables.now.items) statement named c.requires.there)
 
 pub change-requires-clause-applicable : goal.change-requires-clause-applicable
@@ -59,7 +59,7 @@ change-requires-clause-applicable c =
     c.requires.fits
     (meant_so statement tables (map arc_value c.deref-2.result.now) (environment_of c.args.environment.now)
     c.in_ok-rows.field-0 (outcomes.Changed c.in-Changed.count c.in-Changed.delta) are c.in-Changed.is c.in_ok-rows.ensures.meaning) can.0 one in
-    subst (λ (n : ℕ). IsApplicable (slice_index_or tables n no_table) c.in-Changed.delta) (sym c.changed_table.ensures)
+    subst (λ (n : ℕ). IsApplicable (slice_index_or tables n no_table) c.in-Changed.delta) (sym c.changed_number.ensures)
     (change_applies statement tables c.in-Changed.delta named can.0 one can.2)
 
 pub returns-in-Changed-clause-meaning : goal.returns-in-Changed-clause-meaning
@@ -75,11 +75,11 @@ returns-in-Changed-clause-meaning c =
     let before = rows_in tables in
     let rows = c.in_ok-change-in-Changed.ensures.rows
     ∙ ap (λ (n : ℕ). slice_set before n (changed_rows (slice_index_or before n set.empty) removed added))
-    c.changed_table.ensures in
+    c.changed_number.ensures in
     meant_so statement tables (map arc_value c.deref-2.result.now) (environment_of c.args.environment.now)
     c.in_ok-rows.field-0 (outcomes.Changed c.in-Changed.count c.in-Changed.delta) are c.in-Changed.is c.in_ok-rows.ensures.meaning
-    ∙ same_effect (slice_set before (changed_table statement)
-    (changed_rows (slice_index_or before (changed_table statement) set.empty) removed added))
+    ∙ same_effect (slice_set before (changed_number statement)
+    (changed_rows (slice_index_or before (changed_number statement) set.empty) removed added))
     (rows_in (map arc_value c.change.new.tables.items)) (environment_of c.args.environment.now)
     (environment_of c.args.environment.now) (answers.Count c.in-Changed.count) (sym rows) refl
 

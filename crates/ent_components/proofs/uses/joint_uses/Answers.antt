@@ -1,5 +1,4 @@
 use Rattle.std.proofs.Common.{List, ap, ◌∙◌}
-use Rattle.ent_members.specs.Uses.{uses_of_entangled}
 use Rattle.ent_protocol.specs.Begin.{with_uses}
 use Rattle.ent_protocol.specs.State.{Use}
 use Rattle.ent_protocol.specs.Uses.{entangled_uses}
@@ -11,8 +10,7 @@ loop-query-preserved c =
     let query = c.query-item.result in
     let own =
     c.as_slice-in-loop-query.ensures.list
-    ∙ (c.entangled_uses-own.ensures
-    ∙ (ap uses_of_entangled c.statement.ensures ∙ c.uses_are_kept_by_closing.ensures.entangled query.statement)) in
+    ∙ (c.entangled_uses-own.ensures ∙ ap entangled_uses c.statement.ensures) in
     c.in_ok-uses.ensures
     ∙ (ap (λ (uses : List Use). with_uses uses c.as_slice.result.now) own
     ∙ (ap (with_uses (entangled_uses query.statement)) (c.as_slice.ensures.value ∙ c.loop-query.invariant)

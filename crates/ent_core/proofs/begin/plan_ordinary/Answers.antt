@@ -17,8 +17,7 @@ pub seen-requires : goal.seen-requires
 seen-requires c =
     let inside = c.store.inside in
     let now = c.args.store.now in
-    let uses = c.as_slice.ensures.list ∙ c.statement_uses-uses.ensures
-    ∙ c.uses_are_kept_by_closing.ensures.statement c.args.statement in
+    let uses = c.as_slice.ensures.list ∙ c.statement_uses-uses.ensures in
     let all = c.used_tables_are_declared.ensures.next now c.args.member.now c.requires.kept.reached in
     let count : length now.opening.tables ≡ length inside.tables.tables =
     ap (λ (x : State). length x.opening.tables) (sym c.store.view_is)
@@ -35,8 +34,7 @@ one-requires c =
     let now = c.args.store.now in
     let member = c.args.member.now in
     let statement = c.args.statement in
-    let uses = c.as_slice.ensures.list ∙ c.statement_uses-uses.ensures
-    ∙ c.uses_are_kept_by_closing.ensures.statement statement in
+    let uses = c.as_slice.ensures.list ∙ c.statement_uses-uses.ensures in
     let single = c.new-single.ensures ∙ (λ i. record {
       tx = c.tx.ensures i;
       attempt = c.attempt.ensures i;
@@ -64,7 +62,7 @@ returns c =
     let now = c.args.store.now in
     let member = c.args.member.now in
     let statement = c.args.statement in
-    let uses = c.statement_uses-uses.ensures ∙ c.uses_are_kept_by_closing.ensures.statement statement in
+    let uses = c.statement_uses-uses.ensures in
     let single = c.new-single.ensures ∙ (λ i. record {
       tx = c.tx.ensures i;
       attempt = c.attempt.ensures i;

@@ -66,7 +66,6 @@ invariant_of-store-in_default-post c =
     (c.members_stand_by_number.ensures resolved_forms c.args.store.now c.requires.kept.reached) in
     let plan = subst (λ (x : State). IsToPost x c.args.tx c.args.query) (sym c.store.view_is) c.requires.asks in
     let uses = c.as_slice.ensures.list ∙ c.entangled_uses-uses.ensures
-    ∙ c.uses_are_kept_by_closing.ensures.entangled c.statement.result.now
     ∙ ap entangled_uses c.statement.ensures in
     kept_changed inside.catalogue.tables inside.opening inside.submitted.items inside.transaction_table inside.running inside.run
     c.post-2.new.self inside.tables inside.pool c.post.new.self c.args.tx c.store.invariant
@@ -83,7 +82,6 @@ returns-clause-ok c =
     let posted = subst (λ (old : List Posted). IsPostedTo old c.post.new.self c.args.query) (sym all)
     c.in_default.ensures.posted in
     let uses = c.as_slice.ensures.list ∙ c.entangled_uses-uses.ensures
-    ∙ c.uses_are_kept_by_closing.ensures.entangled c.statement.result.now
     ∙ ap entangled_uses c.statement.ensures in
     let done : State = record s { prepared = c.post-2.new.self.prepared; active = c.post-2.new.self.active } in
     subst (λ (x : State). Begins {F = FormFault} x c.args.tx replies.Posted done) c.store.view_is

@@ -1,6 +1,6 @@
 use Rattle.std.proofs.Common.{◌≡◌, ◌≤◌, ◌*◌, take, length}
 use Rattle.std.specs.List.{flat_map}
-use Rattle.ent_members.specs.Uses.{membership_uses}
+use Rattle.ent_protocol.specs.Uses.{membership_uses}
 use Rattle.ent_members.proofs.uses.entangled_uses.Given as goal
 
 abbrev pub invariant-loop-membership : goal.invariant-loop-membership

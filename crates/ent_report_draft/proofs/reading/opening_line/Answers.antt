@@ -1,12 +1,12 @@
 use Rattle.std.proofs.Common.{◌∙◌, ap}
 use Rattle.ent_report_lines.specs.Openings.{opening_at}
 use Rattle.ent_report_draft.specs.Reading.{IsOpeningLine}
-use Rattle.ent_report_draft.proofs.LinesRead.{from_declaration, reads, to_declaration}
+use Rattle.ent_report_draft.proofs.LinesRead.{reads}
 use Rattle.ent_report_draft.proofs.reading.opening_line.Goals as goal
 
 pub returns : goal.returns
 returns c =
     let known = c.openings_are_read_as_written.ensures in
     reads (IsOpeningLine c.args.text.now) (opening_at c.args.text.now) c.opening.result
-    (λ x h. let is = known.found c.args.text.now x.0 x.1 h in (is.0, to_declaration x.0 is.1, is.2))
-    (λ x is. ap opening_at is.0 ∙ known.only x.0 x.1 (from_declaration x.0 is.1) is.2) c.opening.ensures
+    (λ x h. known.found c.args.text.now x.0 x.1 h)
+    (λ x is. ap opening_at is.0 ∙ known.only x.0 x.1 is.1 is.2) c.opening.ensures
