@@ -21,10 +21,6 @@ goes_on b = is_word_byte b || (b == 39)
 abbrev pub IsOver : List ℕ → Type 0
 IsOver = Stops goes_on
 
--- 0 to 9223372036854775807
-abbrev pub IsNumber : ℕ → Type 0
-IsNumber n = n ≤ 9223372036854775807
-
 -- at most 255 bytes, without control characters
 abbrev pub IsText : List ℕ → Type 0
 IsText content = IsFalse (list_any is_ascii_control content) × (length content ≤ LONGEST_TEXT)
