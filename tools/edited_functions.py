@@ -37,6 +37,14 @@ def functions_in(text):
     return found
 
 
+def text_of(path):
+    """A file's text; an empty one where there is no file."""
+    if not os.path.isfile(path):
+        return ""
+    with open(path, encoding="utf-8") as file:
+        return file.read()
+
+
 class Edit:
     """Texts of a crate's files, each with what takes its place, and the functions in which they stand.
 
@@ -45,8 +53,7 @@ class Edit:
 
     def __init__(self, path, folder):
         self.path, self.name = path, os.path.basename(path)
-        with open(path, encoding="utf-8") as file:
-            self.text = file.read()
+        self.text = text_of(path)
         self.pairs = list(self.read())
         self.places = self.find(folder)
         self.functions = [place[0] for place in self.places]
@@ -62,16 +69,13 @@ class Edit:
 
     def find(self, folder):
         """The functions in which its texts stand: the path of each, as the prover takes it, and its file and lines."""
-        places = {}
-        for name, old, _ in self.pairs:
-            path = os.path.join(folder, name)
-            if not name.startswith("src/") or not os.path.isfile(path):
+        places, texts = {}, {}
+        for name, old, new in self.pairs:
+            text = texts[name] if name in texts else text_of(os.path.join(folder, name))
+            if not name.startswith("src/") or text.count(old) != 1:
                 return []
-            with open(path, encoding="utf-8") as file:
-                text = file.read()
-            if text.count(old) != 1:
-                return []
-            line = text[: text.index(old)].count("\n")
+            # a text may stand in what an earlier one gave way to; each is within a line
+            line, texts[name] = text[: text.index(old)].count("\n"), text.replace(old, new)
             around = [it for it in functions_in(text) if it[0] <= line <= it[1]]
             if not around:
                 return []
@@ -85,10 +89,9 @@ class Edit:
         """Makes it in a copy of the crate."""
         for name, old, new in self.pairs:
             path = os.path.join(folder, name)
-            with open(path, encoding="utf-8") as file:
-                text = file.read()
+            text = text_of(path).replace(old, new)
             with open(path, "w", encoding="utf-8") as file:
-                file.write(text.replace(old, new))
+                file.write(text)
 
     def is_of(self, name):
         """Whether a function of this name is one that it changes, or a part of one."""
