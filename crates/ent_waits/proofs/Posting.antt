@@ -1,11 +1,9 @@
 -- Posted statements: whose they are, and when the pool stays safe with one more.
 use Rattle.std.proofs.Common.{◌≡◌, ◌↔◌, ◌⊎◌, inl, inr, ℕ, zero, suc, ◌<◌, Bool, true, false, not, List, [], ◌∷◌, ◌++◌}
-use Rattle.std.proofs.Common.{map, length, get_or, Option, Some, None, refl, sym, ap, ◌∙◌, subst, arith, true≢false}
+use Rattle.std.proofs.Common.{map, Option, Some, None, refl, sym, ap, ◌∙◌, subst, arith}
 use Rattle.std.specs.Prelude.{AllPairs, Contains, IsTrue, MatchOption}
 use Rattle.std.specs.List.{flat_map}
 use Rattle.std.specs.Option.{is_some}
-use Rattle.std.proofs.lemmas.Bool.{cases_lt}
-use Rattle.std.proofs.lemmas.List.{get_or_default}
 use Rattle.std.proofs.lemmas.List.Elements.{Contains-append_cases, Contains-append_left, Contains-append_right}
 use Rattle.std.proofs.lemmas.List.Elements.{Contains-push_cases}
 use Rattle.ent_value.specs.declared.value.Value.{Value}
@@ -16,38 +14,13 @@ use Rattle.ent_match.specs.Fault.{IsByNumber}
 use Rattle.ent_match.specs.Posting.{HasNone}
 use Rattle.ent_protocol.specs.Member.{Asks, pool, posted_as}
 use Rattle.ent_lists.specs.Elements.{contains_in, in_contains}
+use Rattle.ent_components.proofs.Numbered.{same_member}
 use Rattle.ent_protocol.specs.PostedBy.{in_pool}
 use Rattle.ent_protocol.specs.State.{State, Member}
 use Rattle.ent_waits.specs.Movers.{IsNotPosting, OnlyPostedAsk}
 use Rattle.ent_waits.proofs.Smallest.{contains_none}
 
--- ---- lists by ascending numbers
-
-module _ {X : Type 0} (number : X → ℕ) where
-  at_place : (xs : List X) (x : X) (k : ℕ) (d : X) → k < length xs → get_or xs k x ≡ x → get_or xs k d ≡ x
-  at_place xs x k d below is = get_or_default xs k d x below ∙ is
-
-  less : (xs : List X) → AllPairs (λ (one other : X). number one < number other) xs → (x y : X) (k j : ℕ) → k < j
-      → j < length xs → get_or xs k x ≡ x → get_or xs j y ≡ y → number x < number y
-  less xs ascends x y k j before below is_x is_y =
-      subst (λ (z : X). number z < number y) is_x
-      (subst (λ (z : X). number (get_or xs k x) < number z) (at_place xs y j x below is_y) (ascends k j x before below))
-
-  -- there is one element of a number at most
-  pub same_element : (xs : List X) → AllPairs (λ (one other : X). number one < number other) xs → (x y : X)
-      → Contains xs x → Contains xs y → number x ≡ number y → x ≡ y
-  same_element xs ascends x y (k, below_k, is_x) (j, below_j, is_y) same =
-      elim (cases_lt k j) [
-        | inl before ↦
-            (let l = less xs ascends x y k j before below_j is_x is_y in absurd (omega arith))
-        | inr not_before ↦ elim (cases_lt j k) [
-          | inl after ↦
-              (let l = less xs ascends y x j k after below_k is_y is_x in absurd (omega arith))
-          | inr not_after ↦
-              let here : k ≡ j = omega arith in
-              sym is_x ∙ (ap (λ n. get_or xs n x) here ∙ at_place xs y j x below_j is_y)
-        ]
-      ]
+-- ---- lists
 
 module _ {X Y : Type 0} where
   pub mapped_from : (f : X → Y) (xs : List X) (y : Y) → Contains (map f xs) y → (x : X) × Contains xs x × (f x ≡ y)
@@ -76,7 +49,7 @@ pub only_posted_ask : (s : State) → AllPairs (λ (one other : Member). one.tx 
 only_posted_ask s ascends member active unposted query there own =
     let r = in_pool s query (contains_in (pool s) query there) in
     let same : r.member ≡ member =
-    same_element (λ (m : Member). m.tx) s.active ascends r.member member (in_contains s.active r.member r.at) active
+    same_member (λ (m : Member). m.tx) s.active ascends r.member member (in_contains s.active r.member r.at) active
     (sym r.own ∙ own) in
     true≢false (sym r.by.posted ∙ (ap (λ (m : Member). m.posted) same ∙ unposted))
 
@@ -93,7 +66,7 @@ one_of_each pool last ascends none x y at_x at_y same =
     by (Contains-push_cases pool last x at_x) (Contains-push_cases pool last y at_y)
   where
     by : Contains pool x ⊎ (last ≡ x) → Contains pool y ⊎ (last ≡ y) → x ≡ y
-    by (inl in_x) (inl in_y) = same_element (λ (p : Posted). p.tx) pool ascends x y in_x in_y same
+    by (inl in_x) (inl in_y) = same_member (λ (p : Posted). p.tx) pool ascends x y in_x in_y same
     by (inl in_x) (inr is_y) = absurd (none x in_x (same ∙ sym (ap (λ (p : Posted). p.tx) is_y)))
     by (inr is_x) (inl in_y) = absurd (none y in_y (sym same ∙ sym (ap (λ (p : Posted). p.tx) is_x)))
     by (inr is_x) (inr is_y) = sym is_x ∙ is_y
