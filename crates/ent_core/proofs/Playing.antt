@@ -23,7 +23,7 @@ use Rattle.ent_core.specs.Play.{AreMade, AreSubmitted, fault_in, scripts_fault}
 
 -- ---- faults of a list of scripts
 
-fault_behind : {A : Type 0} (check : A → Check) (xs ys : List A) → first_of check xs ≡ None
+pub fault_behind : {A : Type 0} (check : A → Check) (xs ys : List A) → first_of check xs ≡ None
     → first_of check (xs ++ ys) ≡ first_of check ys
 fault_behind check [] ys clean = refl
 fault_behind check (x ∷ xs) ys clean = by (check x) clean (fault_behind check xs ys)

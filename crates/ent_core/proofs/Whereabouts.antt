@@ -11,7 +11,7 @@ use Rattle.ent_protocol_laws.specs.Standing.{StandOnce}
 use Rattle.ent_core.proofs.OnePlace.{active_has_no_fate, active_is_not_dormant, fated_not_dormant}
 use Rattle.ent_core.proofs.OnePlace.{prepared_has_no_fate, prepared_is_not_dormant}
 
-nobody : {A : Type 0} (xs : List A) → None ≡ first_of xs → xs ≡ []
+pub nobody : {A : Type 0} (xs : List A) → None ≡ first_of xs → xs ≡ []
 nobody [] e = refl
 nobody (x ∷ xs) e = absurd cc
 
@@ -23,7 +23,7 @@ in_front : {A : Type 0} (x : A) (xs rest : List A) → Some x ≡ first_of xs �
 in_front x [] rest e = absurd cc
 in_front x (y ∷ ys) rest e = e
 
-none_of : {A : Type 0} (p : A → Bool) (xs : List A) → list_any p xs ≡ false → filter p xs ≡ []
+pub none_of : {A : Type 0} (p : A → Bool) (xs : List A) → list_any p xs ≡ false → filter p xs ≡ []
 none_of p [] e = refl
 none_of {A} p (x ∷ xs) e = by (p x) e (λ h. none_of p xs h)
   where

@@ -1,6 +1,6 @@
 -- What a play without events leaves: the scripts of an input were submitted, and the input has no fault of form.
 use Rattle.std.proofs.Common.{◌≡◌, ℕ, zero, suc, Bool, true, false, List, [], ◌∷◌, ◌++◌, map, length, refl}
-use Rattle.std.proofs.Common.{sym, ap, subst, ◌∙◌, Option, Some, None, Result, Ok, Err, nat_le}
+use Rattle.std.proofs.Common.{sym, ap, subst, ◌∙◌, Option, None, Result, Ok, Err, nat_le}
 use Rattle.std.specs.Result.{result_err}
 use Rattle.std.proofs.lemmas.List.{map-append}
 use Rattle.ent_tree.specs.declared.declaration.Opening.{Opening}
@@ -8,7 +8,7 @@ use Rattle.ent_tree.specs.declared.limits.TheConstants.{MOST_SCRIPTS}
 use Rattle.ent_tree.specs.declared.script.Script.{Script}
 use Rattle.ent_closed.specs.declared.operand.Known.{Known}
 use Rattle.ent_closed.specs.declared.statement.Statement.{Statement}
-use Rattle.ent_form.specs.OpeningFault.{Check, ◌before◌, first_of, opening_fault}
+use Rattle.ent_form.specs.OpeningFault.{Check, ◌before◌, opening_fault}
 use Rattle.ent_form.specs.declared.fault.FormFault.{FormFault}
 use Rattle.ent_protocol.specs.Event.{Event, Reply, Submit, Submitted}
 use Rattle.ent_protocol.specs.Play.{Plays, IsPlayed}
@@ -19,6 +19,7 @@ use Rattle.ent_protocol.specs.State.{Submitted as OneSubmitted}
 use Rattle.ent_protocol.specs.Step.{Step}
 use Rattle.ent_headline.specs.Resolved.{resolved_forms}
 use Rattle.ent_core.specs.Play.{AreSubmitted, input_fault, scripts_fault}
+use Rattle.ent_core.proofs.Playing.{fault_behind}
 
 -- ---- a play without events
 
@@ -37,17 +38,6 @@ just_submitted view opening scripts events replied core none h =
     by (step ∷ more) none plays = cc
 
 -- ---- no fault of form
-
-fault_behind : {A : Type 0} (check : A → Check) (xs ys : List A) → first_of check xs ≡ None
-    → first_of check (xs ++ ys) ≡ first_of check ys
-fault_behind check [] ys clean = refl
-fault_behind check (x ∷ xs) ys clean = by (check x) clean (fault_behind check xs ys)
-  where
-    by : (first : Check) → first before first_of check xs ≡ None
-        → (first_of check xs ≡ None → first_of check (xs ++ ys) ≡ first_of check ys)
-        → first before first_of check (xs ++ ys) ≡ first_of check ys
-    by None clean rest = rest clean
-    by (Some fault) clean rest = cc
 
 -- what a script that was accepted leaves
 record IsAccepted (script : Script) (prior s : State) : Type 0 where

@@ -1,13 +1,14 @@
 -- A transaction whose begin is refused since it is absent is dormant, has a fate, or stands nowhere.
 use Rattle.std.proofs.Common.{◌≡◌, inl, inr, ℕ, Bool, true, false, cond, ◌||◌, ◌==◌, List, [], ◌∷◌, ◌++◌, map, refl}
 use Rattle.std.proofs.Common.{sym, subst, Option, Some, None}
-use Rattle.std.specs.List.{filter, list_any}
+use Rattle.std.specs.List.{filter}
 use Rattle.ent_value.specs.declared.value.Value.{Value}
 use Rattle.ent_closed.specs.declared.entangled.Entangled.{Entangled}
 use Rattle.ent_closed.specs.declared.statement.Statement.{Statement}
 use Rattle.ent_core.specs.Standing.{standing_seen}
 use Rattle.ent_core.specs.declared.standing.Standing.{Standing as Told}
 use Rattle.ent_core.specs.declared.standing.Standing.TheVariants as told
+use Rattle.ent_core.proofs.Whereabouts.{nobody, none_of}
 use Rattle.ent_form.specs.declared.fault.FormFault.{FormFault}
 use Rattle.ent_protocol.specs.Begin.{Begins, BeginsCommit, BeginsEntangled, BeginsMember, BeginsNext, BeginsOrdinary}
 use Rattle.ent_protocol.specs.Begin.{BeginsUnless, Posts}
@@ -69,19 +70,6 @@ absent_member s tx (Some member) h = absurd (is_answered s member (member.posted
 
 -- ---- who is no member stands outside the run
 
-nobody : {A : Type 0} (xs : List A) → first_of xs ≡ None → xs ≡ []
-nobody [] e = refl
-nobody (x ∷ xs) e = absurd cc
-
-none_of : {A : Type 0} (p : A → Bool) (xs : List A) → list_any p xs ≡ false → filter p xs ≡ []
-none_of p [] e = refl
-none_of {A} p (x ∷ xs) e = by (p x) e (λ h. none_of p xs h)
-  where
-    by : (b : Bool) → (b || list_any p xs) ≡ false → (list_any p xs ≡ false → filter p xs ≡ [])
-        → cond b (x ∷ filter p xs) (filter p xs) ≡ []
-    by true h more = absurd cc
-    by false h more = more h
-
 -- dormant, with a fate, or nowhere
 abbrev pub IsOutside : Option Standing → Type 0
 IsOutside (Some (lookups.Ready turn)) = ⊥
@@ -115,7 +103,7 @@ stands_outside s tx h =
     let fated = filter (λ (one : Fated). one.tx == tx) s.fates in
     let waiting = filter (λ (one : Dormant). one.tx == tx) s.dormant in
     let none_prepared = none_of (is_tx tx) s.prepared absent.1 in
-    let none_active = nobody (filter (is_tx tx) s.active) absent.0 in
+    let none_active = nobody (filter (is_tx tx) s.active) (sym absent.0) in
     subst (λ (active : List Member). IsOutside (among s fated waiting (filter (is_tx tx) s.prepared) active))
     (sym none_active)
     (subst (λ (prepared : List Member). IsOutside (among s fated waiting prepared [])) (sym none_prepared)
