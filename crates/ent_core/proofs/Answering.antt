@@ -1,16 +1,10 @@
 -- Posted statements are answered together.
-use Rattle.std.proofs.Common.{◌≡◌, List, [], ◌∷◌, length, map, refl, sym, ap, subst, ◌∙◌, arith, nat_eq}
+use Rattle.std.proofs.Common.{◌≡◌, List, length, map, sym, ap, subst, ◌∙◌, nat_eq}
 use Rattle.std.specs.List.{IsDistinct}
 use Rattle.ent_semantics.specs.Entangled.{Valuation}
 use Rattle.ent_members.specs.Answered.{MemberAnswer, answer_tx, member_answers}
+use Rattle.ent_members.proofs.Answered.{asked_numbers}
 use Rattle.ent_coordination.specs.Pool.{Posted}
-
-asked_numbers : (asked : List Posted) (groundings : List Valuation) → length groundings ≡ length asked
-    → map answer_tx (member_answers asked groundings) ≡ map (λ (query : Posted). query.tx) asked
-asked_numbers [] groundings e = refl
-asked_numbers (query ∷ asked) [] e = absurd (omega (arith, e))
-asked_numbers (query ∷ asked) (values ∷ more) e =
-    ap (λ ns. query.tx ∷ ns) (asked_numbers asked more (omega (arith, e)))
 
 -- those who are answered are distinct
 pub given_distinct : (given : List MemberAnswer) (asked : List Posted) (groundings : List Valuation)

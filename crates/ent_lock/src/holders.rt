@@ -1,5 +1,5 @@
 //! The holders of one table.
-ghost use Rattle.std.specs.Prelude.{◌≡◌, ◌==◌, ◌&&◌, not, filter};
+ghost use Rattle.std.specs.Prelude.{◌≡◌, ◌+◌, ◌<◌, ◌≤◌, ◌^◌, ◌==◌, ◌&&◌, not, filter};
 ghost use Rattle.std.specs.List.{list_any};
 ghost use Rattle.ent_lock.specs.Holders.{is_asker, is_holder, is_no_holder, is_not_of, is_conflicting};
 ghost use Rattle.ent_lock.specs.Holders.{lesser, least_conflicting};
@@ -58,6 +58,26 @@ fn is_conflicting(holder: &Holder, asker: Option<Tx>, mode: Mode, pass: &Members
         && !pass.contains(holder.holder)
 }
 
+/// The same, where those that are to be passed mostly come in their order: a holder that is the next of them isn't
+/// looked for among all.
+fn is_conflicting_from(
+    holder: &Holder,
+    asker: Option<Tx>,
+    mode: Mode,
+    pass: &Members,
+    next: &mut usize,
+) -> bool
+    requires room { next.old + 1 < 2 ^ 64 }
+    ensures value { result ≡ is_conflicting asker mode pass.now holder.now }
+    ensures next { next.new ≤ next.old + 1 }
+{
+    if pass.get(*next) == Some(holder.holder) {
+        *next += 1;
+        return false;
+    }
+    is_conflicting(holder, asker, mode, pass)
+}
+
 /// The lesser of two transactions, where there are two.
 pub fn lesser(left: Option<Tx>, right: Option<Tx>) -> Option<Tx>
     ensures { result ≡ lesser left right }
@@ -80,8 +100,9 @@ pub(crate) fn least_conflicting(
     ensures { result ≡ least_conflicting asker mode pass.now holders.now }
 {
     let mut least = None;
+    let mut next = 0;
     for holder in holders {
-        if is_conflicting(holder, asker, mode, pass) {
+        if is_conflicting_from(holder, asker, mode, pass, &mut next) {
             least = lesser(least, Some(holder.holder));
         }
     }

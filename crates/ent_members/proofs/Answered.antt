@@ -206,7 +206,7 @@ from_asked (query ∷ asked) [] member = refl
 from_asked (query ∷ asked) (values ∷ more) member =
     ap (λ m. if is_tx query.tx member then answered_by query values member else m) (from_asked asked more member)
 
-asked_numbers : (asked : List Posted) (groundings : List Valuation) → length groundings ≡ length asked
+pub asked_numbers : (asked : List Posted) (groundings : List Valuation) → length groundings ≡ length asked
     → map answer_tx (member_answers asked groundings) ≡ map (λ (query : Posted). query.tx) asked
 asked_numbers [] groundings e = refl
 asked_numbers (query ∷ asked) [] e = absurd (omega (arith, e))

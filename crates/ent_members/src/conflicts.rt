@@ -1,12 +1,15 @@
 //! Who blocks a member that asks for uses.
 ghost use Rattle.std.specs.Prelude.{◌≡◌, ◌+◌, ◌≤◌, ◌++◌, length, map, filter};
 ghost use Rattle.std.specs.List.{list_any};
+ghost use Rattle.ent_protocol.specs.Member.{is_tx};
 ghost use Rattle.ent_protocol.specs.Uses.{is_conflicting, uses_conflict};
+ghost use Rattle.ent_members.specs.Order.{IsAscending};
 ghost use Rattle.ent_members.specs.Passed.{is_passed};
 ghost use Rattle.ent_members.specs.Run.{tx_of};
 ghost use Rattle.ent_members.specs.Waits.{is_awaited_over, waits_over};
 
 use crate::member::Member;
+use crate::search::member_by_number;
 use crate::table_use::Use;
 use ent_group::{MOST_MEMBERS, Members, Tx};
 
@@ -68,6 +71,18 @@ pub(crate) fn gather_passed(holders: &[Member], passed: Passed, numbers: &mut Me
         if is_passed(passed, holder) {
             numbers.push(holder.tx());
         }
+    }
+}
+
+/// Puts the number of one that asks for uses to others, where it stands in a list by number.
+#[tactic(auto, using(crate::proofs::InOrder::one_of_number, crate::proofs::InOrder::none_of_number))]
+pub(crate) fn pass_itself(active: &[Member], asker: &Member, numbers: &mut Members)
+    requires order { IsAscending (map tx_of active.now) }
+    requires room { length numbers.old + length active.now ≤ MOST_MEMBERS }
+    ensures { numbers.new ≡ numbers.old ++ map tx_of (filter (is_tx asker.now.tx) active.now) }
+{
+    if let Some(own) = member_by_number(active, asker.tx()) {
+        numbers.push(own.tx());
     }
 }
 

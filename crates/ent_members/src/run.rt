@@ -28,7 +28,7 @@ ghost use Rattle.ent_members.specs.Waits.{is_awaited};
 
 use crate::answer::{answer_each, numbers_of};
 use crate::change::{self, uses_with};
-use crate::conflicts::{Passed, gather_passed, is_awaited_over};
+use crate::conflicts::{Passed, gather_passed, is_awaited_over, pass_itself};
 use crate::entrant::Entrant;
 use crate::join::{gather_labels, join_groups};
 use crate::locks::{least_in_conflict, lock};
@@ -185,9 +185,8 @@ impl Run {
     {
         let mut pass = Members::new();
         let group = Passed::Group(asker.group());
-        let itself = Passed::Itself(asker.tx());
         gather_passed(self.prepared.as_slice(), group, &mut pass);
-        gather_passed(self.active.as_slice(), itself, &mut pass);
+        pass_itself(self.active.as_slice(), asker, &mut pass);
         pass
     }
 

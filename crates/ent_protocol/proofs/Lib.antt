@@ -7,7 +7,7 @@ pub mod Closing
 pub mod Numbering
 pub mod Inserted
 pub mod Alone
-pub mod Ring
+pub mod OnCycles
 pub mod WritersPlay
 pub mod PartnersPool
 pub mod PartnersChoice

@@ -25,7 +25,7 @@ use Rattle.ent_protocol.specs.Waits.{IsDeadlock}
 use Rattle.ent_protocol.specs.Writers.{writers_opening, writer, insert_forms, insert_form, two_writers, job, done}
 use Rattle.ent_protocol.proofs.Alone.{alone}
 use Rattle.ent_protocol.proofs.Inserted.{new_row}
-use Rattle.ent_protocol.proofs.Ring.{waits_itself}
+use Rattle.ent_protocol.proofs.OnCycles.{waits_itself}
 
 -- ---- the states
 

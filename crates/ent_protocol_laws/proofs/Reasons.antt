@@ -7,19 +7,19 @@ use Rattle.ent_protocol.specs.State.{State}
 use Rattle.ent_protocol.specs.Waits.{IsDeadlock, NoDeadlock, waits}
 use Rattle.ent_protocol_laws.specs.Alike.{BeginAlike}
 
-first_in_ring : (s : State) (cycle : List ℕ) → Closes (waits s) cycle → IsOnCycle (waits s) (slice_index cycle 0)
-first_in_ring s [] closes = let low = closes.not_empty in absurd (omega (arith, low))
-first_in_ring s (x ∷ xs) closes = (x ∷ xs, closes, (0, omega arith, refl))
+first_on_cycle : (s : State) (cycle : List ℕ) → Closes (waits s) cycle → IsOnCycle (waits s) (slice_index cycle 0)
+first_on_cycle s [] closes = let low = closes.not_empty in absurd (omega (arith, low))
+first_on_cycle s (x ∷ xs) closes = (x ∷ xs, closes, (0, omega arith, refl))
 
 pub begin_alike : (s : State) (cycle other : List ℕ) → IsDeadlock s cycle → IsDeadlock s other
     → BeginAlike cycle other
 begin_alike s cycle other one two =
-    let low = two.greatest (slice_index cycle 0) (first_in_ring s cycle one.is_cycle.closes) in
-    let high = one.greatest (slice_index other 0) (first_in_ring s other two.is_cycle.closes) in
+    let low = two.greatest (slice_index cycle 0) (first_on_cycle s cycle one.is_cycle.closes) in
+    let high = one.greatest (slice_index other 0) (first_on_cycle s other two.is_cycle.closes) in
     omega (arith, low, high)
 
 pub none_stands : (s : State) (cycle : List ℕ) → IsDeadlock s cycle → NoDeadlock s → ⊥
-none_stands s cycle one none = none (slice_index cycle 0) (first_in_ring s cycle one.is_cycle.closes)
+none_stands s cycle one none = none (slice_index cycle 0) (first_on_cycle s cycle one.is_cycle.closes)
 
 least_alike : (P : ℕ → Type 0) (m n : ℕ) → IsLeast P m → IsLeast P n → m ≡ n
 least_alike P m n one other =

@@ -100,16 +100,16 @@ module _ (s : State) (once : StandOnce s) (by_number : StandByNumber s) (m : Mem
 
 -- ---- a quiet run has no reason to go on
 
-in_ring : (s : State) (cycle : List ℕ) → Closes (waits s) cycle → (tx : ℕ) × IsOnCycle (waits s) tx
-in_ring s [] closes = let low = closes.not_empty in absurd (omega (arith, low))
-in_ring s (x ∷ xs) closes = (x, (x ∷ xs, closes, (0, omega arith, refl)))
+one_on_cycle : (s : State) (cycle : List ℕ) → Closes (waits s) cycle → (tx : ℕ) × IsOnCycle (waits s) tx
+one_on_cycle s [] closes = let low = closes.not_empty in absurd (omega (arith, low))
+one_on_cycle s (x ∷ xs) closes = (x, (x ∷ xs, closes, (0, omega arith, refl)))
 
 no_reason : (s : State) → IsQuiet s → (reason : Reason) → IsReason s reason → ⊥
 no_reason s quiet (events.JobOut tx) h = quiet.nothing_out tx h.0
 no_reason s quiet (events.CanBegin tx) h = quiet.nobody_moves tx h.1.0
 no_reason s quiet (events.Untried tx) h = quiet.all_tried tx h.2.0
 no_reason s quiet (events.Cycle cycle) h =
-    let r = in_ring s cycle h.3.is_cycle.closes in quiet.no_deadlock r.0 r.1
+    let r = one_on_cycle s cycle h.3.is_cycle.closes in quiet.no_deadlock r.0 r.1
 
 -- ---- who may move isn't refused
 
@@ -185,9 +185,9 @@ module _ {F : Type 0} where
         none_picked events.Nothing round.nothing_picked.0 round.nothing_picked.1 refl h.asked
         (record { component = h.component; untried = h.untried; not_out = none_out h.asked })
 
-    no_ring : (reply : Reply F) (new : State) → BreaksIfAny s reply new → is_idle reply ≡ true → NoDeadlock s
-    no_ring reply new (inl step) idle = absurd (not_idle reply _ step.replies refl idle)
-    no_ring reply new (inr step) idle = step.0
+    none_on_cycle : (reply : Reply F) (new : State) → BreaksIfAny s reply new → is_idle reply ≡ true → NoDeadlock s
+    none_on_cycle reply new (inl step) idle = absurd (not_idle reply _ step.replies refl idle)
+    none_on_cycle reply new (inr step) idle = step.0
 
     pub round_is_quiet : IsQuiet s
     round_is_quiet =
@@ -195,7 +195,7 @@ module _ {F : Type 0} where
           nothing_out = nothing_out;
           nobody_moves = nobody_moves;
           all_tried = all_tried;
-          no_deadlock = no_ring events.NoCycle round.no_cycle.0 round.no_cycle.1 refl;
+          no_deadlock = none_on_cycle events.NoCycle round.no_cycle.0 round.no_cycle.1 refl;
         }
 
   -- ---- a quiet run ends
