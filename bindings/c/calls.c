@@ -232,8 +232,8 @@ static bool moved(entangle_manager **manager) {
     return refused;
 }
 
-/* Opens a manager, has it make a run, closes it and goes on with its tables, where one allocation behind a beginning fails: the first call for
- * which that is so. Each call is made again then, and comes to the same. */
+/* Opens a manager, has it make a run, closes it and goes on with its tables, where one allocation behind a beginning
+ * fails: the first call for which that is so. Each call is made again then, and comes to the same. */
 static bool driven(long number) {
     char buffer[256];
     entangle_manager *manager = NULL;

@@ -1,7 +1,7 @@
 /* Loaded before a program (LD_PRELOAD), it disturbs one call of its run. REFUSE_ALLOCATION=N refuses the Nth
- * allocation. Of the reads of standard input, REFUSE_READ=N has the Nth fail and SHORTEN_READ=N has it move one byte; of
- * the writes to standard output, so do REFUSE_WRITE=N and SHORTEN_WRITE=N, and with EMPTY_WRITE=N the Nth takes no byte.
- * With COUNT_TO=FILE it writes to FILE how many allocations, reads and writes there were. */
+ * allocation. Of the reads of standard input, REFUSE_READ=N has the Nth fail and SHORTEN_READ=N has it move one byte.
+ * Of the writes to standard output, so do REFUSE_WRITE=N and SHORTEN_WRITE=N; with EMPTY_WRITE=N the Nth takes no
+ * byte. With COUNT_TO=FILE it writes to FILE how many allocations, reads and writes there were. */
 #define _GNU_SOURCE
 #include <dlfcn.h>
 #include <errno.h>
