@@ -94,9 +94,10 @@ class Edit:
                 file.write(text)
 
     def is_of(self, name):
-        """Whether a function of this name is one that it changes, or a part of one."""
+        """Whether a function of this name is one that it changes, or a closure in one."""
         own = name.split("::", 1)[1]
-        return any(own == it or f"fn::{it.split('::')[-1]}::" in own or own.endswith("::" + it) for it in self.functions)
+        ends = [it.split("::")[-1] for it in self.functions]
+        return own in self.functions or any(f"fn::{it}::" in own for it in ends)
 
     def is_blamed(self, error):
         """Whether an error stands in a function that it changes, or in its proof."""
