@@ -16,7 +16,7 @@ use Rattle.ent_core.specs.Begin.{IsFree, IsToPost}
 use Rattle.ent_core.specs.Obstacle.{IsHeldBack}
 use Rattle.ent_core.proofs.Begun.{entangled_held, member_found, number_found}
 
--- a member that may begin, and that nobody is in the way of, moves where what comes next does
+-- a member that may begin, and that nobody blocks, moves where what comes next does
 moves_next : (s : State) (member : Member) → IsFree s member.tx member → MovesBy s member (next_of s member)
     → CanMove s member.tx
 moves_next s member free moves = record {

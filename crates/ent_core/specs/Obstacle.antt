@@ -57,7 +57,7 @@ abbrev pub IsObstacle : State → ℕ → Option Obstacle → Type 0
 IsObstacle s tx (Some obstacle) = Begins s tx (obstacle_seen obstacle) s × StandsSo s tx obstacle
 IsObstacle s tx None = CanMove s tx
 
--- the same of a member that nobody is in the way of
+-- the same of a member that nobody blocks
 abbrev pub IsHeldBack : State → ℕ → Option Unsafe → Type 0
 IsHeldBack s tx (Some fault) = Begins {F = FormFault} s tx (replies.HeldBack fault) s
 IsHeldBack s tx None = CanMove s tx
@@ -68,8 +68,8 @@ abbrev pub AreBetween : List Use → List Use → Option Conflict → Type 0
 AreBetween asked held between = MatchOption between (NoConflict asked held) (IsConflict asked held)
 
 abbrev pub BetweenMembers : State → Option Conflict → Option Member → Option Member → Type 0
-BetweenMembers s between (Some asking) (Some holding) = AreBetween (next_uses (next_of s asking)) holding.uses between
-BetweenMembers s between (Some asking) None = between ≡ None
+BetweenMembers s between (Some asker) (Some holder) = AreBetween (next_uses (next_of s asker)) holder.uses between
+BetweenMembers s between (Some asker) None = between ≡ None
 BetweenMembers s between None other = between ≡ None
 
 -- between what a member's next statement asks for and what another member holds; where one is none there is nothing

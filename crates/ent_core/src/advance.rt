@@ -80,7 +80,7 @@ pub(crate) fn change(
     ensures prepared { run.new.prepared ≡ run.old.prepared }
     ensures tables { OnOk result (tables.new ≡ changing single.now delta.now tables.old) }
     ensures err { OnErr result (run.new ≡ run.old) }
-    ensures kept { OnErr result (tables.new ≡ tables.old) }
+    ensures same { OnErr result (tables.new ≡ tables.old) }
 {
     let answer = Answer::Count(count);
     let Some(table) = single.statement().changed_table() else {

@@ -24,8 +24,7 @@ fn facts_copy(alloc: Global, facts: &[Fact]) -> Result<Sequence<Fact>, AllocErro
     Ok(Sequence::from_vec(copies))
 }
 
-/// The same answer.
-pub fn answer_copy(alloc: Global, answer: &Answer) -> Result<Answer, AllocError>
+fn answer_copy(alloc: Global, answer: &Answer) -> Result<Answer, AllocError>
     ensures { IfOk result (λ copy. copy ≡ answer.now) }
 {
     match answer {

@@ -33,7 +33,7 @@ mod submit;
 mod take_out;
 
 pub use closing::{NotClosed, NotDone};
-pub use copies::{answer_copy, answers_copy};
+pub use copies::answers_copy;
 pub use ent_waits::Reason;
 pub use event::Event;
 pub use obstacle::Obstacle;

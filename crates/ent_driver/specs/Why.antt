@@ -136,7 +136,7 @@ SaysOutside (Some (Dormant runs)) words = words ≡ dormant_text runs
 SaysOutside (Some (Finished fate)) words = words ≡ fate_text fate
 SaysOutside other words = ⊥
 
--- what is said of an obstacle; none is in the way of a member that a begin would let get on
+-- what is said of an obstacle; there is none where a begin of the member would get on
 abbrev pub Says : State → ℕ → Option Obstacle → List ℕ → Type 0
 Says s tx (Some obstacles.Absent) words = SaysOutside (standing s tx) words
 Says s tx (Some (obstacles.Posted demand)) words =
@@ -146,7 +146,7 @@ Says s tx (Some obstacles.Prepared) words = words ≡ codes "prepared, and waits
 Says s tx (Some (obstacles.Blocked holder)) words =
     (between : Option Conflict) × IsBetween s tx holder between × (words ≡ blocked_text s.opening holder between)
 Says s tx (Some (obstacles.HeldBack fault)) words = words ≡ held_back_text fault
-Says s tx None words = words ≡ codes "ready, and nothing stands in its way"
+Says s tx None words = words ≡ codes "ready, and nothing blocks it"
 
 -- What keeps a transaction from moving, and the line that says it.
 pub record TellsWhy (s : State) (tx : ℕ) (text : List ℕ) : Type 0 where

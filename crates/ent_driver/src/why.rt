@@ -237,7 +237,7 @@ fn obstacle_text(
             blocked_text(alloc, core.opening(), *holder, between)?
         }
         Some(Obstacle::HeldBack(fault)) => held_back_text(alloc, fault)?,
-        None => Vec::from_slice(alloc, b"ready, and nothing stands in its way")?,
+        None => Vec::from_slice(alloc, b"ready, and nothing blocks it")?,
     };
     Ok(text)
 }

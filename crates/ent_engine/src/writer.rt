@@ -24,7 +24,7 @@ pub fn write_book<W: Write>(
     requires unmarked { IsUnmarked writer.old }
     ensures written { OnOk result
         (Appends (W.contents writer.old.inner) (W.contents writer.new.inner) (text_of version (book_seen book.now))) }
-    ensures untouched { result ≡ Err Memory → writer.new ≡ writer.old }
+    ensures same { result ≡ Err Memory → writer.new ≡ writer.old }
     ensures beginning { OnErr result (AppendsBeginning (W.contents writer.old.inner) (W.contents writer.new.inner)
         (text_of version (book_seen book.now))) }
     ensures marks { is_marked writer.new ≡ is_fault result }

@@ -58,21 +58,21 @@ least_out s friends asked n h no_single out = (inr out, least)
 
 -- ---- two who wait for each other
 
-ring_waits : (xs : List ℕ) (end tx : ℕ) → Contains xs tx → (other : ℕ) × Contains (links_to xs end) (tx, other)
-ring_waits [] end tx h = absurd (none_there tx h)
-ring_waits (x ∷ []) end tx h =
+each_waits : (xs : List ℕ) (end tx : ℕ) → Contains xs tx → (other : ℕ) × Contains (links_to xs end) (tx, other)
+each_waits [] end tx h = absurd (none_there tx h)
+each_waits (x ∷ []) end tx h =
     by_first x tx [] (λ e. (
       end,
       subst (λ z. Contains {X = ℕ × ℕ} ((x, end) ∷ []) (z, end)) (sym e) (first_there (x, end) []),
     ))
     (λ later. absurd (none_there tx later)) h
-ring_waits (x ∷ y ∷ ys) end tx h =
+each_waits (x ∷ y ∷ ys) end tx h =
     by_first x tx (y ∷ ys) (λ e. (
       y,
       subst (λ z. Contains {X = ℕ × ℕ} ((x, y) ∷ links_to (y ∷ ys) end) (z, y)) (sym e)
           (first_there (x, y) (links_to (y ∷ ys) end)),
     ))
-    (λ later. let rest = ring_waits (y ∷ ys) end tx later in
+    (λ later. let rest = each_waits (y ∷ ys) end tx later in
     (rest.0, later_there (x, y) (tx, rest.0) (links_to (y ∷ ys) end) rest.1)) h
 
 abbrev pub each_other : List (ℕ × ℕ)
@@ -84,7 +84,7 @@ at_most_2 tx h = of h.0 h.1 h.2
     of : (members : List ℕ) → Closes each_other members → Contains members tx → tx ≤ 2
     of [] closes there = absurd (none_there tx there)
     of (x ∷ xs) closes there =
-        let waiting = ring_waits (x ∷ xs) x tx there in
+        let waiting = each_waits (x ∷ xs) x tx there in
         at_most tx 2 (each_passes (λ (pair : ℕ × ℕ). nat_le pair.0 2) each_other (tx, waiting.0) refl
         (All-contains (Contains each_other) (links (x ∷ xs)) (tx, waiting.0) closes.linked waiting.1))
 

@@ -91,11 +91,3 @@ joins labels whole old prepared active next_prepared next_active view same first
       active = second ∙ ap (λ (ls : List ℕ). map (in_joined_group ls) active) same
           ∙ ap (λ (run : Run). map (in_joined_group whole) run.active) view;
     }
-
-pub join_same : (labels others : List ℕ) (old new : Run) → labels ≡ others → JoinGroups labels old new
-    → JoinGroups others old new
-join_same labels others old new same joined =
-    record {
-      prepared = joined.prepared ∙ ap (λ (ls : List ℕ). map (in_joined_group ls) old.prepared) same;
-      active = joined.active ∙ ap (λ (ls : List ℕ). map (in_joined_group ls) old.active) same;
-    }

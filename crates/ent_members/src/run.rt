@@ -10,7 +10,6 @@ ghost use Rattle.ent_protocol.specs.Commit.{committing_members, is_ready};
 ghost use Rattle.ent_protocol.specs.Finish.{stepped};
 ghost use Rattle.ent_protocol.specs.Lookup.{member_of, running_members};
 ghost use Rattle.ent_protocol.specs.Member.{active_member, is_prepared};
-ghost use Rattle.ent_protocol.specs.PoolEvents.{answered_groups};
 ghost use Rattle.ent_protocol.specs.Rollback.{group_members, group_numbers};
 ghost use Rattle.ent_protocol.specs.Run.{fresh};
 ghost use Rattle.ent_protocol.specs.State.{Member as Seen, State, by_number, members};
@@ -299,15 +298,6 @@ impl Run {
         ensures { (s : State) → result ≡ is_ready (with_run self.now s) group }
     {
         !any_of(self.active(), group)
-    }
-
-    /// The groups of the members of these numbers become one. It takes no memory.
-    pub fn join_groups(&mut self, numbers: &Members)
-        ensures list { JoinGroups (labels_in numbers.now (self.old.prepared ++ self.old.active)) self.old self.new }
-        ensures answered { (s : State) (asked : List Posted) → numbers.now ≡ map (λ query. query.tx) asked
-            → JoinGroups (answered_groups (with_run self.old s) asked) self.old self.new }
-    {
-        self.join(numbers.as_slice());
     }
 
     fn join(&mut self, numbers: &[Tx])

@@ -154,7 +154,7 @@ impl<'a> Reason<'a> {
         last_status: &LastStatus,
     ) -> fmt::Result {
         match last_status {
-            LastStatus::Free | LastStatus::Committed => write!(f, "nothing stood in its way"),
+            LastStatus::Free | LastStatus::Committed => write!(f, "nothing blocked it"),
             LastStatus::Blocked(holder) => self.put_blocked(f, *holder),
             LastStatus::HeldBack {
                 asker,

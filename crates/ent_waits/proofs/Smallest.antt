@@ -4,7 +4,8 @@ use Rattle.std.proofs.Common.{Option, Some, None, refl, sym, subst, arith}
 use Rattle.std.specs.Prelude.{Contains, min, nat_lt}
 use Rattle.std.proofs.lemmas.Bool.{ltb-true, ltb-false}
 use Rattle.std.proofs.lemmas.List.Elements.{Contains-append_right}
-use Rattle.ent_waits.specs.Least.{LeastIfAny, lesser}
+use Rattle.ent_lock.specs.Holders.{lesser}
+use Rattle.ent_waits.specs.Least.{LeastIfAny}
 
 below_or : (i j : ℕ) → (i < j) ⊎ (j ≤ i)
 below_or i j =

@@ -9,10 +9,10 @@ ghost use Rattle.ent_job.specs.Work.{work_seen};
 ghost use Rattle.ent_waits.specs.Jobs.{HasPostedQuery, HasJobIn, IsWorkOf};
 ghost use Rattle.ent_waits.specs.Least.{LeastIfAny};
 
-use crate::least::lesser;
 use ent_components::is_present;
 use ent_group::Tx;
 use ent_job::{Job, Work};
+use ent_lock::lesser;
 use ent_match::Posted;
 use std::alloc::{AllocError, Global};
 

@@ -15,7 +15,6 @@ mod changers;
 mod cycle_search;
 mod cycles;
 mod jobs;
-mod least;
 mod marks;
 mod movers;
 mod next_uses;

@@ -11,11 +11,11 @@ ghost use Rattle.ent_waits.specs.Waits.{state_with};
 ghost use Rattle.ent_waits.specs.Least.{LeastIfAny};
 ghost use Rattle.ent_waits.specs.Movers.{HasMoverIn, IsMover, IsNotPosting, OnlyPostedAsk};
 
-use crate::least::lesser;
 use crate::readiness::{Readiness, readiness_of};
 use ent_components::post_fault;
 use ent_group::Tx;
 use ent_job::Job;
+use ent_lock::lesser;
 use ent_match::Posted;
 use ent_members::{Member, Run};
 use ent_next::{Next, SubmittedScript, next_of};

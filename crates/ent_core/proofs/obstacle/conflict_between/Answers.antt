@@ -8,12 +8,12 @@ use Rattle.ent_core.specs.contracts.store.Store.{the_view}
 use Rattle.ent_core.proofs.obstacle.conflict_between.Goals as goal
 
 -- what holds of two members, or of none, holds of their numbers
-of_members : (s : State) (asker holder : ℕ) (between : Option Conflict) (asking holding : Option Member)
-    → active_member s asker ≡ asking → member_of s holder ≡ holding → BetweenMembers s between asking holding
+of_members : (s : State) (asker holder : ℕ) (between : Option Conflict) (first second : Option Member)
+    → active_member s asker ≡ first → member_of s holder ≡ second → BetweenMembers s between first second
     → IsBetween s asker holder between
-of_members s asker holder between asking holding one other is =
+of_members s asker holder between first second one other is =
     subst (λ o. BetweenMembers s between o (member_of s holder)) (sym one)
-    (subst (λ o. BetweenMembers s between asking o) (sym other) is)
+    (subst (λ o. BetweenMembers s between first o) (sym other) is)
 
 pub returns-in-Some-member : goal.returns-in-Some-member
 returns-in-Some-member c =
