@@ -32,13 +32,8 @@ none_remains friends h x remains =
     let two = met_in friends x 0 met.0 remains.is_in.0 met.1.0 met.2 in
     not_both _ (each_passes _ friends two.other (each_passes _ friends two.friend h two.asks) two.offers) two.meet
 
-<<<<<<< HEAD
 none_on_cycle : (waiting : List (ℕ × ℕ)) → waiting ≡ [] → (tx : ℕ) → IsOnCycle waiting tx → ⊥
 none_on_cycle waiting e tx h = of h.0 (subst (λ xs. Closes xs h.0) e h.1)
-=======
-no_cycle : (waiting : List (ℕ × ℕ)) → waiting ≡ [] → (tx : ℕ) → IsOnCycle waiting tx → ⊥
-no_cycle waiting e tx h = of h.0 (subst (λ xs. Closes xs h.0) e h.1)
->>>>>>> 8d3aa8424a68e6620db9b6e5dd186123c8363430
   where
     of : (members : List ℕ) → Closes [] members → ⊥
     of [] closes = absurd (let r : 0 < 0 = closes.not_empty in omega arith)
@@ -63,11 +58,7 @@ quiet s friends asked nobody no_single wait waits_is =
       nothing_out = nothing;
       nobody_moves = λ tx can. false_true _ _ (each_passes _ s.active can.member wait can.active) can.waiting;
       all_tried = λ tx untried. no_component untried.asked untried.component;
-<<<<<<< HEAD
       no_deadlock = none_on_cycle (waits s) waits_is;
-=======
-      no_deadlock = no_cycle (waits s) waits_is;
->>>>>>> 8d3aa8424a68e6620db9b6e5dd186123c8363430
     }
   where
     no_component : (others : List Posted) → IsPresentComponent s others → ⊥
