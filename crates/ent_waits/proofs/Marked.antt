@@ -2,7 +2,7 @@
 use Rattle.std.proofs.Common.{◌≡◌, ◌≢◌, inl, inr, ℕ, zero, suc, ◌+◌, ◌<◌, ◌==◌, Bool, true, false, not, ◌&&◌, ◌||◌}
 use Rattle.std.proofs.Common.{if◌then◌else◌, List, [], ◌∷◌, length, map, get_or, set, refl, sym, ap, subst, ◌∙◌}
 use Rattle.std.proofs.Common.{arith, true≢false}
-use Rattle.std.specs.Prelude.{All, Contains, filter, slice_index}
+use Rattle.std.specs.Prelude.{All, Contains, IfSome, Option, None, Some, filter, slice_index}
 use Rattle.std.specs.List.{flat_map, list_any}
 use Rattle.std.proofs.lemmas.List.{get_or_default, get_or-map, get_or-set_other, length-map}
 use Rattle.std.proofs.lemmas.Grind.{get_or-set_at}
@@ -17,8 +17,10 @@ use Rattle.ent_protocol.specs.Member.{next_in}
 use Rattle.ent_protocol.specs.State.{Member, Submitted, Use}
 use Rattle.ent_protocol.specs.Uses.{conflicting, is_conflicting, not_passed}
 use Rattle.ent_protocol.specs.Waits.{is_waiting, next_uses}
-use Rattle.ent_waits.specs.Rows.{HasMarksOf, IsMarkedPair, MarksAll, MarksGroups, MarksOver, StandsAt, goes_with, stops}
+use Rattle.ent_waits.specs.Rows.{HasMarksOf, IsMarkedPair, IsOf, IsRowOf, MarksAll, MarksGroups, MarksOver, StandsAt}
+use Rattle.ent_waits.specs.Rows.{goes_with, is_only, is_passed, stops}
 use Rattle.ent_waits.specs.Waits.{awaits_now, gathered, nothing, pair_if_awaited, pairs_while_waiting, state_with}
+use Rattle.ent_waits.specs.declared.rows.Askers.{Askers}
 use Rattle.ent_waits.proofs.OnCycles.{all_of_flat_map}
 use Rattle.ent_waits.proofs.Stuck.{MarksOneMore, below_or, mark_kept, mark_made}
 
@@ -60,37 +62,37 @@ upto_same members test row at here is fails upto = λ place member below stands 
 
 -- ---- one row, over holders
 
-abbrev pub MarksOverUpto : Bool → List Member → Member → List Use → List Member → ℕ → ℕ → Type 0
-MarksOverUpto of_group active asker asked holders count row =
+abbrev pub MarksOverUpto : Bool → List Member → Askers → List Use → List Member → ℕ → ℕ → Type 0
+MarksOverUpto of_group active askers asked holders count row =
     (place : ℕ) (holder : Member) → place < count → StandsAt holders place holder
-    → stops of_group asker asked holder ≡ true
-    → MarksAll active (λ other. waits_over asker.group other holder) row
+    → stops of_group askers asked holder ≡ true
+    → MarksAll active (λ other. waits_over askers.group other holder) row
 
-pub over_more : (of_group : Bool) (active : List Member) (asker : Member) (asked : List Use) (holders : List Member)
+pub over_more : (of_group : Bool) (active : List Member) (askers : Askers) (asked : List Use) (holders : List Member)
     (row new at : ℕ) (here : Member) → IsElement holders at here → HasMarksOf new row
-    → MarksAll active (λ other. waits_over asker.group other here) new
-    → MarksOverUpto of_group active asker asked holders at row
-    → MarksOverUpto of_group active asker asked holders (at + 1) new
-over_more of_group active asker asked holders row new at here is kept marks upto =
+    → MarksAll active (λ other. waits_over askers.group other here) new
+    → MarksOverUpto of_group active askers asked holders at row
+    → MarksOverUpto of_group active askers asked holders (at + 1) new
+over_more of_group active askers asked holders row new at here is kept marks upto =
     λ place holder below stands own. elim (below_or place at) [
       | inl before ↦ λ k other at_k waits. kept k (upto place holder before stands own k other at_k waits)
       | inr past ↦
           let same : place ≡ at = omega arith in
-          subst (λ (h : Member). MarksAll active (λ other. waits_over asker.group other h) new)
+          subst (λ (h : Member). MarksAll active (λ other. waits_over askers.group other h) new)
           (element_is holders at place here holder is same stands) marks
     ]
 
-pub over_same : (of_group : Bool) (active : List Member) (asker : Member) (asked : List Use) (holders : List Member)
-    (row at : ℕ) (here : Member) → IsElement holders at here → stops of_group asker asked here ≡ false
-    → MarksOverUpto of_group active asker asked holders at row
-    → MarksOverUpto of_group active asker asked holders (at + 1) row
-over_same of_group active asker asked holders row at here is free upto =
+pub over_same : (of_group : Bool) (active : List Member) (askers : Askers) (asked : List Use) (holders : List Member)
+    (row at : ℕ) (here : Member) → IsElement holders at here → stops of_group askers asked here ≡ false
+    → MarksOverUpto of_group active askers asked holders at row
+    → MarksOverUpto of_group active askers asked holders (at + 1) row
+over_same of_group active askers asked holders row at here is free upto =
     λ place holder below stands own. elim (below_or place at) [
       | inl before ↦ upto place holder before stands own
       | inr past ↦
           let same : place ≡ at = omega arith in
           absurd (true≢false (sym own
-          ∙ ap (stops of_group asker asked) (sym (element_is holders at place here holder is same stands)) ∙ free))
+          ∙ ap (stops of_group askers asked) (sym (element_is holders at place here holder is same stands)) ∙ free))
     ]
 
 -- ---- one row, over holders and those who go with them, whoever asks
@@ -177,33 +179,51 @@ second_of_both true b is = is
 second_of_both false b is = absurd (true≢false (sym is))
 
 -- who is awaited over a holder goes with it
-pub over_from_groups : (of_group : Bool) (active : List Member) (asker : Member) (asked : List Use)
+pub over_from_groups : (of_group : Bool) (active : List Member) (askers : Askers) (asked : List Use)
     (holders : List Member) (row : ℕ) → MarksGroups active asked holders row
-    → MarksOver of_group active asker asked holders row
-over_from_groups of_group active asker asked holders row marks = λ place holder stands own k other at_k waits.
-    let passed = if of_group then holder.group == asker.group else (holder.tx == asker.tx) in
+    → MarksOver of_group active askers asked holders row
+over_from_groups of_group active askers asked holders row marks = λ place holder stands own k other at_k waits.
+    let passed = is_passed of_group askers holder in
     marks place holder stands (second_of_both (not passed) (is_conflicting asked holder) own) k other at_k
-    (goes_if (holder.group == asker.group) (other.group == holder.group) (holder.tx == other.tx) waits)
+    (goes_if (holder.group == askers.group) (other.group == holder.group) (holder.tx == other.tx) waits)
 
-pub row_marks : (run : Run) (asker : Member) (asked : List Use) (first row : ℕ)
-    → MarksOver true run.active asker asked run.prepared first → HasMarksOf row first
-    → MarksOver false run.active asker asked run.active row
-    → MarksAll run.active (is_awaited (with_run run nothing) asker asked) row
-row_marks run asker asked first row of_groups kept of_others = λ place other stands waits.
+-- one who isn't the asker isn't the only one of those who ask
+not_only : (only : Option ℕ) (asker holder : Member) → IfSome only (λ tx. tx ≡ asker.tx)
+    → not (holder.tx == asker.tx) ≡ true → not (is_only only holder) ≡ true
+not_only None asker holder is other = refl
+not_only (Some tx) asker holder is other = ap (λ (own : ℕ). not (holder.tx == own)) is ∙ other
+
+-- one member alone
+abbrev pub alone : Member → Askers
+alone asker = record { group = asker.group; only = Some asker.tx }
+
+pub is_alone : (asker : Member) → IsOf (alone asker) asker
+is_alone asker = (refl, refl)
+
+pub row_marks : (run : Run) (askers : Askers) (asked : List Use) (first row : ℕ)
+    → MarksOver true run.active askers asked run.prepared first → HasMarksOf row first
+    → MarksOver false run.active askers asked run.active row → IsRowOf run askers asked row
+row_marks run askers asked first row of_groups kept of_others = λ asker (same, only) place other stands waits.
     let other_group : Member → Bool = λ (h : Member). not (h.group == asker.group) in
     let other_tx : Member → Bool = λ (h : Member). not (h.tx == asker.tx) in
     let found = some_of (waits_over asker.group other) (conflicting (with_run run nothing) asker asked) waits in
     let holder = found.0 in
     let way = out_of_filter (is_conflicting asked) (not_passed (with_run run nothing) asker) holder found.1 in
+    let over : waits_over askers.group other holder ≡ true =
+    ap (λ (group : ℕ). waits_over group other holder) same ∙ found.2 in
     elim (Contains-append_cases (filter other_group run.prepared) (filter other_tx run.active) holder way.0) [
       | inl early ↦
           let at = out_of_filter other_group run.prepared holder early in
+          let foreign : not (holder.group == askers.group) ≡ true =
+          ap (λ (group : ℕ). not (holder.group == group)) same ∙ at.1 in
           kept place (of_groups at.0.0 holder (at.0.1, at.0.2)
-          (both (not (holder.group == asker.group)) (is_conflicting asked holder) at.1 way.1) place other stands found.2)
+          (both (not (holder.group == askers.group)) (is_conflicting asked holder) foreign way.1)
+          place other stands over)
       | inr late ↦
           let at = out_of_filter other_tx run.active holder late in
           of_others at.0.0 holder (at.0.1, at.0.2)
-          (both (not (holder.tx == asker.tx)) (is_conflicting asked holder) at.1 way.1) place other stands found.2
+          (both (not (is_only askers.only holder)) (is_conflicting asked holder)
+          (not_only askers.only asker holder only at.1) way.1) place other stands over
     ]
 
 -- ---- while it waits

@@ -3,19 +3,29 @@ ghost use Rattle.std.specs.Prelude.{◌≡◌, ◌≤◌, ◌<◌, [], ◌∷◌
 ghost use Rattle.ent_members.specs.Run.{with_run};
 ghost use Rattle.ent_members.specs.Waits.{is_awaited};
 ghost use Rattle.ent_protocol.specs.Uses.{exclusive};
-ghost use Rattle.ent_waits.specs.Rows.{HasMarksOf, IsOfChangers, IsRowOfAny, MarksAll, MarksGroups, goes_with};
+ghost use Rattle.ent_waits.specs.Rows.{HasMarksOf, IsOfChangers, IsOfGroup, IsRowOfAny, MarksAll, MarksGroups};
+ghost use Rattle.ent_waits.specs.Rows.{goes_with};
 ghost use Rattle.ent_waits.specs.Waits.{nothing};
 
 use crate::marks::share_mark;
-use crate::rows::row_of;
-use ent_group::{MOST_MEMBERS, Row, with_mark};
+use crate::rows::{Askers, row_of, row_of_askers};
+use ent_group::{MOST_MEMBERS, Row, Tx, with_mark};
 use ent_members::{Member, Run, Use, is_conflicting};
 
 /// A table, and the row of whoever changes it: marks at those for whom any such member waits, and maybe at others of
-/// their groups.
+/// their groups. Beside it, if it was asked for, the row of those of one group who change the table.
 #[derive(Clone, Copy)]
 pub(crate) struct ChangersRow {
     table: usize,
+    row: Row,
+    of_group: Option<GroupRow>,
+}
+
+/// A group, and the row of whoever of it changes a table: marks at those for whom any such member waits, and at those
+/// of the group who hold a use of the table themselves.
+#[derive(Clone, Copy)]
+struct GroupRow {
+    group: Tx,
     row: Row,
 }
 
@@ -67,18 +77,56 @@ fn row_of_any(run: &Run, asked: &[Use]) -> Row
 }
 
 /// The row of whoever changes a table, which may be known.
-fn common_row(run: &Run, table: usize, known: Option<ChangersRow>) -> Row
+fn common_row(run: &Run, table: usize, known: Option<ChangersRow>) -> ChangersRow
     requires { IfSome known (IsOfChangers run.now) }
-    ensures { IsRowOfAny run.now (exclusive table ∷ []) result }
+    ensures table { result.table ≡ table }
+    ensures row { IsOfChangers run.now result }
 {
     match known {
-        Some(common) if common.table == table => common.row,
-        _ => row_of_any(run, &[Use::exclusive(table)]),
+        Some(common) if common.table == table => common,
+        _ => ChangersRow {
+            table,
+            row: row_of_any(run, &[Use::exclusive(table)]),
+            of_group: None,
+        },
+    }
+}
+
+/// The row of whoever of a group changes a table, which may be known.
+fn group_row(run: &Run, table: usize, group: Tx, known: Option<GroupRow>) -> GroupRow
+    requires { IfSome known (IsOfGroup run.now table) }
+    ensures group { result.group ≡ group }
+    ensures row { IsOfGroup run.now table result }
+{
+    match known {
+        Some(own) if own.group == group => own,
+        _ => GroupRow {
+            group,
+            row: row_of_askers(run, Askers { group, only: None }, &[Use::exclusive(table)]),
+        },
+    }
+}
+
+/// The row of a member that changes a table, where some of its own group hold the table. The row that it has in common
+/// with its group is its own, but where it is marked itself: then it holds the table too, and has a row for itself.
+fn row_in_group(run: &Run, asker: &Member, place: usize, common: &mut ChangersRow) -> Row
+    requires place { place < MOST_MEMBERS }
+    requires known { IsOfChangers run.now common.old }
+    ensures row { MarksAll run.now.active
+        (is_awaited (with_run run.now nothing) asker.now (exclusive common.old.table ∷ [])) result }
+    ensures known { IsOfChangers run.now common.new }
+{
+    let own = group_row(run, common.table, asker.group(), common.of_group);
+    common.of_group = Some(own);
+    if share_mark(own.row, with_mark(0, place)) {
+        row_of(run, asker, &[Use::exclusive(common.table)])
+    } else {
+        own.row
     }
 }
 
 /// The row of a member that changes a table. The row that it has in common with others is its own, but where it is
-/// marked itself: then some of its own group block it, and they are looked at one by one.
+/// marked itself: then some of its own group hold the table.
 pub(crate) fn row_of_changer(
     run: &Run,
     asker: &Member,
@@ -92,11 +140,12 @@ pub(crate) fn row_of_changer(
         (is_awaited (with_run run.now nothing) asker.now (exclusive table ∷ [])) result }
     ensures known { IfSome known.new (IsOfChangers run.now) }
 {
-    let row = common_row(run, table, *known);
-    *known = Some(ChangersRow { table, row });
-    if share_mark(row, with_mark(0, place)) {
-        row_of(run, asker, &[Use::exclusive(table)])
+    let mut common = common_row(run, table, *known);
+    let row = if share_mark(common.row, with_mark(0, place)) {
+        row_in_group(run, asker, place, &mut common)
     } else {
-        row
-    }
+        common.row
+    };
+    *known = Some(common);
+    row
 }

@@ -4,7 +4,8 @@ ghost use Rattle.ent_members.specs.Run.{with_run};
 ghost use Rattle.ent_members.specs.Waits.{is_awaited, waits_over};
 ghost use Rattle.ent_protocol.specs.State.{Member as Seen};
 ghost use Rattle.ent_protocol.specs.Uses.{statement_uses};
-ghost use Rattle.ent_waits.specs.Rows.{HasMarksOf, IsOfChangers, MarksAll, MarksOver, StandsAt, stops};
+ghost use Rattle.ent_waits.specs.Rows.{HasMarksOf, IsOfChangers, IsRowOf, MarksAll, MarksOver, StandsAt};
+ghost use Rattle.ent_waits.specs.Rows.{is_passed, stops};
 ghost use Rattle.ent_waits.specs.Waits.{awaits_now, nothing};
 
 use crate::changers::{ChangersRow, row_of_changer};
@@ -15,16 +16,31 @@ use ent_job::Job;
 use ent_members::{Member, Run, Use, exclusive_table, is_conflicting, statement_uses, waits_over};
 use ent_next::{SubmittedScript, next_form};
 
-/// Whether a member blocks one that asks for uses and doesn't pass it.
-fn stops(of_group: bool, asker: &Member, asked: &[Use], holder: &Member) -> bool
-    ensures { result ≡ stops of_group asker.now asked.now holder.now }
+/// Those of a group who ask for uses: whoever of it does, or one member only.
+#[derive(Clone, Copy)]
+pub(crate) struct Askers {
+    pub(crate) group: Tx,
+    pub(crate) only: Option<Tx>,
+}
+
+/// Whether those who ask pass a member: it is of their group, or the only one of them.
+fn is_passed(of_group: bool, askers: Askers, holder: &Member) -> bool
+    ensures { result ≡ is_passed of_group askers holder.now }
 {
-    let passed = if of_group {
-        holder.group() == asker.group()
-    } else {
-        holder.tx() == asker.tx()
-    };
-    !passed && is_conflicting(asked, holder)
+    if of_group {
+        return holder.group() == askers.group;
+    }
+    match askers.only {
+        Some(tx) => holder.tx() == tx,
+        None => false,
+    }
+}
+
+/// Whether a member blocks those who ask for uses, and they don't pass it.
+fn stops(of_group: bool, askers: Askers, asked: &[Use], holder: &Member) -> bool
+    ensures { result ≡ stops of_group askers asked.now holder.now }
+{
+    !is_passed(of_group, askers, holder) && is_conflicting(asked, holder)
 }
 
 /// A row with marks too at those for whom a member of a group waits, with one member blocking it.
@@ -42,36 +58,45 @@ fn mark_awaited(row: Row, active: &[Member], group: Tx, holder: &Member) -> Row
     marked
 }
 
-/// A row with marks too at those for whom a member waits while some of a list are blocking it.
+/// A row with marks too at those for whom others wait while some of a list are blocking them.
 fn mark_over(
     row: Row,
     active: &[Member],
     holders: &[Member],
     of_group: bool,
-    asker: &Member,
+    askers: Askers,
     asked: &[Use],
 ) -> Row
     requires { length active.now ≤ MOST_MEMBERS }
     ensures kept { HasMarksOf result row }
-    ensures marked { MarksOver of_group active.now asker.now asked.now holders.now result }
+    ensures marked { MarksOver of_group active.now askers asked.now holders.now result }
 {
     let mut marked = row;
     for holder in holders {
-        if stops(of_group, asker, asked, holder) {
-            marked = mark_awaited(marked, active, asker.group(), holder);
+        if stops(of_group, askers, asked, holder) {
+            marked = mark_awaited(marked, active, askers.group, holder);
         }
     }
     marked
+}
+
+/// The row of those who ask for uses: marks at those for whom they wait.
+pub(crate) fn row_of_askers(run: &Run, askers: Askers, asked: &[Use]) -> Row
+    ensures { IsRowOf run.now askers asked.now result }
+{
+    let _most = run.len();
+    let active = run.active();
+    let row = mark_over(0, active, run.prepared(), true, askers, asked);
+    mark_over(row, active, active, false, askers, asked)
 }
 
 /// The row of a member that asks for uses: marks at those for whom it waits.
 pub(crate) fn row_of(run: &Run, asker: &Member, asked: &[Use]) -> Row
     ensures { MarksAll run.now.active (is_awaited (with_run run.now nothing) asker.now asked.now) result }
 {
-    let _most = run.len();
-    let active = run.active();
-    let row = mark_over(0, active, run.prepared(), true, asker, asked);
-    mark_over(row, active, active, false, asker, asked)
+    let group = asker.group();
+    let only = Some(asker.tx());
+    row_of_askers(run, Askers { group, only }, asked)
 }
 
 /// The row of a member that asks for the uses of a statement, which are put together.

@@ -1,8 +1,6 @@
 use Rattle.std.proofs.Common.{ℕ, ◌+◌, sym, subst, ◌∙◌, arith}
 use Rattle.std.proofs.lemmas.List.{get_or_default}
-use Rattle.ent_members.specs.Waits.{waits_over}
-use Rattle.ent_protocol.specs.State.{Member}
-use Rattle.ent_waits.specs.Rows.{HasMarksOf, MarksAll}
+use Rattle.ent_waits.specs.Rows.{HasMarksOf}
 use Rattle.ent_waits.proofs.Marked.{IsElement, MarksOverUpto, over_more, over_same}
 use Rattle.ent_waits.proofs.rows.mark_over.Goals.{then-stops, else-stops}
 use Rattle.ent_waits.proofs.rows.mark_over.Goals as goal
@@ -17,7 +15,7 @@ pub loop-holder-preserved : goal.loop-holder-preserved
 loop-holder-preserved c =
     let of_group = c.args.of_group in
     let active = c.args.active.now in
-    let asker = c.args.asker.now in
+    let askers = c.args.askers in
     let asked = c.args.asked.now in
     let holders = c.args.holders.now in
     let at = c.loop-holder.holder-index in
@@ -30,17 +28,14 @@ loop-holder-preserved c =
       | then-stops w ↦ record {
         kept = subst (λ (new : ℕ). HasMarksOf new old) (sym w.marked-is)
             (λ place own. w.mark_awaited-marked.ensures.kept place (c.loop-holder.invariant.kept place own));
-        upto = subst (λ (new : ℕ). MarksOverUpto of_group active asker asked holders (at + 1) new) (sym w.marked-is)
-            (over_more of_group active asker asked holders row w.mark_awaited-marked.result at here element
-            w.mark_awaited-marked.ensures.kept
-            (subst (λ (group : ℕ). MarksAll active (λ (other : Member). waits_over group other here)
-            w.mark_awaited-marked.result) w.group.ensures w.mark_awaited-marked.ensures.marked)
-            c.loop-holder.invariant.upto);
+        upto = subst (λ (new : ℕ). MarksOverUpto of_group active askers asked holders (at + 1) new) (sym w.marked-is)
+            (over_more of_group active askers asked holders row w.mark_awaited-marked.result at here element
+            w.mark_awaited-marked.ensures.kept w.mark_awaited-marked.ensures.marked c.loop-holder.invariant.upto);
       }
       | else-stops w ↦ record {
         kept = subst (λ (new : ℕ). HasMarksOf new old) (sym w.marked-is) c.loop-holder.invariant.kept;
-        upto = subst (λ (new : ℕ). MarksOverUpto of_group active asker asked holders (at + 1) new) (sym w.marked-is)
-            (over_same of_group active asker asked holders row at here element
+        upto = subst (λ (new : ℕ). MarksOverUpto of_group active askers asked holders (at + 1) new) (sym w.marked-is)
+            (over_same of_group active askers asked holders row at here element
             (sym c.stops.ensures ∙ w.if-stops.false) c.loop-holder.invariant.upto);
       }
     ]
