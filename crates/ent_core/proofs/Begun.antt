@@ -23,7 +23,7 @@ use Rattle.ent_protocol.specs.Member.{is_tx}
 use Rattle.ent_protocol.specs.Member.{next_of}
 use Rattle.ent_protocol.specs.Rollback.{Asked, group_numbers, rolled_back}
 use Rattle.ent_protocol.specs.State.{State, Dormant, Member, first_of}
-use Rattle.ent_protocol.specs.Uses.{blocker, entangled_uses, is_conflicting, not_passed, statement_uses}
+use Rattle.ent_protocol.specs.Uses.{blocker, entangled_uses, statement_uses}
 use Rattle.ent_protocol.specs.Waits.{next_uses}
 use Rattle.ent_tree.specs.declared.declaration.Opening.{Opening}
 use Rattle.ent_members.specs.Run.{Run}
@@ -32,6 +32,7 @@ use Rattle.ent_transaction_table.specs.TransactionTable.{TransactionTable}
 use Rattle.ent_pool_laws.specs.Pooled.{IsPoolOf}
 use Rattle.ent_core.specs.Store.{IsKept}
 use Rattle.ent_tables.specs.Stored.{Stored}
+use Rattle.ent_waits.proofs.Moving.{free_at_end}
 use Rattle.ent_core.specs.Reply.{reply_seen}
 use Rattle.ent_core.specs.declared.reply.Reply.{Reply as Given}
 use Rattle.ent_lists.specs.Elements.{contains_in, index_pairs}
@@ -110,16 +111,6 @@ pub idle_at_turn : (s : State) (tx : ℕ) (member : Member) (next : Next) → St
 idle_at_turn s tx member next stand may =
     one_idle s tx member stand (member_found tx s.active member may.there) (number_found tx s.active member may.there)
     (or_first member.posted (is_lent s tx) may.free)
-
--- ---- who asks for nothing
-
-none_conflicting : (xs : List Member) → filter (is_conflicting []) xs ≡ []
-none_conflicting [] = refl
-none_conflicting (x ∷ xs) = none_conflicting xs
-
--- nobody blocks it
-pub free_at_end : (s : State) (member : Member) → blocker s member [] ≡ None
-free_at_end s member = rw (none_conflicting (not_passed s member)) refl
 
 -- ---- where nothing is begun
 

@@ -28,7 +28,7 @@ use ent_headline::{begun_statements_are_work, used_tables_are_declared};
 use ent_job::{Job, Single, Work};
 use ent_match::{PostFault, Posted, same_statements_are_alike};
 use ent_members::{Member, Uses, entangled_uses, statement_uses};
-use ent_next::{Next, next_form, next_of};
+use ent_next::{Next, next_of};
 use ent_protocol_laws::{
     attempts_stay_within, members_stand_by_number, transactions_are_counted,
     transactions_stand_once,
@@ -110,10 +110,7 @@ pub(crate) fn query_of(member: &Member, statement: Arc<Entangled<Value>>) -> Pos
 fn blocker_of(store: &Store, member: &Member) -> Option<Tx>
     ensures { result ≡ blocker store.now member.now (next_uses (next_of store.now member.now)) }
 {
-    match next_form(store.submitted.as_slice(), member) {
-        Some(form) => store.run.statement_blocker(member, form),
-        None => None,
-    }
+    ent_waits::blocker_of(&store.run, store.submitted.as_slice(), member)
 }
 
 /// The member of a number, where it is at its turn.

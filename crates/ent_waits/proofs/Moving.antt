@@ -17,7 +17,7 @@ none_conflicting : (xs : List Member) → filter (is_conflicting []) xs ≡ []
 none_conflicting [] = refl
 none_conflicting (x ∷ xs) = none_conflicting xs
 
-free_at_end : (s : State) (member : Member) → blocker s member [] ≡ None
+pub free_at_end : (s : State) (member : Member) → blocker s member [] ≡ None
 free_at_end s member = rw (none_conflicting (not_passed s member)) refl
 
 -- ---- posted, or with a job out

@@ -27,6 +27,6 @@ mod waiting;
 
 pub use cycles::deadlock;
 pub use jobs::job_out;
-pub use readiness::{Readiness, readiness_of};
+pub use readiness::{Readiness, blocker_of, readiness_of};
 pub use reason::{Reason, reason_of};
 pub use victim::{Victim, victim_of};

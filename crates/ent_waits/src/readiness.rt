@@ -9,7 +9,6 @@ ghost use Rattle.ent_members.specs.Run.{with_run};
 ghost use Rattle.ent_waits.specs.Readiness.{IsReadiness, is_posting};
 ghost use Rattle.ent_waits.specs.Waits.{state_with};
 
-use crate::next_uses::next_uses;
 use crate::waiting::is_waiting;
 use ent_closed::Statement;
 use ent_group::Tx;
@@ -50,12 +49,15 @@ pub fn readiness_of(
     }
 }
 
-/// The least member that blocks a member's next statement.
-fn blocker_of(run: &Run, submitted: &[SubmittedScript], member: &Member) -> Option<Tx>
+/// The least member that blocks what a member does next. It takes no memory.
+pub fn blocker_of(run: &Run, submitted: &[SubmittedScript], member: &Member) -> Option<Tx>
     ensures { (s : State) → result ≡ blocker (with_run run.now s) member.now
         (next_uses (next_in (numbered submitted.now member.now.tx) member.now)) }
 {
-    run.blocker(member, next_uses(submitted, member).as_slice())
+    match next_form(submitted, member) {
+        Some(form) => run.statement_blocker(member, form),
+        None => None,
+    }
 }
 
 /// Whether a member's next statement is an entangled one.
