@@ -1,8 +1,8 @@
 -- Those who leave stand apart from those who wait, and from those who are finished, whoever of them left before.
 use Rattle.std.proofs.Common.{◌≡◌, ◌==◌, ◌||◌, ℕ, false, List, [], ◌∷◌, ◌++◌, map, refl, sym, ap, subst, ◌∙◌, arith}
-use Rattle.std.proofs.Common.{Option, Some, None, nat_eq}
+use Rattle.std.proofs.Common.{Option, Some, None, nat_eq, reverse}
 use Rattle.std.specs.List.{AllByRecursion, IsDistinct, cons_option, list_any}
-use Rattle.std.proofs.lemmas.List.{append-nil, map-append}
+use Rattle.std.proofs.lemmas.List.{append-nil, map-append, reverse-append}
 use Rattle.ent_semantics.specs.declared.book.Fate.{Fate}
 use Rattle.ent_semantics.specs.declared.book.Fated.{Fated}
 use Rattle.ent_protocol.specs.Rollback.{Cause, dormant_by, fate_of, fated_by}
@@ -21,6 +21,19 @@ unfolding IsDistinct
 distinct_but [] ys y distinct = distinct.1
 distinct_but (x ∷ xs) ys y distinct =
     (all_but (λ n. nat_eq x n ≡ false) xs ys y distinct.0, distinct_but xs ys y distinct.1)
+
+apart_from : (xs ys : List ℕ) (y : ℕ) → IsDistinct nat_eq (xs ++ y ∷ ys)
+    → AllByRecursion (λ n. nat_eq y n ≡ false) (xs ++ ys)
+unfolding IsDistinct
+apart_from [] ys y distinct = distinct.0
+apart_from (x ∷ xs) ys y distinct =
+    let apart : nat_eq x y ≡ false = one_of (λ n. nat_eq x n ≡ false) xs ys y distinct.0 in
+    (grind (arith, apart), apart_from xs ys y distinct.1)
+
+-- a number among others that are distinct from it may as well be the first
+first_distinct : (xs ys : List ℕ) (y : ℕ) → IsDistinct nat_eq (xs ++ y ∷ ys) → IsDistinct nat_eq (y ∷ (xs ++ ys))
+unfolding IsDistinct
+first_distinct xs ys y distinct = (apart_from xs ys y distinct, distinct_but xs ys y distinct)
 
 -- a number behind others that are distinct from it isn't among them
 pub not_before : (xs ys : List ℕ) (y : ℕ) → IsDistinct nat_eq (xs ++ y ∷ ys) → list_any (λ n. n == y) xs ≡ false
@@ -41,6 +54,13 @@ module _ {A : Type 0} where
   each_behind xs None ys = ap (λ (all : List A). all ++ ys) (append-nil xs)
   each_behind xs (Some x) ys = joined xs (x ∷ []) ys
 
+  -- one after the other goes to the front
+  pub each_before : (xs : List A) (o : Option A) (ys : List A)
+      → reverse ys ++ (cons_option o [] ++ xs) ≡ reverse (cons_option o ys) ++ xs
+  each_before xs None ys = refl
+  each_before xs (Some x) ys =
+      sym (joined (reverse ys) (x ∷ []) xs) ∙ ap (λ (all : List A). all ++ xs) (sym (reverse-append (x ∷ []) ys))
+
   -- where one of this number, or none, went to the end, the others stand apart still
   apart_after : (number : A → ℕ) (xs : List A) (o : Option A) (n : ℕ) (rest : List ℕ)
       → ((x : A) → o ≡ Some x → number x ≡ n) → IsDistinct nat_eq (map number xs ++ n ∷ rest)
@@ -57,6 +77,15 @@ module _ {A : Type 0} where
       joined_numbers : (ns : List ℕ) (m : ℕ) (more : List ℕ) → (ns ++ m ∷ []) ++ more ≡ ns ++ m ∷ more
       joined_numbers [] m more = refl
       joined_numbers (k ∷ ns) m more = ap (λ (all : List ℕ). k ∷ all) (joined_numbers ns m more)
+
+  -- where it went to the front
+  apart_before : (number : A → ℕ) (xs : List A) (o : Option A) (n : ℕ) (rest : List ℕ)
+      → ((x : A) → o ≡ Some x → number x ≡ n) → IsDistinct nat_eq (map number xs ++ n ∷ rest)
+      → IsDistinct nat_eq (map number (cons_option o [] ++ xs) ++ rest)
+  apart_before number xs None n rest own distinct = distinct_but (map number xs) rest n distinct
+  apart_before number xs (Some x) n rest own distinct =
+      subst (λ (m : ℕ). IsDistinct nat_eq (m ∷ (map number xs ++ rest))) (sym (own x refl))
+      (first_distinct (map number xs) rest n distinct)
 
 waiting_number : (submitted : List Submitted) (cause : Cause) (m : Member) (own : Dormant)
     → dormant_by submitted cause m ≡ Some own → own.tx ≡ m.tx
@@ -80,9 +109,9 @@ finished_number submitted cause m fated is = by (fate_of submitted cause m) refl
 
 pub awake_after : (submitted : List Submitted) (cause : Cause) (m : Member) (dormant : List Dormant) (rest : List ℕ)
     → IsDistinct nat_eq (map (λ own. own.tx) dormant ++ m.tx ∷ rest)
-    → IsDistinct nat_eq (map (λ own. own.tx) (dormant ++ cons_option (dormant_by submitted cause m) []) ++ rest)
+    → IsDistinct nat_eq (map (λ own. own.tx) (cons_option (dormant_by submitted cause m) [] ++ dormant) ++ rest)
 awake_after submitted cause m dormant rest =
-    apart_after (λ (own : Dormant). own.tx) dormant (dormant_by submitted cause m) m.tx rest
+    apart_before (λ (own : Dormant). own.tx) dormant (dormant_by submitted cause m) m.tx rest
     (waiting_number submitted cause m)
 
 pub unfinished_after : (submitted : List Submitted) (cause : Cause) (m : Member) (fates : List Fated) (rest : List ℕ)

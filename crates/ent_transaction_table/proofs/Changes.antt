@@ -1,14 +1,14 @@
 -- What a change under one number leaves of the others.
 use Rattle.std.proofs.Common.{◌≡◌, ◌≢◌, ℕ, ◌+◌, ◌-◌, ◌<◌, ◌≤◌, ◌==◌, Bool, true, false, cond, ◌||◌, List, [], ◌∷◌, ◌++◌}
-use Rattle.std.proofs.Common.{length, map, drop, remove, slice_get, position, get_or, Option, None, Some, IsSome}
-use Rattle.std.proofs.Common.{is_some, refl, sym, ap, ◌∙◌, inl, inr, arith}
-use Rattle.std.proofs.lemmas.List.{drop-map, map-append, drop-append-le, length-drop, length-map}
+use Rattle.std.proofs.Common.{length, map, drop, reverse, slice_get, swap, take, position, get_or, Option, None, Some}
+use Rattle.std.proofs.Common.{IsSome, is_some, refl, sym, ap, ◌∙◌, inl, inr, arith}
+use Rattle.std.proofs.lemmas.List.{drop-map, map-append, drop-append-le, length-drop, length-map, take-map}
 use Rattle.std.proofs.lemmas.List.Quantifiers.{position-Some}
 use Rattle.std.proofs.lemmas.Option.{slice_get-get_or, slice_get-map}
 use Rattle.std.specs.Option.{option_map}
 use Rattle.std.specs.Map.{keys_of, values_of, lookup}
-use Rattle.indexmap.specs.IndexMap.{move_index}
 use Rattle.indexmap.proofs.MapLemmas.{Found-position}
+use Rattle.indexmap.proofs.ReorderLemmas.{map-reverse}
 use Rattle.std.specs.Prelude.{nat_eq}
 use Rattle.std.specs.List.{list_any}
 use Rattle.std.proofs.lemmas.Bool.{cases_eq}
@@ -17,8 +17,9 @@ use Rattle.slab.specs.Slab.{Slab, ContainsKey, Updates, get as value_at, slab_le
 use Rattle.slab.proofs.SlabLemmas.{ContainsKey-within}
 use Rattle.indexmap.specs.IndexMap.{IndexMap, keys, get, Updates as Puts}
 use Rattle.ent_protocol.specs.State.{Dormant}
+use Rattle.ent_transaction_table.specs.Order.{first_behind}
 use Rattle.ent_transaction_table.specs.TransactionTable.{Stand, entrant_of, runs_at, runs_of, waiting, is_dormant}
-use Rattle.ent_transaction_table.proofs.Lists.{map_agree, list_any-map, drop-move, drop-remove, before, none_behind}
+use Rattle.ent_transaction_table.proofs.Lists.{map_agree, list_any-map, drop-swap, before, none_behind}
 
 -- what is written over something leaves as many there
 pub slab_len-with_value : (s : Slab Dormant) (key : ℕ) (own : Dormant) → ContainsKey s key
@@ -150,41 +151,48 @@ module _ {S : Type 0} (live : Slab Dormant) (order : IndexMap ℕ ℕ S) (r tx a
 
   module _ (new : Slab Dormant) (after : IndexMap ℕ ℕ S) (members : r ≤ length order.entries)
       (stand : Stand live order) where
-    -- it goes to the end
-    pub waiting_back : (runs : ℕ) → Updates live new key (Some (record { tx = tx; runs = runs }))
+    -- it is the first that waits
+    pub waiting_first : (runs : ℕ) → Updates live new key (Some (record { tx = tx; runs = runs }))
         → ((k : ℕ) → get nat_eq after k ≡ get nat_eq order k)
-        → after.entries ≡ move_index order.entries at (length order.entries - 1)
-        → waiting new after (r - 1) ≡ waiting live order r ++ record { tx = tx; runs = runs } ∷ []
-    waiting_back runs update same moved =
+        → after.entries ≡ swap order.entries at (r - 1)
+        → waiting new after (r - 1) ≡ record { tx = tx; runs = runs } ∷ waiting live order r
+    waiting_first runs update same moved =
         let f = entrant_of new after in
-        let tail : drop (r - 1) (keys after) ≡ drop r (keys order) ++ tx ∷ [] =
+        let tail : drop (r - 1) (keys after) ≡ tx ∷ drop r (keys order) =
         ap (λ (es : List (ℕ × ℕ)). drop (r - 1) (keys_of es)) moved
-        ∙ drop-map (λ (e : ℕ × ℕ). e.0) (r - 1) (move_index order.entries at (length order.entries - 1))
-        ∙ ap keys_of (drop-move order.entries at r (tx, key) entry_at in_front members)
-        ∙ map-append (λ (e : ℕ × ℕ). e.0) (drop r order.entries) ((tx, key) ∷ [])
-        ∙ ap (λ (l : List ℕ). l ++ tx ∷ []) (sym (drop-map (λ (e : ℕ × ℕ). e.0) r order.entries)) in
+        ∙ drop-map (λ (e : ℕ × ℕ). e.0) (r - 1) (swap order.entries at (r - 1))
+        ∙ ap keys_of (drop-swap order.entries at r (tx, key) entry_at in_front members)
+        ∙ ap (λ (l : List ℕ). tx ∷ l) (sym (drop-map (λ (e : ℕ × ℕ). e.0) r order.entries)) in
         let own : f tx ≡ record { tx = tx; runs = runs } =
         ap (λ (n : ℕ). record { tx = tx; runs = n })
         (ap (runs_at new) (same tx ∙ key_here) ∙ ap runs_of update.changed) in
         let rest : map f (drop r (keys order)) ≡ waiting live order r =
         waiting_same live new order after tx key (Some (record { tx = tx; runs = runs })) stand update (λ k ne. same k)
         (keys_apart live order stand tx key key_here) r away in
-        ap (map f) tail ∙ map-append f (drop r (keys order)) (tx ∷ []) ∙ (λ i. rest i ++ own i ∷ [])
+        ap (map f) tail ∙ (λ i. own i ∷ rest i)
 
-    -- it is taken out
-    pub waiting_done : Updates live new key None
-        → ((k : ℕ) → k ≢ tx → get nat_eq after k ≡ get nat_eq order k)
-        → after.entries ≡ remove order.entries at
-        → waiting new after (r - 1) ≡ waiting live order r
-    waiting_done update same moved =
-        let f = entrant_of new after in
-        let tail : drop (r - 1) (keys after) ≡ drop r (keys order) =
-        ap (λ (es : List (ℕ × ℕ)). drop (r - 1) (keys_of es)) moved
-        ∙ drop-map (λ (e : ℕ × ℕ). e.0) (r - 1) (remove order.entries at)
-        ∙ ap keys_of (drop-remove order.entries at r in_front members)
-        ∙ sym (drop-map (λ (e : ℕ × ℕ). e.0) r order.entries) in
-        ap (map f) tail
-        ∙ waiting_same live new order after tx key None stand update same (keys_apart live order stand tx key key_here) r away
+map_behind : {X Y : Type 0} (f : X → Y) (count : ℕ) (xs : List X)
+    → map f (first_behind count xs) ≡ first_behind count (map f xs)
+map_behind f count xs =
+    map-append f (drop count xs) (reverse (take count xs))
+    ∙ (λ i. sym (drop-map f count xs) i ++ (map-reverse f (take count xs) ∙ ap reverse (sym (take-map f count xs))) i)
+
+-- the first go behind the others
+pub waiting_behind : {S : Type 0} (live : Slab Dormant) (order after : IndexMap ℕ ℕ S) (r count : ℕ)
+    → ((k : ℕ) → get nat_eq after k ≡ get nat_eq order k)
+    → drop r after.entries ≡ first_behind count (drop r order.entries)
+    → waiting live after r ≡ first_behind count (waiting live order r)
+waiting_behind live order after r count same moved =
+    let number = λ (e : ℕ × ℕ). e.0 in
+    let f = entrant_of live order in
+    let tail : drop r (keys after) ≡ first_behind count (drop r (keys order)) =
+    drop-map number r after.entries ∙ ap keys_of moved
+    ∙ map_behind number count (drop r order.entries)
+    ∙ ap (first_behind count) (sym (drop-map number r order.entries)) in
+    ap (map (entrant_of live after)) tail
+    ∙ (λ i. map (λ (tx : ℕ). record { tx = tx; runs = runs_at live (same tx i) })
+    (first_behind count (drop r (keys order))))
+    ∙ map_behind f count (drop r (keys order))
 
 -- one that is new stands last
 pub waiting_new : {S : Type 0} (live new : Slab Dormant) (order after : IndexMap ℕ ℕ S) (r tx key : ℕ)

@@ -1,4 +1,5 @@
 pub mod Apart
+pub mod Behind
 pub mod ByNumber
 pub mod Changes
 pub mod Ended

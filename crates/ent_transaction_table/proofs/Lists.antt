@@ -1,41 +1,32 @@
--- Lists of which one element is taken out of the front.
-use Rattle.std.proofs.Common.{◌≡◌, ◌≢◌, ℕ, suc, ◌+◌, ◌-◌, ◌<◌, ◌≤◌, ◌==◌, Bool, true, false, ◌||◌, List, [], ◌∷◌, ◌++◌}
-use Rattle.std.proofs.Common.{length, map, take, drop, remove, insert, slice_get, get_or, Some, refl, sym, ap, ◌∙◌, inl}
-use Rattle.std.proofs.Common.{inr, arith, true≢false, drop-drop, length-take-le}
-use Rattle.std.proofs.Math.Seq.{drop-append-add}
-use Rattle.std.proofs.lemmas.List.{drop-append-le, take-append-drop, length-drop, get_or-drop}
-use Rattle.std.proofs.lemmas.List.Edits.{length-remove, insert_end}
+-- Lists of which one element of the front goes to its end.
+use Rattle.std.proofs.Common.{◌≡◌, ◌≢◌, ℕ, ◌+◌, ◌-◌, ◌<◌, ◌≤◌, ◌==◌, Bool, true, false, ◌||◌, List, [], ◌∷◌}
+use Rattle.std.proofs.Common.{length, map, take, drop, set, swap, slice_get, get_or, Some, refl, sym, ap, ◌∙◌, inl}
+use Rattle.std.proofs.Common.{inr, arith, true≢false}
+use Rattle.std.proofs.lemmas.List.{drop-set-lt, drop_more, take-append-drop, length-drop, get_or-drop}
+use Rattle.std.proofs.lemmas.List.Edits.{length-swap, swap_is, swapped_from_swap}
 use Rattle.std.proofs.lemmas.List.Folds.{list_any_at, list_any-append}
 use Rattle.std.proofs.lemmas.Option.{get_or_from_slice_get, slice_get_within}
 use Rattle.std.proofs.lemmas.Bool.{cases_lt}
-use Rattle.std.specs.Option.{option_map_or}
 use Rattle.std.specs.List.{list_any}
-use Rattle.indexmap.specs.IndexMap.{move_index}
 
 module _ {X : Type 0} where
-  -- what lies behind r, with one before r taken out
-  pub drop-remove : (xs : List X) (i r : ℕ) → i < r → r ≤ length xs → drop (r - 1) (remove xs i) ≡ drop r xs
-  drop-remove xs i r less le =
-      let front = take i xs in
-      let back = drop (suc i) xs in
-      let long : length front ≡ i = length-take-le i xs (omega arith) in
-      let e : r - 1 ≡ length front + (r - 1 - i) = omega arith in
-      let f : suc i + (r - 1 - i) ≡ r = omega arith in
-      ap (λ k. drop k (front ++ back)) e ∙ drop-append-add front back (r - 1 - i)
-      ∙ drop-drop (r - 1 - i) (suc i) xs ∙ ap (λ k. drop k xs) f
-
-  -- and put to the end
-  pub drop-move : (xs : List X) (i r : ℕ) (x : X) → slice_get xs i ≡ Some x → i < r → r ≤ length xs
-      → drop (r - 1) (move_index xs i (length xs - 1)) ≡ drop r xs ++ x ∷ []
-  drop-move xs i r x at less le =
-      let rest = remove xs i in
-      let long : length rest + 1 ≡ length xs = length-remove xs i (omega arith) in
-      let e : length xs - 1 ≡ length rest = omega arith in
-      ap (λ o. drop (r - 1) (option_map_or (λ y. insert rest (length xs - 1) y) o xs)) at
-      ∙ ap (λ k. drop (r - 1) (insert rest k x)) e
-      ∙ ap (drop (r - 1)) (insert_end rest x)
-      ∙ drop-append-le (r - 1) rest (x ∷ []) (omega arith)
-      ∙ ap (λ l. l ++ x ∷ []) (drop-remove xs i r less le)
+  -- what lies behind the last before r, where one before r takes its place
+  pub drop-swap : (xs : List X) (i r : ℕ) (x : X) → slice_get xs i ≡ Some x → i < r → r ≤ length xs
+      → drop (r - 1) (swap xs i (r - 1)) ≡ x ∷ drop r xs
+  drop-swap xs i r x at less le =
+      let last : ℕ = r - 1 in
+      let within : last < length xs = omega (arith, less, le) in
+      let next : last + 1 ≡ r = omega (arith, less) in
+      let placed = swapped_from_swap xs (swap xs i last) i last x (omega (arith, less, le)) within refl in
+      let first : get_or (swap xs i last) last x ≡ x = placed.1 ∙ get_or_from_slice_get xs i x x at in
+      let written : List X = set xs i (get_or xs last x) in
+      let rest : drop (last + 1) (swap xs i last) ≡ drop (last + 1) xs =
+      ap (drop (last + 1)) (sym (swap_is xs i last x (omega (arith, less, le)) within))
+      ∙ drop-set-lt (last + 1) written last (get_or xs i x) (omega arith)
+      ∙ drop-set-lt (last + 1) xs i (get_or xs last x) (omega (arith, less)) in
+      drop_more (swap xs i last) last x (omega (arith, within, length-swap xs i last))
+      ∙ (λ k. first k ∷ rest k)
+      ∙ ap (λ (n : ℕ). x ∷ drop n xs) next
 
   -- one that isn't behind r is before it
   pub before : (p : X → Bool) (xs : List X) (i r : ℕ) (x : X) → slice_get xs i ≡ Some x → p x ≡ true

@@ -1,4 +1,5 @@
 pub mod ByNumber
 pub mod Cause
 pub mod Leaving
+pub mod Order
 pub mod TransactionTable

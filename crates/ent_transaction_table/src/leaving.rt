@@ -1,5 +1,5 @@
 //! Those who leave a run get their fates, or go to the end of those who wait.
-ghost use Rattle.std.specs.Prelude.{◌≡◌, ◌+◌, ◌≤◌, ◌<◌, ◌^◌, ◌++◌, ◌∷◌, [], length, map, nat_eq};
+ghost use Rattle.std.specs.Prelude.{◌≡◌, ◌+◌, ◌≤◌, ◌<◌, ◌^◌, ◌++◌, ◌∷◌, [], length, map, nat_eq, reverse};
 ghost use Rattle.std.specs.List.{AllByRecursion, IsDistinct, filter_map};
 ghost use Rattle.ent_members.specs.RunAttempts.{numbers_in};
 ghost use Rattle.ent_protocol.specs.Commit.{commit_fates};
@@ -15,7 +15,7 @@ use ent_members::{Entrant, Member, RunAttempt};
 use ent_next::SubmittedScript;
 use ent_semantics::{Fate, Fated};
 
-/// One who leaves gets its fate, or goes to the end of the dormant list.
+/// One who leaves gets its fate, or waits before the others.
 fn leave_one(
     table: &mut TransactionTable,
     run_attempt: RunAttempt,
@@ -25,8 +25,9 @@ fn leave_one(
     requires room { length table.old.dormant + length table.old.fates < table.old.known }
     requires away { IsAway run_attempt.tx table.old }
     requires within { IsWithin submitted.now run_attempt }
-    ensures dormant { table.new.dormant ≡ table.old.dormant
-        ++ filter_map (λ own. dormant_by submitted.now (cause_seen cause) (as_member own)) (run_attempt ∷ []) }
+    ensures dormant { table.new.dormant
+        ≡ filter_map (λ own. dormant_by submitted.now (cause_seen cause) (as_member own)) (run_attempt ∷ [])
+        ++ table.old.dormant }
     ensures fates { table.new.fates ≡ table.old.fates
         ++ filter_map (λ own. fated_by submitted.now (cause_seen cause) (as_member own)) (run_attempt ∷ []) }
     ensures known { table.new.known ≡ table.old.known }
@@ -38,8 +39,34 @@ fn leave_one(
             tx: run_attempt.tx,
             fate,
         }),
-        None => table.go_back(Entrant::new(run_attempt.tx, run_attempt.attempt)),
+        None => table.wait_first(Entrant::new(run_attempt.tx, run_attempt.attempt)),
     }
+}
+
+/// Each who leaves gets its fate, or waits before the others, the last of them first.
+fn leave_each(
+    table: &mut TransactionTable,
+    run_attempts: &[RunAttempt],
+    submitted: &[SubmittedScript],
+    cause: Cause,
+)
+    requires room { length table.old.dormant + length table.old.fates + length run_attempts.now ≤ table.old.known }
+    requires numbers { AllByRecursion (λ own. IsNumbered table.old.known own.tx) run_attempts.now }
+    requires within { AllByRecursion (IsWithin submitted.now) run_attempts.now }
+    requires awake { IsDistinct nat_eq (map (λ own. own.tx) table.old.dormant ++ numbers_in run_attempts.now) }
+    requires unfinished { IsDistinct nat_eq (map (λ fated. fated.tx) table.old.fates ++ numbers_in run_attempts.now) }
+    ensures dormant { table.new.dormant
+        ≡ reverse (filter_map (λ own. dormant_by submitted.now (cause_seen cause) (as_member own)) run_attempts.now)
+        ++ table.old.dormant }
+    ensures fates { table.new.fates ≡ table.old.fates
+        ++ filter_map (λ own. fated_by submitted.now (cause_seen cause) (as_member own)) run_attempts.now }
+    ensures known { table.new.known ≡ table.old.known }
+{
+    let Some((first, rest)) = run_attempts.split_first() else {
+        return;
+    };
+    leave_one(table, *first, submitted, cause);
+    leave_each(table, rest, submitted, cause);
 }
 
 /// Each who leaves gets its fate, or goes to the end of the dormant list.
@@ -60,11 +87,10 @@ pub(crate) fn leave(
         ++ filter_map (λ own. fated_by submitted.now (cause_seen cause) (as_member own)) run_attempts.now }
     ensures known { table.new.known ≡ table.old.known }
 {
-    let Some((first, rest)) = run_attempts.split_first() else {
-        return;
-    };
-    leave_one(table, *first, submitted, cause);
-    leave(table, rest, submitted, cause);
+    let others = table.dormant_len();
+    leave_each(table, run_attempts, submitted, cause);
+    let back = table.dormant_len() - others;
+    table.put_behind(back);
 }
 
 /// Each who commits gets its fate, the first with this number.

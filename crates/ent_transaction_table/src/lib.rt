@@ -11,6 +11,7 @@ mod cause;
 mod fates;
 mod leaving;
 mod live;
+mod order;
 mod transaction_table;
 
 pub use cause::Cause;

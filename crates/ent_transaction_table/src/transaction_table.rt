@@ -11,10 +11,11 @@ ghost use Rattle.ent_protocol.specs.State.{Member as Seen, by_number, first_of};
 ghost use Rattle.ent_transaction_table.specs.ByNumber.{IsNumbered};
 ghost use Rattle.ent_transaction_table.specs.Cause.{cause_seen};
 ghost use Rattle.ent_transaction_table.specs.Leaving.{IsWithin};
+ghost use Rattle.ent_transaction_table.specs.Order.{first_behind};
 ghost use Rattle.ent_transaction_table.specs.TransactionTable.{IsAway};
 
 use crate::cause::Cause;
-use crate::{by_number, fates, leaving, live};
+use crate::{by_number, fates, leaving, live, order};
 use ent_group::Tx;
 use ent_members::{Entrant, Member, RunAttempt};
 use ent_next::SubmittedScript;
@@ -210,25 +211,37 @@ impl TransactionTable {
         self.fates.push_reserved(fated);
     }
 
-    /// A member of the run waits for another run, behind the others.
-    pub(crate) fn go_back(&mut self, own: Entrant)
+    /// A member of the run waits for another run, before the others.
+    pub(crate) fn wait_first(&mut self, own: Entrant)
         requires room { length self.old.dormant + length self.old.fates < self.old.known }
         requires away { IsAway own.tx self.old }
-        ensures { self.new ≡ record self.old { dormant = self.old.dormant ++ own ∷ [] } }
+        ensures { self.new ≡ record self.old { dormant = own ∷ self.old.dormant } }
     {
         let tx = own.tx();
         let at = self.order.get_index_of(&tx).unwrap();
-        let last = self.order.len() - 1;
         let key = self.order[at];
+        let last = self.in_run - 1;
         self.live[key] = own;
-        self.order.move_index(at, last);
-        self.in_run -= 1;
+        self.order.swap_indices(at, last);
+        self.in_run = last;
+    }
+
+    /// The first of those who wait go behind the others, as many as are told, the last of them first. It takes no
+    /// memory.
+    pub(crate) fn put_behind(&mut self, count: usize)
+        requires { count ≤ length self.old.dormant }
+        ensures { self.new ≡ record self.old { dormant = first_behind count self.old.dormant } }
+    {
+        order::put_behind(&mut self.order, self.in_run, count);
     }
 
     /// Where all members of the run are finished or wait again, those at the front leave the order, in one pass.
     fn let_go(&mut self)
         ensures { self.new ≡ self.old }
     {
+        if self.in_run == 0 {
+            return;
+        }
         if by_number::are_under(
             self.finished.as_slice(),
             &self.order.keys().as_slice()[..self.in_run],

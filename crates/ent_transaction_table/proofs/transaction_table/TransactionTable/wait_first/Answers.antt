@@ -1,17 +1,17 @@
-use Rattle.std.proofs.Common.{◌≡◌, ◌+◌, ◌-◌, ◌<◌, ◌++◌, ◌∷◌, [], ℕ, false, List, Option, Some, IsSome, is_some, length}
+use Rattle.std.proofs.Common.{◌≡◌, ◌+◌, ◌<◌, ◌∷◌, ℕ, false, List, Option, Some, IsSome, is_some, length}
 use Rattle.std.proofs.Common.{ap, sym, subst, refl, ◌∙◌, arith}
 use Rattle.std.specs.Prelude.{nat_eq}
 use Rattle.slab.specs.Slab.{Updates, with_value}
 use Rattle.slab.proofs.SlabLemmas.{Updates-with_value}
-use Rattle.indexmap.specs.IndexMap.{get, move_index}
+use Rattle.indexmap.specs.IndexMap.{get}
 use Rattle.ent_protocol.specs.State.{Dormant}
 use Rattle.ent_transaction_table.specs.TransactionTable.{TransactionTable, is_dormant, waiting}
 use Rattle.ent_transaction_table.proofs.Changes.{in_front, key_here, keys_apart, length_waiting, slab_len-with_value}
-use Rattle.ent_transaction_table.proofs.Changes.{stand_with, waiting_back}
-use Rattle.ent_transaction_table.proofs.transaction_table.TransactionTable.go_back.Goals as goal
+use Rattle.ent_transaction_table.proofs.Changes.{stand_with, waiting_first}
+use Rattle.ent_transaction_table.proofs.transaction_table.TransactionTable.wait_first.Goals as goal
 
-pub overflow_sub-self : goal.overflow_sub-self
-overflow_sub-self c =
+pub overflow_sub-last : goal.overflow_sub-last
+overflow_sub-last c =
     let s = c.self.inside in
     let tx = c.tx-tx.result in
     let awake : is_dormant tx (waiting s.live s.order s.in_run) ≡ false =
@@ -30,15 +30,15 @@ invariant_of-self c =
     let own : Dormant = c.args.own in
     let key = c.index-key.result.now in
     let new = with_value s.live key own in
-    let after = c.move_index.new.self in
+    let after = c.swap_indices.new.self in
     let awake : is_dormant tx (waiting s.live s.order s.in_run) ≡ false =
     ap (λ n. is_dormant n (waiting s.live s.order s.in_run)) c.tx-tx.ensures
     ∙ ap (λ (table : TransactionTable). is_dormant own.tx table.dormant) c.self.view_is ∙ c.requires.away.awake in
     let here : get nat_eq s.order tx ≡ Some key =
     key_here s.live s.order s.in_run tx c.unwrap-at.result key
     (sym c.get_index_of.ensures.index ∙ c.unwrap-at.ensures) c.index-key.ensures awake in
-    let same = c.move_index.ensures.reordered.2 in
-    let long = c.move_index.ensures.reordered.1 in
+    let same = c.swap_indices.ensures.reordered.2 in
+    let long = c.swap_indices.ensures.reordered.1 in
     let there = ap is_some c.index_mut.ensures.value in
     let update : Updates s.live new key (Some own) = Updates-with_value s.live key own there in
     let room : length (waiting s.live s.order s.in_run) + length s.fates.items < s.known =
@@ -69,7 +69,7 @@ returns c =
     let own : Dormant = c.args.own in
     let key = c.index-key.result.now in
     let new = with_value s.live key own in
-    let after = c.move_index.new.self in
+    let after = c.swap_indices.new.self in
     let awake : is_dormant tx (waiting s.live s.order s.in_run) ≡ false =
     ap (λ n. is_dormant n (waiting s.live s.order s.in_run)) c.tx-tx.ensures
     ∙ ap (λ (table : TransactionTable). is_dormant own.tx table.dormant) c.self.view_is ∙ c.requires.away.awake in
@@ -79,11 +79,10 @@ returns c =
     subst (λ (it : Dormant). Updates s.live new key (Some it)) (sym same)
     (Updates-with_value s.live key own (ap is_some c.index_mut.ensures.value)) in
     let back =
-    waiting_back s.live s.order s.in_run tx c.unwrap-at.result key
+    waiting_first s.live s.order s.in_run tx c.unwrap-at.result key
     (sym c.get_index_of.ensures.index ∙ c.unwrap-at.ensures) c.index-key.ensures awake new after kept.members kept.stand
-    own.runs update c.move_index.ensures.reordered.2
-    (c.move_index.ensures.entries
-    ∙ ap (λ (n : ℕ). move_index s.order.entries c.unwrap-at.result (n - 1)) c.len-last.ensures.len) in
+    own.runs update c.swap_indices.ensures.reordered.2
+    c.swap_indices.ensures.entries in
     ap (λ (dormant : List Dormant). record { dormant = dormant; fates = s.fates.items; known = s.known })
-    (back ∙ ap (λ (it : Dormant). waiting s.live s.order s.in_run ++ it ∷ []) same)
-    ∙ ap (λ (table : TransactionTable). record table { dormant = table.dormant ++ own ∷ [] }) c.self.view_is
+    (back ∙ ap (λ (it : Dormant). it ∷ waiting s.live s.order s.in_run) same)
+    ∙ ap (λ (table : TransactionTable). record table { dormant = own ∷ table.dormant }) c.self.view_is

@@ -1,4 +1,4 @@
-use Rattle.std.proofs.Common.{◌==◌, ◌++◌, ◌∙◌, ℕ, List, ap, arith, length, map, nat_eq, subst, sym}
+use Rattle.std.proofs.Common.{◌==◌, ◌++◌, ◌∙◌, ℕ, List, ap, arith, length, map, nat_eq, reverse, subst, sym}
 use Rattle.std.specs.List.{AllByRecursion, IsDistinct, filter_map}
 use Rattle.ent_semantics.specs.declared.book.Fated.{Fated}
 use Rattle.ent_members.specs.declared.run_attempts.RunAttempt.{RunAttempt}
@@ -8,9 +8,9 @@ use Rattle.ent_protocol.specs.State.{Dormant}
 use Rattle.ent_transaction_table.specs.ByNumber.{IsNumbered}
 use Rattle.ent_transaction_table.specs.Cause.{cause_seen}
 use Rattle.ent_transaction_table.specs.Leaving.{IsWithin, as_member}
-use Rattle.ent_transaction_table.proofs.Apart.{awake_after, each_behind, not_before, unfinished_after}
+use Rattle.ent_transaction_table.proofs.Apart.{awake_after, each_before, each_behind, not_before, unfinished_after}
 use Rattle.ent_transaction_table.proofs.Lists.{list_any-map}
-use Rattle.ent_transaction_table.proofs.leaving.+leave.Goals as goal
+use Rattle.ent_transaction_table.proofs.leaving.+leave_each.Goals as goal
 
 abbrev AreNumbered : ℕ → List RunAttempt → Type 0
 AreNumbered known run_attempts = AllByRecursion (λ (run_attempt : RunAttempt). IsNumbered known run_attempt.tx) run_attempts
@@ -38,8 +38,8 @@ leave_one-requires-clause-away t c =
           ∙ not_before (map (λ (fated : Fated). fated.tx) table.fates) rest tx unfinished;
     }
 
-pub leave-requires : goal.leave-requires
-leave-requires t c =
+pub leave_each-requires : goal.leave_each-requires
+leave_each-requires t c =
     let table = c.args.table.now in
     let whole = c.in-Some.ensures.cases.0 in
     let run_attempts = c.in-Some.rest.now in
@@ -74,10 +74,11 @@ returns-clause-dormant t c =
     let first = c.in-Some.first.now in
     let rest = c.in-Some.rest.now in
     let f = λ (run_attempt : RunAttempt). dormant_by c.args.submitted.now (cause_seen c.args.cause) (as_member run_attempt) in
-    c.leave.ensures.dormant
-    ∙ ap (λ (dormant : List Dormant). dormant ++ filter_map f rest) c.leave_one.ensures.dormant
-    ∙ each_behind before (f first) (filter_map f rest)
-    ∙ ap (λ (run_attempts : List RunAttempt). before ++ filter_map f run_attempts) (sym c.in-Some.ensures.cases.0)
+    c.leave_each.ensures.dormant
+    ∙ ap (λ (dormant : List Dormant). reverse (filter_map f rest) ++ dormant) c.leave_one.ensures.dormant
+    ∙ each_before before (f first) (filter_map f rest)
+    ∙ ap (λ (run_attempts : List RunAttempt). reverse (filter_map f run_attempts) ++ before)
+    (sym c.in-Some.ensures.cases.0)
 
 pub returns-clause-fates : goal.returns-clause-fates
 returns-clause-fates t c =
@@ -85,7 +86,7 @@ returns-clause-fates t c =
     let first = c.in-Some.first.now in
     let rest = c.in-Some.rest.now in
     let f = λ (run_attempt : RunAttempt). fated_by c.args.submitted.now (cause_seen c.args.cause) (as_member run_attempt) in
-    c.leave.ensures.fates
+    c.leave_each.ensures.fates
     ∙ ap (λ (fates : List Fated). fates ++ filter_map f rest) c.leave_one.ensures.fates
     ∙ each_behind before (f first) (filter_map f rest)
     ∙ ap (λ (run_attempts : List RunAttempt). before ++ filter_map f run_attempts) (sym c.in-Some.ensures.cases.0)
