@@ -81,8 +81,9 @@ class Edit:
                 return []
             first, last, own = around[-1]
             module = os.path.splitext(name)[0].split("/")[1:]
-            module = [] if module in (["lib"], ["main"]) else module
-            places["::".join([*module, *own])] = name, first + 1, last + 1
+            # a method is named by its type, in whichever file it stands
+            owner = [] if len(own) > 1 or module in (["lib"], ["main"]) else module
+            places["::".join([*owner, *own])] = name, first + 1, last + 1
         return [(function, *place) for function, place in places.items()]
 
     def make(self, folder):
@@ -95,15 +96,15 @@ class Edit:
 
     def is_of(self, name):
         """Whether a function of this name is one that it changes, or a closure in one."""
-        own = name.split("::", 1)[1]
         ends = [it.split("::")[-1] for it in self.functions]
-        return own in self.functions or any(f"fn::{it}::" in own for it in ends)
+        return any(name.endswith("::" + it) for it in self.functions) or any(f"fn::{it}::" in name for it in ends)
 
     def is_blamed(self, error):
         """Whether an error stands in a function that it changes, or in its proof."""
         name, line = error.removeprefix("./").split(":")[:2]
         for function, file, first, last in self.places:
-            proof = os.path.join("proofs", *function.split("::"))
-            if name == file and first <= int(line) <= last or name.startswith(proof + "/"):
+            if name == file and first <= int(line) <= last:
+                return True
+            if name.startswith("proofs/") and "/".join(["", *function.split("::"), ""]) in name:
                 return True
         return False
