@@ -35,4 +35,4 @@ statements_from tables bound made (statement ∷ more) =
 abbrev pub script_in : List TableSchema → TreeScript → Result Plain FormFault
 script_in tables script =
     statements_from tables none_bound [] script.statements >>= λ forms.
-    Ok (record { within = script.within; statements = forms; end = script.end })
+    Ok (record { statements = forms; end = script.end })

@@ -21,7 +21,7 @@ use crate::variable::{number_of, variables};
 use ent_closed::{
     Atom, Binding as Bind, Entangled as ResolvedEntangled, Known, Term as ResolvedTerm,
 };
-use ent_tree::{Condition, Entangled, EntangledItem, Identifier, MOST_PARTS, Term, Test, Tuple};
+use ent_tree::{Condition, Duplicate, Entangled, EntangledItem, Identifier, MOST_PARTS, Term, Test, Tuple};
 use ent_value::{Kind, Limited, Name, Refusal, Sequence};
 use std::alloc::{AllocError, Global};
 
@@ -92,37 +92,6 @@ fn test(
     })
 }
 
-fn copy_known(alloc: Global, known: &Known) -> Result<Known, AllocError>
-    ensures { IfOk result (λ copy. copy ≡ known.now) }
-{
-    Ok(match known {
-        Known::Constant(value) => Known::Constant(value.copy(alloc)?),
-        Known::HostVariable(name) => Known::HostVariable(name.copy(alloc)?),
-    })
-}
-
-fn copy_term(alloc: Global, term: &ResolvedTerm<Known>) -> Result<ResolvedTerm<Known>, AllocError>
-    ensures { IfOk result (λ copy. copy ≡ term.now) }
-{
-    Ok(match term {
-        ResolvedTerm::Known(known) => ResolvedTerm::Known(copy_known(alloc, known)?),
-        ResolvedTerm::Variable(number) => ResolvedTerm::Variable(*number),
-    })
-}
-
-fn copy_terms(
-    alloc: Global,
-    terms: &Limited<ResolvedTerm<Known>, MOST_PARTS>,
-) -> Result<Limited<ResolvedTerm<Known>, MOST_PARTS>, AllocError>
-    ensures { IfOk result (λ copy. copy ≡ terms.now) }
-{
-    let mut copy = Limited::with_capacity(alloc, terms.len())?;
-    for term in terms.as_slice() {
-        copy.push(copy_term(alloc, term)?)?;
-    }
-    Ok(copy)
-}
-
 /// Whether a host variable of this name is among those that are bound.
 fn is_bound(bound: &[Binding], name: &Name) -> bool
     ensures { result ≡ is_among (map (λ binding. binding.name) bound.now) name.now }
@@ -156,7 +125,7 @@ fn offer(
         }
         let bind = Bind {
             variable: variable.name.copy(alloc)?,
-            term: copy_term(alloc, &term)?,
+            term: term.copy(alloc)?,
         };
         let name = variable.name.copy(alloc)?;
         offer.binds.push(bind)?;
@@ -229,7 +198,7 @@ fn heads(
         earlier.push(&relation.name)?;
         heads.push(Atom {
             relation: relation.name.copy(alloc)?,
-            terms: copy_terms(alloc, terms)?,
+            terms: terms.copy(alloc)?,
         })?;
     }
     Ok(heads)

@@ -13,15 +13,13 @@ use crate::entangled::entangled;
 use crate::fault::FormFault;
 use crate::select::select;
 use ent_closed::{Known, Statement as ResolvedStatement};
-use ent_tree::{End, MOST_STATEMENTS, Runs, Script, Statement};
+use ent_tree::{End, MOST_STATEMENTS, Script, Statement};
 use ent_value::{Limited, Refusal};
 use std::alloc::Global;
 
 /// A script of resolved statements.
 #[derive(Drop)]
 pub struct Plain {
-    /// In how many runs the transaction may take part.
-    pub within: Runs,
     pub statements: Limited<ResolvedStatement<Known>, MOST_STATEMENTS>,
     pub end: End,
 }
@@ -66,7 +64,6 @@ fn in_order(
         statements.push(statement(alloc, catalogue, &mut bindings, one)?)?;
     }
     Ok(Plain {
-        within: script.within,
         statements,
         end: script.end,
     })

@@ -1,4 +1,6 @@
 //! Stored rows, explained.
+ghost use Rattle.std.specs.Prelude.{◌≡◌, IsTrue, ◌↔◌};
+
 use anyhow::{Context, Result, ensure};
 use std::alloc::Global;
 use std::io::Read;
@@ -39,11 +41,18 @@ fn check<F: Fn(Global, &[u8]) -> Result<String>>(
     let input = fs::read(rt, format!(in alloc; "rows/{name}.in")?)?;
     let wanted = fs::read_to_string(rt, format!(in alloc; "rows/{name}.out")?)?;
     let given = said(alloc, input.as_slice())?;
-    let is_right = given.as_str() == wanted.as_str();
+    let is_right = is_equal(given.as_str(), wanted.as_str());
     if !is_right {
         println!(rt; "{name} is told otherwise:\n{}", given.as_str())?;
     }
     Ok(is_right)
+}
+
+/// Whether what is said is what must be, byte for byte.
+fn is_equal(given: &str, wanted: &str) -> bool
+    ensures { IsTrue result ↔ given.now ≡ wanted.now }
+{
+    given == wanted
 }
 
 /// Writes what is said of standard input.

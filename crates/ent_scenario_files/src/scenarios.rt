@@ -1,5 +1,7 @@
 //! Stored scenarios, played.
-use anyhow::{Context, Result, ensure};
+ghost use Rattle.std.specs.Prelude.{◌≡◌, OnOk};
+
+use anyhow::{Context, Result, bail};
 use std::alloc::Global;
 use std::{env, fs, io};
 
@@ -33,7 +35,7 @@ fn play<F: Fn(Global, &str) -> Result<String>>(rt: &HostRuntime, replies: F) -> 
     Ok(())
 }
 
-/// Plays a stored scenario, and answers how many lines of replies it has, where each is as expected.
+/// Plays a stored scenario, and answers how many lines of replies it has, where they are those that are expected.
 fn check<F: Fn(Global, &str) -> Result<String>>(
     rt: &HostRuntime,
     name: &str,
@@ -48,14 +50,20 @@ fn check<F: Fn(Global, &str) -> Result<String>>(
     count_equal(given.as_str(), wanted.as_str())
 }
 
-/// How many lines of replies there are, where each is as expected.
-fn count_equal(given: &str, wanted: &str) -> Result<usize> {
+/// How many lines of replies there are, where they are those that are expected; else it names the first that isn't.
+fn count_equal(given: &str, wanted: &str) -> Result<usize>
+    ensures equal { OnOk result (given.now ≡ wanted.now) }
+{
+    if given == wanted {
+        return Ok(given.lines().count());
+    }
     let mut expected = wanted.lines();
     let mut count = 0usize;
     for line in given.lines() {
         count = count.saturating_add(1);
-        ensure!(expected.next() == Some(line), "reply {count}: {line}");
+        if expected.next() != Some(line) {
+            bail!("reply {count}: {line}");
+        }
     }
-    ensure!(expected.next().is_none(), "fewer replies");
-    Ok(count)
+    bail!("{count} replies are too few, or end otherwise")
 }

@@ -1,6 +1,7 @@
 //! An input with its names resolved: `== forms`, then an input a line. A table is shown by its number, a column by its
 //! number behind a `#`, a written variable by its number behind a `?`.
-use crate::reply::{Out, Show, put, put_fault, put_list, put_number};
+use crate::reply::{Out, Show, put, put_fault, put_number};
+use crate::resolved::put_script;
 use crate::statement::input_of;
 use crate::values::put_kind;
 use crate::words::unescaped;
@@ -57,7 +58,9 @@ fn put_resolved(
 ) {
     put(out, "forms;");
     put_catalogue(alloc, catalogue, input, out);
-    put_list(alloc, out, scripts, "");
+    for (script, plain) in input.scripts.as_slice().iter().zip(scripts) {
+        put_script(alloc, out, script, plain);
+    }
 }
 
 fn put_refusal(out: &mut Out, refusal: &Refusal<FormFault>) {

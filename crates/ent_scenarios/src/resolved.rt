@@ -4,6 +4,7 @@ use crate::trees::{put_end, put_tests, put_where};
 use crate::values::put_kind;
 use ent_closed::{Atom, Binding, Entangled, Known, Membership, Operand, Select, Statement, Term};
 use ent_form::Plain;
+use ent_tree::Script;
 use ent_value::{Kind, Name};
 use std::alloc::Global;
 
@@ -174,14 +175,13 @@ impl<K: Show> Show for Statement<K> {
     }
 }
 
-impl Show for Plain {
-    fn show(&self, alloc: Global, out: &mut Out) {
-        put(out, " begin within ");
-        put_shown(out, &self.within.get());
-        put(out, ";");
-        for statement in self.statements.as_slice() {
-            statement.show(alloc, out);
-        }
-        put_end(out, self.end);
+/// A resolved script, behind the number of runs that the written one asks for.
+pub(crate) fn put_script(alloc: Global, out: &mut Out, script: &Script, plain: &Plain) {
+    put(out, " begin within ");
+    put_shown(out, &script.within.get());
+    put(out, ";");
+    for statement in plain.statements.as_slice() {
+        statement.show(alloc, out);
     }
+    put_end(out, plain.end);
 }
