@@ -33,8 +33,8 @@ pub fn write_report<W: Write>(
     requires unmarked { IsUnmarked writer.old }
     ensures written { OnOk result
         (Appends (W.contents writer.old.inner) (W.contents writer.new.inner) (report_text (book_seen book.now))) }
-    // Where memory ran out, the writer is untouched.
-    ensures untouched { result ≡ Err Memory → writer.new ≡ writer.old }
+    // Where memory ran out, the writer is as it was.
+    ensures same { result ≡ Err Memory → writer.new ≡ writer.old }
     // What went out before a fault is a beginning of the report.
     ensures beginning { OnErr result (AppendsBeginning (W.contents writer.old.inner) (W.contents writer.new.inner)
         (report_text (book_seen book.now))) }
@@ -57,8 +57,8 @@ pub fn write_report_2<W: Write>(
     requires unmarked { IsUnmarked writer.old }
     ensures written { OnOk result
         (Appends (W.contents writer.old.inner) (W.contents writer.new.inner) (report_2_text (book_seen book.now))) }
-    // Where memory ran out, the writer is untouched.
-    ensures untouched { result ≡ Err Memory → writer.new ≡ writer.old }
+    // Where memory ran out, the writer is as it was.
+    ensures same { result ≡ Err Memory → writer.new ≡ writer.old }
     // What went out before a fault is a beginning of the report.
     ensures beginning { OnErr result (AppendsBeginning (W.contents writer.old.inner) (W.contents writer.new.inner)
         (report_2_text (book_seen book.now))) }

@@ -1,8 +1,12 @@
 //! Equality.
+ghost use Rattle.std.specs.Prelude.{◌≡◌, ◌↔◌, IsTrue};
+ghost use Rattle.ent_closed.specs.declared.statement.Statement.TheVariants as statements;
+
 use crate::entangled::{Atom, Binding, Entangled, Membership, Term};
 use crate::operand::{Known, Operand};
 use crate::statement::{Select, Statement};
-use ent_tree::Same;
+use ent_tree::{Expression, MOST_PARTS, Same, Test};
+use ent_value::{Limited, Name, Sequence};
 
 impl Same for Known {
     fn is_same(&self, other: &Known) -> bool {
@@ -86,6 +90,72 @@ impl<K: Same> Same for Entangled<K> {
     }
 }
 
+/// Whether a statement is the INSERT of these values into the table of this number.
+fn is_insert<K: Same>(
+    statement: &Statement<K>,
+    table: usize,
+    values: &Limited<K, MOST_PARTS>,
+) -> bool
+    ensures { IsTrue result ↔ (statements.Insert table values.now ≡ statement.now) }
+{
+    match statement {
+        Statement::Insert {
+            table: number,
+            values: theirs,
+        } => table == *number && values.is_same(theirs),
+        _ => false,
+    }
+}
+
+/// Whether a statement is the DELETE under these tests from the table of this number.
+fn is_delete<K: Same>(
+    statement: &Statement<K>,
+    table: usize,
+    tests: &Limited<Test<Operand<K>>, MOST_PARTS>,
+) -> bool
+    ensures { IsTrue result ↔ (statements.Delete table tests.now ≡ statement.now) }
+{
+    match statement {
+        Statement::Delete {
+            table: number,
+            tests: theirs,
+        } => table == *number && tests.is_same(theirs),
+        _ => false,
+    }
+}
+
+/// Whether a statement is the UPDATE to this image, under these tests, of the table of this number.
+fn is_update<K: Same>(
+    statement: &Statement<K>,
+    table: usize,
+    image: &Sequence<Expression<Operand<K>>>,
+    tests: &Limited<Test<Operand<K>>, MOST_PARTS>,
+) -> bool
+    ensures { IsTrue result ↔ (statements.Update table image.now tests.now ≡ statement.now) }
+{
+    match statement {
+        Statement::Update {
+            table: number,
+            image: images,
+            tests: theirs,
+        } => table == *number && image.is_same(images) && tests.is_same(theirs),
+        _ => false,
+    }
+}
+
+/// Whether a statement is the SET of this variable to this expression.
+fn is_set<K: Same>(statement: &Statement<K>, variable: &Name, expression: &Expression<K>) -> bool
+    ensures { IsTrue result ↔ (statements.Set variable.now expression.now ≡ statement.now) }
+{
+    match statement {
+        Statement::Set {
+            variable: name,
+            expression: theirs,
+        } => variable.is_same(name) && expression.is_same(theirs),
+        _ => false,
+    }
+}
+
 impl<K: Same> Same for Statement<K> {
     fn is_same(&self, other: &Statement<K>) -> bool {
         match self {
@@ -97,42 +167,17 @@ impl<K: Same> Same for Statement<K> {
                 Statement::Entangled(theirs) => mine.is_same(theirs),
                 _ => false,
             },
-            Statement::Insert { table, values } => match other {
-                Statement::Insert {
-                    table: number,
-                    values: theirs,
-                } => table == number && values.is_same(theirs),
-                _ => false,
-            },
-            Statement::Delete { table, tests } => match other {
-                Statement::Delete {
-                    table: number,
-                    tests: theirs,
-                } => table == number && tests.is_same(theirs),
-                _ => false,
-            },
+            Statement::Insert { table, values } => is_insert(other, *table, values),
+            Statement::Delete { table, tests } => is_delete(other, *table, tests),
             Statement::Update {
                 table,
                 image,
                 tests,
-            } => match other {
-                Statement::Update {
-                    table: number,
-                    image: images,
-                    tests: theirs,
-                } => table == number && image.is_same(images) && tests.is_same(theirs),
-                _ => false,
-            },
+            } => is_update(other, *table, image, tests),
             Statement::Set {
                 variable,
                 expression,
-            } => match other {
-                Statement::Set {
-                    variable: name,
-                    expression: theirs,
-                } => variable.is_same(name) && expression.is_same(theirs),
-                _ => false,
-            },
+            } => is_set(other, variable, expression),
         }
     }
 }

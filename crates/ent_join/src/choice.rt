@@ -90,7 +90,7 @@ pub fn first_with(
         → plan.now.members ≡ member ∷ []
         → AsksForARow laid member.statement
         → AreTicks (length member.statement.variables) ticks.old ticks.new (is_some choice)) }
-    ensures kept { OnErr result (ticks.new ≡ ticks.old) }
+    ensures err { OnErr result (ticks.new ≡ ticks.old) }
 {
     let mut counted = Ticks::new();
     let choice = counted_choice(alloc, plan, tables, &mut counted)?;

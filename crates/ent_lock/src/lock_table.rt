@@ -124,7 +124,7 @@ impl<T: TableKey> LockTable<T> {
         ensures free { result ≡ Ok Answer.Granted → (v : ℕ) → ¬ Blocks self.old tx (keyed T.key asked.now) pass.now v }
         ensures blocked { (v : ℕ) → result ≡ Ok (Answer.Blocked v)
             → IsLeast (Blocks self.old tx (keyed T.key asked.now) pass.now) v }
-        ensures unchanged { (result ≢ Ok Answer.Granted) → self.new ≡ self.old }
+        ensures same { (result ≢ Ok Answer.Granted) → self.new ≡ self.old }
     {
         if let Some(holder) = self.blocker(tx, asked, pass) {
             return Ok(Answer::Blocked(holder));

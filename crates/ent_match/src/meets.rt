@@ -10,13 +10,13 @@ pub(crate) fn can_meet(asker: &Posted, index: usize, owner: &Posted) -> bool
     requires { index < length asker.now.statement.posts }
     ensures { IsTrue result ↔ CanMeet asker.now index owner.now }
 {
-    let asking = asker.statement();
+    let posted = asker.statement();
     let offering = owner.statement();
-    let post = &asking.posts.as_slice()[index];
+    let post = &posted.posts.as_slice()[index];
     for head in offering.heads.as_slice() {
         if unifies(
             post,
-            asking.variables.as_slice(),
+            posted.variables.as_slice(),
             head,
             offering.variables.as_slice(),
         ) {

@@ -67,8 +67,8 @@ impl Pool {
     pub fn post(&mut self, member: Posted) -> Result<(), (Posted, PostFault)>
         requires { HasNone self.old member }
         ensures posted { OnOk result (IsPostedTo self.old self.new member) }
-        ensures kept { OnErr result (self.new ≡ self.old) }
-        ensures handed_back { IfErr result (λ e. e.0 ≡ member) }
+        ensures err { OnErr result (self.new ≡ self.old) }
+        ensures returned { IfErr result (λ e. e.0 ≡ member) }
         ensures why { IfErr result (λ e. IsWhyWith self.old member e.1) }
     {
         post_to(&mut self.members, member)
@@ -122,8 +122,8 @@ fn post_to(members: &mut Vec<Posted>, member: Posted) -> Result<(), (Posted, Pos
     requires safe { IsSafe members.old.items }
     requires none { HasNone members.old.items member }
     ensures posted { OnOk result (IsPostedTo members.old.items members.new.items member) }
-    ensures kept { OnErr result (members.new.items ≡ members.old.items) }
-    ensures handed_back { IfErr result (λ e. e.0 ≡ member) }
+    ensures err { OnErr result (members.new.items ≡ members.old.items) }
+    ensures returned { IfErr result (λ e. e.0 ≡ member) }
     ensures why { IfErr result (λ e. IsWhyWith members.old.items member e.1) }
 {
     let at = place_of(members.as_slice(), &member);

@@ -8,4 +8,4 @@ use Rattle.ent_match.proofs.meets.can_meet.Given as goal
 abbrev pub invariant-loop-head : goal.invariant-loop-head
 invariant-loop-head l =
     (k : ℕ) (d : Atom Value) → k < l.head-index
-    → Unify l.asking.variables l.post l.offering.variables (get_or l.head-items k d) → ⊥
+    → Unify l.posted.variables l.post l.offering.variables (get_or l.head-items k d) → ⊥

@@ -43,8 +43,8 @@ returns-in-None-clause-posted c =
       safe = subst IsSafe full c.in-None.ensures;
     })
 
-pub returns-in-Some-clause-kept : goal.returns-in-Some-clause-kept
-returns-in-Some-clause-kept c =
+pub returns-in-Some-clause-err : goal.returns-in-Some-clause-err
+returns-in-Some-clause-err c =
     let old = c.args.members.now.items in
     let at = c.place_of-at.result in
     let place = subst (λ xs. IsPlaceFor xs c.args.member at) c.as_slice.ensures.value c.place_of-at.ensures in

@@ -11,6 +11,6 @@ post_to-requires-clause-none c =
 
 pub invariant_of-self : goal.invariant_of-self
 invariant_of-self c =
-    either_way c.post_to.result c.post_to.ensures.posted c.post_to.ensures.kept
+    either_way c.post_to.result c.post_to.ensures.posted c.post_to.ensures.err
     (λ posted. (posted.by_number, posted.safe))
-    (λ kept. subst (λ (xs : List Posted). IsByNumber xs × IsSafe xs) (sym kept) c.self.invariant)
+    (λ same. subst (λ (xs : List Posted). IsByNumber xs × IsSafe xs) (sym same) c.self.invariant)
