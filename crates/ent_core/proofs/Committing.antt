@@ -4,6 +4,7 @@ use Rattle.std.proofs.Common.{sym, ap, subst, ◌∙◌, arith, filter, Option, 
 use Rattle.std.specs.List.{AllByRecursion}
 use Rattle.std.proofs.lemmas.List.{length-append}
 use Rattle.std.proofs.lemmas.List.Sums.{count_by-le-length, length-filter}
+use Rattle.ent_lists.specs.Elements.{all_filtered, all_joined}
 use Rattle.ent_semantics.specs.declared.book.Entry.{Entry}
 use Rattle.ent_semantics.specs.declared.book.Fated.{Fated}
 use Rattle.ent_members.specs.Moves.{PreparesMember, is_of_another, run_of}
@@ -19,8 +20,7 @@ use Rattle.ent_protocol.specs.State.{Change, State, Submitted, Member, first_of}
 use Rattle.ent_transaction_table.specs.ByNumber.{IsNumbered}
 use Rattle.ent_protocol_laws.specs.Attempts.{MayTakePart}
 use Rattle.ent_core.specs.Reply.{numbered_from}
-use Rattle.ent_core.proofs.Sorted.{all_filter}
-use Rattle.ent_core.proofs.TakenOut.{all_joined, part_numbered}
+use Rattle.ent_core.proofs.TakenOut.{part_numbered}
 
 -- ---- what is told
 
@@ -69,11 +69,11 @@ pub committed_all : (P : Member → Type 0) (old mid : Run) (tx group : ℕ) (me
     → AllByRecursion P old.prepared → AllByRecursion P old.active → AllByRecursion P committed
 committed_all P old mid tx group member committed there prepares is prepared active =
     let own : P member =
-    first_all P (filter (is_tx tx) old.active) member (all_filter P (is_tx tx) old.active active) there in
+    first_all P (filter (is_tx tx) old.active) member (all_filtered P (is_tx tx) old.active active) there in
     let all : AllByRecursion P (old.prepared ++ member ∷ []) =
     all_joined P old.prepared (member ∷ []) prepared (own, tt) in
     let among : AllByRecursion P mid.prepared = subst (λ ms. AllByRecursion P ms) (sym prepares.prepared) all in
-    subst (λ ms. AllByRecursion P ms) (sym is) (all_filter P (is_of group) mid.prepared among)
+    subst (λ ms. AllByRecursion P ms) (sym is) (all_filtered P (is_of group) mid.prepared among)
 
 pub parts_numbered : (submitted : List Submitted) (known : ℕ) (ms : List Member) → known ≡ length submitted
     → AllByRecursion (MayTakePart submitted) ms → AllByRecursion (λ (m : Member). IsNumbered known m.tx) ms

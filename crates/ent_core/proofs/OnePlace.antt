@@ -8,7 +8,8 @@ use Rattle.ent_members.specs.Run.{tx_of}
 use Rattle.ent_protocol.specs.Member.{is_tx}
 use Rattle.ent_protocol.specs.State.{State, Dormant, Member, first_of, members}
 use Rattle.ent_protocol_laws.specs.Standing.{StandOnce, standing}
-use Rattle.ent_core.proofs.Sorted.{distinct_if_apart, once, one_if, times, times_joined}
+use Rattle.ent_protocol_laws.proofs.Times.{one_if, times, times_joined}
+use Rattle.ent_core.proofs.Sorted.{distinct_if_apart, once}
 
 -- ---- how often a number stands among the numbers of a list
 

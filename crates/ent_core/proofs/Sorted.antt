@@ -1,62 +1,21 @@
--- Members by number, and how often a number stands in a list.
-use Rattle.std.proofs.Common.{◌≡◌, ◌≢◌, ◌≤◌, ◌<◌, ◌+◌, ◌==◌, ◌||◌, ℕ, suc, Bool, true, false, cond, List, [], ◌∷◌}
-use Rattle.std.proofs.Common.{◌++◌, length, map, refl, sym, ap, ◌∙◌, arith, nat_eq, nat_lt}
+-- Members by number, and numbers that stand once.
+use Rattle.std.proofs.Common.{◌≡◌, ◌≢◌, ◌≤◌, ◌<◌, ◌==◌, ◌||◌, ℕ, suc, Bool, true, false, cond, List, [], ◌∷◌}
+use Rattle.std.proofs.Common.{length, map, refl, sym, ap, ◌∙◌, arith, nat_eq, nat_lt}
 use Rattle.std.specs.Prelude.{All, AllPairs}
 use Rattle.std.specs.List.{AllByRecursion, IsDistinct, filter, list_any}
 use Rattle.std.proofs.lemmas.Bool.Decides.{nat_tests}
 use Rattle.std.proofs.lemmas.List.Elements.{All-head, All-tail}
+use Rattle.ent_lists.specs.Elements.{number_itself, other_number, same_number}
 use Rattle.ent_members.specs.Run.{tx_of}
 use Rattle.ent_protocol.specs.Rollback.{is_among}
 use Rattle.ent_protocol.specs.State.{Member, by_number, inserted}
+use Rattle.ent_protocol_laws.proofs.Times.{one_if, one_more, times}
 
 -- ---- how often a number stands in a list
-
-abbrev pub one_if : Bool → ℕ → ℕ
-one_if true k = suc k
-one_if false k = k
-
-abbrev pub times : ℕ → List ℕ → ℕ
-times n [] = 0
-times n (m ∷ more) = one_if (nat_eq m n) (times n more)
-
-one_added : (b : Bool) (j k : ℕ) → one_if b (j + k) ≡ one_if b j + k
-one_added true j k = omega arith
-one_added false j k = refl
-
-one_more : (b : Bool) (k : ℕ) → k ≤ one_if b k
-one_more true k = omega arith
-one_more false k = omega arith
 
 one_kept : (b : Bool) (j k : ℕ) → j ≤ k → one_if b j ≤ one_if b k
 one_kept true j k le = omega (arith, le)
 one_kept false j k le = le
-
-one_swapped : (a b : Bool) (k : ℕ) → one_if a (one_if b k) ≡ one_if b (one_if a k)
-one_swapped true true k = refl
-one_swapped true false k = refl
-one_swapped false true k = refl
-one_swapped false false k = refl
-
-pub times_joined : (n : ℕ) (xs ys : List ℕ) → times n (xs ++ ys) ≡ times n xs + times n ys
-times_joined n [] ys = nothing_before (times n ys)
-  where
-    nothing_before : (k : ℕ) → k ≡ 0 + k
-    nothing_before k = omega arith
-times_joined n (x ∷ xs) ys =
-    ap (one_if (nat_eq x n)) (times_joined n xs ys) ∙ one_added (nat_eq x n) (times n xs) (times n ys)
-
-itself : (n : ℕ) → nat_eq n n ≡ true
-itself n = grind (arith, nat_tests)
-
-same_of : (m n : ℕ) → nat_eq m n ≡ true → m ≡ n
-same_of m n is = grind (arith, nat_tests)
-
-apart_of : (m n : ℕ) → m ≢ n → nat_eq m n ≡ false
-apart_of m n apart = by (nat_eq m n) refl
-  where
-    by : (b : Bool) → nat_eq m n ≡ b → nat_eq m n ≡ false
-    by true is = absurd (apart (same_of m n is))
-    by false is = is
 
 turned : (m n : ℕ) → nat_eq m n ≡ false → nat_eq n m ≡ false
 turned m n is = grind (arith, nat_tests)
@@ -85,7 +44,7 @@ once (x ∷ xs) distinct n = by (nat_eq x n) refl (once xs distinct.1 n)
     by : (b : Bool) → nat_eq x n ≡ b → times n xs ≤ 1 → one_if b (times n xs) ≤ 1
     by true is rest =
         let none : times x xs ≡ 0 = never x xs distinct.0 in
-        let here : times n xs ≡ 0 = ap (λ m. times m xs) (sym (same_of x n is)) ∙ none in
+        let here : times n xs ≡ 0 = ap (λ m. times m xs) (sym (same_number x n is)) ∙ none in
         omega (arith, here)
     by false is rest = rest
 
@@ -96,7 +55,7 @@ distinct_if_once (x ∷ xs) low = (nowhere x xs (first (low x)), distinct_if_onc
   where
     first : one_if (nat_eq x x) (times x xs) ≤ 1 → times x xs ≤ 0
     first le =
-        let e : one_if (nat_eq x x) (times x xs) ≡ suc (times x xs) = ap (λ b. one_if b (times x xs)) (itself x) in
+        let e : one_if (nat_eq x x) (times x xs) ≡ suc (times x xs) = ap (λ b. one_if b (times x xs)) (number_itself x) in
         omega (arith, e, le)
 
     rest : (n : ℕ) → one_if (nat_eq x n) (times n xs) ≤ 1 → times n xs ≤ 1
@@ -111,7 +70,7 @@ pairs_tail R x xs all = λ i j d below lt. all (suc i) (suc j) d (omega arith) (
 all_apart : (n : ℕ) (xs : List ℕ) → All (λ m. n ≢ m) xs → AllByRecursion (λ m. nat_eq n m ≡ false) xs
 all_apart n [] all = tt
 all_apart n (x ∷ xs) all =
-    (apart_of n x (All-head (λ m. n ≢ m) x xs all), all_apart n xs (All-tail (λ m. n ≢ m) x xs all))
+    (other_number n x (All-head (λ m. n ≢ m) x xs all), all_apart n xs (All-tail (λ m. n ≢ m) x xs all))
 
 pub distinct_if_apart : (xs : List ℕ) → AllPairs (λ (one other : ℕ). one ≢ other) xs → IsDistinct nat_eq xs
 unfolding IsDistinct
@@ -133,21 +92,6 @@ times_filter n p (m ∷ ms) = by (p m) (times_filter n p ms)
     by true le = one_kept (nat_eq m.tx n) (times n (map tx_of (filter p ms))) (times n (map tx_of ms)) le
     by false le = let more = one_more (nat_eq m.tx n) (times n (map tx_of ms)) in omega (arith, le, more)
 
-times_inserted : (n : ℕ) (m : Member) (ms : List Member) → times n (map tx_of (inserted tx_of m ms)) ≡ times n (map
-    tx_of (m ∷ ms))
-times_inserted n m [] = refl
-times_inserted n m (o ∷ os) = by (nat_lt m.tx o.tx) (times_inserted n m os)
-  where
-    by : (b : Bool) → times n (map tx_of (inserted tx_of m os)) ≡ times n (map tx_of (m ∷ os))
-        → times n (map tx_of (cond b (m ∷ o ∷ os) (o ∷ inserted tx_of m os))) ≡ times n (map tx_of (m ∷ o ∷ os))
-    by true e = refl
-    by false e = ap (one_if (nat_eq o.tx n)) e ∙ one_swapped (nat_eq o.tx n) (nat_eq m.tx n) (times n (map tx_of os))
-
-pub times_by_number : (n : ℕ) (ms : List Member) → times n (map tx_of (by_number tx_of ms)) ≡ times n (map tx_of ms)
-times_by_number n [] = refl
-times_by_number n (m ∷ ms) =
-    times_inserted n m (by_number tx_of ms) ∙ ap (one_if (nat_eq m.tx n)) (times_by_number n ms)
-
 -- ---- put in by number
 
 pub all_inserted : (P : Member → Type 0) (m : Member) (ms : List Member) → P m → AllByRecursion P ms
@@ -165,15 +109,6 @@ pub all_by_number : (P : Member → Type 0) (ms : List Member) → AllByRecursio
 all_by_number P [] all = tt
 all_by_number P (m ∷ ms) all = all_inserted P m (by_number tx_of ms) all.0 (all_by_number P ms all.1)
 
-pub all_filter : (P : Member → Type 0) (p : Member → Bool) (ms : List Member) → AllByRecursion P ms
-    → AllByRecursion P (filter p ms)
-all_filter P p [] all = tt
-all_filter P p (m ∷ ms) all = by (p m) (all_filter P p ms all.1)
-  where
-    by : (b : Bool) → AllByRecursion P (filter p ms) → AllByRecursion P (cond b (m ∷ filter p ms) (filter p ms))
-    by true rest = (all.0, rest)
-    by false rest = rest
-
 length_inserted : (m : Member) (ms : List Member) → length (inserted tx_of m ms) ≡ suc (length ms)
 length_inserted m [] = refl
 length_inserted m (o ∷ os) = by (nat_lt m.tx o.tx) (length_inserted m os)
@@ -186,15 +121,6 @@ length_inserted m (o ∷ os) = by (nat_lt m.tx o.tx) (length_inserted m os)
 pub length_by_number : (ms : List Member) → length (by_number tx_of ms) ≡ length ms
 length_by_number [] = refl
 length_by_number (m ∷ ms) = length_inserted m (by_number tx_of ms) ∙ ap suc (length_by_number ms)
-
-pub length_filter : (p : Member → Bool) (ms : List Member) → length (filter p ms) ≤ length ms
-length_filter p [] = omega arith
-length_filter p (m ∷ ms) = by (p m) (length_filter p ms)
-  where
-    by : (b : Bool) → length (filter p ms) ≤ length ms → length (cond b (m ∷ filter p ms) (filter p ms)) ≤ suc
-        (length ms)
-    by true le = omega (arith, le)
-    by false le = omega (arith, le)
 
 or_swapped : (a b c : Bool) → (a || (b || c)) ≡ (b || (a || c))
 or_swapped true true c = refl

@@ -3,6 +3,7 @@ use Rattle.std.proofs.Common.{◌≡◌, ◌≤◌, ◌+◌, ◌==◌, ◌||◌,
 use Rattle.std.proofs.Common.{◌++◌, length, map, refl, sym, ap, subst, ◌∙◌, arith, rules, nat_eq, Option, Some, None}
 use Rattle.std.specs.List.{AllByRecursion, IsDistinct, cons_option, filter, filter_map, list_any}
 use Rattle.std.proofs.lemmas.List.{length-map, map-append}
+use Rattle.ent_lists.specs.Elements.{all_joined}
 use Rattle.ent_tree.specs.declared.declaration.Opening.{Opening}
 use Rattle.ent_closed.specs.Form.{Tables}
 use Rattle.ent_form.specs.declared.catalogue.TableSchema.{TableSchema}
@@ -22,13 +23,14 @@ use Rattle.ent_semantics.specs.declared.book.JointAnswer.{JointAnswer}
 use Rattle.ent_semantics.specs.Serial.{numbered}
 use Rattle.ent_protocol_laws.specs.Attempts.{MayTakePart}
 use Rattle.ent_protocol_laws.specs.Standing.{StandOnce, standing}
+use Rattle.ent_protocol_laws.proofs.Times.{count_by_number, one_if, times, times_joined}
 use Rattle.ent_coordination.specs.Pool.{Posted}
 use Rattle.ent_tables.specs.Stored.{Stored}
 use Rattle.ent_pool_laws.specs.Pooled.{IsPoolOf}
 use Rattle.ent_core.specs.Store.{IsKept}
 use Rattle.ent_core.specs.TakeOut.{MayLeave, is_joint_of_others}
 use Rattle.ent_core.proofs.Sorted.{all_by_number, among_by_number, distinct_if_apart, distinct_if_once}
-use Rattle.ent_core.proofs.Sorted.{length_by_number, once, one_if, times, times_by_number, times_filter, times_joined}
+use Rattle.ent_core.proofs.Sorted.{length_by_number, once, times_filter}
 
 -- ---- who goes to the dormant list
 
@@ -84,11 +86,6 @@ arrived_waiting most submitted cause (m ∷ ms) all = by (dormant_by submitted c
         → AllByRecursion (λ (own : Dormant). own.tx ≤ most) (cons_option o (filter_map (dormant_by submitted cause) ms))
     by None e rest = rest
     by (Some own) e rest = (rw (waiting_tx submitted cause m own e) all.0, rest)
-
-pub all_joined : {A : Type 0} (P : A → Type 0) (xs ys : List A) → AllByRecursion P xs → AllByRecursion P ys
-    → AllByRecursion P (xs ++ ys)
-all_joined P [] ys left right = right
-all_joined P (x ∷ xs) ys left right = (left.0, all_joined P xs ys left.1 right)
 
 -- ---- what the store keeps
 
@@ -293,7 +290,7 @@ may_leave s gone stand part fewer =
         let behind = times_joined n (waiting s.dormant) (map (λ (fated : Fated). fated.tx) s.fates) in
         let here = times_joined n (waiting s.dormant) (numbers_in (map run_attempt_of (by_number tx_of gone))) in
         let same : times n (numbers_in (map run_attempt_of (by_number tx_of gone))) ≡ times n (map tx_of gone) =
-        ap (times n) (numbers_of_run_attempts (by_number tx_of gone)) ∙ times_by_number n gone in
+        ap (times n) (numbers_of_run_attempts (by_number tx_of gone)) ∙ count_by_number tx_of n tx_of gone in
         let few = fewer n in
         omega (arith, all, joined, behind, here, same, few)
 
@@ -304,7 +301,7 @@ may_leave s gone stand part fewer =
         let behind = times_joined n (waiting s.dormant) (finished s.fates) in
         let here = times_joined n (finished s.fates) (numbers_in (map run_attempt_of (by_number tx_of gone))) in
         let same : times n (numbers_in (map run_attempt_of (by_number tx_of gone))) ≡ times n (map tx_of gone) =
-        ap (times n) (numbers_of_run_attempts (by_number tx_of gone)) ∙ times_by_number n gone in
+        ap (times n) (numbers_of_run_attempts (by_number tx_of gone)) ∙ count_by_number tx_of n tx_of gone in
         let few = fewer n in
         omega (arith, all, joined, behind, here, same, few)
 

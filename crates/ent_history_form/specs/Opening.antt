@@ -37,6 +37,15 @@ NamesAscend tables create =
     (front : List Create) (last : Create) → tables ≡ front ++ last ∷ []
     → slice_cmp nat_cmp last.name.name create.name.name ≡ Less
 
+-- what is told behind a table's line, where so many rows are due
+abbrev pub with_opening_table : Draft → Create → ℕ → Draft
+with_opening_table draft create count = record {
+  told = record draft.told {
+    opening = record draft.told.opening { tables = draft.told.opening.tables ++ create ∷ [] };
+  };
+  due = rows_due OpeningRows count;
+}
+
 -- A table: `opening`, its name, its columns, and how many rows follow. There are at most 64 tables, and 65,536 rows in
 -- all of them.
 pub record OpeningStands (draft : Draft) (text : List ℕ) (next : Draft) : Type 0 where
@@ -50,12 +59,18 @@ pub record OpeningStands (draft : Draft) (text : List ℕ) (next : Draft) : Type
   pub ascends : NamesAscend draft.told.opening.tables create
   pub few_tables : length draft.told.opening.tables < MOST_TABLES
   pub few_rows : length draft.told.opening.rows + count ≤ MOST_OPENING_ROWS
-  pub next_is : next ≡ record {
-    told = record draft.told {
-      opening = record draft.told.opening { tables = draft.told.opening.tables ++ create ∷ [] };
+  pub next_is : next ≡ with_opening_table draft create count
+
+-- what is told behind a row of the last table, where so many more rows are due
+abbrev pub with_opening_row : Draft → Create → List Value → ℕ → Draft
+with_opening_row draft create row more = record {
+  told = record draft.told {
+    opening = record draft.told.opening {
+      rows = draft.told.opening.rows ++ opening_row create.name.name row ∷ [];
     };
-    due = rows_due OpeningRows count;
-  }
+  };
+  due = rows_due OpeningRows more;
+}
 
 -- A row of the last table: of the kinds of its columns, ascending.
 pub record OpeningRowStands (draft : Draft) (text : List ℕ) (next : Draft) : Type 0 where
@@ -68,11 +83,4 @@ pub record OpeningRowStands (draft : Draft) (text : List ℕ) (next : Draft) : T
   pub is_row : IsRow row
   pub kinds : kinds_of row ≡ map (λ column. column.kind) create.columns
   pub ascends : Ascends (rows_under draft.told.opening create.name.name) row
-  pub next_is : next ≡ record {
-    told = record draft.told {
-      opening = record draft.told.opening {
-        rows = draft.told.opening.rows ++ opening_row create.name.name row ∷ [];
-      };
-    };
-    due = rows_due OpeningRows more;
-  }
+  pub next_is : next ≡ with_opening_row draft create row more

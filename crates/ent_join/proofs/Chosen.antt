@@ -1,9 +1,10 @@
 -- The least values that are let through make the least choice.
-use Rattle.std.proofs.Common.{◌≡◌, ◌↔◌, ℕ, suc, Bool, true, false, List, [], ◌∷◌, length, map}
+use Rattle.std.proofs.Common.{◌≡◌, ◌↔◌, ℕ, suc, Bool, true, List, [], ◌∷◌, length, map}
 use Rattle.std.proofs.Common.{Option, Some, None, refl, sym, ap, subst, ◌∙◌, arith}
 use Rattle.std.specs.Prelude.{◌&&◌, MatchOption}
 use Rattle.std.specs.List.{AllByRecursion, flat_map, list_all, list_any}
 use Rattle.std.specs.Cmp.Lexicographic.{slice_cmp}
+use Rattle.ent_lists.specs.Elements.{and_both}
 use Rattle.ent_value.specs.Value.{kind_of, kinds_of, value_cmp}
 use Rattle.ent_value.specs.declared.value.Kind.{Kind}
 use Rattle.ent_value.specs.declared.value.Kind.TheVariants as kinds
@@ -28,10 +29,6 @@ use Rattle.ent_join.proofs.Guiding.{frame_guides}
 use Rattle.ent_join.proofs.Held.{all_indexed, all_parts, held, numbered_below, sources_are_named}
 use Rattle.ent_join.proofs.Tied.{SlotBelow, groundings_from, groundings_to, rows_of_laid, tests_to}
 
-both : (a b : Bool) → (a && b) ≡ true → (a ≡ true) × (b ≡ true)
-both true b h = (refl, h)
-both false b h = cc
-
 kind_exact : (one other : Kind) → is_kind one other ≡ true → one ≡ other
 kind_exact kinds.Int kinds.Int h = refl
 kind_exact kinds.Int kinds.Text h = cc
@@ -48,7 +45,7 @@ kinds_from [] [] w h = refl
 kinds_from (kind ∷ class_kinds) [] w h = absurd (omega arith)
 kinds_from [] (value ∷ values) w h = cc
 kinds_from (kind ∷ class_kinds) (value ∷ values) w h =
-    let k = both (is_kind (kind_of value) kind) (are_of_kinds class_kinds values) h in
+    let k = and_both (is_kind (kind_of value) kind) (are_of_kinds class_kinds values) h in
     let first : kind_of value ≡ kind = kind_exact (kind_of value) kind k.0 in
     let rest : kinds_of values ≡ class_kinds = kinds_from class_kinds values (omega arith) k.1 in
     λ i. first i ∷ rest i
@@ -108,13 +105,13 @@ module _ (plan : Plan) (is : IsPlan plan) (tables : List Relation) (frame : Fram
     grounded : (values : List Value) → length values ≡ count → lets_through frame values ≡ true
         → (kinds_of values ≡ plan.kinds) × AreGroundings laid plan.members (spread plan values)
     grounded values w h =
-        let k = both _ _ (sym (passes_is values) ∙ h) in
+        let k = and_both _ _ (sym (passes_is values) ∙ h) in
         let same : kinds_of values ≡ plan.kinds = kinds_from plan.kinds values w k.0 in
         let kinded : map (map (slot_kind (kinds_of values))) plan.slots
         ≡ map (λ (member : Posted). member.statement.variables) plan.members =
         ap (λ ks. map (map (slot_kind ks)) plan.slots) same ∙ is.kinded in (
           same,
-          groundings_from laid (tables_named plan.members) tables e values checks (both _ _ k.1).1 plan.members
+          groundings_from laid (tables_named plan.members) tables e values checks (and_both _ _ k.1).1 plan.members
               plan.slots kinded (below values w) (sources_are_named plan.members) k.1,
         )
 

@@ -1,11 +1,12 @@
 -- Where a class has no value that all indexes of it alone have, nothing is let through.
 use Rattle.std.proofs.Common.{◌≡◌, ℕ, ◌<◌, Bool, true, false, cond, List, [], ◌∷◌, length, refl, sym, ap, subst, ◌∙◌}
 use Rattle.std.proofs.Common.{Some}
-use Rattle.std.specs.Prelude.{◌==◌, ◌&&◌, not, slice_get}
+use Rattle.std.specs.Prelude.{not, slice_get}
 use Rattle.std.specs.List.{list_all, list_any}
 use Rattle.std.specs.Ordering.{is_eq, ordering_then}
 use Rattle.std.specs.declared.cmp.Ordering.TheVariants.{Equal}
 use Rattle.std.proofs.lemmas.Bool.{eqb-true}
+use Rattle.ent_lists.specs.Elements.{and_both}
 use Rattle.ent_value.specs.Value.{value_cmp}
 use Rattle.ent_value.specs.Order.{exact_values}
 use Rattle.ent_value.specs.declared.value.Value.{Value}
@@ -17,10 +18,6 @@ use Rattle.ent_join.specs.declared.frame.Frame.{Frame}
 use Rattle.ent_join.proofs.Begun.{equal_then, get_there, is_equal}
 use Rattle.ent_join.proofs.Guiding.{all_kept, any_kept}
 use Rattle.ent_join.proofs.Steps.{value_cmp-self}
-
-both : (a b : Bool) → (a && b) ≡ true → (a ≡ true) × (b ≡ true)
-both true b h = (refl, h)
-both false b h = cc
 
 alone_is : (class : ℕ) (classes : List ℕ) → is_alone class classes ≡ true → classes ≡ class ∷ []
 alone_is class [] h = cc
@@ -61,7 +58,7 @@ module _ (values : List Value) (class : ℕ) (known : Value) (there : slice_get 
       → list_all (goes_on values) leaders ≡ true → is_empty_domain indexes class leaders ≡ true → ⊥
   not_empty indexes [] all goes h = cc
   not_empty indexes (leader ∷ leaders) all goes h =
-      let k = both (goes_on values leader) (list_all (goes_on values) leaders) goes in
+      let k = and_both (goes_on values leader) (list_all (goes_on values) leaders) goes in
       by (is_alone class leader.classes) refl k.0 (λ e. not_empty indexes leaders all k.1 e) h
     where
       by : (b : Bool) → is_alone class leader.classes ≡ b → goes_on values leader ≡ true
@@ -83,7 +80,7 @@ pub none_passes : (count class : ℕ) (frame : Frame) → class < count
     → is_empty_domain frame.indexes class frame.indexes ≡ true → NonePasses count (lets_through frame)
 none_passes count class frame less empty values wide passes =
     let goes : list_all (goes_on values) frame.indexes ≡ true =
-    (both (list_all (goes_on values) frame.indexes) (list_all (may_hold values) frame.tests)
-    (both (are_of_kinds frame.kinds values) _ passes).1).0 in
+    (and_both (list_all (goes_on values) frame.indexes) (list_all (may_hold values) frame.tests)
+    (and_both (are_of_kinds frame.kinds values) _ passes).1).0 in
     let known = get_there values class (subst (λ n. class < n) (sym wide) less) in
     not_empty values class known.0 known.1 frame.indexes frame.indexes goes goes empty

@@ -6,6 +6,7 @@ use Rattle.std.specs.List.{AllByRecursion, filter, list_all, list_any}
 use Rattle.std.specs.List.Sorted.{IsStrictlySortedBy}
 use Rattle.std.specs.declared.cmp.Ordering.TheVariants.{Less, Greater}
 use Rattle.std.specs.Ordering.{is_eq, nat_cmp}
+use Rattle.ent_lists.specs.Elements.{and_both}
 use Rattle.ent_tree.specs.declared.operand.Comparison.{Comparison}
 use Rattle.ent_tree.specs.declared.operand.Test.{Test}
 use Rattle.ent_value.specs.Value.{kind_of, value_cmp, row_cmp}
@@ -22,10 +23,6 @@ use Rattle.ent_join.specs.declared.frame.Frame.{Frame}
 use Rattle.ent_join.specs.Frame.{IsFrame, has_class, slot_there, may_compare, may_hold, lets_through}
 use Rattle.ent_join.specs.Frame.{are_of_kinds, candidates_of, is_kind}
 use Rattle.ent_join.proofs.Begun.{get_front, is_equal, kept_cmp, next_is, next_in_order}
-
-both : (a b : Bool) → (a && b) ≡ true → (a ≡ true) × (b ≡ true)
-both true b h = (refl, h)
-both false b h = cc
 
 -- ---- one index
 
@@ -141,12 +138,12 @@ candidates_have : (beginning : List Value) (next : Value) (rest : List Value) (i
     → IsAmong next (candidates_in indexes beginning)
 candidates_have beginning next rest [] all held h = cc
 candidates_have beginning next rest (index ∷ indexes) all held h =
-    by (λ k. candidates_have beginning next rest indexes all.1 k (both _ _ h).1)
+    by (λ k. candidates_have beginning next rest indexes all.1 k (and_both _ _ h).1)
     (column_of (length beginning) index.classes) refl held
   where
     passes : (goes_on (beginning ++ next ∷ rest) index ≡ true)
         × (list_all (goes_on (beginning ++ next ∷ rest)) indexes ≡ true)
-    passes = both _ _ h
+    passes = and_both _ _ h
 
     by : (list_any (has_class (length beginning)) indexes ≡ true → IsAmong next (candidates_in indexes beginning))
         → (column : Option ℕ) → column_of (length beginning) index.classes ≡ column
@@ -190,7 +187,7 @@ pub all_kept : {X : Type 0} (p q : X → Bool) → ((x : X) → p x ≡ true →
     → list_all p xs ≡ true → list_all q xs ≡ true
 all_kept p q h [] e = refl
 all_kept p q h (x ∷ xs) e =
-    let k = both (p x) (list_all p xs) e in
+    let k = and_both (p x) (list_all p xs) e in
     ap (λ b. b && list_all q xs) (h x k.0) ∙ all_kept p q h xs k.1
 
 kinds_kept : (kinds : List Kind) (beginning rest : List Value) → are_of_kinds kinds (beginning ++ rest) ≡ true
@@ -202,7 +199,7 @@ kinds_kept kinds [] rest h = none kinds
     none (kind ∷ kinds) = refl
 kinds_kept [] (value ∷ beginning) rest h = cc
 kinds_kept (kind ∷ kinds) (value ∷ beginning) rest h =
-    let k = both (is_kind (kind_of value) kind) (are_of_kinds kinds (beginning ++ rest)) h in
+    let k = and_both (is_kind (kind_of value) kind) (are_of_kinds kinds (beginning ++ rest)) h in
     ap (λ b. b && are_of_kinds kinds beginning) k.0 ∙ kinds_kept kinds beginning rest k.1
 
 pub frame_guides : (count : ℕ) (frame : Frame) → IsFrame count frame
@@ -211,11 +208,11 @@ frame_guides count frame is = record {
   ascending = λ beginning. candidates_ascend beginning frame.indexes is.indexed;
   complete = λ beginning next rest wide h.
       candidates_have beginning next rest frame.indexes is.indexed (is.held (length beginning) (omega arith))
-      (both _ _ (both _ _ h).1).0;
+      (and_both _ _ (and_both _ _ h).1).0;
   kept = λ beginning rest h.
-      let all = both (are_of_kinds frame.kinds (beginning ++ rest))
+      let all = and_both (are_of_kinds frame.kinds (beginning ++ rest))
       (list_all (goes_on (beginning ++ rest)) frame.indexes && list_all (may_hold (beginning ++ rest)) frame.tests) h in
-      let k = both (list_all (goes_on (beginning ++ rest)) frame.indexes)
+      let k = and_both (list_all (goes_on (beginning ++ rest)) frame.indexes)
       (list_all (may_hold (beginning ++ rest)) frame.tests) all.1 in
       ap (λ b. b && (list_all (goes_on beginning) frame.indexes && list_all (may_hold beginning) frame.tests))
       (kinds_kept frame.kinds beginning rest all.0)

@@ -10,6 +10,7 @@ use Rattle.std.proofs.lemmas.Cmp.{nat_cmp_total}
 use Rattle.std.proofs.lemmas.List.Folds.{list_any-append}
 use Rattle.ent_set.specs.Sets as set
 use Rattle.ent_set.specs.Laws.{any_same_set, from_list-ascending}
+use Rattle.ent_lists.specs.Elements.{all_first, all_second}
 use Rattle.ent_value.specs.declared.value.Kind.{Kind}
 use Rattle.ent_value.specs.declared.value.Value.{Value}
 use Rattle.ent_tree.specs.declared.operand.Test.{Test}
@@ -30,7 +31,7 @@ use Rattle.ent_join.specs.Keyed.{class_numbers, is_class, term_slot}
 use Rattle.ent_plan.specs.Ranged.{AreRanged, is_variable, stands_in}
 use Rattle.ent_join.proofs.Deduped.{all_members}
 use Rattle.ent_join.proofs.Keys.{index_is, nat_exact}
-use Rattle.ent_join.proofs.Tied.{Named, SlotBelow, all_left, all_right}
+use Rattle.ent_join.proofs.Tied.{Named, SlotBelow}
 
 or_true : (a b : Bool) → b ≡ true → (a || b) ≡ true
 or_true true b e = refl
@@ -79,7 +80,7 @@ pub all_parts : (P : Slot → Type 0) (slots : List (List Slot)) → AllByRecurs
     → AllByRecursion (AllByRecursion P) slots
 all_parts P [] h = tt
 all_parts P (ss ∷ slots) h =
-    (all_left P ss (flat_map (λ ss. ss) slots) h, all_parts P slots (all_right P ss (flat_map (λ ss. ss) slots) h))
+    (all_first P ss (flat_map (λ ss. ss) slots) h, all_parts P slots (all_second P ss (flat_map (λ ss. ss) slots) h))
 
 numbers_alike : (ns : List ℕ) (test : ℕ → Bool)
     → list_any test (set.ascending (set.from_list {R = nat_cmp} ns)) ≡ list_any test ns

@@ -14,6 +14,7 @@ use Rattle.std.proofs.lemmas.Bool.{eq-eqb, eqb-true}
 use Rattle.std.proofs.lemmas.Cmp.{eq_by_cmp_equiv}
 use borrow.Author.Tests.{ltb-true, lt-ltb}
 use Rattle.std.proofs.Math.Dec.{eqb}
+use Rattle.ent_lists.specs.Elements.{and_both}
 use Rattle.ent_value.specs.Value.{value_cmp, row_cmp}
 use Rattle.ent_value.specs.Order.{exact_values, rows_total, exact_rows}
 use Rattle.ent_value.specs.declared.value.Value.{Value}
@@ -28,10 +29,6 @@ use Rattle.ent_join.specs.Keyed.{IsIndexOf, ascending_classes, index_under}
 use Rattle.ent_join.proofs.Begun.{equal_then, get_there, is_equal}
 use Rattle.ent_join.proofs.Deduped.{all_alike, all_members, all_map}
 use Rattle.ent_join.proofs.Steps.{value_cmp-self}
-
-both : (a b : Bool) → (a && b) ≡ true → (a ≡ true) × (b ≡ true)
-both true b h = (refl, h)
-both false b h = cc
 
 -- the value of a class
 abbrev worth : List Value → ℕ → Value
@@ -69,11 +66,11 @@ module _ (values : List Value) (columns : List Slot) (row : List Value) where
   agree_is [] (v ∷ vs) has h = cc
   agree_is (slot ∷ slots) [] has h = cc
   agree_is (Fixed known ∷ slots) (v ∷ vs) has h =
-      let k = both (is_eq (value_cmp known v)) (agree columns row slots vs) h in
+      let k = and_both (is_eq (value_cmp known v)) (agree columns row slots vs) h in
       ap (λ w. w ∷ map (slot_value values) slots) (exact_values known v (is_equal _ k.0))
       ∙ ap (λ ws. v ∷ ws) (agree_is slots vs has k.1)
   agree_is (Class number ∷ slots) (v ∷ vs) has h =
-      let k = both (is_found (value_under number columns row) v) (agree columns row slots vs) h in
+      let k = and_both (is_found (value_under number columns row) v) (agree columns row slots vs) h in
       ap (λ w. w ∷ map (slot_value values) slots) (found (value_under number columns row) has.0 k.0)
       ∙ ap (λ ws. v ∷ ws) (agree_is slots vs has.1 k.1)
     where

@@ -7,6 +7,7 @@ use Rattle.std.specs.List.{AllByRecursion, filter, list_all}
 use Rattle.std.specs.Ordering.{eq_by_cmp}
 use Rattle.std.proofs.lemmas.Bool.{eqb-true}
 use Rattle.std.proofs.lemmas.Option.{slice_get-get_or}
+use Rattle.ent_lists.specs.Elements.{and_both}
 use Rattle.ent_value.specs.Value.{row_cmp}
 use Rattle.ent_value.specs.Order.{exact_rows}
 use Rattle.ent_value.specs.declared.value.Value.{Value}
@@ -21,16 +22,12 @@ use Rattle.ent_join.specs.Keyed.{class_numbers, value_under}
 use Rattle.ent_join.proofs.Guiding.{all_kept, may_compare_kept}
 use Rattle.ent_join.proofs.Keys.{IsBelow}
 
-both : (a b : Bool) → (a && b) ≡ true → (a ≡ true) × (b ≡ true)
-both true b h = (refl, h)
-both false b h = cc
-
 -- what holds of a whole list holds of what is left of it
 pub filter_keeps : {X : Type 0} (p q : X → Bool) (xs : List X) → list_all p xs ≡ true
     → list_all p (filter q xs) ≡ true
 filter_keeps p q [] h = refl
 filter_keeps p q (x ∷ xs) h =
-    let k = both (p x) (list_all p xs) h in
+    let k = and_both (p x) (list_all p xs) h in
     by (q x) k.0 (filter_keeps p q xs k.1)
   where
     by : (b : Bool) → p x ≡ true → list_all p (filter q xs) ≡ true

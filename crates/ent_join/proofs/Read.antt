@@ -7,6 +7,7 @@ use Rattle.std.specs.Option.{option_map}
 use Rattle.std.specs.Ordering.{is_eq}
 use Rattle.std.proofs.lemmas.Option.{slice_get_past}
 use Rattle.std.proofs.lemmas.Bool.{eq-eqb}
+use Rattle.ent_lists.specs.Elements.{and_both}
 use Rattle.ent_tree.specs.declared.operand.Test.{Test}
 use Rattle.ent_value.specs.Value.{kind_of}
 use Rattle.ent_value.specs.declared.value.Kind.{Kind}
@@ -24,10 +25,6 @@ use Rattle.ent_join.proofs.Steps.{get_before, get_seam}
 
 lower_or_not : (a b : ℕ) → (a < b) ⊎ (b ≤ a)
 lower_or_not a b = grind arith
-
-both : (a b : Bool) → (a && b) ≡ true → (a ≡ true) × (b ≡ true)
-both true b h = (refl, h)
-both false b h = cc
 
 nothing : (b : Bool) → (b && false) ≡ false
 nothing true = refl
@@ -246,7 +243,7 @@ kinds_pushed [] [] last h is = cc
 kinds_pushed (kind ∷ kinds) [] last h is = λ i. is i && none_asked kinds i
 kinds_pushed [] (value ∷ front) last h is = cc
 kinds_pushed (kind ∷ kinds) (value ∷ front) last h is =
-    let k = both (is_kind (kind_of value) kind) (are_of_kinds kinds front) h in
+    let k = and_both (is_kind (kind_of value) kind) (are_of_kinds kinds front) h in
     let more : are_of_kinds kinds (front ++ last ∷ []) ≡ true = kinds_pushed kinds front last k.1 is in
     λ i. k.0 i && more i
 
@@ -288,11 +285,11 @@ kinds_refuse kinds values place value marks e there unfit marked others l agree 
 module _ {X : Type 0} (p : List Value → X → Bool) where
   pub begun_one : (x : X) (xs : List X) (values : List Value)
       → IsBegun (λ values. list_all (p values) (x ∷ xs)) values → IsBegun (λ values. p values x) values
-  begun_one x xs values begun front last e = (both (p front x) (list_all (p front) xs) (begun front last e)).0
+  begun_one x xs values begun front last e = (and_both (p front x) (list_all (p front) xs) (begun front last e)).0
 
   pub begun_others : (x : X) (xs : List X) (values : List Value)
       → IsBegun (λ values. list_all (p values) (x ∷ xs)) values → IsBegun (λ values. list_all (p values) xs) values
-  begun_others x xs values begun front last e = (both (p front x) (list_all (p front) xs) (begun front last e)).1
+  begun_others x xs values begun front last e = (and_both (p front x) (list_all (p front) xs) (begun front last e)).1
 
   pub one_refuses : (x : X) (xs : List X) (values : List Value) (marks : List Bool)
       → IsRefusedFor (λ values. p values x) values marks
@@ -310,11 +307,11 @@ module _ {X : Type 0} (p : List Value → X → Bool) where
 
 pub begun_left : (p q : List Value → Bool) (values : List Value) → IsBegun (λ values. p values && q values) values
     → IsBegun p values
-begun_left p q values begun front last e = (both (p front) (q front) (begun front last e)).0
+begun_left p q values begun front last e = (and_both (p front) (q front) (begun front last e)).0
 
 pub begun_right : (p q : List Value → Bool) (values : List Value) → IsBegun (λ values. p values && q values) values
     → IsBegun q values
-begun_right p q values begun front last e = (both (p front) (q front) (begun front last e)).1
+begun_right p q values begun front last e = (and_both (p front) (q front) (begun front last e)).1
 
 pub left_refuses : (p q : List Value → Bool) (values : List Value) (marks : List Bool)
     → IsRefusedFor p values marks → IsRefusedFor (λ values. p values && q values) values marks

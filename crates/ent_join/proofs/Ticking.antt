@@ -4,6 +4,7 @@ use Rattle.std.proofs.Common.{refl, sym, ap, subst, ◌∙◌, arith}
 use Rattle.std.specs.Prelude.{◌==◌, ◌||◌, is_some}
 use Rattle.std.specs.List.{AllByRecursion, flat_map, list_any}
 use Rattle.ent_set.specs.Sets as set
+use Rattle.ent_lists.specs.Elements.{all_first}
 use Rattle.ent_value.specs.Value.{kinds_of}
 use Rattle.ent_value.specs.declared.value.Kind.{Kind}
 use Rattle.ent_value.specs.declared.value.Value.{Value}
@@ -36,7 +37,7 @@ use Rattle.ent_join.proofs.Held.{all_parts, column_any, held, numbered_below, so
 use Rattle.ent_join.proofs.Keys.{IsBelow, classes_alike, classes_below, index_is, keys_alike}
 use Rattle.ent_join.proofs.NoDeadEnd.{Within, class_any, column_kinds, is_upto, keys_fit, no_dead_ends}
 use Rattle.ent_join.proofs.NoDeadEnd.{rows_of_kinds, upto}
-use Rattle.ent_join.proofs.Tied.{Named, SlotBelow, all_left, columns_below, rows_are, rows_of_laid}
+use Rattle.ent_join.proofs.Tied.{Named, SlotBelow, columns_below, rows_are, rows_of_laid}
 
 -- a value for each kind
 abbrev a_value_each : List Kind → List Value
@@ -134,8 +135,8 @@ module _ (plan : Plan) (is : IsPlan plan) (tables : List Relation) (frame : Fram
       (flat_map (λ (m : Posted). sources_of m.statement) members)) alone (sources_are_named plan.members) in
       let of_one = subst (λ (atoms : List (Membership Value)). AllByRecursion (Named names)
       (flat_map (λ (m : Membership Value). m.select.sources) atoms)) asks.only
-      (all_left (Named names) (sources_of member.statement) [] all) in
-      all_left (Named names) asks.membership.select.sources [] of_one
+      (all_first (Named names) (sources_of member.statement) [] all) in
+      all_first (Named names) asks.membership.select.sources [] of_one
 
   given_kinds : RowsHaveKinds (map (slot_kind ks) columns) given
   given_kinds =

@@ -1,5 +1,5 @@
 -- What the indexes and tests of statements let through are their groundings.
-use Rattle.std.proofs.Common.{◌≡◌, ℕ, zero, suc, ◌<◌, Bool, true, false, cond, List, [], ◌∷◌, ◌++◌, length, map}
+use Rattle.std.proofs.Common.{◌≡◌, ℕ, zero, suc, ◌<◌, Bool, true, false, cond, List, [], ◌∷◌, length, map}
 use Rattle.std.proofs.Common.{Some, refl, sym, ap, ◌∙◌}
 use Rattle.std.specs.Prelude.{◌==◌, ◌&&◌, ◌||◌, slice_index_or}
 use Rattle.std.specs.List.{AllByRecursion, cons_option, flat_map, list_all, list_any}
@@ -10,6 +10,7 @@ use Rattle.std.proofs.lemmas.Map.Views.{any-filter_same}
 use Rattle.std.proofs.lemmas.Option.{slice_get-get_or}
 use Rattle.ent_set.specs.Sets as set
 use Rattle.ent_set.specs.Laws.{contains-ascending}
+use Rattle.ent_lists.specs.Elements.{all_first, all_second, and_both}
 use Rattle.ent_value.specs.Value.{kind_of, kinds_of, row_cmp}
 use Rattle.ent_value.specs.declared.value.Kind.TheVariants as kinds
 use Rattle.ent_value.specs.declared.value.Value.{Value}
@@ -39,18 +40,6 @@ use Rattle.ent_join.specs.Index.{goes_on}
 use Rattle.ent_join.specs.Keyed.{class_numbers, term_slot}
 use Rattle.ent_join.proofs.Left.{tuple_left}
 use Rattle.ent_join.proofs.Keys.{IsBelow, index_is}
-
-both : (a b : Bool) → (a && b) ≡ true → (a ≡ true) × (b ≡ true)
-both true b h = (refl, h)
-both false b h = cc
-
-pub all_left : {X : Type 0} (P : X → Type 0) (xs ys : List X) → AllByRecursion P (xs ++ ys) → AllByRecursion P xs
-all_left P [] ys h = tt
-all_left P (x ∷ xs) ys h = (h.0, all_left P xs ys h.1)
-
-pub all_right : {X : Type 0} (P : X → Type 0) (xs ys : List X) → AllByRecursion P (xs ++ ys) → AllByRecursion P ys
-all_right P [] ys h = h
-all_right P (x ∷ xs) ys h = all_right P xs ys h.1
 
 -- ---- tables beside their numbers
 
@@ -218,7 +207,7 @@ module _ (laid : Tables) (numbers : List ℕ) (tables : List Relation)
   tests_to [] slots below h = refl
   tests_to (member ∷ members) [] below h = absurd h
   tests_to (member ∷ members) (slots ∷ others) below h =
-      let k = both _ _ (both _ _ h.0.grounds).1 in
+      let k = and_both _ _ (and_both _ _ h.0.grounds).1 in
       list_all-append (may_hold values) (map (slot_test slots) member.statement.tests) (all_tests members others)
       ∙ (λ i. tests_are slots member.statement.tests below.0 i && list_all (may_hold values) (all_tests members others))
       ∙ (λ i. k.1 i && list_all (may_hold values) (all_tests members others))
@@ -255,8 +244,8 @@ module _ (laid : Tables) (numbers : List ℕ) (tables : List Relation)
     memberships_are slots (membership ∷ memberships) below named =
         let more = flat_map (λ (m : Membership Value). m.select.sources) memberships in
         (λ i. membership_is slots membership below
-        (all_left (Named numbers) membership.select.sources more named) i
-        && memberships_are slots memberships below (all_right (Named numbers) membership.select.sources more named) i)
+        (all_first (Named numbers) membership.select.sources more named) i
+        && memberships_are slots memberships below (all_second (Named numbers) membership.select.sources more named) i)
 
     abbrev pub passes : List Posted → List (List Slot) → Bool
     passes members slots =
@@ -294,8 +283,8 @@ module _ (laid : Tables) (numbers : List ℕ) (tables : List Relation)
     groundings_from (member ∷ members) (slots ∷ others) kinded below named h =
         let first : map (slot_kind (kinds_of values)) slots ≡ member.statement.variables = cc in
         let rest : Kinded members others = cc in
-        let k = both _ _ (sym (split member members slots others below.0
-        (all_left (Named numbers) (sources_of member.statement) (Sources members) named)) ∙ h) in
+        let k = and_both _ _ (sym (split member members slots others below.0
+        (all_first (Named numbers) (sources_of member.statement) (Sources members) named)) ∙ h) in
         let of_kinds : kinds_of (valuation slots) ≡ member.statement.variables = slot_kinds slots ∙ first in
         let wide : (length (valuation slots) == length member.statement.variables) ≡ true =
         eq-eqb _ _ (sym (kinds_width (valuation slots)) ∙ ap length of_kinds) in (
@@ -306,7 +295,7 @@ module _ (laid : Tables) (numbers : List ℕ) (tables : List Relation)
                 && list_all (holds (term_worth (λ value. value) (valuation slots))) member.statement.tests)) wide ∙ k.0;
           },
           groundings_from members others rest below.1
-              (all_right (Named numbers) (sources_of member.statement) (Sources members) named) k.1,
+              (all_second (Named numbers) (sources_of member.statement) (Sources members) named) k.1,
         )
 
     pub groundings_to : (members : List Posted) (slots : List (List Slot)) → Below slots
@@ -315,9 +304,9 @@ module _ (laid : Tables) (numbers : List ℕ) (tables : List Relation)
     groundings_to [] slots below named h = refl
     groundings_to (member ∷ members) [] below named h = absurd h
     groundings_to (member ∷ members) (slots ∷ others) below named h =
-        let k = both _ _ h.0.grounds in
+        let k = and_both _ _ h.0.grounds in
         split member members slots others below.0
-        (all_left (Named numbers) (sources_of member.statement) (Sources members) named)
+        (all_first (Named numbers) (sources_of member.statement) (Sources members) named)
         ∙ (λ i. k.1 i && passes members others)
         ∙ groundings_to members others below.1
-        (all_right (Named numbers) (sources_of member.statement) (Sources members) named) h.1
+        (all_second (Named numbers) (sources_of member.statement) (Sources members) named) h.1

@@ -9,10 +9,6 @@ use Rattle.ent_value.specs.declared.value.Value.{Value}
 use Rattle.ent_semantics.specs.Term.{no_value}
 use Rattle.ent_join.specs.Cursor.{column_values, IsAmong, IsAscending, IsNext, PassesOver}
 
-pub all_right : {X : Type 0} (P : X → Type 0) (xs ys : List X) → AllByRecursion P (xs ++ ys) → AllByRecursion P ys
-all_right P [] ys h = h
-all_right P (x ∷ xs) ys h = all_right P xs ys h.1
-
 -- what is behind values that are passed over
 pub ascending_right : (xs ys : List Value) → IsAscending (xs ++ ys) → IsAscending ys
 ascending_right [] ys h = h

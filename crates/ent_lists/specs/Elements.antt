@@ -1,9 +1,12 @@
 -- Elements of lists, and what holds of each two of them: the laws that proofs of several crates cite.
 use Rattle.std.proofs.Common.{◌≡◌, ◌⊎◌, ℕ, zero, suc, ◌==◌, ◌<◌, ◌≤◌, Bool, true, false, cond, not, ◌||◌, ◌&&◌, List}
 use Rattle.std.proofs.Common.{[], ◌∷◌, ◌++◌, map, length, refl, sym, ap, subst, ◌∙◌, inl, inr, arith, rules, Some}
-use Rattle.std.proofs.Common.{All, AllPairs, Contains, nat_eq, slice_index_or, slice_get, flat_map, take}
+use Rattle.std.proofs.Common.{All, AllPairs, Contains, nat_eq, slice_index_or, slice_get, flat_map, take, drop, get_or}
+use Rattle.std.proofs.Common.{◌+◌}
+use Rattle.std.specs.Cmp.Lexicographic.{pointwise}
 use Rattle.std.specs.List.{AllByRecursion, IsDistinct, filter, list_any}
 use Rattle.std.specs.List.Sorted.{IsStrictlySortedBy}
+use Rattle.std.proofs.lemmas.List.{drop_more}
 use Rattle.std.specs.declared.cmp.Ordering.{Ordering}
 use Rattle.std.specs.declared.cmp.Ordering.TheVariants.{Less}
 
@@ -392,6 +395,16 @@ module _ {X : Type 0} where
   taken_in (suc k) (y ∷ ys) x (inl same) = inl same
   taken_in (suc k) (y ∷ ys) x (inr at) = inr (taken_in k ys x at)
 
+  pub all_at : (P : X → Type 0) (xs : List X) (i : ℕ) (x : X) → AllByRecursion P xs → i < length xs
+      → x ≡ get_or xs i x → P x
+  all_at P [] i x all low is = absurd (omega (arith, low))
+  all_at P (y ∷ xs) zero x all low is = subst P (sym is) all.0
+  all_at P (y ∷ xs) (suc i) x all low is = all_at P xs i x all.1 (omega (arith, low)) is
+
+  -- what is left from an element on
+  pub from_here : (xs : List X) (i : ℕ) (x : X) → i < length xs → x ≡ get_or xs i x → drop i xs ≡ x ∷ drop (i + 1) xs
+  from_here xs i x low is = drop_more xs i x low ∙ ap (λ z. z ∷ drop (i + 1) xs) (sym is)
+
   pub all_index : (P : X → Type 0) (xs : List X) → All P xs → AllByRecursion P xs
   all_index P [] all = tt
   all_index P (x ∷ xs) all = (all 0 x (omega arith), all_index P xs (λ k d low. all (suc k) d (omega (arith, low))))
@@ -506,3 +519,48 @@ module _ {X : Type 0} where
           → length (cond b (x ∷ filter p xs) (filter p xs)) ≤ suc (length xs)
       by true h = omega (arith, h)
       by false h = omega (arith, h)
+
+-- ---- two lists that are compared place by place
+
+module _ {X Y : Type 0} (E : X → Y → Bool) where
+  -- those before a place fit
+  abbrev pub FitBefore : List X → List Y → ℕ → Type 0
+  FitBefore xs ys i = pointwise E xs ys ≡ pointwise E (drop i xs) (drop i ys)
+
+  here : (xs : List X) (ys : List Y) (i : ℕ) (a : X) (b : Y) → i < length xs → length xs ≡ length ys
+      → pointwise E (drop i xs) (drop i ys)
+      ≡ (E (slice_index_or xs i a) (slice_index_or ys i b) && pointwise E (drop (suc i) xs) (drop (suc i) ys))
+  here [] ys i a b low same = absurd (omega (arith, low))
+  here (x ∷ xs) [] i a b low same = absurd (omega (arith, same))
+  here (x ∷ xs) (y ∷ ys) zero a b low same = refl
+  here (x ∷ xs) (y ∷ ys) (suc i) a b low same = here xs ys i a b (omega (arith, low)) (omega (arith, same))
+
+  at_place : (xs : List X) (ys : List Y) (i : ℕ) (a : X) (b : Y) → a ≡ slice_index_or xs i a
+      → b ≡ slice_index_or ys i b → E (slice_index_or xs i a) (slice_index_or ys i b) ≡ E a b
+  at_place xs ys i a b one two = λ j. E (sym one j) (sym two j)
+
+  pub fit_on : (xs : List X) (ys : List Y) (i : ℕ) (a : X) (b : Y) → i < length xs → length xs ≡ length ys
+      → a ≡ slice_index_or xs i a → b ≡ slice_index_or ys i b → E a b ≡ true → FitBefore xs ys i
+      → FitBefore xs ys (i + 1)
+  fit_on xs ys i a b low same one two is before =
+      let n : suc i ≡ i + 1 = omega arith in
+      subst (FitBefore xs ys) n (before ∙ here xs ys i a b low same
+      ∙ ap (λ c. c && pointwise E (drop (suc i) xs) (drop (suc i) ys)) (at_place xs ys i a b one two ∙ is))
+
+  pub fit_off : (xs : List X) (ys : List Y) (i : ℕ) (a : X) (b : Y) → i < length xs → length xs ≡ length ys
+      → a ≡ slice_index_or xs i a → b ≡ slice_index_or ys i b → E a b ≡ false → FitBefore xs ys i
+      → false ≡ pointwise E xs ys
+  fit_off xs ys i a b low same one two is before =
+      sym (before ∙ here xs ys i a b low same
+      ∙ ap (λ c. c && pointwise E (drop (suc i) xs) (drop (suc i) ys)) (at_place xs ys i a b one two ∙ is))
+
+  pub fit_whole : (xs : List X) (ys : List Y) → length xs ≡ length ys → FitBefore xs ys (length xs)
+      → true ≡ pointwise E xs ys
+  fit_whole xs ys same before = sym (before ∙ ended xs ys same)
+    where
+      ended : (xs : List X) (ys : List Y) → length xs ≡ length ys
+          → pointwise E (drop (length xs) xs) (drop (length xs) ys) ≡ true
+      ended [] [] same = refl
+      ended [] (y ∷ ys) same = absurd (omega (arith, same))
+      ended (x ∷ xs) [] same = absurd (omega (arith, same))
+      ended (x ∷ xs) (y ∷ ys) same = ended xs ys (omega (arith, same))

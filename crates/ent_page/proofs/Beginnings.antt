@@ -7,6 +7,7 @@ use Rattle.std.specs.List.{filter, flat_map, take_while}
 use Rattle.std.specs.List.Sorted.{IsStrictlySortedBy}
 use Rattle.std.specs.Cmp.{unsigned_Decides}
 use Rattle.std.specs.declared.cmp.Ordering.TheVariants.{Less, Greater}
+use Rattle.std.proofs.lemmas.List.{drop_more}
 use Rattle.std.proofs.lemmas.List.Elements.{filter-append}
 use Rattle.std.proofs.lemmas.List.Sums.{take_while-cons}
 use Rattle.std.proofs.lemmas.Slice.Eq.{starts_is}
@@ -14,7 +15,8 @@ use Rattle.ent_page.specs.Key.{key_cmp}
 use Rattle.ent_page.specs.Paged.{AllBelow, AllAbove, keys_left}
 use Rattle.ent_page.specs.Layout.{Ascends, AreBelow, AreAbove}
 use Rattle.ent_page.specs.Front.{begins_with, has_front, beginning_so, NoneBelow, StartsAt}
-use Rattle.ent_page.proofs.Fronts.{same_front, other_front, from_here, from_place}
+use Rattle.ent_lists.specs.Elements.{from_here}
+use Rattle.ent_page.proofs.Fronts.{same_front, other_front}
 use Rattle.ent_page.proofs.Sorted.{flip_less, sorted_back, sorted_below, sorted_above, ascends}
 use Rattle.ent_page.proofs.Paging.{page_sorted, found_at, gap_at, gap_below, gap_above}
 
@@ -135,7 +137,7 @@ module _ {X : Type 0} (f : X → List (List ℕ)) (ps : List X) (at : ℕ) (x : 
       let before = flat_map f (take at ps) ++ take i (f x) in
       let behind = drop (i + 1) (f x) ++ flat_map f (drop (at + 1) ps) in
       let walk_is : walk ≡ key ∷ (drop (i + 1) (f x) ++ flat_map f (drop (at + 1) ps)) = w ∙ from_page i tail e
-      ∙ ap (λ z. z ++ flat_map f (drop (at + 1) ps)) (from_place (f x) i [] within
+      ∙ ap (λ z. z ++ flat_map f (drop (at + 1) ps)) (drop_more (f x) i [] within
       ∙ ap (λ k. k ∷ drop (i + 1) (f x)) here) in
       let ordered = subst (IsStrictlySortedBy key_cmp) all sorted in (
         before,

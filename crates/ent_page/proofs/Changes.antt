@@ -7,16 +7,16 @@ use Rattle.std.specs.List.Sorted.{IsStrictlySortedBy}
 use Rattle.std.specs.Ordering.{eq_by_cmp, is_eq, is_lt}
 use Rattle.std.specs.declared.cmp.Ordering.{Ordering}
 use Rattle.std.specs.declared.cmp.Ordering.TheVariants.{Less, Equal, Greater}
-use Rattle.std.proofs.lemmas.List.{append_assoc, length-append, take-append-drop, drop_all}
-use Rattle.ent_page.proofs.Fronts.{from_here, from_place}
+use Rattle.std.proofs.lemmas.List.{append_assoc, length-append, take-append-drop, drop_all, drop_more}
 use Rattle.ent_page.proofs.Paging.{flat_at, flat_from}
+use Rattle.ent_lists.specs.Elements.{all_by, all_joined, from_here}
 use Rattle.ent_set.specs.Sets as set
 use Rattle.ent_set.specs.Laws.{same_set, contains-from_list, contains-insert_all, contains-without_all}
 use Rattle.ent_page.specs.Key.{key_cmp}
 use Rattle.ent_page.specs.Paged.{AllBelow, AllAbove}
 use Rattle.ent_page.specs.Front.{NoneBelow, IsSplitAt}
 use Rattle.ent_page.specs.Changed.{has, IsChanged, IsSplitBefore, IsPut}
-use Rattle.ent_page.proofs.Sorted.{nil_sorted, keys_total, keys_exact, flip, all_both, all_more, any_over, same_key}
+use Rattle.ent_page.proofs.Sorted.{nil_sorted, keys_total, keys_exact, flip, any_over, same_key}
 use Rattle.ent_page.proofs.Sorted.{sorted_front, sorted_back, sorted_below, sorted_above, above_more, none_above}
 use Rattle.ent_page.proofs.Beginnings.{not_itself, none_below_all}
 
@@ -95,8 +95,8 @@ module _ (low : List ℕ → Bool) (apart : (x y : List ℕ) → low x ≡ true 
   unfolding IsStrictlySortedBy
   over [] ys h k low_xs high_ys = k
   over (x ∷ xs) ys h k low_xs high_ys = (
-    all_both (λ y. key_cmp x y ≡ Less) xs ys h.0
-        (all_more (λ y. low y ≡ false) (λ y. key_cmp x y ≡ Less) (λ y e. apart x y low_xs.0 e) ys high_ys),
+    all_joined (λ y. key_cmp x y ≡ Less) xs ys h.0
+        (all_by (λ y. low y ≡ false) (λ y. key_cmp x y ≡ Less) ys (λ y e. apart x y low_xs.0 e) high_ys),
     over xs ys h.1 k low_xs.1 high_ys,
   )
 
@@ -157,12 +157,12 @@ below_bound bound x y h k = by (key_cmp x bound) refl h (key_cmp y bound) refl k
     by Greater e h p f k = absurd cc
 
 low_side : (bound : List ℕ) (xs : List (List ℕ)) → AllBelow xs bound → AllByRecursion (λ k. is_below bound k ≡ true) xs
-low_side bound xs h = all_more (λ k. key_cmp k bound ≡ Less) (λ k. is_below bound k ≡ true) (λ k e. ap is_lt e) xs h
+low_side bound xs h = all_by (λ k. key_cmp k bound ≡ Less) (λ k. is_below bound k ≡ true) xs (λ k e. ap is_lt e) h
 
 high_side : (bound : List ℕ) (xs : List (List ℕ)) → NoneBelow xs bound
     → AllByRecursion (λ k. is_below bound k ≡ false) xs
-high_side bound xs h = all_more (λ k. key_cmp k bound ≡ Less → ⊥) (λ k. is_below bound k ≡ false)
-    (λ k none. by (key_cmp k bound) none) xs h
+high_side bound xs h = all_by (λ k. key_cmp k bound ≡ Less → ⊥) (λ k. is_below bound k ≡ false) xs
+    (λ k none. by (key_cmp k bound) none) h
   where
     by : (o : Ordering) → (o ≡ Less → ⊥) → is_lt o ≡ false
     by Less none = absurd (none refl)
@@ -358,8 +358,8 @@ cut_here keys bound key at front back sorted lt is below over f b =
       below = subst (λ z. AllBelow z bound) (sym f) below;
       from = subst (λ z. NoneBelow z bound) (sym (b ∙ split)) (
         over,
-        all_more (λ k. key_cmp key k ≡ Less) (λ k. key_cmp k bound ≡ Less → ⊥)
-            (λ k h less. over (keys_total.trans key k bound h less)) (drop (at + 1) keys) behind,
+        all_by (λ k. key_cmp key k ≡ Less) (λ k. key_cmp k bound ≡ Less → ⊥) (drop (at + 1) keys)
+            (λ k h less. over (keys_total.trans key k bound h less)) behind,
       );
     }
 
@@ -375,7 +375,7 @@ pub below_next : (keys : List (List ℕ)) (bound key : List ℕ) (at : ℕ) → 
     → AllBelow (take at keys) bound → key_cmp key bound ≡ Less → AllBelow (take (at + 1) keys) bound
 below_next keys bound key at lt is below less =
     subst (λ z. AllBelow z bound) (sym (take-at keys at key lt is))
-    (all_both (λ k. key_cmp k bound ≡ Less) (take at keys) (key ∷ []) below (less, tt))
+    (all_joined (λ k. key_cmp k bound ≡ Less) (take at keys) (key ∷ []) below (less, tt))
 
 pub sorted_parts : (bound : List ℕ) (keys front others : List (List ℕ)) → IsStrictlySortedBy key_cmp keys
     → IsSplitAt bound keys front others → IsStrictlySortedBy key_cmp front × IsStrictlySortedBy key_cmp others
@@ -444,7 +444,7 @@ pub key_step : (keys removed added old new : List (List ℕ)) (i : ℕ) (key : L
     → between ≡ new ++ af → last ≡ between ++ cond (has rr key || has ar key) [] (key ∷ [])
     → IsUnderWay keys removed added old last (drop (i + 1) keys) rr ar
 key_step keys removed added old new i key rl rf rr al af ar between last lt is sorted way r a e f =
-    let split : drop i keys ≡ key ∷ drop (i + 1) keys = from_place keys i [] lt
+    let split : drop i keys ≡ key ∷ drop (i + 1) keys = drop_more keys i [] lt
     ∙ ap (λ k. k ∷ drop (i + 1) keys) (sym is) in
     let ordered =
     subst (IsStrictlySortedBy key_cmp) split

@@ -1,6 +1,6 @@
 -- Comparison of bytes with all that begin alike.
-use Rattle.std.proofs.Common.{◌≡◌, Bool, true, false, eqb, ℕ, zero, suc, ◌<◌, ◌≤◌, ◌+◌, get_or, List, [], ◌∷◌, ◌++◌}
-use Rattle.std.proofs.Common.{length, take, drop, refl, sym, ap, ◌∙◌, arith}
+use Rattle.std.proofs.Common.{◌≡◌, Bool, true, false, eqb, ℕ, ◌<◌, ◌≤◌, List, [], ◌∷◌, ◌++◌}
+use Rattle.std.proofs.Common.{length, take, refl, sym, ap, ◌∙◌, arith}
 use Rattle.std.specs.Ordering.{nat_cmp, ordering_then}
 use Rattle.std.specs.declared.cmp.Ordering.{Ordering}
 use Rattle.std.specs.declared.cmp.Ordering.TheVariants.{Less, Equal, Greater}
@@ -71,20 +71,6 @@ pub value_step : (left rest : List ℕ) (v : Value) (vs : List Value) (o : Order
     → key_cmp left (key_of (v ∷ vs)) ≡ o → key_cmp rest (key_of vs) ≡ o
 value_step left rest v vs o e h =
     sym (ap (λ z. key_cmp z (value_key v ++ key_of vs)) e ∙ same_front (value_key v) rest (key_of vs)) ∙ h
-
-pub from_here : {X : Type 0} (xs : List X) (i : ℕ) (x : X) → i < length xs → x ≡ get_or xs i x
-    → drop i xs ≡ x ∷ drop (i + 1) xs
-from_here [] i x lt is = absurd (omega arith)
-from_here (y ∷ ys) zero x lt is = ap (λ z. z ∷ ys) (sym is)
-from_here (y ∷ ys) (suc i) x lt is = from_here ys i x (omega arith) is
-    ∙ ap (λ n. x ∷ drop n (y ∷ ys)) (let e : suc (i + 1) ≡ suc i + 1 = omega arith in e)
-
-pub from_place : {X : Type 0} (xs : List X) (i : ℕ) (d : X) → i < length xs
-    → drop i xs ≡ get_or xs i d ∷ drop (i + 1) xs
-from_place [] i d lt = absurd (omega arith)
-from_place (y ∷ ys) zero d lt = refl
-from_place (y ∷ ys) (suc i) d lt = from_place ys i d (omega arith)
-    ∙ ap (λ n. get_or ys i d ∷ drop n (y ∷ ys)) (let e : suc (i + 1) ≡ suc i + 1 = omega arith in e)
 
 pub not_nil : (left : List ℕ) → 0 < length left → Greater ≡ key_cmp left []
 not_nil [] h = absurd (omega arith)

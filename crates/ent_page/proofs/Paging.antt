@@ -22,7 +22,8 @@ use Rattle.ent_set.specs.Laws.{from_list-ascending}
 use Rattle.ent_page.specs.Key.{key_cmp}
 use Rattle.ent_page.specs.Layout.{Ascends, AreBelow, AreAbove}
 use Rattle.ent_page.specs.Paged.{IsSized, AllBelow, AllAbove}
-use Rattle.ent_page.proofs.Sorted.{keys_total, keys_exact, all_both, all_take, all_drop, all_at, sorted_back}
+use Rattle.ent_lists.specs.Elements.{all_at, all_joined}
+use Rattle.ent_page.proofs.Sorted.{keys_total, keys_exact, all_take, all_drop, sorted_back}
 use Rattle.ent_page.proofs.Sorted.{sorted_front, sorted_below, sorted_above, sorted_put, sorted_cut, below_more}
 use Rattle.ent_page.proofs.Sorted.{above_more, flip, ascends, below_taken, above_left, inserted_at, removed_at}
 use Rattle.ent_page.proofs.Sorted.{taken_out, set_put, set_cut, absent, present}
@@ -84,8 +85,8 @@ module _ {X : Type 0} (f : X → List (List ℕ)) where
   spliced_sizes a b c d ps y others from to none same p q r h k =
       let P = λ (x : X). IsSized (f x) in
       same_sizes d (take from ps ++ (y ++ drop to ps)) (joined_up a b c d [] (take from ps) y (drop to ps) none p q r)
-      (all_both P (take from ps) (y ++ drop to ps) (all_take P from ps h)
-      (all_both P y (drop to ps) (subst (λ (zs : List X). Sized zs) (sym same) k) (all_drop P to ps h)))
+      (all_joined P (take from ps) (y ++ drop to ps) (all_take P from ps h)
+      (all_joined P y (drop to ps) (subst (λ (zs : List X). Sized zs) (sym same) k) (all_drop P to ps h)))
 
   pub flat_from : (ps : List X) (i : ℕ) (x : X) → i < length ps → x ≡ get_or ps i x
       → flat_map f (drop i ps) ≡ f x ++ flat_map f (drop (i + 1) ps)
@@ -241,11 +242,11 @@ module _ {X : Type 0} (f : X → List (List ℕ)) where
       where
         pub gap_below : (i : ℕ) → i ≤ length (f x) → AreBelow (f x) key i
             → AllBelow (flat_map f (take at ps) ++ take i (f x)) key
-        gap_below i le h = all_both (λ k. key_cmp k key ≡ Less) (flat_map f (take at ps)) (take i (f x)) below
+        gap_below i le h = all_joined (λ k. key_cmp k key ≡ Less) (flat_map f (take at ps)) (take i (f x)) below
             (below_taken (f x) key i le h)
 
         pub gap_above : (i : ℕ) → AreAbove (f x) key i → AllAbove (drop i (f x) ++ flat_map f (drop (at + 1) ps)) key
-        gap_above i h = all_both (λ k. key_cmp key k ≡ Less) (drop i (f x)) (flat_map f (drop (at + 1) ps))
+        gap_above i h = all_joined (λ k. key_cmp key k ≡ Less) (drop i (f x)) (flat_map f (drop (at + 1) ps))
             (above_left (f x) key i h) above
 
         pub absent_at : (i : ℕ) → i ≤ length (f x) → AreBelow (f x) key i → AreAbove (f x) key i

@@ -1,6 +1,6 @@
 -- Lists of keys of which each is below the next.
 use Rattle.std.proofs.Common.{◌≡◌, ℕ, zero, suc, ◌+◌, ◌<◌, ◌≤◌, Bool, true, false, List, [], ◌∷◌, ◌++◌, length, take}
-use Rattle.std.proofs.Common.{drop, get_or, sym, refl, ap, subst, ◌∙◌, arith}
+use Rattle.std.proofs.Common.{drop, get_or, sym, refl, ap, ◌∙◌, arith}
 use Rattle.std.specs.Prelude.{◌||◌, ◌&&◌, not}
 use Rattle.std.specs.List.{AllByRecursion, list_any, insert, remove}
 use Rattle.std.specs.List.Sorted.{IsStrictlySortedBy}
@@ -13,6 +13,7 @@ use Rattle.std.proofs.lemmas.Map.Lookups.{CmpEqualImpliesEq, exact_bytes}
 use Rattle.std.proofs.lemmas.Map.Keys.{Less-from_sorted}
 use Rattle.ent_set.specs.Sets as set
 use Rattle.ent_set.specs.Laws.{same_set, contains-from_list, contains-insert, contains-without_all}
+use Rattle.ent_lists.specs.Elements.{all_by, all_first, all_joined, all_second}
 use Rattle.ent_page.specs.Key.{key_cmp}
 use Rattle.ent_page.specs.Layout.{Ascends, AreBelow, AreAbove}
 use Rattle.ent_page.specs.Paged.{AllBelow, AllAbove}
@@ -32,30 +33,6 @@ unfolding IsStrictlySortedBy
 one_sorted key = (tt, tt)
 
 -- ---- a fact of all elements, by recursion
-
-pub all_left : {X : Type 0} (P : X → Type 0) (xs ys : List X) → AllByRecursion P (xs ++ ys) → AllByRecursion P xs
-all_left P [] ys h = tt
-all_left P (x ∷ xs) ys h = (h.0, all_left P xs ys h.1)
-
-pub all_right : {X : Type 0} (P : X → Type 0) (xs ys : List X) → AllByRecursion P (xs ++ ys) → AllByRecursion P ys
-all_right P [] ys h = h
-all_right P (x ∷ xs) ys h = all_right P xs ys h.1
-
-pub all_both : {X : Type 0} (P : X → Type 0) (xs ys : List X) → AllByRecursion P xs → AllByRecursion P ys
-    → AllByRecursion P (xs ++ ys)
-all_both P [] ys h k = k
-all_both P (x ∷ xs) ys h k = (h.0, all_both P xs ys h.1 k)
-
-pub all_more : {X : Type 0} (P Q : X → Type 0) → ((x : X) → P x → Q x) → (xs : List X) → AllByRecursion P xs
-    → AllByRecursion Q xs
-all_more P Q f [] h = tt
-all_more P Q f (x ∷ xs) h = (f x h.0, all_more P Q f xs h.1)
-
-pub all_at : {X : Type 0} (P : X → Type 0) (xs : List X) (i : ℕ) (x : X) → AllByRecursion P xs → i < length xs
-    → x ≡ get_or xs i x → P x
-all_at P [] i x h lt is = absurd (omega arith)
-all_at P (y ∷ xs) zero x h lt is = subst P (sym is) h.0
-all_at P (y ∷ xs) (suc i) x h lt is = all_at P xs i x h.1 (omega arith) is
 
 pub all_take : {X : Type 0} (P : X → Type 0) (n : ℕ) (xs : List X) → AllByRecursion P xs → AllByRecursion P (take n xs)
 all_take P zero xs h = tt
@@ -83,14 +60,15 @@ sorted_back (x ∷ xs) ys h = sorted_back xs ys h.1
 pub sorted_front : (xs ys : List (List ℕ)) → IsStrictlySortedBy key_cmp (xs ++ ys) → IsStrictlySortedBy key_cmp xs
 unfolding IsStrictlySortedBy
 sorted_front [] ys h = tt
-sorted_front (x ∷ xs) ys h = (all_left (λ y. key_cmp x y ≡ Less) xs ys h.0, sorted_front xs ys h.1)
+sorted_front (x ∷ xs) ys h = (all_first (λ y. key_cmp x y ≡ Less) xs ys h.0, sorted_front xs ys h.1)
 
 -- those before a key are below it, those behind it above
 pub sorted_below : (xs ys : List (List ℕ)) (key : List ℕ) → IsStrictlySortedBy key_cmp (xs ++ key ∷ ys)
     → AllBelow xs key
 unfolding IsStrictlySortedBy
 sorted_below [] ys key h = tt
-sorted_below (x ∷ xs) ys key h = ((all_right (λ y. key_cmp x y ≡ Less) xs (key ∷ ys) h.0).0, sorted_below xs ys key h.1)
+sorted_below (x ∷ xs) ys key h =
+    ((all_second (λ y. key_cmp x y ≡ Less) xs (key ∷ ys) h.0).0, sorted_below xs ys key h.1)
 
 pub sorted_above : (ys : List (List ℕ)) (key : List ℕ) → IsStrictlySortedBy key_cmp (key ∷ ys) → AllAbove ys key
 unfolding IsStrictlySortedBy
@@ -102,8 +80,8 @@ unfolding IsStrictlySortedBy
 sorted_put [] ys key h below above = (above, h)
 sorted_put (x ∷ xs) ys key h below above =
     let P = λ (y : List ℕ). key_cmp x y ≡ Less in (
-      all_both P xs (key ∷ ys) (all_left P xs ys h.0)
-          (below.0, all_right P xs ys h.0),
+      all_joined P xs (key ∷ ys) (all_first P xs ys h.0)
+          (below.0, all_second P xs ys h.0),
       sorted_put xs ys key h.1 below.1 above,
     )
 
@@ -113,14 +91,14 @@ unfolding IsStrictlySortedBy
 sorted_cut [] ys key h = h.1
 sorted_cut (x ∷ xs) ys key h =
     let P = λ (y : List ℕ). key_cmp x y ≡ Less in
-    (all_both P xs ys (all_left P xs (key ∷ ys) h.0) (all_right P xs (key ∷ ys) h.0).1, sorted_cut xs ys key h.1)
+    (all_joined P xs ys (all_first P xs (key ∷ ys) h.0) (all_second P xs (key ∷ ys) h.0).1, sorted_cut xs ys key h.1)
 
 -- below a key that is not above another
 pub below_more : (xs : List (List ℕ)) (first key : List ℕ) → AllBelow xs first → (key_cmp first key ≡ Greater → ⊥)
     → AllBelow xs key
 below_more xs first key below not_above =
-    all_more (λ k. key_cmp k first ≡ Less) (λ k. key_cmp k key ≡ Less) (λ k h. under k h (key_cmp first key) refl)
-    xs below
+    all_by (λ k. key_cmp k first ≡ Less) (λ k. key_cmp k key ≡ Less) xs
+    (λ k h. under k h (key_cmp first key) refl) below
   where
     under : (k : List ℕ) → key_cmp k first ≡ Less → (o : Ordering) → key_cmp first key ≡ o → key_cmp k key ≡ Less
     under k h Less e = keys_total.trans k first key h e
@@ -130,8 +108,8 @@ below_more xs first key below not_above =
 pub above_more : (ys : List (List ℕ)) (first key : List ℕ) → AllAbove ys first → key_cmp key first ≡ Less
     → AllAbove ys key
 above_more ys first key above less =
-    all_more (λ k. key_cmp first k ≡ Less) (λ k. key_cmp key k ≡ Less) (λ k h. keys_total.trans key first k less h)
-    ys above
+    all_by (λ k. key_cmp first k ≡ Less) (λ k. key_cmp key k ≡ Less) ys
+    (λ k h. keys_total.trans key first k less h) above
 
 -- ---- from places
 

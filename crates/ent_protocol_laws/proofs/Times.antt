@@ -29,7 +29,7 @@ one_swapped true false k = refl
 one_swapped false true k = refl
 one_swapped false false k = refl
 
-one_more : (b : Bool) (k : ℕ) → k ≤ one_if b k
+pub one_more : (b : Bool) (k : ℕ) → k ≤ one_if b k
 one_more true k = omega arith
 one_more false k = omega arith
 

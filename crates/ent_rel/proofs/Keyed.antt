@@ -333,13 +333,6 @@ pub no_more : (kinds : List Kind) (s : KeySet) (rows : List (List Value)) → Ho
 no_more kinds s rows hold many = bounded_beyond (set.insert_all (rows_of kinds s) rows) (set.insert_all
     (rows_of kinds s) rows) (omega (arith, len_grows (rows_of kinds s) rows, len_rows kinds s hold))
 
-pub from_here : {X : Type 0} (xs : List X) (i : ℕ) (x : X) → i < length xs → x ≡ get_or xs i x
-    → drop i xs ≡ x ∷ drop (i + 1) xs
-from_here [] i x lt is = absurd (omega arith)
-from_here (y ∷ ys) zero x lt is = ap (λ z. z ∷ ys) (sym is)
-from_here (y ∷ ys) (suc i) x lt is = from_here ys i x (omega arith) is
-    ∙ ap (λ n. x ∷ drop n (y ∷ ys)) (let e : suc (i + 1) ≡ suc i + 1 = omega arith in e)
-
 -- ---- many keys
 
 pub rows_insert_all : (kinds : List Kind) (s : KeySet) (rows : List (List Value))

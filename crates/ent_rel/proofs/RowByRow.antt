@@ -8,6 +8,7 @@ use Rattle.std.proofs.lemmas.Map.Views.{list_any-from_Contains, Contains-from_an
 use Rattle.ent_set.specs.Sets as set
 use Rattle.ent_set.specs.Laws.{contains-insert, contains-retain, contains-insert_all, contains-ascending}
 use Rattle.ent_set.specs.Laws.{contains-without_all, one_passing, passes_where}
+use Rattle.ent_lists.specs.Elements.{and_both}
 use Rattle.ent_value.specs.declared.value.Value.{Value}
 use Rattle.ent_value.specs.Value.{row_cmp}
 use Rattle.ent_value.specs.Order.{rows_total, exact_rows, rows_equal}
@@ -21,10 +22,6 @@ use Rattle.ent_rel.proofs.Lists.{same_rows}
 cond_is : {X : Type 0} (b : Bool) (x y : X) → cond b (Ok x) (Err full) ≡ Ok y → x ≡ y
 cond_is true x y e = cc
 cond_is false x y e = absurd cc
-
-both : (a b : Bool) → (a && b) ≡ true → (a ≡ true) × (b ≡ true)
-both true b h = (refl, h)
-both false b h = cc
 
 opposite : (b : Bool) → not b ≡ true → b ≡ false
 opposite true h = cc
@@ -57,7 +54,7 @@ inserts_one rows after row count e q =
 pub deletes_matches : DeletesMatches
 deletes_matches rows test q =
     let told = stays_where rows (λ row. not (test row)) q in (
-      λ here. let p = both _ _ (sym told ∙ here) in (p.0, opposite _ p.1),
+      λ here. let p = and_both _ _ (sym told ∙ here) in (p.0, opposite _ p.1),
       λ p. told ∙ (λ i. p.0 i && not (p.1 i)),
     )
 
@@ -99,7 +96,7 @@ module _ {E : Type 0} (rows : RowSet) (test : List Value → Bool) (image : List
       let passes = λ (k : List Value). passes_made (eq_by_cmp row_cmp q) (image k) in
       let one = one_passing rows_total exact_rows passes (set.ascending (set.retain rows test)) (sym (any_images
       (eq_by_cmp row_cmp q) image (set.ascending (set.retain rows test)) images made) ∙ h) in
-      let old = both (set.contains rows one.0) (test one.0) (sym (stays_where rows test one.0)
+      let old = and_both (set.contains rows one.0) (test one.0) (sym (stays_where rows test one.0)
       ∙ contains-ascending (set.retain rows test) one.0 ∙ one.2) in
       (one.0, old.0, old.1, image_is q (image one.0) one.1)
 
@@ -160,7 +157,7 @@ changes_rows rows removed added q =
     (eq_by_cmp row_cmp q) removed)) = contains-without_all rows_total exact_rows rows removed q in (
       λ here. elim (or_cases (list_any (eq_by_cmp row_cmp q) added) (set.contains kept q) (sym told ∙ here)) [
         | inl new ↦ inl (Contains-from_any same_rows q added new)
-        | inr old ↦ let p = both _ _ (sym left ∙ old) in inr (
+        | inr old ↦ let p = and_both _ _ (sym left ∙ old) in inr (
           p.0,
           λ there. true_false (sym
               (list_any-from_Contains rows_equal q removed there) ∙ opposite _ p.1),

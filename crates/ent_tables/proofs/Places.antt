@@ -1,7 +1,6 @@
 -- Elements at their places.
 use Rattle.std.proofs.Common.{◌≡◌, ◌<◌, ◌≤◌, ℕ, zero, suc, List, [], ◌∷◌, length, map, set, get_or, refl, sym, ap, ◌∙◌, arith, Some, None}
 use Rattle.std.specs.Prelude.{slice_get, slice_index_or}
-use Rattle.std.specs.List.{AllByRecursion}
 use Rattle.ent_set.specs.Sets as set
 use Rattle.ent_tree.specs.declared.declaration.Create.{Create}
 use Rattle.ent_rel.specs.Relation.{Relation}
@@ -47,11 +46,6 @@ pub set_there : {A : Type 0} (xs : List A) (i : ℕ) (x : A) → slice_get xs i 
 set_there [] i x is = refl
 set_there (y ∷ xs) zero x is = let e : y ≡ x = cc in ap (λ z. z ∷ xs) (sym e)
 set_there (y ∷ xs) (suc i) x is = ap (λ zs. y ∷ zs) (set_there xs i x is)
-
-pub all_at : {A : Type 0} (P : A → Type 0) (xs : List A) (i : ℕ) (x : A) → AllByRecursion P xs → i < length xs → x ≡ get_or xs i x → P x
-all_at P [] i x all lt is = absurd (omega arith)
-all_at P (y ∷ xs) zero x all lt is = rw is all.0
-all_at P (y ∷ xs) (suc i) x all lt is = all_at P xs i x all.1 (omega arith) is
 
 -- ---- tables as uses name them
 

@@ -15,7 +15,6 @@ use Rattle.ent_semantics.specs.declared.book.Fate.{Fate}
 use Rattle.ent_book.specs.Report.{row_line}
 use Rattle.ent_book.specs.Report2.{bindings_text, numbered_script_text}
 use Rattle.ent_history.specs.Text.{told_member_text}
-use Rattle.ent_history.specs.Told.{opening_row}
 use Rattle.ent_report_lines.specs.Fates.{transaction_text}
 use Rattle.ent_report_lines.specs.Joints.{joint_text}
 use Rattle.ent_report_lines.specs.Openings.{opening_text}
@@ -23,6 +22,7 @@ use Rattle.ent_history_form.specs.Parts.{IsNumber, IsRow, IsValue}
 use Rattle.ent_history_form.specs.Draft.{AnswerRows, Draft, Due, Free, Members, OpeningRows, TableRows, members_due}
 use Rattle.ent_history_form.specs.Draft.{on_last, rows_due}
 use Rattle.ent_history_form.specs.Opening.{HeadingStands, OpeningRowStands, OpeningStands}
+use Rattle.ent_history_form.specs.Opening.{with_opening_row, with_opening_table}
 use Rattle.ent_history_form.specs.Scripts.{ScriptStands}
 use Rattle.ent_history_form.specs.Answers.{AnswerRowStands, AnswerStands, TxStands, answer_line_text, answers_so_far}
 use Rattle.ent_history_form.specs.Answers.{with_answer}
@@ -71,12 +71,7 @@ heading_same draft one other next after s o =
     record { piece = s.text_is ∙ sym o.text_is; draft = s.next_is ∙ sym o.next_is }
 
 abbrev opened : Draft → Create × ℕ → Draft
-opened draft x = record {
-  told = record draft.told {
-    opening = record draft.told.opening { tables = draft.told.opening.tables ++ x.0 ∷ [] };
-  };
-  due = rows_due OpeningRows x.1;
-}
+opened draft x = with_opening_table draft x.0 x.1
 
 opening_same : Known → (draft : Draft) (one other x y : List ℕ) (next after : Draft) → OpeningStands draft one next
     → OpeningStands draft other after → one ++ x ≡ other ++ y → Same one other next after
@@ -92,16 +87,6 @@ opening_same known draft one other x y next after s o e =
       draft = s.next_is ∙ ap (opened draft) same ∙ sym o.next_is;
     }
 
-abbrev with_opening_row : Draft → ℕ → Create → List Value → Draft
-with_opening_row draft more create row = record {
-  told = record draft.told {
-    opening = record draft.told.opening {
-      rows = draft.told.opening.rows ++ opening_row create.name.name row ∷ [];
-    };
-  };
-  due = rows_due OpeningRows more;
-}
-
 opening_row_same : (draft : Draft) (one other x y : List ℕ) (next after : Draft) → OpeningRowStands draft one next
     → OpeningRowStands draft other after → one ++ x ≡ other ++ y → Same one other next after
 opening_row_same draft one other x y next after s o e =
@@ -110,7 +95,7 @@ opening_row_same draft one other x y next after s o e =
     let create = same_Some s.create o.create (sym s.last ∙ o.last) in
     record {
       piece = line_is one other (row_text s.row) (row_text o.row) s.text_is o.text_is (ap row_text row);
-      draft = s.next_is ∙ (λ i. with_opening_row draft (more i) (create i) (row i)) ∙ sym o.next_is;
+      draft = s.next_is ∙ (λ i. with_opening_row draft (create i) (row i) (more i)) ∙ sym o.next_is;
     }
 
 -- ---- scripts

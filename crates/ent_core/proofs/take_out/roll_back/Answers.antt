@@ -1,6 +1,7 @@
 use Rattle.std.proofs.Common.{◌≡◌, ◌∙◌, ap, sym, subst, map, List}
 use Rattle.std.specs.List.{filter}
-use Rattle.ent_core.proofs.Sorted.{all_filter, by_number_again, length_filter, times_filter}
+use Rattle.ent_lists.specs.Elements.{all_filtered, shorter}
+use Rattle.ent_core.proofs.Sorted.{by_number_again, times_filter}
 use Rattle.ent_core.proofs.TakenOut.{may_leave, members_are_distinct, numbers_leaving, part_is_distinct, room_for}
 use Rattle.ent_core.specs.TakeOut.{MayLeave}
 use Rattle.ent_core.specs.contracts.store.Store.{the_view}
@@ -19,7 +20,7 @@ take_out-requires-clause-room c =
     let are : c.run_attempts-run_attempts.result ≡ map run_attempt_of (group_members s group) =
     c.run_attempts-run_attempts.ensures (the_view c.store.inside) ∙ ap (λ (x : State). map run_attempt_of (group_members x group))
     c.store.view_is in
-    room_for s (filter (is_of group) (members s)) c.run_attempts-run_attempts.result c.requires.counted are (length_filter
+    room_for s (filter (is_of group) (members s)) c.run_attempts-run_attempts.result c.requires.counted are (shorter
     (is_of group) (members s))
 
 pub take_out-requires-clause-leaving : goal.take_out-requires-clause-leaving
@@ -31,7 +32,7 @@ take_out-requires-clause-leaving c =
     c.store.view_is in
     subst (λ (run_attempts : List RunAttempt). MayLeave run_attempts s) (sym are)
     (may_leave s (filter (is_of group) (members s)) c.requires.once
-    (all_filter (MayTakePart s.submitted) (is_of group) (members s) c.requires.within.members)
+    (all_filtered (MayTakePart s.submitted) (is_of group) (members s) c.requires.within.members)
     (λ n. times_filter n (is_of group) (members s)))
 
 pub returns-clause-group : goal.returns-clause-group

@@ -2,7 +2,8 @@ use Rattle.std.proofs.Common.{◌≡◌, ◌+◌, ◌<◌, length, [], drop, ap,
 use Rattle.std.proofs.lemmas.List.{drop_all}
 use Rattle.std.proofs.lemmas.Bool.Decides.{nat_tests}
 use Rattle.ent_page.specs.Key.{key_of, key_cmp}
-use Rattle.ent_page.proofs.Fronts.{value_step, from_here, not_nil}
+use Rattle.ent_lists.specs.Elements.{from_here}
+use Rattle.ent_page.proofs.Fronts.{value_step, not_nil}
 use Rattle.ent_page.proofs.probe.compare.Goals as goal
 
 pub loop-value-preserved : goal.loop-value-preserved

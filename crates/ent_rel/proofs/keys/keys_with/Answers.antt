@@ -6,7 +6,8 @@ use Rattle.ent_value.specs.Value.{kinds_of}
 use Rattle.ent_page.specs.Key.{key_of, AreStorable}
 use Rattle.ent_rel.specs.Relation.{bounded}
 use Rattle.ent_rel.specs.Kept.{rows_of, HoldRows}
-use Rattle.ent_rel.proofs.Keyed.{rows_insert, hold_insert, no_more, from_here, len_rows}
+use Rattle.ent_lists.specs.Elements.{from_here}
+use Rattle.ent_rel.proofs.Keyed.{rows_insert, hold_insert, no_more, len_rows}
 use Rattle.ent_rel.proofs.Meanings.{bounded_within}
 use Rattle.ent_rel.proofs.keys.keys_with.Goals as goal
 

@@ -7,7 +7,8 @@ use Rattle.ent_value.specs.Order.{rows_total, exact_rows}
 use Rattle.ent_page.specs.Key.{key_of, AreStorable}
 use Rattle.ent_rel.specs.Kept.{listed_rows, rows_of, HoldRows}
 use Rattle.ent_rel.proofs.Lists.{have_kinds}
-use Rattle.ent_rel.proofs.Keyed.{rows_without, hold_without, without_other, listed_fit, from_here}
+use Rattle.ent_lists.specs.Elements.{from_here}
+use Rattle.ent_rel.proofs.Keyed.{rows_without, hold_without, without_other, listed_fit}
 use Rattle.ent_rel.proofs.keys.keys_without.Goals as goal
 use Rattle.ent_rel.proofs.keys.keys_without.Goals.{then-have_kinds+in_ok-key+in_ok-keys, else-have_kinds}
 

@@ -1,6 +1,6 @@
 use Rattle.std.proofs.Common.{◌≡◌, ◌<◌, true, false, length, subst, arith, rules}
+use Rattle.ent_lists.specs.Elements.{FitBefore, fit_off, fit_on, fit_whole}
 use Rattle.ent_warnings.specs.Offered.{may_be_item}
-use Rattle.ent_warnings.proofs.Pairs.{FitBefore, fit_off, fit_on, fit_whole}
 use Rattle.ent_warnings.proofs.offer.may_be_items.Goals as goal
 
 pub returns-then-not-may_meet : goal.returns-then-not-may_meet

@@ -1,5 +1,5 @@
+use Rattle.ent_lists.specs.Elements.{FitBefore}
 use Rattle.ent_warnings.specs.Offered.{may_be_item}
-use Rattle.ent_warnings.proofs.Pairs.{FitBefore}
 use Rattle.ent_warnings.proofs.offer.may_be_items.Given as goal
 
 -- the terms so far fit
