@@ -3,8 +3,7 @@ use Rattle.std.proofs.Common.{◌≡◌, ◌≤◌, ℕ, suc, Bool, true, false,
 use Rattle.std.proofs.Common.{sym, ap, subst, ◌∙◌, arith, filter, Option, Some, None}
 use Rattle.std.specs.List.{AllByRecursion}
 use Rattle.std.proofs.lemmas.List.{length-append}
-use Rattle.std.proofs.lemmas.List.Sums.{count_by-le-length, length-filter}
-use Rattle.ent_lists.specs.Elements.{all_filtered, all_joined}
+use Rattle.ent_lists.specs.Elements.{all_filtered, all_joined, shorter}
 use Rattle.ent_semantics.specs.declared.book.Entry.{Entry}
 use Rattle.ent_semantics.specs.declared.book.Fated.{Fated}
 use Rattle.ent_members.specs.Moves.{PreparesMember, is_of_another, run_of}
@@ -34,9 +33,6 @@ numbers_told number (member ∷ more) = ap (λ rest. (number, member.tx) ∷ res
 pub nobody_there : (here : Option Member) (member : Member) → None ≡ here → here ≡ Some member → ⊥
 nobody_there None member none some = cc
 nobody_there (Some other) member none some = cc
-
-shorter : (p : Member → Bool) (xs : List Member) → length (filter p xs) ≤ length xs
-shorter p xs = omega (arith, length-filter p xs, count_by-le-length p xs)
 
 some_there : (active : List Member) (tx : ℕ) (member : Member) → found active tx ≡ Some member → 1 ≤ length active
 some_there [] tx member e = absurd cc
