@@ -18,5 +18,5 @@ returns c =
     c.loop-row.invariant
     ∙ ap named (take_all c.loop-row.row-index rows (omega arith))
     ∙ ap named (c.as_slice-row-items.ensures ∙ c.deref.ensures) in
-    subst (λ found. IfOk c.ascending.result (λ rows. rows.items ≡ set.ascending (set.from_list {R = row_cmp} found))) all
-    c.ascending.ensures
+    subst (λ found. IfOk c.ascending.result (λ rows. rows.items ≡ set.ascending (set.from_list {R = row_cmp} found)))
+    all c.ascending.ensures
