@@ -7,6 +7,7 @@ ghost use Rattle.ent_book.specs.Report2.{column_text, columns_text, declared_col
 ghost use Rattle.ent_book.specs.Report2.{opening_line, opening_table_text, opening_text};
 
 use crate::piece::{append_number, append_rows};
+use ent_rel::ascending;
 use ent_tree::{Column, Create, Opening, OpeningRow};
 use ent_value::{Kind, Name, Row};
 use std::alloc::{AllocError, Global};
@@ -85,9 +86,7 @@ fn opening_rows(alloc: Global, opening: &Opening, name: &Name) -> Result<Vec<Row
             rows.push(row_of(alloc, row)?)?;
         }
     }
-    rows.sort()?;
-    rows.dedup();
-    Ok(rows)
+    ascending(rows)
 }
 
 fn append_opening_line(

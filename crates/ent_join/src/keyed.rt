@@ -2,8 +2,6 @@
 ghost use Rattle.std.specs.Prelude.{◌≡◌, IfOk, map};
 ghost use Rattle.std.specs.List.{filter, list_all};
 ghost use Rattle.std.specs.Option.{option_copied};
-ghost use Rattle.ent_set.specs.Sets as set;
-ghost use Rattle.ent_value.specs.Value.{row_cmp};
 ghost use Rattle.ent_join.specs.Alone.{is_left, may_hold_in};
 ghost use Rattle.ent_join.specs.Keyed.{agree, ascending_classes, class_numbers, index_under, is_class, is_wanted};
 ghost use Rattle.ent_join.specs.Keyed.{key_under, keys_under, term_slot, value_under};
@@ -12,6 +10,7 @@ use crate::alone::{all_may_hold_in, tests_of};
 use crate::index::Index;
 use ent_closed::Term;
 use ent_plan::Slot;
+use ent_rel::ascending;
 use ent_tree::Test;
 use ent_value::{Row, Sequence, Value};
 use std::alloc::{AllocError, Global};
@@ -177,15 +176,6 @@ fn keys_under(
     Ok(keys)
 }
 
-/// Rows in order, each once.
-fn ordered(mut rows: Vec<Row>) -> Result<Vec<Row>, AllocError>
-    ensures { IfOk result (λ sorted. sorted.items ≡ set.ascending (set.from_list {R = row_cmp} rows.items)) }
-{
-    rows.sort()?;
-    rows.dedup();
-    Ok(rows)
-}
-
 /// The index of the rows of a sub-select's result that agree with the columns of a tuple. Rows that a test refuses
 /// which reads nothing but these columns are left out.
 pub(crate) fn index_of(
@@ -199,7 +189,7 @@ pub(crate) fn index_of(
 {
     let own = tests_of(alloc, tests, columns)?;
     let classes = classes_of(alloc, columns)?;
-    let keys = ordered(keys_under(alloc, own.as_slice(), columns, classes.as_slice(), rows)?)?;
+    let keys = ascending(keys_under(alloc, own.as_slice(), columns, classes.as_slice(), rows)?)?;
     let index = Index::new(alloc, Sequence::from_vec(classes), Sequence::from_vec(keys))?;
     Ok(index)
 }

@@ -13,6 +13,7 @@ mod kinds;
 mod laws;
 mod matches;
 mod row_cursor;
+mod rows;
 mod table;
 
 pub use change::Delta;
@@ -20,4 +21,5 @@ pub use ent_page::{Cell, KnownValue, StoredRow};
 pub use fault::{LoadRefused, TableFull};
 pub use laws::changes_by_row;
 pub use row_cursor::RowCursor;
+pub use rows::ascending;
 pub use table::Table;

@@ -6,7 +6,6 @@ ghost use Rattle.std.specs.Prelude.{◌≡◌, [], ◌∷◌, ◌++◌, IfOk, On
 ghost use Rattle.std.specs.Arc.{arc_value};
 ghost use Rattle.std.specs.List.{filter};
 ghost use Rattle.ent_set.specs.Sets as set;
-ghost use Rattle.ent_value.specs.Value.{row_cmp};
 ghost use Rattle.ent_semantics.specs.Selection.{meets, selection};
 ghost use Rattle.ent_select.specs.Combined.{combined, shown_of, AreNarrowed};
 ghost use Rattle.ent_select.specs.Prepared.{prepared_meets};
@@ -18,7 +17,7 @@ use crate::first::first_values;
 use crate::prepared::PreparedTests;
 use crate::row::{item_row, joined, shown_row};
 use ent_closed::{Operand, Select};
-use ent_rel::{RowCursor, Table};
+use ent_rel::{RowCursor, Table, ascending};
 use ent_tree::Test;
 use ent_value::{Row, Sequence, Value};
 use std::alloc::{AllocError, Global};
@@ -116,15 +115,6 @@ fn search(
             Ok(())
         }
     }
-}
-
-/// The set of some rows, ascending.
-fn ascending(mut rows: Vec<Row>) -> Result<Vec<Row>, AllocError>
-    ensures { IfOk result (λ sorted. sorted.items ≡ set.ascending (set.from_list {R = row_cmp} rows.items)) }
-{
-    rows.sort()?;
-    rows.dedup();
-    Ok(rows)
 }
 
 /// The result of a SELECT over its sources, in the order in which it names them: ascending, each row once.

@@ -4,7 +4,7 @@ use Rattle.std.proofs.lemmas.List.Filters.{dedup_is}
 use Rattle.ent_set.specs.Laws.{ascending-from_sorted}
 use Rattle.ent_value.specs.Value.{row_cmp}
 use Rattle.ent_value.specs.Order.{rows_total, exact_rows}
-use Rattle.ent_select.proofs.select.ascending.Goals as goal
+use Rattle.ent_rel.proofs.rows.ascending.Goals as goal
 
 pub returns : goal.returns
 returns c =
