@@ -101,13 +101,6 @@ impl TransactionTable {
         Ok(first)
     }
 
-    /// Who is finished, in the order in which they were.
-    pub fn fates(&self) -> &[Fated]
-        ensures { result.now ≡ self.now.fates }
-    {
-        self.fates.as_slice()
-    }
-
     /// The place of a transaction among those who wait. It takes no longer where more do.
     pub fn dormant_of(&self, tx: Tx) -> Option<&Entrant>
         ensures { option_copied result ≡ first_of (filter (λ own. own.tx == tx) self.now.dormant) }
