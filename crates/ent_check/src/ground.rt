@@ -14,20 +14,11 @@ ghost use Rattle.ent_value.specs.Value.{row_cmp};
 use crate::term::{terms_row, test_holds};
 use ent_closed::{Entangled, Membership, Term};
 use ent_rel::Table;
-use ent_select::all;
+use ent_select::{all, table_at};
 use ent_tree::Test;
 use ent_value::{Row, Value, rows_are_ordered};
 use std::alloc::{AllocError, Global};
 use std::sync::Arc;
-
-/// The table of a number, which is shared.
-pub(crate) fn table_at(tables: &[Arc<Table>], number: usize) -> Result<Arc<Table>, AllocError>
-    requires { number < length tables.now }
-    ensures { IfOk result (λ table. arc_value table ≡ slice_index_or (map arc_value tables.now) number no_table) }
-{
-    let table = tables[number].clone()?;
-    Ok(table)
-}
 
 /// The tables of these numbers, in order, shared.
 pub fn tables_of(

@@ -8,10 +8,10 @@ ghost use Rattle.ent_rules.specs.Verdict.{first_of};
 ghost use Rattle.ent_select.specs.Tables.{no_table, rows_in};
 
 use crate::alike::same_rows;
-use crate::ground::table_at;
 use ent_history::Shown;
 use ent_rel::Table;
 use ent_rules::{Finding, Rule, Thing};
+use ent_select::table_at;
 use ent_tree::Create;
 use ent_value::{Name, Row};
 use std::alloc::{AllocError, Global};

@@ -1,25 +1,16 @@
 //! Tables under their numbers.
-ghost use Rattle.std.specs.Prelude.{◌≡◌, ◌<◌, [], IfOk, length, map, slice_index_or};
+ghost use Rattle.std.specs.Prelude.{◌≡◌, ◌<◌, IfOk, length, map};
 ghost use Rattle.std.specs.Arc.{arc_value};
 ghost use Rattle.std.specs.List.{AllByRecursion};
-ghost use Rattle.ent_select.specs.Tables.{no_table};
 ghost use Rattle.ent_tables.specs.AtNumber.{seen_at, seen_in};
 
 use ent_job::Seen;
 use ent_members::Use;
 use ent_rel::Table;
+use ent_select::table_at;
 use ent_value::Sequence;
 use std::alloc::{AllocError, Global};
 use std::sync::Arc;
-
-/// The table of a number, which is shared.
-pub(crate) fn table_at(tables: &[Arc<Table>], number: usize) -> Result<Arc<Table>, AllocError>
-    requires { number < length tables.now }
-    ensures { IfOk result (λ table. arc_value table ≡ slice_index_or (map arc_value tables.now) number no_table) }
-{
-    let table = tables[number].clone()?;
-    Ok(table)
-}
 
 /// The table of a number, as work sees it.
 fn table_seen(tables: &[Arc<Table>], number: usize) -> Result<Seen, AllocError>

@@ -14,7 +14,7 @@ ghost use Rattle.ent_protocol.specs.State.{Member};
 ghost use Rattle.ent_tables.specs.Stored.{changed, kinds_declared, relation_at, rolled_back, rolled_back_with};
 ghost use Rattle.ent_tables.specs.Stored.{settled, settled_with, taken_back};
 
-use crate::at_number::{table_at, tables_seen};
+use crate::at_number::tables_seen;
 use ent_eval::table_changed;
 use ent_form::Catalogue;
 use ent_group::{Members, Tx};
@@ -22,6 +22,7 @@ use ent_job::Seen;
 use ent_loading::load_tables;
 use ent_members::Use;
 use ent_rel::{Delta, Table};
+use ent_select::table_at;
 use ent_tree::Opening;
 use ent_undo::{UndoLog, rollback_goes_newest_first};
 use ent_value::Sequence;
