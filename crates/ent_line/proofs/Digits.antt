@@ -1,5 +1,6 @@
 -- Digits that go on above a limit.
-use Rattle.std.proofs.Common.{◌≡◌, ℕ, suc, ◌-◌, ◌*◌, ◌+◌, ◌<◌, ◌≤◌, List, ◌∷◌, length, drop, get_or, ap, sym, ◌∙◌, arith, drop-cons}
+use Rattle.std.proofs.Common.{◌≡◌, ℕ, suc, ◌-◌, ◌*◌, ◌+◌, ◌<◌, ◌≤◌, List, ◌∷◌, length, drop, get_or, ap, sym, ◌∙◌}
+use Rattle.std.proofs.Common.{arith, drop-cons}
 use Rattle.ent_text.specs.Lexing.{value_from}
 use Rattle.ent_text.proofs.Reading.{value_grows}
 
