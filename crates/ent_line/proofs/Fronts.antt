@@ -1,14 +1,7 @@
 -- What stands behind the first bytes that pass a test begins with none that passes.
 use Rattle.std.proofs.Common.{◌≡◌, ℕ, suc, ◌+◌, Bool, true, false, subst, drop, List, [], ◌∷◌, refl, sym, arith}
 use Rattle.std.specs.List.{prefix_len}
-use Rattle.ent_text.specs.Lexing.{after}
-use Rattle.ent_text.proofs.Fronts as fronts
-use Rattle.ent_line.specs.Written.{Stops}
-
--- no byte that passes stands first in the words of the lemmas about fronts either
-pub so_stops : (test : ℕ → Bool) (bytes : List ℕ) → Stops test bytes → fronts.Stops test bytes
-so_stops test [] stop = tt
-so_stops test (c ∷ others) stop = stop
+use Rattle.ent_text.specs.Lexing.{after, Stops}
 
 stops_by : (test : ℕ → Bool) (b : ℕ) (bytes : List ℕ) (t : Bool) → test b ≡ t → Stops test (after test bytes)
     → Stops test (after test (b ∷ bytes))

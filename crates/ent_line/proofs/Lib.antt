@@ -1,4 +1,4 @@
-pub mod Reading
+pub mod Digits
 pub mod Fronts
 pub mod Numbers
 pub mod Texts

@@ -8,12 +8,11 @@ use Rattle.std.specs.Str.{all_ascii_digits}
 use Rattle.std.proofs.lemmas.Bool.{le-leb, leb-true, eq-eqb, eqb-true, eqb-false}
 use Rattle.std.proofs.lemmas.Fmt.{decimal-digits_value, digits_value-decimal, digits_decimal, decimal_nonempty, first_decimal, decimal_digit}
 use Rattle.std.proofs.lemmas.Str.Parse.{IsNumeralModel, numerals_by_fold, tells_all_ascii_digits}
-use Rattle.ent_text.specs.Lexing.{after}
+use Rattle.ent_text.specs.Lexing.{after, Stops, value_from}
 use Rattle.ent_text.proofs.Fronts.{front_passes, parts, taken_is, after_is}
 use Rattle.ent_line.specs.declared.fault.LineFault.{LineFault}
-use Rattle.ent_line.specs.Pieces.{Read, is_plain, value_from, number_to}
-use Rattle.ent_line.specs.Written.{Stops}
-use Rattle.ent_line.proofs.Fronts.{so_stops, after_stops}
+use Rattle.ent_line.specs.Pieces.{Read, is_plain, number_to}
+use Rattle.ent_line.proofs.Fronts.{after_stops}
 
 -- ---- results
 
@@ -109,7 +108,6 @@ unfolding number_to
 number_again most n rest small le stop =
     let h : n < 2 ^ 64 = omega (arith, small, le) in
     let all = digits_of n h in
-    let ends = so_stops is_ascii_digit rest stop in
-    rw (taken_is is_ascii_digit (decimal n) rest all ends)
-    (rw (after_is is_ascii_digit (decimal n) rest all ends)
+    rw (taken_is is_ascii_digit (decimal n) rest all stop)
+    (rw (after_is is_ascii_digit (decimal n) rest all stop)
     (rw (plain_decimal n h) (rw (digits_value-decimal own n h) (rw (le-leb n most le) refl))))

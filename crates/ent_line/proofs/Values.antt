@@ -12,12 +12,14 @@ use Rattle.ent_value.specs.Print.{value_text, doubled}
 use Rattle.ent_value.specs.declared.text.TheConstants.{LONGEST_TEXT}
 use Rattle.ent_value.specs.declared.value.Value.{Value}
 use Rattle.ent_value.specs.declared.value.Value.TheVariants.{Int, Text}
+use Rattle.ent_text.specs.Lexing.{Stops}
+use Rattle.ent_text.proofs.Texts.{is_quote}
 use Rattle.ent_line.specs.declared.fault.LineFault.{LineFault}
 use Rattle.ent_line.specs.Pieces.{content_at, number_to, number_at, short_text, text_at, negative, negative_at}
 use Rattle.ent_line.specs.Pieces.{positive_at, value_at}
-use Rattle.ent_line.specs.Written.{Stops, IsOver, IsText, IsValue}
+use Rattle.ent_line.specs.Written.{IsOver, IsText, IsValue}
 use Rattle.ent_line.proofs.Numbers.{chosen, read_of, is_first, is_rest, number_found, number_again, digits_of}
-use Rattle.ent_line.proofs.Texts.{is_quote, content_found, content_again}
+use Rattle.ent_line.proofs.Texts.{content_found, content_again}
 
 -- a reading that goes on after another
 pub bind_ok : {A B : Type 0} (r : Result A LineFault) (f : A → Result B LineFault) (y : B) → (r >>= f) ≡ Ok y

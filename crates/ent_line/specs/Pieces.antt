@@ -1,14 +1,15 @@
 -- How the parts of a line are read from the left: a thing and the bytes behind it, or nothing of the sort.
-use Rattle.std.specs.Prelude.{ℕ, zero, suc, pos, negsuc, ◌+◌, ◌-◌, ◌*◌, Bool, true, false, not, List, [], ◌∷◌, length}
+use Rattle.std.specs.Prelude.{ℕ, zero, suc, pos, negsuc, Bool, true, false, not, List, [], ◌∷◌, length}
 use Rattle.std.specs.Prelude.{Result, Ok, Err, nat_le, ◌==◌, if◌then◌else◌, slice_index, take, drop, codes}
 use Rattle.std.specs.List.{take_while}
-use Rattle.std.specs.Char.{is_ascii_digit, is_ascii_control}
+use Rattle.std.specs.Char.{is_ascii_digit}
 use Rattle.std.specs.Cmp.Lexicographic.{pointwise}
 use Rattle.ent_value.specs.Refusal.{◌>>=◌}
 use Rattle.ent_value.specs.declared.text.TheConstants.{LONGEST_TEXT}
 use Rattle.ent_value.specs.declared.value.Value.{Value}
 use Rattle.ent_value.specs.declared.value.Value.TheVariants.{Int, Text}
-use Rattle.ent_text.specs.Lexing.{after}
+use Rattle.ent_text.specs.declared.fault.TextFault.{TextFault}
+use Rattle.ent_text.specs.Lexing.{after, value_from, quoted_at}
 use Rattle.ent_line.specs.declared.fault.LineFault.{LineFault}
 use Rattle.ent_line.specs.declared.fault.LineFault.TheVariants.{Misfit}
 
@@ -23,11 +24,6 @@ unfoldable pub behind : List ℕ → List ℕ → Result (List ℕ) LineFault
 behind word bytes = wanted (pointwise ◌==◌ (take (length word) bytes) word) (drop (length word) bytes)
 
 -- ---- numbers
-
--- the number that digits go on to
-abbrev pub value_from : ℕ → List ℕ → ℕ
-value_from value [] = value
-value_from value (d ∷ ds) = value_from (value * 10 + (d - 48)) ds
 
 -- a digit at least, and no zero before others
 abbrev pub is_plain : List ℕ → Bool
@@ -53,16 +49,14 @@ abbrev pub negative : ℕ → List ℕ → Read Value
 negative zero rest = Err Misfit
 negative (suc n) rest = Ok (Int (negsuc n), rest)
 
-abbrev pub with_byte : ℕ → Read (List ℕ) → Read (List ℕ)
-with_byte b read = read >>= λ x. Ok (b ∷ x.0, x.1)
+-- a reading of a text's bytes, whose faults are all the same here
+abbrev pub unplaced : {A : Type 0} → Result A TextFault → Result A LineFault
+unplaced (Ok x) = Ok x
+unplaced (Err fault) = Err Misfit
 
 -- what stands in quotes, behind the opening one, and the bytes behind the closing one
 unfoldable pub content_at : List ℕ → Read (List ℕ)
-content_at [] = Err Misfit
-content_at (b ∷ []) = if b == 39 then Ok ([], []) else Err Misfit
-content_at (b ∷ c ∷ bytes) =
-    if b == 39 then (if c == 39 then with_byte 39 (content_at bytes) else Ok ([], c ∷ bytes))
-    else (if is_ascii_control b then Err Misfit else with_byte b (content_at (c ∷ bytes)))
+content_at bytes = unplaced (quoted_at 0 0 bytes)
 
 -- at most 255 bytes
 abbrev pub short_text : List ℕ → List ℕ → Read Value

@@ -1,17 +1,13 @@
 -- What can be written in a line, and what can stand behind it.
-use Rattle.std.specs.Prelude.{◌≡◌, ◌≢◌, ◌≤◌, ◌==◌, ◌||◌, ℕ, Bool, false, List, [], ◌∷◌, length, FitsSigned, IsFalse}
-use Rattle.std.specs.List.{list_any, AllByRecursion}
+use Rattle.std.specs.Prelude.{◌≢◌, ◌≤◌, ◌==◌, ◌||◌, ℕ, Bool, List, [], length, FitsSigned}
+use Rattle.std.specs.List.{AllByRecursion}
 use Rattle.std.specs.Int.{w64}
-use Rattle.std.specs.Char.{is_ascii_control}
 use Rattle.ent_value.specs.Name.{is_word_byte}
 use Rattle.ent_value.specs.declared.text.TheConstants.{LONGEST_TEXT}
 use Rattle.ent_value.specs.declared.value.Value.{Value}
 use Rattle.ent_value.specs.declared.value.Value.TheVariants.{Int, Text}
-
--- no byte that passes stands first
-abbrev pub Stops : (ℕ → Bool) → List ℕ → Type 0
-Stops test [] = Unit {0}
-Stops test (c ∷ others) = test c ≡ false
+use Rattle.ent_text.specs.Lexing.{Stops}
+use Rattle.ent_text.specs.Spelling.{IsPlain}
 
 -- a byte that would go on a number, a name or a text
 abbrev pub goes_on : ℕ → Bool
@@ -23,7 +19,7 @@ IsOver = Stops goes_on
 
 -- at most 255 bytes, without control characters
 abbrev pub IsText : List ℕ → Type 0
-IsText content = IsFalse (list_any is_ascii_control content) × (length content ≤ LONGEST_TEXT)
+IsText content = IsPlain content × (length content ≤ LONGEST_TEXT)
 
 -- a number of 64 bits, -9223372036854775808 too, or a text
 abbrev pub IsValue : Value → Type 0

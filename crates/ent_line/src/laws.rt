@@ -4,8 +4,9 @@ ghost use Rattle.std.specs.Fmt.{decimal};
 ghost use Rattle.std.specs.Char.{is_ascii_digit};
 ghost use Rattle.ent_value.specs.Print.{row_text, value_text};
 ghost use Rattle.ent_value.specs.declared.value.Value.{Value};
+ghost use Rattle.ent_text.specs.Lexing.{Stops};
 ghost use Rattle.ent_line.specs.Pieces.{behind, number_to, row_at, value_at};
-ghost use Rattle.ent_line.specs.Written.{Stops, IsOver, IsRow, IsValue};
+ghost use Rattle.ent_line.specs.Written.{IsOver, IsRow, IsValue};
 
 /// A number is read just where it is written, up to a limit, and no digit stands behind it.
 #[tactic(auto, using(crate::proofs::Numbers::number_found, crate::proofs::Numbers::number_again))]

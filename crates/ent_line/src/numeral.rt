@@ -1,25 +1,15 @@
 //! Numbers as they are printed: in decimal, without leading zeros.
-ghost use Rattle.std.specs.Prelude.{◌≡◌, ◌≤◌, ◌<◌, ◌^◌, length, IfOk, IfSome, IfNone};
-ghost use Rattle.std.specs.List.{prefix_len};
-ghost use Rattle.std.specs.Char.{is_ascii_digit};
+ghost use Rattle.std.specs.Prelude.{◌≡◌, ◌≤◌, ◌<◌, ◌^◌, IfOk, IfSome, IfNone};
 ghost use Rattle.ent_value.specs.Refusal.{Gives};
-ghost use Rattle.ent_line.specs.Pieces.{is_plain, number_at, number_to, value_from};
+ghost use Rattle.ent_text.specs.Lexing.{value_from};
+ghost use Rattle.ent_line.specs.Pieces.{is_plain, number_at, number_to};
 
 use crate::fault::LineFault;
+use ent_text::digits_len;
 use ent_value::Refusal;
 
 /// The largest number that stands in a report where none of a table does.
 const MOST: u64 = 9_223_372_036_854_775_807;
-
-fn digits_len(bytes: &[u8]) -> usize
-    ensures value { result ≡ prefix_len is_ascii_digit bytes.now }
-    ensures bound { result ≤ length bytes.now }
-{
-    bytes
-        .iter()
-        .take_while(|byte| byte.is_ascii_digit())
-        .count()
-}
 
 /// The value of digits, where it is no larger than the limit of a number.
 fn value_of(digits: &[u8], most: u64) -> Option<u64>

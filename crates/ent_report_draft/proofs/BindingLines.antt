@@ -14,7 +14,8 @@ use Rattle.ent_book.specs.Report2.{bindings_text}
 use Rattle.ent_history_form.specs.Parts.{IsName, IsNumber}
 use Rattle.ent_line.specs.declared.fault.LineFault.{LineFault}
 use Rattle.ent_line.specs.Pieces.{behind, number_at, value_at, wanted}
-use Rattle.ent_line.specs.Written.{IsOver, IsValue, Stops}
+use Rattle.ent_text.specs.Lexing.{Stops}
+use Rattle.ent_line.specs.Written.{IsOver, IsValue}
 use Rattle.ent_line.proofs.Numbers.{chosen, read_of, is_first, is_rest, number_found, number_again}
 use Rattle.ent_line.proofs.Values.{bind_ok, value_found, value_again}
 use Rattle.ent_line.proofs.Rows.{behind_found, behind_again}

@@ -3,7 +3,7 @@ ghost use Rattle.std.specs.Prelude.{◌≡◌, ◌++◌, ℕ};
 ghost use Rattle.std.specs.Char.{is_ascii_digit};
 ghost use Rattle.std.specs.Fmt.{decimal};
 ghost use Rattle.ent_value.specs.Refusal.{Gives};
-ghost use Rattle.ent_line.specs.Written.{Stops};
+ghost use Rattle.ent_text.specs.Lexing.{Stops};
 ghost use Rattle.ent_report_draft.specs.Reading.{IsHeadsLine, IsJointLine, IsOpeningLine, IsPlacedLine, IsRowLine};
 ghost use Rattle.ent_report_draft.specs.Reading.{IsSetLine, IsTableLine, IsTxLine, Reads};
 ghost use Rattle.ent_report_draft.specs.Reading.{whole_row_at};

@@ -12,7 +12,8 @@ use Rattle.ent_book.specs.Report2.{bindings_text}
 use Rattle.ent_history_form.specs.Parts.{IsNumber}
 use Rattle.ent_line.specs.declared.fault.LineFault.{LineFault}
 use Rattle.ent_line.specs.Pieces.{behind, number_at, value_at}
-use Rattle.ent_line.specs.Written.{Stops, IsOver, IsValue}
+use Rattle.ent_text.specs.Lexing.{Stops}
+use Rattle.ent_line.specs.Written.{IsOver, IsValue}
 use Rattle.ent_report_lines.specs.Bindings.{binding_at, with_first, bindings_at, member_at, member_line}
 use Rattle.ent_report_lines.proofs.Steps.{Parts, bind_ok, bind_with, chosen, ok, same_ok, no_bytes}
 

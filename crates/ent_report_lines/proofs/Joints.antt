@@ -12,7 +12,7 @@ use Rattle.ent_history_form.specs.Joints.{PlacesRise, place_text}
 use Rattle.ent_history_form.specs.Parts.{IsNumber}
 use Rattle.ent_line.specs.declared.fault.LineFault.{LineFault}
 use Rattle.ent_line.specs.Pieces.{behind, number_at, wanted}
-use Rattle.ent_line.specs.Written.{Stops}
+use Rattle.ent_text.specs.Lexing.{Stops}
 use Rattle.ent_line.proofs.Numbers.{chosen, read_of, is_first, is_rest, number_found, number_again}
 use Rattle.ent_line.proofs.Values.{bind_ok}
 use Rattle.ent_line.proofs.Rows.{behind_found, behind_again}

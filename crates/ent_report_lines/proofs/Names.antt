@@ -21,7 +21,7 @@ use Rattle.ent_text.specs.declared.fault.TextFault.TheVariants.{TextTooLong}
 use Rattle.ent_text.specs.declared.token.Token.{Token}
 use Rattle.ent_text.specs.declared.token.TokenKind.{TokenKind}
 use Rattle.ent_text.specs.declared.token.TokenKind.TheVariants as kinds
-use Rattle.ent_text.specs.Lexing.{Piece, after, keyword_of, word_at, word_kind}
+use Rattle.ent_text.specs.Lexing.{Piece, Stops, after, keyword_of, word_at, word_kind}
 use Rattle.ent_text.specs.Spelling.{IsInAnyCase}
 use Rattle.ent_text.proofs.Firsts.{class_of_letter, word_is_read}
 use Rattle.ent_text.proofs.Fronts.{after_is, parts, taken_is}
@@ -29,8 +29,6 @@ use Rattle.ent_text.proofs.Words.{found_is_keyword, keyword_is_found}
 use Rattle.ent_semantics.specs.Database.{Name}
 use Rattle.ent_history_form.specs.Parts.{IsName}
 use Rattle.ent_line.specs.Pieces.{wanted}
-use Rattle.ent_line.specs.Written.{Stops}
-use Rattle.ent_line.proofs.Fronts.{so_stops}
 use Rattle.ent_line.proofs.Numbers.{chosen, is_first, is_rest}
 use Rattle.ent_report_lines.specs.Names.{is_keyword, is_name, name_at}
 
@@ -112,8 +110,7 @@ pub name_again : (name : Name) (rest : List ℕ) → IsName name → Stops is_wo
 name_again name rest is stop =
     let e = is_name_of name is in
     let all = word_bytes name e in
-    let ends = so_stops is_word_byte rest stop in
-    named (name ++ rest) name rest (taken_is is_word_byte name rest all ends) (after_is is_word_byte name rest all ends) e
+    named (name ++ rest) name rest (taken_is is_word_byte name rest all stop) (after_is is_word_byte name rest all stop) e
 
 -- ---- the test by the tokens of the word
 

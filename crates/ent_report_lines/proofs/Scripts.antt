@@ -5,7 +5,7 @@ use Rattle.std.specs.Fmt.{decimal}
 use Rattle.std.specs.Char.{is_ascii_digit}
 use Rattle.ent_history_form.specs.Parts.{IsNumber}
 use Rattle.ent_line.specs.Pieces.{behind}
-use Rattle.ent_line.specs.Written.{Stops}
+use Rattle.ent_text.specs.Lexing.{Stops}
 use Rattle.ent_line.proofs.Values.{bind_ok}
 use Rattle.ent_line.proofs.Rows.{behind_found, behind_again}
 use Rattle.ent_report_lines.specs.Counts.{placed_at, placed_line}

@@ -6,7 +6,7 @@ use Rattle.std.proofs.lemmas.Bool.{eqb-true}
 use Rattle.ent_value.specs.Refusal.{◌>>=◌}
 use Rattle.ent_line.specs.declared.fault.LineFault.{LineFault}
 use Rattle.ent_line.specs.Pieces.{behind, number_to}
-use Rattle.ent_line.specs.Written.{Stops}
+use Rattle.ent_text.specs.Lexing.{Stops}
 
 -- what is known of the parts of a line
 pub record Parts : Type 0 where

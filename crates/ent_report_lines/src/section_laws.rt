@@ -8,7 +8,7 @@ ghost use Rattle.ent_semantics.specs.declared.answer.Fact.{Fact};
 ghost use Rattle.ent_history_form.specs.Joints.{PlacesRise};
 ghost use Rattle.ent_history_form.specs.Opening.{IsDeclaration};
 ghost use Rattle.ent_history_form.specs.Parts.{IsName, IsNumber};
-ghost use Rattle.ent_line.specs.Written.{Stops};
+ghost use Rattle.ent_text.specs.Lexing.{Stops};
 ghost use Rattle.ent_report_lines.specs.Names.{name_at};
 ghost use Rattle.ent_report_lines.specs.Openings.{opening_at, opening_text};
 ghost use Rattle.ent_report_lines.specs.Scripts.{script_at, script_text};

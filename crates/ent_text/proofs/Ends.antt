@@ -15,10 +15,10 @@ use Rattle.ent_text.specs.declared.token.TokenKind.{TokenKind}
 use Rattle.ent_text.specs.declared.token.TokenKind.TheVariants.{Word, Name, HostVariable, Number, Literal, Sign, Fault}
 use Rattle.ent_text.specs.Symbol.{symbol_text, SpellsSymbol}
 use Rattle.ent_text.specs.Spelling.{IsWordLike, IsLongest, Spells, is_blank}
-use Rattle.ent_text.specs.Lexing.{symbol_of, begins_comment}
+use Rattle.ent_text.specs.Lexing.{Stops, symbol_of, begins_comment}
 use Rattle.ent_text.specs.Ends.{goes_on}
 use Rattle.ent_text.proofs.Digits.{digits_pass}
-use Rattle.ent_text.proofs.Fronts.{Stops, taken_is, after_is}
+use Rattle.ent_text.proofs.Fronts.{taken_is, after_is}
 use Rattle.ent_text.proofs.Firsts.{class_of_letter, class_of_digit, class_of_symbol, class_of_blank}
 use Rattle.ent_text.proofs.Firsts.{no_empty_piece}
 use Rattle.ent_text.proofs.Runs.{blank_longest, word_longest, number_longest, host_variable_longest}

@@ -5,7 +5,7 @@ use Rattle.std.proofs.lemmas.Bool.{and_parts}
 use Rattle.std.proofs.lemmas.List.{take-append-drop, take_at, drop_at}
 use Rattle.std.proofs.lemmas.List.Sums.{take_while-cons}
 use Rattle.std.proofs.lemmas.List.Folds.{list_all-append}
-use Rattle.ent_text.specs.Lexing.{after}
+use Rattle.ent_text.specs.Lexing.{after, Stops}
 
 -- the first bytes that pass do
 pub front_passes : (test : ℕ → Bool) (bytes : List ℕ) → list_all test (take_while test bytes) ≡ true
@@ -29,11 +29,6 @@ front_is_taken test (b ∷ front) behind all =
 
 pub passing_front : (test : ℕ → Bool) (front more : List ℕ) → list_all test (front ++ more) ≡ true → list_all test front ≡ true
 passing_front test front more all = (and_parts (list_all test front) (list_all test more) (sym (list_all-append test front more) ∙ all)).0
-
--- no byte that passes stands first
-abbrev pub Stops : (ℕ → Bool) → List ℕ → Type 0
-Stops test [] = Unit {0}
-Stops test (c ∷ others) = test c ≡ false
 
 prefix_is : (test : ℕ → Bool) (front rest : List ℕ) → list_all test front ≡ true → Stops test rest → prefix_len test (front ++ rest) ≡ length front
 prefix_is test [] [] all stop = refl

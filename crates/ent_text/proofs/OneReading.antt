@@ -22,9 +22,9 @@ use Rattle.ent_text.specs.declared.token.TokenKind.TheVariants.{Word, Name, Host
 use Rattle.ent_text.specs.Symbol.{SpellsSymbol}
 use Rattle.ent_text.specs.Spelling.{Spells, IsPlain, IsPiece, IsLongest, IsWordLike, IsComment, is_blank, is_in_line}
 use Rattle.ent_text.specs.Reading.{Reads, nothing, gap, token, AreTokens, IsTooLong, IsFaulty, HasFault}
-use Rattle.ent_text.specs.Lexing.{Piece, after, word_kind, word_at, number_at, value_from, host_variable_at, begins_comment, symbol_of, symbol_at, with_byte, quoted_at, text_at, piece_at, tokens_of, with_token}
+use Rattle.ent_text.specs.Lexing.{Piece, after, Stops, word_kind, word_at, number_at, value_from, host_variable_at, begins_comment, symbol_of, symbol_at, with_byte, quoted_at, text_at, piece_at, tokens_of, with_token}
 use Rattle.ent_text.proofs.Digits.{digits_pass, all_digits, value_is}
-use Rattle.ent_text.proofs.Fronts.{Stops, taken_is, after_is}
+use Rattle.ent_text.proofs.Fronts.{taken_is, after_is}
 use Rattle.ent_text.proofs.Firsts.{class_of, class_of_minus, kind_of_first, no_empty_piece, word_is_read, number_is_read, host_variable_is_read, comment_is_read, symbol_is_read, text_is_read, blank_is_read}
 use Rattle.ent_text.proofs.Words.{letter_first, word_spells, keyword_kind, keyword_is_short, name_kind}
 use Rattle.ent_text.proofs.Runs.{comment_is_in_line, comment_begins, begins_two}

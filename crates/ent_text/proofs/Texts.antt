@@ -10,8 +10,7 @@ use Rattle.ent_text.specs.declared.token.TokenKind.{TokenKind}
 use Rattle.ent_text.specs.declared.token.TokenKind.TheVariants.{Word, Name, HostVariable, Number, Literal, Sign, Fault}
 use Rattle.ent_value.specs.Print.{doubled, quoted}
 use Rattle.ent_text.specs.Spelling.{IsPlain, IsLongest}
-use Rattle.ent_text.specs.Lexing.{with_byte, quoted_at}
-use Rattle.ent_text.proofs.Fronts.{Stops}
+use Rattle.ent_text.specs.Lexing.{Stops, with_byte, quoted_at}
 use Rattle.ent_text.proofs.Firsts.{PieceOf, class_of, piece_of_first, class_of_quote}
 use Rattle.ent_text.proofs.Reading.{Body}
 

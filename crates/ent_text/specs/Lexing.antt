@@ -1,6 +1,6 @@
 -- How the tokens of a text are read from left to right, up to its first fault: a function that gives what `Reading`
 -- speaks of, as its laws say.
-use Rattle.std.specs.Prelude.{ℕ, zero, suc, ◌+◌, ◌-◌, ◌*◌, Bool, true, false, ◌&&◌, List, [], ◌∷◌, length, drop}
+use Rattle.std.specs.Prelude.{◌≡◌, ℕ, zero, suc, ◌+◌, ◌-◌, ◌*◌, Bool, true, false, ◌&&◌, List, [], ◌∷◌, length, drop}
 use Rattle.std.specs.Prelude.{Option, Some, None, Result, Ok, Err, nat_lt, ◌==◌, if◌then◌else◌, slice_index}
 use Rattle.std.specs.List.{find, take_while, prefix_len}
 use Rattle.std.specs.Option.{option_map_or}
@@ -29,6 +29,11 @@ use Rattle.ent_text.specs.declared.token.TokenKind.TheVariants.{Word, Name, Host
 -- what stands behind the longest front of such bytes
 abbrev pub after : (ℕ → Bool) → List ℕ → List ℕ
 after test bytes = drop (prefix_len test bytes) bytes
+
+-- no byte that passes stands first
+abbrev pub Stops : (ℕ → Bool) → List ℕ → Type 0
+Stops test [] = Unit {0}
+Stops test (c ∷ others) = test c ≡ false
 
 -- A piece of the text: a token's kind, or None for a gap; and the bytes behind it.
 abbrev pub Piece : Type 0

@@ -25,7 +25,8 @@ pub(crate) fn is_blank(byte: u8) -> bool
     byte == b' ' || byte == b'\t' || byte == b'\r' || byte == b'\n'
 }
 
-fn digits_len(bytes: &[u8]) -> usize
+/// How many digits stand in front.
+pub fn digits_len(bytes: &[u8]) -> usize
     ensures value { result ≡ prefix_len is_ascii_digit bytes.now }
     ensures bound { result ≤ length bytes.now }
 {

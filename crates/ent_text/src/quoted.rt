@@ -80,9 +80,10 @@ pub fn text_of(alloc: Global, behind: &[u8]) -> Result<Text, AllocError>
 }
 
 /// The content of a text whose opening quote stands at `quote`, just before these bytes, and the bytes behind its
-/// closing quote. It makes room for a content of this length at once.
+/// closing quote. It makes room for a content of this length at once; a longer one takes more room as it comes. The
+/// first byte stands at `place`: both places are for the fault alone.
 #[tactic(auto, unfolding(crate::specs::Lexing::quoted_at))]
-fn quoted_at(
+pub fn quoted_at(
     alloc: Global,
     len: usize,
     quote: usize,

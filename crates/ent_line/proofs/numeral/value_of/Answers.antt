@@ -1,4 +1,4 @@
-use Rattle.ent_line.proofs.Reading.{over_at_once, over_behind}
+use Rattle.ent_line.proofs.Digits.{over_at_once, over_behind}
 use Rattle.ent_line.proofs.numeral.value_of.Goals as goal
 
 pub returns-then-value-gt922337203685477580-clause-none :

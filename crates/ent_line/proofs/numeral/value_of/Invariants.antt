@@ -1,5 +1,5 @@
 use Rattle.std.proofs.Common.{◌≡◌, ◌≤◌, drop}
-use Rattle.ent_line.specs.Pieces.{value_from}
+use Rattle.ent_text.specs.Lexing.{value_from}
 use Rattle.ent_line.proofs.numeral.value_of.Given as goal
 
 -- the value so far goes on to that of all digits
