@@ -20,6 +20,7 @@ mod write;
 mod written;
 
 pub use answer::append_answers;
+pub use numbered::element;
 pub use piece::append_number;
 pub use script::line_count;
 pub use table::{NamedTable, append_table, table_named};

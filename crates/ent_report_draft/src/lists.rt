@@ -1,7 +1,6 @@
 //! Lists that grow at their end.
 ghost use Rattle.std.specs.Prelude.{◌≡◌, ◌↔◌, ◌+◌, ◌++◌, IfNone, IsTrue, length, slice_get};
 ghost use Rattle.std.specs.Option.{option_copied, option_to_list};
-ghost use Rattle.ent_semantics.specs.Serial.{numbered};
 ghost use Rattle.ent_history_form.specs.Draft.{last_of};
 ghost use Rattle.ent_history_form.specs.Parts.{Ascends};
 
@@ -26,16 +25,6 @@ pub(crate) fn at<T>(elements: &[T], index: usize) -> Option<&T>
     ensures { option_copied result ≡ slice_get elements.now index }
 {
     elements.get(index)
-}
-
-/// The element of a number, counted from 1.
-pub(crate) fn element<T>(elements: &[T], number: u64) -> Option<&T>
-    ensures { option_copied result ≡ numbered elements.now number }
-{
-    if number == 0 {
-        return None;
-    }
-    elements.get((number - 1) as usize)
 }
 
 /// Takes the last element out, where there is one.
