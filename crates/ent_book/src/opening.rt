@@ -1,13 +1,13 @@
 //! The text of an opening: tables as they are at first.
 ghost use Rattle.std.specs.Prelude.{◌≡◌, ◌++◌, IfOk, OnOk, length};
 ghost use Rattle.ent_set.specs.Sets as set;
-ghost use Rattle.ent_semantics.specs.Database.{opening_database, row_of};
+ghost use Rattle.ent_semantics.specs.Database.{opening_database};
 ghost use Rattle.ent_book.specs.Report.{rows_text};
 ghost use Rattle.ent_book.specs.Report2.{column_text, columns_text, declared_columns, kind_text, more_columns_text};
 ghost use Rattle.ent_book.specs.Report2.{opening_line, opening_table_text, opening_text};
 
 use crate::piece::{append_number, append_rows};
-use ent_tree::{Column, Create, Opening, OpeningRow};
+use ent_tree::{Column, Create, Opening};
 use ent_value::{Kind, Name, Row};
 use std::alloc::{AllocError, Global};
 
@@ -64,17 +64,6 @@ fn declared_columns<'a>(creates: &'a [Create], name: &Name) -> &'a [Column]
     &[]
 }
 
-/// The row that the literals of an opening row make.
-fn row_of(alloc: Global, row: &OpeningRow) -> Result<Row, AllocError>
-    ensures { IfOk result (λ made. made ≡ row_of row.now) }
-{
-    let mut values = Vec::with_capacity(alloc, row.values.len())?;
-    for literal in row.values.as_slice() {
-        values.push(literal.value.copy(alloc)?)?;
-    }
-    Ok(Row::from_vec(values))
-}
-
 /// The rows of a table at first, ascending, each once.
 fn opening_rows(alloc: Global, opening: &Opening, name: &Name) -> Result<Vec<Row>, AllocError>
     ensures { IfOk result (λ rows. rows.items ≡ set.ascending (opening_database opening.now name.now)) }
@@ -82,7 +71,7 @@ fn opening_rows(alloc: Global, opening: &Opening, name: &Name) -> Result<Vec<Row
     let mut rows = Vec::new(alloc);
     for row in opening.rows.as_slice() {
         if row.table.name == *name {
-            rows.push(row_of(alloc, row)?)?;
+            rows.push(row.row(alloc)?)?;
         }
     }
     rows.sort()?;

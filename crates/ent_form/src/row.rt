@@ -1,6 +1,5 @@
 //! Rows that are put in.
 ghost use Rattle.std.specs.Prelude.{◌≡◌, ◌<◌, [], IfOk, length, slice_index_or};
-ghost use Rattle.ent_semantics.specs.Database.{row_of};
 ghost use Rattle.ent_form.specs.Catalogue.{names_of};
 ghost use Rattle.ent_form.specs.Opening.{rows_named};
 ghost use Rattle.ent_form.specs.OpeningFault.{literals_fault, row_fault, opening_row_fault, first_of};
@@ -63,17 +62,6 @@ pub(crate) fn rows_fault(catalogue: &Catalogue, rows: &[OpeningRow]) -> Option<F
     None
 }
 
-/// The row that the literals of an opening row make.
-fn row_of(alloc: Global, row: &OpeningRow) -> Result<Row, AllocError>
-    ensures { IfOk result (λ made. made ≡ row_of row.now) }
-{
-    let mut values = Vec::with_capacity(alloc, row.values.len())?;
-    for literal in row.values.as_slice() {
-        values.push(literal.value.copy(alloc)?)?;
-    }
-    Ok(Row::from_vec(values))
-}
-
 /// The opening rows that name the table of this number, in the order of the input.
 pub fn opening_rows(
     alloc: Global,
@@ -89,7 +77,7 @@ pub fn opening_rows(
     let mut rows = Vec::new(alloc);
     for row in opening.rows.as_slice() {
         if row.table.name == *name {
-            rows.push(row_of(alloc, row)?)?;
+            rows.push(row.row(alloc)?)?;
         }
     }
     Ok(rows)

@@ -1,8 +1,10 @@
 //! Tables, and the rows that stand in them at first.
+ghost use Rattle.std.specs.Prelude.{◌≡◌, IfOk, map};
+
 use crate::duplicate::Duplicate;
 use crate::limits::{MOST_OPENING_ROWS, MOST_PARTS, MOST_TABLES};
 use crate::operand::{Identifier, Literal};
-use ent_value::{Kind, Limited};
+use ent_value::{Kind, Limited, Row};
 use std::alloc::{AllocError, Global};
 
 /// A column that is declared.
@@ -26,6 +28,19 @@ pub struct OpeningRow {
     /// Where the `(` behind VALUES stands.
     pub place: usize,
     pub values: Limited<Literal, MOST_PARTS>,
+}
+
+impl OpeningRow {
+    /// The row that the literals make. It takes the memory of a new row.
+    pub fn row(&self, alloc: Global) -> Result<Row, AllocError>
+        ensures { IfOk result (λ made. made ≡ map (λ literal. literal.value) self.now.values) }
+    {
+        let mut values = Vec::with_capacity(alloc, self.values.len())?;
+        for literal in self.values.as_slice() {
+            values.push(literal.value.copy(alloc)?)?;
+        }
+        Ok(Row::from_vec(values))
+    }
 }
 
 /// The tables, and the rows that stand in them at first.
