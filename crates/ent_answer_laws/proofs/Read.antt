@@ -19,7 +19,7 @@ AreRead lexemes = AllByRecursion CanBeRead lexemes
 pub literal_is_value : (value : Value) → CanBeRead (value_spelling value) → IsValue value
 literal_is_value (values.Int (pos n)) can = let low = can.1 in record { sfits = omega (arith, low) }
 literal_is_value (values.Int (negsuc n)) can = let low = can.1 in record { sfits = omega (arith, low) }
-literal_is_value (values.Text text) can = can
+literal_is_value (values.Text text) can = (can.0.1.1, can.1)
 
 -- ---- lists
 

@@ -25,10 +25,8 @@ use Rattle.ent_report_lines.specs.Listing.{listed_at}
 use Rattle.ent_report_lines.specs.Names.{name_at}
 use Rattle.ent_report_lines.proofs.Listing.{listed_found, listed_again, shorter_than_text}
 use Rattle.ent_report_lines.proofs.Names.{name_found, name_again}
-use Rattle.ent_history_form.specs.Parts as parts
 use Rattle.ent_report_draft.specs.declared.bindings.Bound.{Bound}
 use Rattle.ent_report_draft.specs.Bindings.{all_bound_at, any_member_at, bound_at, bound_of, values_of, variables_of}
-use Rattle.ent_report_draft.proofs.LinesRead.{from_value, to_value}
 
 -- ---- one
 
@@ -189,16 +187,3 @@ any_member_again tx place all small little are =
     (λ place. all_bound_at place.1 >>= λ found. whole_line tx place.0 found)
     (number_again 9223372036854775807 place rest (omega arith) little (no_digit all))
     ∙ bind_with (all_bound_at rest) (all, []) (λ found. whole_line tx place found) (all_again all are)
-
--- ---- as a report has them
-
-abbrev IsAny : Bound → Type 0
-IsAny bound = IsName bound.variable × parts.IsValue bound.value
-
-pub to_bounds : (all : List Bound) → AllByRecursion IsBound all → AllByRecursion IsAny all
-to_bounds [] h = tt
-to_bounds (bound ∷ all) h = ((h.0.0, to_value bound.value h.0.1), to_bounds all h.1)
-
-pub from_bounds : (all : List Bound) → AllByRecursion IsAny all → AllByRecursion IsBound all
-from_bounds [] h = tt
-from_bounds (bound ∷ all) h = ((h.0.0, from_value bound.value h.0.1), from_bounds all h.1)

@@ -12,6 +12,7 @@ use Rattle.ent_value.specs.declared.value.Value.{Value}
 use Rattle.ent_semantics.specs.Database.{Name}
 use Rattle.ent_semantics.specs.declared.answer.Fact.{Fact}
 use Rattle.ent_book.specs.Report.{fact_text, facts_text}
+use Rattle.ent_history_form.specs.Answers.{IsFact}
 use Rattle.ent_history_form.specs.Parts.{IsNumber}
 use Rattle.ent_line.specs.declared.fault.LineFault.{LineFault}
 use Rattle.ent_line.specs.Pieces.{behind, number_at, row_at, wanted}
@@ -19,7 +20,7 @@ use Rattle.ent_line.proofs.Numbers.{chosen, read_of, is_first, is_rest, number_f
 use Rattle.ent_line.proofs.Values.{bind_ok}
 use Rattle.ent_line.proofs.Rows.{behind_found, behind_again, row_found, row_again}
 use Rattle.ent_report_lines.proofs.Steps.{bind_with, same_ok, no_bytes}
-use Rattle.ent_report_lines.specs.Heads.{IsFact, fact_of, fact_at, facts_at, heads_at, heads_line}
+use Rattle.ent_report_lines.specs.Heads.{fact_of, fact_at, facts_at, heads_at, heads_line}
 use Rattle.ent_report_lines.specs.Listing.{listed_at}
 use Rattle.ent_report_lines.specs.Names.{name_at}
 use Rattle.ent_report_lines.proofs.Listing.{listed_found, listed_again, shorter_than_text, nonempty, is_nonempty}

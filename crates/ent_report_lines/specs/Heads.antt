@@ -6,10 +6,8 @@ use Rattle.ent_value.specs.declared.value.Value.{Value}
 use Rattle.ent_semantics.specs.Database.{Name}
 use Rattle.ent_semantics.specs.declared.answer.Fact.{Fact}
 use Rattle.ent_book.specs.Report.{facts_text}
-use Rattle.ent_history_form.specs.Parts.{IsName}
 use Rattle.ent_line.specs.declared.fault.LineFault.{LineFault}
 use Rattle.ent_line.specs.Pieces.{Read, behind, number_at, row_at, wanted}
-use Rattle.ent_line.specs.Written.{IsRow}
 use Rattle.ent_report_lines.specs.Listing.{listed_at}
 use Rattle.ent_report_lines.specs.Names.{name_at}
 
@@ -31,9 +29,6 @@ unfoldable pub heads_at : List ℕ → Result (ℕ × List Fact) LineFault
 heads_at line =
     number_at line >>= λ place. behind (codes " answer") place.1 >>= λ rest. facts_at rest >>= λ facts.
     wanted ((length facts.1 == 0) && not (length facts.0 == 0)) (place.0, facts.0)
-
-abbrev pub IsFact : Fact → Type 0
-IsFact fact = IsName fact.relation × IsRow fact.values
 
 -- a statement's place and its heads, without the end of the line
 abbrev pub heads_line : ℕ → List Fact → List ℕ

@@ -5,6 +5,7 @@ ghost use Rattle.ent_value.specs.Name.{is_word_byte};
 ghost use Rattle.ent_tree.specs.declared.declaration.Create.{Create};
 ghost use Rattle.ent_semantics.specs.Database.{Name};
 ghost use Rattle.ent_semantics.specs.declared.answer.Fact.{Fact};
+ghost use Rattle.ent_history_form.specs.Answers.{IsFact};
 ghost use Rattle.ent_history_form.specs.Joints.{PlacesRise};
 ghost use Rattle.ent_history_form.specs.Opening.{IsDeclaration};
 ghost use Rattle.ent_history_form.specs.Parts.{IsName, IsNumber};
@@ -12,7 +13,7 @@ ghost use Rattle.ent_text.specs.Lexing.{Stops};
 ghost use Rattle.ent_report_lines.specs.Names.{name_at};
 ghost use Rattle.ent_report_lines.specs.Openings.{opening_at, opening_text};
 ghost use Rattle.ent_report_lines.specs.Scripts.{script_at, script_text};
-ghost use Rattle.ent_report_lines.specs.Heads.{IsFact, heads_at, heads_line};
+ghost use Rattle.ent_report_lines.specs.Heads.{heads_at, heads_line};
 ghost use Rattle.ent_report_lines.specs.Joints.{joint_at, joint_text};
 
 use crate::laws::counts_are_read_as_written;

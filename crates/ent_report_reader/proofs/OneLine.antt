@@ -8,7 +8,7 @@ use Rattle.std.specs.Char.{is_ascii_alphabetic}
 use Rattle.std.proofs.lemmas.Bool.{and_parts}
 use Rattle.ent_value.specs.Name.{IsWord, is_word_byte}
 use Rattle.ent_value.specs.declared.name.TheConstants.{LONGEST_NAME}
-use Rattle.ent_value.specs.Print.{more_text, row_text, value_text}
+use Rattle.ent_value.specs.Print.{more_text, quoted, row_text, value_text}
 use Rattle.ent_value.specs.declared.value.Kind.{Kind}
 use Rattle.ent_value.specs.declared.value.Kind.TheVariants as sorts
 use Rattle.ent_value.specs.declared.value.Value.{Value}
@@ -59,7 +59,7 @@ word_is_in_line word is = word_in_line word (word_bytes word is)
 value_in_line : (value : Value) → IsValue value → IsInLine (value_text value)
 value_in_line (Int (pos n)) is = number_in_line n
 value_in_line (Int (negsuc n)) is = number_in_line (suc n)
-value_in_line (Text content) is = kind_in_line (kinds.Literal content) is
+value_in_line (Text content) is = kind_in_line (kinds.Literal content) ((quoted content, (refl, is.0)), is.1)
 
 more_in_line : (values : List Value) → AllByRecursion IsValue values → IsInLine (more_text values)
 more_in_line [] are = refl

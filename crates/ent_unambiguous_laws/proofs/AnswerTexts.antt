@@ -13,7 +13,6 @@ use Rattle.ent_report_lines.specs.Heads.{heads_at, heads_line}
 use Rattle.ent_history_form.specs.Parts.{IsNumber, IsValue}
 use Rattle.ent_history_form.specs.Answers.{HasSoMany, IsAnswer, answer_line_text}
 use Rattle.ent_script_reader.proofs.BreaksOff.{same_behind, same_line}
-use Rattle.ent_report_draft.proofs.LinesRead.{from_facts}
 use Rattle.ent_report_reader.proofs.OneLine.{facts_in_line}
 use Rattle.ent_unambiguous_laws.proofs.Fronts.{number_once, once, unlined, value_once}
 use Rattle.ent_unambiguous_laws.proofs.Known.{Known}
@@ -55,8 +54,8 @@ heads_once known one other x y h k e =
     let facts = (same_line (facts_text one) (facts_text other) x y (facts_in_line one h.1) (facts_in_line other k.1)
     lines).0 in
     let both = once heads_at (heads_line 1 one) (heads_line 1 other) (1, one) (1, other)
-    (known.heads 1 one (omega arith) h.0 (from_facts one h.1))
-    (known.heads 1 other (omega arith) k.0 (from_facts other k.1))
+    (known.heads 1 one (omega arith) h.0 h.1)
+    (known.heads 1 other (omega arith) k.0 k.1)
     (ap (λ (text : List ℕ). decimal 1 ++ (codes " answer" ++ text)) facts) in
     ap (λ (x : ℕ × List Fact). x.1) both
 

@@ -17,7 +17,6 @@ use Rattle.ent_report_lines.proofs.Names.{name_again}
 use Rattle.ent_history_form.specs.Parts.{IsName, IsNumber, IsRow, IsValue}
 use Rattle.ent_script_reader.proofs.BreaksOff.{same_behind, same_line}
 use Rattle.ent_script_reader.proofs.InLine.{IsInLine}
-use Rattle.ent_report_draft.proofs.LinesRead.{from_row, from_value}
 
 -- ---- what is read
 
@@ -70,13 +69,13 @@ pub value_once : (one other : Value) (x y : List ℕ) → IsValue one → IsValu
     → value_text one ++ x ≡ value_text other ++ y → ValueOnce one other x y
 value_once one other x y h k over ends e =
     let same : read_of one x ≡ read_of other y =
-    sym (value_again one x (from_value one h) over) ∙ ap value_at e ∙ value_again other y (from_value other k) ends in
+    sym (value_again one x h over) ∙ ap value_at e ∙ value_again other y k ends in
     record { value = is_first one other x y same; behind = is_rest one other x y same }
 
 pub row_once : (one other : List Value) (x y : List ℕ) → IsRow one → IsRow other
     → row_text one ++ x ≡ row_text other ++ y → one ≡ other
 row_once one other x y h k e =
-    is_first one other x y (sym (row_again one x (from_row one h)) ∙ ap row_at e ∙ row_again other y (from_row other k))
+    is_first one other x y (sym (row_again one x h) ∙ ap row_at e ∙ row_again other y k)
 
 name_read : (name : Name) (behind : List ℕ) → IsName name → name_at (name ++ (61 ∷ behind)) ≡ Ok (name, 61 ∷ behind)
 name_read name behind is = name_again name (61 ∷ behind) is refl

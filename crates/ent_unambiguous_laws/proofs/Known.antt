@@ -5,10 +5,10 @@ use Rattle.ent_tree.specs.declared.declaration.Create.{Create}
 use Rattle.ent_semantics.specs.declared.answer.Fact.{Fact}
 use Rattle.ent_semantics.specs.declared.book.Fate.{Fate}
 use Rattle.ent_report_lines.specs.Fates.{transaction_at, transaction_text}
-use Rattle.ent_report_lines.specs.Heads.{IsFact, heads_at, heads_line}
+use Rattle.ent_report_lines.specs.Heads.{heads_at, heads_line}
 use Rattle.ent_report_lines.specs.Joints.{joint_at, joint_text}
 use Rattle.ent_report_lines.specs.Openings.{opening_at, opening_text}
-use Rattle.ent_history_form.specs.Answers.{IsFate}
+use Rattle.ent_history_form.specs.Answers.{IsFact, IsFate}
 use Rattle.ent_history_form.specs.Joints.{PlacesRise}
 use Rattle.ent_history_form.specs.Opening.{IsDeclaration}
 use Rattle.ent_history_form.specs.Parts.{IsNumber}

@@ -1,12 +1,12 @@
 use Rattle.std.proofs.Common.{◌∙◌, ap}
 use Rattle.ent_report_draft.specs.Bindings.{IsAnyMember, any_member_at}
-use Rattle.ent_report_draft.proofs.BindingLines.{any_member_again, any_member_found, from_bounds, to_bounds}
+use Rattle.ent_report_draft.proofs.BindingLines.{any_member_again, any_member_found}
 use Rattle.ent_report_draft.proofs.LinesRead.{reads}
 use Rattle.ent_report_draft.proofs.reading.any_member_line.Goals as goal
 
 pub returns : goal.returns
 returns c =
     reads (IsAnyMember c.args.text.now) (any_member_at c.args.text.now) c.any_member.result
-    (λ x h. let is = any_member_found c.args.text.now x.0 x.1 x.2 h in (is.0, is.1, is.2, to_bounds x.2 is.3))
-    (λ x is. ap any_member_at is.0 ∙ any_member_again x.0 x.1 x.2 is.1 is.2 (from_bounds x.2 is.3))
+    (λ x h. any_member_found c.args.text.now x.0 x.1 x.2 h)
+    (λ x is. ap any_member_at is.0 ∙ any_member_again x.0 x.1 x.2 is.1 is.2 is.3)
     c.any_member.ensures

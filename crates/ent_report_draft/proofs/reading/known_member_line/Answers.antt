@@ -1,7 +1,7 @@
 use Rattle.std.proofs.Common.{◌∙◌, ap}
 use Rattle.ent_report_lines.specs.Bindings.{member_at}
 use Rattle.ent_report_draft.specs.Bindings.{IsKnownMember}
-use Rattle.ent_report_draft.proofs.LinesRead.{from_values, reads, to_values}
+use Rattle.ent_report_draft.proofs.LinesRead.{reads}
 use Rattle.ent_report_draft.proofs.reading.known_member_line.Goals as goal
 
 pub returns : goal.returns
@@ -9,7 +9,6 @@ returns c =
     let known = c.members_are_read_as_written.ensures in
     let names = c.args.names.now in
     reads (IsKnownMember names c.args.text.now) (member_at names c.args.text.now) c.member.result
-    (λ x h. let is = known.found names c.args.text.now x.0 x.1 x.2 h in
-    (is.0, is.1, is.2, to_values x.2 is.3, is.4))
-    (λ x is. ap (member_at names) is.0 ∙ known.only x.0 x.1 names x.2 is.1 is.2 (from_values x.2 is.3) is.4)
+    (λ x h. known.found names c.args.text.now x.0 x.1 x.2 h)
+    (λ x is. ap (member_at names) is.0 ∙ known.only x.0 x.1 names x.2 is.1 is.2 is.3 is.4)
     c.member.ensures
