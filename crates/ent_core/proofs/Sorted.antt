@@ -55,7 +55,8 @@ distinct_if_once (x ∷ xs) low = (nowhere x xs (first (low x)), distinct_if_onc
   where
     first : one_if (nat_eq x x) (times x xs) ≤ 1 → times x xs ≤ 0
     first le =
-        let e : one_if (nat_eq x x) (times x xs) ≡ suc (times x xs) = ap (λ b. one_if b (times x xs)) (number_itself x) in
+        let e : one_if (nat_eq x x) (times x xs) ≡ suc (times x xs) =
+        ap (λ b. one_if b (times x xs)) (number_itself x) in
         omega (arith, e, le)
 
     rest : (n : ℕ) → one_if (nat_eq x n) (times n xs) ≤ 1 → times n xs ≤ 1

@@ -7,7 +7,7 @@ use Rattle.ent_closed.specs.declared.statement.Statement.{Statement}
 use Rattle.ent_protocol.specs.Commit.{committing, entry_of, is_ready, preparing}
 use Rattle.ent_protocol.specs.Event.{Event, Reply}
 use Rattle.ent_protocol.specs.Finish.{finished}
-use Rattle.ent_protocol.specs.Job.{Outcome, Shown, Changed, Bound, Choice, Fault}
+use Rattle.ent_protocol.specs.Job.{Job, Outcome, Shown, Changed, Bound, Choice, Fault}
 use Rattle.ent_protocol.specs.Member.{is_of, is_tx}
 use Rattle.ent_protocol.specs.Run.{Forms}
 use Rattle.ent_protocol.specs.State.{State, Member}
@@ -17,8 +17,8 @@ use Rattle.ent_protocol_laws.proofs.Leaves.{Leaves, left_behind}
 use Rattle.ent_lists.specs.Elements.{In, any_none, clash, contains_in, in_contains, number_itself, same_number}
 use Rattle.ent_lists.specs.Elements.{to_filter, turned}
 
-abbrev StaysOrGrows : State → Bool → State → Type 0
-StaysOrGrows s rolled new = (new.journal ≡ s.journal) ⊎ CommitsWhole s new
+abbrev StaysOrGrows : State → Bool → Bool → List Job → State → Type 0
+StaysOrGrows s added rolled jobs new = (new.journal ≡ s.journal) ⊎ CommitsWhole s new
 
 joined : (p : Member → Bool) (ms : List Member) (m : Member) → p m ≡ true
     → filter p (ms ++ m ∷ []) ≡ filter p ms ++ m ∷ []
@@ -63,17 +63,19 @@ leaves_journal s =
     record {
       same = inl refl;
       submits = λ script form. inl refl;
-      starts = λ off. inl refl;
+      starts = λ first more off asleep. inl refl;
       lends = λ m c at. inl refl;
       posts = λ m c at. inl refl;
       prepares = λ m at. inl refl;
       commits = λ m at ready. inr (commits s m at ready);
-      rolls_back = λ left group cause. inl refl;
-      finishes = λ left m c outcome at. inl (finishes (record s { lent = left }) m c outcome);
-      lent = λ jobs. inl refl;
-      joins = λ left asked groundings. inl refl;
-      tries = λ left asked. inl refl;
-      ends = inl refl;
+      rolls_back = λ group cause. inl refl;
+      fails = λ left group cause back. inl refl;
+      finishes = λ left m c outcome back at. inl (finishes (record s { lent = left }) m c outcome);
+      picks = λ asked. inl refl;
+      joins = λ left asked groundings back. inl refl;
+      tries = λ left asked back. inl refl;
+      ends = λ on. inl refl;
+      recalls = inl refl;
     }
 
 pub all_journals : {F : Type 0} (forms : Forms F) (s : State) (event : Event) (reply : Reply F) (new : State)

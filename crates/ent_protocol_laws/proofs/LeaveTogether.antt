@@ -13,6 +13,7 @@ use Rattle.ent_protocol.specs.Finish.{finished}
 use Rattle.ent_protocol.specs.Job.{Job, Outcome, Shown, Changed, Bound, Choice, Fault}
 use Rattle.ent_protocol.specs.Member.{is_of, is_tx}
 use Rattle.ent_protocol.specs.PoolEvents.{answered_among, answered_by, answered_groups, in_joined_group, joining}
+use Rattle.ent_protocol.specs.PoolEvents.{joint_job}
 use Rattle.ent_protocol.specs.Rollback.{Cause, group_members, is_among, rolled_back}
 use Rattle.ent_protocol.specs.Run.{Forms, ending, starting, submitting}
 use Rattle.ent_protocol.specs.State.{State, Member, by_number, members}
@@ -283,27 +284,33 @@ starts : (s new : State) → IsTidy s → s.running ≡ false → LeaveTogether 
 starts s new tidy off one other at bt same gone =
     absurd (subst (In one) (λ i. tidy.no_prepared off i ++ tidy.no_active off i) at)
 
-leaves_together : (s : State) → StandByNumber s → IsTidy s → Leaves s (LeaveTogether s)
+abbrev IsLeftTogether : State → Bool → Bool → List Job → State → Type 0
+IsLeftTogether s added rolled jobs new = LeaveTogether s rolled new
+
+leaves_together : (s : State) → StandByNumber s → IsTidy s → Leaves s (IsLeftTogether s)
 leaves_together s by_number tidy =
     record {
       same = all_stay s s false (λ x at. (x, at, refl));
       submits = λ script form. all_stay s (submitting s script form) false (λ x at. (x, at, refl));
-      starts = starts s (starting s) tidy;
+      starts = λ first more off asleep. starts s (starting s) tidy off;
       lends = λ m c at. one_replaced s (lending s m c) _ false refl refl;
       posts = λ m c at. one_replaced s (posting s m c) _ false refl refl;
       prepares = λ m at. all_stay s (preparing s m) false (prepares s m);
       commits = commits s by_number;
-      rolls_back = rolls_back s by_number;
-      finishes = λ left m c outcome at. finishes (record s { lent = left }) m c outcome;
-      lent = λ jobs. all_stay s (record s { lent = jobs }) false (λ x at. (x, at, refl));
-      joins = joins s;
-      tries = λ left asked.
+      rolls_back = rolls_back s by_number s.lent;
+      fails = λ left group cause back. rolls_back s by_number left group cause;
+      finishes = λ left m c outcome back at. finishes (record s { lent = left }) m c outcome;
+      picks = λ asked.
+          all_stay s (record s { lent = s.lent ++ joint_job s asked ∷ [] }) false (λ x at. (x, at, refl));
+      joins = λ left asked groundings back. joins s left asked groundings;
+      tries = λ left asked back.
           all_stay s (record s { lent = left; tried = asked ∷ s.tried }) false (λ x at. (x, at, refl));
-      ends = ends s;
+      ends = λ on. ends s;
+      recalls = all_stay s (record s { lent = [] }) false (λ x at. (x, at, refl));
     }
 
 pub all_together : {F : Type 0} (forms : Forms F) (s : State) (event : Event) (reply : Reply F) (new : State)
     (one other : Member) → StandByNumber s → IsTidy s → Step forms s event reply new → In one (members s)
     → In other (members s) → one.group ≡ other.group → is_member new one.tx ≡ false → is_member new other.tx ≡ false
 all_together forms s event reply new one other by_number tidy step =
-    left_behind s (LeaveTogether s) (leaves_together s by_number tidy) forms event reply new step one other
+    left_behind s (IsLeftTogether s) (leaves_together s by_number tidy) forms event reply new step one other

@@ -10,7 +10,7 @@ use Rattle.ent_closed.specs.declared.statement.Statement.{Statement}
 use Rattle.ent_closed.specs.Form.{Tables}
 use Rattle.ent_protocol.specs.Event.{Event, Reply}
 use Rattle.ent_protocol.specs.Finish.{finished, noted, with_change}
-use Rattle.ent_protocol.specs.Job.{Outcome, Shown, Changed, Bound, Choice, Fault, applied}
+use Rattle.ent_protocol.specs.Job.{Job, Outcome, Shown, Changed, Bound, Choice, Fault, applied}
 use Rattle.ent_protocol.specs.Rollback.{Cause, group_members, is_among, put_back, rolled_back}
 use Rattle.ent_protocol.specs.Run.{Forms}
 use Rattle.ent_protocol.specs.State.{State, Change, Member}
@@ -110,8 +110,8 @@ kept s group table cause none =
 
 -- ---- changes that are noted
 
-abbrev IsNotedUnless : State → ℕ → Bool → State → Type 0
-IsNotedUnless s table rolled new = rolled ≡ false → IsNoted s new table
+abbrev IsNotedUnless : State → ℕ → Bool → Bool → List Job → State → Type 0
+IsNotedUnless s table added rolled jobs new = rolled ≡ false → IsNoted s new table
 
 changed : (s : State) (table tx : ℕ) (changes : List ℕ) (removed added : List (List Value))
     → (at (with_change changes removed added s.tables) table ≡ at s.tables table)
@@ -148,17 +148,19 @@ leaves_noted s table =
     record {
       same = λ none. inl refl;
       submits = λ script form none. inl refl;
-      starts = λ off none. inl refl;
+      starts = λ first more off asleep none. inl refl;
       lends = λ m c there none. inl refl;
       posts = λ m c there none. inl refl;
       prepares = λ m there none. inl refl;
       commits = λ m there ready none. inl refl;
-      rolls_back = λ left group cause bad. clash true refl bad;
-      finishes = λ left m c outcome there none. finishes (record s { lent = left }) table m c outcome;
-      lent = λ jobs none. inl refl;
-      joins = λ left asked groundings none. inl refl;
-      tries = λ left asked none. inl refl;
-      ends = λ bad. clash true refl bad;
+      rolls_back = λ group cause bad. clash true refl bad;
+      fails = λ left group cause back bad. clash true refl bad;
+      finishes = λ left m c outcome back there none. finishes (record s { lent = left }) table m c outcome;
+      picks = λ asked none. inl refl;
+      joins = λ left asked groundings back none. inl refl;
+      tries = λ left asked back none. inl refl;
+      ends = λ on bad. clash true refl bad;
+      recalls = λ none. inl refl;
     }
 
 pub all_noted : {F : Type 0} (forms : Forms F) (s : State) (event : Event) (reply : Reply F) (new : State) (table : ℕ)

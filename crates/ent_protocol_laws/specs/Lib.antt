@@ -7,6 +7,7 @@ pub mod Declared
 pub mod Numbered
 pub mod Alike
 pub mod Restored
+pub mod Replies
 pub mod Whole
 pub mod Last
 pub mod Settled

@@ -1,7 +1,7 @@
 //! Laws of schedules. Nothing here does anything; what holds is in the contracts.
 ghost use Rattle.std.specs.Prelude.{◌≡◌, ◌≤◌, ◌<◌, ℕ, ◌+◌, ◌^◌, false};
 ghost use Rattle.std.specs.List.{AllByRecursion};
-ghost use Rattle.ent_termination.specs.Input.{adds_script};
+ghost use Rattle.ent_protocol_laws.specs.Replies.{adds_script};
 ghost use Rattle.ent_protocol.specs.Event.{Event, Reply};
 ghost use Rattle.ent_protocol.specs.Reached.{IsReached};
 ghost use Rattle.ent_protocol.specs.Run.{Forms};

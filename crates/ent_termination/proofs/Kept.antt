@@ -8,8 +8,8 @@ use Rattle.ent_protocol.specs.Job.{Job, Outcome, Shown, Changed, Bound, Choice, 
 use Rattle.ent_protocol.specs.Run.{Forms}
 use Rattle.ent_protocol.specs.State.{State, Member}
 use Rattle.ent_protocol.specs.Step.{Step}
-use Rattle.ent_termination.specs.Input.{adds_script}
-use Rattle.ent_termination.proofs.Left.{Leaves, left_behind}
+use Rattle.ent_protocol_laws.specs.Replies.{adds_script}
+use Rattle.ent_protocol_laws.proofs.Leaves.{Leaves, left_behind}
 use Rattle.ent_lists.specs.Elements.{clash}
 
 finished_kept : (s : State) (m : Member) (c : Statement Value) (outcome : Outcome)
@@ -20,8 +20,8 @@ finished_kept s m c (Shown rows) = refl
 finished_kept s m c (Choice groundings) = refl
 finished_kept s m c (Fault failure) = refl
 
-abbrev IsKept : State → Bool → List Job → State → Type 0
-IsKept s added jobs new = added ≡ false → new.submitted ≡ s.submitted
+abbrev IsKept : State → Bool → Bool → List Job → State → Type 0
+IsKept s added rolled jobs new = added ≡ false → new.submitted ≡ s.submitted
 
 leaves_kept : (s : State) → Leaves s (IsKept s)
 leaves_kept s =
@@ -32,7 +32,7 @@ leaves_kept s =
       lends = λ m c at none. refl;
       posts = λ m c at none. refl;
       prepares = λ m at none. refl;
-      commits = λ m at none. refl;
+      commits = λ m at ready none. refl;
       rolls_back = λ group cause none. refl;
       fails = λ left group cause back none. refl;
       finishes = λ left m c outcome back at none. finished_kept (record s { lent = left }) m c outcome;

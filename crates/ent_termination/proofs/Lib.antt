@@ -12,7 +12,6 @@ pub mod Worth
 pub mod Laws
 pub mod Bounded
 pub mod Sums
-pub mod Left
 pub mod Onward
 pub mod Kept
 pub mod Taken

@@ -23,8 +23,9 @@ use Rattle.ent_protocol.specs.Run.{Forms}
 use Rattle.ent_protocol.specs.State.{State, Member}
 use Rattle.ent_protocol.specs.Step.{Step}
 use Rattle.ent_protocol.specs.Uses.{statement_uses, entangled_uses, blocker}
-use Rattle.ent_termination.specs.Lending.{IsJointTaken, IsLentAlone, IsSingleTaken, lent_by}
-use Rattle.ent_termination.proofs.Left.{Leaves, left_behind}
+use Rattle.ent_protocol_laws.specs.Replies.{lent_by}
+use Rattle.ent_termination.specs.Lending.{IsJointTaken, IsLentAlone, IsSingleTaken}
+use Rattle.ent_protocol_laws.proofs.Leaves.{Leaves, left_behind}
 
 -- ---- a job that is the only one
 
@@ -55,8 +56,8 @@ finished_lent s m c (Shown rows) = refl
 finished_lent s m c (Choice groundings) = refl
 finished_lent s m c (Fault failure) = refl
 
-abbrev IsLentBy : Bool → List Job → State → Type 0
-IsLentBy added jobs new = new.lent ≡ jobs
+abbrev IsLentBy : Bool → Bool → List Job → State → Type 0
+IsLentBy added rolled jobs new = new.lent ≡ jobs
 
 leaves_lent : (s : State) → s.lent ≡ [] → Leaves s IsLentBy
 leaves_lent s none =
@@ -67,7 +68,7 @@ leaves_lent s none =
       lends = λ m c at. ap (λ jobs. jobs ++ single_job s m c ∷ []) none;
       posts = λ m c at. none;
       prepares = λ m at. none;
-      commits = λ m at. none;
+      commits = λ m at ready. none;
       rolls_back = λ group cause. ap (filter (λ job. not (goes_with (group_members s group) job))) none;
       fails = λ left group cause back. absurd (none_taken back.job s.lent left none back.taken);
       finishes = λ left m c outcome back at. absurd (none_taken back.job s.lent left none back.taken);

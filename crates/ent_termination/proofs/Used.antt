@@ -25,9 +25,9 @@ use Rattle.ent_protocol.specs.State.{State, Dormant, Member, Submitted, by_numbe
 use Rattle.ent_protocol.specs.Step.{Step}
 use Rattle.ent_protocol_laws.specs.Attempts.{HasRunLeft, StayWithin}
 use Rattle.ent_protocol_laws.specs.ByNumber.{StandByNumber}
-use Rattle.ent_termination.specs.Input.{adds_script}
+use Rattle.ent_protocol_laws.specs.Replies.{adds_script}
 use Rattle.ent_termination.specs.Tries.{present_run, runs_beyond, tries_left}
-use Rattle.ent_termination.proofs.Left.{Leaves, left_behind}
+use Rattle.ent_protocol_laws.proofs.Leaves.{Leaves, left_behind}
 use Rattle.ent_lists.specs.Elements.{In, Pairs, of_all, clash, same_number, number_itself, filter_joined, pairs_second}
 use Rattle.ent_lists.specs.Elements.{taken_in}
 use Rattle.ent_protocol_laws.specs.Numbered.{Apart, one_of, to_by_number}
@@ -290,8 +290,8 @@ finishes s left m c (Shown rows) apart at =
 finishes s left m c (Choice groundings) apart at = omega arith
 finishes s left m c (Fault failure) apart at = omega arith
 
-abbrev IsNoMore : State → Bool → List Job → State → Type 0
-IsNoMore s added jobs new = added ≡ false → NoMore s new
+abbrev IsNoMore : State → Bool → Bool → List Job → State → Type 0
+IsNoMore s added rolled jobs new = added ≡ false → NoMore s new
 
 leaves_no_more : (s : State) → StayWithin s → StandByNumber s → Leaves s (IsNoMore s)
 leaves_no_more s within stand =
@@ -303,7 +303,7 @@ leaves_no_more s within stand =
       lends = λ m c at none. one_replaced s (lending s m c) apart _ m at refl refl refl refl refl refl refl;
       posts = λ m c at none. one_replaced s (posting s m c) apart _ m at refl refl refl refl refl refl refl;
       prepares = λ m at none. other_members s (preparing s m) refl refl refl (prepares s m at);
-      commits = λ m at none. commits s m at;
+      commits = λ m at ready none. commits s m at;
       rolls_back = λ group cause none. rolls_back s group cause;
       fails = λ left group cause back none. rolls_back (record s { lent = left }) group cause;
       finishes = λ left m c outcome back at none. finishes s left m c outcome apart at;

@@ -1,16 +1,11 @@
 -- Jobs that are lent one at a time, and whose results come in at once.
-use Rattle.std.specs.Prelude.{◌≡◌, List, [], ◌∷◌}
+use Rattle.std.specs.Prelude.{◌≡◌, []}
 use Rattle.ent_protocol.specs.Event.{Event, Reply}
 use Rattle.ent_protocol.specs.Event as replies
-use Rattle.ent_protocol.specs.Job.{Done, Job}
+use Rattle.ent_protocol.specs.Job.{Done}
 use Rattle.ent_protocol.specs.Run.{Forms}
 use Rattle.ent_protocol.specs.State.{State}
 use Rattle.ent_protocol.specs.Step.{Step}
-
--- the job that a reply lends
-abbrev pub lent_by : {F : Type 0} → Reply F → List Job
-lent_by (replies.Lent job) = job ∷ []
-lent_by other = []
 
 -- from a state in which no job is lent an event lends the job of a result
 pub record IsLentAlone {F : Type 0} (forms : Forms F) (s : State) (event : Event) (done : Done) (lent : State)

@@ -1,6 +1,5 @@
 pub mod Progress
 pub mod Within
-pub mod Input
 pub mod Lending
 pub mod Idle
 pub mod Tries

@@ -20,10 +20,10 @@ ghost use Rattle.ent_protocol.specs.State.{State, members};
 ghost use Rattle.ent_protocol.specs.Step.{Step};
 ghost use Rattle.ent_protocol.specs.Tidy.{is_member};
 ghost use Rattle.ent_protocol_laws.specs.Attempts.{AsksForRun};
+ghost use Rattle.ent_protocol_laws.specs.Replies.{adds_script, lent_by};
 ghost use Rattle.ent_termination.specs.Fates.{HasOneFate, HaveFates};
 ghost use Rattle.ent_termination.specs.Idle.{IsIdleRound, IsTurnTaken};
-ghost use Rattle.ent_termination.specs.Input.{adds_script};
-ghost use Rattle.ent_termination.specs.Lending.{IsJointTaken, IsLentAlone, IsSingleTaken, lent_by};
+ghost use Rattle.ent_termination.specs.Lending.{IsJointTaken, IsLentAlone, IsSingleTaken};
 ghost use Rattle.ent_termination.specs.Tries.{tries_left};
 
 use ent_protocol::reached_states_are_tidy;
