@@ -11,7 +11,7 @@ use Rattle.ent_lock.specs.Mode.{in_conflict}
 use Rattle.ent_lock.specs.Use.{Uses, Holds, InConflictAt, IsLeastIfAny, key_of_number}
 use Rattle.ent_protocol.specs.State.{State, Member, Use}
 use Rattle.ent_protocol.specs.Uses.{conflicting, is_conflicting, not_passed, uses_conflict, least, blocker}
-use Rattle.ent_members.specs.declared.conflicts.Passed.TheVariants.{Group, Itself}
+use Rattle.ent_members.specs.declared.blockers.Passed.TheVariants.{Group, Itself}
 use Rattle.ent_members.specs.Locks.{IsHeld, BlocksUses, IsLockedRun, passed_numbers, use_of}
 use Rattle.ent_members.specs.Moves.{run_of}
 use Rattle.ent_members.specs.Passed.{is_passed}

@@ -7,7 +7,7 @@ use Rattle.std.proofs.lemmas.List.{map-append, take_more}
 use Rattle.std.proofs.lemmas.List.Elements.{filter-append}
 use Rattle.ent_protocol.specs.State.{Member, Use}
 use Rattle.ent_protocol.specs.Uses.{is_conflicting, least}
-use Rattle.ent_members.specs.declared.conflicts.Passed.{Passed}
+use Rattle.ent_members.specs.declared.blockers.Passed.{Passed}
 use Rattle.ent_members.specs.Passed.{is_passed, is_blocking}
 use Rattle.ent_members.specs.Run.{tx_of}
 

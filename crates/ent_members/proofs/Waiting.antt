@@ -9,7 +9,7 @@ use Rattle.ent_protocol.specs.Member.{is_of}
 use Rattle.ent_protocol.specs.State.{State, Member, Use}
 use Rattle.ent_protocol.specs.Uses.{conflicting, is_conflicting, not_passed}
 use Rattle.ent_protocol.specs.Waits.{awaited}
-use Rattle.ent_members.specs.declared.conflicts.Passed.TheVariants.{Group, Itself}
+use Rattle.ent_members.specs.declared.blockers.Passed.TheVariants.{Group, Itself}
 use Rattle.ent_members.specs.Passed.{is_blocking}
 use Rattle.ent_members.specs.Waits.{is_awaited, is_awaited_over, pairs_of, waits_over}
 use Rattle.ent_members.proofs.Conflicting.{filtered_twice}

@@ -2,7 +2,7 @@
 use Rattle.std.specs.Prelude.{◌≡◌, ◌⊎◌, ◌↔◌, ℕ, List, ◌++◌, map, Contains, filter}
 use Rattle.ent_lock.specs.declared.mode.Mode.{Mode}
 use Rattle.ent_lock.specs.Use.{Uses, Holds, InConflictAt, key_of_number}
-use Rattle.ent_members.specs.declared.conflicts.Passed.TheVariants.{Group, Itself}
+use Rattle.ent_members.specs.declared.blockers.Passed.TheVariants.{Group, Itself}
 use Rattle.ent_members.specs.Passed.{is_passed}
 use Rattle.ent_members.specs.Run.{Run, IsRun, tx_of}
 use Rattle.ent_protocol.specs.State.{Member, Use}

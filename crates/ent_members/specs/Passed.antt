@@ -1,7 +1,7 @@
 -- Who is passed by a member that asks for uses.
 use Rattle.std.specs.Prelude.{◌==◌, Bool, not, ◌&&◌, List}
-use Rattle.ent_members.specs.declared.conflicts.Passed.{Passed}
-use Rattle.ent_members.specs.declared.conflicts.Passed.TheVariants.{Group, Itself}
+use Rattle.ent_members.specs.declared.blockers.Passed.{Passed}
+use Rattle.ent_members.specs.declared.blockers.Passed.TheVariants.{Group, Itself}
 use Rattle.ent_protocol.specs.State.{Member, Use}
 use Rattle.ent_protocol.specs.Uses.{is_conflicting}
 

@@ -1,7 +1,7 @@
 -- Who waits for whom, one member and another at a time.
 use Rattle.std.specs.Prelude.{ℕ, ◌==◌, ◌&&◌, Bool, List, map, filter, if◌then◌else◌}
 use Rattle.std.specs.List.{list_any}
-use Rattle.ent_members.specs.declared.conflicts.Passed.{Passed}
+use Rattle.ent_members.specs.declared.blockers.Passed.{Passed}
 use Rattle.ent_members.specs.Passed.{is_blocking}
 use Rattle.ent_protocol.specs.State.{State, Member, Use}
 use Rattle.ent_protocol.specs.Uses.{conflicting}

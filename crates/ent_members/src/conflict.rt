@@ -2,7 +2,7 @@
 ghost use Rattle.std.specs.Prelude.{◌≡◌, false, true, Contains, MatchOption};
 ghost use Rattle.ent_members.specs.Conflict.{IsConflict, NoConflict, IsInConflict, NoneInConflict};
 
-use crate::conflicts::in_conflict;
+use crate::blockers::in_conflict;
 use crate::table_use::Use;
 use ent_lock::Mode;
 

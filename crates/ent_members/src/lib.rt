@@ -7,9 +7,9 @@
 #![tactic(auto)]
 
 mod answer;
+mod blockers;
 mod change;
 mod conflict;
-mod conflicts;
 mod entrant;
 mod hold;
 mod join;
@@ -25,8 +25,8 @@ mod start;
 mod table_use;
 mod uses;
 
+pub use blockers::{is_conflicting, waits_over};
 pub use conflict::{Conflict, first_conflict};
-pub use conflicts::{is_conflicting, waits_over};
 pub use entrant::Entrant;
 pub use hold::with_uses;
 pub use law::awaited_members_are_waited_for;

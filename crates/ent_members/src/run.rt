@@ -26,8 +26,8 @@ ghost use Rattle.ent_members.specs.Run.{with_run, tx_of};
 ghost use Rattle.ent_members.specs.Waits.{is_awaited};
 
 use crate::answer::{answer_each, numbers_of};
+use crate::blockers::{Passed, gather_passed, is_awaited_over, pass_itself};
 use crate::change::{self, uses_with};
-use crate::conflicts::{Passed, gather_passed, is_awaited_over, pass_itself};
 use crate::entrant::Entrant;
 use crate::join::{gather_labels, join_groups};
 use crate::locks::{least_in_conflict, lock};

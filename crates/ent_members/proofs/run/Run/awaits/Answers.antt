@@ -1,6 +1,6 @@
 use Rattle.std.proofs.Common.{◌≡◌, Bool, true, false, ◌||◌, refl, sym, ap, ◌∙◌}
 use Rattle.std.specs.List.{list_any}
-use Rattle.ent_members.specs.declared.conflicts.Passed.TheVariants.{Group, Itself}
+use Rattle.ent_members.specs.declared.blockers.Passed.TheVariants.{Group, Itself}
 use Rattle.ent_members.specs.Waits.{is_awaited_over}
 use Rattle.ent_members.proofs.Waiting.{awaited_by_lists}
 use Rattle.ent_members.proofs.run.Run.awaits.Goals as goal

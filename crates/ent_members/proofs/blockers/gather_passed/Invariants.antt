@@ -2,7 +2,7 @@ use Rattle.std.proofs.Common.{◌≡◌, ◌≤◌, ◌+◌, ◌++◌, take, len
 use Rattle.std.specs.Prelude.{filter}
 use Rattle.ent_members.specs.Passed.{is_passed}
 use Rattle.ent_members.specs.Run.{tx_of}
-use Rattle.ent_members.proofs.conflicts.gather_passed.Given as goal
+use Rattle.ent_members.proofs.blockers.gather_passed.Given as goal
 
 abbrev pub invariant-loop-holder : goal.invariant-loop-holder
 invariant-loop-holder l = record {

@@ -5,8 +5,8 @@ use Rattle.std.proofs.lemmas.List.{append-nil, length-append}
 use Rattle.ent_members.specs.Passed.{is_passed}
 use Rattle.ent_members.specs.Run.{tx_of}
 use Rattle.ent_members.proofs.Conflicting.{passed_more}
-use Rattle.ent_members.proofs.conflicts.gather_passed.Goals as goal
-use Rattle.ent_members.proofs.conflicts.gather_passed.Goals.{then-is_passed, else-is_passed}
+use Rattle.ent_members.proofs.blockers.gather_passed.Goals as goal
+use Rattle.ent_members.proofs.blockers.gather_passed.Goals.{then-is_passed, else-is_passed}
 
 next_passed : (c : goal.Joined-is_passed) (b : Bool) → c.is_passed.result ≡ b
     → map tx_of (filter (is_passed c.args.passed) (take (c.loop-holder.holder-index + 1) c.args.holders.now))
