@@ -6,7 +6,7 @@ use Rattle.ent_driver.specs.Fault.{code_of as refusal_code, place_of as refusal_
 use Rattle.ent_driver.specs.declared.fault.DriverFault.{DriverFault}
 use Rattle.ent_engine.specs.Fault.{code_of, place_of}
 use Rattle.ent_engine.specs.declared.fault.RunFault.{RunFault}
-use Rattle.ent_fault_text.specs.Place.{IsPlaceAt}
+use Rattle.ent_excerpt.specs.Place.{IsPlaceAt}
 use Rattle.ent_c.specs.declared.told.Told.{Told}
 
 -- beside a text of so many bytes, where there is no fault

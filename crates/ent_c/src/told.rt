@@ -4,7 +4,8 @@ ghost use Rattle.ent_c.specs.Told.{TellsCode, TellsFault, TellsRefusal, told_of_
 
 use ent_driver::DriverFault;
 use ent_engine::RunFault;
-use ent_fault_text::{Place, valid_text};
+use ent_excerpt::Place;
+use ent_fault_text::valid_text;
 
 /// What a call tells beside its status. C calls it `struct entangle_told`.
 #[repr(C)]

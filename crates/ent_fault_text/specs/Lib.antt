@@ -1,5 +1,1 @@
 pub mod Fault
-pub mod Line
-pub mod Place
-pub mod Part
-pub mod Excerpt

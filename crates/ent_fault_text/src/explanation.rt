@@ -2,20 +2,18 @@
 ghost use Rattle.std.specs.Prelude.{IfOk};
 ghost use Rattle.std.specs.Str.{IsCharBoundary};
 ghost use Rattle.ent_fault_text.specs.Fault.{offset_of};
-ghost use Rattle.ent_fault_text.specs.Place.{IsPlaceAt};
-ghost use Rattle.ent_fault_text.specs.Excerpt.{IsExcerptAt};
+ghost use Rattle.ent_excerpt.specs.Place.{IsPlaceAt};
+ghost use Rattle.ent_excerpt.specs.Excerpt.{IsExcerptAt};
 
 use crate::character::{text_fault, word_length};
-use crate::excerpt::{Excerpt, columns};
 use crate::fault::InputFault;
 use crate::form::form_fault;
 use crate::grammar::{too_many, unexpected};
-use crate::line::Line;
 use crate::mark::Sort;
-use crate::place::Place;
 use crate::scene::Scene;
 use crate::tokens::scene_at;
 use crate::words::Told;
+use ent_excerpt::{Excerpt, Line, Place, columns};
 use ent_sql::SqlFault;
 use std::alloc::{AllocError, Global};
 use std::fmt;

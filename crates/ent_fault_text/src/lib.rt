@@ -7,17 +7,14 @@
 mod absent;
 mod character;
 mod counts;
-mod excerpt;
 mod expected;
 mod explanation;
 mod fault;
 mod form;
 mod grammar;
 mod kinds;
-mod line;
 mod mark;
 mod names;
-mod place;
 mod repeated;
 mod scene;
 mod schema;
@@ -26,9 +23,6 @@ mod typed;
 mod variables;
 mod words;
 
-pub use excerpt::Excerpt;
 pub use explanation::{Explanation, explain_fault};
 pub use fault::{InputFault, valid_text};
-pub use line::Line;
 pub use names::nearest;
-pub use place::Place;

@@ -1,8 +1,8 @@
 //! What is said where a name stands for two things, or a thing stands twice.
 use crate::mark::{Mark, Sort};
-use crate::place::Place;
 use crate::scene::Scene;
 use crate::words::{Told, listed};
+use ent_excerpt::Place;
 use ent_text::{Keyword, Symbol};
 use std::alloc::AllocError;
 

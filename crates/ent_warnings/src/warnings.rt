@@ -1,7 +1,8 @@
 //! Demands that nothing in an input is offered for, and answer relations that nobody demands.
 use crate::names::{Meant, Relations, entangled_of, meant_text, near_relation, text_of};
 use crate::offer::{is_demanded, is_named, is_offered};
-use ent_fault_text::{Excerpt, Explanation, Line, Place};
+use ent_excerpt::{Excerpt, Line, Place};
+use ent_fault_text::Explanation;
 use ent_sql::parse_input;
 use ent_tree::{Condition, Entangled, Identifier, Script, Tuple};
 use ent_value::Refusal;

@@ -1,0 +1,4 @@
+pub mod Line
+pub mod Place
+pub mod Part
+pub mod Excerpt
