@@ -21,7 +21,9 @@ use crate::variable::{number_of, variables};
 use ent_closed::{
     Atom, Binding as Bind, Entangled as ResolvedEntangled, Known, Term as ResolvedTerm,
 };
-use ent_tree::{Condition, Duplicate, Entangled, EntangledItem, Identifier, MOST_PARTS, Term, Test, Tuple};
+use ent_tree::{
+    Condition, Duplicate, Entangled, EntangledItem, Identifier, MOST_PARTS, Term, Test, Tuple,
+};
 use ent_value::{Kind, Limited, Name, Refusal, Sequence};
 use std::alloc::{AllocError, Global};
 

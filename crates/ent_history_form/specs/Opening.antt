@@ -8,6 +8,7 @@ use Rattle.ent_value.specs.Value.{kinds_of}
 use Rattle.ent_value.specs.declared.value.Value.{Value}
 use Rattle.ent_tree.specs.declared.declaration.Column.{Column}
 use Rattle.ent_tree.specs.declared.declaration.Create.{Create}
+use Rattle.ent_tree.specs.declared.declaration.Opening.{Opening}
 use Rattle.ent_tree.specs.declared.limits.TheConstants.{MOST_TABLES, MOST_PARTS, MOST_OPENING_ROWS}
 use Rattle.ent_book.specs.Report.{line, row_line}
 use Rattle.ent_book.specs.Report2.{opening_line}
@@ -37,12 +38,17 @@ NamesAscend tables create =
     (front : List Create) (last : Create) → tables ≡ front ++ last ∷ []
     → slice_cmp nat_cmp last.name.name create.name.name ≡ Less
 
+-- an opening behind one more table, or row
+abbrev pub with_table : Create → Opening → Opening
+with_table create opening = record opening { tables = opening.tables ++ create ∷ [] }
+
+abbrev pub with_row : Create → List Value → Opening → Opening
+with_row create row opening = record opening { rows = opening.rows ++ opening_row create.name.name row ∷ [] }
+
 -- what is told behind a table's line, where so many rows are due
 abbrev pub with_opening_table : Draft → Create → ℕ → Draft
 with_opening_table draft create count = record {
-  told = record draft.told {
-    opening = record draft.told.opening { tables = draft.told.opening.tables ++ create ∷ [] };
-  };
+  told = record draft.told { opening = with_table create draft.told.opening };
   due = rows_due OpeningRows count;
 }
 
@@ -64,11 +70,7 @@ pub record OpeningStands (draft : Draft) (text : List ℕ) (next : Draft) : Type
 -- what is told behind a row of the last table, where so many more rows are due
 abbrev pub with_opening_row : Draft → Create → List Value → ℕ → Draft
 with_opening_row draft create row more = record {
-  told = record draft.told {
-    opening = record draft.told.opening {
-      rows = draft.told.opening.rows ++ opening_row create.name.name row ∷ [];
-    };
-  };
+  told = record draft.told { opening = with_row create row draft.told.opening };
   due = rows_due OpeningRows more;
 }
 

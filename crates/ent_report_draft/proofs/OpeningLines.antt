@@ -7,8 +7,8 @@ use Rattle.ent_tree.specs.declared.limits.TheConstants.{MOST_OPENING_ROWS}
 use Rattle.ent_book.specs.Report.{line}
 use Rattle.ent_report_lines.specs.Openings.{opening_text}
 use Rattle.ent_history_form.specs.Draft.{Draft, Due, OpeningRows, rows_due}
-use Rattle.ent_history_form.specs.Opening.{OpeningStands}
-use Rattle.ent_report_draft.specs.Opened.{Opens, with_table}
+use Rattle.ent_history_form.specs.Opening.{OpeningStands, with_table}
+use Rattle.ent_report_draft.specs.Opened.{Opens}
 use Rattle.ent_report_draft.specs.Due.{OpeningIsNext}
 use Rattle.ent_report_draft.specs.Reading.{IsOpeningLine}
 use Rattle.ent_report_draft.specs.View.{HasRoom}

@@ -9,8 +9,8 @@ use Rattle.ent_tree.specs.declared.limits.TheConstants.{MOST_OPENING_ROWS}
 use Rattle.ent_book.specs.Report.{line}
 use Rattle.ent_history.specs.Told.{opening_row}
 use Rattle.ent_history_form.specs.Draft.{Draft, Due, OpeningRows, rows_due}
-use Rattle.ent_history_form.specs.Opening.{OpeningRowStands}
-use Rattle.ent_report_draft.specs.Opened.{OpeningTakes, with_row}
+use Rattle.ent_history_form.specs.Opening.{OpeningRowStands, with_row}
+use Rattle.ent_report_draft.specs.Opened.{OpeningTakes}
 use Rattle.ent_report_draft.specs.Reading.{IsRowLine}
 use Rattle.ent_report_draft.specs.View.{HasRoom}
 use Rattle.ent_report_draft.proofs.Steps.{same_line}

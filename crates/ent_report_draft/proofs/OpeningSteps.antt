@@ -26,9 +26,9 @@ use Rattle.ent_semantics.specs.Database.{Name, row_of, same_name}
 use Rattle.ent_history.specs.Text.{rows_under}
 use Rattle.ent_history.specs.Told.{opening_row}
 use Rattle.ent_history_form.specs.Parts.{Ascends}
-use Rattle.ent_history_form.specs.Opening.{NamesAscend}
+use Rattle.ent_history_form.specs.Opening.{NamesAscend, with_row}
 use Rattle.ent_history_form.specs.Draft.{last_of}
-use Rattle.ent_report_draft.specs.Opened.{EndsBelow, IsInOrder, IsUpTo, OpeningTakes, with_row}
+use Rattle.ent_report_draft.specs.Opened.{EndsBelow, IsInOrder, IsUpTo, OpeningTakes}
 use Rattle.ent_report_draft.proofs.Ends.{ascends_if, ends_below_if, last_of-push, last_split}
 
 -- ---- names

@@ -1,5 +1,5 @@
 -- The opening as far as it is told, and the last row of its last table.
-use Rattle.std.specs.Prelude.{◌≡◌, ◌≤◌, ◌+◌, ℕ, length, ◌⊎◌, List, [], ◌∷◌, ◌++◌, map, Option, Some, None}
+use Rattle.std.specs.Prelude.{◌≡◌, ◌≤◌, ◌+◌, ℕ, length, ◌⊎◌, List, [], map, Option, Some, None}
 use Rattle.std.specs.List.{AllByRecursion}
 use Rattle.std.specs.Cmp.Lexicographic.{slice_cmp}
 use Rattle.std.specs.Ordering.{nat_cmp}
@@ -13,7 +13,6 @@ use Rattle.ent_tree.specs.declared.limits.TheConstants.{MOST_OPENING_ROWS}
 use Rattle.ent_tree.specs.declared.operand.Literal.{Literal}
 use Rattle.ent_semantics.specs.Database.{Name}
 use Rattle.ent_history.specs.Text.{rows_under}
-use Rattle.ent_history.specs.Told.{opening_row}
 use Rattle.ent_history_form.specs.Opening.{NamesAscend}
 use Rattle.ent_history_form.specs.Parts.{Ascends}
 use Rattle.ent_history_form.specs.Draft.{last_of}
@@ -49,9 +48,3 @@ pub record Opens (opening : Opening) (create : Create) (count : ℕ) : Type 0 wh
 
 abbrev pub literals_of : List Value → List Literal
 literals_of row = map (λ value. record { value = value; place = 0 }) row
-
-abbrev pub with_row : Create → List Value → Opening → Opening
-with_row create row opening = record opening { rows = opening.rows ++ opening_row create.name.name row ∷ [] }
-
-abbrev pub with_table : Create → Opening → Opening
-with_table create opening = record opening { tables = opening.tables ++ create ∷ [] }

@@ -4,10 +4,10 @@ ghost use Rattle.std.specs.Option.{option_copied};
 ghost use Rattle.ent_tree.specs.declared.declaration.Create.{Create};
 ghost use Rattle.ent_tree.specs.declared.limits.TheConstants.{MOST_OPENING_ROWS, MOST_PARTS, MOST_TABLES};
 ghost use Rattle.ent_form.specs.Catalogue.{schemas_of};
-ghost use Rattle.ent_history_form.specs.Opening.{NamesAscend};
+ghost use Rattle.ent_history_form.specs.Opening.{NamesAscend, with_row, with_table};
 ghost use Rattle.ent_history.specs.Told.{opening_row};
 ghost use Rattle.ent_history_form.specs.Draft.{last_of};
-ghost use Rattle.ent_report_draft.specs.Opened.{EndsBelow, OpeningTakes, Opens, literals_of, with_row, with_table};
+ghost use Rattle.ent_report_draft.specs.Opened.{EndsBelow, OpeningTakes, Opens, literals_of};
 
 use crate::kinds::is_of_kinds;
 use crate::lists::{last, take_last};

@@ -11,7 +11,7 @@ ghost use Rattle.ent_sql.specs.Entangling.{entangled_conditions};
 
 use crate::front::begins_with_operand;
 use crate::list::{Item, appended, listed};
-use crate::operand::{name_at, term_at};
+use crate::operand::name_at;
 use crate::select::select_at;
 use crate::test::comparison_at;
 use ent_grammar::{
@@ -140,7 +140,7 @@ fn comparison_behind(
     ensures { Gives (λ x. x) result (reads (comparison_behind first) end tokens.entry) }
 {
     let (comparison, rest) = comparison_at(end, tokens)?;
-    let (right, rest) = term_at(alloc, end, rest)?;
+    let (right, rest) = Term::read(alloc, end, rest)?;
     let left = first;
     Ok((
         Condition::Test(Test {
@@ -197,7 +197,7 @@ fn condition_at(
     if begins_with_sign(Symbol::Open, &tokens) {
         bracketed_at(alloc, end, tokens)
     } else {
-        let (first, rest) = term_at(alloc, end, tokens)?;
+        let (first, rest) = Term::read(alloc, end, tokens)?;
         condition_behind(alloc, first, end, rest)
     }
 }

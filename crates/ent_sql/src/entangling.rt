@@ -11,7 +11,7 @@ ghost use Rattle.ent_sql.specs.Entangling.{entangled_behind, ordinary, entangled
 use crate::condition::{conditions_at, one_at};
 use crate::front::begins_with_operand;
 use crate::list::{Item, appended, listed};
-use crate::operand::{name_at, term_at, variable_at};
+use crate::operand::{name_at, variable_at};
 use crate::select::select_behind;
 use ent_grammar::{Divider, GrammarFault, begins_with_sign, begins_with_word, sign_at, word_at};
 use ent_text::{Keyword, Symbol, Tokens};
@@ -119,7 +119,7 @@ fn entangled_item_at(
 ) -> Result<(EntangledItem, Tokens<'_>), Refusal<GrammarFault>>
     ensures { Gives (λ x. x) result (reads entangled_item end tokens.entry) }
 {
-    let (term, rest) = term_at(alloc, end, tokens)?;
+    let (term, rest) = Term::read(alloc, end, tokens)?;
     let (binds, rest) = binding_at(alloc, end, rest)?;
     Ok((EntangledItem { term, binds }, rest))
 }

@@ -2,8 +2,7 @@
 ghost use Rattle.std.specs.Prelude.{◌≡◌};
 ghost use Rattle.ent_value.specs.Refusal.{Gives};
 ghost use Rattle.ent_grammar.specs.Grammar.{reads};
-ghost use Rattle.ent_sql.specs.Operands.{identifier, host_variable, negative, unsigned, literal, value};
-ghost use Rattle.ent_sql.specs.Operands.{column_reference, operand, term};
+ghost use Rattle.ent_sql.specs.Operands.{identifier, host_variable, negative, unsigned, column_reference};
 
 use crate::front::{
     begins_with_literal, begins_with_name, begins_with_operand, begins_with_value,
@@ -90,38 +89,6 @@ fn unsigned_at(
     Ok((Literal { value, place }, tokens.tail()))
 }
 
-#[tactic(auto, unfolding(crate::specs::Operands::literal, crate::specs::Operands::negative))]
-fn literal_at(
-    alloc: Global,
-    end: usize,
-    tokens: Tokens<'_>,
-) -> Result<(Literal, Tokens<'_>), Refusal<GrammarFault>>
-    ensures { Gives (λ x. x) result (reads literal end tokens.entry) }
-{
-    if begins_with_sign(Symbol::Minus, &tokens) {
-        negative_at(end, tokens)
-    } else {
-        unsigned_at(alloc, end, tokens)
-    }
-}
-
-#[tactic(auto, unfolding(crate::specs::Operands::value, crate::specs::Operands::host_variable))]
-pub(crate) fn value_at(
-    alloc: Global,
-    end: usize,
-    tokens: Tokens<'_>,
-) -> Result<(ValueSpecification, Tokens<'_>), Refusal<GrammarFault>>
-    ensures { Gives (λ x. x) result (reads value end tokens.entry) }
-{
-    if begins_with_variable(&tokens) {
-        let (variable, rest) = variable_at(alloc, end, tokens)?;
-        Ok((ValueSpecification::HostVariable(variable), rest))
-    } else {
-        let (literal, rest) = literal_at(alloc, end, tokens)?;
-        Ok((ValueSpecification::Literal(literal), rest))
-    }
-}
-
 /// A name, with another behind it where a dot follows.
 #[tactic(auto, unfolding(crate::specs::Operands::column_reference))]
 fn reference_at(
@@ -144,40 +111,6 @@ fn reference_at(
     }
 }
 
-#[tactic(auto, unfolding(crate::specs::Operands::operand, crate::specs::Operands::column_reference, crate::specs::Operands::identifier))]
-fn operand_at(
-    alloc: Global,
-    end: usize,
-    tokens: Tokens<'_>,
-) -> Result<(Operand, Tokens<'_>), Refusal<GrammarFault>>
-    ensures { Gives (λ x. x) result (reads operand end tokens.entry) }
-{
-    if begins_with_name(&tokens) {
-        let (column, rest) = reference_at(alloc, end, tokens)?;
-        Ok((Operand::Column(column), rest))
-    } else {
-        let (value, rest) = value_at(alloc, end, tokens)?;
-        Ok((Operand::Value(value), rest))
-    }
-}
-
-#[tactic(auto, unfolding(crate::specs::Operands::term, crate::specs::Operands::identifier))]
-pub(crate) fn term_at(
-    alloc: Global,
-    end: usize,
-    tokens: Tokens<'_>,
-) -> Result<(Term, Tokens<'_>), Refusal<GrammarFault>>
-    ensures { Gives (λ x. x) result (reads term end tokens.entry) }
-{
-    if begins_with_name(&tokens) {
-        let (variable, rest) = name_at(alloc, end, tokens)?;
-        Ok((Term::Variable(variable), rest))
-    } else {
-        let (value, rest) = value_at(alloc, end, tokens)?;
-        Ok((Term::Value(value), rest))
-    }
-}
-
 impl Item for Literal {
     ghost use Rattle.ent_sql.specs.Operands.{literal};
 
@@ -187,12 +120,17 @@ impl Item for Literal {
         begins_with_literal(tokens)
     }
 
+    #[tactic(auto, unfolding(crate::specs::Operands::literal, crate::specs::Operands::negative))]
     fn read(
         alloc: Global,
         end: usize,
         tokens: Tokens<'_>,
     ) -> Result<(Self, Tokens<'_>), Refusal<GrammarFault>> {
-        literal_at(alloc, end, tokens)
+        if begins_with_sign(Symbol::Minus, &tokens) {
+            negative_at(end, tokens)
+        } else {
+            unsigned_at(alloc, end, tokens)
+        }
     }
 }
 
@@ -205,12 +143,19 @@ impl Item for ValueSpecification {
         begins_with_value(tokens)
     }
 
+    #[tactic(auto, unfolding(crate::specs::Operands::value, crate::specs::Operands::host_variable))]
     fn read(
         alloc: Global,
         end: usize,
         tokens: Tokens<'_>,
     ) -> Result<(Self, Tokens<'_>), Refusal<GrammarFault>> {
-        value_at(alloc, end, tokens)
+        if begins_with_variable(&tokens) {
+            let (variable, rest) = variable_at(alloc, end, tokens)?;
+            Ok((ValueSpecification::HostVariable(variable), rest))
+        } else {
+            let (literal, rest) = Literal::read(alloc, end, tokens)?;
+            Ok((ValueSpecification::Literal(literal), rest))
+        }
     }
 }
 
@@ -223,12 +168,19 @@ impl Item for Operand {
         begins_with_operand(tokens)
     }
 
+    #[tactic(auto, unfolding(crate::specs::Operands::operand, crate::specs::Operands::column_reference, crate::specs::Operands::identifier))]
     fn read(
         alloc: Global,
         end: usize,
         tokens: Tokens<'_>,
     ) -> Result<(Self, Tokens<'_>), Refusal<GrammarFault>> {
-        operand_at(alloc, end, tokens)
+        if begins_with_name(&tokens) {
+            let (column, rest) = reference_at(alloc, end, tokens)?;
+            Ok((Operand::Column(column), rest))
+        } else {
+            let (value, rest) = ValueSpecification::read(alloc, end, tokens)?;
+            Ok((Operand::Value(value), rest))
+        }
     }
 }
 
@@ -242,11 +194,18 @@ impl Item for Term {
         begins_with_operand(tokens)
     }
 
+    #[tactic(auto, unfolding(crate::specs::Operands::term, crate::specs::Operands::identifier))]
     fn read(
         alloc: Global,
         end: usize,
         tokens: Tokens<'_>,
     ) -> Result<(Self, Tokens<'_>), Refusal<GrammarFault>> {
-        term_at(alloc, end, tokens)
+        if begins_with_name(&tokens) {
+            let (variable, rest) = name_at(alloc, end, tokens)?;
+            Ok((Term::Variable(variable), rest))
+        } else {
+            let (value, rest) = ValueSpecification::read(alloc, end, tokens)?;
+            Ok((Term::Value(value), rest))
+        }
     }
 }
