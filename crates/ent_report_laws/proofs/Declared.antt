@@ -122,7 +122,7 @@ pub script_declared : (creates : List Create) (script : Script) (plain : Plain)
     → is_declared creates name ≡ true
 script_declared creates script plain e statement c name changed =
     let a = bound_first (statements_from (schemas_of creates) none_bound [] script.statements)
-    (λ made. Ok (record { within = script.within; statements = made; end = script.end })) plain e in
+    (λ made. Ok (record { statements = made; end = script.end })) plain e in
     statements_declared creates none_bound [] script.statements a.0 a.1 statement
     (contains_in script.statements statement c) name changed
 
