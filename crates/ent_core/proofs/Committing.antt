@@ -102,27 +102,26 @@ begins_commit prepared group false reply new commits waits = waits refl
 different : {A : Type 0} → true ≡ false → A
 different e = absurd cc
 
-module _ (s : State) (run : Run) (tx group : ℕ) (member : Member) (ready : Bool) (own : group ≡ member.group)
-    (prepares : PreparesMember member (run_of s.prepared s.active) run)
-    (told : ready ≡ is_ready (with_run run s) group) where
+module _ (s : State) (run : Run) (tx group : ℕ) (member : Member) (own : group ≡ member.group)
+    (prepares : PreparesMember member (run_of s.prepared s.active) run) where
   now_prepared : with_run run s ≡ preparing s member
   now_prepared = λ i. record s { prepared = prepares.prepared i; active = prepares.active i }
 
-  is_told : is_ready (preparing s member) member.group ≡ ready
-  is_told = sym (told ∙ (λ i. is_ready (now_prepared i) (own i)))
+  same_ready : is_ready (with_run run s) group ≡ is_ready (preparing s member) member.group
+  same_ready = λ i. is_ready (now_prepared i) (own i)
 
-  pub waits : (F : Type 0) (now : State) → s ≡ now → ready ≡ false
+  pub waits : (F : Type 0) (now : State) → s ≡ now → is_ready (with_run run s) group ≡ false
       → BeginsCommit {F = F} (preparing now member) member.group (is_ready (preparing now member) member.group)
       Prepared (with_run run s)
   waits F now same off =
       subst (λ (w : State). BeginsCommit {F = F} (preparing w member) member.group
       (is_ready (preparing w member) member.group) Prepared (with_run run s)) same
       (begins_commit {F = F} (preparing s member) member.group (is_ready (preparing s member) member.group) Prepared
-      (with_run run s) (λ on. different (sym on ∙ is_told ∙ off)) (λ e. (refl, now_prepared)))
+      (with_run run s) (λ on. different (sym on ∙ sym same_ready ∙ off)) (λ e. (refl, now_prepared)))
 
   pub commits : (F : Type 0) (now : State) (left : Run) (first : ℕ) (committed : List Member) (members : List ℕ)
-      (journal : List Entry) (fates : List Fated) (changes : List Change) → s ≡ now → ready ≡ true
-      → committed ≡ committing_members (with_run run s) group
+      (journal : List Entry) (fates : List Fated) (changes : List Change) → s ≡ now
+      → is_ready (with_run run s) group ≡ true → committed ≡ committing_members (with_run run s) group
       → left.prepared ≡ filter (is_of_another group) run.prepared → left.active ≡ run.active
       → members ≡ map (λ (one : Member). one.tx) committed → first ≡ suc (length s.journal)
       → journal ≡ s.journal ++ map entry_of committed → fates ≡ s.fates ++ commit_fates first committed
@@ -163,4 +162,4 @@ module _ (s : State) (run : Run) (tx group : ℕ) (member : Member) (ready : Boo
           journal = (entered ∙ ap (λ (all : List Member). s.journal ++ map entry_of all) gone) i;
           fates = (fated ∙ (λ j. s.fates ++ commit_fates (first_is j) (gone j))) i;
         },
-      )) (λ off. different (sym on ∙ sym is_told ∙ off)))
+      )) (λ off. different (sym on ∙ same_ready ∙ off)))

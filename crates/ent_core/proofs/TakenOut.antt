@@ -8,8 +8,9 @@ use Rattle.ent_tree.specs.declared.declaration.Opening.{Opening}
 use Rattle.ent_closed.specs.Form.{Tables}
 use Rattle.ent_form.specs.declared.catalogue.TableSchema.{TableSchema}
 use Rattle.ent_members.specs.declared.run_attempts.RunAttempt.{RunAttempt}
-use Rattle.ent_members.specs.RunAttempts.{run_attempt_of, numbers_in}
+use Rattle.ent_members.specs.RunAttempts.{run_attempt_of, numbers_in, run_attempts_in}
 use Rattle.ent_members.specs.Run.{Run, tx_of}
+use Rattle.ent_members.proofs.ByNumber.{run_attempt_numbers}
 use Rattle.ent_protocol.specs.Job.{Job, Work, One, Joint}
 use Rattle.ent_protocol.specs.Rollback.{Cause, dormant_by, fate_of, fated_by, goes_with, is_among, is_joint_of}
 use Rattle.ent_protocol.specs.Rollback.{put_back, taken_out}
@@ -157,13 +158,9 @@ kept_taken schemas opening submitted transaction_table transaction_table' runnin
 
 -- ---- the state that is left
 
-numbers_of_run_attempts : (ms : List Member) → numbers_in (map run_attempt_of ms) ≡ map tx_of ms
-numbers_of_run_attempts [] = refl
-numbers_of_run_attempts (m ∷ ms) = ap (λ ns. m.tx ∷ ns) (numbers_of_run_attempts ms)
-
 pub numbers_leaving : (numbers : List ℕ) (run_attempts : List RunAttempt) (ms : List Member) → numbers ≡ numbers_in run_attempts
     → run_attempts ≡ map run_attempt_of ms → numbers ≡ map tx_of ms
-numbers_leaving numbers run_attempts ms is of_members = is ∙ ap numbers_in of_members ∙ numbers_of_run_attempts ms
+numbers_leaving numbers run_attempts ms is of_members = is ∙ ap numbers_in of_members ∙ run_attempt_numbers ms
 
 any_number : (ms : List Member) (tx : ℕ) → list_any (λ n. n == tx) (map tx_of ms) ≡ is_among ms tx
 any_number [] tx = refl
@@ -290,7 +287,7 @@ may_leave s gone stand part fewer =
         let behind = times_joined n (waiting s.dormant) (map (λ (fated : Fated). fated.tx) s.fates) in
         let here = times_joined n (waiting s.dormant) (numbers_in (map run_attempt_of (by_number tx_of gone))) in
         let same : times n (numbers_in (map run_attempt_of (by_number tx_of gone))) ≡ times n (map tx_of gone) =
-        ap (times n) (numbers_of_run_attempts (by_number tx_of gone)) ∙ count_by_number tx_of n tx_of gone in
+        ap (times n) (run_attempt_numbers (by_number tx_of gone)) ∙ count_by_number tx_of n tx_of gone in
         let few = fewer n in
         omega (arith, all, joined, behind, here, same, few)
 
@@ -301,9 +298,17 @@ may_leave s gone stand part fewer =
         let behind = times_joined n (waiting s.dormant) (finished s.fates) in
         let here = times_joined n (finished s.fates) (numbers_in (map run_attempt_of (by_number tx_of gone))) in
         let same : times n (numbers_in (map run_attempt_of (by_number tx_of gone))) ≡ times n (map tx_of gone) =
-        ap (times n) (numbers_of_run_attempts (by_number tx_of gone)) ∙ count_by_number tx_of n tx_of gone in
+        ap (times n) (run_attempt_numbers (by_number tx_of gone)) ∙ count_by_number tx_of n tx_of gone in
         let few = fewer n in
         omega (arith, all, joined, behind, here, same, few)
+
+-- those whom the run tells are those who may leave
+pub may_leave_run : (group : Option ℕ) (run_attempts : List RunAttempt) (s old : State) → s ≡ old
+    → run_attempts ≡ run_attempts_in group (members s) → MayLeave (run_attempts_in group (members old)) old
+    → MayLeave run_attempts s
+may_leave_run group run_attempts s old same are may =
+    subst (λ (all : List RunAttempt). MayLeave all s) (sym are)
+    (subst (λ (x : State). MayLeave (run_attempts_in group (members x)) x) (sym same) may)
 
 pub members_are_distinct : (s : State) → StandOnce s → IsDistinct nat_eq (map tx_of (members s))
 members_are_distinct s stand =

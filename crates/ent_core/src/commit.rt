@@ -52,10 +52,9 @@ pub(crate) fn commit(store: &mut Store, tx: Tx) -> Result<Reply, AllocError>
     let room = Vec::with_capacity(store.alloc, MOST_MEMBERS)?;
     store.journal.reserve(MOST_MEMBERS)?;
     store.run.prepare(tx)?;
-    if !store.run.is_ready(group) {
+    let Some(mut committed) = store.run.commit(group, room) else {
         return Ok(Reply::Prepared);
-    }
-    let mut committed = store.run.commit(group, room);
+    };
     let members = member_numbers(committed.as_slice());
     let first = store.journal.len() as u64 + 1;
     store.transaction_table.commit(first, committed.as_slice());

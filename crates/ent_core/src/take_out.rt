@@ -1,7 +1,7 @@
 //! Members are taken out of the run. Nothing here takes memory.
 ghost use Rattle.std.specs.Prelude.{◌≡◌, ◌+◌, ◌≤◌, List, filter, length, map};
 ghost use Rattle.ent_core.specs.TakeOut.{MayLeave, is_joint_of_any, is_joint_of_others};
-ghost use Rattle.ent_members.specs.RunAttempts.{run_attempt_of};
+ghost use Rattle.ent_members.specs.RunAttempts.{numbers_in, run_attempt_of, run_attempts_in};
 ghost use Rattle.ent_members.specs.Run.{tx_of};
 ghost use Rattle.ent_pool_laws.specs.Pooled.{is_of_none};
 ghost use Rattle.ent_protocol.specs.Rollback.{group_numbers, rolled_back, taken_out};
@@ -14,7 +14,6 @@ ghost use Rattle.ent_protocol_laws.specs.Standing.{StandOnce};
 use crate::store::Store;
 use ent_group::{Members, Tx};
 use ent_match::Pool;
-use ent_members::RunAttempts;
 use ent_semantics::JointAnswer;
 use ent_transaction_table::Cause;
 
@@ -45,23 +44,27 @@ fn withdraw_each(pool: &mut Pool, numbers: &[Tx])
     }
 }
 
-/// Takes members out of the run, whatever they did. Each has a fate, or waits for another run.
-fn take_out(store: &mut Store, run_attempts: &RunAttempts, cause: Cause)
-    requires room { length store.old.dormant + length store.old.fates + length run_attempts.now
-        ≤ length store.old.submitted }
-    requires leaving { MayLeave run_attempts.now store.old }
-    ensures { (gone : List Seen) → run_attempts.now ≡ map run_attempt_of (by_number tx_of gone)
+/// Takes the group with a label out of the run, or all members where none is named, whatever they did. Each has a fate,
+/// or waits for another run. Tells who they were, by number.
+fn take_out(store: &mut Store, group: Option<Tx>, cause: Cause) -> Members
+    requires room { length store.old.dormant + length store.old.fates
+        + length (run_attempts_in group (members store.old)) ≤ length store.old.submitted }
+    requires leaving { MayLeave (run_attempts_in group (members store.old)) store.old }
+    ensures members { result ≡ numbers_in (run_attempts_in group (members store.old)) }
+    ensures state { (gone : List Seen)
+        → run_attempts_in group (members store.old) ≡ map run_attempt_of (by_number tx_of gone)
         → store.new ≡ taken_out gone (cause_seen cause) store.old }
 {
+    let run_attempts = store.run.remove(group);
     let numbers = run_attempts.numbers();
     store
         .transaction_table
         .leave(run_attempts.as_slice(), store.submitted.as_slice(), cause);
-    store.run.remove(&numbers);
     withdraw_each(&mut store.pool, numbers.as_slice());
     remove_joints(&mut store.joints, &numbers);
     store.lent.remove_with(&numbers);
     store.tables.roll_back(&numbers);
+    numbers
 }
 
 /// Rolls a group back, and tells whom, by number.
@@ -73,10 +76,7 @@ pub(crate) fn roll_back(store: &mut Store, group: Tx, cause: Cause) -> Members
     ensures group { result ≡ group_numbers store.old group }
     ensures state { store.new ≡ rolled_back group (cause_seen cause) store.old }
 {
-    let run_attempts = store.run.run_attempts(group);
-    let members = run_attempts.numbers();
-    take_out(store, &run_attempts, cause);
-    members
+    take_out(store, Some(group), cause)
 }
 
 /// Ends the run: every group that is left is rolled back. Tells who were the members, by number.
@@ -88,9 +88,7 @@ pub(crate) fn end(store: &mut Store) -> Members
     ensures members { result ≡ numbers_of (members store.old) }
     ensures state { store.new ≡ ending store.old }
 {
-    let run_attempts = store.run.all_run_attempts();
-    let members = run_attempts.numbers();
-    take_out(store, &run_attempts, Cause::NoOne);
+    let members = take_out(store, None, Cause::NoOne);
     store.running = false;
     store.tried.clear();
     store.lent.clear();

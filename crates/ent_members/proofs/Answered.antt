@@ -132,7 +132,7 @@ back_again xs now i new back d is same =
 
 -- ---- what stays
 
-answered_tx : (given : List MemberAnswer) (member : Member) → (answered_from given member).tx ≡ member.tx
+pub answered_tx : (given : List MemberAnswer) (member : Member) → (answered_from given member).tx ≡ member.tx
 answered_tx [] member = refl
 answered_tx (own ∷ more) member = by (is_tx own.tx member) (answered_tx more member)
   where
@@ -141,7 +141,7 @@ answered_tx (own ∷ more) member = by (is_tx own.tx member) (answered_tx more m
     by true rest = refl
     by false rest = rest
 
-answered_group : (given : List MemberAnswer) (member : Member) → (answered_from given member).group ≡ member.group
+pub answered_group : (given : List MemberAnswer) (member : Member) → (answered_from given member).group ≡ member.group
 answered_group [] member = refl
 answered_group (own ∷ more) member = by (is_tx own.tx member) (answered_group more member)
   where

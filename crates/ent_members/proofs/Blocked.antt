@@ -19,7 +19,7 @@ use Rattle.ent_members.specs.Run.{with_run, tx_of}
 use Rattle.ent_members.proofs.LeastOf.{least_either, least_of_list, least_same, one_least}
 use Rattle.ent_members.proofs.Lists.{contains_none, contains_cases, contains_first, contains_later}
 use Rattle.ent_members.proofs.Lists.{any_of, some_of, into_filter, out_of_filter, into_map, out_of_map}
-use Rattle.ent_members.proofs.Locked.{eq_is, eq_refl, not_false, not_true, held_by_one, either_member}
+use Rattle.ent_members.proofs.Locked.{eq_is, eq_refl, not_false, not_true, held_by_one, either_member, one_member}
 use Rattle.ent_members.proofs.HeldUses.{both_true}
 
 turned : (a b : Mode) → in_conflict a b ≡ true → in_conflict b a ≡ true
@@ -115,7 +115,7 @@ module _ (locks : Uses) (prepared active : List Member) (run : IsLockedRun locks
           ⊎ ((n : Member) × Contains active n × ((n.tx == asker.tx) ≡ true) × (n.tx ≡ m.tx)) → ⊥
       by_cases (inl (n, inside, own, is)) =
           not_true (m.group == asker.group) apart
-          (ap (λ g. g == asker.group) (sym (run.one_group n m inside there is)) ∙ own)
+          (ap (λ (k : Member). k.group == asker.group) (sym (one_member prepared run.once n m inside there is)) ∙ own)
       by_cases (inr (n, inside, own, is)) =
           run.apart m.tx (number_in prepared m m.tx there refl) (number_in active n m.tx inside is)
 

@@ -98,7 +98,7 @@ ascending-inserted x [] apart ascending = (tt, tt)
 ascending-inserted x (y ∷ ys) apart ascending =
     ascending_if x y ys (nat_lt x.tx y.tx) refl apart ascending (ascending-inserted x ys apart.1 ascending.1)
 
-ascending-by_number : (xs : List Member) → IsDistinct nat_eq (map tx_of xs)
+pub ascending-by_number : (xs : List Member) → IsDistinct nat_eq (map tx_of xs)
     → IsAscending (map tx_of (by_number tx_of xs))
 unfolding IsDistinct
 ascending-by_number [] distinct = tt
@@ -148,7 +148,7 @@ within_if group x xs true rest =
     ∙ sym (run_attempts-inserted x (by_number tx_of (filter (is_within group) xs)))
 within_if group x xs false rest = rest
 
-run_attempts_are : (group : Option ℕ) (xs : List Member)
+pub run_attempts_are : (group : Option ℕ) (xs : List Member)
     → run_attempts_in group xs ≡ map run_attempt_of (by_number tx_of (filter (is_within group) xs))
 run_attempts_are group [] = refl
 run_attempts_are group (x ∷ xs) = within_if group x xs (is_within group x) (run_attempts_are group xs)

@@ -153,6 +153,13 @@ out_of_by_number number (x ∷ xs) own h =
     by_cases rest (inl same) = subst (Contains (x ∷ xs)) same (contains_first x xs)
     by_cases rest (inr later) = contains_later x own xs (rest later)
 
+pub into_by_number : {A : Type 0} (number : A → ℕ) (xs : List A) (own : A) → Contains xs own
+    → Contains (by_number number xs) own
+into_by_number number [] own h = h
+into_by_number number (x ∷ xs) own h =
+    into_inserted number x own (by_number number xs)
+    (elim (contains_cases x own xs h) [ inl same ↦ inl same | inr later ↦ inr (into_by_number number xs own later) ])
+
 -- ---- a member that holds them
 
 pub holds_asked : (change : List Use → Member → Member) (asked uses : List Use) (tx : ℕ) (old new : List Member)

@@ -23,20 +23,6 @@ labels-append numbers xs ys =
     ap (map (λ (member : Member). member.group)) (filter-append (is_one_of numbers) xs ys)
     ∙ map-append (λ (member : Member). member.group) (filter (is_one_of numbers) xs) (filter (is_one_of numbers) ys)
 
-label_if : (member : Member) (b : Bool)
-    → map (λ (m : Member). m.group) (if b then member ∷ [] else []) ≡ (if b then member.group ∷ [] else [])
-label_if member true = refl
-label_if member false = refl
-
-pub labels_more : (numbers : List ℕ) (xs : List Member) (i : ℕ) (member : Member) (b : Bool) → i < length xs
-    → member ≡ get_or xs i member → is_one_of numbers member ≡ b
-    → labels_in numbers (take (i + 1) xs) ≡ labels_in numbers (take i xs) ++ (if b then member.group ∷ [] else [])
-labels_more numbers xs i member b lt at is =
-    ap (labels_in numbers) (take_more xs i member lt ∙ ap (λ m. take i xs ++ m ∷ []) (sym at))
-    ∙ labels-append numbers (take i xs) (member ∷ [])
-    ∙ ap (λ ls. labels_in numbers (take i xs) ++ ls)
-    (ap (λ c. map (λ (m : Member). m.group) (if c then member ∷ [] else [])) is ∙ label_if member b)
-
 -- ---- the members that are asked for
 
 eq_turned : (a b : ℕ) → (a == b) ≡ (b == a)

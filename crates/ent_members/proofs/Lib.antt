@@ -13,4 +13,8 @@ pub mod Locked
 pub mod HeldUses
 pub mod LeastOf
 pub mod LockedRuns
+pub mod Distinct
+pub mod Grouped
+pub mod Merged
+pub mod RunWith
 pub mod Blocked

@@ -157,7 +157,7 @@ run_changed locks next prepared old new change asked tx member run is changes nu
     let same : new ≡ map (replaced (change member)) old = changes member is in
     record {
       run = run_kept prepared old new numbers run.run;
-      one_group = run.one_group;
+      once = run.once;
       apart = subst (λ ns. (n : ℕ) → Contains (map tx_of prepared) n → ¬ Contains ns n) (sym numbers) run.apart;
       locked = λ v table mode. (
         λ holds. subst (λ ms. IsHeld (prepared ++ ms) v (use_of table mode)) (sym same)

@@ -9,7 +9,7 @@ use Rattle.std.proofs.lemmas.List.Elements.{Contains-append_left, Contains-appen
 use Rattle.ent_lock.specs.declared.mode.Mode.{Mode}
 use Rattle.ent_lock.specs.Use.{Uses, Holds, DropsUses, use_cmp, key_of_number}
 use Rattle.ent_protocol.specs.Member.{is_of, is_tx}
-use Rattle.ent_protocol.specs.PoolEvents.{in_joined_group, joined_label}
+use Rattle.ent_protocol.specs.PoolEvents.{in_joined_group}
 use Rattle.ent_protocol.specs.Run.{fresh}
 use Rattle.ent_protocol.specs.State.{Member, Dormant, Use, by_number}
 use Rattle.ent_members.specs.Answered.{MemberAnswer, answered_from}
@@ -18,7 +18,9 @@ use Rattle.ent_members.specs.Locks.{AreLocked, IsHeld, IsLockedRun, use_of}
 use Rattle.ent_members.specs.Moves.{is_not_of, is_of_another}
 use Rattle.ent_members.specs.Places.{found}
 use Rattle.ent_members.specs.Run.{IsRun, tx_of}
+use Rattle.ent_members.proofs.Answered.{answered_tx}
 use Rattle.ent_members.proofs.ByNumber.{no_member, starts}
+use Rattle.ent_members.proofs.Distinct.{distinct_append, distinct_filter}
 use Rattle.ent_members.proofs.HeldUses.{out_of_by_number}
 use Rattle.ent_members.proofs.JoinedGroups.{run_joined}
 use Rattle.ent_members.proofs.Lists.{contains_none, contains_cases, contains_first, contains_later}
@@ -37,10 +39,18 @@ none_held ms idle tx table mode = (
       (subst (λ us. Contains us (use_of table mode)) (idle held.0 held.1) held.3)),
 )
 
+none_twice : IsDistinct nat_eq (map tx_of [])
+unfolding IsDistinct
+none_twice = tt
+
+one_alone : (member : Member) → IsDistinct nat_eq (map tx_of (member ∷ []))
+unfolding IsDistinct
+one_alone member = (tt, tt)
+
 pub nobody_runs : IsLockedRun finite.empty [] []
 nobody_runs = record {
   run = no_member;
-  one_group = λ m n there also same. absurd (contains_none m there);
+  once = none_twice;
   apart = λ tx there. absurd (contains_none tx there);
   locked = none_held [] (λ m there. absurd (contains_none m there));
 }
@@ -55,7 +65,7 @@ pub run_starts : (entrants : List Dormant) → length entrants ≤ 64
     → IsLockedRun finite.empty [] (by_number tx_of (map fresh entrants))
 run_starts entrants bound distinct = record {
   run = starts entrants bound distinct;
-  one_group = λ m n there also same. absurd (contains_none m there);
+  once = none_twice;
   apart = λ tx there. absurd (contains_none tx there);
   locked = none_held (by_number tx_of (map fresh entrants))
       (λ m there. fresh_idle entrants m (out_of_by_number tx_of (map fresh entrants) m there));
@@ -86,7 +96,7 @@ module _ (f : Member → Member) (same : (m : Member) → (f m).tx ≡ m.tx) (us
       → IsLockedRun locks prepared active → IsLockedRun locks prepared (map f active)
   run_active_mapped locks prepared active kept run = record {
     run = kept;
-    one_group = run.one_group;
+    once = run.once;
     apart = λ tx there also. run.apart tx there (subst (λ ns. Contains ns tx) (mapped_numbers active) also);
     locked = λ tx table mode. (
       λ holds. held_by_either prepared (map f active) tx (use_of table mode)
@@ -102,20 +112,12 @@ module _ (f : Member → Member) (same : (m : Member) → (f m).tx ≡ m.tx) (us
     );
   }
 
-  -- all of them, where those of one group stay of one group
-  pub run_mapped : (locks : Uses) (prepared active : List Member)
-      → ((m n : Member) → m.group ≡ n.group → (f m).group ≡ (f n).group)
-      → IsRun (map f prepared) (map f active) → IsLockedRun locks prepared active
-      → IsLockedRun locks (map f prepared) (map f active)
-  run_mapped locks prepared active groups kept run = record {
+  -- all of them
+  pub run_mapped : (locks : Uses) (prepared active : List Member) → IsRun (map f prepared) (map f active)
+      → IsLockedRun locks prepared active → IsLockedRun locks (map f prepared) (map f active)
+  run_mapped locks prepared active kept run = record {
     run = kept;
-    one_group = λ m n there also is.
-        let first = out_of_map f prepared m there in
-        let second = out_of_map f prepared n also in
-        ap (λ (k : Member). k.group) (sym first.2)
-        ∙ groups first.0 second.0 (run.one_group first.0 second.0 first.1 second.1
-        (sym (same first.0) ∙ ap tx_of first.2 ∙ is ∙ ap tx_of (sym second.2) ∙ same second.0))
-        ∙ ap (λ (k : Member). k.group) second.2;
+    once = subst (IsDistinct nat_eq) (sym (mapped_numbers prepared)) run.once;
     apart = λ tx there also. run.apart tx (subst (λ ns. Contains ns tx) (mapped_numbers prepared) there)
         (subst (λ ns. Contains ns tx) (mapped_numbers active) also);
     locked = λ tx table mode. (
@@ -137,18 +139,9 @@ pub run_locked_joined : (labels : List ℕ) (locks : Uses) (prepared active : Li
     → IsLockedRun locks (map (in_joined_group labels) prepared) (map (in_joined_group labels) active)
 run_locked_joined labels locks prepared active run =
     run_mapped (in_joined_group labels) (λ m. refl) (λ m. refl) locks prepared active
-    (λ m n same. ap (joined_label labels) same) (run_joined labels prepared active run.run) run
+    (run_joined labels prepared active run.run) run
 
 -- ---- members that take their answers
-
-pub answered_tx : (given : List MemberAnswer) (m : Member) → (answered_from given m).tx ≡ m.tx
-answered_tx [] m = refl
-answered_tx (own ∷ given) m = by_test (answered_tx given m) (is_tx own.tx m)
-  where
-    by_test : (answered_from given m).tx ≡ m.tx → (b : Bool)
-        → (if b then stepping own.answer own.bound m else answered_from given m).tx ≡ m.tx
-    by_test rest true = refl
-    by_test rest false = rest
 
 pub answered_uses : (given : List MemberAnswer) (m : Member) → (answered_from given m).uses ≡ m.uses
 answered_uses [] m = refl
@@ -213,8 +206,7 @@ pub run_left : (numbers : List ℕ) (locks next : Uses) (prepared active : List 
     → IsLockedRun next (filter (is_not_of numbers) prepared) (filter (is_not_of numbers) active)
 run_left numbers locks next prepared active drops run = record {
   run = run_filtered (is_not_of numbers) prepared active run.run;
-  one_group = λ m n there also. run.one_group m n (out_of_filter (is_not_of numbers) prepared m there).0
-      (out_of_filter (is_not_of numbers) prepared n also).0;
+  once = distinct_filter (is_not_of numbers) prepared run.once;
   apart = λ tx there also. run.apart tx (numbers_filtered (is_not_of numbers) prepared tx there)
       (numbers_filtered (is_not_of numbers) active tx also);
   locked = λ tx table mode. (
@@ -244,8 +236,7 @@ pub run_left_by_group : (group : ℕ) (locks next : Uses) (prepared active : Lis
     → IsLockedRun next (filter (is_of_another group) prepared) active
 run_left_by_group group locks next prepared active drops run = record {
   run = run_committed (is_of_another group) prepared active run.run;
-  one_group = λ m n there also. run.one_group m n (out_of_filter (is_of_another group) prepared m there).0
-      (out_of_filter (is_of_another group) prepared n also).0;
+  once = distinct_filter (is_of_another group) prepared run.once;
   apart = λ tx there. run.apart tx (numbers_filtered (is_of_another group) prepared tx there);
   locked = λ tx table mode. (
     λ holds.
@@ -292,7 +283,8 @@ run_left_by_group group locks next prepared active drops run = record {
         let other = out_of_map tx_of (filter (is_of group) prepared) tx gone in
         let committed = out_of_filter (is_of group) prepared other.0 other.1 in
         not_true (is_of group m) inside.1
-        (ap (λ g. g == group) (run.one_group m other.0 inside.0 committed.0 (is ∙ sym other.2)) ∙ committed.1)
+        (ap (λ (k : Member). k.group == group) (one_member prepared run.once m other.0 inside.0 committed.0
+        (is ∙ sym other.2)) ∙ committed.1)
 
 -- ---- a member that is prepared
 
@@ -301,8 +293,8 @@ pub run_locked_prepared : (locks : Uses) (prepared active : List Member) (i : �
     → IsLockedRun locks (prepared ++ member ∷ []) (remove active i)
 run_locked_prepared locks prepared active i member lt at run = record {
   run = run_prepared prepared active i member member lt run.run;
-  one_group = λ m n there also same. one_group_of m n same
-      (Contains-append_cases prepared (member ∷ []) m there) (Contains-append_cases prepared (member ∷ []) n also);
+  once = distinct_append prepared (member ∷ []) run.once (one_alone member)
+      (λ tx there last. run.apart tx there (subst (Contains (map tx_of active)) (is_number tx last) active_number));
   apart = λ tx there also. elsewhere tx (from_prepared tx there) (subst (λ ms. Contains (map tx_of ms) tx) rest_is also);
   locked = λ tx table mode. (
     λ holds. moved tx (use_of table mode) ((run.locked tx table mode).0 holds),
@@ -323,14 +315,8 @@ run_locked_prepared locks prepared active i member lt at run = record {
     active_number : Contains (map tx_of active) member.tx
     active_number = into_map tx_of active member there_before
 
-    one_group_of : (m n : Member) → m.tx ≡ n.tx → Contains prepared m ⊎ Contains (member ∷ []) m
-        → Contains prepared n ⊎ Contains (member ∷ []) n → m.group ≡ n.group
-    one_group_of m n same (inl a) (inl b) = run.one_group m n a b same
-    one_group_of m n same (inl a) (inr b) = absurd (run.apart m.tx (into_map tx_of prepared m a)
-        (subst (Contains (map tx_of active)) (ap tx_of (is_last n b) ∙ sym same) active_number))
-    one_group_of m n same (inr a) (inl b) = absurd (run.apart n.tx (into_map tx_of prepared n b)
-        (subst (Contains (map tx_of active)) (ap tx_of (is_last m a) ∙ same) active_number))
-    one_group_of m n same (inr a) (inr b) = ap (λ (k : Member). k.group) (sym (is_last m a) ∙ is_last n b)
+    is_number : (tx : ℕ) → Contains (member.tx ∷ []) tx → member.tx ≡ tx
+    is_number tx there = elim (contains_cases member.tx tx [] there) [ inl same ↦ same | inr none ↦ absurd (contains_none tx none) ]
 
     from_prepared : (tx : ℕ) → Contains (map tx_of (prepared ++ member ∷ [])) tx
         → Contains (map tx_of prepared) tx ⊎ (member.tx ≡ tx)

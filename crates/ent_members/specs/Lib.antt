@@ -6,6 +6,7 @@ pub mod Passed
 pub mod Changes
 pub mod Moves
 pub mod Joined
+pub mod Grouped
 pub mod Waits
 pub mod Answered
 pub mod Locks

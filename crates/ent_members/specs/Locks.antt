@@ -1,5 +1,6 @@
 -- The lock table of a run: the uses of its members, and no other.
-use Rattle.std.specs.Prelude.{◌≡◌, ◌⊎◌, ◌↔◌, ℕ, List, ◌++◌, map, Contains, filter}
+use Rattle.std.specs.Prelude.{◌≡◌, ◌⊎◌, ◌↔◌, ℕ, List, ◌++◌, map, Contains, filter, nat_eq}
+use Rattle.std.specs.List.{IsDistinct}
 use Rattle.ent_lock.specs.declared.mode.Mode.{Mode}
 use Rattle.ent_lock.specs.Use.{Uses, Holds, InConflictAt, key_of_number}
 use Rattle.ent_members.specs.declared.blockers.Passed.TheVariants.{Group, Itself}
@@ -26,7 +27,7 @@ AreLocked locks members =
 -- the members of a run, no two of one number, and a lock table that has their uses
 pub record IsLockedRun (locks : Uses) (prepared active : List Member) : Type 0 where
   pub run : IsRun prepared active
-  pub one_group : (m n : Member) → Contains prepared m → Contains prepared n → m.tx ≡ n.tx → m.group ≡ n.group
+  pub once : IsDistinct nat_eq (map tx_of prepared)
   pub apart : (tx : ℕ) → Contains (map tx_of prepared) tx → ¬ Contains (map tx_of active) tx
   pub locked : AreLocked locks (prepared ++ active)
 

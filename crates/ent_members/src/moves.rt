@@ -1,9 +1,11 @@
 //! Members that go from one list to another, or leave.
-ghost use Rattle.std.specs.Prelude.{◌≡◌, ◌+◌, ◌≤◌, ◌++◌, filter, IsSome, OnOk, OnErr};
+ghost use Rattle.std.specs.Prelude.{◌≡◌, ◌+◌, ◌≤◌, ◌++◌, List, filter, IsSome, OnOk, OnErr};
 ghost use Rattle.std.specs.List.{list_any};
 ghost use Rattle.std.specs.Vec.{vec_capacity, vec_len};
-ghost use Rattle.ent_protocol.specs.Member.{is_of};
+ghost use Rattle.ent_group.specs.declared.groups.Membership.{Membership};
 ghost use Rattle.ent_lock.specs.Use.{Uses};
+ghost use Rattle.ent_members.specs.Grouped.{AreGrouped};
+ghost use Rattle.ent_protocol.specs.Member.{is_of};
 ghost use Rattle.ent_members.specs.Locks.{IsLockedRun};
 ghost use Rattle.ent_members.specs.Moves.{Prepares, is_not_of, is_of_another, run_of};
 ghost use Rattle.ent_members.specs.Places.{found};
@@ -28,6 +30,8 @@ pub(crate) fn prepare(
     ensures active { OnErr result (active.new.items ≡ active.old.items) }
     ensures locked { (locks : Uses) → IsLockedRun locks prepared.old.items active.old.items
         → IsLockedRun locks prepared.new.items active.new.items }
+    ensures grouped { (groups : List Membership) → AreGrouped groups (prepared.old.items ++ active.old.items)
+        → AreGrouped groups (prepared.new.items ++ active.new.items) }
 {
     prepared.reserve(1)?;
     if let Some(at) = place_of(active.as_slice(), tx) {

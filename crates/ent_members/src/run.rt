@@ -1,7 +1,7 @@
 //! The members of a run.
-ghost use Rattle.std.specs.Prelude.{◌≡◌, ℕ, ◌+◌, ◌≤◌, ◌==◌, ◌++◌, [], length, map, filter, nat_eq};
-ghost use Rattle.std.specs.Prelude.{List, IfOk, OnOk, OnErr, IsSome};
-ghost use Rattle.std.specs.List.{IsDistinct};
+ghost use Rattle.std.specs.Prelude.{◌≡◌, ℕ, ◌+◌, ◌≤◌, ◌==◌, ◌++◌, [], length, map, filter, nat_eq, not, true, false};
+ghost use Rattle.std.specs.Prelude.{List, IfOk, OnOk, OnErr, IfSome, IsSome, IsNone};
+ghost use Rattle.std.specs.List.{IsDistinct, list_any};
 ghost use Rattle.std.specs.Option.{option_copied};
 ghost use Rattle.std.specs.Vec.{vec_capacity};
 ghost use Rattle.ent_coordination.specs.Pool.{Posted};
@@ -9,16 +9,16 @@ ghost use Rattle.ent_protocol.specs.Begin.{holding};
 ghost use Rattle.ent_protocol.specs.Commit.{committing_members, is_ready};
 ghost use Rattle.ent_protocol.specs.Finish.{stepped};
 ghost use Rattle.ent_protocol.specs.Lookup.{member_of, running_members};
-ghost use Rattle.ent_protocol.specs.Member.{active_member, is_prepared};
-ghost use Rattle.ent_protocol.specs.Rollback.{group_members, group_numbers};
+ghost use Rattle.ent_protocol.specs.Member.{active_member, is_of, is_prepared};
+ghost use Rattle.ent_protocol.specs.Rollback.{group_numbers};
 ghost use Rattle.ent_protocol.specs.Run.{fresh};
-ghost use Rattle.ent_protocol.specs.State.{Member as Seen, State, by_number, members};
+ghost use Rattle.ent_protocol.specs.State.{Member as Seen, State, by_number};
 ghost use Rattle.ent_protocol.specs.Uses.{blocker, statement_uses};
 ghost use Rattle.ent_semantics.specs.Entangled.{Valuation};
 ghost use Rattle.ent_members.specs.Answered.{AnswerTogether, IsJoining, answer_tx, answered_from, member_answers};
 ghost use Rattle.ent_members.specs.Changes.{posting, stepping};
 ghost use Rattle.ent_members.specs.Joined.{JoinGroups, labels_in};
-ghost use Rattle.ent_members.specs.RunAttempts.{run_attempt_of, run_attempts_in};
+ghost use Rattle.ent_members.specs.RunAttempts.{numbers_in, run_attempts_in};
 ghost use Rattle.ent_members.specs.Locks.{passed_numbers};
 ghost use Rattle.ent_members.specs.Moves.{Leave, Prepares, is_not_of, is_of_another};
 ghost use Rattle.ent_members.specs.Places.{Changes, found};
@@ -29,7 +29,7 @@ use crate::answer::{answer_each, numbers_of};
 use crate::blockers::{Passed, gather_passed, is_awaited_over, pass_itself};
 use crate::change::{self, uses_with};
 use crate::entrant::Entrant;
-use crate::join::{gather_labels, join_groups};
+use crate::groups::{each_alone, leave, members_of, merge_answered, remove_labelled, set_labels};
 use crate::locks::{least_in_conflict, lock};
 use crate::member::Member;
 use crate::member_answer::MemberAnswer;
@@ -40,7 +40,7 @@ use crate::start::fresh_members;
 use crate::table_use::Use;
 use crate::uses::{exclusive_table, statement_uses};
 use ent_closed::Statement;
-use ent_group::{MOST_MEMBERS, Members, Tx};
+use ent_group::{Groups, MOST_MEMBERS, Members, Tx};
 use ent_lock::LockTable;
 use ent_semantics::Answer;
 use ent_value::{Name, Value};
@@ -48,24 +48,25 @@ use std::alloc::{AllocError, Global};
 use std::marker::Model;
 
 /// The members of a run, up to [`MOST_MEMBERS`]: those that are prepared, in the order in which they prepared, and the
-/// others, which are active. The lock table has the uses of them all.
+/// others, which are active. The lock table has the uses of them all, and the groups have their labels.
 #[derive(Drop)]
 pub struct Run {
     alloc: Global,
     prepared: Vec<Member>,
     active: Vec<Member>,
     locks: LockTable<usize>,
+    groups: Groups,
 }
 
 impl Model for Run {
+    ghost use Rattle.ent_members.specs.Grouped.{IsRunWith};
     ghost use Rattle.ent_members.specs.Run.{Run as Seen};
-    ghost use Rattle.ent_members.specs.Locks.{IsLockedRun};
 
     ghost Value = { Seen };
 
     ghost view = { λ r. record { prepared = r.prepared.items; active = r.active.items } };
 
-    ghost invariant = { λ r. IsLockedRun r.locks r.prepared.items r.active.items };
+    ghost invariant = { λ r. IsRunWith r.locks r.groups r.prepared.items r.active.items };
 }
 
 impl Run {
@@ -79,6 +80,7 @@ impl Run {
             prepared: Vec::new(alloc),
             active: Vec::new(alloc),
             locks: LockTable::new(alloc),
+            groups: Groups::new(),
         }
     }
 
@@ -95,6 +97,7 @@ impl Run {
             prepared: Vec::new(alloc),
             active,
             locks: LockTable::new(alloc),
+            groups: each_alone(entrants),
         })
     }
 
@@ -154,28 +157,22 @@ impl Run {
     pub fn numbers(&self) -> Members
         ensures { (s : State) → result ≡ running_members (with_run self.now s) }
     {
-        self.all_run_attempts().numbers()
+        self.run_attempts(None).numbers()
     }
 
     /// The members of the group with a label, by number.
     pub fn group_numbers(&self, group: Tx) -> Members
         ensures { (s : State) → result ≡ group_numbers (with_run self.now s) group }
     {
-        self.run_attempts(group).numbers()
+        members_of(&self.groups, group)
     }
 
-    /// The members of the group with a label, as they leave the run.
-    pub fn run_attempts(&self, group: Tx) -> RunAttempts
-        ensures { (s : State) → result ≡ map run_attempt_of (group_members (with_run self.now s) group) }
+    fn run_attempts(&self, group: Option<Tx>) -> RunAttempts
+        ensures { result ≡ run_attempts_in group (self.now.prepared ++ self.now.active) }
     {
-        self.run_attempts_within(Some(group))
-    }
-
-    /// All members, as they leave the run.
-    pub fn all_run_attempts(&self) -> RunAttempts
-        ensures { (s : State) → result ≡ map run_attempt_of (by_number tx_of (members (with_run self.now s))) }
-    {
-        self.run_attempts_within(None)
+        let mut run_attempts = gather_by_number(self.active.as_slice(), group);
+        gather(self.prepared.as_slice(), group, &mut run_attempts);
+        run_attempts
     }
 
     /// Those that an asker passes: the prepared members of its group, and itself.
@@ -294,8 +291,8 @@ impl Run {
     }
 
     /// Whether every member of the group with a label is prepared.
-    pub fn is_ready(&self, group: Tx) -> bool
-        ensures { (s : State) → result ≡ is_ready (with_run self.now s) group }
+    fn is_ready(&self, group: Tx) -> bool
+        ensures { result ≡ not (list_any (is_of group) self.now.active) }
     {
         !any_of(self.active(), group)
     }
@@ -303,11 +300,13 @@ impl Run {
     fn join(&mut self, numbers: &[Tx])
         ensures { JoinGroups (labels_in numbers.now (self.old.prepared ++ self.old.active)) self.old self.new }
     {
-        let mut labels = Members::new();
-        gather_labels(self.prepared.as_slice(), numbers, &mut labels);
-        gather_labels(self.active.as_slice(), numbers, &mut labels);
-        join_groups(&mut self.prepared, &labels);
-        join_groups(&mut self.active, &labels);
+        let (prepared, active) = (self.prepared.as_slice(), self.active.as_slice());
+        let Some(label) = merge_answered(&mut self.groups, prepared, active, numbers) else {
+            return;
+        };
+        let group = members_of(&self.groups, label);
+        set_labels(&mut self.prepared, &group, label);
+        set_labels(&mut self.active, &group, label);
     }
 
     fn answer_active(&mut self, given: Vec<MemberAnswer>) -> Result<(), AllocError>
@@ -336,38 +335,45 @@ impl Run {
         Ok(())
     }
 
-    /// The prepared members of the group with a label commit: they leave the run, in the order in which they prepared,
-    /// and come in the room that is made for them. It takes no memory.
-    pub fn commit(&mut self, group: Tx, room: Vec<Member>) -> Vec<Member>
+    /// The group with a label commits, if every member of it is prepared: its members leave the run, in the order in
+    /// which they prepared, and come in the room that is made for them. If one isn't prepared, there is None, and nothing
+    /// changes. It takes no memory.
+    pub fn commit(&mut self, group: Tx, room: Vec<Member>) -> Option<Vec<Member>>
         requires empty { room.items ≡ [] }
         requires room { MOST_MEMBERS ≤ vec_capacity room }
-        ensures committed { (s : State) → result.items ≡ committing_members (with_run self.old s) group }
-        ensures bound { length result.items ≤ MOST_MEMBERS }
-        ensures prepared { self.new.prepared ≡ filter (is_of_another group) self.old.prepared }
-        ensures active { self.new.active ≡ self.old.active }
+        ensures ready { IsSome result → (s : State) → is_ready (with_run self.old s) group ≡ true }
+        ensures committed { (s : State) → IfSome result (λ committed.
+            committed.items ≡ committing_members (with_run self.old s) group) }
+        ensures bound { IfSome result (λ committed. length committed.items ≤ MOST_MEMBERS) }
+        ensures prepared { IsSome result → self.new.prepared ≡ filter (is_of_another group) self.old.prepared }
+        ensures active { IsSome result → self.new.active ≡ self.old.active }
+        ensures none { IsNone result → (s : State) → is_ready (with_run self.old s) group ≡ false }
+        ensures same { IsNone result → self.new ≡ self.old }
     {
+        if !self.is_ready(group) {
+            return None;
+        }
         let mut committed = room;
         take_group(&mut self.prepared, group, &mut committed);
         self.locks.drop_group(&member_numbers(committed.as_slice()));
-        committed
+        remove_labelled(&mut self.groups, group);
+        Some(committed)
     }
 
-    /// Members of these numbers are taken out of the run. It takes no memory.
-    pub fn remove(&mut self, numbers: &Members)
-        ensures prepared { self.new.prepared ≡ filter (is_not_of numbers.now) self.old.prepared }
-        ensures active { self.new.active ≡ filter (is_not_of numbers.now) self.old.active }
-        ensures leave { (gone : List Seen) → numbers.now ≡ map tx_of gone → Leave gone self.old self.new }
+    /// The members of the group with a label leave the run, or all, if none is named. Tells who left, by number. It takes
+    /// no memory.
+    pub fn remove(&mut self, group: Option<Tx>) -> RunAttempts
+        ensures left { result ≡ run_attempts_in group (self.old.prepared ++ self.old.active) }
+        ensures prepared { self.new.prepared ≡ filter (is_not_of (numbers_in result)) self.old.prepared }
+        ensures active { self.new.active ≡ filter (is_not_of (numbers_in result)) self.old.active }
+        ensures leave { (gone : List Seen) → numbers_in result ≡ map tx_of gone → Leave gone self.old self.new }
     {
-        remove(&mut self.prepared, numbers);
-        remove(&mut self.active, numbers);
-        self.locks.drop_group(numbers);
-    }
-
-    fn run_attempts_within(&self, group: Option<Tx>) -> RunAttempts
-        ensures { result ≡ run_attempts_in group (self.now.prepared ++ self.now.active) }
-    {
-        let mut run_attempts = gather_by_number(self.active.as_slice(), group);
-        gather(self.prepared.as_slice(), group, &mut run_attempts);
+        let run_attempts = self.run_attempts(group);
+        let numbers = run_attempts.numbers();
+        remove(&mut self.prepared, &numbers);
+        remove(&mut self.active, &numbers);
+        self.locks.drop_group(&numbers);
+        leave(&mut self.groups, group);
         run_attempts
     }
 }

@@ -14,6 +14,7 @@ use Rattle.ent_semantics.specs.declared.book.Entry.{Entry}
 use Rattle.ent_protocol_laws.specs.Attempts.{MayTakePart, StayWithin}
 use Rattle.ent_tables.specs.Stored.{Stored}
 use Rattle.ent_core.specs.Reply.{numbered_from}
+use Rattle.ent_core.specs.Store.{IsKept}
 use Rattle.ent_core.specs.contracts.store.Store.{the_view}
 use Rattle.ent_pool_laws.specs.Pooled.{IsPoolOf}
 use Rattle.ent_core.specs.Begin.{IsIdle}
@@ -29,11 +30,15 @@ returns-in_default-clause-ok c = λ member there.
     absurd (nobody_there (active_member s c.args.tx) member (c.in_default.ensures s)
     (ap (λ (x : State). active_member x c.args.tx) c.store.view_is ∙ there))
 
-pub returns-then-not-is_ready-clause-ok : goal.returns-then-not-is_ready-clause-ok
-returns-then-not-is_ready-clause-ok c = λ member there.
+-- ---- a member of its group isn't prepared
+
+pub returns-in_default-commit-clause-ok : goal.returns-in_default-commit-clause-ok
+returns-in_default-commit-clause-ok c = λ member there.
     let s : State = the_view c.store.inside in
     let now = c.args.store.now in
     let mid : Run = c.prepare.new.self in
+    let left : Run = c.commit.new.self in
+    let stays : left ≡ mid = c.in_default-commit.ensures.same refl in
     let here : active_member s c.args.tx ≡ Some member =
     ap (λ (x : State). active_member x c.args.tx) c.store.view_is ∙ there in
     let one : c.in-Some.member.now ≡ member =
@@ -41,35 +46,49 @@ returns-then-not-is_ready-clause-ok c = λ member there.
     let own : c.group-group.result ≡ member.group = c.group-group.ensures ∙ ap (λ (m : Member). m.group) one in
     let P : State → Type 0 = λ new. BeginsCommit {F = FormFault} (preparing now member) member.group
     (is_ready (preparing now member) member.group) replies.Prepared new in
-    let same : with_run mid s ≡ record (with_run mid s) { journal = c.reserve.new.self.items } =
-    λ i. record (with_run mid s) { journal = (sym c.reserve.ensures.items) i } in
-    subst P same (waits s mid c.args.tx c.group-group.result member c.is_ready.result own
-    (c.in_ok-prepare.ensures.ok member here) (c.is_ready.ensures s) FormFault now c.store.view_is
-    c.if-not-is_ready.true)
+    let same : with_run mid s ≡ record (with_run left s) { journal = c.reserve.new.self.items } =
+    λ i. record (with_run ((sym stays) i) s) { journal = (sym c.reserve.ensures.items) i } in
+    subst P same (waits s mid c.args.tx c.group-group.result member own (c.in_ok-prepare.ensures.ok member here)
+    FormFault now c.store.view_is (c.in_default-commit.ensures.none refl s))
 
-pub commit-requires-clause-room : goal.commit-requires-clause-room
-commit-requires-clause-room c =
+pub invariant_of-store-in_default-commit : goal.invariant_of-store-in_default-commit
+invariant_of-store-in_default-commit c =
+    let inside = c.store.inside in
+    let there = subst (λ (x : State). IsSome (found x.active c.args.tx)) (sym c.store.view_is) c.requires.there in
+    let idle = subst (λ (x : State). IsIdle x c.args.tx) (sym c.store.view_is) c.requires.idle in
+    let K : Run → Type 0 = λ run. IsKept inside.catalogue.tables inside.opening inside.submitted.items
+    inside.transaction_table inside.running run inside.tables inside.pool in
+    subst K (sym (c.in_default-commit.ensures.same refl))
+    (kept_changed inside.catalogue.tables inside.opening inside.submitted.items inside.transaction_table
+    inside.running inside.run c.prepare.new.self inside.tables inside.pool inside.pool c.args.tx c.store.invariant there
+    (kept_prepared inside.submitted.items inside.run.active inside.pool c.store.invariant.posted c.args.tx inside.run
+    c.prepare.new.self refl c.in_ok-prepare.ensures.ok there idle))
+
+-- ---- its group commits
+
+pub commit-requires-2-clause-room : goal.commit-requires-2-clause-room
+commit-requires-2-clause-room c =
     let s : State = the_view c.store.inside in
     let C : State → Type 0 = λ x. length x.fates + length x.dormant + length (members x) ≡ length x.submitted in
     let counted : C s = subst C (sym c.store.view_is) c.requires.counted in
     let there : found c.store.inside.run.active c.args.tx ≡ Some c.in-Some.member.now = sym (c.in-Some.ensures s) in
     let few = committed_few c.store.inside.run c.prepare.new.self c.args.tx c.group-group.result c.in-Some.member.now
-    c.commit-committed.result.items there (c.in_ok-prepare.ensures.ok c.in-Some.member.now there)
-    (c.commit-committed.ensures.committed s) in
+    c.in-Some-commit.committed.items there (c.in_ok-prepare.ensures.ok c.in-Some.member.now there)
+    (c.in-Some-commit.ensures.committed s) in
     omega (arith, counted, c.store.invariant.known, few, ap length c.as_slice-2.ensures.value)
 
-pub commit-requires-clause-numbers : goal.commit-requires-clause-numbers
-commit-requires-clause-numbers c =
+pub commit-requires-2-clause-numbers : goal.commit-requires-2-clause-numbers
+commit-requires-2-clause-numbers c =
     let s : State = the_view c.store.inside in
     let run : Run = c.store.inside.run in
     let P : Member → Type 0 = MayTakePart s.submitted in
     let all : AllByRecursion P (run.prepared ++ run.active) =
     (subst StayWithin (sym c.store.view_is) c.requires.within).members in
     let there : found run.active c.args.tx ≡ Some c.in-Some.member.now = sym (c.in-Some.ensures s) in
-    let among : AllByRecursion P c.commit-committed.result.items =
+    let among : AllByRecursion P c.in-Some-commit.committed.items =
     committed_all P run c.prepare.new.self c.args.tx c.group-group.result c.in-Some.member.now
-    c.commit-committed.result.items there (c.in_ok-prepare.ensures.ok c.in-Some.member.now there)
-    (c.commit-committed.ensures.committed s) (first_part P run.prepared run.active all)
+    c.in-Some-commit.committed.items there (c.in_ok-prepare.ensures.ok c.in-Some.member.now there)
+    (c.in-Some-commit.ensures.committed s) (first_part P run.prepared run.active all)
     (last_part P run.prepared run.active all) in
     parts_numbered s.submitted c.store.inside.transaction_table.known c.as_slice-2.result.now c.store.invariant.known
     (subst (λ ms. AllByRecursion P ms) (sym c.as_slice-2.ensures.value) among)
@@ -79,8 +98,8 @@ returns-clause-ok c = λ member there.
     let s : State = the_view c.store.inside in
     let now = c.args.store.now in
     let mid : Run = c.prepare.new.self in
-    let left : Run = c.commit-committed.new.self in
-    let committed : List Member = c.commit-committed.result.items in
+    let left : Run = c.commit.new.self in
+    let committed : List Member = c.in-Some-commit.committed.items in
     let numbers : List ℕ = c.member_numbers-members.result in
     let first : ℕ = c.len.result + 1 in
     let here : active_member s c.args.tx ≡ Some member =
@@ -94,7 +113,7 @@ returns-clause-ok c = λ member there.
     omega (arith, c.len.ensures, c.reserve.new.self.ok.0, ap length c.reserve.ensures.items) in
     let entered = c.enter.ensures.entries
     ∙ ap (λ (entries : List Entry). entries ++ map entry_of committed) c.reserve.ensures.items in
-    let fated = ap (λ (transaction_table : TransactionTable). transaction_table.fates) c.commit.ensures
+    let fated = ap (λ (transaction_table : TransactionTable). transaction_table.fates) c.commit-2.ensures
     ∙ ap (λ (all : List Member). s.fates ++ commit_fates first all) c.as_slice-2.ensures.value in
     let settled = c.settle.ensures.members committed numbers_are in
     let P : State → Type 0 = λ new. BeginsCommit {F = FormFault} (preparing now member) member.group
@@ -104,28 +123,19 @@ returns-clause-ok c = λ member there.
       active = left.active;
       changes = c.settle.new.self.changes;
       journal = c.enter.new.journal.items;
-      fates = c.commit.new.self.fates;
+      fates = c.commit-2.new.self.fates;
     } in
-    let same : mark ≡ record mark { dormant = c.commit.new.self.dormant; tables = c.settle.new.self.tables } =
+    let same : mark ≡ record mark { dormant = c.commit-2.new.self.dormant; tables = c.settle.new.self.tables } =
     λ i. record mark {
-      dormant = (sym (ap (λ (transaction_table : TransactionTable). transaction_table.dormant) c.commit.ensures)) i;
+      dormant = (sym (ap (λ (transaction_table : TransactionTable). transaction_table.dormant) c.commit-2.ensures)) i;
       tables = (sym (ap (λ (stored : Stored). stored.tables) settled)) i;
     } in
-    subst P same (commits s mid c.args.tx c.group-group.result member c.is_ready.result own
-    (c.in_ok-prepare.ensures.ok member here) (c.is_ready.ensures s) FormFault now left first committed numbers
-    c.enter.new.journal.items c.commit.new.self.fates c.settle.new.self.changes c.store.view_is c.if-not-is_ready.false
-    (c.commit-committed.ensures.committed s) c.commit-committed.ensures.prepared c.commit-committed.ensures.active
-    numbers_are first_is entered fated (ap (λ (stored : Stored). stored.changes) settled))
-
-pub invariant_of-store-then-not-is_ready : goal.invariant_of-store-then-not-is_ready
-invariant_of-store-then-not-is_ready c =
-    let inside = c.store.inside in
-    let there = subst (λ (x : State). IsSome (found x.active c.args.tx)) (sym c.store.view_is) c.requires.there in
-    let idle = subst (λ (x : State). IsIdle x c.args.tx) (sym c.store.view_is) c.requires.idle in
-    kept_changed inside.catalogue.tables inside.opening inside.submitted.items inside.transaction_table inside.running inside.run
-    c.prepare.new.self inside.tables inside.pool inside.pool c.args.tx c.store.invariant there
-    (kept_prepared inside.submitted.items inside.run.active inside.pool c.store.invariant.posted c.args.tx inside.run
-    c.prepare.new.self refl c.in_ok-prepare.ensures.ok there idle)
+    subst P same (commits s mid c.args.tx c.group-group.result member own (c.in_ok-prepare.ensures.ok member here)
+    FormFault now left first committed numbers c.enter.new.journal.items c.commit-2.new.self.fates
+    c.settle.new.self.changes c.store.view_is (c.in-Some-commit.ensures.ready refl s)
+    (c.in-Some-commit.ensures.committed s) (c.in-Some-commit.ensures.prepared refl)
+    (c.in-Some-commit.ensures.active refl) numbers_are first_is entered fated
+    (ap (λ (stored : Stored). stored.changes) settled))
 
 pub invariant_of-store-2 : goal.invariant_of-store-2
 invariant_of-store-2 c =
@@ -134,11 +144,11 @@ invariant_of-store-2 c =
     let idle = subst (λ (x : State). IsIdle x c.args.tx) (sym c.store.view_is) c.requires.idle in
     let pooled = kept_prepared inside.submitted.items inside.run.active inside.pool c.store.invariant.posted c.args.tx
     inside.run c.prepare.new.self refl c.in_ok-prepare.ensures.ok there idle in
-    kept_with inside.catalogue.tables inside.opening inside.submitted.items inside.transaction_table c.commit.new.self
-    inside.running
-    inside.run c.commit-committed.new.self inside.tables c.settle.new.self inside.pool inside.pool c.args.tx
-    c.store.invariant there (ap (λ (transaction_table : TransactionTable). transaction_table.dormant) c.commit.ensures)
-    (ap (λ (transaction_table : TransactionTable). transaction_table.known) c.commit.ensures)
+    kept_with inside.catalogue.tables inside.opening inside.submitted.items inside.transaction_table
+    c.commit-2.new.self inside.running inside.run c.commit.new.self inside.tables c.settle.new.self inside.pool
+    inside.pool c.args.tx c.store.invariant there
+    (ap (λ (transaction_table : TransactionTable). transaction_table.dormant) c.commit-2.ensures)
+    (ap (λ (transaction_table : TransactionTable). transaction_table.known) c.commit-2.ensures)
     (ap (λ (stored : Stored). stored.kinds) c.settle.ensures.numbers)
     (subst (λ (ms : List Member). IsPoolOf inside.submitted.items ms inside.pool)
-    (sym c.commit-committed.ensures.active) pooled)
+    (sym (c.in-Some-commit.ensures.active refl)) pooled)

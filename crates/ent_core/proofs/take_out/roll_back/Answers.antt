@@ -1,12 +1,12 @@
-use Rattle.std.proofs.Common.{◌≡◌, ◌∙◌, ap, sym, subst, map, List}
+use Rattle.std.proofs.Common.{◌∙◌, Some, ap, sym, subst, map, List}
 use Rattle.std.specs.List.{filter}
 use Rattle.ent_lists.specs.Elements.{all_filtered, shorter}
 use Rattle.ent_core.proofs.Sorted.{by_number_again, times_filter}
 use Rattle.ent_core.proofs.TakenOut.{may_leave, members_are_distinct, numbers_leaving, part_is_distinct, room_for}
 use Rattle.ent_core.specs.TakeOut.{MayLeave}
-use Rattle.ent_core.specs.contracts.store.Store.{the_view}
+use Rattle.ent_members.proofs.ByNumber.{group_run_attempts}
 use Rattle.ent_members.specs.declared.run_attempts.RunAttempt.{RunAttempt}
-use Rattle.ent_members.specs.RunAttempts.{run_attempt_of}
+use Rattle.ent_members.specs.RunAttempts.{run_attempt_of, run_attempts_in}
 use Rattle.ent_protocol.specs.Member.{is_of}
 use Rattle.ent_protocol.specs.Rollback.{group_members}
 use Rattle.ent_protocol.specs.State.{State, members}
@@ -17,20 +17,14 @@ pub take_out-requires-clause-room : goal.take_out-requires-clause-room
 take_out-requires-clause-room c =
     let s : State = c.args.store.now in
     let group = c.args.group in
-    let are : c.run_attempts-run_attempts.result ≡ map run_attempt_of (group_members s group) =
-    c.run_attempts-run_attempts.ensures (the_view c.store.inside) ∙ ap (λ (x : State). map run_attempt_of (group_members x group))
-    c.store.view_is in
-    room_for s (filter (is_of group) (members s)) c.run_attempts-run_attempts.result c.requires.counted are (shorter
-    (is_of group) (members s))
+    room_for s (filter (is_of group) (members s)) (run_attempts_in (Some group) (members s)) c.requires.counted
+    (group_run_attempts group (members s)) (shorter (is_of group) (members s))
 
 pub take_out-requires-clause-leaving : goal.take_out-requires-clause-leaving
 take_out-requires-clause-leaving c =
     let s : State = c.args.store.now in
     let group = c.args.group in
-    let are : c.run_attempts-run_attempts.result ≡ map run_attempt_of (group_members s group) =
-    c.run_attempts-run_attempts.ensures (the_view c.store.inside) ∙ ap (λ (x : State). map run_attempt_of (group_members x group))
-    c.store.view_is in
-    subst (λ (run_attempts : List RunAttempt). MayLeave run_attempts s) (sym are)
+    subst (λ (run_attempts : List RunAttempt). MayLeave run_attempts s) (sym (group_run_attempts group (members s)))
     (may_leave s (filter (is_of group) (members s)) c.requires.once
     (all_filtered (MayTakePart s.submitted) (is_of group) (members s) c.requires.within.members)
     (λ n. times_filter n (is_of group) (members s)))
@@ -39,19 +33,14 @@ pub returns-clause-group : goal.returns-clause-group
 returns-clause-group c =
     let s : State = c.args.store.now in
     let group = c.args.group in
-    let are : c.run_attempts-run_attempts.result ≡ map run_attempt_of (group_members s group) =
-    c.run_attempts-run_attempts.ensures (the_view c.store.inside) ∙ ap (λ (x : State). map run_attempt_of (group_members x group))
-    c.store.view_is in
-    numbers_leaving c.numbers-members.result c.run_attempts-run_attempts.result (group_members s group)
-    c.numbers-members.ensures are
+    numbers_leaving c.take_out.result (run_attempts_in (Some group) (members s)) (group_members s group)
+    c.take_out.ensures.members (group_run_attempts group (members s))
 
 pub returns-clause-state : goal.returns-clause-state
 returns-clause-state c =
     let s : State = c.args.store.now in
     let group = c.args.group in
-    let are : c.run_attempts-run_attempts.result ≡ map run_attempt_of (group_members s group) =
-    c.run_attempts-run_attempts.ensures (the_view c.store.inside) ∙ ap (λ (x : State). map run_attempt_of (group_members x group))
-    c.store.view_is in
     let again = by_number_again (filter (is_of group) (members s))
     (part_is_distinct (is_of group) (members s) (members_are_distinct s c.requires.once)) in
-    c.take_out.ensures (group_members s group) (are ∙ ap (map run_attempt_of) (sym again))
+    c.take_out.ensures.state (group_members s group)
+    (group_run_attempts group (members s) ∙ ap (map run_attempt_of) (sym again))

@@ -2,6 +2,7 @@ use Rattle.std.proofs.Common.{◌≡◌, List, [], ◌∷◌, ◌++◌, not, get
 use Rattle.ent_protocol.specs.Member.{is_tx}
 use Rattle.ent_protocol.specs.State.{Member}
 use Rattle.ent_members.specs.Places.{IsAt}
+use Rattle.ent_members.proofs.Grouped.{grouped_prepared}
 use Rattle.ent_members.proofs.LockedRuns.{run_locked_prepared}
 use Rattle.ent_members.proofs.OneMember.{found_at, removed_at}
 use Rattle.ent_members.proofs.moves.prepare.Goals as goal
@@ -32,3 +33,14 @@ returns-in-Some-clause-locked c = λ locks run.
     subst (λ (ms : List Member). IsAt ms c.args.tx c.in-Some.at) c.as_slice.ensures.value c.in-Some.ensures.some in
     rw (c.push_reserved.ensures.items, c.in_ok-reserve.ensures.items, c.remove-member.ensures.items)
     (run_locked_prepared locks prepared active c.in-Some.at gone at.in_range (sym c.remove-member.ensures.value) run)
+
+pub returns-in-Some-clause-grouped : goal.returns-in-Some-clause-grouped
+returns-in-Some-clause-grouped c = λ groups grouped.
+    let active = c.args.active.now.items in
+    let prepared = c.args.prepared.now.items in
+    let gone = c.remove-member.result in
+    let at : IsAt active c.args.tx c.in-Some.at =
+    subst (λ (ms : List Member). IsAt ms c.args.tx c.in-Some.at) c.as_slice.ensures.value c.in-Some.ensures.some in
+    rw (c.push_reserved.ensures.items, c.in_ok-reserve.ensures.items, c.remove-member.ensures.items)
+    (grouped_prepared groups prepared active c.in-Some.at gone at.in_range (sym c.remove-member.ensures.value)
+    c.requires.run.distinct grouped)

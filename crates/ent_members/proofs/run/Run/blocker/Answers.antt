@@ -13,6 +13,6 @@ returns c = λ s.
     let result = c.least_in_conflict.result in
     let locks = c.self.inside.locks in
     subst (λ (run : Run). result ≡ blocker (with_run run s) asker asked) c.self.view_is
-    (blocker_is locks c.self.inside.prepared.items c.self.inside.active.items c.self.invariant asker asked result s
+    (blocker_is locks c.self.inside.prepared.items c.self.inside.active.items c.self.invariant.0 asker asked result s
     (subst (λ (pass : List ℕ). IsLeastIfAny (BlocksUses locks asked pass) result)
     (c.passed_by.ensures ∙ ap (passed_numbers asker) (sym c.self.view_is)) c.least_in_conflict.ensures))

@@ -1,10 +1,14 @@
-use Rattle.std.proofs.Common.{ap, ◌∙◌}
-use Rattle.ent_protocol.specs.Rollback.{group_members}
-use Rattle.ent_members.specs.RunAttempts.{numbers_in}
-use Rattle.ent_members.specs.Run.{with_run}
-use Rattle.ent_members.proofs.ByNumber.{run_attempt_numbers}
+use Rattle.std.proofs.Common.{◌++◌, map, ap, ◌∙◌}
+use Rattle.std.specs.Prelude.{filter}
+use Rattle.ent_protocol.specs.Member.{is_of}
+use Rattle.ent_protocol.specs.State.{by_number}
+use Rattle.ent_members.specs.Run.{Run, tx_of}
+use Rattle.ent_members.proofs.RunWith.{group_told}
 use Rattle.ent_members.proofs.run.Run.group_numbers.Goals as goal
 
 pub returns : goal.returns
-returns c = λ s. c.numbers.ensures ∙ ap numbers_in (c.run_attempts.ensures s)
-    ∙ run_attempt_numbers (group_members (with_run c.args.self.now s) c.args.group)
+returns c = λ s.
+    group_told c.args.group c.members_of.result c.self.inside.locks c.self.inside.groups c.self.inside.prepared.items
+    c.self.inside.active.items c.members_of.ensures.by_number c.members_of.ensures.members c.self.invariant
+    ∙ ap (λ (run : Run). map tx_of (by_number tx_of (filter (is_of c.args.group) (run.prepared ++ run.active))))
+    c.self.view_is

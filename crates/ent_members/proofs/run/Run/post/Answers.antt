@@ -3,11 +3,12 @@ use Rattle.std.specs.Prelude.{Some, IsSome}
 use Rattle.std.proofs.lemmas.List.{with_items_is}
 use Rattle.ent_protocol.specs.Begin.{replaced, with_uses}
 use Rattle.ent_protocol.specs.State.{Member}
-use Rattle.ent_members.specs.Locks.{IsLockedRun}
+use Rattle.ent_members.specs.Grouped.{IsRunWith}
 use Rattle.ent_members.specs.Places.{Changes, found}
 use Rattle.ent_members.specs.Run.{Run}
 use Rattle.ent_members.specs.Changes.{posting_all}
-use Rattle.ent_members.proofs.HeldUses.{holds_asked, run_held}
+use Rattle.ent_members.proofs.HeldUses.{holds_asked}
+use Rattle.ent_members.proofs.RunWith.{held_with}
 use Rattle.ent_members.proofs.run.Run.post.Goals as goal
 
 pub invariant_of-self-2 : goal.invariant_of-self-2
@@ -20,11 +21,12 @@ invariant_of-self-2 c =
     λ member is. c.in_ok-uses.ensures member
     (ap (λ (ms : List Member). found ms c.args.tx) (c.as_slice.ensures.value ∙ sym c.as_mut_slice.ensures.value) ∙ is) in
     let locks = c.self.inside.locks in
+    let groups = c.self.inside.groups in
     let prepared = c.self.inside.prepared.items in
-    subst (IsLockedRun c.lock.new.locks prepared)
+    subst (IsRunWith c.lock.new.locks groups prepared)
     (sym (with_items_is c.self.inside.active new (c.post.auto.members ∙ c.as_mut_slice.ensures.len)))
-    (run_held posting_all (λ us m. refl) (λ us m. refl) locks c.lock.new.locks prepared old new asked uses c.args.tx
-    (subst (IsLockedRun locks prepared) (sym c.as_mut_slice.ensures.value) c.self.invariant)
+    (held_with posting_all (λ us m. refl) (λ us m. refl) (λ us m. refl) locks c.lock.new.locks groups prepared old new asked uses c.args.tx
+    (subst (IsRunWith locks groups prepared) (sym c.as_mut_slice.ensures.value) c.self.invariant)
     (subst (λ (ms : List Member). IsSome (found ms c.args.tx))
     (ap (λ (run : Run). run.active) (sym c.self.view_is) ∙ sym c.as_mut_slice.ensures.value) c.requires)
     are c.post.ensures.changed c.post.ensures.numbers c.in_ok-lock.ensures.ok)

@@ -1,25 +1,31 @@
-use Rattle.std.proofs.Common.{ℕ, List, not, filter, ap, ◌∙◌}
+use Rattle.std.proofs.Common.{◌≡◌, ◌++◌, ℕ, List, not, filter, sym, ap, ◌∙◌}
 use Rattle.ent_protocol.specs.Rollback.{is_among}
 use Rattle.ent_members.specs.Moves.{is_not_of}
 use Rattle.ent_members.specs.Run.{Run}
-use Rattle.ent_members.proofs.LockedRuns.{run_left}
+use Rattle.ent_members.specs.RunAttempts.{numbers_in, run_attempts_in}
 use Rattle.ent_members.proofs.Moved.{filtered_out}
+use Rattle.ent_members.proofs.RunWith.{left_with}
 use Rattle.ent_members.proofs.run.Run.remove.Goals as goal
 
 pub invariant_of-self : goal.invariant_of-self
 invariant_of-self c =
+    let prepared = c.self.inside.prepared.items in
+    let active = c.self.inside.active.items in
+    let numbers : c.numbers-numbers.result ≡ numbers_in (run_attempts_in c.args.group (prepared ++ active)) =
+    c.numbers-numbers.ensures ∙ ap numbers_in (c.run_attempts-run_attempts.ensures
+    ∙ ap (λ (run : Run). run_attempts_in c.args.group (run.prepared ++ run.active)) (sym c.self.view_is)) in
     rw (c.remove.ensures, c.remove-2.ensures)
-    (run_left c.args.numbers.now c.self.inside.locks c.drop_group.new.self c.self.inside.prepared.items
-    c.self.inside.active.items c.drop_group.ensures c.self.invariant)
+    (left_with c.args.group c.numbers-numbers.result c.self.inside.locks c.drop_group.new.self c.self.inside.groups
+    c.leave.new.groups prepared active numbers c.drop_group.ensures c.leave.ensures c.self.invariant)
 
 pub returns-clause-leave : goal.returns-clause-leave
 returns-clause-leave c = λ gone is. record {
   prepared = c.remove.ensures
-      ∙ ap (λ (numbers : List ℕ). filter (is_not_of numbers) c.self.inside.prepared.items) is
+      ∙ ap (λ (numbers : List ℕ). filter (is_not_of numbers) c.self.inside.prepared.items) (c.numbers-numbers.ensures ∙ is)
       ∙ filtered_out gone c.self.inside.prepared.items
       ∙ ap (λ (run : Run). filter (λ member. not (is_among gone member.tx)) run.prepared) c.self.view_is;
   active = c.remove-2.ensures
-      ∙ ap (λ (numbers : List ℕ). filter (is_not_of numbers) c.self.inside.active.items) is
+      ∙ ap (λ (numbers : List ℕ). filter (is_not_of numbers) c.self.inside.active.items) (c.numbers-numbers.ensures ∙ is)
       ∙ filtered_out gone c.self.inside.active.items
       ∙ ap (λ (run : Run). filter (λ member. not (is_among gone member.tx)) run.active) c.self.view_is;
 }
