@@ -79,8 +79,7 @@ pub(crate) fn change(
     ensures ok { OnOk result (Changes (stepped (answers.Count count)) single.now.tx run.old.active run.new.active) }
     ensures prepared { run.new.prepared ≡ run.old.prepared }
     ensures tables { OnOk result (tables.new ≡ changing single.now delta.now tables.old) }
-    ensures err { OnErr result (run.new ≡ run.old) }
-    ensures same { OnErr result (tables.new ≡ tables.old) }
+    ensures err { OnErr result ((run.new ≡ run.old) × (tables.new ≡ tables.old)) }
 {
     let answer = Answer::Count(count);
     let Some(table) = single.statement().changed_table() else {

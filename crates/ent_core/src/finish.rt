@@ -90,8 +90,7 @@ fn advance(
     ensures memory { IfErr result (λ refusal. (failure : Failure)
         → alone_seen outcome.now ≡ jobs.Fault failure
         → refusal ≡ Fault failure) }
-    ensures run { OnErr result (run.new ≡ run.old) }
-    ensures tables { OnErr result (tables.new ≡ tables.old) }
+    ensures err { OnErr result ((run.new ≡ run.old) × (tables.new ≡ tables.old)) }
 {
     match outcome {
         Outcome::Rows(rows) => Ok(show(alloc, run, single.tx(), rows.as_slice())?),

@@ -136,9 +136,8 @@ impl Counted {
     pub(crate) fn start_run<W: Watcher>(&mut self, watcher: &mut W) -> Result<Reply, AllocError>
         ensures ok { IfOk result (λ reply.
             MakesEvent resolved_forms StartRun (reply_seen reply) self.old self.new) }
-        ensures err { OnErr result (self.new ≡ self.old) }
+        ensures err { OnErr result ((self.new ≡ self.old) × (watcher.new ≡ watcher.old)) }
         ensures told { IfOk result (λ reply. W.hears watcher.old (StartRun, reply_seen reply) watcher.new) }
-        ensures untold { OnErr result (watcher.new ≡ watcher.old) }
     {
         let reply = self.core.start_run()?;
         self.ticks.add();
@@ -167,9 +166,8 @@ impl Counted {
     pub(crate) fn begin<W: Watcher>(&mut self, watcher: &mut W, tx: Tx) -> Result<Reply, AllocError>
         ensures ok { IfOk result (λ reply.
             MakesEvent resolved_forms (Begin tx) (reply_seen reply) self.old self.new) }
-        ensures err { OnErr result (self.new ≡ self.old) }
+        ensures err { OnErr result ((self.new ≡ self.old) × (watcher.new ≡ watcher.old)) }
         ensures told { IfOk result (λ reply. W.hears watcher.old (Begin tx, reply_seen reply) watcher.new) }
-        ensures untold { OnErr result (watcher.new ≡ watcher.old) }
     {
         let reply = self.core.begin(tx)?;
         self.ticks.add();
@@ -186,9 +184,8 @@ impl Counted {
         requires { self.old.core.lent ≡ done.job ∷ [] }
         ensures ok { IfOk result (λ reply.
             MakesEvent resolved_forms (Finish done) (reply_seen reply) self.old self.new) }
-        ensures err { OnErr result (self.new ≡ self.old) }
+        ensures err { OnErr result ((self.new ≡ self.old) × (watcher.new ≡ watcher.old)) }
         ensures told { IfOk result (λ reply. W.hears watcher.old (Finish done, reply_seen reply) watcher.new) }
-        ensures untold { OnErr result (watcher.new ≡ watcher.old) }
     {
         let mark = watcher.mark(&done);
         let reply = self.core.finish_at_once(done)?;
@@ -200,9 +197,8 @@ impl Counted {
     /// Lends the job of a component, where one can be picked.
     pub(crate) fn pick<W: Watcher>(&mut self, watcher: &mut W) -> Result<Reply, AllocError>
         ensures ok { IfOk result (λ reply. MakesEvent resolved_forms Pick (reply_seen reply) self.old self.new) }
-        ensures err { OnErr result (self.new ≡ self.old) }
+        ensures err { OnErr result ((self.new ≡ self.old) × (watcher.new ≡ watcher.old)) }
         ensures told { IfOk result (λ reply. W.hears watcher.old (Pick, reply_seen reply) watcher.new) }
-        ensures untold { OnErr result (watcher.new ≡ watcher.old) }
     {
         let reply = self.core.pick()?;
         self.ticks.add();
@@ -220,9 +216,8 @@ impl Counted {
         requires outstanding { IsOutstandingJoint self.old.core done }
         ensures ok { IfOk result (λ reply.
             MakesEvent resolved_forms (JoinAnswer done) (reply_seen reply) self.old self.new) }
-        ensures err { OnErr result (self.new ≡ self.old) }
+        ensures err { OnErr result ((self.new ≡ self.old) × (watcher.new ≡ watcher.old)) }
         ensures told { IfOk result (λ reply. W.hears watcher.old (JoinAnswer done, reply_seen reply) watcher.new) }
-        ensures untold { OnErr result (watcher.new ≡ watcher.old) }
     {
         let mark = watcher.mark(&done);
         let reply = self.core.join_answer_at_once(done)?;
@@ -245,9 +240,8 @@ impl Counted {
     /// Ends the run where it is quiet, or is refused.
     pub(crate) fn end_run<W: Watcher>(&mut self, watcher: &mut W) -> Result<Reply, AllocError>
         ensures ok { IfOk result (λ reply. MakesEvent resolved_forms EndRun (reply_seen reply) self.old self.new) }
-        ensures err { OnErr result (self.new ≡ self.old) }
+        ensures err { OnErr result ((self.new ≡ self.old) × (watcher.new ≡ watcher.old)) }
         ensures told { IfOk result (λ reply. W.hears watcher.old (EndRun, reply_seen reply) watcher.new) }
-        ensures untold { OnErr result (watcher.new ≡ watcher.old) }
     {
         let reply = self.core.end_run()?;
         self.ticks.add();

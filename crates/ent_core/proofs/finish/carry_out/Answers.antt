@@ -51,8 +51,8 @@ pub returns-in-Err-Fault-clause-ok : goal.returns-in-Err-Fault-clause-ok
 returns-in-Err-Fault-clause-ok c =
     let v : State = the_view c.store.inside in
     let single = c.args.single.now in
-    let run = c.in-Err-Fault.ensures.run in
-    let stored = c.in-Err-Fault.ensures.tables in
+    let run = c.in-Err-Fault.ensures.err.0 in
+    let stored = c.in-Err-Fault.ensures.err.1 in
     let failure = c.in-Err-Fault.failure in
     let refused = c.in-Err-Fault.field-0-is in
     let outcome : alone_seen c.args.outcome.now ≡ Fault failure = c.in-Err-Fault.ensures.failure failure cc in
