@@ -37,7 +37,7 @@ pub enum Move {
 /// Hands in the result of the job that was just lent to a member: its statement is done, or its group is rolled back.
 /// Where memory runs out the job stays lent.
 fn finish(core: &mut Core, done: Done) -> Result<Reply, AllocError>
-    requires meant { IsEvaluated done }
+    requires meaning { IsEvaluated done }
     requires lent { (tx : ℕ) × IsJustLent resolved_forms (Begin tx) done.job core.old }
     ensures ok { (tx : ℕ) → IfOk result (λ reply.
         TakesResult (Begin tx) done.job core.old (reply_seen reply) core.new) }
@@ -57,7 +57,7 @@ fn finish(core: &mut Core, done: Done) -> Result<Reply, AllocError>
 /// Hands in the result of the job of the component that was just picked: the members have their answers, or there is
 /// no choice. Where memory runs out the job stays lent.
 fn answer(core: &mut Core, done: Done) -> Result<Reply, AllocError>
-    requires meant { IsEvaluated done }
+    requires meaning { IsEvaluated done }
     requires lent { IsJustLent resolved_forms Pick done.job core.old }
     ensures ok { IfOk result (λ reply. TakesResult Pick done.job core.old (reply_seen reply) core.new) }
     ensures err { OnErr result (core.new ≡ core.old) }
@@ -75,8 +75,8 @@ fn answer(core: &mut Core, done: Done) -> Result<Reply, AllocError>
 
 /// What a job comes to.
 fn result_of(alloc: Global, job: Job) -> Result<Done, AllocError>
-    ensures of_job { IfOk result (λ done. done.job ≡ job) }
-    ensures meant { IfOk result (λ done. IsEvaluated done) }
+    ensures ok { IfOk result (λ done. done.job ≡ job) }
+    ensures meaning { IfOk result (λ done. IsEvaluated done) }
 {
     match evaluate(alloc, job) {
         Ok(done) => Ok(done),

@@ -30,7 +30,7 @@ returns-in-Ok-clause-ok c =
     record {
       done = c.args.done;
       of_job = refl;
-      meant = c.requires.meant;
+      meant = c.requires.meaning;
       comes_in = step;
       taken = c.results_are_taken_at_once.ensures.joint_taken resolved_forms lent.before c.args.done s reply new alone
           step;

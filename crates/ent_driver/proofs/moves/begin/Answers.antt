@@ -22,7 +22,7 @@ returns-in_ok-finish-in-Lent-clause-ok c =
       lent = lent;
       lends = subst (λ (told : Reply). Step resolved_forms s (Begin tx) (reply_seen told) lent) c.in-Lent.is
           c.in_ok-reply.ensures.ok;
-      takes = subst (λ (job : Job). TakesResult (Begin tx) job lent reply new) c.in_ok-done-in-Lent.ensures.of_job
+      takes = subst (λ (job : Job). TakesResult (Begin tx) job lent reply new) c.in_ok-done-in-Lent.ensures.ok
           (c.in_ok-finish-in-Lent.ensures.ok tx);
     })
 

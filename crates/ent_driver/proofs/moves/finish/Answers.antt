@@ -24,7 +24,7 @@ returns-in-Ok-clause-ok c = λ tx.
     record {
       done = c.args.done;
       of_job = refl;
-      meant = c.requires.meant;
+      meant = c.requires.meaning;
       comes_in = step;
       taken = c.results_are_taken_at_once.ensures.single_taken resolved_forms lent.before first c.args.done s reply new
           alone step;

@@ -19,6 +19,6 @@ returns-in_ok-answer-in-Lent-clause-ok c =
       lent = lent;
       lends = subst (λ (told : Reply). Step resolved_forms s Pick (reply_seen told) lent) c.in-Lent.is
           c.in_ok-reply.ensures.ok;
-      takes = subst (λ (job : Job). TakesResult Pick job lent reply new) c.in_ok-done-in-Lent.ensures.of_job
+      takes = subst (λ (job : Job). TakesResult Pick job lent reply new) c.in_ok-done-in-Lent.ensures.ok
           c.in_ok-answer-in-Lent.ensures.ok;
     })
