@@ -47,8 +47,7 @@ fn greatest_cycle(run: &Run, submitted: &[SubmittedScript], lent: &[Job]) -> Opt
 {
     awaited_members_are_waited_for();
     let pairs = pairs_of(run, submitted, lent);
-    let found = cycle(pairs.as_slice());
-    found
+    cycle(pairs.as_slice())
 }
 
 /// Who waits for whom. Only members are named.

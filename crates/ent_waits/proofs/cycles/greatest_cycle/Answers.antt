@@ -10,12 +10,12 @@ returns-clause-found c = λ s.
     let run = c.args.run.now in
     let submitted = c.args.submitted.now in
     let lent = c.args.lent.now in
-    let found = c.cycle-found.result in
+    let found = c.cycle.result in
     let same : c.as_slice.result.now ≡ gathered run submitted lent =
     c.as_slice.ensures ∙ c.pairs_of-pairs.ensures.pairs in
     found_deadlock c.awaited_members_are_waited_for.ensures run submitted lent s found
-    (subst (λ (pairs : List (ℕ × ℕ)). IfSome found (IsCycle pairs)) same c.cycle-found.ensures.found)
-    (subst (λ (pairs : List (ℕ × ℕ)). IfSome found (IsGreatest pairs)) same c.cycle-found.ensures.greatest)
+    (subst (λ (pairs : List (ℕ × ℕ)). IfSome found (IsCycle pairs)) same c.cycle.ensures.found)
+    (subst (λ (pairs : List (ℕ × ℕ)). IfSome found (IsGreatest pairs)) same c.cycle.ensures.greatest)
 
 pub returns-clause-none : goal.returns-clause-none
 returns-clause-none c = λ s none.
@@ -25,4 +25,4 @@ returns-clause-none c = λ s none.
     let same : c.as_slice.result.now ≡ gathered run submitted lent =
     c.as_slice.ensures ∙ c.pairs_of-pairs.ensures.pairs in
     no_deadlock c.awaited_members_are_waited_for.ensures run submitted lent s
-    (subst (λ (pairs : List (ℕ × ℕ)). (x : ℕ) → ¬ (IsOnCycle pairs x)) same (c.cycle-found.ensures.none none))
+    (subst (λ (pairs : List (ℕ × ℕ)). (x : ℕ) → ¬ (IsOnCycle pairs x)) same (c.cycle.ensures.none none))
