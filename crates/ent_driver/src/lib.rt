@@ -3,8 +3,8 @@
 //!
 //! A [`Driver`] is vacant, open over a core, or closed with that core's book. A caller may rely on it that each call
 //! makes of the core what its contract says, and that one which is refused leaves all as it was. Bytes come in as texts
-//! do, and texts go out as the report has them. A driver that is closed may be renewed: then a core is open that goes on
-//! with the tables.
+//! do, and texts go out as the report has them. A driver that is closed may be renewed: then a core is open that goes
+//! on with the tables.
 #![tactic(auto)]
 
 mod closing;

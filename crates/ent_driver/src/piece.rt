@@ -1,8 +1,9 @@
 //! Pieces of a line: transactions, tables and demands.
 ghost use Rattle.std.specs.Prelude.{◌≡◌, ◌<◌, ◌++◌, OnOk};
 ghost use Rattle.std.specs.Option.{option_copied};
-ghost use Rattle.ent_driver.specs.Why.{both_text, demand_text, mode_text, more_terms_text, more_txs_text, numbered_demand};
-ghost use Rattle.ent_driver.specs.Why.{relation_text, table_name, term_text, terms_text, tx_text, txs_text};
+ghost use Rattle.ent_driver.specs.Why.{both_text, demand_text, mode_text, more_terms_text, more_txs_text};
+ghost use Rattle.ent_driver.specs.Why.{numbered_demand, relation_text, table_name, term_text, terms_text, tx_text};
+ghost use Rattle.ent_driver.specs.Why.{txs_text};
 ghost use Rattle.ent_tree.specs.declared.limits.TheConstants.{MOST_PARTS};
 
 use ent_book::append_number;

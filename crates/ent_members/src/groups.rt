@@ -1,6 +1,6 @@
 //! The groups of a run's members. [`Groups`] decides who is of one group; each member has the label of its group too.
-ghost use Rattle.std.specs.Prelude.{◌≡◌, ℕ, ◌+◌, ◌≤◌, ◌∷◌, ◌++◌, ◌↔◌, IsTrue, List, Some, length, map, filter, nat_eq, not};
-ghost use Rattle.std.specs.Prelude.{Contains, IsSome};
+ghost use Rattle.std.specs.Prelude.{◌≡◌, ℕ, ◌+◌, ◌≤◌, ◌∷◌, ◌++◌, ◌↔◌, Contains, IsSome, IsTrue, List, Some, length};
+ghost use Rattle.std.specs.Prelude.{map, filter, nat_eq, not};
 ghost use Rattle.std.specs.List.{AllByRecursion, IsDistinct, filter_map};
 ghost use Rattle.std.specs.List.Sorted.{IsStrictlyIncreasing};
 ghost use Rattle.std.specs.Option.{option_map};

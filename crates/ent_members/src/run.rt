@@ -336,8 +336,8 @@ impl Run {
     }
 
     /// The group with a label commits, if every member of it is prepared: its members leave the run, in the order in
-    /// which they prepared, and come in the room that is made for them. If one isn't prepared, there is None, and nothing
-    /// changes. It takes no memory.
+    /// which they prepared, and come in the room that is made for them. If one isn't prepared, there is None, and
+    /// nothing changes. It takes no memory.
     pub fn commit(&mut self, group: Tx, room: Vec<Member>) -> Option<Vec<Member>>
         requires empty { room.items ≡ [] }
         requires room { MOST_MEMBERS ≤ vec_capacity room }
@@ -360,8 +360,8 @@ impl Run {
         Some(committed)
     }
 
-    /// The members of the group with a label leave the run, or all, if none is named. Tells who left, by number. It takes
-    /// no memory.
+    /// The members of the group with a label leave the run, or all, if none is named. Tells who left, by number. It
+    /// takes no memory.
     pub fn remove(&mut self, group: Option<Tx>) -> RunAttempts
         ensures left { result ≡ run_attempts_in group (self.old.prepared ++ self.old.active) }
         ensures prepared { self.new.prepared ≡ filter (is_not_of (numbers_in result)) self.old.prepared }
