@@ -65,11 +65,11 @@ impl Told {
         let Some(offset) = place else {
             return nowhere;
         };
-        let place = Place::of(valid_text(given), offset);
+        let found = Place::of(valid_text(given), offset);
         Told {
             offset,
-            line: place.line,
-            column: place.column,
+            line: found.line,
+            column: found.column,
             has_place: true,
             ..nowhere
         }

@@ -206,9 +206,9 @@ impl fmt::Display for Excerpt<'_> {
         let before = Shown(self.before);
         let behind = Shown(self.behind.strip_suffix('\r').unwrap_or(self.behind));
         writeln!(f, "  {front}{before}{behind}{end}")?;
-        let front = if self.is_cut_before { "  " } else { "" };
+        let indent = if self.is_cut_before { "  " } else { "" };
         let blank = Blank(self.before);
-        write!(f, "  {front}{blank}")?;
+        write!(f, "  {indent}{blank}")?;
         for _ in 0..self.carets {
             f.write_char('^')?;
         }

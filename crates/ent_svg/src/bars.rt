@@ -191,9 +191,9 @@ fn put_answer(sheet: &mut Sheet, trace: &[Exchange], answer: Option<usize>) {
         return;
     };
     if let Some(exchange) = trace.get(at) {
-        if let Reply::Stepped(answer) = &exchange.reply {
+        if let Reply::Stepped(text) = &exchange.reply {
             sheet.put(": ");
-            sheet.put_text(answer.as_slice());
+            sheet.put_text(text.as_slice());
         }
     }
 }
