@@ -43,11 +43,6 @@ impl Mark<'_> {
     pub(crate) fn is_name(&self) -> bool {
         matches!(self.sort, Sort::Name)
     }
-
-    /// Whether it is the name that is spelled so.
-    pub(crate) fn is_named(&self, name: &str) -> bool {
-        self.is_name() && self.text == name
-    }
 }
 
 /// What kind of token is seen.

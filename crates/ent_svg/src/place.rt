@@ -47,10 +47,6 @@ impl Place {
         }
     }
 
-    pub(crate) fn left(self) -> u64 {
-        LEFT
-    }
-
     pub(crate) fn top(self) -> u64 {
         TOP
     }
