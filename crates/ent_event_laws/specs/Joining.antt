@@ -1,4 +1,4 @@
--- What a joint answer makes of the members of a run: who is asked is answered, and the groups of those are one.
+-- What a joint answer makes of the members of a run: some are answered, and the groups of these become one.
 use Rattle.std.specs.Prelude.{◌≡◌, ◌⊎◌, ◌↔◌, suc, false, List, [], ◌∷◌, ◌++◌, Option, Some, None, Contains}
 use Rattle.std.specs.Prelude.{find, zip}
 use Rattle.std.specs.List.{AllZip}
@@ -12,7 +12,7 @@ use Rattle.ent_protocol.specs.State.{State, Member, members}
 
 -- ---- members
 
--- the first of the statements that are asked, with their groundings, that is of this member
+-- of the statements that are answered, the first one of this member, with its grounding
 abbrev pub own_pair : List Posted → List Valuation → Member → Option (Posted × Valuation)
 own_pair asked groundings member = find (λ pair. is_tx pair.0.tx member) (zip asked groundings)
 
@@ -47,7 +47,7 @@ Passage = Member × Member
 abbrev pub before_and_after : State → State → List Passage
 before_and_after s new = zip (members s) (members new)
 
--- a member's group is that of one that is asked
+-- a member's group is that of a member whose statement is answered
 pub record IsOfAsked (s : State) (asked : List Posted) (member : Member) : Type 0 where
   pub query : Posted
   pub is_asked : Contains asked query
@@ -56,7 +56,7 @@ pub record IsOfAsked (s : State) (asked : List Posted) (member : Member) : Type 
   pub owns : owner.tx ≡ query.tx
   pub group : owner.group ≡ member.group
 
--- two members were of one group, or both in groups of such as are asked
+-- two members were of one group, or both in groups of members whose statements are answered
 abbrev pub WereTogether : State → List Posted → Member → Member → Type 0
 WereTogether s asked one other = (one.group ≡ other.group) ⊎ (IsOfAsked s asked one × IsOfAsked s asked other)
 

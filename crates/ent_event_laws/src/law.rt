@@ -23,9 +23,9 @@ pub fn begin_goes_by_rows<F>()
         → Begins s tx reply new ↔ BeginsByRow s tx reply new }
 {}
 
-/// Where members are answered together, each that has a statement among those that are asked, and a grounding, is
-/// answered by these; all others keep everything but the label of their group. Two members are of one group then
-/// exactly where they were before, or both were in groups of such as are asked. This determines the state, but for the
+/// Where statements are answered together, each member that has one of them, and a grounding for it, is answered by
+/// these; all others keep everything but the label of their group. Two members are of one group then exactly where they
+/// were before, or both were in groups of members whose statements are answered. This determines the state, but for the
 /// labels.
 pub fn joint_answers_join_groups()
     ensures joined { (s : State) (asked : List Posted) (groundings : List Valuation)
