@@ -1,7 +1,7 @@
 //! What the programs that go over stored texts have in common.
 //!
-//! A program of scenarios plays each that `scenarios/INDEX` names, and a program of rows explains each that `rows/INDEX`
-//! names: `NAME.in` is what comes in, and `NAME.out` what has to come out.
+//! A program of scenarios plays each that `scenarios/INDEX` names, and a program of rows explains each that
+//! `rows/INDEX` names: `NAME.in` is what comes in, and `NAME.out` what has to come out.
 #![tactic(auto)]
 
 mod rows;
