@@ -56,7 +56,7 @@ fn opening_over(
         → MOST_OPENING_ROWS < rows_together declared.now (tables_database tables.now)) }
 {
     // Asked for its bound alone: so many tables have no more rows than can be counted.
-    let _ = declared.len();
+    let _count = declared.len();
     if rows_together(declared.as_slice(), tables) > MOST_OPENING_ROWS {
         return Err(Refusal::Fault(TooManyRows));
     }

@@ -50,7 +50,7 @@ pub(crate) fn push_table(
     ensures { OnOk result (rows.new ≡ rows.old ++ table_rows (tables_database tables.now) create.now) }
 {
     // Asked for its bound alone: a row has as many values as its table has columns.
-    let _ = create.columns.len();
+    let _count = create.columns.len();
     match table_named(tables, &create.name.name) {
         Some(table) => {
             let present = table.rows(alloc)?;

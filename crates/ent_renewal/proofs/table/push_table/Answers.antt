@@ -24,7 +24,8 @@ push_rows-requires-clause-widths c =
     let is : c.as_slice.result.now ≡ set.ascending own =
     c.as_slice.ensures.value ∙ c.in_ok-present-in-Some.ensures.rows
     ∙ ap (λ (rows : Rows). set.ascending rows) (sym c.in-Some.ensures) in
-    let few : length c.args.create.now.columns ≤ MOST_PARTS = omega (arith, c.len.ensures.len, c.len.ensures.limit) in
+    let few : length c.args.create.now.columns ≤ MOST_PARTS =
+    omega (arith, c.len-count.ensures.len, c.len-count.ensures.limit) in
     subst (λ (rows : List (List Value)). All (λ row. length row ≤ MOST_PARTS) rows) (sym is)
     (widths c.args.create.now own MOST_PARTS few c.requires.kinds)
 
