@@ -100,7 +100,7 @@ impl Groups {
     /// The members of a transaction's group, by number; nobody where it is no member.
     pub fn members(&self, tx: Tx) -> Members
         ensures by_number { IsStrictlyIncreasing result }
-        ensures class { (x : ℕ) → Contains result x ↔ SameGroup self.now tx x }
+        ensures group { (x : ℕ) → Contains result x ↔ SameGroup self.now tx x }
     {
         match self.group_of(tx) {
             Some(group) => labelled(self.as_slice(), group),
@@ -114,7 +114,7 @@ impl Groups {
         requires room { length self.old < MOST_MEMBERS }
         requires not_in { IsNone (group_of self.old tx) }
         ensures labels { (x : ℕ) → group_of self.new x ≡ (if tx == x then Some tx else group_of self.old x) }
-        ensures classes { (x y : ℕ) → SameGroup self.new x y ↔ (SameGroup self.old x y ⊎ ((x ≡ tx) × (y ≡ tx))) }
+        ensures groups { (x y : ℕ) → SameGroup self.new x y ↔ (SameGroup self.old x y ⊎ ((x ≡ tx) × (y ≡ tx))) }
         ensures len { length self.new ≡ length self.old + 1 }
     {
         let at = count_below(self.as_slice(), tx);
@@ -135,7 +135,7 @@ impl Groups {
         requires left_in { IsSome (group_of self.old left) }
         requires right_in { IsSome (group_of self.old right) }
         ensures labels { Relabels self.old self.new left right }
-        ensures classes { (x y : ℕ) → SameGroup self.new x y
+        ensures groups { (x y : ℕ) → SameGroup self.new x y
             ↔ (SameGroup self.old x y ⊎ (InEither self.old left right x × InEither self.old left right y)) }
         ensures members { numbers_of self.new ≡ numbers_of self.old }
     {
@@ -190,7 +190,7 @@ fn count_below(memberships: &[Membership], tx: Tx) -> usize
 /// Puts a membership in at an index of the first `len`, which become one more.
 fn put_at(memberships: &mut [Membership], len: usize, at: usize, membership: Membership)
     requires room { len < length memberships.old }
-    requires place { at ≤ len }
+    requires within { at ≤ len }
     ensures { take (len + 1) memberships.new ≡ insert (take len memberships.old) at membership }
 {
     memberships[len] = membership;

@@ -36,7 +36,7 @@ fn joined(row: Row, middle: usize, beyond: Row) -> Row
 /// Adds to each row that has a mark at a place the marks of the row that stands there.
 pub fn join_over(rows: &mut [Row], middle: usize)
     requires row { middle < length rows.old }
-    requires place { middle < 64 }
+    requires within { middle < 64 }
     ensures { rows.new ≡ map (joined middle (slice_index rows.old middle)) rows.old }
 {
     let beyond = rows[middle];

@@ -31,7 +31,7 @@ pub fn few_pairs_name_few()
 /// The greatest transaction that stands on a cycle: one that waits, over others, for itself.
 fn greatest_on_cycle(pairs: &[(Tx, Tx)], waiters: &[Tx]) -> Option<Tx>
     requires { AreWaiters pairs.now waiters.now }
-    ensures found_cycle { IfSome result (IsOnCycle pairs.now) }
+    ensures found { IfSome result (IsOnCycle pairs.now) }
     ensures greatest { IfSome result (λ w. (x : ℕ) → IsOnCycle pairs.now x → x ≤ w) }
     ensures none { IsNone result → (x : ℕ) → ¬ IsOnCycle pairs.now x }
 {
@@ -136,10 +136,10 @@ fn extend(pairs: &[(Tx, Tx)], reached: &mut Members, awaited: Tx)
     requires reach { IsReach pairs.now reached.old }
     requires awaited { Contains reached.old awaited }
     ensures reach { IsReach pairs.now reached.new }
-    ensures kept { (k : ℕ) → k < length reached.old → slice_index reached.new k ≡ slice_index reached.old k }
+    ensures same { (k : ℕ) → k < length reached.old → slice_index reached.new k ≡ slice_index reached.old k }
     ensures longer { length reached.old ≤ length reached.new }
     ensures all { All (λ p. p.1 ≡ awaited → Contains reached.new p.0) pairs.now }
-    ensures room { length reached.new ≤ MOST_MEMBERS }
+    ensures bound { length reached.new ≤ MOST_MEMBERS }
 {
     for (waiter, other) in pairs {
         if *other == awaited && !reached.contains(*waiter) {
@@ -168,7 +168,7 @@ fn place_awaited(pairs: &[(Tx, Tx)], reached: &[Tx], waiter: Tx) -> Option<usize
 fn close(pairs: &[(Tx, Tx)], reached: &[Tx], second: usize) -> Members
     requires reach { IsReach pairs.now reached.now }
     requires bound { length reached.now ≤ MOST_MEMBERS }
-    requires place { second < length reached.now }
+    requires within { second < length reached.now }
     requires awaited { Contains pairs.now (slice_index reached.now 0, slice_index reached.now second) }
     ensures cycle { IsCycle pairs.now result }
     ensures first { slice_index result 0 ≡ slice_index reached.now 0 }

@@ -26,7 +26,7 @@ returns c =
     let part : take (c.args.len + 1 - c.args.at) (drop c.args.at (set xs c.args.len m)) ≡ drop c.args.at (take c.args.len xs) ++ m ∷ [] =
     between_is (set xs c.args.len m) c.args.at (c.args.len + 1)
     ∙ ap (drop c.args.at) (take_more_set xs c.args.len m c.requires.room)
-    ∙ drop-append-le c.args.at (take c.args.len xs) (m ∷ []) (omega (arith, length-take c.args.len xs, c.requires.room, c.requires.place)) in
+    ∙ drop-append-le c.args.at (take c.args.len xs) (m ∷ []) (omega (arith, length-take c.args.len xs, c.requires.room, c.requires.within)) in
     let shape : List Membership → List Membership = λ ys. drop (length ys - 1) ys ++ take (length ys - 1) ys in
-    put_in xs c.rotate_right.new.self c.args.at c.args.len m c.requires.place c.requires.room
+    put_in xs c.rotate_right.new.self c.args.at c.args.len m c.requires.within c.requires.room
     (c.rotate_right.ensures.after ∙ ap shape part ∙ turned (drop c.args.at (take c.args.len xs)) m)

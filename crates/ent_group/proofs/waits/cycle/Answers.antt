@@ -9,7 +9,7 @@ pub returns-in_err-first-clause-none : goal.returns-in_err-first-clause-none
 returns-in_err-first-clause-none c = λ _. c.in_err-first.ensures.none refl
 
 pub cycle_from-requires-clause-waits : goal.cycle_from-requires-clause-waits
-cycle_from-requires-clause-waits c = on_cycle_waiter c.args.pairs.now c.in_ok-first.first c.in_ok-first.ensures.found_cycle
+cycle_from-requires-clause-waits c = on_cycle_waiter c.args.pairs.now c.in_ok-first.first c.in_ok-first.ensures.found
 
 pub returns-clause-greatest : goal.returns-clause-greatest
 returns-clause-greatest c =

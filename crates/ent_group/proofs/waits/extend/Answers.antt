@@ -40,7 +40,7 @@ pub returns-clause-all : goal.returns-clause-all
 returns-clause-all c =
     subst (All (λ p. p.1 ≡ c.args.awaited → Contains c.loop-waiter.reached p.0)) (take_all c.loop-waiter.waiter-index c.args.pairs.now c.loop-waiter-test.false) c.loop-waiter.invariant.all
 
-pub returns-clause-room : goal.returns-clause-room
-returns-clause-room c =
+pub returns-clause-bound : goal.returns-clause-bound
+returns-clause-bound c =
     let reach = c.loop-waiter.invariant.reach in
     few_waiters c.args.pairs.now c.loop-waiter.reached c.requires.names reach.distinct reach.waiters

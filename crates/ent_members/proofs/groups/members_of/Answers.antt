@@ -8,7 +8,7 @@ pub returns-then-is_label-clause-members : goal.returns-then-is_label-clause-mem
 returns-then-is_label-clause-members c = λ x.
     let own = c.is_label.ensures.0 c.if-is_label.true in (
       λ there.
-          let same = (c.members.ensures.class x).0 there in
+          let same = (c.members.ensures.group x).0 there in
           same.2 ∙ ap Some (some_is same.0 c.args.label (sym same.1 ∙ own)),
-      λ labelled. (c.members.ensures.class x).1 (c.args.label, own, labelled),
+      λ labelled. (c.members.ensures.group x).1 (c.args.label, own, labelled),
     )

@@ -24,8 +24,8 @@ returns-clause-labels c = λ x.
     ap (λ (ns : List Membership). group_of ns x) c.put_at.ensures ∙ group_of-insert ms c.count_below-at.result c.args.tx x absent
     ∙ ap (λ (ns : List Membership). if c.args.tx == x then Some c.args.tx else group_of ns x) c.self.view_is
 
-pub returns-clause-classes : goal.returns-clause-classes
-returns-clause-classes c =
+pub returns-clause-groups : goal.returns-clause-groups
+returns-clause-groups c =
     let ms = take c.self.inside.len c.self.inside.memberships in
     added_classes c.args.self.now (take (c.self.inside.len + 1) c.put_at.new.memberships) c.args.tx (subst IsNamed c.self.view_is c.self.invariant.1.named) (not_member c.args.self.now c.args.tx c.requires.not_in)
     (returns-clause-labels c)

@@ -28,8 +28,8 @@ returns-in-Some-Some-clause-labels c =
     relabels c.args.self.now (take c.self.inside.len c.relabel.new.memberships) c.args.left c.args.right c.in-Some-Some.kept c.in-Some-Some.gone
     (sym c.group_of.ensures ∙ c.in-Some-Some.is-0) (sym c.group_of-2.ensures ∙ c.in-Some-Some.is-1) (moves c.args.self.now c c.self.view_is)
 
-pub returns-in-Some-Some-clause-classes : goal.returns-in-Some-Some-clause-classes
-returns-in-Some-Some-clause-classes c =
+pub returns-in-Some-Some-clause-groups : goal.returns-in-Some-Some-clause-groups
+returns-in-Some-Some-clause-groups c =
     merged_classes c.args.self.now (take c.self.inside.len c.relabel.new.memberships) c.args.left c.args.right c.in-Some-Some.kept c.in-Some-Some.gone
     (sym c.group_of.ensures ∙ c.in-Some-Some.is-0) (sym c.group_of-2.ensures ∙ c.in-Some-Some.is-1) (moves c.args.self.now c c.self.view_is)
 
