@@ -12,7 +12,7 @@ pub(crate) struct Columns {
     event: u64,
     /// Whether the present event has its column.
     is_shown: bool,
-    ghost rising: { IsStrictlyIncreasing numbers.items },
+    ghost by_number: { IsStrictlyIncreasing numbers.items },
     ghost so_far: { AreSoFar numbers.items event },
     ghost before: { AreBefore numbers.items event is_shown },
 }
@@ -58,7 +58,7 @@ impl Columns {
 
     /// The numbers of the columns.
     pub(crate) fn into_numbers(self) -> Vec<u64>
-        ensures rising { IsStrictlyIncreasing result.items }
+        ensures by_number { IsStrictlyIncreasing result.items }
     {
         let Columns { numbers, .. } = self;
         numbers

@@ -12,7 +12,7 @@ use std::alloc::{AllocError, Global};
 
 /// The members of the runs of a trace, each once, by number.
 pub fn all_members(alloc: Global, trace: &[Exchange]) -> Result<Vec<Tx>, AllocError>
-    ensures rising { IfOk result (λ members. IsStrictlyIncreasing members.items) }
+    ensures by_number { IfOk result (λ members. IsStrictlyIncreasing members.items) }
     ensures exact { IfOk result (λ members. (tx : ℕ) → Contains members.items tx ↔ Contains (started trace.now) tx) }
 {
     Ok(each_once(started(alloc, trace)?))
@@ -41,7 +41,7 @@ fn members_of_start(reply: &Reply) -> &[Tx]
 
 /// The same numbers, each once, in order.
 fn each_once(members: Vec<Tx>) -> Vec<Tx>
-    ensures rising { IsStrictlyIncreasing result.items }
+    ensures by_number { IsStrictlyIncreasing result.items }
     ensures exact { (tx : ℕ) → Contains result.items tx ↔ Contains members.items tx }
 {
     let mut once = members;
@@ -59,7 +59,7 @@ pub fn members_met(
     joints: &[JointAnswer],
     picked: &[Tx],
 ) -> Result<Vec<Tx>, AllocError>
-    ensures rising { IfOk result (λ members. IsStrictlyIncreasing members.items) }
+    ensures by_number { IfOk result (λ members. IsStrictlyIncreasing members.items) }
     ensures exact { IfOk result (λ members. (tx : ℕ) → Contains members.items tx
         ↔ Contains (picked_and_met trace.now joints.now picked.now) tx) }
 {

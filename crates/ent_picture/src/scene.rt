@@ -394,7 +394,7 @@ impl Scene {
     /// The picture of the events so far, with lanes for these members.
     fn into_picture(self, members: &[Tx]) -> Result<Picture, AllocError>
         ensures lanes { IfOk result (λ picture. members_of_lanes picture.lanes.items ≡ members.now) }
-        ensures rising { IfOk result (λ picture. IsStrictlyIncreasing picture.columns.items) }
+        ensures by_number { IfOk result (λ picture. IsStrictlyIncreasing picture.columns.items) }
     {
         let Scene {
             alloc,
@@ -455,7 +455,7 @@ pub fn picture_of(
     members: &[Tx],
 ) -> Result<Picture, AllocError>
     ensures lanes { IfOk result (λ picture. members_of_lanes picture.lanes.items ≡ members.now) }
-    ensures rising { IfOk result (λ picture. IsStrictlyIncreasing picture.columns.items) }
+    ensures by_number { IfOk result (λ picture. IsStrictlyIncreasing picture.columns.items) }
 {
     let mut scene = Scene::new(alloc);
     for tx in members {
