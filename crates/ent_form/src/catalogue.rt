@@ -55,7 +55,7 @@ impl Catalogue {
     pub fn of(alloc: Global, opening: &Opening) -> Result<Catalogue, Refusal<FormFault>>
         ensures tables { Gives (λ catalogue. catalogue.tables) result
             (unless (opening_fault opening.now) (schemas_of opening.now.tables)) }
-        ensures first { RefusedForFirst (opening_faults opening.now) result }
+        ensures fault { RefusedForFirst (opening_faults opening.now) result }
     {
         declared(alloc, opening)
     }

@@ -106,7 +106,7 @@ fn assign(
         Gives (λ _. image.new.items) result
         (assignment_in (scope_of sources.now) (bound_in bindings.now) table.now.columns names image.old.items
         assignment.now) }
-    ensures length { OnOk result (length image.new.items ≡ length image.old.items) }
+    ensures len { OnOk result (length image.new.items ≡ length image.old.items) }
 {
     let column = &assignment.column;
     let Some((number, wanted)) = table.column_named(&column.name) else {

@@ -78,7 +78,7 @@ pub fn resolve(
     script: &Script,
 ) -> Result<Plain, Refusal<FormFault>>
     ensures form { Gives (λ plain. plain) result (script_in catalogue.now.tables script.now) }
-    ensures first { RefusedForFirst (script_faults catalogue.now.tables script.now) result }
+    ensures fault { RefusedForFirst (script_faults catalogue.now.tables script.now) result }
 {
     in_order(alloc, catalogue, script)
 }

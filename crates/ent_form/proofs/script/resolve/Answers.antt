@@ -4,8 +4,8 @@ use Rattle.ent_form.proofs.FirstFault.{first_answered}
 use Rattle.ent_form.proofs.ScriptHeads.{script_head}
 use Rattle.ent_form.proofs.script.resolve.Goals as goal
 
-pub returns-clause-first : goal.returns-clause-first
-returns-clause-first c =
+pub returns-clause-fault : goal.returns-clause-fault
+returns-clause-fault c =
     let tables = c.args.catalogue.now.tables in
     let script = c.args.script.now in
     first_answered (λ plain. plain) c.in_order.result (script_in tables script) (script_faults tables script)

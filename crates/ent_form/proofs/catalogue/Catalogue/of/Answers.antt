@@ -6,8 +6,8 @@ use Rattle.ent_form.proofs.FirstFault.{first_answered, unless_fault}
 use Rattle.ent_form.proofs.Heads.{opening_head}
 use Rattle.ent_form.proofs.catalogue.Catalogue.of.Goals as goal
 
-pub returns-clause-first : goal.returns-clause-first
-returns-clause-first c =
+pub returns-clause-fault : goal.returns-clause-fault
+returns-clause-fault c =
     let opening = c.args.opening.now in
     let tables = schemas_of opening.tables in
     first_answered (λ catalogue. catalogue.tables) c.declared.result (unless (opening_fault opening) tables)
