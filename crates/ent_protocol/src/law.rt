@@ -61,7 +61,7 @@ pub fn played_states_are_gathered<F>()
 /// Closing gives the state's book exactly where no run is on and nothing is dormant; of a state that is reached it is a
 /// finished book, and all its finished books are given so.
 pub fn closing_gives_the_book<F>()
-    ensures exactly { (s : State) (book : Book Database) → (closing s ≡ Some book) ↔ (CanClose s × (book ≡ book_of s)) }
+    ensures exact { (s : State) (book : Book Database) → (closing s ≡ Some book) ↔ (CanClose s × (book ≡ book_of s)) }
     ensures finished { (forms : Forms F) (s : State) (book : Book Database)
         → IsReached forms s
         → closing s ≡ Some book

@@ -27,7 +27,7 @@ pub fn steps_go_on<F>()
 /// these, and once. So members are distinct; and there are 64 at most.
 pub fn transactions_stand_once<F>()
     ensures once { (forms : Forms F) (s : State) → IsReached forms s → StandOnce s }
-    ensures few { (forms : Forms F) (s : State) → IsReached forms s → length (members s) ≤ MOST_MEMBERS }
+    ensures bound { (forms : Forms F) (s : State) → IsReached forms s → length (members s) ≤ MOST_MEMBERS }
 {}
 
 /// In every state that is reached those with a fate, the dormant ones and the members are as many as were submitted.
@@ -48,7 +48,7 @@ pub fn members_stand_by_number<F>()
 pub fn attempts_stay_within<F>()
     ensures own { (forms : Forms F) (s : State) → IsReached forms s → AllByRecursion AsksForRun s.submitted
         → StayWithin s }
-    ensures most { (forms : Forms F) (s : State) (most : ℕ) → IsReached forms s
+    ensures bound { (forms : Forms F) (s : State) (most : ℕ) → IsReached forms s
         → AllByRecursion AsksForRun s.submitted
         → AskForMost most s
         → StayBelow most s }

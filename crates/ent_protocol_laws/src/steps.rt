@@ -47,7 +47,7 @@ pub fn rollbacks_restore_tables<F>()
         → table < length s.tables
         → IsFirstChange s group table change
         → rows_at (rolled_back group cause s) table ≡ change.before }
-    ensures kept { (s : State) (group table : ℕ) (cause : Cause)
+    ensures same { (s : State) (group table : ℕ) (cause : Cause)
         → HasNotChanged s group table
         → rows_at (rolled_back group cause s) table ≡ rows_at s table }
     ensures noted { (forms : Forms F) (s : State) (event : Event) (reply : Reply F) (new : State) (table : ℕ)

@@ -64,12 +64,12 @@ pub fn events_keep_the_input<F>()
 
 /// In a reached state the members come by number, each once, and there are 64 at most.
 pub fn members_come_by_number<F>()
-    ensures ascending { (forms : Forms F) (s : State)
+    ensures by_number { (forms : Forms F) (s : State)
         → IsReached forms s
         → AllPairs (λ (one other : ℕ). one < other) (running_members s) }
-    ensures few { (forms : Forms F) (s : State) → IsReached forms s → length (running_members s) ≤ MOST_MEMBERS }
+    ensures bound { (forms : Forms F) (s : State) → IsReached forms s → length (running_members s) ≤ MOST_MEMBERS }
     ensures counted { (s : State) → length (running_members s) ≡ length (members s) }
-    ensures exactly { (s : State) (tx : ℕ) → Contains (running_members s) tx ↔ (is_member s tx ≡ true) }
+    ensures exact { (s : State) (tx : ℕ) → Contains (running_members s) tx ↔ (is_member s tx ≡ true) }
 {
     transactions_stand_once::<F>();
     members_stand_by_number::<F>();
@@ -140,7 +140,7 @@ pub fn idle_rounds_are_quiet<F>()
 /// The tries that are left never grow but by a script more, where each script asks for one run at least; and the end of
 /// a run uses one up.
 pub fn ended_runs_use_up_tries<F>()
-    ensures kept { (forms : Forms F) (s : State) (event : Event) (reply : Reply F) (new : State)
+    ensures bound { (forms : Forms F) (s : State) (event : Event) (reply : Reply F) (new : State)
         → IsReached forms s
         → AllByRecursion AsksForRun s.submitted
         → Step forms s event reply new

@@ -8,7 +8,7 @@ returns g c forms s most fated reached asked few there =
       goes_on = c.steps_go_on.ensures forms;
       led = c.events_lead_on.ensures.reached forms;
       own = c.attempts_stay_within.ensures.own forms;
-      most = c.attempts_stay_within.ensures.most forms;
+      most = c.attempts_stay_within.ensures.bound forms;
     } in
     of_all (CountsRuns most) s.fates fated (fates_count forms laws most s reached asked few)
     (contains_in s.fates fated there)

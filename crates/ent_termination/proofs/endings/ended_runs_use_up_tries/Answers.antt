@@ -1,8 +1,8 @@
 use Rattle.ent_termination.proofs.Used.{ended_uses, no_more}
 use Rattle.ent_termination.proofs.endings.ended_runs_use_up_tries.Goals as goal
 
-pub returns-clause-kept : goal.returns-clause-kept
-returns-clause-kept g c forms s event reply new reached asks step none =
+pub returns-clause-bound : goal.returns-clause-bound
+returns-clause-bound g c forms s event reply new reached asks step none =
     no_more forms s event reply new (c.attempts_stay_within.ensures.own forms s reached asks)
     (c.members_stand_by_number.ensures forms s reached) step none
 

@@ -3,16 +3,16 @@ use Rattle.ent_group.specs.declared.members.TheConstants.{MOST_MEMBERS}
 use Rattle.ent_termination.proofs.Numbers.{are_members, as_many, numbers_ascend}
 use Rattle.ent_termination.proofs.endings.members_come_by_number.Goals as goal
 
-pub returns-clause-ascending : goal.returns-clause-ascending
-returns-clause-ascending g c forms s reached =
+pub returns-clause-by_number : goal.returns-clause-by_number
+returns-clause-by_number g c forms s reached =
     numbers_ascend s (c.members_stand_by_number.ensures forms s reached)
 
-pub returns-clause-few : goal.returns-clause-few
-returns-clause-few g c forms s reached =
-    subst (λ n. n ≤ MOST_MEMBERS) (sym (as_many s)) (c.transactions_stand_once.ensures.few forms s reached)
+pub returns-clause-bound : goal.returns-clause-bound
+returns-clause-bound g c forms s reached =
+    subst (λ n. n ≤ MOST_MEMBERS) (sym (as_many s)) (c.transactions_stand_once.ensures.bound forms s reached)
 
 pub returns-clause-counted : goal.returns-clause-counted
 returns-clause-counted g c = as_many
 
-pub returns-clause-exactly : goal.returns-clause-exactly
-returns-clause-exactly g c = are_members
+pub returns-clause-exact : goal.returns-clause-exact
+returns-clause-exact g c = are_members

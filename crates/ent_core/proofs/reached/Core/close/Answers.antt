@@ -22,7 +22,7 @@ pub returns-in-Ok-clause-finished : goal.returns-in-Ok-clause-finished
 returns-in-Ok-clause-finished c =
     let can = c.can_close.ensures.0 c.if-can_close.true in
     let kept : IsKeptState c.args.self = subst IsKeptState c.self.view_is c.self.invariant in
-    let closes = (c.closing_gives_the_book.ensures.exactly c.args.self (book_seen c.book.result)).1
+    let closes = (c.closing_gives_the_book.ensures.exact c.args.self (book_seen c.book.result)).1
     (subst CanClose c.self.view_is can, returns-in-Ok-clause-book c) in
     c.closing_gives_the_book.ensures.finished resolved_forms c.args.self (book_seen c.book.result) kept.reached closes
 
