@@ -132,7 +132,7 @@ pub fn read_views_can_be_told()
 
 /// Tables whose values can be told are shown at the end as a report shows them.
 pub fn tables_can_be_told()
-    ensures few { (declared : List Create) (database : Database) (create : Create)
+    ensures limit { (declared : List Create) (database : Database) (create : Create)
         → HoldsRowsOf declared database → Contains declared create
         → length (set.ascending (database create.name.name)) ≤ MOST_ROWS }
     ensures rows { (declared : List Create) (database : Database) (create : Create)

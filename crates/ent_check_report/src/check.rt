@@ -32,7 +32,7 @@ pub const MOST_REPORT_BYTES: usize = 1_099_511_627_776;
 fn read_text<R: Read>(alloc: Global, reader: &mut Watched<R>) -> Result<Vec<u8>, CheckFault>
     requires unmarked { IsUnmarked reader.old }
     ensures whole { IfOk result (λ text. IfSome (R.remaining reader.old.inner) (λ all. text.items ≡ all)) }
-    ensures short { IfOk result (λ text. length text.items ≤ MOST_REPORT_BYTES) }
+    ensures limit { IfOk result (λ text. length text.items ≤ MOST_REPORT_BYTES) }
     ensures too_long { IfErr result (λ fault. fault ≡ TooLong
         → IfSome (R.remaining reader.old.inner) (λ all. MOST_REPORT_BYTES < length all)) }
     ensures marks { reader.new.failed ≡ is_read_fault result }
@@ -91,7 +91,7 @@ pub fn check_report<R: Read>(alloc: Global, reader: &mut Watched<R>) -> Result<V
     requires unmarked { IsUnmarked reader.old }
     ensures verdict { IfOk result (λ verdict.
         IfSome (R.remaining reader.old.inner) (λ text. IsVerdict text verdict)) }
-    ensures short { IfOk result (λ verdict.
+    ensures limit { IfOk result (λ verdict.
         IfSome (R.remaining reader.old.inner) (λ text. length text ≤ MOST_REPORT_BYTES)) }
     ensures too_long { IfErr result (λ fault. fault ≡ TooLong
         → IfSome (R.remaining reader.old.inner) (λ text. MOST_REPORT_BYTES < length text)) }

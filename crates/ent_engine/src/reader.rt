@@ -18,7 +18,7 @@ pub const MOST_BYTES: usize = 16_777_216;
 pub fn read_whole<R: Read>(alloc: Global, reader: &mut Watched<R>) -> Result<Vec<u8>, RunFault>
     requires unmarked { IsUnmarked reader.old }
     ensures whole { IfOk result (λ bytes. IfSome (R.remaining reader.old.inner) (λ all. bytes.items ≡ all)) }
-    ensures short { IfOk result (λ bytes. length bytes.items ≤ MOST_BYTES) }
+    ensures limit { IfOk result (λ bytes. length bytes.items ≤ MOST_BYTES) }
     ensures fault { IfErr result (λ fault. ReadingFails (R.remaining reader.old.inner) fault) }
     ensures marks { IsReaderMarkedBy result reader.new }
 {

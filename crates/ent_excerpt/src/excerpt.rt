@@ -73,7 +73,7 @@ fn is_short(before: &str, behind: &str) -> bool
 fn shown_parts<'a>(before: &'a str, behind: &'a str) -> (&'a str, &'a str)
     ensures end { IsEndOf before.now result.0.now }
     ensures beginning { IsBeginningOf behind.now result.1.now }
-    ensures short { width before.now + width behind.now ≤ 100
+    ensures whole { width before.now + width behind.now ≤ 100
         → (result.0.now ≡ before.now) × (result.1.now ≡ behind.now) }
 {
     if is_short(before, behind) {

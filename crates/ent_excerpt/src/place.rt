@@ -35,7 +35,7 @@ fn breaks(text: &str) -> usize
 fn characters(text: &str) -> usize
     ensures value { result ≡ length (chars text.now) }
     ensures bound { result ≤ length text.now }
-    ensures small { result < 2 ^ 63 }
+    ensures fits { result < 2 ^ 63 }
 {
     text.chars().count()
 }

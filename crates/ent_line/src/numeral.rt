@@ -15,7 +15,7 @@ const MOST: u64 = 9_223_372_036_854_775_807;
 fn value_of(digits: &[u8], most: u64) -> Option<u64>
     requires { most ≤ 9223372036854775808 }
     ensures some { IfSome result (λ value. value ≡ value_from 0 digits.now) }
-    ensures small { IfSome result (λ value. value ≤ most) }
+    ensures bound { IfSome result (λ value. value ≤ most) }
     ensures none { IfNone result (most < value_from 0 digits.now) }
 {
     let mut value: u64 = 0;
@@ -47,7 +47,7 @@ fn is_plain(digits: &[u8]) -> bool
 pub(crate) fn number_to(most: u64, bytes: &[u8]) -> Result<(u64, &[u8]), Refusal<LineFault>>
     requires { most ≤ 9223372036854775808 }
     ensures value { Gives (λ x. (x.0, x.1.now)) result (number_to most bytes.now) }
-    ensures small { IfOk result (λ x. x.0 ≤ most) }
+    ensures bound { IfOk result (λ x. x.0 ≤ most) }
 {
     let (digits, rest) = bytes.split_at(digits_len(bytes));
     if !is_plain(digits) {
@@ -62,7 +62,7 @@ pub(crate) fn number_to(most: u64, bytes: &[u8]) -> Result<(u64, &[u8]), Refusal
 /// A number at the front, 0 to 9223372036854775807, and the bytes behind it.
 pub fn number(bytes: &[u8]) -> Result<(u64, &[u8]), Refusal<LineFault>>
     ensures value { Gives (λ x. (x.0, x.1.now)) result (number_at bytes.now) }
-    ensures small { IfOk result (λ x. x.0 ≤ 9223372036854775807) }
+    ensures bound { IfOk result (λ x. x.0 ≤ 9223372036854775807) }
 {
     number_to(MOST, bytes)
 }

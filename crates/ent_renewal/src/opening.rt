@@ -29,7 +29,7 @@ fn opening_rows(
     declared: &[Create],
     tables: &[NamedTable],
 ) -> Result<Limited<OpeningRow, MOST_OPENING_ROWS>, AllocError>
-    requires few { rows_together declared.now (tables_database tables.now) ≤ MOST_OPENING_ROWS }
+    requires limit { rows_together declared.now (tables_database tables.now) ≤ MOST_OPENING_ROWS }
     requires kinds { All (λ create. RowsHaveKinds (column_kinds (table_schema create))
         (tables_database tables.now create.name.name)) declared.now }
     ensures { IfOk result (λ rows. rows ≡ opening_rows declared.now (tables_database tables.now)) }
@@ -50,7 +50,7 @@ fn opening_over(
     requires formed { declarations_fault [] declared.now ≡ None }
     requires holds { HoldsTablesOf declared.now (tables_database tables.now) }
     ensures ok { IfOk result (λ renewed. IsRenewed declared.now (tables_database tables.now) renewed) }
-    ensures few { OnOk result (rows_together declared.now (tables_database tables.now) ≤ MOST_OPENING_ROWS) }
+    ensures limit { OnOk result (rows_together declared.now (tables_database tables.now) ≤ MOST_OPENING_ROWS) }
     ensures fault { IfErr result (λ refusal. (fault : TooManyRows)
         → refusal ≡ Fault fault
         → MOST_OPENING_ROWS < rows_together declared.now (tables_database tables.now)) }
@@ -74,7 +74,7 @@ pub fn renewed_opening(alloc: Global, book: &FinishedBook) -> Result<Opening, Re
         IsRenewed book.now.opening.tables (tables_database book.now.database) renewed) }
     ensures goes_on { IfOk result (λ renewed.
         GoesOn book.now.opening.tables (tables_database book.now.database) (opened renewed)) }
-    ensures few { OnOk result
+    ensures limit { OnOk result
         (rows_together book.now.opening.tables (tables_database book.now.database) ≤ MOST_OPENING_ROWS) }
     ensures fault { IfErr result (λ refusal. (fault : TooManyRows)
         → refusal ≡ Fault fault

@@ -24,7 +24,7 @@ fn has_committed(fate: &Fate) -> bool
 /// Of a transaction that committed, the first statement that has no answer yet.
 fn unanswered<'a>(script: &'a Script, told: &Told) -> Option<&'a Statement>
     ensures due { option_copied result ≡ unanswered script.now told.now }
-    ensures few { IfSome result (λ _. length told.now.answers < MOST_STATEMENTS) }
+    ensures limit { IfSome result (λ _. length told.now.answers < MOST_STATEMENTS) }
 {
     if !has_committed(&told.fate) {
         return None;
@@ -38,7 +38,7 @@ fn unanswered<'a>(script: &'a Script, told: &Told) -> Option<&'a Statement>
 /// The statement whose answer is due: that of the last transaction that is told.
 pub(crate) fn answer_due<'a>(scripts: &'a [Script], transactions: &[Told]) -> Option<&'a Statement>
     ensures due { option_copied result ≡ answer_due scripts.now transactions.now }
-    ensures few { IfSome result (λ _. answers_so_far transactions.now < MOST_STATEMENTS) }
+    ensures limit { IfSome result (λ _. answers_so_far transactions.now < MOST_STATEMENTS) }
 {
     let Some(told) = last(transactions) else {
         return None;

@@ -23,7 +23,7 @@ use std::alloc::Global;
 impl Draft {
     fn is_tx_next(&self) -> bool
         ensures next { IsTrue result ↔ TxIsNext self.now }
-        ensures few { length self.now.told.scripts ≤ MOST_SCRIPTS }
+        ensures limit { length self.now.told.scripts ≤ MOST_SCRIPTS }
     {
         let scripts = self.scripts.len();
         self.due.is_free()
@@ -54,7 +54,7 @@ impl Draft {
     /// The statement whose answer is due.
     fn statement_due(&self) -> Option<&Statement>
         ensures due { option_copied result ≡ answer_due self.now.told.scripts self.now.told.transactions }
-        ensures few { IfSome result (λ _. answers_so_far self.now.told.transactions < MOST_STATEMENTS) }
+        ensures limit { IfSome result (λ _. answers_so_far self.now.told.transactions < MOST_STATEMENTS) }
     {
         answer_due(self.scripts.as_slice(), self.transactions.as_slice())
     }

@@ -68,7 +68,7 @@ pub fn told_openings_can_be_told()
 
 /// The scripts that a text tells are such as a report can show, and no more than an input has.
 pub fn told_scripts_can_be_told()
-    ensures few { (text : List ℕ) (history : History) → Tells text history → length history.scripts ≤ MOST_SCRIPTS }
+    ensures limit { (text : List ℕ) (history : History) → Tells text history → length history.scripts ≤ MOST_SCRIPTS }
     ensures each { (text : List ℕ) (history : History) → Tells text history
         → AllByRecursion (IsScript history) history.scripts }
 {}

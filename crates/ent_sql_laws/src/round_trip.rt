@@ -43,7 +43,7 @@ pub fn printed_text_is_itself()
 pub fn read_scripts_can_be_printed()
     ensures each { (text : List ℕ) (input : Input) (script : Script) → reading text ≡ Ok input
         → Contains input.scripts script → ScriptFits script × IsReadable script }
-    ensures few { (text : List ℕ) (input : Input) → reading text ≡ Ok input → length input.scripts ≤ MOST_SCRIPTS }
+    ensures limit { (text : List ℕ) (input : Input) → reading text ≡ Ok input → length input.scripts ≤ MOST_SCRIPTS }
 {
     reader_is_exact();
     reading_is_exact();

@@ -29,7 +29,7 @@ pub fn read_whole<R: Read>(
 ) -> Result<Vec<u8>, Refusal<StreamFault>>
     requires unmarked { IsUnmarked reader.old }
     ensures whole { IfOk result (λ bytes. IfSome (R.remaining reader.old.inner) (λ all. bytes.items ≡ all)) }
-    ensures short { IfOk result (λ bytes. length bytes.items ≤ most) }
+    ensures bound { IfOk result (λ bytes. length bytes.items ≤ most) }
     ensures too_long { IfErr result (λ refusal. refusal ≡ Fault TooLong
         → IfSome (R.remaining reader.old.inner) (λ all. most < length all)) }
     ensures marks { reader.new.failed ≡ is_unreadable result }
@@ -48,7 +48,7 @@ fn read_pieces<R: Read>(
     requires room { 0 < length buffer.old }
     requires unmarked { IsUnmarked reader.old }
     ensures whole { IfOk result (λ bytes. IfSome (R.remaining reader.old.inner) (λ all. bytes.items ≡ all)) }
-    ensures short { IfOk result (λ bytes. length bytes.items ≤ most) }
+    ensures bound { IfOk result (λ bytes. length bytes.items ≤ most) }
     ensures too_long { IfErr result (λ refusal. refusal ≡ Fault TooLong
         → IfSome (R.remaining reader.old.inner) (λ all. most < length all)) }
     ensures marks { reader.new.failed ≡ is_unreadable result }

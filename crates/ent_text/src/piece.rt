@@ -40,7 +40,7 @@ pub fn digits_len(bytes: &[u8]) -> usize
 #[tactic(auto, using(crate::proofs::Reading::value_grows))]
 fn value_of(digits: &[u8]) -> Option<Numeral>
     ensures some { IfSome result (λ value. value ≡ value_from 0 digits.now) }
-    ensures small { IfSome result (λ value. value ≤ 9223372036854775807) }
+    ensures bound { IfSome result (λ value. value ≤ 9223372036854775807) }
     ensures none { IfNone result (9223372036854775807 < value_from 0 digits.now) }
 {
     let mut value: u64 = 0;
@@ -71,7 +71,7 @@ fn number_at(place: usize, bytes: &[u8]) -> Result<(Option<TokenView<'_>>, &[u8]
 /// behind its closing quote. Where no quote is doubled its content is there as it is.
 fn literal_of(behind: &[u8], len: usize, left: usize) -> TokenView<'_>
     requires text { Encloses behind.now len left }
-    requires short { len ≤ LONGEST_TEXT }
+    requires limit { len ≤ LONGEST_TEXT }
     ensures kind { kind_seen result ≡ Literal (content behind.now) }
     ensures made { CanBeMade result }
 {

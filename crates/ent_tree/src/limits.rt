@@ -50,7 +50,7 @@ impl Model for Runs {
 impl Runs {
     pub fn new(count: u64) -> Self
         requires least { 1 ≤ count }
-        requires most { count ≤ MOST_RUNS }
+        requires limit { count ≤ MOST_RUNS }
         ensures { result ≡ count }
     {
         Runs { count }
@@ -59,7 +59,7 @@ impl Runs {
     pub fn get(self) -> u64
         ensures number { result ≡ self }
         ensures least { 1 ≤ self }
-        ensures most { self ≤ MOST_RUNS }
+        ensures limit { self ≤ MOST_RUNS }
     {
         self.count
     }

@@ -8,7 +8,7 @@ returns c text book reads opened faultless fates runs rising short =
     record {
       opening = c.read_openings_can_be_shown.ensures text input reads;
       faultless = opened;
-      few = c.read_scripts_can_be_printed.ensures.few text input reads;
+      few = c.read_scripts_can_be_printed.ensures.limit text input reads;
       scripts = can_run book.opening book.scripts faultless
           (λ script there. c.read_scripts_can_be_printed.ensures.each text input script reads there);
       fates = fates;

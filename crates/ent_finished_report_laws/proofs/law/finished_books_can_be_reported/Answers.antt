@@ -13,4 +13,4 @@ returns c text input book reads opened finished short =
     } in
     finished_can_be_reported laws input book (c.read_openings_can_be_shown.ensures text input reads) opened
     (λ script there. c.read_scripts_can_be_printed.ensures.each text input script reads there)
-    (c.read_scripts_can_be_printed.ensures.few text input reads) finished short
+    (c.read_scripts_can_be_printed.ensures.limit text input reads) finished short

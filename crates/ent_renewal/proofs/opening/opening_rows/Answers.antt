@@ -17,5 +17,5 @@ push_table-requires-clause-room c =
     let here : set.len (database create.name.name) ≡ set.len (database (get_or declared n create).name.name) =
     ap (λ (other : Create). set.len (database other.name.name)) c.create-item.is in
     let fits = room declared database n create c.loop-create-test.true in
-    let few = c.requires.few in
+    let few = c.requires.limit in
     omega (arith, before, here, fits, few)

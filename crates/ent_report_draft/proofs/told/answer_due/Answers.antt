@@ -18,7 +18,7 @@ returns-clause-due c =
     ∙ sym (answer_due_last c.args.scripts.now c.args.transactions.now c.in-Some.told.now (sym c.in-Some.ensures)
     ∙ ap (λ script. of_script script c.in-Some.told.now) (sym c.in-Some-at.ensures))
 
-pub returns-clause-few : goal.returns-clause-few
-returns-clause-few c =
+pub returns-clause-limit : goal.returns-clause-limit
+returns-clause-limit c =
     subst (λ n. IfSome c.unanswered.result (λ x. n < MOST_STATEMENTS))
-    (answers_so_far_last c.args.transactions.now c.in-Some.told.now (sym c.in-Some.ensures)) c.unanswered.ensures.few
+    (answers_so_far_last c.args.transactions.now c.in-Some.told.now (sym c.in-Some.ensures)) c.unanswered.ensures.limit

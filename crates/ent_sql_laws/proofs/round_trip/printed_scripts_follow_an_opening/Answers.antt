@@ -13,7 +13,7 @@ returns-clause-script c = λ front text opening input script first is held.
 
 pub returns-clause-input : goal.returns-clause-input
 returns-clause-input c = λ front text opening input first is.
-    let few = c.read_scripts_can_be_printed.ensures.few text input is in
+    let few = c.read_scripts_can_be_printed.ensures.limit text input is in
     let found = c.printed_scripts_follow.ensures front (record { opening = opening; scripts = [] }) input.scripts first
     (λ k d lt. (text, input, is, All-contains_itself input.scripts k d lt)) (omega arith) in
     (found.0, found.1, alone_behind opening input.scripts found.0 found.2)

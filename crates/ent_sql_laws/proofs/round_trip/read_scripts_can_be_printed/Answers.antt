@@ -6,6 +6,6 @@ returns-clause-each c = λ text input script is held.
     script_is_kept input script
     (read_input_is_kept c.reading_is_exact.ensures.input c.reader_is_exact.ensures.tokens text input is) held
 
-pub returns-clause-few : goal.returns-clause-few
-returns-clause-few c = λ text input is.
+pub returns-clause-limit : goal.returns-clause-limit
+returns-clause-limit c = λ text input is.
     (read_input_is_kept c.reading_is_exact.ensures.input c.reader_is_exact.ensures.tokens text input is).1

@@ -5,7 +5,7 @@ use Rattle.ent_stream.proofs.reader.read_pieces.Goals as goal
 
 pub reading-init : goal.reading-init
 reading-init g c = record {
-  short = omega (arith, c.new-bytes.ensures.len);
+  bound = omega (arith, c.new-bytes.ensures.len);
   front = nothing_read _ _ c.new-bytes.ensures.items;
   unmarked = c.requires.unmarked;
 }
@@ -20,7 +20,7 @@ returns-then-count-most-clause-too_long g c is =
 
 pub reading-preserved : goal.reading-preserved
 reading-preserved g c = record {
-  short = omega (arith, c.if-count-most.false, c.len.ensures, c.in_ok-extend_from_slice-in-Ok.ensures.len, c.split_at.ensures.front_len, c.reading.invariant.short);
+  bound = omega (arith, c.if-count-most.false, c.len.ensures, c.in_ok-extend_from_slice-in-Ok.ensures.len, c.split_at.ensures.front_len, c.reading.invariant.bound);
   front = rw (c.in_ok-extend_from_slice-in-Ok.ensures.items, c.split_at.ensures.front) (read_more _ (g.R.Read.remaining c.reading.reader.inner) _ _ _ c.reading.invariant.front c.in-Ok.ensures.bytes.0);
   unmarked = (c.in-Ok.ensures.failed ∙ or-false _ ∙ c.reading.invariant.unmarked.0, c.in-Ok.ensures.stalled ∙ c.reading.invariant.unmarked.1);
 }

@@ -6,7 +6,7 @@ use Rattle.ent_stream.proofs.reader.read_pieces.Given as goal
 -- what was read is a beginning of what the reader had, and no read failed
 abbrev pub invariant-reading : goal.invariant-reading
 invariant-reading g l = record {
-  short : vec_len l.bytes ≤ l.most;
+  bound : vec_len l.bytes ≤ l.most;
   front : Consumes (g.R.Read.remaining l.fn.reader.inner) (g.R.Read.remaining l.reader.inner) l.bytes.items;
   unmarked : IsUnmarked l.reader;
 }

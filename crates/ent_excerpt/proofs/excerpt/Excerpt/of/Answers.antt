@@ -17,8 +17,8 @@ returns c =
       all_before = all_before;
       all_behind = all_behind;
       short = λ fits. (
-        not_cut c.is_shorter-is_cut_before.result end before all_before (parts.short fits).0,
-        not_cut c.is_shorter-is_cut_behind.result beginning behind all_behind (parts.short fits).1,
+        not_cut c.is_shorter-is_cut_before.result end before all_before (parts.whole fits).0,
+        not_cut c.is_shorter-is_cut_behind.result beginning behind all_behind (parts.whole fits).1,
       );
       marked = c.carets_below-carets.ensures;
     }

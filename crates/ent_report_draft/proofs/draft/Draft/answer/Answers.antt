@@ -17,7 +17,7 @@ returns-in_err-place c =
     (λ next stands. (
       (next_place c.args.self.now, stands.answer, stands.count),
       answer_has c.args.self.now c.args.text.now c.in-Some.statement.now (sym c.in-Some.ensures.due)
-          c.in-Some.ensures.few next stands,
+          c.in-Some.ensures.limit next stands,
     )))
 
 pub returns-then-not-is_next : goal.returns-then-not-is_next
@@ -25,7 +25,7 @@ returns-then-not-is_next c = (
   λ next stands.
       let e = c.in_ok-place.ensures.1 (next_place c.args.self.now, stands.answer, stands.count)
       (answer_has c.args.self.now c.args.text.now c.in-Some.statement.now (sym c.in-Some.ensures.due)
-      c.in-Some.ensures.few next stands) in
+      c.in-Some.ensures.limit next stands) in
       let same = other_place (next_place c.args.self.now) c.in_ok-place.place (stands.answer, stands.count)
       (c.in_ok-place.answer, c.in_ok-place.count) e in
       let is : c.in_ok-place.place ≡ c.answer_count.result + 1 = omega (arith, same, c.answer_count.ensures) in

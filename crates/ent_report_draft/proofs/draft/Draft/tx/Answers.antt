@@ -16,14 +16,14 @@ returns-in_err-number c =
     c.in_err-number.field-0.0 c.in_err-number.ensures
     (λ next stands. (
       (next_number c.args.self.now, stands.fate),
-      tx_has c.args.self.now c.args.text.now c.is_tx_next.ensures.few next stands,
+      tx_has c.args.self.now c.args.text.now c.is_tx_next.ensures.limit next stands,
     )))
 
 pub returns-then-not-is_next : goal.returns-then-not-is_next
 returns-then-not-is_next c = (
   λ next stands.
       let e = c.in_ok-number.ensures.1 (next_number c.args.self.now, stands.fate)
-      (tx_has c.args.self.now c.args.text.now c.is_tx_next.ensures.few next stands) in
+      (tx_has c.args.self.now c.args.text.now c.is_tx_next.ensures.limit next stands) in
       let same = other_number (next_number c.args.self.now) c.in_ok-number.number stands.fate c.in_ok-number.fate e in
       let seen = ap (λ (d : Draft). length d.told.transactions) c.self.view_is in
       let is : c.in_ok-number.number ≡ c.len.result + 1 = omega (arith, same, c.len.ensures, seen) in
