@@ -36,7 +36,7 @@ fn by_number(
 ) -> Result<Indices, AllocError>
     requires { first_of (journal_findings (accounts_from 1 scripts.now transactions.now)) ≡ None }
     ensures numbered { IfOk result (λ indices. AreNumbered (accounts_from 1 scripts.now transactions.now) indices) }
-    ensures below { IfOk result (λ indices. AreBelow (min (length scripts.now) (length transactions.now)) indices) }
+    ensures within { IfOk result (λ indices. AreBelow (min (length scripts.now) (length transactions.now)) indices) }
 {
     let all = scripts.len().min(transactions.len());
     let mut indices = BTreeMap::new(alloc);
@@ -67,7 +67,7 @@ pub fn commit_order(
     requires { first_of (journal_findings (accounts_from 1 scripts.now transactions.now)) ≡ None }
     ensures in_order { let all = accounts_from 1 scripts.now transactions.now in
         IfOk result (λ order. accounts_at all order.items ≡ in_commit_order all) }
-    ensures below { IfOk result (λ order.
+    ensures within { IfOk result (λ order.
         AllByRecursion (λ index. index < min (length scripts.now) (length transactions.now)) order.items) }
 {
     let count = commit_count(scripts, transactions);

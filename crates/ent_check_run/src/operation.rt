@@ -80,7 +80,7 @@ fn answer_finding(
     tables: &mut Vec<Arc<Table>>,
     environment: &mut Environment,
 ) -> Result<Option<Finding>, AllocError>
-    requires there { AllByRecursion (λ number. number < length tables.old.items) (tables_named statement.now) }
+    requires within { AllByRecursion (λ number. number < length tables.old.items) (tables_named statement.now) }
     requires fits { let kinds = kinds_in (map arc_value tables.old.items) in
         CanRun (map (λ number. slice_index_or kinds number []) (tables_named statement.now)) statement.now }
     ensures finding { let meaning = form_meaning closed_worth statement.now grounding.now
@@ -114,7 +114,7 @@ pub fn operation_finding(
     environment: &mut Environment,
     stage: &mut Stage,
 ) -> Result<Option<Finding>, AllocError>
-    requires there { AllByRecursion (λ number. number < length stage.old.tables.items) (tables_named statement.now) }
+    requires within { AllByRecursion (λ number. number < length stage.old.tables.items) (tables_named statement.now) }
     requires fits { let kinds = kinds_in (map arc_value stage.old.tables.items) in
         CanRun (map (λ number. slice_index_or kinds number []) (tables_named statement.now)) statement.now }
     requires seat { HasSeat (member_at groundings.now place.tx place.place) statement.now }

@@ -69,7 +69,7 @@ fn turn_finding(
     index: usize,
     stage: &mut Stage,
 ) -> Result<Option<Finding>, AllocError>
-    requires there { index < min (length scripts.now) (length transactions.now) }
+    requires within { index < min (length scripts.now) (length transactions.now) }
     requires resolved { AllByRecursion (IsResolved declared.now) scripts.now }
     requires seated { AllByRecursion (IsSeatedWhole groundings.now)
         (accounts_at (accounts_from 1 scripts.now transactions.now) (index ∷ [])) }
@@ -106,7 +106,7 @@ fn turns_finding(
     order: &[usize],
     stage: &mut Stage,
 ) -> Result<Option<Finding>, AllocError>
-    requires there { AllByRecursion (λ index. index < min (length scripts.now) (length transactions.now)) order.now }
+    requires within { AllByRecursion (λ index. index < min (length scripts.now) (length transactions.now)) order.now }
     requires resolved { AllByRecursion (IsResolved declared.now) scripts.now }
     requires seated { AllByRecursion (IsSeatedWhole groundings.now)
         (accounts_at (accounts_from 1 scripts.now transactions.now) order.now) }

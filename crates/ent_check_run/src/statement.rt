@@ -58,7 +58,7 @@ fn change(
     number: usize,
     delta: &Delta,
 ) -> Result<(), AllocError>
-    requires there { number < length tables.old.items }
+    requires within { number < length tables.old.items }
     requires applicable { IsApplicable (slice_index_or (map arc_value tables.old.items) number no_table) delta.now }
     ensures rows { let before = rows_in (map arc_value tables.old.items) in
         let after = changed_rows (slice_index_or before number set.empty) delta.now.removed delta.now.added in
@@ -100,7 +100,7 @@ fn carry_out_ordinary(
     tables: &mut Vec<Arc<Table>>,
     environment: &mut Environment,
 ) -> Result<Answer, Refusal<Failure>>
-    requires there { AllByRecursion (λ number. number < length tables.old.items) (tables_named statement.now) }
+    requires within { AllByRecursion (λ number. number < length tables.old.items) (tables_named statement.now) }
     requires fits { let kinds = kinds_in (map arc_value tables.old.items) in
         Fits (map (λ number. slice_index_or kinds number []) (tables_named statement.now)) statement.now }
     ensures meaning { Gives
@@ -157,7 +157,7 @@ pub fn carry_out(
     tables: &mut Vec<Arc<Table>>,
     environment: &mut Environment,
 ) -> Result<Answer, Refusal<Failure>>
-    requires there { AllByRecursion (λ number. number < length tables.old.items) (tables_named statement.now) }
+    requires within { AllByRecursion (λ number. number < length tables.old.items) (tables_named statement.now) }
     requires fits { let kinds = kinds_in (map arc_value tables.old.items) in
         CanRun (map (λ number. slice_index_or kinds number []) (tables_named statement.now)) statement.now }
     ensures meaning { Gives

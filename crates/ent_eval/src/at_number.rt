@@ -17,7 +17,7 @@ pub fn table_changed(
     number: usize,
     delta: &Delta,
 ) -> Result<Arc<Table>, AllocError>
-    requires there { number < length tables.now }
+    requires within { number < length tables.now }
     requires applicable { IsApplicable (slice_index_or (map arc_value tables.now) number no_table) delta.now }
     ensures rows { let before = slice_index_or (map arc_value tables.now) number no_table in
         IfOk result (λ table. (arc_value table).rows ≡ changed_rows before.rows delta.now.removed delta.now.added) }

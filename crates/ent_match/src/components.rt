@@ -40,8 +40,8 @@ fn class_at(
     reached: &mut [bool],
     seen: &mut [bool],
 ) -> Result<Sequence<Posted>, AllocError>
-    requires place { place < length members.now }
-    requires within { AreWithin joins.now (length members.now) }
+    requires within { place < length members.now }
+    requires joins { AreWithin joins.now (length members.now) }
     requires reached { IsUnmarked (length members.now) reached.old }
     requires seen { length seen.old ≡ length members.now }
     ensures { IfOk result (λ class. IsClassAt members.now joins.now place seen.old seen.new class) }

@@ -45,7 +45,7 @@ fn next_place(marks: &[bool], done: &[bool]) -> Option<usize>
 
 /// Marks the statements that are joined to the one at a place.
 fn mark_joined(members: &[Posted], place: usize, marks: &mut [bool])
-    requires place { place < length members.now }
+    requires within { place < length members.now }
     requires room { length marks.old ≡ length members.now }
     ensures { AreMarkedFrom members.now place marks.old marks.new }
 {

@@ -205,7 +205,7 @@ impl KeySet {
 fn sorted_keys(alloc: Global, keys: Vec<Key>) -> Result<Vec<Key>, AllocError>
     ensures sorted { IfOk result (λ sorted. IsStrictlySortedBy key_cmp sorted.items) }
     ensures same { IfOk result (λ sorted. set.from_list {R = key_cmp} sorted.items ≡ set.from_list keys.items) }
-    ensures count { IfOk result (λ sorted. length sorted.items ≤ length keys.items) }
+    ensures bound { IfOk result (λ sorted. length sorted.items ≤ length keys.items) }
 {
     let mut keys = keys;
     keys.as_mut_slice().sort(alloc)?;

@@ -68,7 +68,7 @@ impl Page {
     /// The index of a key, or where it would stand in a page whose keys ascend.
     pub fn search<P: Probe>(&self, key: &P) -> Result<usize, usize>
         ensures found { IfOk result (λ i. (i < length self.now) × (get_or self.now i [] ≡ P.bytes key.now)) }
-        ensures range { IfErr result (λ i. i ≤ length self.now) }
+        ensures within { IfErr result (λ i. i ≤ length self.now) }
         ensures below { IfErr result (λ i. Ascends self.now → AreBelow self.now (P.bytes key.now) i) }
         ensures above { IfErr result (λ i. Ascends self.now → AreAbove self.now (P.bytes key.now) i) }
     {
@@ -110,7 +110,7 @@ impl Page {
     /// The keys from one index up to another.
     pub fn part(&self, alloc: Global, from: usize, to: usize) -> Result<Page, AllocError>
         requires order { from ≤ to }
-        requires range { to ≤ length self.now }
+        requires within { to ≤ length self.now }
         ensures { IfOk result (λ page. page ≡ between from to self.now) }
     {
         let mut page = Page::new(alloc);
@@ -141,7 +141,7 @@ impl Page {
     /// Puts the keys of another page from one index up to another at the end. A refusal changes nothing.
     pub fn append(&mut self, other: &Page, from: usize, to: usize) -> Result<(), AllocError>
         requires order { from ≤ to }
-        requires range { to ≤ length other.now }
+        requires within { to ≤ length other.now }
         ensures ok { OnOk result (self.new ≡ self.old ++ between from to other.now) }
         ensures err { OnErr result (self.new ≡ self.old) }
     {
@@ -184,7 +184,7 @@ fn piece<'a>(bytes: &'a [u8], ends: &[usize], index: usize) -> &'a [u8]
 /// The elements from one index up to another.
 fn part_of<T>(elements: &[T], from: usize, to: usize) -> &[T]
     requires order { from ≤ to }
-    requires range { to ≤ length elements.now }
+    requires within { to ≤ length elements.now }
     ensures { result.now ≡ between from to elements.now }
 {
     &elements[from..to]
@@ -194,7 +194,7 @@ fn part_of<T>(elements: &[T], from: usize, to: usize) -> &[T]
 fn push_ends(new: &mut Vec<usize>, ends: &[usize], start: usize, base: usize)
     requires room { vec_len new.old + length ends.now ≤ vec_capacity new.old }
     requires order { All (λ end. start ≤ end) ends.now }
-    requires small { All (λ end. end - start + base < 2 ^ 64) ends.now }
+    requires fits { All (λ end. end - start + base < 2 ^ 64) ends.now }
     ensures { new.new.items ≡ new.old.items ++ map (λ end. end - start + base) ends.now }
 {
     for end in ends {

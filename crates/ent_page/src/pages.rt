@@ -31,7 +31,7 @@ pub(crate) const JOIN_LIMIT: usize = 192;
 pub(crate) fn place_of<P: Probe>(pages: &[Arc<Page>], key: &P) -> usize
     requires sized { AllByRecursion (λ page. IsSized (arc_value page)) pages.now }
     requires sorted { IsStrictlySortedBy key_cmp (flat_map arc_value pages.now) }
-    ensures range { 0 < length pages.now → result < length pages.now }
+    ensures within { 0 < length pages.now → result < length pages.now }
     ensures below { AllBelow (flat_map arc_value (take result pages.now)) (P.bytes key.now) }
     ensures above { AllAbove (flat_map arc_value (drop (result + 1) pages.now)) (P.bytes key.now) }
 {
@@ -105,7 +105,7 @@ pub(crate) fn grown(
     key: &[u8],
 ) -> Result<Vec<Arc<Page>>, AllocError>
     requires sized { IsSized page.now }
-    requires index { index ≤ length page.now }
+    requires within { index ≤ length page.now }
     ensures keys { IfOk result (λ pages. flat_map arc_value pages.items ≡ insert page.now index key.now) }
     ensures sized { IfOk result (λ pages. AllByRecursion (λ page. IsSized (arc_value page)) pages.items) }
 {
@@ -128,7 +128,7 @@ pub(crate) fn shrunk(
     page: Page,
 ) -> Result<Vec<Arc<Page>>, AllocError>
     requires sized { AllByRecursion (λ page. IsSized (arc_value page)) pages.now }
-    requires at { at < length pages.now }
+    requires within { at < length pages.now }
     requires page { length page ≤ PAGE_LIMIT }
     ensures keys { IfOk result (λ shrunk. flat_map arc_value shrunk.items
         ≡ flat_map arc_value (take at pages.now) ++ (page ++ flat_map arc_value (drop (at + 1) pages.now))) }
@@ -159,7 +159,7 @@ pub(crate) fn spliced(
     others: Vec<Arc<Page>>,
 ) -> Result<Vec<Arc<Page>>, AllocError>
     requires order { from ≤ to }
-    requires range { to ≤ length pages.now }
+    requires within { to ≤ length pages.now }
     requires sized { AllByRecursion (λ page. IsSized (arc_value page)) pages.now }
     requires others { AllByRecursion (λ page. IsSized (arc_value page)) others.items }
     ensures keys { IfOk result (λ spliced. flat_map arc_value spliced.items

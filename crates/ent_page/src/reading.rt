@@ -86,7 +86,7 @@ fn read_whole_text(alloc: Global, bytes: &[u8]) -> Result<(Vec<u8>, &[u8]), Allo
 
 /// The length of a text with no 0 inside.
 fn plain_end(bytes: &[u8]) -> Option<usize>
-    ensures range { IfSome result (λ n. n + 2 ≤ length bytes.now) }
+    ensures within { IfSome result (λ n. n + 2 ≤ length bytes.now) }
     ensures value { IfSome result (λ n. text_from false bytes.now ≡ take n bytes.now) }
     ensures rest { IfSome result (λ n. past_text false bytes.now ≡ drop (n + 2) bytes.now) }
 {
@@ -137,7 +137,7 @@ pub(crate) fn split_value(kind: Kind, bytes: &[u8]) -> (&[u8], &[u8])
 
 /// Where a text at the front of bytes ends, with its end.
 fn text_end(bytes: &[u8]) -> usize
-    ensures range { result ≤ length bytes.now }
+    ensures within { result ≤ length bytes.now }
     ensures rest { drop result bytes.now ≡ past_text false bytes.now }
 {
     let mut behind_zero = false;

@@ -14,7 +14,7 @@ loop-before-init c =
     record {
       counted = c.commit_count-count.ensures;
       numbered = c.in_ok-indices.ensures.numbered;
-      low = c.in_ok-indices.ensures.below;
+      low = c.in_ok-indices.ensures.within;
       ordered = ap (accounts_at (accounts_from 1 scripts told)) c.new-order.ensures.items;
       below = subst (AllByRecursion (λ index. index < min (length scripts) (length told)))
           (sym c.new-order.ensures.items) tt;

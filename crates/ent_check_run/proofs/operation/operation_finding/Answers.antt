@@ -10,7 +10,7 @@ use Rattle.ent_check_run.proofs.operation.operation_finding.Goals as goal
 pub is_grounding-requires : goal.is_grounding-requires
 is_grounding-requires c =
     tables_there c.as_slice.result.now c.args.stage.now.tables.items c.args.statement.now c.in-Entangled.entangled
-    c.as_slice.ensures.value c.in-Entangled.is c.requires.there
+    c.as_slice.ensures.value c.in-Entangled.is c.requires.within
 
 pub returns-clause-finding : goal.returns-clause-finding
 returns-clause-finding c =

@@ -26,8 +26,8 @@ returns-in-Rows-clause-meaning c =
     meant_so statement tables (map arc_value c.deref-2.result.now) (environment_of c.args.environment.now)
     c.in_ok-rows.field-0 (outcomes.Rows c.in-Rows.rows) are c.in-Rows.is c.in_ok-rows.ensures.meaning
 
-pub change-requires-clause-there : goal.change-requires-clause-there
-change-requires-clause-there c =
+pub change-requires-clause-within : goal.change-requires-clause-within
+change-requires-clause-within c =
     let statement = c.args.statement.now in
     let tables = map arc_value c.args.tables.now.items in
     let are : map arc_value c.deref-2.result.now ≡ tables_at tables (tables_named statement) =
@@ -42,7 +42,7 @@ change-requires-clause-there c =
     (meant_so statement tables (map arc_value c.deref-2.result.now) (environment_of c.args.environment.now)
     c.in_ok-rows.field-0 (outcomes.Changed c.in-Changed.count c.in-Changed.delta) are c.in-Changed.is c.in_ok-rows.ensures.meaning) can.0 one in
     subst (λ (n : ℕ). n < length c.args.tables.now.items) (sym c.changed_number.ensures)
-    (change_there (length c.args.tables.now.items) statement named c.requires.there)
+    (change_there (length c.args.tables.now.items) statement named c.requires.within)
 
 pub change-requires-clause-applicable : goal.change-requires-clause-applicable
 change-requires-clause-applicable c =

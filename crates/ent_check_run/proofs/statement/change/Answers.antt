@@ -27,7 +27,7 @@ returns-clause-kinds c =
     ≡ slice_index_or (map arc_value items) c.args.number no_table =
     λ i. slice_index_or (map arc_value (c.as_slice.ensures.value i)) c.args.number no_table in
     let below : c.args.number < length (map arc_value items) =
-    omega (arith, c.requires.there, length-map items arc_value) in
+    omega (arith, c.requires.within, length-map items arc_value) in
     ap kinds_in (map-set arc_value items c.args.number c.in_ok-changed.changed)
     ∙ set_kinds (map arc_value items) c.args.number (arc_value c.in_ok-changed.changed) c.args.delta.now.removed
     c.args.delta.now.added below (c.in_ok-changed.ensures.kinds ∙ ap (λ (t : Relation). t.kinds) at)

@@ -36,8 +36,8 @@ loop-index-init c =
     (midway_begun creates c.args.groundings.now c.args.tx script.statements c.args.told.now.answers database offers
     forms tables resolved c.requires.declared c.requires.seated refl)
 
-pub operation_finding-requires-clause-there : goal.operation_finding-requires-clause-there
-operation_finding-requires-clause-there c =
+pub operation_finding-requires-clause-within : goal.operation_finding-requires-clause-within
+operation_finding-requires-clause-within c =
     let creates = c.args.declared.now in
     let before = map arc_value c.args.stage.now.tables.items in
     let tables = map arc_value c.loop-index.stage.tables.items in

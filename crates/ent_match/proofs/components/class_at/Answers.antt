@@ -12,7 +12,7 @@ pub mark_all-requires : goal.mark_all-requires
 mark_all-requires c =
     let room = length-set c.args.reached.now c.args.place true in
     let is = c.requires.reached.length_is in
-    λ link inside. let w = c.requires.within link inside in (let a = w.0 in omega arith, let b = w.1 in omega arith)
+    λ link inside. let w = c.requires.joins link inside in (let a = w.0 in omega arith, let b = w.1 in omega arith)
 
 pub loop-i-preserved : goal.loop-i-preserved
 loop-i-preserved c =
@@ -57,7 +57,7 @@ returns c =
     let room : length marks ≡ length pool =
     c.mark_all.ensures.grows.room ∙ (length-set reached c.args.place true ∙ c.requires.reached.length_is) in
     let below : c.args.place < length reached =
-    (let is = c.requires.reached.length_is in let p = c.requires.place in omega arith) in
+    (let is = c.requires.reached.length_is in let p = c.requires.within in omega arith) in
     record {
       marks = marks;
       here = c.mark_all.ensures.grows.kept c.args.place (get_or-set_same reached c.args.place true _ below);

@@ -28,7 +28,7 @@ returns c =
           c.index-pages-at.is c.requires.sorted c.place_of-at.ensures.below c.place_of-at.ensures.above
           c.match-search.index
           (take (length ps - at) (drop at ps)) c.from_index.result end c.from_index.ensures
-          (rw (c.deref-page.ensures, sym w.index-is) at w.in-Err.ensures.range)
+          (rw (c.deref-page.ensures, sym w.index-is) at w.in-Err.ensures.within)
           (rw (c.deref-page.ensures, sym w.index-is) at w.in-Err.ensures.below)
           (rw (c.deref-page.ensures, sym w.index-is) at w.in-Err.ensures.above)
     ]

@@ -14,7 +14,7 @@ count_keys-len-requires c =
     let size : set.len c.args.self.now ≡ length (flat_map arc_value c.self.inside.pages.items) =
     ap set.len (sym c.self.view_is)
     ∙ count_set (flat_map arc_value c.self.inside.pages.items) c.self.invariant.sorted in
-    omega (arith, is.count, all, size, c.in_ok-added.ensures.count, c.requires)
+    omega (arith, is.count, all, size, c.in_ok-added.ensures.bound, c.requires)
 
 pub returns : goal.returns
 returns c =

@@ -18,14 +18,14 @@ returns-then-at-pages g c =
     c.is_ok.ensures.value
     ∙ contains_is arc_value ps c.place_of-at.result c.index-pages-at.result (g.P.Probe.bytes c.args.key.now)
     (omega arith) c.index-pages-at.is sorted c.place_of-at.ensures.below c.place_of-at.ensures.above c.search.result
-    (rw c.deref.ensures at c.search.ensures.found) (rw c.deref.ensures at c.search.ensures.range)
+    (rw c.deref.ensures at c.search.ensures.found) (rw c.deref.ensures at c.search.ensures.within)
     (rw c.deref.ensures at c.search.ensures.below) (rw c.deref.ensures at c.search.ensures.above)
     ∙ ap (λ zs. set.contains (set.from_list {R = key_cmp} (flat_map arc_value zs)) (g.P.Probe.bytes c.args.key.now))
     same ∙ ap (λ s. set.contains s (g.P.Probe.bytes c.args.key.now)) c.self.view_is
 
 pub returns-else-at-pages : goal.returns-else-at-pages
 returns-else-at-pages g c =
-    let none = nothing_there c.as_slice-pages.result.now c.place_of-at.result c.place_of-at.ensures.range
+    let none = nothing_there c.as_slice-pages.result.now c.place_of-at.result c.place_of-at.ensures.within
     (omega arith) in
     let beyond : nat_lt c.place_of-at.result (length c.as_slice-pages.result.now) ≡ false = grind (arith, nat_tests) in
     beyond

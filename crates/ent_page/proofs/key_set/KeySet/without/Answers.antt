@@ -13,7 +13,7 @@ use Rattle.ent_page.proofs.key_set.KeySet.without.Goals as goal
 
 pub returns-then-at-pages : goal.returns-then-at-pages
 returns-then-at-pages c =
-    let none = nothing_there c.as_slice-pages.result.now c.place_of-at.result c.place_of-at.ensures.range
+    let none = nothing_there c.as_slice-pages.result.now c.place_of-at.result c.place_of-at.ensures.within
     (omega arith) in
     let absent : set.contains c.args.self.now c.args.key.now ≡ false =
     ap (λ s. set.contains s c.args.key.now) (sym c.self.view_is)
@@ -75,7 +75,7 @@ returns-in-Err c =
     ∙ absent_at arc_value ps c.place_of-at.result x c.args.key.now
     (omega arith)
     c.index-pages-at.is sorted c.place_of-at.ensures.below c.place_of-at.ensures.above c.in-Err.field-0
-    (rw c.deref-page.ensures at c.in-Err.ensures.range)
+    (rw c.deref-page.ensures at c.in-Err.ensures.within)
     ((rw c.deref-page.ensures at c.in-Err.ensures.below) (ascends (arc_value x) up))
     ((rw c.deref-page.ensures at c.in-Err.ensures.above) (ascends (arc_value x) up)) in
     subst (λ t. IfOk c.copy-in-Err.result (λ s. s ≡ t)) (set_kept c.args.self.now c.args.key.now absent)

@@ -26,8 +26,8 @@ part_of-bytes-requires-clause-order c =
     ∙ ap (λ z. start_of 0 z c.args.to) c.deref-2.ensures.value in
     omega (arith, part_order bs es c.other.invariant c.args.from c.args.to c.requires.order (omega (arith, n)))
 
-pub part_of-bytes-requires-clause-range : goal.part_of-bytes-requires-clause-range
-part_of-bytes-requires-clause-range c =
+pub part_of-bytes-requires-clause-within : goal.part_of-bytes-requires-clause-within
+part_of-bytes-requires-clause-within c =
     let bs = c.other.inside.bytes.items in
     let es = c.other.inside.ends.items in
     let n = length-shown bs es c.args.other.now c.other.view_is in
@@ -35,8 +35,8 @@ part_of-bytes-requires-clause-range c =
     ∙ ap (λ z. start_of 0 z c.args.to) c.deref-2.ensures.value in
     omega (arith, place_le bs es c.other.invariant c.args.to (omega (arith, n)), ap length c.deref-3.ensures.value)
 
-pub part_of-requires-clause-range : goal.part_of-requires-clause-range
-part_of-requires-clause-range c =
+pub part_of-requires-clause-within : goal.part_of-requires-clause-within
+part_of-requires-clause-within c =
     let n = length-shown c.other.inside.bytes.items c.other.inside.ends.items c.args.other.now c.other.view_is in
     omega (arith, n, ap length c.deref-4.ensures.value)
 
@@ -72,8 +72,8 @@ push_ends-requires-clause-order c = λ k d lt.
     (omega (arith, n)) c.deref-4.result.now c.start_at-start.result c.len-base.result
     (length c.extend_from_slice.new.self.items) c.deref-4.ensures.value s (omega (arith, put))) k d lt).0
 
-pub push_ends-requires-clause-small : goal.push_ends-requires-clause-small
-push_ends-requires-clause-small c = λ k d lt.
+pub push_ends-requires-clause-fits : goal.push_ends-requires-clause-fits
+push_ends-requires-clause-fits c = λ k d lt.
     let bs = c.other.inside.bytes.items in
     let es = c.other.inside.ends.items in
     let n = length-shown bs es c.args.other.now c.other.view_is in
