@@ -119,7 +119,7 @@ fn outcome_of(alloc: Global, job: &Job) -> Result<JobOutcome, AllocError>
 pub fn evaluate(alloc: Global, job: Job) -> Result<Done, NotDone>
     ensures ok { IfOk result (λ done. done.job ≡ job) }
     ensures meaning { IfOk result (λ done. IsEvaluated done) }
-    ensures err { IfErr result (λ refused. refused.job ≡ job) }
+    ensures returned { IfErr result (λ refused. refused.job ≡ job) }
 {
     match outcome_of(alloc, &job) {
         Ok(outcome) => Ok(Done { job, outcome }),

@@ -53,7 +53,7 @@ pub(crate) fn images<E: Drop, G: Fn(&Row) -> Result<Row, E>>(
     ensures images { (excused : E → Bool) (image : List Cell → Result (List Cell) E)
         → Answers G.Fn change (set.from_list {R = row_cmp} rows.now) excused image
         → GivesUnless excused (λ images. images.items) result (images_of image rows.now) }
-    ensures count { IfOk result (λ images. length images.items ≡ length rows.now) }
+    ensures len { IfOk result (λ images. length images.items ≡ length rows.now) }
     ensures kinds { (kinds : List Kind)
         → KeepsKinds G.Fn change (set.from_list {R = row_cmp} rows.now) kinds
         → IfOk result (λ images. All (λ row. kinds_of row ≡ kinds) images.items) }

@@ -70,9 +70,9 @@ impl Table {
         requires { All (λ row. kinds_of row ≡ kinds.items) rows.items }
         ensures table { let all = set.from_list {R = row_cmp} rows.items in
             IfOk result (λ table. bounded all record { kinds = kinds.items; rows = all } ≡ Ok table) }
-        ensures refusal { let all = set.from_list {R = row_cmp} rows.items in
+        ensures fault { let all = set.from_list {R = row_cmp} rows.items in
             IfErr result (λ refused. Refuses refused.refusal (bounded all all)) }
-        ensures rows { IfErr result (λ refused. refused.rows.items ≡ rows.items) }
+        ensures returned { IfErr result (λ refused. refused.rows.items ≡ rows.items) }
     {
         match keys_loaded(alloc, &kinds, rows.as_slice()) {
             Ok(keys) => Ok(Table { kinds, keys }),

@@ -54,7 +54,7 @@ impl<T, const LIMIT: usize> Limited<T, LIMIT> {
         requires { length self.old < LIMIT }
         ensures ok { OnOk result (self.new ≡ self.old ++ element ∷ []) }
         ensures err { OnErr result (self.new ≡ self.old) }
-        ensures value_returned { IfErr result (λ e. e.value ≡ element) }
+        ensures returned { IfErr result (λ e. e.value ≡ element) }
     {
         self.elements.push(element)
     }

@@ -81,7 +81,7 @@ impl<T> Sequence<T> {
     pub fn push(&mut self, element: T) -> Result<(), AllocFailed<T>>
         ensures ok { OnOk result (self.new ≡ self.old ++ element ∷ []) }
         ensures err { OnErr result (self.new ≡ self.old) }
-        ensures value_returned { IfErr result (λ e. e.value ≡ element) }
+        ensures returned { IfErr result (λ e. e.value ≡ element) }
     {
         match make_room(&mut self.elements) {
             Ok(()) => {

@@ -63,7 +63,7 @@ returns-clause-fits g c =
       ap length c.from_vec-2.ensures,
       ap length c.from_vec.ensures,
       ap length c.as_slice-2.ensures.value,
-      c.in_ok-added.ensures.count,
+      c.in_ok-added.ensures.len,
     ))
 
 pub returns-clause-change : goal.returns-clause-change

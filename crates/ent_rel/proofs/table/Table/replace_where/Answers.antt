@@ -57,7 +57,7 @@ returns-clause-fits g c =
     let P : List (List Value) → Type 0 = λ part. IsPart rows part in
     let part = subst P (sym c.from_vec.ensures) c.in_ok-matched.ensures.part in
     let is = flat_ok c.images.result c.in_ok-added.added (sym c.flattened.ensures ∙ c.in_ok-added.was) in
-    let counted = rw is at c.images.ensures.count in
+    let counted = rw is at c.images.ensures.len in
     fits_part s rows c.from_vec.result c.from_vec-2.result (ascending_all s) (ascending_distinct s) (omega
     (arith, ascending_len s, c.in_ok-matched.ensures.limit)) part
     (omega (
