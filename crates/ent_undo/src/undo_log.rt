@@ -23,7 +23,7 @@ struct UndoRecord {
 fn exchange(undo: &mut UndoRecord, tables: &mut [Arc<Table>])
     ensures tables { map arc_value tables.new
         ≡ slice_set (map arc_value tables.old) undo.old.table (arc_value undo.old.before) }
-    ensures tx { undo.new.tx ≡ undo.old.tx }
+    ensures same { undo.new.tx ≡ undo.old.tx }
 {
     if undo.table < tables.len() {
         mem::swap(&mut tables[undo.table], &mut undo.before);

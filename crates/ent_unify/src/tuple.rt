@@ -34,8 +34,8 @@ impl<'a> Tuple<'a> {
     /// The value or the variable that a term is; `none` stands for a variable that the member doesn't have.
     fn side(self, term: &'a Term<Value>, none: &'a Value) -> Side<'a>
         requires { none.now ≡ no_value }
-        ensures is { seen result ≡ term_side self.entry.member self.entry.kinds.now term.now }
-        ensures bounds { IsWithinBounds (seen result) }
+        ensures value { seen result ≡ term_side self.entry.member self.entry.kinds.now term.now }
+        ensures bound { IsWithinBounds (seen result) }
     {
         match term {
             Term::Known(value) => {
@@ -58,9 +58,9 @@ impl<'a> Tuple<'a> {
         requires left { column < length self.terms.now }
         requires right { column < length other.terms.now }
         requires none { none.now ≡ no_value }
-        ensures is { seen_equation result
+        ensures value { seen_equation result
             ≡ slice_index_or (tuple_equations self.entry other.entry) column (seen_equation result) }
-        ensures bounds { AreWithinBounds (seen_equation result) }
+        ensures bound { AreWithinBounds (seen_equation result) }
     {
         Equation {
             left: self.side(&self.terms[column], none),

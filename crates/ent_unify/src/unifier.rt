@@ -94,7 +94,7 @@ fn unifier_of<'a>(
     equations: &mut [Equation<'a>],
 ) -> Result<Option<Unifier>, AllocError>
     requires same { equations.old ≡ given.now }
-    requires bounds { All AreWithinBounds (map seen_equation given.now) }
+    requires bound { All AreWithinBounds (map seen_equation given.now) }
     ensures { IfOk result (λ unifier. MatchOption unifier (AreRefuted (map seen_equation given.now))
         (λ bindings. AreBindingsOf (map seen_equation given.now) bindings)) }
 {
@@ -114,10 +114,10 @@ fn push_equations<'a>(
 ) -> Result<(), AllocError>
     requires columns { length left.terms.now ≡ length right.terms.now }
     requires none { none.now ≡ no_value }
-    requires bounds { All AreWithinBounds (map seen_equation equations.old.items) }
+    requires bound { All AreWithinBounds (map seen_equation equations.old.items) }
     ensures pushed { OnOk result (map seen_equation equations.new.items
         ≡ map seen_equation equations.old.items ++ tuple_equations left.entry right.entry) }
-    ensures bounds { OnOk result (All AreWithinBounds (map seen_equation equations.new.items)) }
+    ensures bound { OnOk result (All AreWithinBounds (map seen_equation equations.new.items)) }
 {
     for column in 0..left.terms.len() {
         equations.push(left.equation(right, column, none))?;

@@ -31,7 +31,7 @@ loop-index-preserved-then-contains c =
     let seen : get_or now (left - 1) c.index-records-index.result ≡ r = get_or_default now (left - 1) c.index-records-index.result r (omega arith) ∙ sym at in
     let mine : is_of ms (change_of r) ≡ true = ap (λ x. is_of ms (change_of x)) (sym seen) ∙ sym c.contains.ensures.value ∙ c.if-contains.true in
     let put = c.exchange.ensures.tables ∙ ap (λ x. set (map arc_value c.loop-index.tables) x.table (arc_value x.before)) (sym at) in
-    let tx = c.exchange.ensures.tx ∙ ap (λ x. x.tx) (sym at) in
+    let tx = c.exchange.ensures.same ∙ ap (λ x. x.tx) (sym at) in
     record {
       tables = tables_more ms rs now left (left - 1) r above len within rest at _ _ _ mine c.loop-index.invariant.tables put;
       rest = rest_more ms rs now left (left - 1) r above len within rest at c.exchange.new.undo;

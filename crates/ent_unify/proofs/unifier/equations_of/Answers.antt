@@ -13,4 +13,4 @@ loop-pair-preserved c =
     c.loop-pair.invariant (c.is_plain.ensures.0 c.if-not-is_plain.false) c.in_ok-push_equations.ensures.pushed
     (tuples_same (kinds_seen c.args.kinds.now) c.tuple-left.result c.tuple-right.result p c.tuple-left.ensures.member
     c.tuple-left.ensures.kinds c.tuple-left.ensures.terms c.tuple-right.ensures.member c.tuple-right.ensures.kinds
-    c.tuple-right.ensures.terms) c.in_ok-push_equations.ensures.bounds
+    c.tuple-right.ensures.terms) c.in_ok-push_equations.ensures.bound

@@ -19,10 +19,10 @@ loop-column-preserved c =
     let pushed : map seen_equation c.push.new.self.items ≡ now ++ e ∷ [] =
     ap (map seen_equation) c.in_ok-push.ensures.items ∙ map-append seen_equation c.loop-column.equations.items _ in
     record {
-      pushed = pushed_more _ now _ es c.loop-column.column e below c.equation.ensures.is
+      pushed = pushed_more _ now _ es c.loop-column.column e below c.equation.ensures.value
           c.loop-column.invariant.pushed pushed;
-      bounds = subst (All AreWithinBounds) (sym pushed)
-          (All-push AreWithinBounds now e c.loop-column.invariant.bounds c.equation.ensures.bounds);
+      bound = subst (All AreWithinBounds) (sym pushed)
+          (All-push AreWithinBounds now e c.loop-column.invariant.bound c.equation.ensures.bound);
     }
 
 pub returns-clause-pushed : goal.returns-clause-pushed

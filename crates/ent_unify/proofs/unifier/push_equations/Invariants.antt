@@ -8,5 +8,5 @@ abbrev pub invariant-loop-column : goal.invariant-loop-column
 invariant-loop-column l = record {
   pushed : map seen_equation l.equations.items ≡ map seen_equation l.fn.equations.items ++ take l.column
       (tuple_equations l.left l.right);
-  bounds : All AreWithinBounds (map seen_equation l.equations.items);
+  bound : All AreWithinBounds (map seen_equation l.equations.items);
 }

@@ -19,7 +19,7 @@ loop-column-preserved c =
       room = omega (arith, length-set c.loop-column.equations n c.equation.result);
       so_far = written_more (IsAtPlace es) c.loop-column.equations n c.equation.result (omega arith)
           c.loop-column.invariant.so_far
-          (λ d. c.equation.ensures.is ∙ get_or_default es n _ d below, c.equation.ensures.bounds);
+          (λ d. c.equation.ensures.value ∙ get_or_default es n _ d below, c.equation.ensures.bound);
     }
 
 pub solve-requires : goal.solve-requires
