@@ -82,7 +82,7 @@ impl LentJobs {
 
     /// Whether a job of one statement of a transaction is lent.
     pub fn is_out(&self, tx: Tx) -> bool
-        ensures list { result ≡ list_any (is_single_of tx) self.now }
+        ensures value { result ≡ list_any (is_single_of tx) self.now }
         ensures state { (s : State) → s.lent ≡ self.now → result ≡ is_lent s tx }
     {
         list::is_lent(self.jobs.as_slice(), tx)
@@ -91,7 +91,7 @@ impl LentJobs {
     /// Where a job stands in the list, counted from 0; None where it isn't lent. Jobs are compared in everything,
     /// their tables row by row.
     pub fn find(&self, job: &Job) -> Option<usize>
-        ensures bound { IfSome result (λ index. index < length self.now) }
+        ensures within { IfSome result (λ index. index < length self.now) }
         ensures some { IfSome result (λ index. slice_get self.now index ≡ Some job.now) }
         ensures none { IsNone result → Contains self.now job.now → ⊥ }
         ensures not_taken { IsNone result → (left : List Seen) → IsTaken job.now self.now left → ⊥ }
