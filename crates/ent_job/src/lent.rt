@@ -75,7 +75,7 @@ impl LentJobs {
     /// The newest job, where there is one, is lent no more. It takes no memory.
     pub fn take_back(&mut self)
         ensures newest { (jobs : List Seen) (job : Seen) → self.old ≡ jobs ++ job ∷ [] → self.new ≡ jobs }
-        ensures none { self.old ≡ [] → self.new ≡ [] }
+        ensures same { self.old ≡ [] → self.new ≡ [] }
     {
         drop(self.jobs.pop());
     }

@@ -101,7 +101,7 @@ pub fn first_with(
 /// Adds the ticks of another count.
 fn add_ticks(ticks: &mut Ticks, more: &Ticks)
     ensures sum { ticks.old + more.now < 2 ^ 64 → ticks.new ≡ ticks.old + more.now }
-    ensures none { more.now ≡ 0 → ticks.new ≡ ticks.old }
+    ensures same { more.now ≡ 0 → ticks.new ≡ ticks.old }
 {
     for _step in 0..more.count() {
         ticks.add();

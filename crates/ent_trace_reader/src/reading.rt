@@ -104,7 +104,7 @@ fn is_notice(line: &str) -> bool
 /// can. Lines that the program says beside its trace, which begin with its name and a colon, are passed over.
 pub fn read_trace(alloc: Global, text: &str) -> Result<Vec<Exchange>, Refusal<StrangeLine>>
     ensures ok { IfOk result (λ trace. told (lines text.now) ≡ trace_lines trace.items) }
-    ensures some { IfOk result (λ trace. trace.items ≢ []) }
+    ensures nonempty { IfOk result (λ trace. trace.items ≢ []) }
     ensures fault { IfErr result (λ refusal. IsWhereItFails (lines text.now) refusal) }
 {
     let mut reading = Reading::new(alloc);

@@ -123,7 +123,7 @@ impl UndoLog {
     /// more. Where none is noted all stays. It takes no memory. A record whose index is not below the number of tables
     /// puts nothing back.
     pub fn take_back(&mut self, tables: &mut [Arc<Table>])
-        ensures none { self.old ≡ [] → (self.new ≡ []) × (map arc_value tables.new ≡ map arc_value tables.old) }
+        ensures same { self.old ≡ [] → (self.new ≡ []) × (map arc_value tables.new ≡ map arc_value tables.old) }
         ensures log { (earlier : List Change) (newest : Change) → self.old ≡ earlier ++ newest ∷ []
             → self.new ≡ earlier }
         ensures tables { (earlier : List Change) (newest : Change) → self.old ≡ earlier ++ newest ∷ []

@@ -7,4 +7,4 @@ pub returns-clause-ticks : goal.returns-clause-ticks
 returns-clause-ticks c = λ laid member e alone asks.
     ticks_added (length member.statement.variables) c.args.ticks.now c.new-counted.result c.counted_choice.new.ticks
     c.add_ticks.new.ticks (is_some c.in_ok-choice.choice) c.new-counted.ensures
-    (c.in_ok-choice.ensures.ticks laid member e alone asks) c.add_ticks.ensures.sum c.add_ticks.ensures.none
+    (c.in_ok-choice.ensures.ticks laid member e alone asks) c.add_ticks.ensures.sum c.add_ticks.ensures.same
