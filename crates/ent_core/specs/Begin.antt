@@ -12,8 +12,6 @@ use Rattle.ent_protocol.specs.Uses.{blocker, entangled_uses, statement_uses}
 use Rattle.ent_protocol.specs.Waits.{next_uses}
 use Rattle.ent_core.specs.declared.begin.BeginRefusal.{BeginRefusal}
 use Rattle.ent_core.specs.declared.begin.BeginRefusal.TheVariants as refusals
-use Rattle.ent_core.specs.declared.begin.Plan.{Plan}
-use Rattle.ent_core.specs.declared.begin.Plan.TheVariants as plans
 
 -- no member of a number that isn't prepared has posted
 abbrev pub IsIdle : State → ℕ → Type 0
@@ -54,6 +52,12 @@ LendsTo tx job old new =
     (member : Member) → active_member old tx ≡ Some member
     → new ≡ record (with_member (holding member (job_uses job)) old) { lent = old.lent ++ job ∷ [] }
 
+-- lending this job to the member of a number is its begin
+pub record IsToLend (s : State) (tx : ℕ) (job : Job) : Type 0 where
+  pub there : IsSome (active_member s tx)
+  pub idle : IsIdle s tx
+  pub lends : (new : State) → LendsTo tx job s new → Begins {F = FormFault} s tx (replies.Lent job) new
+
 -- the member of a number may begin, nobody blocks it, and this is its statement, which comes next
 pub record IsToPost (s : State) (tx : ℕ) (query : Posted) : Type 0 where
   pub member : Member
@@ -64,12 +68,3 @@ pub record IsToPost (s : State) (tx : ℕ) (query : Posted) : Type 0 where
 -- the label of the group of the member of a number
 abbrev pub IsGroupOf : State → ℕ → ℕ → Type 0
 IsGroupOf s tx group = (member : Member) → active_member s tx ≡ Some member → group ≡ member.group
-
--- doing what is planned is the begin
-abbrev pub Follows : State → ℕ → Plan → Type 0
-Follows s tx (plans.Lends job) =
-    IsSome (active_member s tx) × IsIdle s tx
-    × ((new : State) → LendsTo tx job s new → Begins {F = FormFault} s tx (replies.Lent job) new)
-Follows s tx (plans.Posts query) = IsToPost s tx query
-Follows s tx plans.Commits = IsToBegin s tx Commits
-Follows s tx (plans.RollsBack group) = IsToBegin s tx RollsBack × IsGroupOf s tx group

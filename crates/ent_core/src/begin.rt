@@ -2,13 +2,14 @@
 ghost use Rattle.std.specs.Prelude.{◌≡◌, ℕ, Some, None, true, IfErr, IfOk, IsOk, OnErr, IsSome};
 ghost use Rattle.std.specs.Arc.{arc_value};
 ghost use Rattle.ent_coordination.specs.Pool.{Unsafe as UnsafePost};
-ghost use Rattle.ent_core.specs.Begin.{Follows, IsFree, IsIdle, IsToPost, LendsTo, MayBegin, begin_refusal_seen};
+ghost use Rattle.ent_core.specs.Begin.{IsFree, IsIdle, IsToLend, IsToPost, LendsTo, MayBegin, begin_refusal_seen};
 ghost use Rattle.ent_core.specs.Begin.{job_uses};
 ghost use Rattle.ent_core.specs.Kept.{IsKeptState};
 ghost use Rattle.ent_core.specs.Reply.{reply_seen};
 ghost use Rattle.ent_form.specs.declared.fault.FormFault.{FormFault as Form};
 ghost use Rattle.ent_match.specs.declared.fault.PostFault.TheVariants as post_faults;
 ghost use Rattle.ent_members.specs.Places.{found};
+ghost use Rattle.ent_next.specs.Next.{next_seen};
 ghost use Rattle.ent_protocol.specs.Member.{Ordinary, RollsBack, active_member, next_of, posted_as};
 ghost use Rattle.ent_protocol.specs.Begin.{Begins};
 ghost use Rattle.ent_protocol.specs.Event as replies;
@@ -28,7 +29,7 @@ use ent_headline::{begun_statements_are_work, used_tables_are_declared};
 use ent_job::{Job, Single, Work};
 use ent_match::{PostFault, Posted, same_statements_are_alike};
 use ent_members::{Member, Uses, entangled_uses, statement_uses};
-use ent_next::{Next, next_of};
+use ent_next::Next;
 use ent_protocol_laws::{
     attempts_stay_within, members_stand_by_number, transactions_are_counted,
     transactions_stand_once,
@@ -61,29 +62,24 @@ impl BeginRefusal {
     }
 }
 
-/// What a begin that nothing hinders comes to, before anything is changed.
-#[derive(Drop)]
-enum Plan {
-    /// The job is lent, and the member holds the uses of its statement too.
-    Lends(Job),
-    /// The statement is in the pool, and the member holds its uses too; or nothing changes, since a post of the pool
-    /// would have heads of two statements.
-    Posts(Posted),
-    Commits,
-    /// The group with this label is rolled back.
-    RollsBack(Tx),
+/// What a member does next.
+pub(crate) fn next_of(store: &Store, member: &Member) -> Result<Next, AllocError>
+    ensures next { IfOk result (λ next. next_seen next ≡ next_of store.now member.now) }
+    ensures rolls_back { next_of store.now member.now ≡ RollsBack → IsOk result }
+{
+    ent_next::next_of(store.alloc, store.submitted.as_slice(), member)
 }
 
-/// What an ordinary statement comes to that nobody blocks.
-fn plan_ordinary(
+/// The job of an ordinary statement that nobody blocks.
+fn job_of(
     store: &Store,
     member: &Member,
     statement: Statement<Value>,
-) -> Result<Plan, AllocError>
+) -> Result<Job, AllocError>
     requires kept { IsKeptState store.now }
     requires next { MayBegin store.now member.now.tx member.now (Ordinary statement) }
     requires unblocked { blocker store.now member.now (statement_uses statement) ≡ None }
-    ensures { IfOk result (λ plan. Follows store.now member.now.tx plan) }
+    ensures { IfOk result (IsToLend store.now member.now.tx) }
 {
     // Laws: the tables that it uses are there, it fits them, and nobody else is of its number.
     members_stand_by_number::<FormFault>();
@@ -94,7 +90,7 @@ fn plan_ordinary(
     let tables = store.tables.seen(store.alloc, uses.as_slice())?;
     let place = member.place() as u64;
     let single = Single::new(member.tx(), member.attempt(), place, statement);
-    Ok(Plan::Lends(Job::one(single, tables)))
+    Ok(Job::one(single, tables))
 }
 
 /// A member's statement, as it is to be posted.
@@ -158,21 +154,6 @@ pub(crate) fn is_blocked(store: &Store, tx: Tx) -> bool
     match free_member(store, tx) {
         Err(BeginRefusal::Blocked(_)) => true,
         _ => false,
-    }
-}
-
-/// What the begin of a member comes to that nothing hinders.
-fn plan_of(store: &Store, member: &Member) -> Result<Plan, AllocError>
-    requires kept { IsKeptState store.now }
-    requires free { IsFree store.now member.now.tx member.now }
-    ensures follows { IfOk result (λ plan. Follows store.now member.now.tx plan) }
-    ensures rolls_back { next_of store.now member.now ≡ RollsBack → IsOk result }
-{
-    match next_of(store.alloc, store.submitted.as_slice(), member)? {
-        Next::Ordinary(statement) => plan_ordinary(store, member, statement),
-        Next::Asks(statement) => Ok(Plan::Posts(query_of(member, statement))),
-        Next::Commits => Ok(Plan::Commits),
-        Next::RollsBack => Ok(Plan::RollsBack(member.group())),
     }
 }
 
@@ -247,10 +228,10 @@ fn post(store: &mut Store, tx: Tx, query: Posted) -> Result<Reply, AllocError>
     Ok(Reply::Posted)
 }
 
-/// Does what a begin comes to.
-fn carry_out(store: &mut Store, tx: Tx, plan: Plan) -> Result<Reply, AllocError>
+/// The member of a number begins its next statement, or the end of its script. Where memory runs out nothing changes;
+/// a member that rolls back takes none.
+pub(crate) fn begin(store: &mut Store, tx: Tx) -> Result<Reply, AllocError>
     requires kept { IsKeptState store.old }
-    requires follows { Follows store.old tx plan }
     ensures ok { IfOk result (λ reply. Begins store.old tx (reply_seen reply) store.new) }
     ensures err { OnErr result (store.new ≡ store.old) }
     ensures rolls_back { (member : Member) → active_member store.old tx ≡ Some member
@@ -262,28 +243,23 @@ fn carry_out(store: &mut Store, tx: Tx, plan: Plan) -> Result<Reply, AllocError>
     attempts_stay_within::<FormFault>();
     transactions_stand_once::<FormFault>();
     store.asks_for_runs();
-    match plan {
-        Plan::Lends(job) => lend(store, tx, job),
-        Plan::Posts(query) => post(store, tx, query),
-        Plan::Commits => commit(store, tx),
-        Plan::RollsBack(group) => {
+    let member = match free_member(store, tx) {
+        Ok(member) => member,
+        Err(refusal) => return Ok(refusal.reply()),
+    };
+    match next_of(store, member)? {
+        Next::Ordinary(statement) => {
+            let job = job_of(store, member, statement)?;
+            lend(store, tx, job)
+        }
+        Next::Asks(statement) => {
+            let query = query_of(member, statement);
+            post(store, tx, query)
+        }
+        Next::Commits => commit(store, tx),
+        Next::RollsBack => {
+            let group = member.group();
             Ok(Reply::RolledBack(roll_back(store, group, Cause::Asked(tx))))
         }
     }
-}
-
-/// The member of a number begins its next statement, or the end of its script. Where memory runs out nothing changes;
-/// a member that rolls back takes none.
-pub(crate) fn begin(store: &mut Store, tx: Tx) -> Result<Reply, AllocError>
-    requires kept { IsKeptState store.old }
-    ensures ok { IfOk result (λ reply. Begins store.old tx (reply_seen reply) store.new) }
-    ensures err { OnErr result (store.new ≡ store.old) }
-    ensures rolls_back { (member : Member) → active_member store.old tx ≡ Some member
-        → next_of store.old member ≡ RollsBack → IsOk result }
-{
-    let plan = match free_member(store, tx) {
-        Ok(member) => plan_of(store, member)?,
-        Err(refusal) => return Ok(refusal.reply()),
-    };
-    carry_out(store, tx, plan)
 }

@@ -8,14 +8,14 @@ ghost use Rattle.ent_protocol.specs.Event as replies;
 ghost use Rattle.ent_protocol.specs.Member.{next_of};
 ghost use Rattle.ent_protocol.specs.Waits.{next_uses};
 
-use crate::begin::{BeginRefusal, free_member, query_of};
+use crate::begin::{BeginRefusal, free_member, next_of, query_of};
 use crate::store::Store;
 use ent_components::post_fault;
 use ent_form::FormFault;
 use ent_group::Tx;
 use ent_match::{Demand, Posted, Unsafe, demand_of};
 use ent_members::{Conflict, Member, first_conflict, statement_uses};
-use ent_next::{Next, next_form, next_of};
+use ent_next::{Next, next_form};
 use ent_protocol_laws::members_stand_by_number;
 use std::alloc::AllocError;
 
@@ -69,7 +69,7 @@ fn held_back(store: &Store, member: &Member) -> Result<Option<Unsafe>, AllocErro
     ensures { IfOk result (IsHeldBack store.now member.now.tx) }
 {
     members_stand_by_number::<FormFault>();
-    match next_of(store.alloc, store.submitted.as_slice(), member)? {
+    match next_of(store, member)? {
         Next::Ordinary(statement) => {
             drop(statement);
             Ok(None)

@@ -1,5 +1,5 @@
 -- What becomes of each member's label where the list of members changes.
-use Rattle.std.proofs.Common.{◌≡◌, ◌≢◌, ℕ, zero, suc, ◌+◌, ◌<◌, ◌==◌, ◌⊎◌, inl, inr, true, false, not, if◌then◌else◌, ◌↔◌, List, [], ◌∷◌, length, map, filter, take, drop, insert, count_by, nat_lt, refl, sym, ap, subst, ◌∙◌, arith, get_or}
+use Rattle.std.proofs.Common.{◌≡◌, ◌≢◌, ℕ, Bool, zero, suc, ◌+◌, ◌<◌, ◌≤◌, ◌==◌, ◌⊎◌, inl, inr, true, false, cond, not, if◌then◌else◌, ◌↔◌, List, [], ◌∷◌, length, map, filter, take, drop, insert, count_by, nat_lt, refl, sym, ap, subst, ◌∙◌, arith, get_or}
 use Rattle.std.specs.Prelude.{All, Option, None, Some, Contains, IsNone}
 use Rattle.std.specs.Option.{option_map}
 use Rattle.std.proofs.lemmas.Bool.Decides.{nat_tests}
@@ -9,7 +9,8 @@ use Rattle.std.proofs.lemmas.List.Edits.{length-insert}
 use Rattle.std.proofs.lemmas.List.{length-map, get_or-map}
 use Rattle.std.proofs.lemmas.Bool.{eqb-true, eqb-false, ltb-true}
 use Rattle.std.proofs.lemmas.List.Kept.{AllPairs-cons, AllPairs-filter}
-use Rattle.std.specs.List.Sorted.{IsStrictlyIncreasing}
+use Rattle.std.specs.List.{AllWithin}
+use Rattle.std.specs.List.Sorted.{IsNonDecreasingBy, IsStrictlyIncreasing}
 use Rattle.ent_group.specs.declared.groups.Membership.{Membership}
 use Rattle.ent_group.specs.Groups.{group_of, moved_label, relabelled, numbers_of, alone, is_of, is_of_another, SameGroup, InEither, IsByNumber, IsNamed, IsGrouping, Relabels}
 
@@ -38,6 +39,34 @@ group_of-insert [] (suc i) tx x h = refl
 group_of-insert (m ∷ ms) zero tx x h = refl
 group_of-insert (m ∷ ms) (suc i) tx x h =
     label_past m.member tx x m.group (group_of ms tx) (group_of (insert ms i (alone tx)) x) (group_of ms x) h (group_of-insert ms i tx x)
+
+-- ---- how many are below
+
+-- where a test passes before a place and nowhere from there on, the place is how many pass
+pub count_before : (p : Membership → Bool) (ms : List Membership) (i : ℕ) → i ≤ length ms
+    → AllWithin (λ m. p m ≡ true) ms 0 i → AllWithin (λ m. p m ≡ false) ms i (length ms) → i ≡ count_by p ms
+count_before p [] zero within before behind = refl
+count_before p [] (suc i) within before behind = absurd (omega (arith, within))
+count_before p (m ∷ ms) zero within before behind =
+    let rest = count_before p ms zero (omega arith) (λ k d low high. absurd (omega (arith, high)))
+    (λ k d low high. behind (suc k) d (omega arith) (omega (arith, high))) in
+    let all : count_by p (m ∷ ms) ≡ 0 + count_by p ms = sum_by-cons (λ n. cond (p n) 1 0) m ms
+    ∙ ap (λ b. cond b 1 0 + count_by p ms) (behind 0 m (omega arith) (omega arith)) in
+    omega (arith, rest, all)
+count_before p (m ∷ ms) (suc i) within before behind =
+    let rest = count_before p ms i (omega (arith, within))
+    (λ k d low high. before (suc k) d (omega arith) (omega (arith, high)))
+    (λ k d low high. behind (suc k) d (omega (arith, low)) (omega (arith, high))) in
+    let all : count_by p (m ∷ ms) ≡ 1 + count_by p ms = sum_by-cons (λ n. cond (p n) 1 0) m ms
+    ∙ ap (λ b. cond b 1 0 + count_by p ms) (before 0 m (omega arith) (omega arith)) in
+    omega (arith, rest, all)
+
+pub in_order : (ms : List Membership) → IsByNumber ms → IsNonDecreasingBy (λ m. m.member) ms
+in_order ms by_number i j d to within =
+    elim (i == j) as (λ b. (i == j) ≡ b → (get_or ms i d).member ≤ (get_or ms j d).member) [
+      | true ↦ λ e. let same = eqb-true i j e in subst (λ k. (get_or ms i d).member ≤ (get_or ms k d).member) same (omega arith)
+      | false ↦ λ e. let below = by_number i j d (grind (arith, nat_tests, e, to)) within in omega (arith, below)
+    ] refl
 
 -- ---- members by number
 

@@ -180,11 +180,12 @@ fn labelled(memberships: &[Membership], group: Tx) -> Members
     members
 }
 
-/// How many members have a smaller number.
+/// How many members, which stand by number, have a smaller one.
 fn count_below(memberships: &[Membership], tx: Tx) -> usize
+    requires { IsByNumber memberships.now }
     ensures { result ≡ count_by (λ m. nat_lt m.member tx) memberships.now }
 {
-    memberships.iter().filter(|m| m.member < tx).count()
+    memberships.partition_point(|m| m.member < tx)
 }
 
 /// Puts a membership in at an index of the first `len`, which become one more.

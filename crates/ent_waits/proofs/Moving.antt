@@ -3,14 +3,16 @@ use Rattle.std.proofs.Common.{◌≡◌, ◌↔◌, ℕ, Bool, true, false, not,
 use Rattle.std.proofs.Common.{refl, sym, subst, true≢false}
 use Rattle.std.specs.List.{filter}
 use Rattle.std.specs.Option.{is_some}
+use Rattle.ent_value.specs.declared.value.Value.{Value}
+use Rattle.ent_closed.specs.declared.entangled.Entangled.{Entangled}
 use Rattle.ent_coordination.specs.Pool.{IsSafe}
 use Rattle.ent_protocol.specs.Begin.{pool_with}
 use Rattle.ent_protocol.specs.Member.{Next, Ordinary, Asks, Commits, RollsBack, next_of}
 use Rattle.ent_protocol.specs.Quiet.{CanPost, MovesBy}
 use Rattle.ent_protocol.specs.State.{State, Member}
-use Rattle.ent_protocol.specs.Uses.{blocker, is_conflicting, not_passed}
+use Rattle.ent_protocol.specs.Uses.{blocker, entangled_uses, is_conflicting, not_passed}
 use Rattle.ent_protocol.specs.Waits.{next_uses}
-use Rattle.ent_waits.specs.Readiness.{AsksFreely, IsIdle, is_posting}
+use Rattle.ent_waits.specs.Free.{IsFree, IsIdle, is_posting}
 
 -- nobody blocks who asks for nothing
 none_conflicting : (xs : List Member) → filter (is_conflicting []) xs ≡ []
@@ -44,15 +46,25 @@ no_holder None none = refl
 
 -- ---- by what comes next
 
--- a member that isn't free doesn't move
-pub blocked_stays : (s : State) (member : Member) (next : Next) (holder : ℕ)
-    → blocker s member (next_uses next) ≡ Some holder → MovesBy s member next → ⊥
-blocked_stays s member (Ordinary statement) holder blocked moves = cc
-blocked_stays s member (Asks statement) holder blocked moves = subst (CanPost s member statement) blocked moves
-blocked_stays s member Commits holder blocked moves =
-    let free = free_at_end s member in cc
-blocked_stays s member RollsBack holder blocked moves =
-    let free = free_at_end s member in cc
+-- nothing is in conflict with its entangled statement, so that it moves exactly where the pool stays safe with it
+pub record AsksFreely (s : State) (member : Member) : Type 0 where
+  pub statement : Entangled Value
+  pub next : next_of s member ≡ Asks statement
+  pub moves : MovesBy s member (next_of s member) ↔ IsSafe (pool_with s member statement)
+
+can_post : (s : State) (member : Member) (statement : Entangled Value) (holder : Option ℕ)
+    → CanPost s member statement holder → holder ≡ None
+can_post s member statement (Some holder) moves = absurd moves
+can_post s member statement None moves = refl
+
+-- nobody blocks a member that moves
+pub mover_is_unblocked : (s : State) (member : Member) (next : Next) → MovesBy s member next
+    → blocker s member (next_uses next) ≡ None
+mover_is_unblocked s member (Ordinary statement) moves = moves
+mover_is_unblocked s member (Asks statement) moves =
+    can_post s member statement (blocker s member (entangled_uses statement)) moves
+mover_is_unblocked s member Commits moves = free_at_end s member
+mover_is_unblocked s member RollsBack moves = free_at_end s member
 
 -- one that is free moves, unless its statement is entangled
 pub free_moves : (s : State) (member : Member) (next : Next) → blocker s member (next_uses next) ≡ None
@@ -63,17 +75,15 @@ free_moves s member Commits free ordinary = tt
 free_moves s member RollsBack free ordinary = tt
 
 -- one that is free and whose statement is entangled moves where the pool stays safe
-pub free_asks : (s : State) (member : Member) → IsIdle s member → (next : Next) → next_of s member ≡ next
+pub free_asks : (s : State) (member : Member) (next : Next) → next_of s member ≡ next
     → blocker s member (next_uses next) ≡ None → is_posting next ≡ true → AsksFreely s member
-free_asks s member idle (Ordinary statement) is free asks = absurd (true≢false (sym asks))
-free_asks s member idle (Asks statement) is free asks = record {
-  idle = idle;
+free_asks s member (Ordinary statement) is free asks = absurd (true≢false (sym asks))
+free_asks s member (Asks statement) is free asks = record {
   statement = statement;
   next = is;
-  free = free;
   moves = subst (λ n. MovesBy s member n ↔ IsSafe (pool_with s member statement)) (sym is)
       (subst (λ o. CanPost s member statement o ↔ IsSafe (pool_with s member statement)) (sym free)
       ((λ safe. safe), (λ safe. safe)));
 }
-free_asks s member idle Commits is free asks = absurd (true≢false (sym asks))
-free_asks s member idle RollsBack is free asks = absurd (true≢false (sym asks))
+free_asks s member Commits is free asks = absurd (true≢false (sym asks))
+free_asks s member RollsBack is free asks = absurd (true≢false (sym asks))

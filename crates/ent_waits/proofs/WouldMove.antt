@@ -5,7 +5,7 @@ use Rattle.ent_protocol.specs.Quiet.{CanMove, MovesBy}
 use Rattle.ent_protocol.specs.State.{State, Member}
 use Rattle.ent_waits.specs.Least.{LeastIfAny}
 use Rattle.ent_waits.specs.Movers.{HasMoverIn, IsMover}
-use Rattle.ent_waits.specs.Readiness.{IsIdle}
+use Rattle.ent_waits.specs.Free.{IsIdle}
 
 pub idle_is_unposted : (posted lent : Bool) → (posted || lent) ≡ false → posted ≡ false
 idle_is_unposted true lent idle = idle

@@ -1,6 +1,6 @@
 pub mod Waits
 pub mod Rows
-pub mod Readiness
+pub mod Free
 pub mod Victim
 pub mod Least
 pub mod Jobs

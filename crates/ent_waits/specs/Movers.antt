@@ -4,7 +4,7 @@ use Rattle.ent_coordination.specs.Pool.{Posted}
 use Rattle.ent_protocol.specs.Member.{next_of}
 use Rattle.ent_protocol.specs.Quiet.{MovesBy}
 use Rattle.ent_protocol.specs.State.{State, Member}
-use Rattle.ent_waits.specs.Readiness.{IsIdle}
+use Rattle.ent_waits.specs.Free.{IsIdle}
 
 -- a member, of a number, would move
 pub record IsMover (s : State) (member : Member) (tx : ℕ) : Type 0 where

@@ -11,7 +11,7 @@ ghost use Rattle.ent_waits.specs.Waits.{state_with};
 ghost use Rattle.ent_waits.specs.Least.{LeastIfAny};
 ghost use Rattle.ent_waits.specs.Movers.{HasMoverIn, IsMover, IsNotPosting, OnlyPostedAsk};
 
-use crate::readiness::{Readiness, readiness_of};
+use crate::free::{is_free, is_posting};
 use ent_components::post_fault;
 use ent_group::Tx;
 use ent_job::Job;
@@ -64,16 +64,16 @@ fn mover_of(
         → pool (state_with run.now submitted.now lent.now s) ≡ posted.now
         → LeastIfAny (IsMover (state_with run.now submitted.now lent.now s) member.now) mover) }
 {
-    match readiness_of(run, submitted, lent, member) {
-        Readiness::Stays => Ok(None),
-        Readiness::Moves => Ok(Some(member.tx())),
-        Readiness::Asks => {
-            if stays_safe(alloc, submitted, posted, member)? {
-                Ok(Some(member.tx()))
-            } else {
-                Ok(None)
-            }
-        }
+    if !is_free(run, submitted, lent, member) {
+        return Ok(None);
+    }
+    if !is_posting(submitted, member) {
+        return Ok(Some(member.tx()));
+    }
+    if stays_safe(alloc, submitted, posted, member)? {
+        Ok(Some(member.tx()))
+    } else {
+        Ok(None)
     }
 }
 

@@ -4,9 +4,8 @@ use Rattle.ent_coordination.specs.Pool.{IsSafe, Posted}
 use Rattle.ent_headline.specs.Resolved.{resolved_forms}
 use Rattle.ent_match.specs.Posting.{HasNone}
 use Rattle.ent_next.specs.Next.{next_seen}
-use Rattle.ent_protocol.specs.Member.{Asks, Commits, Ordinary, RollsBack, next_in, next_of, pool}
-use Rattle.ent_protocol.specs.State.{State, Submitted}
-use Rattle.ent_semantics.specs.Serial.{numbered}
+use Rattle.ent_protocol.specs.Member.{Asks, Commits, Ordinary, RollsBack, next_of, pool}
+use Rattle.ent_protocol.specs.State.{State}
 use Rattle.ent_core.specs.contracts.store.Store.{the_view}
 use Rattle.ent_core.proofs.Obstacles.{moves_commits, moves_ordinary, moves_rolls_back, told_of_pool}
 use Rattle.ent_core.proofs.Posting.{none_there, to_post}
@@ -21,9 +20,7 @@ post_fault-requires-clause-none c =
     let now = c.args.store.now in
     let member = c.args.member.now in
     let asks : Asks (arc_value c.in-Asks.statement) ≡ next_of now member =
-    sym (ap next_seen c.in-Asks.is) ∙ c.in_ok-statement.ensures.next
-    ∙ ap (λ (scripts : List Submitted). next_in (numbered scripts member.tx) member) c.as_slice.ensures.value
-    ∙ ap (λ (x : State). next_of x member) c.store.view_is in
+    sym (ap next_seen c.in-Asks.is) ∙ c.in_ok-statement.ensures.next in
     let query = c.query_of-query.result in
     let plan = to_post now member query (arc_value c.in-Asks.statement) c.requires.free (sym asks)
     c.query_of-query.ensures in
@@ -39,9 +36,7 @@ returns-in-Ordinary c =
     let now = c.args.store.now in
     let member = c.args.member.now in
     let next : Ordinary c.in-Ordinary.statement ≡ next_of now member =
-    sym (ap next_seen c.in-Ordinary.is) ∙ c.in_ok-statement.ensures.next
-    ∙ ap (λ (scripts : List Submitted). next_in (numbered scripts member.tx) member) c.as_slice.ensures.value
-    ∙ ap (λ (x : State). next_of x member) c.store.view_is in
+    sym (ap next_seen c.in-Ordinary.is) ∙ c.in_ok-statement.ensures.next in
     moves_ordinary now member c.requires.free c.in-Ordinary.statement (sym next)
 
 pub returns-in_ok-fault-in-Asks : goal.returns-in_ok-fault-in-Asks
@@ -49,9 +44,7 @@ returns-in_ok-fault-in-Asks c =
     let now = c.args.store.now in
     let member = c.args.member.now in
     let asks : Asks (arc_value c.in-Asks.statement) ≡ next_of now member =
-    sym (ap next_seen c.in-Asks.is) ∙ c.in_ok-statement.ensures.next
-    ∙ ap (λ (scripts : List Submitted). next_in (numbered scripts member.tx) member) c.as_slice.ensures.value
-    ∙ ap (λ (x : State). next_of x member) c.store.view_is in
+    sym (ap next_seen c.in-Asks.is) ∙ c.in_ok-statement.ensures.next in
     let query = c.query_of-query.result in
     let plan = to_post now member query (arc_value c.in-Asks.statement) c.requires.free (sym asks)
     c.query_of-query.ensures in
@@ -66,9 +59,7 @@ returns-in-Commits c =
     let now = c.args.store.now in
     let member = c.args.member.now in
     let next : Commits ≡ next_of now member =
-    sym (ap next_seen c.in-Commits.is) ∙ c.in_ok-statement.ensures.next
-    ∙ ap (λ (scripts : List Submitted). next_in (numbered scripts member.tx) member) c.as_slice.ensures.value
-    ∙ ap (λ (x : State). next_of x member) c.store.view_is in
+    sym (ap next_seen c.in-Commits.is) ∙ c.in_ok-statement.ensures.next in
     moves_commits now member c.requires.free (sym next)
 
 pub returns-in-RollsBack : goal.returns-in-RollsBack
@@ -76,7 +67,5 @@ returns-in-RollsBack c =
     let now = c.args.store.now in
     let member = c.args.member.now in
     let next : RollsBack ≡ next_of now member =
-    sym (ap next_seen c.in-RollsBack.is) ∙ c.in_ok-statement.ensures.next
-    ∙ ap (λ (scripts : List Submitted). next_in (numbered scripts member.tx) member) c.as_slice.ensures.value
-    ∙ ap (λ (x : State). next_of x member) c.store.view_is in
+    sym (ap next_seen c.in-RollsBack.is) ∙ c.in_ok-statement.ensures.next in
     moves_rolls_back now member c.requires.free (sym next)

@@ -1,12 +1,12 @@
-//! Which members may move.
-ghost use Rattle.std.specs.Prelude.{◌≡◌};
+//! Which members nobody blocks.
+ghost use Rattle.std.specs.Prelude.{◌≡◌, ◌↔◌, IsTrue};
 ghost use Rattle.ent_semantics.specs.Serial.{numbered};
 ghost use Rattle.ent_protocol.specs.Member.{next_in};
 ghost use Rattle.ent_protocol.specs.State.{State};
 ghost use Rattle.ent_protocol.specs.Uses.{blocker};
 ghost use Rattle.ent_protocol.specs.Waits.{next_uses};
 ghost use Rattle.ent_members.specs.Run.{with_run};
-ghost use Rattle.ent_waits.specs.Readiness.{IsReadiness, is_posting};
+ghost use Rattle.ent_waits.specs.Free.{IsFree, is_posting};
 ghost use Rattle.ent_waits.specs.Waits.{state_with};
 
 use crate::waiting::is_waiting;
@@ -16,37 +16,16 @@ use ent_job::Job;
 use ent_members::{Member, Run};
 use ent_next::{SubmittedScript, next_form};
 
-/// What a member could do now.
-#[derive(Clone, Copy, Debug, PartialEq, Eq)]
-pub enum Readiness {
-    /// It can't begin: it is posted, a job of it is out, or another blocks it.
-    Stays,
-    /// It would begin, whatever the pool is.
-    Moves,
-    /// Nobody blocks its entangled statement: it would be posted where the pool stays safe with it.
-    Asks,
-}
-
-/// What a member that isn't prepared could do now. It takes no memory.
-pub fn readiness_of(
+/// Whether a member that isn't prepared is at its turn, and nobody blocks what it does next. It takes no memory.
+pub(crate) fn is_free(
     run: &Run,
     submitted: &[SubmittedScript],
     lent: &[Job],
     member: &Member,
-) -> Readiness
-    ensures { (s : State) → IsReadiness (state_with run.now submitted.now lent.now s) member.now result }
+) -> bool
+    ensures { (s : State) → IsTrue result ↔ IsFree (state_with run.now submitted.now lent.now s) member.now }
 {
-    if !is_waiting(lent, member) {
-        return Readiness::Stays;
-    }
-    if blocker_of(run, submitted, member).is_some() {
-        return Readiness::Stays;
-    }
-    if is_posting(submitted, member) {
-        Readiness::Asks
-    } else {
-        Readiness::Moves
-    }
+    is_waiting(lent, member) && blocker_of(run, submitted, member).is_none()
 }
 
 /// The least member that blocks what a member does next. It takes no memory.
@@ -61,7 +40,7 @@ pub fn blocker_of(run: &Run, submitted: &[SubmittedScript], member: &Member) -> 
 }
 
 /// Whether a member's next statement is an entangled one.
-fn is_posting(submitted: &[SubmittedScript], member: &Member) -> bool
+pub(crate) fn is_posting(submitted: &[SubmittedScript], member: &Member) -> bool
     ensures { result ≡ is_posting (next_in (numbered submitted.now member.now.tx) member.now) }
 {
     match next_form(submitted, member) {

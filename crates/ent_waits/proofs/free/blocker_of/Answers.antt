@@ -3,7 +3,7 @@ use Rattle.ent_members.specs.Run.{with_run}
 use Rattle.ent_protocol.specs.State.{Use}
 use Rattle.ent_protocol.specs.Uses.{blocker}
 use Rattle.ent_waits.proofs.Moving.{free_at_end}
-use Rattle.ent_waits.proofs.readiness.blocker_of.Goals as goal
+use Rattle.ent_waits.proofs.free.blocker_of.Goals as goal
 
 pub returns-in-Some : goal.returns-in-Some
 returns-in-Some c = λ s.

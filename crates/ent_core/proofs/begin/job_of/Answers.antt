@@ -11,7 +11,7 @@ use Rattle.ent_protocol.specs.State.{State, Use}
 use Rattle.ent_protocol.specs.Uses.{statement_uses}
 use Rattle.ent_protocol.specs.Waits.{next_uses}
 use Rattle.ent_core.proofs.Begun.{idle_at_turn, member_found, ordinary_lent, some_found}
-use Rattle.ent_core.proofs.begin.plan_ordinary.Goals as goal
+use Rattle.ent_core.proofs.begin.job_of.Goals as goal
 
 pub seen-requires : goal.seen-requires
 seen-requires c =
@@ -72,10 +72,11 @@ returns c =
     let seen : c.in_ok-tables.tables ≡ seen_now now.opening.tables now.tables (statement_uses statement) =
     c.in_ok-tables.ensures inside.opening.tables (sym c.store.invariant.kinds)
     ∙ ap (seen_now inside.opening.tables inside.tables.tables) (c.as_slice.ensures.list ∙ uses)
-    ∙ ap (λ (x : State). seen_now x.opening.tables x.tables (statement_uses statement)) c.store.view_is in (
-      some_found member.tx now.active member c.requires.next.there,
-      idle_at_turn now member.tx member (Ordinary statement)
-          (c.members_stand_by_number.ensures resolved_forms now c.requires.kept.reached) c.requires.next,
-      ordinary_lent now member.tx member statement c.requires.next c.requires.unblocked c.one.result (c.one.ensures
-          ∙ (λ i. record { work = One (single i); tables = seen i })),
-    )
+    ∙ ap (λ (x : State). seen_now x.opening.tables x.tables (statement_uses statement)) c.store.view_is in
+    record {
+      there = some_found member.tx now.active member c.requires.next.there;
+      idle = idle_at_turn now member.tx member (Ordinary statement)
+          (c.members_stand_by_number.ensures resolved_forms now c.requires.kept.reached) c.requires.next;
+      lends = ordinary_lent now member.tx member statement c.requires.next c.requires.unblocked c.one.result
+          (c.one.ensures ∙ (λ i. record { work = One (single i); tables = seen i }));
+    }
