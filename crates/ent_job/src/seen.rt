@@ -51,13 +51,6 @@ impl Seen {
         Seen { number, table }
     }
 
-    /// The table's number.
-    pub fn number(&self) -> usize
-        ensures { result ≡ self.now.table }
-    {
-        self.number
-    }
-
     /// The table, which is shared.
     pub fn table(&self) -> &Arc<Table>
         ensures { arc_value result.now ≡ relation_of self.now }

@@ -49,15 +49,6 @@ impl Key {
         Ok(Key { bytes })
     }
 
-    /// A key of its own with these bytes.
-    pub fn from_bytes(alloc: Global, bytes: &[u8]) -> Result<Self, AllocError>
-        ensures { IfOk result (λ key. key ≡ bytes.now) }
-    {
-        Ok(Key {
-            bytes: Vec::from_slice(alloc, bytes)?,
-        })
-    }
-
     pub fn as_bytes(&self) -> &[u8]
         ensures { result.now ≡ self.now }
     {

@@ -145,12 +145,6 @@ impl Opened {
         self.tables.len()
     }
 
-    pub(crate) fn row_count(&self) -> usize
-        ensures { result ≡ length self.now.rows }
-    {
-        self.rows.len()
-    }
-
     /// The table at an index, counted from 0.
     pub(crate) fn table(&self, index: usize) -> Option<&Create>
         ensures { option_copied result ≡ slice_get self.now.tables index }
