@@ -6,6 +6,7 @@ ghost use Rattle.ent_set.specs.Sets as set;
 ghost use Rattle.ent_closed.specs.Form.{is_form_grounding, membership_holds, term_worth};
 ghost use Rattle.ent_closed.specs.Kinds.{tables_named};
 ghost use Rattle.ent_closed.specs.declared.statement.Statement.TheVariants as statements;
+ghost use Rattle.ent_rel.specs.Numbered.{relation_of};
 ghost use Rattle.ent_select.specs.Tables.{no_table, rows_in};
 ghost use Rattle.ent_select.specs.Worth.{itself};
 ghost use Rattle.ent_semantics.specs.Selection.{holds};
@@ -13,7 +14,7 @@ ghost use Rattle.ent_value.specs.Value.{row_cmp};
 
 use crate::term::{terms_row, test_holds};
 use ent_closed::{Entangled, Membership, Term};
-use ent_rel::Table;
+use ent_rel::{NumberedTable, Table};
 use ent_select::{all, table_at};
 use ent_tree::Test;
 use ent_value::{Row, Value, rows_are_ordered};
@@ -25,14 +26,15 @@ pub fn tables_of(
     alloc: Global,
     tables: &[Arc<Table>],
     numbers: &[usize],
-) -> Result<Vec<Arc<Table>>, AllocError>
+) -> Result<Vec<NumberedTable>, AllocError>
     requires { AllByRecursion (λ number. number < length tables.now) numbers.now }
-    ensures { IfOk result (λ named. map arc_value named.items
+    ensures numbers { IfOk result (λ named. map (λ table. table.table) named.items ≡ numbers.now) }
+    ensures tables { IfOk result (λ named. map relation_of named.items
         ≡ map (λ number. slice_index_or (map arc_value tables.now) number no_table) numbers.now) }
 {
     let mut named = Vec::with_capacity(alloc, numbers.len())?;
     for number in numbers {
-        named.push(table_at(tables, *number)?)?;
+        named.push(NumberedTable::new(*number, table_at(tables, *number)?))?;
     }
     Ok(named)
 }
@@ -42,9 +44,9 @@ fn sources_of(
     alloc: Global,
     tables: &[Arc<Table>],
     numbers: &[usize],
-) -> Result<Vec<Arc<Table>>, AllocError>
+) -> Result<Vec<NumberedTable>, AllocError>
     requires { AllByRecursion (λ number. number < length tables.now) numbers.now }
-    ensures { IfOk result (λ sources. rows_in (map arc_value sources.items)
+    ensures { IfOk result (λ sources. rows_in (map relation_of sources.items)
         ≡ map (λ number. slice_index_or (rows_in (map arc_value tables.now)) number set.empty) numbers.now) }
 {
     let sources = tables_of(alloc, tables, numbers)?;

@@ -11,7 +11,6 @@ use Rattle.ent_closed.specs.Kinds.{changed_tables}
 use Rattle.ent_closed.specs.declared.statement.Statement.{Statement}
 use Rattle.ent_closed.specs.declared.statement.Statement.TheVariants as statements
 use Rattle.ent_eval.specs.Change.{IsApplicable}
-use Rattle.ent_job.specs.Seen.{relation_of}
 use Rattle.ent_job.specs.Work.{AreUsed, IsOne, IsWork, StandAtNumbers}
 use Rattle.ent_eval.specs.Result.{CanBeMade, answer_of}
 use Rattle.ent_form.specs.declared.fault.FormFault.{FormFault}
@@ -24,11 +23,12 @@ use Rattle.ent_protocol.specs.Event as replies
 use Rattle.ent_protocol.specs.Begin.{replaced}
 use Rattle.ent_protocol.specs.Finish.{FinishesBy, FinishesSingle, IsTaken, noted, stepped, with_change}
 use Rattle.ent_protocol.specs.Job.{Done, Job, One, Outcome, Work, Shown, Changed, Bound, Choice, Fault, IsEvaluated}
-use Rattle.ent_protocol.specs.Job.{Seen, Single, tables_of}
+use Rattle.ent_protocol.specs.Job.{Numbered, Single, tables_of}
 use Rattle.ent_protocol.specs.Member.{Ordinary, active_member, declared_kinds, is_tx, next_of}
 use Rattle.ent_protocol.specs.Rollback.{Failing, group_numbers, rolled_back}
 use Rattle.ent_protocol.specs.State.{State, Submitted, Member, first_of}
 use Rattle.ent_protocol.specs.Uses.{exclusive, statement_uses}
+use Rattle.ent_rel.specs.Numbered.{relation_of}
 use Rattle.ent_rel.specs.Relation.{Relation}
 use Rattle.ent_rel.specs.declared.change.Delta.{Delta}
 use Rattle.ent_semantics.specs.declared.answer.Answer.{Answer}
@@ -87,7 +87,7 @@ or_none : (b : Bool) → b ≡ true → (b || false) ≡ true
 or_none true e = refl
 or_none false e = e
 
-can_change : (s : State) (seen : Seen) (delta : Delta) (table : ℕ) → IsApplicable (relation_of seen) delta
+can_change : (s : State) (seen : Numbered) (delta : Delta) (table : ℕ) → IsApplicable (relation_of seen) delta
     → AreUsed (exclusive table ∷ []) (seen ∷ []) → StandAtNumbers (seen ∷ [])
     → seen.kinds ≡ declared_kinds s.opening.tables seen.table
     → SameWhereUsed (exclusive table ∷ []) (tables_of (seen ∷ [])) s.tables
@@ -107,7 +107,7 @@ can_change s seen delta table applicable used stand kinds same there =
           applicable;
     }
 
-changes_one : (s : State) (seen : Seen) (delta : Delta) (statement : Statement Value)
+changes_one : (s : State) (seen : Numbered) (delta : Delta) (statement : Statement Value)
     → IsApplicable (relation_of seen) delta → AreUsed (statement_uses statement) (seen ∷ [])
     → StandAtNumbers (seen ∷ [])
     → seen.kinds ≡ declared_kinds s.opening.tables seen.table
@@ -136,9 +136,9 @@ may_carry_out s job single (Fault failure) one made declared same there = tt
 may_carry_out s job single (Changed count removed added) one made declared same there =
     let uses = statement_uses single.statement in
     let delta : Delta = record { removed = removed; added = added } in
-    let D : List Seen → Type 0 =
-    λ tables. AllByRecursion (λ (seen : Seen). seen.kinds ≡ declared_kinds s.opening.tables seen.table) tables in
-    let S : List Seen → Type 0 = λ tables. SameWhereUsed uses (tables_of tables) s.tables in
+    let D : List Numbered → Type 0 =
+    λ tables. AllByRecursion (λ (seen : Numbered). seen.kinds ≡ declared_kinds s.opening.tables seen.table) tables in
+    let S : List Numbered → Type 0 = λ tables. SameWhereUsed uses (tables_of tables) s.tables in
     let kinds : D (made.0 ∷ []) = subst D made.1 declared in
     changes_one s made.0 delta single.statement made.2 (subst (AreUsed uses) made.1 one.used)
     (subst StandAtNumbers made.1 one.stand) kinds.0 (subst S made.1 same) there

@@ -3,14 +3,14 @@ use Rattle.std.proofs.Common.{◌≡◌, List, Option, Some, None, sym, subst, a
 use Rattle.ent_components.specs.Component.{IsFirstToPick, IsPick, IsPickIn}
 use Rattle.ent_job.specs.Work.{IsJoint}
 use Rattle.ent_coordination.specs.Pool.{Posted}
-use Rattle.ent_protocol.specs.Job.{Job, Seen}
+use Rattle.ent_protocol.specs.Job.{Job, Numbered}
 use Rattle.ent_protocol.specs.Member.{seen_now, pool}
 use Rattle.ent_protocol.specs.PoolEvents.{joint_job, joint_uses}
 use Rattle.ent_protocol.specs.State.{State, Use}
 use Rattle.ent_core.specs.Pick.{NoneCanBePicked}
 
 -- the tables that were seen are those of the component's job
-tables_are : (s now : State) (asked : List Posted) (tables : List Seen) (uses : List Use) → s ≡ now
+tables_are : (s now : State) (asked : List Posted) (tables : List Numbered) (uses : List Use) → s ≡ now
     → uses ≡ joint_uses asked → tables ≡ seen_now s.opening.tables s.tables uses
     → tables ≡ (joint_job now asked).tables
 tables_are s now asked tables uses same used seen =
@@ -18,7 +18,7 @@ tables_are s now asked tables uses same used seen =
     ∙ ap (λ (w : State). (joint_job w asked).tables) same
 
 -- its statements make a job with them
-pub makes_job : (s now : State) (asked : List Posted) (tables : List Seen) (uses : List Use) → s ≡ now
+pub makes_job : (s now : State) (asked : List Posted) (tables : List Numbered) (uses : List Use) → s ≡ now
     → uses ≡ joint_uses asked → tables ≡ seen_now s.opening.tables s.tables uses
     → IsJoint asked (joint_job now asked).tables → IsJoint asked tables
 makes_job s now asked tables uses same used seen fits =

@@ -1,19 +1,18 @@
 -- Plans of posted statements, and their least choices.
-use Rattle.std.proofs.Common.{◌≡◌, ◌≢◌, ◌<◌, ℕ, List, [], ◌∷◌, map, refl, sym, ap, ◌∙◌, subst, arith}
-use Rattle.std.specs.Prelude.{AllPairs, slice_index_or}
-use Rattle.std.proofs.lemmas.Simd.{map-map}
+use Rattle.std.proofs.Common.{◌≡◌, ◌≢◌, ◌<◌, ◌||◌, ℕ, Bool, true, false, cond, List, [], ◌∷◌, map, Some, refl, sym, ap}
+use Rattle.std.proofs.Common.{◌∙◌, subst, arith}
+use Rattle.std.specs.Prelude.{◌==◌, AllPairs, slice_index_or}
+use Rattle.std.specs.List.{AllByRecursion, list_any}
+use Rattle.std.proofs.lemmas.Bool.{eq-eqb, eqb-true}
 use Rattle.ent_set.specs.Sets as set
 use Rattle.ent_value.specs.Value.{kinds_of}
-use Rattle.ent_rel.specs.Relation.{Relation}
-use Rattle.ent_semantics.specs.Database.{Rows}
 use Rattle.ent_semantics.specs.Entangled.{Valuation}
 use Rattle.ent_closed.specs.Form.{Tables}
 use Rattle.ent_coordination.specs.Choice.{AreGroundings, IsChoice}
 use Rattle.ent_coordination.specs.Pool.{IsPool, Posted}
+use Rattle.ent_join.specs.Laid.{AreLaid, IsLaid, table_at}
 use Rattle.ent_join.specs.Plans.{AreKindedFor, HaveNoPlan, tables_named}
-use Rattle.ent_protocol.specs.Job.{Seen, tables_of}
-use Rattle.ent_select.specs.Tables.{rows_in}
-use Rattle.ent_job.specs.Seen.{relation_of}
+use Rattle.ent_protocol.specs.Job.{Numbered, tables_of}
 use Rattle.ent_job.specs.Work.{IsJoint}
 use Rattle.ent_eval.proofs.Used.{joint_tables}
 
@@ -35,15 +34,51 @@ pub no_choice : (tables : Tables) (members : List Posted) → HaveNoPlan members
 no_choice tables members none others choice =
     none others (are_kinded tables members others choice.grounded) choice.met
 
--- the tables of a joint job stand under the numbers that the plan names
-pub stand_planned : (asked : List Posted) (tables : List Seen) → IsJoint asked tables
-    → map (λ number. slice_index_or (tables_of tables) number set.empty) (tables_named asked)
-    ≡ rows_in (map relation_of tables)
-stand_planned asked tables is =
-    let at : ℕ → Rows = λ number. slice_index_or (tables_of tables) number set.empty in
-    let named : tables_named asked ≡ map (λ (seen : Seen). seen.table) tables =
-    sym (joint_tables asked) ∙ sym is.used in
-    ap (map at) named
-    ∙ map-map at (λ (seen : Seen). seen.table) tables
-    ∙ is.stand
-    ∙ sym (map-map (λ (table : Relation). table.rows) relation_of tables)
+-- a table that is found by its number is one of those whose rows stand under their numbers
+found_laid : (laid : Tables) (tables : List Numbered)
+    → map (λ (seen : Numbered). slice_index_or laid seen.table set.empty) tables
+    ≡ map (λ (seen : Numbered). seen.rows) tables
+    → (number : ℕ) → list_any (λ m. m == number) (map (λ (seen : Numbered). seen.table) tables) ≡ true
+    → IsLaid tables laid number
+found_laid laid [] stand number there = cc
+found_laid laid (seen ∷ more) stand number there =
+    by (λ k. found_laid laid more others number k) (seen.table == number) refl there
+  where
+    here : slice_index_or laid seen.table set.empty ≡ seen.rows
+    here = cc
+
+    others : map (λ (seen : Numbered). slice_index_or laid seen.table set.empty) more
+        ≡ map (λ (seen : Numbered). seen.rows) more
+    others = cc
+
+    by : (list_any (λ m. m == number) (map (λ (seen : Numbered). seen.table) more) ≡ true → IsLaid more laid number)
+        → (b : Bool) → (seen.table == number) ≡ b
+        → (b || list_any (λ m. m == number) (map (λ (seen : Numbered). seen.table) more)) ≡ true
+        → (found : Numbered) × (cond b (Some seen) (table_at number more) ≡ Some found)
+        × (found.rows ≡ slice_index_or laid number set.empty)
+    by found true is there =
+        (seen, refl, sym here ∙ ap (λ n. slice_index_or laid n set.empty) (eqb-true seen.table number is))
+    by found false is there = found there
+
+or_true : (a b : Bool) → b ≡ true → (a || b) ≡ true
+or_true true b e = refl
+or_true false b e = e
+
+-- what is so of each number that a list has is so of all of them
+all_there : (P : ℕ → Type 0) (numbers : List ℕ) → ((n : ℕ) → list_any (λ m. m == n) numbers ≡ true → P n)
+    → AllByRecursion P numbers
+all_there P [] each = tt
+all_there P (number ∷ numbers) each = (
+  each number (ap (λ b. b || list_any (λ m. m == number) numbers) (eq-eqb number number refl)),
+  all_there P numbers (λ n there. each n (or_true (number == n) (list_any (λ m. m == n) numbers) there)),
+)
+
+-- the tables of a joint job are those that its statements name, with the rows that they have in the job
+pub are_laid : (asked : List Posted) (tables : List Numbered) → IsJoint asked tables
+    → AreLaid asked tables (tables_of tables)
+are_laid asked tables is =
+    let named : map (λ (seen : Numbered). seen.table) tables ≡ tables_named asked =
+    is.used ∙ joint_tables asked in
+    subst (AllByRecursion (IsLaid tables (tables_of tables))) named
+    (all_there (IsLaid tables (tables_of tables)) (map (λ (seen : Numbered). seen.table) tables)
+    (found_laid (tables_of tables) tables is.stand))

@@ -8,6 +8,7 @@ use Rattle.std.proofs.lemmas.Simd.{map-map}
 use Rattle.ent_set.specs.Sets as set
 use Rattle.ent_value.specs.declared.value.Value.{Value}
 use Rattle.ent_rel.specs.Change.{changed_rows}
+use Rattle.ent_rel.specs.Numbered.{relation_of}
 use Rattle.ent_rel.specs.Relation.{Relation}
 use Rattle.ent_rel.specs.declared.change.Delta.{Delta}
 use Rattle.ent_semantics.specs.Database.{Rows, nothing_bound}
@@ -19,7 +20,7 @@ use Rattle.ent_closed.specs.Form.{Tables, closed_worth, form_meaning}
 use Rattle.ent_closed.specs.declared.entangled.Membership.{Membership}
 use Rattle.ent_closed.specs.declared.statement.Statement.{Statement}
 use Rattle.ent_closed.specs.declared.statement.Statement.TheVariants as statements
-use Rattle.ent_protocol.specs.Job.{Single, Seen, laid, tables_of, rows_to_change, IsEffect}
+use Rattle.ent_protocol.specs.Job.{Single, Numbered, laid, tables_of, rows_to_change, IsEffect}
 use Rattle.ent_protocol.specs.Job as jobs
 use Rattle.ent_protocol.specs.State.{Use}
 use Rattle.ent_protocol.specs.Uses.{shared, statement_uses}
@@ -28,7 +29,6 @@ use Rattle.ent_eval.specs.Change.{IsApplicable}
 use Rattle.ent_closed.specs.Kinds.{Fits, tables_named}
 use Rattle.ent_eval.specs.Meant.{rows_under, effect_of, IsMeant, CanBeApplied}
 use Rattle.ent_eval.specs.Meant as meant
-use Rattle.ent_job.specs.Seen.{relation_of}
 use Rattle.ent_job.specs.Work.{AreUsed, IsOne}
 use Rattle.ent_eval.specs.Result.{IsRight, CanBeMade, alone_seen}
 use Rattle.ent_eval.specs.declared.outcome.Outcome.{Outcome}
@@ -59,12 +59,12 @@ named_are_used (statements.Update table image tests) = refl
 named_are_used (statements.Set variable expression) = refl
 
 -- the tables of a job stand under the numbers that its statement names
-stand_named : (single : Single) (tables : List Seen) → IsOne single tables
+stand_named : (single : Single) (tables : List Numbered) → IsOne single tables
     → rows_under (tables_of tables) (tables_named single.statement) ≡ rows_in (map relation_of tables)
 stand_named single tables is =
     let at : ℕ → Rows = λ number. slice_index_or (tables_of tables) number set.empty in
     ap (map at) (sym (named_are_used single.statement) ∙ sym is.used)
-    ∙ map-map at (λ (seen : Seen). seen.table) tables
+    ∙ map-map at (λ (seen : Numbered). seen.table) tables
     ∙ is.stand
     ∙ sym (map-map (λ (table : Relation). table.rows) relation_of tables)
 
@@ -75,8 +75,8 @@ laid_length zero rows = omega arith
 laid_length (suc number) rows = let h = laid_length number rows in omega arith
 
 -- a change of the one table, which a job sees
-changed_there : (tables : List Seen) (number : ℕ) (table : Relation) (after : Rows)
-    → map relation_of tables ≡ table ∷ [] → map (λ (seen : Seen). seen.table) tables ≡ number ∷ []
+changed_there : (tables : List Numbered) (number : ℕ) (table : Relation) (after : Rows)
+    → map relation_of tables ≡ table ∷ [] → map (λ (seen : Numbered). seen.table) tables ≡ number ∷ []
     → slice_index_or (slice_set (tables_of tables) number after) number set.empty ≡ after
 changed_there [] number table after one named = absurd cc
 changed_there (seen ∷ []) number table after one named =
@@ -117,8 +117,8 @@ rows_or_count : (rows : List (List Value)) (count : ℕ) → answers.Rows rows �
 rows_or_count rows count is = absurd cc
 
 -- A change that a statement tells is of its table: a SELECT's rows are no change, and a SET has no table.
-change_is : (statement : Statement Value) (tables : List Seen) (table : Relation) (count : ℕ) (delta : Delta)
-    → AreUsed (statement_uses statement) tables → Fits (map (λ (seen : Seen). seen.kinds) tables) statement
+change_is : (statement : Statement Value) (tables : List Numbered) (table : Relation) (count : ℕ) (delta : Delta)
+    → AreUsed (statement_uses statement) tables → Fits (map (λ (seen : Numbered). seen.kinds) tables) statement
     → map relation_of tables ≡ table ∷ []
     → form_meaning closed_worth statement [] (tables_of tables) nothing_bound
     ≡ effect_of statement (outcomes.Changed count delta) (tables_of tables) nothing_bound
@@ -137,7 +137,7 @@ change_is (statements.Set variable expression) (seen ∷ more) table count delta
 
 -- ---- a change can be made
 
-made_so : (tables : List Seen) (outcome : Outcome) → CanBeApplied (map relation_of tables) outcome
+made_so : (tables : List Numbered) (outcome : Outcome) → CanBeApplied (map relation_of tables) outcome
     → CanBeMade tables (alone_seen outcome)
 made_so tables (outcomes.Rows rows) can = tt
 made_so [] (outcomes.Changed count delta) can = let e = can.1 in absurd cc
@@ -149,16 +149,16 @@ made_so tables (outcomes.Value value) can = tt
 made_so tables (outcomes.Fault failure) can = tt
 
 -- a statement fits the tables of its job
-pub one_fits : (single : Single) (tables : List Seen) (relations : List Relation) (statement : Statement Value)
-    → IsOne single tables → relations ≡ map relation_of tables → statement ≡ single.statement
-    → Fits (kinds_in relations) statement
-one_fits single tables relations statement is same named =
-    let kinds : kinds_in relations ≡ map (λ (seen : Seen). seen.kinds) tables =
-    ap kinds_in same ∙ map-map (λ (table : Relation). table.kinds) relation_of tables in
-    subst (λ s. Fits (kinds_in relations) s) (sym named) (subst (λ k. Fits k single.statement) (sym kinds) is.fits)
+pub one_fits : (single : Single) (tables : List Numbered) (statement : Statement Value) → IsOne single tables
+    → statement ≡ single.statement → Fits (kinds_in (map relation_of tables)) statement
+one_fits single tables statement is named =
+    let kinds : kinds_in (map relation_of tables) ≡ map (λ (seen : Numbered). seen.kinds) tables =
+    map-map (λ (table : Relation). table.kinds) relation_of tables in
+    subst (λ s. Fits (kinds_in (map relation_of tables)) s) (sym named)
+    (subst (λ k. Fits k single.statement) (sym kinds) is.fits)
 
 -- what a statement comes to over the tables of its job is the meaning of the job
-one_right : (single : Single) (tables : List Seen) (outcome : Outcome) → IsOne single tables
+one_right : (single : Single) (tables : List Numbered) (outcome : Outcome) → IsOne single tables
     → IsMeant single.statement (rows_in (map relation_of tables)) outcome
     → CanBeApplied (map relation_of tables) outcome
     → IsRight (record { job = record { work = jobs.One single; tables = tables }; outcome = alone_seen outcome })
@@ -180,12 +180,10 @@ one_right single tables outcome is means can =
         change_is single.statement tables applied.0 count delta is.used is.fits applied.1
         (effect ∙ ap (λ o. effect_of single.statement o (tables_of tables) nothing_bound) changes)
 
-pub one_done : (single : Single) (tables : List Seen) (relations : List Relation) (statement : Statement Value)
-    (outcome : Outcome) → IsOne single tables → relations ≡ map relation_of tables → statement ≡ single.statement
-    → IsMeant statement (rows_in relations) outcome → CanBeApplied relations outcome
+pub one_done : (single : Single) (tables : List Numbered) (statement : Statement Value) (outcome : Outcome)
+    → IsOne single tables → statement ≡ single.statement
+    → IsMeant statement (rows_in (map relation_of tables)) outcome → CanBeApplied (map relation_of tables) outcome
     → IsRight (record { job = record { work = jobs.One single; tables = tables }; outcome = alone_seen outcome })
-one_done single tables relations statement outcome is same named means can =
+one_done single tables statement outcome is named means can =
     one_right single tables outcome is
-    (subst (λ rs. IsMeant single.statement (rows_in rs) outcome) same
-    (subst (λ s. IsMeant s (rows_in relations) outcome) named means))
-    (subst (λ rs. CanBeApplied rs outcome) same can)
+    (subst (λ s. IsMeant s (rows_in (map relation_of tables)) outcome) named means) can

@@ -6,7 +6,7 @@ use Rattle.ent_set.specs.Sets as set
 use Rattle.ent_semantics.specs.Database.{Rows}
 use Rattle.ent_closed.specs.Form.{Tables}
 use Rattle.ent_tree.specs.declared.declaration.Create.{Create}
-use Rattle.ent_protocol.specs.Job.{Seen, laid, tables_of}
+use Rattle.ent_protocol.specs.Job.{Numbered, laid, tables_of}
 use Rattle.ent_protocol.specs.Member.{seen_now}
 use Rattle.ent_protocol.specs.State.{Use}
 use Rattle.ent_job.specs.Work.{StandAtNumbers}
@@ -34,7 +34,7 @@ laid_beside (suc number) rows (first ∷ more) (suc other) apart =
     laid_beside number rows more other (λ same. apart (ap suc same))
 
 module _ (declared : List Create) (tables : Tables) where
-  abbrev lent : List Use → List Seen
+  abbrev lent : List Use → List Numbered
   lent uses = seen_now declared tables uses
 
   -- the rows of a number are those that stand there
@@ -64,8 +64,8 @@ module _ (declared : List Create) (tables : Tables) where
       (stands_first first uses, more)
 
   same_rows : (among uses : List Use) → AllByRecursion (Stands among) uses
-      → map (λ (seen : Seen). at (tables_of (lent among)) seen.table) (lent uses)
-      ≡ map (λ (seen : Seen). seen.rows) (lent uses)
+      → map (λ (seen : Numbered). at (tables_of (lent among)) seen.table) (lent uses)
+      ≡ map (λ (seen : Numbered). seen.rows) (lent uses)
   same_rows among [] all = refl
   same_rows among (own ∷ more) all = λ i. all.0 i ∷ same_rows among more all.1 i
 

@@ -1,10 +1,10 @@
 -- What the results of jobs promise.
 use Rattle.std.specs.Prelude.{◌≡◌, List, [], ◌∷◌, Option, Some, None}
+use Rattle.ent_rel.specs.Numbered.{relation_of}
 use Rattle.ent_semantics.specs.declared.answer.Answer.{Answer}
 use Rattle.ent_semantics.specs.declared.answer.Answer.TheVariants as answers
-use Rattle.ent_protocol.specs.Job.{Seen, Done, IsEvaluated}
+use Rattle.ent_protocol.specs.Job.{Numbered, Done, IsEvaluated}
 use Rattle.ent_protocol.specs.Job as jobs
-use Rattle.ent_job.specs.Seen.{relation_of}
 use Rattle.ent_eval.specs.Change.{IsApplicable}
 use Rattle.ent_eval.specs.declared.outcome.JobOutcome.{JobOutcome}
 use Rattle.ent_eval.specs.declared.outcome.JobOutcome.TheVariants as outcomes
@@ -30,10 +30,10 @@ answer_of (jobs.Choice groundings) = None
 answer_of (jobs.Fault failure) = None
 
 -- a change that an outcome tells can be made in the one table
-abbrev pub CanBeMade : List Seen → jobs.Outcome → Type 0
+abbrev pub CanBeMade : List Numbered → jobs.Outcome → Type 0
 CanBeMade tables (jobs.Shown rows) = Unit {0}
 CanBeMade tables (jobs.Changed count removed added) =
-    (seen : Seen) × (tables ≡ seen ∷ [])
+    (seen : Numbered) × (tables ≡ seen ∷ [])
     × IsApplicable (relation_of seen) (record { removed = removed; added = added })
 CanBeMade tables (jobs.Bound value) = Unit {0}
 CanBeMade tables (jobs.Choice groundings) = Unit {0}

@@ -8,8 +8,8 @@ ghost use Rattle.ent_eval.specs.Result.{CanBeMade, IsRight, alone_seen, answer_o
 use crate::evaluation::statement_outcome;
 use crate::joint::choice;
 use crate::outcome::{JobOutcome, Outcome};
-use crate::shared::tables_shared;
-use ent_job::{Job, Seen, Single, Work};
+use ent_job::{Job, Single, Work};
+use ent_rel::NumberedTable;
 use ent_semantics::Answer;
 use std::alloc::{AllocError, Global};
 use std::marker::Model;
@@ -89,15 +89,18 @@ impl Done {
 }
 
 /// What the statement of one transaction comes to.
-fn one_outcome(alloc: Global, single: &Single, tables: &[Seen]) -> Result<Outcome, AllocError>
+fn one_outcome(
+    alloc: Global,
+    single: &Single,
+    tables: &[NumberedTable],
+) -> Result<Outcome, AllocError>
     requires { IsOne single.now tables.now }
     ensures { IfOk result (λ outcome. IsRight record {
       job = record { work = jobs.One single.now; tables = tables.now };
       outcome = alone_seen outcome;
     }) }
 {
-    let shared = tables_shared(alloc, tables)?;
-    let outcome = statement_outcome(alloc, single.statement(), shared.as_slice())?;
+    let outcome = statement_outcome(alloc, single.statement(), tables)?;
     Ok(outcome)
 }
 

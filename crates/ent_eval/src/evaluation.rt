@@ -1,6 +1,6 @@
 //! Evaluation of ordinary statements.
 ghost use Rattle.std.specs.Prelude.{◌≡◌, [], ◌∷◌, IfOk, length, map};
-ghost use Rattle.std.specs.Arc.{arc_value};
+ghost use Rattle.ent_rel.specs.Numbered.{relation_of};
 ghost use Rattle.ent_semantics.specs.Term.{expression_value};
 ghost use Rattle.ent_select.specs.Tables.{kinds_in, rows_in};
 ghost use Rattle.ent_select.specs.Worth.{itself};
@@ -12,19 +12,18 @@ use crate::change::{deletion, insertion, replacement};
 use crate::outcome::Outcome;
 use crate::term::known_expression;
 use ent_closed::Statement;
-use ent_rel::Table;
+use ent_rel::{NumberedTable, Table};
 use ent_select::all;
 use ent_tree::Expression;
 use ent_value::{Refusal, Value};
 use std::alloc::{AllocError, Global};
-use std::sync::Arc;
 
 /// The one table of a list.
-fn only(tables: &[Arc<Table>]) -> &Table
+fn only(tables: &[NumberedTable]) -> &Table
     requires { length tables.now ≡ 1 }
-    ensures { map arc_value tables.now ≡ result.now ∷ [] }
+    ensures { map relation_of tables.now ≡ result.now ∷ [] }
 {
-    &tables[0]
+    tables[0].table()
 }
 
 /// What a SET of an expression comes to.
@@ -44,11 +43,11 @@ fn binding(alloc: Global, expression: &Expression<Value>) -> Result<Outcome, All
 pub fn statement_outcome(
     alloc: Global,
     statement: &Statement<Value>,
-    tables: &[Arc<Table>],
+    tables: &[NumberedTable],
 ) -> Result<Outcome, AllocError>
-    requires { Fits (kinds_in (map arc_value tables.now)) statement.now }
-    ensures meaning { IfOk result (λ outcome. IsMeant statement.now (rows_in (map arc_value tables.now)) outcome) }
-    ensures change { IfOk result (λ outcome. CanBeApplied (map arc_value tables.now) outcome) }
+    requires { Fits (kinds_in (map relation_of tables.now)) statement.now }
+    ensures meaning { IfOk result (λ outcome. IsMeant statement.now (rows_in (map relation_of tables.now)) outcome) }
+    ensures change { IfOk result (λ outcome. CanBeApplied (map relation_of tables.now) outcome) }
 {
     match statement {
         Statement::Select(query) => Ok(Outcome::Rows(all(alloc, query, tables)?)),

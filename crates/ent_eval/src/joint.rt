@@ -2,13 +2,12 @@
 ghost use Rattle.std.specs.Prelude.{◌≡◌, IfOk, List, MatchOption};
 ghost use Rattle.ent_coordination.specs.Choice.{IsLeastChoiceIfAny};
 ghost use Rattle.ent_join.specs.Plans.{HaveNoPlan};
-ghost use Rattle.ent_protocol.specs.Job.{Seen as TableSeen, tables_of};
+ghost use Rattle.ent_protocol.specs.Job.{Numbered, tables_of};
 ghost use Rattle.ent_job.specs.Work.{IsJoint};
 
-use crate::shared::tables_shared;
-use ent_job::Seen;
 use ent_join::{JoinPlan, first};
 use ent_match::Posted;
+use ent_rel::NumberedTable;
 use ent_value::{Sequence, Value};
 use std::alloc::{AllocError, Global};
 
@@ -25,7 +24,7 @@ fn shared(alloc: Global, asked: &[Posted]) -> Result<Vec<Posted>, AllocError>
 
 /// The plan of the choices of posted statements; none where there are no choices, whatever the rows.
 fn plan_of(alloc: Global, asked: &[Posted]) -> Result<Option<JoinPlan>, AllocError>
-    requires { (tables : List TableSeen) × IsJoint asked.now tables }
+    requires { (tables : List Numbered) × IsJoint asked.now tables }
     ensures { IfOk result (λ plan. MatchOption plan (HaveNoPlan asked.now) (λ plan. plan.members ≡ asked.now)) }
 {
     let members = shared(alloc, asked)?;
@@ -38,7 +37,7 @@ fn plan_of(alloc: Global, asked: &[Posted]) -> Result<Option<JoinPlan>, AllocErr
 pub(crate) fn choice(
     alloc: Global,
     asked: &[Posted],
-    tables: &[Seen],
+    tables: &[NumberedTable],
 ) -> Result<Option<Sequence<Sequence<Value>>>, AllocError>
     requires { IsJoint asked.now tables.now }
     ensures { IfOk result (λ choice. IsLeastChoiceIfAny (tables_of tables.now) asked.now choice) }
@@ -47,8 +46,7 @@ pub(crate) fn choice(
     match planned {
         None => Ok(None),
         Some(plan) => {
-            let shared = tables_shared(alloc, tables)?;
-            let choice = first(alloc, &plan, shared.as_slice())?;
+            let choice = first(alloc, &plan, tables)?;
             Ok(choice)
         }
     }

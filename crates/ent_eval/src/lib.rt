@@ -13,12 +13,11 @@ mod joint;
 mod law;
 mod outcome;
 mod row;
-mod shared;
 mod term;
 
 pub use at_number::table_changed;
 pub use done::{Done, NotDone, evaluate};
-pub use ent_job::{Job, Seen, Single, Work};
+pub use ent_job::{Job, Single, Work};
 pub use evaluation::statement_outcome;
 pub use law::{components_stand_alone, lent_tables_stand};
 pub use outcome::{JobOutcome, Outcome, rows_copy};

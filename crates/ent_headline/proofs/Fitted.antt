@@ -29,7 +29,7 @@ use Rattle.ent_form.specs.declared.catalogue.TableSchema.{TableSchema}
 use Rattle.ent_form.specs.declared.fault.FormFault.{FormFault}
 use Rattle.ent_form_laws.specs.Kinds.{column_kinds, kinds_numbered}
 use Rattle.ent_form_laws.proofs.Steps.{one_answer, bound_given}
-use Rattle.ent_protocol.specs.Job.{Seen}
+use Rattle.ent_protocol.specs.Job.{Numbered}
 use Rattle.ent_protocol.specs.Member.{Ordinary, next_in, next_of, statement_next, end_next, environment_of}
 use Rattle.ent_protocol.specs.Member.{declared_kinds, seen_now}
 use Rattle.ent_protocol.specs.Reached.{IsReached}
@@ -189,14 +189,14 @@ same_kinds creates table = ap (λ (all : List (List Kind)). slice_index_or all t
 
 sources_kinds : (creates : List Create) (tables : Tables) (sources : List ℕ)
     → map (kinds_numbered (schemas_of creates)) sources
-    ≡ map (λ (seen : Seen). seen.kinds) (seen_now creates tables (map shared sources))
+    ≡ map (λ (seen : Numbered). seen.kinds) (seen_now creates tables (map shared sources))
 sources_kinds creates tables [] = refl
 sources_kinds creates tables (source ∷ sources) =
     λ i. same_kinds creates source i ∷ sources_kinds creates tables sources i
 
 pub job_fits : (creates : List Create) (tables : Tables) (statement : Statement Value)
     → Fits (map (kinds_numbered (schemas_of creates)) (tables_named statement)) statement
-    → Fits (map (λ (seen : Seen). seen.kinds) (seen_now creates tables (statement_uses statement))) statement
+    → Fits (map (λ (seen : Numbered). seen.kinds) (seen_now creates tables (statement_uses statement))) statement
 job_fits creates tables (statements.Entangled entangled) fits = absurd fits
 job_fits creates tables (statements.Select select) fits =
     subst (λ (kinds : List (List Kind)). Fits kinds (statements.Select select))

@@ -2,7 +2,7 @@
 use Rattle.std.proofs.Common.{◌≡◌, ℕ, not, ◌==◌, ◌||◌, cond, List, [], ◌∷◌, map, refl, ap, ◌∙◌}
 use Rattle.std.specs.Prelude.{filter}
 use Rattle.std.specs.List.{list_any}
-use Rattle.ent_protocol.specs.Job.{Job, Seen, Work, One, Joint}
+use Rattle.ent_protocol.specs.Job.{Job, Numbered, Work, One, Joint}
 use Rattle.ent_protocol.specs.Rollback.{goes_with, is_among}
 use Rattle.ent_protocol.specs.State.{Member}
 use Rattle.ent_job.specs.Lent.{goes_with_any}
@@ -14,7 +14,7 @@ among_numbers : (gone : List Member) (tx : ℕ) → list_any (λ n. n == tx) (nu
 among_numbers [] tx = refl
 among_numbers (member ∷ gone) tx = ap (λ b. (member.tx == tx) || b) (among_numbers gone tx)
 
-goes : (gone : List Member) (work : Work) (tables : List Seen)
+goes : (gone : List Member) (work : Work) (tables : List Numbered)
     → goes_with_any (numbers_of gone) (record { work = work; tables = tables })
     ≡ goes_with gone (record { work = work; tables = tables })
 goes gone (One single) tables = among_numbers gone single.tx

@@ -4,11 +4,11 @@ ghost use Rattle.ent_protocol.specs.Job as jobs;
 ghost use Rattle.ent_protocol.specs.Member.{is_single_of};
 ghost use Rattle.ent_job.specs.Work.{IsOne, IsJoint, IsWork, work_seen};
 
-use crate::seen::Seen;
 use crate::single::Single;
 use crate::work::Work;
 use ent_group::Tx;
 use ent_match::Posted;
+use ent_rel::NumberedTable;
 use ent_tree::{Duplicate, Same};
 use ent_value::Sequence;
 use std::alloc::{AllocError, Global};
@@ -18,7 +18,7 @@ use std::marker::Model;
 /// statements are one component of the pool that they make, which is safe.
 pub struct Job {
     work: Work,
-    tables: Sequence<Seen>,
+    tables: Sequence<NumberedTable>,
 }
 
 /// Written out, so that the crates above call it, and none makes and compiles it anew.
@@ -49,7 +49,7 @@ impl Model for Job {
 
 impl Job {
     /// The job of a statement over the tables that it uses, in the order in which it names them.
-    pub fn one(single: Single, tables: Sequence<Seen>) -> Self
+    pub fn one(single: Single, tables: Sequence<NumberedTable>) -> Self
         requires { IsOne single tables }
         ensures { result ≡ record { work = jobs.One single; tables = tables } }
     {
@@ -60,7 +60,7 @@ impl Job {
     }
 
     /// The job of posted statements, by number of their transactions, over the tables that they use, by number.
-    pub fn joint(asked: Sequence<Posted>, tables: Sequence<Seen>) -> Self
+    pub fn joint(asked: Sequence<Posted>, tables: Sequence<NumberedTable>) -> Self
         requires { IsJoint asked tables }
         ensures { result ≡ record { work = jobs.Joint asked; tables = tables } }
     {
@@ -87,7 +87,7 @@ impl Job {
         }
     }
 
-    pub fn tables(&self) -> &[Seen]
+    pub fn tables(&self) -> &[NumberedTable]
         ensures { result.now ≡ self.now.tables }
     {
         self.tables.as_slice()

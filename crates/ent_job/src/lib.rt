@@ -12,12 +12,10 @@ mod job;
 mod lent;
 mod list;
 mod membership;
-mod seen;
 mod single;
 mod work;
 
 pub use job::Job;
 pub use lent::LentJobs;
-pub use seen::Seen;
 pub use single::Single;
 pub use work::Work;

@@ -10,7 +10,7 @@ use Rattle.ent_value.specs.declared.value.Kind.{Kind}
 use Rattle.ent_value.specs.declared.value.Kind.TheVariants as kinds
 use Rattle.ent_value.specs.declared.value.Value.{Value}
 use Rattle.ent_tree.specs.declared.operand.Test.{Test}
-use Rattle.ent_rel.specs.Relation.{Relation}
+use Rattle.ent_rel.specs.Numbered.{Numbered}
 use Rattle.ent_semantics.specs.Entangled.{Valuation}
 use Rattle.ent_closed.specs.Form.{Tables}
 use Rattle.ent_coordination.specs.Choice.{AreGroundings, IsChoice, IsLeastChoice, choice_cmp}
@@ -18,16 +18,16 @@ use Rattle.ent_coordination.specs.Pool.{Posted}
 use Rattle.ent_plan.specs.Plan.{IsGroundedSpread, IsPlan, Plan, slot_kind, spread}
 use Rattle.ent_plan.specs.Tables.{tables_named}
 use Rattle.ent_plan.specs.declared.slot.Slot.{Slot}
-use Rattle.ent_select.specs.Tables.{rows_in}
 use Rattle.ent_join.specs.Asked.{all_indexes, all_tests}
 use Rattle.ent_join.specs.Frame.{IsFrame, are_of_kinds, candidates_of, has_class, is_kind, lets_through, may_hold}
 use Rattle.ent_join.specs.Index.{IsIndexed, goes_on}
+use Rattle.ent_join.specs.Laid.{AreLaid}
 use Rattle.ent_plan.specs.Ranged.{AreRanged}
 use Rattle.ent_join.specs.Search.{IsGuide, IsLeast, NonePasses}
 use Rattle.ent_join.specs.declared.frame.Frame.{Frame}
 use Rattle.ent_join.proofs.Guiding.{frame_guides}
 use Rattle.ent_join.proofs.Held.{all_indexed, all_parts, held, numbered_below, sources_are_named}
-use Rattle.ent_join.proofs.Tied.{SlotBelow, groundings_from, groundings_to, rows_of_laid, tests_to}
+use Rattle.ent_join.proofs.Tied.{SlotBelow, groundings_from, groundings_to, tests_to}
 
 kind_exact : (one other : Kind) → is_kind one other ≡ true → one ≡ other
 kind_exact kinds.Int kinds.Int h = refl
@@ -59,9 +59,8 @@ kinds_width : (values : List Value) → length (kinds_of values) ≡ length valu
 kinds_width [] = refl
 kinds_width (value ∷ values) = ap suc (kinds_width values)
 
-module _ (plan : Plan) (is : IsPlan plan) (tables : List Relation) (frame : Frame)
-    (indexes : frame.indexes ≡ all_indexes (tables_named plan.members) tables (all_tests plan.members plan.slots)
-    plan.members plan.slots)
+module _ (plan : Plan) (is : IsPlan plan) (tables : List Numbered) (frame : Frame)
+    (indexes : frame.indexes ≡ all_indexes tables (all_tests plan.members plan.slots) plan.members plan.slots)
     (tests : frame.tests ≡ all_tests plan.members plan.slots)
     (of_kinds : frame.kinds ≡ plan.kinds) where
   abbrev count : ℕ
@@ -72,12 +71,10 @@ module _ (plan : Plan) (is : IsPlan plan) (tables : List Relation) (frame : Fram
 
   pub is_frame : AreRanged plan.members → IsFrame count frame
   is_frame ranged = record {
-    indexed = subst (AllByRecursion IsIndexed) (sym indexes)
-        (all_indexed (tables_named plan.members) tables checks plan.members plan.slots);
+    indexed = subst (AllByRecursion IsIndexed) (sym indexes) (all_indexed tables checks plan.members plan.slots);
     held = λ class less.
         ap (list_any (has_class class)) indexes
-        ∙ held (tables_named plan.members) tables checks plan.kinds class plan.members plan.slots is.kinded ranged
-        is.numbered less;
+        ∙ held tables checks plan.kinds class plan.members plan.slots is.kinded ranged is.numbered less;
   }
 
   pub guides : AreRanged plan.members → IsGuide count (candidates_of frame) (lets_through frame)
@@ -88,7 +85,7 @@ module _ (plan : Plan) (is : IsPlan plan) (tables : List Relation) (frame : Fram
   passes_is : (values : List Value)
       → lets_through frame values
       ≡ (are_of_kinds plan.kinds values
-      && (list_all (goes_on values) (all_indexes (tables_named plan.members) tables checks plan.members plan.slots)
+      && (list_all (goes_on values) (all_indexes tables checks plan.members plan.slots)
       && list_all (may_hold values) (all_tests plan.members plan.slots)))
   passes_is values =
       λ i. are_of_kinds (of_kinds i) values
@@ -101,7 +98,7 @@ module _ (plan : Plan) (is : IsPlan plan) (tables : List Relation) (frame : Fram
       (all_parts (SlotBelow count) plan.slots
       (numbered_below 0 (flat_map (λ ss. ss) plan.slots) count is.numbered).1)
 
-  module _ (laid : Tables) (e : rows_of_laid laid (tables_named plan.members) ≡ rows_in tables) where
+  module _ (laid : Tables) (are : AreLaid plan.members tables laid) where
     grounded : (values : List Value) → length values ≡ count → lets_through frame values ≡ true
         → (kinds_of values ≡ plan.kinds) × AreGroundings laid plan.members (spread plan values)
     grounded values w h =
@@ -111,7 +108,7 @@ module _ (plan : Plan) (is : IsPlan plan) (tables : List Relation) (frame : Fram
         ≡ map (λ (member : Posted). member.statement.variables) plan.members =
         ap (λ ks. map (map (slot_kind ks)) plan.slots) same ∙ is.kinded in (
           same,
-          groundings_from laid (tables_named plan.members) tables e values checks (and_both _ _ k.1).1 plan.members
+          groundings_from tables laid (tables_named plan.members) are values checks (and_both _ _ k.1).1 plan.members
               plan.slots kinded (below values w) (sources_are_named plan.members) k.1,
         )
 
@@ -123,10 +120,10 @@ module _ (plan : Plan) (is : IsPlan plan) (tables : List Relation) (frame : Fram
         ap (λ ks. are_of_kinds ks values) (sym same) ∙ kinds_to values in
         passes_is values
         ∙ (λ i. of i
-        && (list_all (goes_on values) (all_indexes (tables_named plan.members) tables checks plan.members plan.slots)
+        && (list_all (goes_on values) (all_indexes tables checks plan.members plan.slots)
         && list_all (may_hold values) (all_tests plan.members plan.slots)))
-        ∙ groundings_to laid (tables_named plan.members) tables e values checks
-        (tests_to laid (tables_named plan.members) tables e values plan.members plan.slots (below values w) g)
+        ∙ groundings_to tables laid (tables_named plan.members) are values checks
+        (tests_to tables laid (tables_named plan.members) are values plan.members plan.slots (below values w) g)
         plan.members plan.slots (below values w) (sources_are_named plan.members) g
 
     module _ (choices : (groundings : List Valuation)

@@ -14,7 +14,7 @@ use Rattle.ent_lists.specs.Elements.{all_first, all_second}
 use Rattle.ent_value.specs.declared.value.Kind.{Kind}
 use Rattle.ent_value.specs.declared.value.Value.{Value}
 use Rattle.ent_tree.specs.declared.operand.Test.{Test}
-use Rattle.ent_rel.specs.Relation.{Relation}
+use Rattle.ent_rel.specs.Numbered.{Numbered}
 use Rattle.ent_semantics.specs.Term.{no_value}
 use Rattle.ent_closed.specs.declared.entangled.Membership.{Membership}
 use Rattle.ent_closed.specs.declared.entangled.Term.{Term}
@@ -175,19 +175,18 @@ slots_width : (class_kinds : List Kind) (slots : List Slot) → length (map (slo
 slots_width class_kinds [] = refl
 slots_width class_kinds (slot ∷ slots) = ap suc (slots_width class_kinds slots)
 
-module _ (numbers : List ℕ) (tables : List Relation) (tests : List (Test Slot)) (class_kinds : List Kind)
-    (class : ℕ) where
+module _ (tables : List Numbered) (tests : List (Test Slot)) (class_kinds : List Kind) (class : ℕ) where
   held_in : (members : List Posted) (slots : List (List Slot))
       → map (map (slot_kind class_kinds)) slots ≡ map (λ (member : Posted). member.statement.variables) members
       → AreRanged members
       → list_any (is_class class) (flat_map (λ ss. ss) slots) ≡ true
-      → list_any (has_class class) (all_indexes numbers tables tests members slots) ≡ true
+      → list_any (has_class class) (all_indexes tables tests members slots) ≡ true
   held_in [] [] kinded ranged h = cc
   held_in [] (ss ∷ slots) kinded ranged h = cc
   held_in (member ∷ members) [] kinded ranged h = cc
   held_in (member ∷ members) (ss ∷ slots) kinded ranged h =
-      list_any-append (has_class class) (map (membership_index numbers tables tests ss) member.statement.atoms)
-      (all_indexes numbers tables tests members slots)
+      list_any-append (has_class class) (map (membership_index tables tests ss) member.statement.atoms)
+      (all_indexes tables tests members slots)
       ∙ by (list_any (is_class class) ss) refl (λ k. held_in members slots rest ranged.1 k)
       (sym (list_any-append (is_class class) ss (flat_map (λ ss. ss) slots)) ∙ h)
     where
@@ -198,28 +197,28 @@ module _ (numbers : List ℕ) (tables : List Relation) (tests : List (Test Slot)
       rest = cc
 
       here : list_any (is_class class) ss ≡ true
-          → list_any (has_class class) (map (membership_index numbers tables tests ss) member.statement.atoms) ≡ true
+          → list_any (has_class class) (map (membership_index tables tests ss) member.statement.atoms) ≡ true
       here e =
           let k = slot_with class ss e in
           let l : k.0 < length ss = k.1 in
           let w : length ss ≡ length member.statement.variables = sym (slots_width class_kinds ss) ∙ ap length first in
-          any_through (stands_in k.0) (has_class class) (membership_index numbers tables tests ss)
+          any_through (stands_in k.0) (has_class class) (membership_index tables tests ss)
           (λ membership stands.
-          column_any class (membership_index numbers tables tests ss membership).classes
+          column_any class (membership_index tables tests ss membership).classes
           ∙ (index_is (map (term_slot ss) membership.terms)
-          (left_rows numbers tables tests membership.select (map (term_slot ss) membership.terms))).classes
+          (left_rows tables tests membership.select (map (term_slot ss) membership.terms))).classes
           (λ n. n == class)
           ∙ tuple_class ss class k.0 k.2 membership.terms stands)
           member.statement.atoms (ranged.0 k.0 (omega arith))
 
       by : (b : Bool) → list_any (is_class class) ss ≡ b
           → (list_any (is_class class) (flat_map (λ ss. ss) slots) ≡ true
-          → list_any (has_class class) (all_indexes numbers tables tests members slots) ≡ true)
+          → list_any (has_class class) (all_indexes tables tests members slots) ≡ true)
           → (b || list_any (is_class class) (flat_map (λ ss. ss) slots)) ≡ true
-          → (list_any (has_class class) (map (membership_index numbers tables tests ss) member.statement.atoms)
-          || list_any (has_class class) (all_indexes numbers tables tests members slots)) ≡ true
+          → (list_any (has_class class) (map (membership_index tables tests ss) member.statement.atoms)
+          || list_any (has_class class) (all_indexes tables tests members slots)) ≡ true
       by true e more h =
-          ap (λ b. b || list_any (has_class class) (all_indexes numbers tables tests members slots)) (here e)
+          ap (λ b. b || list_any (has_class class) (all_indexes tables tests members slots)) (here e)
       by false e more h = or_true _ _ (more h)
 
   -- each class of a plan is one of an index
@@ -227,26 +226,26 @@ module _ (numbers : List ℕ) (tables : List Relation) (tests : List (Test Slot)
       → map (map (slot_kind class_kinds)) slots ≡ map (λ (member : Posted). member.statement.variables) members
       → AreRanged members
       → AreNumbered 0 (flat_map (λ ss. ss) slots) (length class_kinds) → class < length class_kinds
-      → list_any (has_class class) (all_indexes numbers tables tests members slots) ≡ true
+      → list_any (has_class class) (all_indexes tables tests members slots) ≡ true
   held members slots kinded ranged numbered less =
       held_in members slots kinded ranged
       (numbered_has 0 (flat_map (λ ss. ss) slots) (length class_kinds) class numbered (omega arith) less)
 
-indexed_map : (numbers : List ℕ) (tables : List Relation) (tests : List (Test Slot)) (ss : List Slot)
+indexed_map : (tables : List Numbered) (tests : List (Test Slot)) (ss : List Slot)
     (memberships : List (Membership Value)) (more : List Indexed) → AllByRecursion IsIndexed more
-    → AllByRecursion IsIndexed (map (membership_index numbers tables tests ss) memberships ++ more)
-indexed_map numbers tables tests ss [] more h = h
-indexed_map numbers tables tests ss (membership ∷ memberships) more h = (
+    → AllByRecursion IsIndexed (map (membership_index tables tests ss) memberships ++ more)
+indexed_map tables tests ss [] more h = h
+indexed_map tables tests ss (membership ∷ memberships) more h = (
   (index_is (map (term_slot ss) membership.terms)
-      (left_rows numbers tables tests membership.select (map (term_slot ss) membership.terms))).indexed,
-  indexed_map numbers tables tests ss memberships more h,
+      (left_rows tables tests membership.select (map (term_slot ss) membership.terms))).indexed,
+  indexed_map tables tests ss memberships more h,
 )
 
-pub all_indexed : (numbers : List ℕ) (tables : List Relation) (tests : List (Test Slot)) (members : List Posted)
+pub all_indexed : (tables : List Numbered) (tests : List (Test Slot)) (members : List Posted)
     (slots : List (List Slot))
-    → AllByRecursion IsIndexed (all_indexes numbers tables tests members slots)
-all_indexed numbers tables tests [] slots = tt
-all_indexed numbers tables tests (member ∷ members) [] = tt
-all_indexed numbers tables tests (member ∷ members) (ss ∷ slots) =
-    indexed_map numbers tables tests ss member.statement.atoms (all_indexes numbers tables tests members slots)
-    (all_indexed numbers tables tests members slots)
+    → AllByRecursion IsIndexed (all_indexes tables tests members slots)
+all_indexed tables tests [] slots = tt
+all_indexed tables tests (member ∷ members) [] = tt
+all_indexed tables tests (member ∷ members) (ss ∷ slots) =
+    indexed_map tables tests ss member.statement.atoms (all_indexes tables tests members slots)
+    (all_indexed tables tests members slots)

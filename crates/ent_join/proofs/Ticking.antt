@@ -9,7 +9,7 @@ use Rattle.ent_value.specs.Value.{kinds_of}
 use Rattle.ent_value.specs.declared.value.Kind.{Kind}
 use Rattle.ent_value.specs.declared.value.Value.{Value}
 use Rattle.ent_tree.specs.declared.operand.Test.{Test}
-use Rattle.ent_rel.specs.Relation.{Relation}
+use Rattle.ent_rel.specs.Numbered.{Numbered}
 use Rattle.ent_semantics.specs.Database.{Rows}
 use Rattle.ent_semantics.specs.Kinds.{RowsHaveKinds}
 use Rattle.ent_semantics.specs.Term.{no_value}
@@ -20,12 +20,12 @@ use Rattle.ent_coordination.specs.Pool.{Posted}
 use Rattle.ent_plan.specs.Plan.{IsPlan, Plan, slot_kind}
 use Rattle.ent_plan.specs.Tables.{sources_of, tables_named}
 use Rattle.ent_plan.specs.declared.slot.Slot.{Slot}
-use Rattle.ent_select.specs.Tables.{rows_in}
 use Rattle.ent_join.specs.Alone.{is_left}
 use Rattle.ent_join.specs.Asked.{all_indexes, all_tests, left_rows, membership_index, select_rows, slot_test}
 use Rattle.ent_join.specs.Frame.{are_of_kinds, candidates_of, has_class, lets_through}
 use Rattle.ent_join.specs.Index.{Indexed, column_of}
 use Rattle.ent_join.specs.Keyed.{IsIndexOf, is_class, keys_under, term_slot}
+use Rattle.ent_join.specs.Laid.{AreLaid}
 use Rattle.ent_plan.specs.Ranged.{AreRanged}
 use Rattle.ent_join.specs.Row.{AsksForARow}
 use Rattle.ent_join.specs.Search.{AreTicks, NoDeadEnds}
@@ -37,7 +37,7 @@ use Rattle.ent_join.proofs.Held.{all_parts, column_any, held, numbered_below, so
 use Rattle.ent_join.proofs.Keys.{IsBelow, classes_alike, classes_below, index_is, keys_alike}
 use Rattle.ent_join.proofs.NoDeadEnd.{Within, class_any, column_kinds, is_upto, keys_fit, no_dead_ends}
 use Rattle.ent_join.proofs.NoDeadEnd.{rows_of_kinds, upto}
-use Rattle.ent_join.proofs.Tied.{Named, SlotBelow, columns_below, rows_are, rows_of_laid}
+use Rattle.ent_join.proofs.Tied.{Named, SlotBelow, columns_below, rows_are}
 
 -- a value for each kind
 abbrev a_value_each : List Kind → List Value
@@ -52,12 +52,11 @@ or_none : (b : Bool) → (b || false) ≡ true → b ≡ true
 or_none true h = refl
 or_none false h = h
 
-module _ (plan : Plan) (is : IsPlan plan) (tables : List Relation) (frame : Frame)
-    (indexes : frame.indexes ≡ all_indexes (tables_named plan.members) tables (all_tests plan.members plan.slots)
-    plan.members plan.slots)
+module _ (plan : Plan) (is : IsPlan plan) (tables : List Numbered) (frame : Frame)
+    (indexes : frame.indexes ≡ all_indexes tables (all_tests plan.members plan.slots) plan.members plan.slots)
     (tests : frame.tests ≡ all_tests plan.members plan.slots)
     (of_kinds : frame.kinds ≡ plan.kinds)
-    (laid : Tables) (e : rows_of_laid laid (tables_named plan.members) ≡ rows_in tables)
+    (laid : Tables) (are : AreLaid plan.members tables laid)
     (ranged : AreRanged plan.members)
     (member : Posted) (alone : plan.members ≡ member ∷ []) (asks : AsksForARow laid member.statement) where
   abbrev ks : List Kind
@@ -74,26 +73,26 @@ module _ (plan : Plan) (is : IsPlan plan) (tables : List Relation) (frame : Fram
   columns = map (term_slot one.0) asks.membership.terms
 
   abbrev index : Indexed
-  index = membership_index names tables [] one.0 asks.membership
+  index = membership_index tables [] one.0 asks.membership
 
   abbrev given : Rows
-  given = select_rows names tables asks.membership.select
+  given = select_rows tables asks.membership.select
 
   none_asked : all_tests plan.members plan.slots ≡ []
   none_asked =
       (λ i. all_tests (alone i) (one.1 i))
       ∙ ap (λ (all : List (Test (Term Value))). map (slot_test one.0) all ++ []) asks.no_tests
 
-  the_index : all_indexes names tables (all_tests plan.members plan.slots) plan.members plan.slots ≡ index ∷ []
+  the_index : all_indexes tables (all_tests plan.members plan.slots) plan.members plan.slots ≡ index ∷ []
   the_index =
-      (λ i. all_indexes names tables (none_asked i) (alone i) (one.1 i))
-      ∙ ap (λ (atoms : List (Membership Value)). map (membership_index names tables [] one.0) atoms ++ []) asks.only
+      (λ i. all_indexes tables (none_asked i) (alone i) (one.1 i))
+      ∙ ap (λ (atoms : List (Membership Value)). map (membership_index tables [] one.0) atoms ++ []) asks.only
 
   no_test : frame.tests ≡ []
   no_test = tests ∙ none_asked
 
   abbrev left : List (List Value)
-  left = left_rows names tables [] asks.membership.select columns
+  left = left_rows tables [] asks.membership.select columns
 
   indexed : IsIndexOf columns left index
   indexed = index_is columns left
@@ -103,7 +102,7 @@ module _ (plan : Plan) (is : IsPlan plan) (tables : List Relation) (frame : Fram
       sym (column_any class index.classes)
       ∙ or_none (is_some (column_of class index.classes))
       (ap (list_any (has_class class)) (sym the_index)
-      ∙ held names tables (all_tests plan.members plan.slots) ks class plan.members plan.slots is.kinded ranged
+      ∙ held tables (all_tests plan.members plan.slots) ks class plan.members plan.slots is.kinded ranged
       is.numbered less)
 
   slots_below : AllByRecursion (SlotBelow (length ks)) one.0
@@ -141,7 +140,7 @@ module _ (plan : Plan) (is : IsPlan plan) (tables : List Relation) (frame : Fram
   given_kinds : RowsHaveKinds (map (slot_kind ks) columns) given
   given_kinds =
       subst (RowsHaveKinds (map (slot_kind ks) columns))
-      (sym (rows_are laid names tables e [] asks.membership.select named))
+      (sym (rows_are tables laid names are [] asks.membership.select named))
       (subst (λ kinds. RowsHaveKinds kinds (form_rows (λ value. value) laid asks.membership.select))
       (column_kinds ks member.statement.variables one.0 one.2 asks.membership.terms) asks.kinds)
 

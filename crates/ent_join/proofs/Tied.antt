@@ -1,6 +1,6 @@
 -- What the indexes and tests of statements let through are their groundings.
-use Rattle.std.proofs.Common.{◌≡◌, ℕ, zero, suc, ◌<◌, Bool, true, false, cond, List, [], ◌∷◌, length, map}
-use Rattle.std.proofs.Common.{Some, refl, sym, ap, ◌∙◌}
+use Rattle.std.proofs.Common.{◌≡◌, ℕ, zero, suc, ◌<◌, Bool, true, false, List, [], ◌∷◌, length, map}
+use Rattle.std.proofs.Common.{Some, refl, sym, ap, subst, ◌∙◌}
 use Rattle.std.specs.Prelude.{◌==◌, ◌&&◌, ◌||◌, slice_index_or}
 use Rattle.std.specs.List.{AllByRecursion, cons_option, flat_map, list_all, list_any}
 use Rattle.std.specs.Ordering.{eq_by_cmp}
@@ -15,8 +15,7 @@ use Rattle.ent_value.specs.Value.{kind_of, kinds_of, row_cmp}
 use Rattle.ent_value.specs.declared.value.Kind.TheVariants as kinds
 use Rattle.ent_value.specs.declared.value.Value.{Value}
 use Rattle.ent_tree.specs.declared.operand.Test.{Test}
-use Rattle.ent_rel.specs.Relation.{Relation}
-use Rattle.ent_semantics.specs.Database.{Rows}
+use Rattle.ent_rel.specs.Numbered.{Numbered, relation_of}
 use Rattle.ent_semantics.specs.Selection.{holds, meets, selection}
 use Rattle.ent_semantics.specs.Term.{no_value}
 use Rattle.ent_closed.specs.Form.{Tables, form_rows, membership_holds, term_worth}
@@ -33,56 +32,41 @@ use Rattle.ent_plan.specs.declared.slot.Slot.TheVariants.{Fixed, Class}
 use Rattle.ent_select.specs.Tables.{rows_in}
 use Rattle.ent_select.specs.Worth.{value_in}
 use Rattle.ent_join.specs.Alone.{is_left}
-use Rattle.ent_join.specs.Asked.{table_at, tables_at, left_rows, select_rows, membership_index, all_indexes}
-use Rattle.ent_join.specs.Asked.{slot_test, all_tests}
+use Rattle.ent_join.specs.Asked.{tables_at, left_rows, select_rows, membership_index, all_indexes, slot_test}
+use Rattle.ent_join.specs.Asked.{all_tests}
 use Rattle.ent_join.specs.Frame.{may_compare, may_hold, slot_there}
 use Rattle.ent_join.specs.Index.{goes_on}
 use Rattle.ent_join.specs.Keyed.{class_numbers, term_slot}
+use Rattle.ent_join.specs.Laid.{IsLaid}
 use Rattle.ent_join.proofs.Left.{tuple_left}
 use Rattle.ent_join.proofs.Keys.{IsBelow, index_is}
 
--- ---- tables beside their numbers
+-- ---- tables under their numbers
 
 abbrev pub Named : List ℕ → ℕ → Type 0
 Named numbers source = list_any (λ m. m == source) numbers ≡ true
 
-abbrev pub rows_of_laid : Tables → List ℕ → List Rows
-rows_of_laid laid numbers = map (λ number. slice_index_or laid number set.empty) numbers
-
-table_is : (laid : Tables) (number : ℕ) (numbers : List ℕ) (tables : List Relation)
-    → rows_of_laid laid numbers ≡ rows_in tables → Named numbers number
-    → (table : Relation) × (table_at number numbers tables ≡ Some table)
-    × (table.rows ≡ slice_index_or laid number set.empty)
-table_is laid number [] tables e named = cc
-table_is laid number (other ∷ numbers) [] e named = cc
-table_is laid number (other ∷ numbers) (table ∷ tables) e named =
-    by (λ k. table_is laid number numbers tables tail k) (other == number) refl named
+table_is : (tables : List Numbered) (laid : Tables) (numbers : List ℕ) (number : ℕ)
+    → AllByRecursion (IsLaid tables laid) numbers → Named numbers number → IsLaid tables laid number
+table_is tables laid [] number all named = cc
+table_is tables laid (other ∷ numbers) number all named =
+    by (λ k. table_is tables laid numbers number all.1 k) (other == number) refl named
   where
-    tail : rows_of_laid laid numbers ≡ rows_in tables
-    tail = cc
-
-    head : slice_index_or laid other set.empty ≡ table.rows
-    head = cc
-
-    by : (Named numbers number → (table : Relation) × (table_at number numbers tables ≡ Some table)
-        × (table.rows ≡ slice_index_or laid number set.empty))
-        → (b : Bool) → (other == number) ≡ b → (b || list_any (λ m. m == number) numbers) ≡ true
-        → (found : Relation) × (cond b (Some table) (table_at number numbers tables) ≡ Some found)
-        × (found.rows ≡ slice_index_or laid number set.empty)
-    by more true is h =
-        (table, refl, sym head ∙ ap (λ n. slice_index_or laid n set.empty) (eqb-true other number is))
+    by : (Named numbers number → IsLaid tables laid number) → (b : Bool) → (other == number) ≡ b
+        → (b || list_any (λ m. m == number) numbers) ≡ true → IsLaid tables laid number
+    by more true is h = subst (IsLaid tables laid) (eqb-true other number is) all.0
     by more false is h = more h
 
-sources_are : (laid : Tables) (numbers : List ℕ) (tables : List Relation)
-    → rows_of_laid laid numbers ≡ rows_in tables
+sources_are : (tables : List Numbered) (laid : Tables) (numbers : List ℕ)
+    → AllByRecursion (IsLaid tables laid) numbers
     → (sources : List ℕ) → AllByRecursion (Named numbers) sources
-    → rows_in (tables_at numbers tables sources) ≡ rows_of_laid laid sources
-sources_are laid numbers tables e [] named = refl
-sources_are laid numbers tables e (source ∷ sources) named =
-    let is = table_is laid source numbers tables e named.0 in
-    ap (λ o. rows_in (cons_option o (tables_at numbers tables sources))) is.1
-    ∙ ap (λ rows. rows ∷ rows_in (tables_at numbers tables sources)) is.2
-    ∙ ap (λ rows. slice_index_or laid source set.empty ∷ rows) (sources_are laid numbers tables e sources named.1)
+    → rows_in (map relation_of (tables_at tables sources))
+    ≡ map (λ number. slice_index_or laid number set.empty) sources
+sources_are tables laid numbers all [] named = refl
+sources_are tables laid numbers all (source ∷ sources) named =
+    let is = table_is tables laid numbers source all named.0 in
+    ap (λ o. rows_in (map relation_of (cons_option o (tables_at tables sources)))) is.1
+    ∙ (λ i. is.2 i ∷ sources_are tables laid numbers all sources named.1 i)
 
 -- ---- values of slots
 
@@ -140,16 +124,16 @@ slot_is_there values (Class number) h = slice_get-get_or values number no_value 
 
 -- ---- one statement
 
-module _ (laid : Tables) (numbers : List ℕ) (tables : List Relation)
-    (e : rows_of_laid laid numbers ≡ rows_in tables) (values : List Value) where
+module _ (tables : List Numbered) (laid : Tables) (numbers : List ℕ)
+    (all : AllByRecursion (IsLaid tables laid) numbers) (values : List Value) where
   abbrev valuation : List Slot → List Value
   valuation slots = map (slot_value values) slots
 
   pub rows_are : (select : Select Value) → AllByRecursion (Named numbers) select.sources
-      → select_rows numbers tables select ≡ form_rows (λ value. value) laid select
+      → select_rows tables select ≡ form_rows (λ value. value) laid select
   rows_are select named =
       ap (selection (meets value_in select.tests) (λ row. map (value_in row) select.items))
-      (sources_are laid numbers tables e select.sources named)
+      (sources_are tables laid numbers all select.sources named)
 
   test_is : (slots : List Slot) (test : Test (Term Value)) → AllByRecursion (SlotBelow (length values)) slots
       → may_hold values (slot_test slots test) ≡ holds (term_worth (λ value. value) (valuation slots)) test
@@ -219,15 +203,15 @@ module _ (laid : Tables) (numbers : List ℕ) (tables : List Relation)
     membership_is : (slots : List Slot) (membership : Membership Value)
         → AllByRecursion (SlotBelow (length values)) slots
         → AllByRecursion (Named numbers) membership.select.sources
-        → goes_on values (membership_index numbers tables checks slots membership)
+        → goes_on values (membership_index tables checks slots membership)
         ≡ membership_holds (λ value. value) laid (valuation slots) membership
     membership_is slots membership below named =
         let columns = map (term_slot slots) membership.terms in
-        let rows = select_rows numbers tables membership.select in
+        let rows = select_rows tables membership.select in
         let tuple = map (slot_value values) columns in
         let under : AllByRecursion (IsBelow values) (class_numbers columns) =
         columns_below values slots membership.terms below in
-        (index_is columns (left_rows numbers tables checks membership.select columns)).has values under
+        (index_is columns (left_rows tables checks membership.select columns)).has values under
         ∙ any-filter_same (eq_by_cmp row_cmp tuple) (is_left checks columns) true
         (λ row is. tuple_left values checks columns under hold row is) (set.ascending rows)
         ∙ sym (contains-ascending rows tuple)
@@ -238,7 +222,7 @@ module _ (laid : Tables) (numbers : List ℕ) (tables : List Relation)
     memberships_are : (slots : List Slot) (memberships : List (Membership Value))
         → AllByRecursion (SlotBelow (length values)) slots
         → AllByRecursion (Named numbers) (flat_map (λ membership. membership.select.sources) memberships)
-        → list_all (goes_on values) (map (membership_index numbers tables checks slots) memberships)
+        → list_all (goes_on values) (map (membership_index tables checks slots) memberships)
         ≡ list_all (membership_holds (λ value. value) laid (valuation slots)) memberships
     memberships_are slots [] below named = refl
     memberships_are slots (membership ∷ memberships) below named =
@@ -249,7 +233,7 @@ module _ (laid : Tables) (numbers : List ℕ) (tables : List Relation)
 
     abbrev pub passes : List Posted → List (List Slot) → Bool
     passes members slots =
-        list_all (goes_on values) (all_indexes numbers tables checks members slots)
+        list_all (goes_on values) (all_indexes tables checks members slots)
         && list_all (may_hold values) (all_tests members slots)
 
     -- the tests of one statement and those of the others
@@ -262,13 +246,13 @@ module _ (laid : Tables) (numbers : List ℕ) (tables : List Relation)
         && passes members others)
     split member members slots others below named =
         (λ i. list_all-append (goes_on values)
-        (map (membership_index numbers tables checks slots) member.statement.atoms)
-        (all_indexes numbers tables checks members others) i
+        (map (membership_index tables checks slots) member.statement.atoms)
+        (all_indexes tables checks members others) i
         && list_all-append (may_hold values) (map (slot_test slots) member.statement.tests)
         (all_tests members others) i)
         ∙ and_same
-        (list_all (goes_on values) (map (membership_index numbers tables checks slots) member.statement.atoms))
-        (list_all (goes_on values) (all_indexes numbers tables checks members others))
+        (list_all (goes_on values) (map (membership_index tables checks slots) member.statement.atoms))
+        (list_all (goes_on values) (all_indexes tables checks members others))
         (list_all (may_hold values) (map (slot_test slots) member.statement.tests))
         (list_all (may_hold values) (all_tests members others))
         ∙ (λ i. (memberships_are slots member.statement.atoms below named i

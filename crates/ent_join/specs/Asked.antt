@@ -1,10 +1,10 @@
 -- What the statements of a plan ask of the values of its classes.
-use Rattle.std.specs.Prelude.{◌≡◌, ◌==◌, ℕ, List, [], ◌∷◌, ◌++◌, map, Option, Some, None, if◌then◌else◌}
+use Rattle.std.specs.Prelude.{◌≡◌, ℕ, List, [], ◌∷◌, ◌++◌, map}
 use Rattle.std.specs.List.{cons_option, filter}
 use Rattle.ent_set.specs.Sets as set
 use Rattle.ent_value.specs.declared.value.Value.{Value}
 use Rattle.ent_tree.specs.declared.operand.Test.{Test}
-use Rattle.ent_rel.specs.Relation.{Relation}
+use Rattle.ent_rel.specs.Numbered.{Numbered, relation_of}
 use Rattle.ent_semantics.specs.Database.{Rows}
 use Rattle.ent_semantics.specs.Selection.{meets, selection}
 use Rattle.ent_closed.specs.declared.entangled.Membership.{Membership}
@@ -18,50 +18,41 @@ use Rattle.ent_join.specs.Alone.{is_left}
 use Rattle.ent_join.specs.Index.{Indexed}
 use Rattle.ent_join.specs.declared.made.Made.{Made}
 use Rattle.ent_join.specs.Keyed.{index_under, term_slot}
+use Rattle.ent_join.specs.Laid.{table_at}
 
--- the table that stands beside a number
-abbrev pub table_at : ℕ → List ℕ → List Relation → Option Relation
-table_at number [] tables = None
-table_at number (other ∷ numbers) [] = None
-table_at number (other ∷ numbers) (table ∷ tables) =
-    if other == number then Some table else table_at number numbers tables
+-- the tables of some numbers
+abbrev pub tables_at : List Numbered → List ℕ → List Numbered
+tables_at tables [] = []
+tables_at tables (source ∷ sources) = cons_option (table_at source tables) (tables_at tables sources)
 
--- the tables that stand beside some numbers
-abbrev pub tables_at : List ℕ → List Relation → List ℕ → List Relation
-tables_at numbers tables [] = []
-tables_at numbers tables (source ∷ sources) =
-    cons_option (table_at source numbers tables) (tables_at numbers tables sources)
-
--- the rows of a sub-select's result, over tables beside their numbers
-abbrev pub select_rows : List ℕ → List Relation → Select Value → Rows
-select_rows numbers tables select =
+-- the rows of a sub-select's result, over numbered tables
+abbrev pub select_rows : List Numbered → Select Value → Rows
+select_rows tables select =
     selection (meets value_in select.tests) (λ row. map (value_in row) select.items)
-    (rows_in (tables_at numbers tables select.sources))
+    (rows_in (map relation_of (tables_at tables select.sources)))
 
 -- those of them, in order, that no test refuses which reads nothing but the columns of a tuple
-abbrev pub left_rows : List ℕ → List Relation → List (Test Slot) → Select Value → List Slot → List (List Value)
-left_rows numbers tables tests select columns =
-    filter (is_left tests columns) (set.ascending (select_rows numbers tables select))
+abbrev pub left_rows : List Numbered → List (Test Slot) → Select Value → List Slot → List (List Value)
+left_rows tables tests select columns = filter (is_left tests columns) (set.ascending (select_rows tables select))
 
 -- the index of columns over them
-abbrev pub select_index : List ℕ → List Relation → List (Test Slot) → Select Value → List Slot → Indexed
-select_index numbers tables tests select columns = index_under columns (left_rows numbers tables tests select columns)
+abbrev pub select_index : List Numbered → List (Test Slot) → Select Value → List Slot → Indexed
+select_index tables tests select columns = index_under columns (left_rows tables tests select columns)
 
 -- an index is the one of its sub-select and columns
-abbrev pub IsMade : List ℕ → List Relation → List (Test Slot) → Made → Type 0
-IsMade numbers tables tests made = made.index ≡ select_index numbers tables tests made.select.now made.columns
+abbrev pub IsMade : List Numbered → List (Test Slot) → Made → Type 0
+IsMade tables tests made = made.index ≡ select_index tables tests made.select.now made.columns
 
-abbrev pub membership_index : List ℕ → List Relation → List (Test Slot) → List Slot → Membership Value → Indexed
-membership_index numbers tables tests slots membership =
-    select_index numbers tables tests membership.select (map (term_slot slots) membership.terms)
+abbrev pub membership_index : List Numbered → List (Test Slot) → List Slot → Membership Value → Indexed
+membership_index tables tests slots membership =
+    select_index tables tests membership.select (map (term_slot slots) membership.terms)
 
 -- an index for each tuple of the statements
-abbrev pub all_indexes : List ℕ → List Relation → List (Test Slot) → List Posted → List (List Slot) → List Indexed
-all_indexes numbers tables tests [] slots = []
-all_indexes numbers tables tests (member ∷ members) [] = []
-all_indexes numbers tables tests (member ∷ members) (slots ∷ others) =
-    map (membership_index numbers tables tests slots) member.statement.atoms
-    ++ all_indexes numbers tables tests members others
+abbrev pub all_indexes : List Numbered → List (Test Slot) → List Posted → List (List Slot) → List Indexed
+all_indexes tables tests [] slots = []
+all_indexes tables tests (member ∷ members) [] = []
+all_indexes tables tests (member ∷ members) (slots ∷ others) =
+    map (membership_index tables tests slots) member.statement.atoms ++ all_indexes tables tests members others
 
 abbrev pub slot_test : List Slot → Test (Term Value) → Test Slot
 slot_test slots test =

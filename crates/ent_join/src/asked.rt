@@ -1,6 +1,5 @@
 //! What the statements of a plan ask of the values of its classes, made ready for a search.
 ghost use Rattle.std.specs.Prelude.{◌≡◌, ◌++◌, [], IfOk, OnOk, map};
-ghost use Rattle.std.specs.Arc.{arc_value};
 ghost use Rattle.std.specs.List.{AllByRecursion};
 ghost use Rattle.ent_join.specs.Asked.{IsMade, all_indexes, all_tests, membership_index, slot_test};
 
@@ -11,60 +10,49 @@ use crate::made::{Made, index_for};
 use ent_closed::{Membership, Term};
 use ent_match::Posted;
 use ent_plan::Slot;
-use ent_rel::Table;
+use ent_rel::NumberedTable;
 use ent_tree::Test;
 use ent_value::{Kind, Sequence, Value};
 use std::alloc::{AllocError, Global};
-use std::sync::Arc;
 
 /// The index of the values under which a tuple is a row of its sub-select's result.
 fn membership_index<'a>(
     alloc: Global,
-    numbers: &[usize],
-    tables: &[Arc<Table>],
+    tables: &[NumberedTable],
     tests: &[Test<Slot>],
     made: &mut Vec<Made<'a>>,
     slots: &[Slot],
     membership: &'a Membership<Value>,
 ) -> Result<Index, AllocError>
-    requires { AllByRecursion (IsMade numbers.now (map arc_value tables.now) tests.now) made.old.items }
+    requires { AllByRecursion (IsMade tables.now tests.now) made.old.items }
     ensures index { IfOk result (λ index. index
-        ≡ membership_index numbers.now (map arc_value tables.now) tests.now slots.now membership.now) }
+        ≡ membership_index tables.now tests.now slots.now membership.now) }
     ensures made { OnOk result
-        (AllByRecursion (IsMade numbers.now (map arc_value tables.now) tests.now) made.new.items) }
+        (AllByRecursion (IsMade tables.now tests.now) made.new.items) }
 {
     let columns = columns_of(alloc, slots, membership.terms.as_slice())?;
-    index_for(
-        alloc,
-        numbers,
-        tables,
-        tests,
-        made,
-        &membership.select,
-        columns,
-    )
+    index_for(alloc, tables, tests, made, &membership.select, columns)
 }
 
 /// Puts the indexes of a statement's tuples behind others.
 fn push_indexes<'a>(
     alloc: Global,
-    numbers: &[usize],
-    tables: &[Arc<Table>],
+    tables: &[NumberedTable],
     tests: &[Test<Slot>],
     made: &mut Vec<Made<'a>>,
     slots: &[Slot],
     memberships: &'a [Membership<Value>],
     indexes: &mut Vec<Index>,
 ) -> Result<(), AllocError>
-    requires { AllByRecursion (IsMade numbers.now (map arc_value tables.now) tests.now) made.old.items }
+    requires { AllByRecursion (IsMade tables.now tests.now) made.old.items }
     ensures indexes { OnOk result (indexes.new.items
         ≡ indexes.old.items
-        ++ map (membership_index numbers.now (map arc_value tables.now) tests.now slots.now) memberships.now) }
+        ++ map (membership_index tables.now tests.now slots.now) memberships.now) }
     ensures made { OnOk result
-        (AllByRecursion (IsMade numbers.now (map arc_value tables.now) tests.now) made.new.items) }
+        (AllByRecursion (IsMade tables.now tests.now) made.new.items) }
 {
     for membership in memberships {
-        let index = membership_index(alloc, numbers, tables, tests, made, slots, membership)?;
+        let index = membership_index(alloc, tables, tests, made, slots, membership)?;
         indexes.push(index)?;
     }
     Ok(())
@@ -73,24 +61,22 @@ fn push_indexes<'a>(
 /// Puts the indexes of all tuples of statements behind others.
 fn push_all_indexes<'a>(
     alloc: Global,
-    numbers: &[usize],
-    tables: &[Arc<Table>],
+    tables: &[NumberedTable],
     tests: &[Test<Slot>],
     made: &mut Vec<Made<'a>>,
     members: &'a [Posted],
     slots: &[Sequence<Slot>],
     indexes: &mut Vec<Index>,
 ) -> Result<(), AllocError>
-    requires { AllByRecursion (IsMade numbers.now (map arc_value tables.now) tests.now) made.old.items }
+    requires { AllByRecursion (IsMade tables.now tests.now) made.old.items }
     ensures { OnOk result (indexes.new.items
-        ≡ indexes.old.items ++ all_indexes numbers.now (map arc_value tables.now) tests.now members.now slots.now) }
+        ≡ indexes.old.items ++ all_indexes tables.now tests.now members.now slots.now) }
 {
     if let [member, members @ ..] = members {
         if let [first, slots @ ..] = slots {
             let memberships = member.statement().atoms.as_slice();
             push_indexes(
                 alloc,
-                numbers,
                 tables,
                 tests,
                 made,
@@ -98,7 +84,7 @@ fn push_all_indexes<'a>(
                 memberships,
                 indexes,
             )?;
-            return push_all_indexes(alloc, numbers, tables, tests, made, members, slots, indexes);
+            return push_all_indexes(alloc, tables, tests, made, members, slots, indexes);
         }
     }
     Ok(())
@@ -165,14 +151,13 @@ fn kinds_copy(alloc: Global, kinds: &[Kind]) -> Result<Sequence<Kind>, AllocErro
 /// What statements ask whose written variables have these slots, the classes having these kinds.
 pub(crate) fn frame_of(
     alloc: Global,
-    numbers: &[usize],
-    tables: &[Arc<Table>],
+    tables: &[NumberedTable],
     members: &[Posted],
     slots: &[Sequence<Slot>],
     kinds: &[Kind],
 ) -> Result<Frame, AllocError>
     ensures indexes { IfOk result (λ frame. frame.indexes
-        ≡ all_indexes numbers.now (map arc_value tables.now) (all_tests members.now slots.now) members.now slots.now) }
+        ≡ all_indexes tables.now (all_tests members.now slots.now) members.now slots.now) }
     ensures tests { IfOk result (λ frame. frame.tests ≡ all_tests members.now slots.now) }
     ensures kinds { IfOk result (λ frame. frame.kinds ≡ kinds.now) }
 {
@@ -182,7 +167,6 @@ pub(crate) fn frame_of(
     let mut indexes = Vec::new(alloc);
     push_all_indexes(
         alloc,
-        numbers,
         tables,
         tests.as_slice(),
         &mut made,

@@ -1,6 +1,5 @@
 //! The least coordinating choice.
 ghost use Rattle.std.specs.Prelude.{◌≡◌, ◌+◌, ◌<◌, ◌^◌, [], ◌∷◌, IfOk, List, OnErr, is_some, length, map};
-ghost use Rattle.std.specs.Arc.{arc_value};
 ghost use Rattle.ent_closed.specs.Form.{Tables};
 ghost use Rattle.ent_coordination.specs.Choice.{IsLeastChoiceIfAny};
 ghost use Rattle.ent_coordination.specs.Pool.{Posted};
@@ -13,10 +12,9 @@ ghost use Rattle.ent_join.specs.Search.{AreTicks};
 use crate::asked::frame_of;
 use crate::search::least;
 use ent_plan::{JoinPlan, Slot, plan_has_the_choices, plan_keeps_the_order};
-use ent_rel::Table;
+use ent_rel::NumberedTable;
 use ent_value::{Sequence, Ticks, Value};
 use std::alloc::{AllocError, Global};
-use std::sync::Arc;
 
 /// What a slot is worth under a value for each class.
 fn slot_value(alloc: Global, values: &[Value], slot: &Slot) -> Result<Value, AllocError>
@@ -57,15 +55,15 @@ fn valuations(
 }
 
 /// The least coordinating choice of the plan's statements over tables, a grounding for each statement; `None` where
-/// there is none. The tables are those of [`JoinPlan::tables`], in that order.
+/// there is none. The tables are those of [`JoinPlan::tables`], under their numbers.
 pub fn first(
     alloc: Global,
     plan: &JoinPlan,
-    tables: &[Arc<Table>],
+    tables: &[NumberedTable],
 ) -> Result<Option<Sequence<Sequence<Value>>>, AllocError>
     requires { AreRanged plan.now.members }
     ensures { IfOk result (λ choice. (laid : Tables)
-        → AreLaid plan.now.members (map arc_value tables.now) laid
+        → AreLaid plan.now.members tables.now laid
         → IsLeastChoiceIfAny laid plan.now.members choice) }
 {
     let mut ticks = Ticks::new();
@@ -78,15 +76,15 @@ pub fn first(
 pub fn first_with(
     alloc: Global,
     plan: &JoinPlan,
-    tables: &[Arc<Table>],
+    tables: &[NumberedTable],
     ticks: &mut Ticks,
 ) -> Result<Option<Sequence<Sequence<Value>>>, AllocError>
     requires { AreRanged plan.now.members }
     ensures choice { IfOk result (λ choice. (laid : Tables)
-        → AreLaid plan.now.members (map arc_value tables.now) laid
+        → AreLaid plan.now.members tables.now laid
         → IsLeastChoiceIfAny laid plan.now.members choice) }
     ensures ticks { IfOk result (λ choice. (laid : Tables) (member : Posted)
-        → AreLaid plan.now.members (map arc_value tables.now) laid
+        → AreLaid plan.now.members tables.now laid
         → plan.now.members ≡ member ∷ []
         → AsksForARow laid member.statement
         → AreTicks (length member.statement.variables) ticks.old ticks.new (is_some choice)) }
@@ -112,15 +110,15 @@ fn add_ticks(ticks: &mut Ticks, more: &Ticks)
 fn counted_choice(
     alloc: Global,
     plan: &JoinPlan,
-    tables: &[Arc<Table>],
+    tables: &[NumberedTable],
     ticks: &mut Ticks,
 ) -> Result<Option<Sequence<Sequence<Value>>>, AllocError>
     requires { AreRanged plan.now.members }
     ensures choice { IfOk result (λ choice. (laid : Tables)
-        → AreLaid plan.now.members (map arc_value tables.now) laid
+        → AreLaid plan.now.members tables.now laid
         → IsLeastChoiceIfAny laid plan.now.members choice) }
     ensures ticks { IfOk result (λ choice. (laid : Tables) (member : Posted)
-        → AreLaid plan.now.members (map arc_value tables.now) laid
+        → AreLaid plan.now.members tables.now laid
         → plan.now.members ≡ member ∷ []
         → AsksForARow laid member.statement
         → AreTicks (length member.statement.variables) ticks.old ticks.new (is_some choice)) }
@@ -128,14 +126,7 @@ fn counted_choice(
     plan_has_the_choices();
     plan_keeps_the_order();
     let members = plan.members();
-    let frame = frame_of(
-        alloc,
-        plan.tables(),
-        tables,
-        members,
-        plan.slots(),
-        plan.kinds(),
-    )?;
+    let frame = frame_of(alloc, tables, members, plan.slots(), plan.kinds())?;
     if frame.has_empty_domain() {
         return Ok(None);
     }

@@ -1,23 +1,22 @@
 //! Indexes that were made for tuples, so that tuples of one sub-select and the same columns share one.
-ghost use Rattle.std.specs.Prelude.{◌≡◌, ◌++◌, [], ℕ, IfOk, IfSome, IsTrue, List, OnOk, map};
-ghost use Rattle.std.specs.Arc.{arc_value};
+ghost use Rattle.std.specs.Prelude.{◌≡◌, ◌++◌, [], IfOk, IfSome, IsTrue, List, OnOk};
 ghost use Rattle.std.specs.List.{AllByRecursion};
-ghost use Rattle.std.specs.Option.{option_copied, option_map};
+ghost use Rattle.std.specs.Option.{option_copied};
 ghost use Rattle.ent_tree.specs.declared.operand.Test.{Test as Tested};
-ghost use Rattle.ent_rel.specs.Relation.{Relation};
+ghost use Rattle.ent_rel.specs.Numbered.{Numbered};
 ghost use Rattle.ent_plan.specs.declared.slot.Slot.{Slot as Slotted};
-ghost use Rattle.ent_join.specs.Asked.{IsMade, select_index, table_at, tables_at};
+ghost use Rattle.ent_join.specs.Asked.{IsMade, select_index, tables_at};
+ghost use Rattle.ent_join.specs.Laid.{table_at};
 
 use crate::index::Index;
 use crate::keyed::index_of;
 use ent_closed::Select;
 use ent_plan::Slot;
-use ent_rel::Table;
+use ent_rel::NumberedTable;
 use ent_select::all;
-use ent_tree::{Same, Test};
+use ent_tree::{Duplicate, Same, Test};
 use ent_value::{Sequence, Value};
 use std::alloc::{AllocError, Global};
-use std::sync::Arc;
 
 /// An index, and of which sub-select's result and which columns it was made.
 #[derive(Drop)]
@@ -27,39 +26,31 @@ pub(crate) struct Made<'a> {
     pub(crate) index: Index,
 }
 
-/// The table that stands beside a number.
-fn table_at<'a>(
-    number: usize,
-    numbers: &[usize],
-    tables: &'a [Arc<Table>],
-) -> Option<&'a Arc<Table>>
-    ensures { option_map arc_value (option_copied result) ≡ table_at number numbers.now (map arc_value tables.now) }
+/// The table of a number.
+fn table_at(number: usize, tables: &[NumberedTable]) -> Option<&NumberedTable>
+    ensures { option_copied result ≡ table_at number tables.now }
 {
-    if let [other, numbers @ ..] = numbers {
-        if let [table, tables @ ..] = tables {
-            if *other == number {
-                return Some(table);
-            }
-            return table_at(number, numbers, tables);
+    if let [table, tables @ ..] = tables {
+        if table.number() == number {
+            return Some(table);
         }
+        return table_at(number, tables);
     }
     None
 }
 
-/// The tables that stand beside some numbers, shared.
+/// The tables of some numbers, shared.
 fn tables_at(
     alloc: Global,
-    numbers: &[usize],
-    tables: &[Arc<Table>],
+    tables: &[NumberedTable],
     sources: &[usize],
-) -> Result<Vec<Arc<Table>>, AllocError>
-    ensures { IfOk result (λ found. map arc_value found.items
-        ≡ tables_at numbers.now (map arc_value tables.now) sources.now) }
+) -> Result<Vec<NumberedTable>, AllocError>
+    ensures { IfOk result (λ found. found.items ≡ tables_at tables.now sources.now) }
 {
     let mut found = Vec::new(alloc);
     for source in sources {
-        if let Some(table) = table_at(*source, numbers, tables) {
-            found.push(table.clone()?)?;
+        if let Some(table) = table_at(*source, tables) {
+            found.push(table.copy(alloc)?)?;
         }
     }
     Ok(found)
@@ -101,9 +92,9 @@ impl<'a> Made<'a> {
 
 /// The index that was made of a sub-select and columns, where there is one.
 fn made_of<'m>(made: &'m [Made<'_>], select: &Select<Value>, columns: &[Slot]) -> Option<&'m Index>
-    ensures { (numbers : List ℕ) (tables : List Relation) (tests : List (Tested Slotted))
-        → AllByRecursion (IsMade numbers tables tests) made.now
-        → IfSome result (λ index. index.now ≡ select_index numbers tables tests select.now columns.now) }
+    ensures { (tables : List Numbered) (tests : List (Tested Slotted))
+        → AllByRecursion (IsMade tables tests) made.now
+        → IfSome result (λ index. index.now ≡ select_index tables tests select.now columns.now) }
 {
     if let [first, made @ ..] = made {
         if first.is_of(select, columns) {
@@ -117,16 +108,15 @@ fn made_of<'m>(made: &'m [Made<'_>], select: &Select<Value>, columns: &[Slot]) -
 /// The index of columns over the result of a sub-select, without the rows that tests of these columns refuse.
 fn select_index(
     alloc: Global,
-    numbers: &[usize],
-    tables: &[Arc<Table>],
+    tables: &[NumberedTable],
     tests: &[Test<Slot>],
     select: &Select<Value>,
     columns: &[Slot],
 ) -> Result<Index, AllocError>
     ensures { IfOk result (λ index. index
-        ≡ select_index numbers.now (map arc_value tables.now) tests.now select.now columns.now) }
+        ≡ select_index tables.now tests.now select.now columns.now) }
 {
-    let sources = tables_at(alloc, numbers, tables, select.sources.as_slice())?;
+    let sources = tables_at(alloc, tables, select.sources.as_slice())?;
     let rows = all(alloc, select, sources.as_slice())?;
     index_of(alloc, tests, columns, rows.as_slice())
 }
@@ -135,24 +125,23 @@ fn select_index(
 /// and kept there.
 pub(crate) fn index_for<'a>(
     alloc: Global,
-    numbers: &[usize],
-    tables: &[Arc<Table>],
+    tables: &[NumberedTable],
     tests: &[Test<Slot>],
     made: &mut Vec<Made<'a>>,
     select: &'a Select<Value>,
     columns: Sequence<Slot>,
 ) -> Result<Index, AllocError>
-    requires { AllByRecursion (IsMade numbers.now (map arc_value tables.now) tests.now) made.old.items }
+    requires { AllByRecursion (IsMade tables.now tests.now) made.old.items }
     ensures index { IfOk result (λ index. index
-        ≡ select_index numbers.now (map arc_value tables.now) tests.now select.now columns) }
+        ≡ select_index tables.now tests.now select.now columns) }
     ensures made { OnOk result
-        (AllByRecursion (IsMade numbers.now (map arc_value tables.now) tests.now) made.new.items) }
+        (AllByRecursion (IsMade tables.now tests.now) made.new.items) }
 {
     if let Some(index) = made_of(made.as_slice(), select, columns.as_slice()) {
         let shared = index.shared(alloc)?;
         return Ok(shared);
     }
-    let index = select_index(alloc, numbers, tables, tests, select, columns.as_slice())?;
+    let index = select_index(alloc, tables, tests, select, columns.as_slice())?;
     let shared = index.shared(alloc)?;
     made.push(Made {
         select,

@@ -1,8 +1,8 @@
 -- Jobs: work, with the tables that it uses as they stand.
 use Rattle.std.specs.Prelude.{◌≡◌, ℕ, zero, suc, map, List, [], ◌∷◌, Option, Result, Ok, Err, slice_index_or}
 use Rattle.ent_set.specs.Sets as set
-use Rattle.ent_value.specs.declared.value.Kind.{Kind}
 use Rattle.ent_value.specs.declared.value.Value.{Value}
+pub use Rattle.ent_rel.specs.Numbered.{Numbered}
 use Rattle.ent_semantics.specs.declared.answer.Answer.TheVariants as answers
 use Rattle.ent_semantics.specs.declared.answer.Failure.{Failure}
 use Rattle.ent_semantics.specs.Database.{Rows, nothing_bound}
@@ -26,15 +26,9 @@ pub data Work : Type 0 where
   One : (single : Single) → Work
   Joint : (posted : List Posted) → Work
 
--- the table of a number: the kinds of its columns, and its rows
-pub record Seen : Type 0 where
-  pub table : ℕ
-  pub kinds : List Kind
-  pub rows : Rows
-
 pub record Job : Type 0 where
   pub work : Work
-  pub tables : List Seen
+  pub tables : List Numbered
 
 -- the tables with other rows in that of a number; those before it that aren't there have no rows
 abbrev pub laid : ℕ → Rows → Tables → Tables
@@ -44,7 +38,7 @@ laid (suc n) rows [] = set.empty ∷ laid n rows []
 laid (suc n) rows (other ∷ more) = other ∷ laid n rows more
 
 -- the tables that a job sees, each at its number; no other has a row
-abbrev pub tables_of : List Seen → Tables
+abbrev pub tables_of : List Numbered → Tables
 tables_of [] = []
 tables_of (seen ∷ more) = laid seen.table seen.rows (tables_of more)
 

@@ -17,7 +17,7 @@ use Rattle.ent_closed.specs.declared.operand.Known.{Known}
 use Rattle.ent_closed.specs.declared.statement.Statement.{Statement}
 use Rattle.ent_closed.specs.declared.statement.Statement.TheVariants as statements
 use Rattle.ent_coordination.specs.Pool.{Posted}
-use Rattle.ent_protocol.specs.Job.{Job, Work, One, Joint, Seen}
+use Rattle.ent_protocol.specs.Job.{Job, Work, One, Joint, Numbered}
 use Rattle.ent_protocol.specs.State.{State, Submitted, Member, Use, first_of}
 
 -- what comes next in a script, closed under what is bound
@@ -102,7 +102,7 @@ declared_kinds declared table =
     slice_index_or (map (λ create. map (λ column. column.kind) create.columns) declared) table []
 
 -- the tables of some uses as they stand
-abbrev pub seen_now : List Create → Tables → List Use → List Seen
+abbrev pub seen_now : List Create → Tables → List Use → List Numbered
 seen_now declared tables uses =
     map (λ own. record {
       table = own.table;

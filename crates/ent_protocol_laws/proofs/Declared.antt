@@ -7,7 +7,7 @@ use Rattle.ent_closed.specs.Form.{Tables}
 use Rattle.ent_value.specs.declared.value.Value.{Value}
 use Rattle.ent_protocol.specs.Begin.{single_job}
 use Rattle.ent_protocol.specs.Finish.{IsTaken, finished}
-use Rattle.ent_protocol.specs.Job.{Job, Seen, Outcome, Shown, Changed, Bound, Choice, Fault}
+use Rattle.ent_protocol.specs.Job.{Job, Numbered, Outcome, Shown, Changed, Bound, Choice, Fault}
 use Rattle.ent_protocol.specs.Member.{declared_kinds, seen_now}
 use Rattle.ent_protocol.specs.PoolEvents.{joint_job, joint_uses}
 use Rattle.ent_protocol.specs.Reached.{IsReached}
@@ -23,7 +23,8 @@ abbrev Declared : State → Type 0
 Declared s = AllByRecursion (SeesDeclared s.opening.tables) s.lent
 
 seen_declared : (declared : List Create) (tables : Tables) (uses : List Use)
-    → AllByRecursion (λ (seen : Seen). seen.kinds ≡ declared_kinds declared seen.table) (seen_now declared tables uses)
+    → AllByRecursion (λ (seen : Numbered). seen.kinds ≡ declared_kinds declared seen.table)
+    (seen_now declared tables uses)
 seen_declared declared tables [] = tt
 seen_declared declared tables (own ∷ more) = (refl, seen_declared declared tables more)
 

@@ -5,3 +5,4 @@ pub mod Part
 pub mod Closure
 pub mod First
 pub mod ByRow
+pub mod Numbered

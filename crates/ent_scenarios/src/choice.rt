@@ -13,7 +13,7 @@ use ent_group::Tx;
 use ent_join::first_with;
 use ent_match::{Pool, Posted};
 use ent_plan::{JoinPlan, combine};
-use ent_rel::Table;
+use ent_rel::{NumberedTable, Table};
 use ent_value::{Sequence, Ticks, Value};
 use std::alloc::Global;
 use std::sync::Arc;
@@ -128,11 +128,11 @@ fn put_tables(plan: &JoinPlan, out: &mut Out) {
 }
 
 /// The tables of these numbers.
-fn shared(alloc: Global, tables: &[Arc<Table>], numbers: &[usize]) -> Result<Vec<Arc<Table>>> {
+fn numbered(alloc: Global, tables: &[Arc<Table>], numbers: &[usize]) -> Result<Vec<NumberedTable>> {
     let mut found = Vec::new(alloc);
     for number in numbers {
         let table = tables.get(*number).context("there is no such table")?;
-        found.push(table.clone()?)?;
+        found.push(NumberedTable::new(*number, table.clone()?))?;
     }
     Ok(found)
 }
@@ -175,7 +175,7 @@ fn put_found(
     if !are_ranged(plan.members()) {
         bail!("a variable stands in no tuple of a sub-select");
     }
-    let tables = shared(alloc, tables, plan.tables())?;
+    let tables = numbered(alloc, tables, plan.tables())?;
     let mut ticks = Ticks::new();
     let found = first_with(alloc, plan, tables.as_slice(), &mut ticks);
     drop(tables);

@@ -3,9 +3,9 @@
 //! Sources are gone over one inside the other. Of each only the rows are read that begin with the values that tests of
 //! equality want there, and those of the last one are read where they stand.
 ghost use Rattle.std.specs.Prelude.{◌≡◌, [], ◌∷◌, ◌++◌, IfOk, OnOk, map};
-ghost use Rattle.std.specs.Arc.{arc_value};
 ghost use Rattle.std.specs.List.{filter};
 ghost use Rattle.ent_set.specs.Sets as set;
+ghost use Rattle.ent_rel.specs.Numbered.{relation_of};
 ghost use Rattle.ent_semantics.specs.Selection.{meets, selection};
 ghost use Rattle.ent_select.specs.Combined.{combined, shown_of, AreNarrowed};
 ghost use Rattle.ent_select.specs.Prepared.{prepared_meets};
@@ -17,11 +17,10 @@ use crate::first::first_values;
 use crate::prepared::PreparedTests;
 use crate::row::{item_row, joined, shown_row};
 use ent_closed::{Operand, Select};
-use ent_rel::{RowCursor, Table, ascending};
+use ent_rel::{NumberedTable, RowCursor, Table, ascending};
 use ent_tree::Test;
 use ent_value::{Row, Sequence, Value};
 use std::alloc::{AllocError, Global};
-use std::sync::Arc;
 
 /// Puts the item row of a whole combination behind those found, where it meets every test.
 fn show(
@@ -94,18 +93,18 @@ fn search(
     alloc: Global,
     select: &Select<Value>,
     front: &[Value],
-    sources: &[Arc<Table>],
+    sources: &[NumberedTable],
     found: &mut Vec<Row>,
 ) -> Result<(), AllocError>
     ensures { OnOk result (found.new.items ≡ found.old.items ++ shown_of select.now.items select.now.tests
-        (combined front.now (rows_listed (map arc_value sources.now)))) }
+        (combined front.now (rows_listed (map relation_of sources.now)))) }
 {
     match sources {
         [] => show(alloc, select, front, found),
-        [table] => search_last(alloc, select, front, table, found),
-        [table, more @ ..] => {
+        [source] => search_last(alloc, select, front, source.table(), found),
+        [source, more @ ..] => {
             let tests = PreparedTests::new(alloc, front, select.tests.as_slice())?;
-            let mut rows = source_rows(alloc, select.tests.as_slice(), front, table)?;
+            let mut rows = source_rows(alloc, select.tests.as_slice(), front, source.table())?;
             while let Some(row) = rows.next_row() {
                 if tests.may_meet(&row) {
                     let begun = joined(alloc, front, &row)?;
@@ -121,11 +120,11 @@ fn search(
 pub fn all(
     alloc: Global,
     select: &Select<Value>,
-    sources: &[Arc<Table>],
+    sources: &[NumberedTable],
 ) -> Result<Sequence<Row>, AllocError>
     ensures { IfOk result (λ rows. rows ≡ set.ascending
         (selection (meets value_in select.now.tests) (λ row. map (value_in row) select.now.items)
-        (rows_in (map arc_value sources.now)))) }
+        (rows_in (map relation_of sources.now)))) }
 {
     let mut found = Vec::new(alloc);
     search(alloc, select, &[], sources, &mut found)?;

@@ -4,21 +4,20 @@ ghost use Rattle.std.specs.Arc.{arc_value};
 ghost use Rattle.std.specs.List.{AllByRecursion};
 ghost use Rattle.ent_tables.specs.AtNumber.{seen_at, seen_in};
 
-use ent_job::Seen;
 use ent_members::Use;
-use ent_rel::Table;
+use ent_rel::{NumberedTable, Table};
 use ent_select::table_at;
 use ent_value::Sequence;
 use std::alloc::{AllocError, Global};
 use std::sync::Arc;
 
 /// The table of a number, as work sees it.
-fn table_seen(tables: &[Arc<Table>], number: usize) -> Result<Seen, AllocError>
+fn table_seen(tables: &[Arc<Table>], number: usize) -> Result<NumberedTable, AllocError>
     requires { number < length tables.now }
     ensures { IfOk result (λ seen. seen ≡ seen_at (map arc_value tables.now) number) }
 {
     let table = table_at(tables, number)?;
-    Ok(Seen::new(number, table))
+    Ok(NumberedTable::new(number, table))
 }
 
 /// The tables of some uses, in their order. No row is copied.
@@ -26,7 +25,7 @@ pub(crate) fn tables_seen(
     alloc: Global,
     tables: &[Arc<Table>],
     uses: &[Use],
-) -> Result<Sequence<Seen>, AllocError>
+) -> Result<Sequence<NumberedTable>, AllocError>
     requires { AllByRecursion (λ own. own.table < length tables.now) uses.now }
     ensures { IfOk result (λ seen. seen ≡ seen_in (map arc_value tables.now) uses.now) }
 {

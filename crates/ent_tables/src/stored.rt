@@ -18,10 +18,9 @@ use crate::at_number::tables_seen;
 use ent_eval::table_changed;
 use ent_form::Catalogue;
 use ent_group::{Members, Tx};
-use ent_job::Seen;
 use ent_loading::load_tables;
 use ent_members::Use;
-use ent_rel::{Delta, Table};
+use ent_rel::{Delta, NumberedTable, Table};
 use ent_select::table_at;
 use ent_tree::Opening;
 use ent_undo::{UndoLog, rollback_goes_newest_first};
@@ -100,7 +99,7 @@ impl StoredTables {
     }
 
     /// The tables of some uses as they stand, in the order of the uses. They are shared, so that no row is copied.
-    pub fn seen(&self, alloc: Global, uses: &[Use]) -> Result<Sequence<Seen>, AllocError>
+    pub fn seen(&self, alloc: Global, uses: &[Use]) -> Result<Sequence<NumberedTable>, AllocError>
         requires { AllByRecursion (λ own. own.table < length self.now.tables) uses.now }
         ensures { IfOk result (λ seen. (declared : List Create) → kinds_declared declared ≡ self.now.kinds
             → seen ≡ seen_now declared self.now.tables uses.now) }

@@ -6,4 +6,4 @@ use Rattle.ent_check.proofs.ground.sources_of.Goals as goal
 
 pub returns : goal.returns
 returns c =
-    ap rows_in c.in_ok-sources.ensures ∙ rows_of_numbers (map arc_value c.args.tables.now) c.args.numbers.now
+    ap rows_in c.in_ok-sources.ensures.tables ∙ rows_of_numbers (map arc_value c.args.tables.now) c.args.numbers.now

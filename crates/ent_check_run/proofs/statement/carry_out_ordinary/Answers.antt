@@ -8,6 +8,7 @@ use Rattle.ent_eval.specs.Change.{IsApplicable}
 use Rattle.ent_eval.specs.Meant.{changed_number, set_variable}
 use Rattle.ent_eval.specs.declared.outcome.Outcome.TheVariants as outcomes
 use Rattle.ent_rel.specs.Change.{changed_rows}
+use Rattle.ent_rel.specs.Numbered.{relation_of}
 use Rattle.ent_select.specs.Tables.{no_table, rows_in}
 use Rattle.ent_semantics.specs.Database.{with_value}
 use Rattle.ent_semantics.specs.declared.answer.Answer.TheVariants as answers
@@ -19,28 +20,31 @@ pub returns-in-Rows-clause-meaning : goal.returns-in-Rows-clause-meaning
 returns-in-Rows-clause-meaning c =
     let statement = c.args.statement.now in
     let tables = map arc_value c.args.tables.now.items in
-    let are : map arc_value c.deref-2.result.now ≡ tables_at tables (tables_named statement) =
-    ap (map arc_value) c.deref-2.ensures.value
-    ∙ c.in_ok-named.ensures
-    ∙ (λ i. tables_at (map arc_value (c.as_slice.ensures.value i)) ((c.deref.ensures.value ∙ c.in_ok-numbers.ensures) i)) in
-    meant_so statement tables (map arc_value c.deref-2.result.now) (environment_of c.args.environment.now)
+    let are : map relation_of c.deref-2.result.now ≡ tables_at tables (tables_named statement) =
+    ap (map relation_of) c.deref-2.ensures.value
+    ∙ c.in_ok-named.ensures.tables
+    ∙ (λ i. tables_at (map arc_value (c.as_slice.ensures.value i))
+    ((c.deref.ensures.value ∙ c.in_ok-numbers.ensures) i)) in
+    meant_so statement tables (map relation_of c.deref-2.result.now) (environment_of c.args.environment.now)
     c.in_ok-rows.field-0 (outcomes.Rows c.in-Rows.rows) are c.in-Rows.is c.in_ok-rows.ensures.meaning
 
 pub change-requires-clause-within : goal.change-requires-clause-within
 change-requires-clause-within c =
     let statement = c.args.statement.now in
     let tables = map arc_value c.args.tables.now.items in
-    let are : map arc_value c.deref-2.result.now ≡ tables_at tables (tables_named statement) =
-    ap (map arc_value) c.deref-2.ensures.value
-    ∙ c.in_ok-named.ensures
-    ∙ (λ i. tables_at (map arc_value (c.as_slice.ensures.value i)) ((c.deref.ensures.value ∙ c.in_ok-numbers.ensures) i)) in
-    let can = applied_so (map arc_value c.deref-2.result.now) c.in_ok-rows.field-0 c.in-Changed.count c.in-Changed.delta
-    c.in-Changed.is c.in_ok-rows.ensures.change in
+    let are : map relation_of c.deref-2.result.now ≡ tables_at tables (tables_named statement) =
+    ap (map relation_of) c.deref-2.ensures.value
+    ∙ c.in_ok-named.ensures.tables
+    ∙ (λ i. tables_at (map arc_value (c.as_slice.ensures.value i))
+    ((c.deref.ensures.value ∙ c.in_ok-numbers.ensures) i)) in
+    let can = applied_so (map relation_of c.deref-2.result.now) c.in_ok-rows.field-0 c.in-Changed.count
+    c.in-Changed.delta c.in-Changed.is c.in_ok-rows.ensures.change in
     let one = sym are ∙ can.1 in
-    let named = one_table statement tables (environment_of c.args.environment.now) c.in-Changed.count c.in-Changed.delta _
-    c.requires.fits
-    (meant_so statement tables (map arc_value c.deref-2.result.now) (environment_of c.args.environment.now)
-    c.in_ok-rows.field-0 (outcomes.Changed c.in-Changed.count c.in-Changed.delta) are c.in-Changed.is c.in_ok-rows.ensures.meaning) can.0 one in
+    let named = one_table statement tables (environment_of c.args.environment.now) c.in-Changed.count
+    c.in-Changed.delta _ c.requires.fits
+    (meant_so statement tables (map relation_of c.deref-2.result.now) (environment_of c.args.environment.now)
+    c.in_ok-rows.field-0 (outcomes.Changed c.in-Changed.count c.in-Changed.delta) are c.in-Changed.is
+    c.in_ok-rows.ensures.meaning) can.0 one in
     subst (λ (n : ℕ). n < length c.args.tables.now.items) (sym c.changed_number.ensures)
     (change_there (length c.args.tables.now.items) statement named c.requires.within)
 
@@ -48,17 +52,19 @@ pub change-requires-clause-applicable : goal.change-requires-clause-applicable
 change-requires-clause-applicable c =
     let statement = c.args.statement.now in
     let tables = map arc_value c.args.tables.now.items in
-    let are : map arc_value c.deref-2.result.now ≡ tables_at tables (tables_named statement) =
-    ap (map arc_value) c.deref-2.ensures.value
-    ∙ c.in_ok-named.ensures
-    ∙ (λ i. tables_at (map arc_value (c.as_slice.ensures.value i)) ((c.deref.ensures.value ∙ c.in_ok-numbers.ensures) i)) in
-    let can = applied_so (map arc_value c.deref-2.result.now) c.in_ok-rows.field-0 c.in-Changed.count c.in-Changed.delta
-    c.in-Changed.is c.in_ok-rows.ensures.change in
+    let are : map relation_of c.deref-2.result.now ≡ tables_at tables (tables_named statement) =
+    ap (map relation_of) c.deref-2.ensures.value
+    ∙ c.in_ok-named.ensures.tables
+    ∙ (λ i. tables_at (map arc_value (c.as_slice.ensures.value i))
+    ((c.deref.ensures.value ∙ c.in_ok-numbers.ensures) i)) in
+    let can = applied_so (map relation_of c.deref-2.result.now) c.in_ok-rows.field-0 c.in-Changed.count
+    c.in-Changed.delta c.in-Changed.is c.in_ok-rows.ensures.change in
     let one = sym are ∙ can.1 in
-    let named = one_table statement tables (environment_of c.args.environment.now) c.in-Changed.count c.in-Changed.delta _
-    c.requires.fits
-    (meant_so statement tables (map arc_value c.deref-2.result.now) (environment_of c.args.environment.now)
-    c.in_ok-rows.field-0 (outcomes.Changed c.in-Changed.count c.in-Changed.delta) are c.in-Changed.is c.in_ok-rows.ensures.meaning) can.0 one in
+    let named = one_table statement tables (environment_of c.args.environment.now) c.in-Changed.count
+    c.in-Changed.delta _ c.requires.fits
+    (meant_so statement tables (map relation_of c.deref-2.result.now) (environment_of c.args.environment.now)
+    c.in_ok-rows.field-0 (outcomes.Changed c.in-Changed.count c.in-Changed.delta) are c.in-Changed.is
+    c.in_ok-rows.ensures.meaning) can.0 one in
     subst (λ (n : ℕ). IsApplicable (slice_index_or tables n no_table) c.in-Changed.delta) (sym c.changed_number.ensures)
     (change_applies statement tables c.in-Changed.delta named can.0 one can.2)
 
@@ -66,18 +72,20 @@ pub returns-in-Changed-clause-meaning : goal.returns-in-Changed-clause-meaning
 returns-in-Changed-clause-meaning c =
     let statement = c.args.statement.now in
     let tables = map arc_value c.args.tables.now.items in
-    let are : map arc_value c.deref-2.result.now ≡ tables_at tables (tables_named statement) =
-    ap (map arc_value) c.deref-2.ensures.value
-    ∙ c.in_ok-named.ensures
-    ∙ (λ i. tables_at (map arc_value (c.as_slice.ensures.value i)) ((c.deref.ensures.value ∙ c.in_ok-numbers.ensures) i)) in
+    let are : map relation_of c.deref-2.result.now ≡ tables_at tables (tables_named statement) =
+    ap (map relation_of) c.deref-2.ensures.value
+    ∙ c.in_ok-named.ensures.tables
+    ∙ (λ i. tables_at (map arc_value (c.as_slice.ensures.value i))
+    ((c.deref.ensures.value ∙ c.in_ok-numbers.ensures) i)) in
     let removed = c.in-Changed.delta.removed in
     let added = c.in-Changed.delta.added in
     let before = rows_in tables in
     let rows = c.in_ok-change-in-Changed.ensures.rows
     ∙ ap (λ (n : ℕ). slice_set before n (changed_rows (slice_index_or before n set.empty) removed added))
     c.changed_number.ensures in
-    meant_so statement tables (map arc_value c.deref-2.result.now) (environment_of c.args.environment.now)
-    c.in_ok-rows.field-0 (outcomes.Changed c.in-Changed.count c.in-Changed.delta) are c.in-Changed.is c.in_ok-rows.ensures.meaning
+    meant_so statement tables (map relation_of c.deref-2.result.now) (environment_of c.args.environment.now)
+    c.in_ok-rows.field-0 (outcomes.Changed c.in-Changed.count c.in-Changed.delta) are c.in-Changed.is
+    c.in_ok-rows.ensures.meaning
     ∙ same_effect (slice_set before (changed_number statement)
     (changed_rows (slice_index_or before (changed_number statement) set.empty) removed added))
     (rows_in (map arc_value c.change.new.tables.items)) (environment_of c.args.environment.now)
@@ -87,23 +95,25 @@ pub bind_set-requires : goal.bind_set-requires
 bind_set-requires c =
     let statement = c.args.statement.now in
     let tables = map arc_value c.args.tables.now.items in
-    let are : map arc_value c.deref-2.result.now ≡ tables_at tables (tables_named statement) =
-    ap (map arc_value) c.deref-2.ensures.value
-    ∙ c.in_ok-named.ensures
-    ∙ (λ i. tables_at (map arc_value (c.as_slice.ensures.value i)) ((c.deref.ensures.value ∙ c.in_ok-numbers.ensures) i)) in
+    let are : map relation_of c.deref-2.result.now ≡ tables_at tables (tables_named statement) =
+    ap (map relation_of) c.deref-2.ensures.value
+    ∙ c.in_ok-named.ensures.tables
+    ∙ (λ i. tables_at (map arc_value (c.as_slice.ensures.value i))
+    ((c.deref.ensures.value ∙ c.in_ok-numbers.ensures) i)) in
     is_set statement (rows_in tables) (environment_of c.args.environment.now) c.in-Value.value _ c.requires.fits
-    (meant_so statement tables (map arc_value c.deref-2.result.now) (environment_of c.args.environment.now)
+    (meant_so statement tables (map relation_of c.deref-2.result.now) (environment_of c.args.environment.now)
     c.in_ok-rows.field-0 (outcomes.Value c.in-Value.value) are c.in-Value.is c.in_ok-rows.ensures.meaning)
 
 pub returns-in-Value-clause-meaning : goal.returns-in-Value-clause-meaning
 returns-in-Value-clause-meaning c =
     let statement = c.args.statement.now in
     let tables = map arc_value c.args.tables.now.items in
-    let are : map arc_value c.deref-2.result.now ≡ tables_at tables (tables_named statement) =
-    ap (map arc_value) c.deref-2.ensures.value
-    ∙ c.in_ok-named.ensures
-    ∙ (λ i. tables_at (map arc_value (c.as_slice.ensures.value i)) ((c.deref.ensures.value ∙ c.in_ok-numbers.ensures) i)) in
-    meant_so statement tables (map arc_value c.deref-2.result.now) (environment_of c.args.environment.now)
+    let are : map relation_of c.deref-2.result.now ≡ tables_at tables (tables_named statement) =
+    ap (map relation_of) c.deref-2.ensures.value
+    ∙ c.in_ok-named.ensures.tables
+    ∙ (λ i. tables_at (map arc_value (c.as_slice.ensures.value i))
+    ((c.deref.ensures.value ∙ c.in_ok-numbers.ensures) i)) in
+    meant_so statement tables (map relation_of c.deref-2.result.now) (environment_of c.args.environment.now)
     c.in_ok-rows.field-0 (outcomes.Value c.in-Value.value) are c.in-Value.is c.in_ok-rows.ensures.meaning
     ∙ same_effect (rows_in tables) (rows_in tables)
     (with_value (environment_of c.args.environment.now) (set_variable statement) c.in-Value.value)
@@ -114,9 +124,10 @@ pub returns-clause-meaning : goal.returns-clause-meaning
 returns-clause-meaning c =
     let statement = c.args.statement.now in
     let tables = map arc_value c.args.tables.now.items in
-    let are : map arc_value c.deref-2.result.now ≡ tables_at tables (tables_named statement) =
-    ap (map arc_value) c.deref-2.ensures.value
-    ∙ c.in_ok-named.ensures
-    ∙ (λ i. tables_at (map arc_value (c.as_slice.ensures.value i)) ((c.deref.ensures.value ∙ c.in_ok-numbers.ensures) i)) in
-    meant_so statement tables (map arc_value c.deref-2.result.now) (environment_of c.args.environment.now)
+    let are : map relation_of c.deref-2.result.now ≡ tables_at tables (tables_named statement) =
+    ap (map relation_of) c.deref-2.ensures.value
+    ∙ c.in_ok-named.ensures.tables
+    ∙ (λ i. tables_at (map arc_value (c.as_slice.ensures.value i))
+    ((c.deref.ensures.value ∙ c.in_ok-numbers.ensures) i)) in
+    meant_so statement tables (map relation_of c.deref-2.result.now) (environment_of c.args.environment.now)
     c.in_ok-rows.field-0 (outcomes.Fault c.in-Fault.failure) are c.in-Fault.is c.in_ok-rows.ensures.meaning

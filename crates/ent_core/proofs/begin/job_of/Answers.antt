@@ -4,7 +4,7 @@ use Rattle.std.proofs.lemmas.List.{length-map}
 use Rattle.std.proofs.lemmas.List.Elements.{recursion_from_All}
 use Rattle.ent_job.specs.Work.{IsOne}
 use Rattle.ent_tree.specs.declared.declaration.Create.{Create}
-use Rattle.ent_protocol.specs.Job.{Seen, Single, One}
+use Rattle.ent_protocol.specs.Job.{Numbered, Single, One}
 use Rattle.ent_protocol.specs.Member.{Ordinary, seen_now}
 use Rattle.ent_headline.specs.Resolved.{resolved_forms}
 use Rattle.ent_protocol.specs.State.{State, Use}
@@ -46,7 +46,7 @@ one-requires c =
     ∙ ap (seen_now inside.opening.tables inside.tables.tables) uses
     ∙ ap (λ (x : State). seen_now x.opening.tables x.tables (statement_uses statement)) c.store.view_is in
     let S : Single → Type 0 = λ own. IsOne own c.in_ok-tables.tables in
-    let T : List Seen → Type 0 = λ tables. IsOne (record {
+    let T : List Numbered → Type 0 = λ tables. IsOne (record {
       tx = member.tx;
       attempt = member.attempt;
       place = member.place;

@@ -1,15 +1,11 @@
-use Rattle.std.proofs.Common.{map, ap, ◌∙◌}
-use Rattle.std.specs.Arc.{arc_value}
 use Rattle.ent_eval.proofs.Effects.{one_fits, one_done}
 use Rattle.ent_eval.proofs.done.one_outcome.Goals as goal
 
 pub statement_outcome-requires : goal.statement_outcome-requires
 statement_outcome-requires c =
-    one_fits c.args.single.now c.args.tables.now _ _ c.requires
-    (ap (map arc_value) c.as_slice.ensures.value ∙ c.in_ok-shared.ensures) c.statement.ensures
+    one_fits c.args.single.now c.args.tables.now _ c.requires c.statement.ensures
 
 pub returns : goal.returns
 returns c =
-    one_done c.args.single.now c.args.tables.now _ _ c.in_ok-outcome.outcome c.requires
-    (ap (map arc_value) c.as_slice.ensures.value ∙ c.in_ok-shared.ensures) c.statement.ensures
+    one_done c.args.single.now c.args.tables.now _ c.in_ok-outcome.outcome c.requires c.statement.ensures
     c.in_ok-outcome.ensures.meaning c.in_ok-outcome.ensures.change

@@ -1,9 +1,7 @@
 use Rattle.std.proofs.Common.{◌≡◌, ◌<◌, ◌∙◌, true, false, length, map, ap, subst, sym}
 use Rattle.std.specs.Prelude.{is_some}
-use Rattle.std.specs.Arc.{arc_value}
 use Rattle.ent_coordination.specs.Choice.{IsLeastChoice}
 use Rattle.ent_plan.specs.Plan.{slot_value, spread}
-use Rattle.ent_plan.specs.Tables.{tables_named}
 use Rattle.ent_join.specs.Asked.{all_indexes, all_tests}
 use Rattle.ent_join.specs.Frame.{candidates_of, lets_through}
 use Rattle.ent_join.specs.Search.{AreTicks, IsGuide}
@@ -15,13 +13,12 @@ use Rattle.ent_join.proofs.choice.counted_choice.Goals as goal
 pub least-requires : goal.least-requires
 least-requires c =
     let plan = c.args.plan.now in
-    let tables = map arc_value c.args.tables.now in
+    let tables = c.args.tables.now in
     let frame = c.in_ok-frame.frame in
-    let indexes : frame.indexes ≡ all_indexes (tables_named plan.members) tables
-    (all_tests plan.members plan.slots) plan.members plan.slots =
+    let indexes : frame.indexes ≡ all_indexes tables (all_tests plan.members plan.slots)
+    plan.members plan.slots =
     c.in_ok-frame.ensures.indexes
-    ∙ (λ i. all_indexes (c.tables.ensures i) tables
-    (all_tests (c.members-members.ensures.members i) (c.slots.ensures.slots i))
+    ∙ (λ i. all_indexes tables (all_tests (c.members-members.ensures.members i) (c.slots.ensures.slots i))
     (c.members-members.ensures.members i) (c.slots.ensures.slots i)) in
     let tests : frame.tests ≡ all_tests plan.members plan.slots =
     c.in_ok-frame.ensures.tests ∙ (λ i. all_tests (c.members-members.ensures.members i) (c.slots.ensures.slots i)) in
@@ -30,57 +27,54 @@ least-requires c =
     (c.in_ok-frame.ensures.kinds ∙ c.kinds.ensures.kinds) c.requires)
 
 pub returns-then-has_empty_domain-clause-choice : goal.returns-then-has_empty_domain-clause-choice
-returns-then-has_empty_domain-clause-choice c = λ laid e.
+returns-then-has_empty_domain-clause-choice c = λ laid are.
     let plan = c.args.plan.now in
     let is = c.members-members.ensures.plan in
-    let tables = map arc_value c.args.tables.now in
+    let tables = c.args.tables.now in
     let frame = c.in_ok-frame.frame in
-    let indexes : frame.indexes ≡ all_indexes (tables_named plan.members) tables
-    (all_tests plan.members plan.slots) plan.members plan.slots =
+    let indexes : frame.indexes ≡ all_indexes tables (all_tests plan.members plan.slots)
+    plan.members plan.slots =
     c.in_ok-frame.ensures.indexes
-    ∙ (λ i. all_indexes (c.tables.ensures i) tables
-    (all_tests (c.members-members.ensures.members i) (c.slots.ensures.slots i))
+    ∙ (λ i. all_indexes tables (all_tests (c.members-members.ensures.members i) (c.slots.ensures.slots i))
     (c.members-members.ensures.members i) (c.slots.ensures.slots i)) in
     let tests : frame.tests ≡ all_tests plan.members plan.slots =
     c.in_ok-frame.ensures.tests ∙ (λ i. all_tests (c.members-members.ensures.members i) (c.slots.ensures.slots i)) in
     let of_kinds : frame.kinds ≡ plan.kinds = c.in_ok-frame.ensures.kinds ∙ c.kinds.ensures.kinds in
     let empty = c.has_empty_domain.ensures c.if-has_empty_domain.true in
-    none_chosen plan is tables frame indexes tests of_kinds laid e
+    none_chosen plan is tables frame indexes tests of_kinds laid are
     (λ groundings. c.plan_has_the_choices.ensures laid plan groundings is)
     (λ others values w v. c.plan_keeps_the_order.ensures plan others values is w v)
     (none_passes (length plan.kinds) empty.0 frame (subst (λ n. empty.0 < n) (ap length of_kinds) empty.1) empty.2)
 
 pub returns-in-None-clause-choice : goal.returns-in-None-clause-choice
-returns-in-None-clause-choice c = λ laid e.
+returns-in-None-clause-choice c = λ laid are.
     let plan = c.args.plan.now in
     let is = c.members-members.ensures.plan in
-    let tables = map arc_value c.args.tables.now in
+    let tables = c.args.tables.now in
     let frame = c.in_ok-frame.frame in
-    let indexes : frame.indexes ≡ all_indexes (tables_named plan.members) tables
-    (all_tests plan.members plan.slots) plan.members plan.slots =
+    let indexes : frame.indexes ≡ all_indexes tables (all_tests plan.members plan.slots)
+    plan.members plan.slots =
     c.in_ok-frame.ensures.indexes
-    ∙ (λ i. all_indexes (c.tables.ensures i) tables
-    (all_tests (c.members-members.ensures.members i) (c.slots.ensures.slots i))
+    ∙ (λ i. all_indexes tables (all_tests (c.members-members.ensures.members i) (c.slots.ensures.slots i))
     (c.members-members.ensures.members i) (c.slots.ensures.slots i)) in
     let tests : frame.tests ≡ all_tests plan.members plan.slots =
     c.in_ok-frame.ensures.tests ∙ (λ i. all_tests (c.members-members.ensures.members i) (c.slots.ensures.slots i)) in
-    none_chosen plan is tables frame indexes tests (c.in_ok-frame.ensures.kinds ∙ c.kinds.ensures.kinds) laid e
+    none_chosen plan is tables frame indexes tests (c.in_ok-frame.ensures.kinds ∙ c.kinds.ensures.kinds) laid are
     (λ groundings. c.plan_has_the_choices.ensures laid plan groundings is)
     (λ others values w v. c.plan_keeps_the_order.ensures plan others values is w v)
     (none_found (length c.kinds-2.result.now) (length plan.kinds) (lets_through frame) c.in_ok-least.field-0
     (ap length c.kinds-2.ensures.kinds) c.in-None.is c.in_ok-least.ensures.least)
 
 pub returns-clause-choice : goal.returns-clause-choice
-returns-clause-choice c = λ laid e.
+returns-clause-choice c = λ laid are.
     let plan = c.args.plan.now in
     let is = c.members-members.ensures.plan in
-    let tables = map arc_value c.args.tables.now in
+    let tables = c.args.tables.now in
     let frame = c.in_ok-frame.frame in
-    let indexes : frame.indexes ≡ all_indexes (tables_named plan.members) tables
-    (all_tests plan.members plan.slots) plan.members plan.slots =
+    let indexes : frame.indexes ≡ all_indexes tables (all_tests plan.members plan.slots)
+    plan.members plan.slots =
     c.in_ok-frame.ensures.indexes
-    ∙ (λ i. all_indexes (c.tables.ensures i) tables
-    (all_tests (c.members-members.ensures.members i) (c.slots.ensures.slots i))
+    ∙ (λ i. all_indexes tables (all_tests (c.members-members.ensures.members i) (c.slots.ensures.slots i))
     (c.members-members.ensures.members i) (c.slots.ensures.slots i)) in
     let tests : frame.tests ≡ all_tests plan.members plan.slots =
     c.in_ok-frame.ensures.tests ∙ (λ i. all_tests (c.members-members.ensures.members i) (c.slots.ensures.slots i)) in
@@ -89,48 +83,46 @@ returns-clause-choice c = λ laid e.
     c.in_ok-valuations-in-Some.ensures
     ∙ (λ i. map (map (slot_value (c.values.ensures i))) (c.slots-in-Some.ensures.slots i)) in
     subst (IsLeastChoice laid plan.members) (sym made)
-    (chosen plan is tables frame indexes tests (c.in_ok-frame.ensures.kinds ∙ c.kinds.ensures.kinds) laid e
+    (chosen plan is tables frame indexes tests (c.in_ok-frame.ensures.kinds ∙ c.kinds.ensures.kinds) laid are
     (λ groundings. c.plan_has_the_choices.ensures laid plan groundings is)
     (λ others values w v. c.plan_keeps_the_order.ensures plan others values is w v) values
     (least_found (length c.kinds-2.result.now) (length plan.kinds) (lets_through frame) c.in_ok-least.field-0 values
     (ap length c.kinds-2.ensures.kinds) c.in-Some.is c.in_ok-least.ensures.least))
 
 pub returns-in-None-clause-ticks : goal.returns-in-None-clause-ticks
-returns-in-None-clause-ticks c = λ laid member e alone asks.
+returns-in-None-clause-ticks c = λ laid member are alone asks.
     let plan = c.args.plan.now in
     let is = c.members-members.ensures.plan in
-    let tables = map arc_value c.args.tables.now in
+    let tables = c.args.tables.now in
     let frame = c.in_ok-frame.frame in
-    let indexes : frame.indexes ≡ all_indexes (tables_named plan.members) tables
-    (all_tests plan.members plan.slots) plan.members plan.slots =
+    let indexes : frame.indexes ≡ all_indexes tables (all_tests plan.members plan.slots)
+    plan.members plan.slots =
     c.in_ok-frame.ensures.indexes
-    ∙ (λ i. all_indexes (c.tables.ensures i) tables
-    (all_tests (c.members-members.ensures.members i) (c.slots.ensures.slots i))
+    ∙ (λ i. all_indexes tables (all_tests (c.members-members.ensures.members i) (c.slots.ensures.slots i))
     (c.members-members.ensures.members i) (c.slots.ensures.slots i)) in
     let tests : frame.tests ≡ all_tests plan.members plan.slots =
     c.in_ok-frame.ensures.tests ∙ (λ i. all_tests (c.members-members.ensures.members i) (c.slots.ensures.slots i)) in
-    row_ticks plan is tables frame indexes tests (c.in_ok-frame.ensures.kinds ∙ c.kinds.ensures.kinds) laid e c.requires
-    member alone asks (length c.kinds-2.result.now) c.args.ticks.now c.least.new.ticks false
+    row_ticks plan is tables frame indexes tests (c.in_ok-frame.ensures.kinds ∙ c.kinds.ensures.kinds) laid are
+    c.requires member alone asks (length c.kinds-2.result.now) c.args.ticks.now c.least.new.ticks false
     (ap length c.kinds-2.ensures.kinds)
     (λ ends. subst (λ found. AreTicks (length c.kinds-2.result.now) c.args.ticks.now c.least.new.ticks (is_some found))
     c.in-None.is (c.in_ok-least.ensures.ticks ends))
 
 pub returns-clause-ticks : goal.returns-clause-ticks
-returns-clause-ticks c = λ laid member e alone asks.
+returns-clause-ticks c = λ laid member are alone asks.
     let plan = c.args.plan.now in
     let is = c.members-members.ensures.plan in
-    let tables = map arc_value c.args.tables.now in
+    let tables = c.args.tables.now in
     let frame = c.in_ok-frame.frame in
-    let indexes : frame.indexes ≡ all_indexes (tables_named plan.members) tables
-    (all_tests plan.members plan.slots) plan.members plan.slots =
+    let indexes : frame.indexes ≡ all_indexes tables (all_tests plan.members plan.slots)
+    plan.members plan.slots =
     c.in_ok-frame.ensures.indexes
-    ∙ (λ i. all_indexes (c.tables.ensures i) tables
-    (all_tests (c.members-members.ensures.members i) (c.slots.ensures.slots i))
+    ∙ (λ i. all_indexes tables (all_tests (c.members-members.ensures.members i) (c.slots.ensures.slots i))
     (c.members-members.ensures.members i) (c.slots.ensures.slots i)) in
     let tests : frame.tests ≡ all_tests plan.members plan.slots =
     c.in_ok-frame.ensures.tests ∙ (λ i. all_tests (c.members-members.ensures.members i) (c.slots.ensures.slots i)) in
-    row_ticks plan is tables frame indexes tests (c.in_ok-frame.ensures.kinds ∙ c.kinds.ensures.kinds) laid e c.requires
-    member alone asks (length c.kinds-2.result.now) c.args.ticks.now c.least.new.ticks true
+    row_ticks plan is tables frame indexes tests (c.in_ok-frame.ensures.kinds ∙ c.kinds.ensures.kinds) laid are
+    c.requires member alone asks (length c.kinds-2.result.now) c.args.ticks.now c.least.new.ticks true
     (ap length c.kinds-2.ensures.kinds)
     (λ ends. subst (λ found. AreTicks (length c.kinds-2.result.now) c.args.ticks.now c.least.new.ticks (is_some found))
     c.in-Some.is (c.in_ok-least.ensures.ticks ends))

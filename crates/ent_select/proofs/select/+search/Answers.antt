@@ -1,7 +1,7 @@
 use Rattle.std.proofs.Common.{◌++◌, ◌-◌, length, take, drop, map, ap, sym, ◌∙◌}
 use Rattle.std.proofs.Common.{List, subst, arith}
-use Rattle.std.specs.Arc.{arc_value}
 use Rattle.ent_value.specs.declared.value.Value.{Value}
+use Rattle.ent_rel.specs.Numbered.{relation_of}
 use Rattle.ent_rel.specs.Relation.{Relation}
 use Rattle.ent_tree.specs.declared.operand.Test.{Test}
 use Rattle.ent_closed.specs.declared.operand.Operand.{Operand}
@@ -17,7 +17,7 @@ loop-row-preserved-then-may_meet t c =
     let select = c.args.select.now in
     let found = c.loop-row.found.items in
     let sources = c.args.sources.now in
-    let more = rows_listed (map arc_value (take (length sources - 1) (drop 1 sources))) in
+    let more = rows_listed (map relation_of (take (length sources - 1) (drop 1 sources))) in
     one_row_more select.items select.tests c.args.front.now more c.loop-row.rows c.next_row.new.self found
     c.search.new.found.items c.in-Some.row c.in-Some.ensures
     (c.in_ok-search-in-len1-up.ensures
@@ -30,7 +30,7 @@ loop-row-preserved t c =
     let select = c.args.select.now in
     let row = c.args.front.now ++ c.in-Some.row in
     let sources = c.args.sources.now in
-    let more = rows_listed (map arc_value (take (length sources - 1) (drop 1 sources))) in
+    let more = rows_listed (map relation_of (take (length sources - 1) (drop 1 sources))) in
     let conditions = c.as_slice.ensures ∙ c.deref-in-len1-up.ensures in
     let fails = sym (λ i. may_meet (conditions i) row) ∙ sym (c.in_ok-tests-in-len1-up.ensures.may_meet c.in-Some.row)
     ∙ sym c.may_meet.ensures ∙ c.if-may_meet.false in
@@ -44,7 +44,7 @@ returns-in_default t c =
     let front = c.args.front.now in
     let found = c.args.found.now.items in
     let sources = c.args.sources.now in
-    let table = arc_value c.table-item-2.result in
+    let table = relation_of c.source-item-2.result in
     let rows = c.in_ok-rows-in-len1-up.rows in
     let more = take (length sources - 1) (drop 1 sources) in
     let P : List (Test (Operand Value)) → Type 0 =
@@ -53,7 +53,8 @@ returns-in_default t c =
     let are : AreNarrowed select.tests front table.rows rows =
     subst Q c.deref-in-len1-up-3.ensures
     (subst P (c.as_slice-in-len1-up.ensures ∙ c.deref-in-len1-up-2.ensures) c.in_ok-rows-in-len1-up.ensures) in
-    all_searched select.items select.tests front table.rows rows are (rows_listed (map arc_value more)) found
+    all_searched select.items select.tests front table.rows rows are (rows_listed (map relation_of more)) found
     c.loop-row.found.items c.loop-row.rows c.loop-row.invariant c.in_default.ensures.0
-    ∙ ap (λ sources. found ++ shown_of select.items select.tests (combined front (rows_listed (map arc_value sources))))
-    (sym (begins_with sources c.table-item-2.result (omega arith) c.table-item-2.is))
+    ∙ ap (λ sources. found
+    ++ shown_of select.items select.tests (combined front (rows_listed (map relation_of sources))))
+    (sym (begins_with sources c.source-item-2.result (omega arith) c.source-item-2.is))

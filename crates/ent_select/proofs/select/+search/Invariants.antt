@@ -1,7 +1,7 @@
 use Rattle.std.proofs.Common.{◌≡◌, ◌++◌, length}
-use Rattle.std.specs.Arc.{arc_value}
 use Rattle.std.specs.Prelude.{map}
 use Rattle.std.specs.List.{flat_map}
+use Rattle.ent_rel.specs.Numbered.{relation_of}
 use Rattle.ent_select.specs.Combined.{combined, shown_of}
 use Rattle.ent_select.specs.Tables.{rows_listed}
 use Rattle.ent_select.proofs.select.+search.Given as goal
@@ -13,9 +13,9 @@ decreases-search l = length l.sources.now
 abbrev pub invariant-loop-row : goal.invariant-loop-row
 invariant-loop-row l =
     l.found.items ++ shown_of l.select.items l.select.tests
-    (flat_map (λ row. combined (l.front ++ row) (rows_listed (map arc_value l.more))) l.rows)
+    (flat_map (λ row. combined (l.front ++ row) (rows_listed (map relation_of l.more))) l.rows)
     ≡ l.fn.found.items ++ shown_of l.select.items l.select.tests
-    (flat_map (λ row. combined (l.front ++ row) (rows_listed (map arc_value l.more))) l.initial.rows)
+    (flat_map (λ row. combined (l.front ++ row) (rows_listed (map relation_of l.more))) l.initial.rows)
 
 abbrev pub decreases-loop-row : goal.decreases-loop-row
 decreases-loop-row l = length l.rows

@@ -1,7 +1,7 @@
 use Rattle.std.proofs.Common.{[], ◌++◌, map, ap, ◌∙◌}
-use Rattle.std.specs.Arc.{arc_value}
 use Rattle.ent_set.specs.Sets as set
 use Rattle.ent_value.specs.Value.{row_cmp}
+use Rattle.ent_rel.specs.Numbered.{relation_of}
 use Rattle.ent_select.specs.Combined.{combined, shown_of}
 use Rattle.ent_select.specs.Tables.{rows_listed}
 use Rattle.ent_select.proofs.Combinations.{combined_is}
@@ -10,7 +10,7 @@ use Rattle.ent_select.proofs.select.all.Goals as goal
 pub returns : goal.returns
 returns c =
     let select = c.args.select.now in
-    let tables = map arc_value c.args.sources.now in
+    let tables = map relation_of c.args.sources.now in
     c.from_vec.ensures ∙ c.in_ok-ascending.ensures
     ∙ ap (λ found. set.ascending (set.from_list {R = row_cmp} found))
     (c.in_ok-search.ensures
