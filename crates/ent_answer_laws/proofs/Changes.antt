@@ -11,11 +11,10 @@ use Rattle.ent_print.specs.Spelling.{assignment_spelling, operand_spelling}
 use Rattle.ent_semantics.specs.Change.{assigned_value, assigned_values, image, matched, unmatched, updated}
 use Rattle.ent_semantics.specs.Database.{Rows, same_name}
 use Rattle.ent_semantics.specs.Term.{SourceColumn, Worth, expression_value}
+use Rattle.ent_semantics.proofs.EachRow.{EachRow, each_all_inserted, each_retained, to_ascending}
 use Rattle.ent_history_form.specs.Parts.{IsRow, IsValue}
-use Rattle.ent_form_laws.proofs.KindedRows.{each_ascending}
 use Rattle.ent_form_laws.proofs.Known.{one_value}
 use Rattle.ent_answer_laws.proofs.Read.{AreRead}
-use Rattle.ent_answer_laws.proofs.Rows.{EachRow, all_inserted_rows, retained_rows}
 use Rattle.ent_answer_laws.proofs.Values.{AreValues, all_there_are, expression_is_value}
 
 -- ---- the image of a row
@@ -105,8 +104,8 @@ module _ (worth : Worth Operand) (assignments : List Assignment) (columns : List
       let old = set.ascending (matched matches rows) in
       let left = unmatched matches rows in
       let images = filter_map image_of old in
-      let under = each_ascending (IsRowUnder columns) (matched matches rows)
-      (retained_rows (IsRowUnder columns) rows matches all) in
-      let kept = retained_rows (IsRowUnder columns) rows (λ row. not (matches row)) all in
+      let under = to_ascending (IsRowUnder columns) (matched matches rows)
+      (each_retained (IsRowUnder columns) rows matches all) in
+      let kept = each_retained (IsRowUnder columns) rows (λ row. not (matches row)) all in
       chosen (list_all (λ row. is_some (image_of row)) old) (set.insert_all left images) after
-      (all_inserted_rows IsRow left images (λ row there. (kept row there).0) (images_are_rows old under)) e
+      (each_all_inserted IsRow left images (λ row there. (kept row there).0) (images_are_rows old under)) e

@@ -49,11 +49,11 @@ use Rattle.ent_form_laws.specs.Tables.{database_of}
 use Rattle.ent_history_form.specs.Parts.{IsRow, IsValue}
 use Rattle.ent_form_laws.proofs.Steps.{bound_given, demand_given, one_answer}
 use Rattle.ent_lists.specs.Elements.{all_first, all_joined, all_second, and_both, or_cases, same_number}
+use Rattle.ent_semantics.proofs.EachRow.{EachRow}
 use Rattle.ent_answer_laws.specs.Held.{HoldsValuesOf}
 use Rattle.ent_answer_laws.specs.Laws.{Laws}
 use Rattle.ent_answer_laws.proofs.Read.{AreRead, separated_are_read}
 use Rattle.ent_answer_laws.proofs.Results.{HoldsRows, select_is_told}
-use Rattle.ent_answer_laws.proofs.Rows.{EachRow}
 use Rattle.ent_answer_laws.proofs.Stored.{IsStored}
 use Rattle.ent_answer_laws.proofs.Values.{AreValues}
 

@@ -29,16 +29,16 @@ use Rattle.ent_semantics.specs.Term.{expression_value, known_value, table_column
 use Rattle.ent_sql_laws.specs.Fits.{StatementFits}
 use Rattle.ent_history_form.specs.Answers.{IsOfSort}
 use Rattle.ent_history_form.specs.Parts.{IsRow}
-use Rattle.ent_form_laws.proofs.KindedRows.{each_ascending}
 use Rattle.ent_form_laws.proofs.Steps.{one_answer}
 use Rattle.ent_lists.specs.Elements.{all_first}
+use Rattle.ent_semantics.proofs.EachRow.{EachRow, each_inserted, each_retained, to_ascending}
 use Rattle.ent_report_laws.specs.Tellable.{IsAnswerTold}
 use Rattle.ent_answer_laws.specs.Answered.{CanBeCounted}
 use Rattle.ent_answer_laws.proofs.Changes.{IsRowUnder, updated_are_rows}
 use Rattle.ent_answer_laws.proofs.Offered.{bound_are_told, heads_are_told}
 use Rattle.ent_answer_laws.proofs.Read.{AreRead, separated_are_read}
 use Rattle.ent_answer_laws.proofs.Results.{HoldsRows, select_is_told, some_mapped}
-use Rattle.ent_answer_laws.proofs.Rows.{EachRow, inserted_rows, retained_few, retained_rows, rows_rise}
+use Rattle.ent_answer_laws.proofs.Rows.{retained_few, rows_rise}
 use Rattle.ent_answer_laws.proofs.Values.{AreValues, HoldsValues, all_bound_are_held, bound_is_held}
 use Rattle.ent_answer_laws.proofs.Values.{expression_is_value, known_is_value, mapped_are_values, operand_is_value}
 
@@ -171,7 +171,7 @@ module _ (declared : List Create) (database : Database) (environment : Environme
           few = few;
           values = held;
           sort = tt;
-          told = λ counted. (counted, each_ascending IsRow result told, rows_rise result);
+          told = λ counted. (counted, to_ascending IsRow result told, rows_rise result);
         })
     leaves_told (statements.Entangled entangled) can fits valuation all effect e =
         subst (LeavesTold (statements.Entangled entangled)) (one_answer {E = Failure} _ effect e)
@@ -197,7 +197,7 @@ module _ (declared : List Create) (database : Database) (environment : Environme
         changed_told (statements.Insert insert) (λ count. tt) table
         (if set.contains (database table) row then 0 else 1) (set.insert (database table) row)
         (new_or_not (set.contains (database table) row))
-        (inserted_rows IsRow (database table) row (rows table) is) effect e
+        (each_inserted IsRow (database table) row (rows table) is) effect e
     leaves_told (statements.Delete delete) can fits valuation all effect e =
         let table = delete.table.name in
         let matches = meets (table_worth declared environment table) delete.tests in
@@ -207,7 +207,7 @@ module _ (declared : List Create) (database : Database) (environment : Environme
         subst (LeavesTold (statements.Delete delete)) (one_answer {E = Failure} _ effect e)
         (counted_told (statements.Delete delete) (λ count. tt) table (set.len (matched matches (database table)))
         (unmatched matches (database table)) (omega (arith, low, here))
-        (retained_rows IsRow (database table) (λ row. not (matches row)) (rows table)) (omega (arith, left, here)))
+        (each_retained IsRow (database table) (λ row. not (matches row)) (rows table)) (omega (arith, left, here)))
     leaves_told (statements.Update update) can fits valuation all effect e =
         let table = update.table.name in
         let worth = table_worth declared environment table in

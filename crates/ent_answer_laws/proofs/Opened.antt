@@ -20,11 +20,13 @@ use Rattle.ent_form_laws.proofs.Steps.{nothing_first}
 use Rattle.ent_rules.specs.Formed.{is_declared}
 use Rattle.ent_lists.specs.Elements.{In, any_in, clash, contains_in, filter_empty, in_flat, index_pairs, not_so}
 use Rattle.ent_lists.specs.Elements.{of_all, of_map, shorter}
+use Rattle.ent_set.specs.Laws.{len-from_list}
+use Rattle.ent_value.specs.Order.{exact_rows, rows_total}
+use Rattle.ent_semantics.proofs.EachRow.{each_listed}
 use Rattle.ent_report_laws.specs.Tellable.{AreRowsOf, IsOpeningTold}
 use Rattle.ent_report_laws.proofs.Faultless.{opening_faultless}
 use Rattle.ent_report_laws.proofs.Opened.{Before, names_it}
 use Rattle.ent_answer_laws.specs.Held.{HoldsRowsOf}
-use Rattle.ent_answer_laws.proofs.Rows.{listed_few, listed_rows}
 
 module _ (opening : Opening) (told : IsOpeningTold opening) where
   pub tables_faultless : declarations_fault [] opening.tables ≡ None
@@ -60,7 +62,7 @@ module _ (opening : Opening) (told : IsOpeningTold opening) where
   pub opening_holds_rows : HoldsRowsOf opening.tables (opening_database opening)
   opening_holds_rows = record {
     rows = λ create there row has.
-        listed_rows (λ (row : List Value). IsRow row
+        each_listed (λ (row : List Value). IsRow row
         × (kinds_of row ≡ map (λ (column : Column). column.kind) create.columns))
         (rows_under opening create.name.name)
         (of_all (λ (create : Create). AreRowsOf create.columns (rows_under opening create.name.name)) opening.tables
@@ -69,7 +71,7 @@ module _ (opening : Opening) (told : IsOpeningTold opening) where
         let named = filter (names_it create.name.name) opening.rows in
         omega (
           arith,
-          listed_few (map row_of named),
+          len-from_list rows_total exact_rows (map row_of named),
           length-map named row_of,
           shorter (names_it create.name.name) opening.rows,
           told.few_rows,

@@ -24,7 +24,7 @@ literal_is_value (values.Text text) can = (can.0.1.1, can.1)
 -- ---- lists
 
 module _ {A : Type 0} (separator : Lexeme) (spelling : A → List Lexeme) where
-  behind_are_read : (xs : List A) → AreRead (each_behind separator spelling xs)
+  pub behind_are_read : (xs : List A) → AreRead (each_behind separator spelling xs)
       → AllByRecursion (λ x. AreRead (spelling x)) xs
   behind_are_read [] can = tt
   behind_are_read (x ∷ xs) can = (

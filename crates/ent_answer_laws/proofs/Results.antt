@@ -19,10 +19,9 @@ use Rattle.ent_text.specs.declared.keyword.Keyword.TheVariants as keywords
 use Rattle.ent_text.specs.declared.symbol.Symbol.TheVariants as symbols
 use Rattle.ent_history_form.specs.Parts.{IsRow, IsValue}
 use Rattle.ent_sql_laws.specs.Fits.{ItemsFit, SelectFits}
-use Rattle.ent_form_laws.proofs.KindedRows.{each_ascending}
 use Rattle.ent_lists.specs.Elements.{In, all_first, all_filtered, all_joined, to_all, of_map, of_all, in_flat}
+use Rattle.ent_semantics.proofs.EachRow.{EachRow, each_listed, to_ascending}
 use Rattle.ent_answer_laws.proofs.Read.{AreRead, separated_are_read}
-use Rattle.ent_answer_laws.proofs.Rows.{EachRow, listed_rows}
 use Rattle.ent_answer_laws.proofs.Values.{AreValues, HoldsValues, mapped_are_values, operand_is_value}
 
 -- the rows of each table can be told
@@ -44,7 +43,7 @@ of_combination : (rows : Rows) (more : List Rows) (row : List Value) → EachRow
 of_combination rows more row each all at =
     let first = in_flat (with_others (combinations more)) (set.ascending rows) row at in
     let second = of_map (λ others. first.0 ++ others) (combinations more) row first.2 in
-    let is = of_all IsRow (set.ascending rows) first.0 (each_ascending IsRow rows each) first.1 in
+    let is = of_all IsRow (set.ascending rows) first.0 (to_ascending IsRow rows each) first.1 in
     let others = of_all AreValues (combinations more) second.0 all second.1 in
     subst IsRow (sym second.2)
     ((λ none. is.0 (nothing_joined first.0 second.0 none)), all_joined IsValue first.0 second.0 is.1 others)
@@ -102,7 +101,7 @@ module _ (declared : List Create) (database : Database) (environment : Environme
       length-map select.sources (λ (source : Source). database source.table.name) in
       let behind = word keywords.From
       ∷ (comma_list source_spelling select.sources ++ tests_clause select.tests) in
-      listed_rows IsRow (map (item_row worth select.items) (filter (meets worth select.tests) all))
+      each_listed IsRow (map (item_row worth select.items) (filter (meets worth select.tests) all))
       (all_mapped IsRow IsRow (item_row worth select.items) (filter (meets worth select.tests) all)
       (shown_row select select.items (all_first CanBeRead (items_spelling select.items) behind can.1)
       fits.0)

@@ -25,8 +25,8 @@ use Rattle.ent_history.specs.Told.{shown_table, told_member}
 use Rattle.ent_history.specs.declared.history.History.{History}
 use Rattle.ent_history_form.specs.Joints.{Binds, BindsRight, binds_of, member_binds, resolved_at, script_binds}
 use Rattle.ent_history_form.specs.Parts.{IsRow}
-use Rattle.ent_form_laws.proofs.KindedRows.{each_ascending}
 use Rattle.ent_lists.specs.Elements.{In}
+use Rattle.ent_semantics.proofs.EachRow.{to_ascending}
 use Rattle.ent_report_laws.specs.Tellable.{AreRowsOf, AreTablesOf, IsMemberTold}
 use Rattle.ent_answer_laws.specs.Held.{HoldsRowsOf}
 use Rattle.ent_answer_laws.proofs.Rows.{rows_rise}
@@ -71,7 +71,7 @@ module _ (declared : List Create) (database : Database) (holds : HoldsRowsOf dec
 
     pub rows_are_told : AreRowsOf create.columns (set.ascending (database create.name.name))
     rows_are_told = (
-      each_ascending (λ (row : List Value).
+      to_ascending (λ (row : List Value).
           IsRow row × (kinds_of row ≡ map (λ (column : Column). column.kind) create.columns))
           (database create.name.name) (holds.rows create there),
       rows_rise (database create.name.name),

@@ -11,9 +11,8 @@ use Rattle.ent_print.specs.Spelling.{assignment_spelling, operand_spelling}
 use Rattle.ent_semantics.specs.Change.{assigned_value, assigned_values, image, matched, unmatched, updated}
 use Rattle.ent_semantics.specs.Database.{Rows, same_name}
 use Rattle.ent_semantics.specs.Term.{SourceColumn, Worth, expression_value}
-use Rattle.ent_form_laws.proofs.KindedRows.{each_ascending}
+use Rattle.ent_semantics.proofs.EachRow.{EachRow, each_all_inserted, each_retained, to_ascending}
 use Rattle.ent_form_laws.proofs.Known.{one_value}
-use Rattle.ent_answer_laws.proofs.Rows.{EachRow, all_inserted_rows, retained_rows}
 use Rattle.ent_character_laws.specs.Values.{IsWritten}
 use Rattle.ent_character_laws.proofs.Worth.{all_there_have, expression_has}
 
@@ -86,7 +85,7 @@ module _ (P : Value → Type 0) (numbers : (number : ℤ) → P (Int number)) (a
     updated_have matches rows after all e =
         let old = set.ascending (matched matches rows) in
         let left = unmatched matches rows in
-        let under = each_ascending Has (matched matches rows) (retained_rows Has rows matches all) in
+        let under = to_ascending Has (matched matches rows) (each_retained Has rows matches all) in
         chosen (list_all (λ row. is_some (image_of row)) old) (set.insert_all left (filter_map image_of old)) after
-        (all_inserted_rows Has left (filter_map image_of old)
-        (retained_rows Has rows (λ row. not (matches row)) all) (images_have old under)) e
+        (each_all_inserted Has left (filter_map image_of old)
+        (each_retained Has rows (λ row. not (matches row)) all) (images_have old under)) e

@@ -18,11 +18,10 @@ use Rattle.ent_semantics.specs.Entangled.{bound_values}
 use Rattle.ent_semantics.specs.Selection.{meets, select_rows}
 use Rattle.ent_semantics.specs.Statement.{table_worth}
 use Rattle.ent_semantics.specs.Term.{expression_value, known_value, table_columns}
-use Rattle.ent_form_laws.proofs.KindedRows.{each_ascending}
 use Rattle.ent_form_laws.proofs.Steps.{one_answer}
 use Rattle.ent_lists.specs.Elements.{all_first}
+use Rattle.ent_semantics.proofs.EachRow.{EachRow, each_inserted, each_retained, to_ascending}
 use Rattle.ent_answer_laws.proofs.Leaving.{changed_is, changed_to, over_there, rows_put, setting_is}
-use Rattle.ent_answer_laws.proofs.Rows.{EachRow, inserted_rows, retained_rows}
 use Rattle.ent_character_laws.specs.Kept.{StatementsKeep}
 use Rattle.ent_character_laws.specs.Values.{BindsValues, HoldsValues, IsWritten, LeavesValues}
 use Rattle.ent_character_laws.proofs.Changed.{updated_have}
@@ -55,7 +54,7 @@ module _ (P : Value → Type 0) (numbers : (number : ℤ) → P (Int number)) wh
       let result = select_rows declared database environment select in
       let has = select_has P numbers declared database environment holds binds select writes in
       subst (LeavesValues P) (one_answer {E = Failure} _ effect e)
-      (record { tables = holds; variables = binds; answered = each_ascending Has result has })
+      (record { tables = holds; variables = binds; answered = to_ascending Has result has })
   statement_leaves declared (statements.Entangled entangled) valuation database environment effect writes all holds
       binds e =
       subst (LeavesValues P) (one_answer {E = Failure} _ effect e)
@@ -75,14 +74,14 @@ module _ (P : Value → Type 0) (numbers : (number : ℤ) → P (Int number)) wh
       (λ (value : ValueSpecification). AllByRecursion (IsWritten P) (specification_spelling value))
       (known_value environment) insert.values (known_has P numbers environment binds) written in
       changed_have database environment holds binds table (if set.contains (database table) row then 0 else 1)
-      (set.insert (database table) row) (inserted_rows Has (database table) row (holds table) has) effect e
+      (set.insert (database table) row) (each_inserted Has (database table) row (holds table) has) effect e
   statement_leaves declared (statements.Delete delete) valuation database environment effect writes all holds binds e =
       let table = delete.table.name in
       let matches = meets (table_worth declared environment table) delete.tests in
       subst (LeavesValues P) (one_answer {E = Failure} _ effect e)
       (counted database environment holds binds table (set.len (matched matches (database table)))
       (unmatched matches (database table))
-      (retained_rows Has (database table) (λ row. not (matches row)) (holds table)))
+      (each_retained Has (database table) (λ row. not (matches row)) (holds table)))
   statement_leaves declared (statements.Update update) valuation database environment effect writes all holds binds e =
       let table = update.table.name in
       let worth = table_worth declared environment table in

@@ -16,9 +16,8 @@ use Rattle.ent_text.specs.declared.symbol.Symbol.TheVariants as symbols
 use Rattle.ent_semantics.specs.Database.{Database, Environment, Rows}
 use Rattle.ent_semantics.specs.Selection.{combinations, item_row, meets, select_rows, select_worth, source_rows}
 use Rattle.ent_semantics.specs.Term.{source_columns}
-use Rattle.ent_form_laws.proofs.KindedRows.{each_ascending}
 use Rattle.ent_lists.specs.Elements.{In, all_first, all_filtered, all_joined, in_flat, of_all, of_map, to_all}
-use Rattle.ent_answer_laws.proofs.Rows.{EachRow, listed_rows}
+use Rattle.ent_semantics.proofs.EachRow.{EachRow, each_listed, to_ascending}
 use Rattle.ent_character_laws.specs.Values.{BindsValues, HoldsValues, IsWritten}
 use Rattle.ent_character_laws.proofs.Worth.{mapped_have, operand_has}
 use Rattle.ent_character_laws.proofs.Written.{separated_are_written}
@@ -39,7 +38,7 @@ module _ (P : Value → Type 0) (numbers : (number : ℤ) → P (Int number)) wh
   of_combination rows more row each all at =
       let first = in_flat (with_others (combinations more)) (set.ascending rows) row at in
       let second = of_map (λ others. first.0 ++ others) (combinations more) row first.2 in
-      let here = of_all Has (set.ascending rows) first.0 (each_ascending Has rows each) first.1 in
+      let here = of_all Has (set.ascending rows) first.0 (to_ascending Has rows each) first.1 in
       let others = of_all Has (combinations more) second.0 all second.1 in
       subst Has (sym second.2) (all_joined P first.0 second.0 here others)
 
@@ -82,7 +81,7 @@ module _ (P : Value → Type 0) (numbers : (number : ℤ) → P (Int number)) wh
         let behind = word keywords.From
         ∷ (comma_list source_spelling select.sources ++ tests_clause select.tests) in
         let shown = item_row worth select.items in
-        listed_rows Has (map shown (filter (meets worth select.tests) all))
+        each_listed Has (map shown (filter (meets worth select.tests) all))
         (shown_have shown (filter (meets worth select.tests) all)
         (item_row_has select select.items
         (all_first (IsWritten P) (items_spelling select.items) behind writes.1))

@@ -39,12 +39,6 @@ rows_at [] number = refl
 rows_at (table ∷ tables) zero = refl
 rows_at (table ∷ tables) (suc number) = rows_at tables number
 
-kinds_at : (tables : List Relation) (number : ℕ)
-    → (slice_index_or tables number no_table).kinds ≡ slice_index_or (kinds_in tables) number []
-kinds_at [] number = refl
-kinds_at (table ∷ tables) zero = refl
-kinds_at (table ∷ tables) (suc number) = kinds_at tables number
-
 abbrev pub tables_at : List Relation → List ℕ → List Relation
 tables_at tables numbers = map (λ number. slice_index_or tables number no_table) numbers
 
@@ -52,11 +46,6 @@ rows_of_numbers : (tables : List Relation) (numbers : List ℕ)
     → rows_in (tables_at tables numbers) ≡ rows_under (rows_in tables) numbers
 rows_of_numbers tables [] = refl
 rows_of_numbers tables (number ∷ numbers) = λ i. rows_at tables number i ∷ rows_of_numbers tables numbers i
-
-kinds_of_numbers : (tables : List Relation) (numbers : List ℕ)
-    → kinds_in (tables_at tables numbers) ≡ map (λ number. slice_index_or (kinds_in tables) number []) numbers
-kinds_of_numbers tables [] = refl
-kinds_of_numbers tables (number ∷ numbers) = λ i. kinds_at tables number i ∷ kinds_of_numbers tables numbers i
 
 -- ---- sorts of statements
 

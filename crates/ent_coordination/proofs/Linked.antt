@@ -18,12 +18,9 @@ itself_supported pool asker index post h is_post =
     let met = h.supported asker index post h.is_in is_post in
     (met.0, within pool h.among met.0 h.supported met.1, met.2)
 
-swapped : (first second : Posted) → AreJoined first second → AreJoined second first
-swapped first second joined = (joined.0, turned joined.1)
-  where
-    turned : {A B : Type 0} → A ⊎ B → B ⊎ A
-    turned (inl a) = inr a
-    turned (inr b) = inl b
+pub joined_back : (first second : Posted) → AreJoined first second → AreJoined second first
+joined_back first second (index, inl meets) = (index, inr meets)
+joined_back first second (index, inr meets) = (index, inl meets)
 
 linked_on : (n m : ℕ) (pool : List Posted) (first middle last : Posted)
     → AreLinkedIn n pool first middle → AreLinkedIn m pool middle last → AreLinked pool first last
@@ -41,7 +38,7 @@ linked_back : (n : ℕ) (pool : List Posted) (first last : Posted) → IsInRemai
 linked_back zero pool first last within h = (zero, sym h)
 linked_back (suc n) pool first last within h =
     linked pool last h.0 first (linked_back n pool h.0 last h.2 h.3)
-    (suc zero, (first, swapped first h.0 h.1, within, refl))
+    (suc zero, (first, joined_back first h.0 h.1, within, refl))
 
 over : (pool members others : List Posted) (shared member : Posted) → IsComponent pool members
     → IsComponent pool others → Contains members shared → Contains others shared

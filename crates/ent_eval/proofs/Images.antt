@@ -1,8 +1,8 @@
 -- The kinds of what an image gives.
-use Rattle.std.proofs.Common.{◌≡◌, ℕ, zero, suc, Bool, true, false, cond, List, [], ◌∷◌, map, Option, Some, None}
+use Rattle.std.proofs.Common.{◌≡◌, ℕ, zero, suc, List, [], ◌∷◌, map, Option, Some, None}
 use Rattle.std.proofs.Common.{Result}
 use Rattle.std.proofs.Common.{Ok, Err, refl, sym, ap, ◌∙◌}
-use Rattle.std.specs.Prelude.{ℤ, ◌+ℤ◌, ◌-ℤ◌, slice_get, slice_index_or, IfOk}
+use Rattle.std.specs.Prelude.{◌+ℤ◌, ◌-ℤ◌, slice_get, slice_index_or, IfOk}
 use Rattle.std.specs.Option.{option_map, option_and_then}
 use Rattle.ent_value.specs.Refusal.{Gives}
 use Rattle.ent_value.specs.Value.{kind_of, kinds_of}
@@ -14,8 +14,9 @@ use Rattle.ent_value.specs.declared.value.Value.TheVariants as values
 use Rattle.ent_tree.specs.declared.operand.Expression.{Expression}
 use Rattle.ent_tree.specs.declared.operand.Expression.TheVariants.{Single, Sum, Difference}
 use Rattle.ent_semantics.specs.Change.{all_there}
-use Rattle.ent_semantics.specs.Term.{no_value, number_of, in_64_bits, is_64_bits, expression_value}
+use Rattle.ent_semantics.specs.Term.{no_value, number_of, expression_value}
 use Rattle.ent_semantics.specs.declared.answer.Failure.{Failure}
+use Rattle.ent_semantics.proofs.NumberKinds.{number_kind}
 use Rattle.ent_closed.specs.declared.operand.Operand.{Operand}
 use Rattle.ent_closed.specs.declared.operand.Operand.TheVariants as operands
 use Rattle.ent_select.specs.Worth.{value_in}
@@ -34,13 +35,6 @@ kind_of_operand : (row : List Value) (operand : Operand Value) (kind : Kind)
 kind_of_operand row (operands.Known value) kind e = cc
 kind_of_operand row (operands.Column number) kind e = kind_of_column row number kind e
 
-kind_of_number : (number : ℤ) (value : Value) → in_64_bits number ≡ Some value → kind_of value ≡ kinds.Int
-kind_of_number number value e = by (is_64_bits number) e
-  where
-    by : (b : Bool) → cond b (Some (values.Int number)) None ≡ Some value → kind_of value ≡ kinds.Int
-    by true e = let is : values.Int number ≡ value = cc in sym (ap kind_of is)
-    by false e = cc
-
 kind_of_expression : {A : Type 0} (kind : A → Option Kind) (worth : A → Value)
     → ((term : A) (k : Kind) → kind term ≡ Some k → kind_of (worth term) ≡ k)
     → (expression : Expression A) (k : Kind) (value : Value) → expression_kind kind expression ≡ Some k
@@ -48,9 +42,9 @@ kind_of_expression : {A : Type 0} (kind : A → Option Kind) (worth : A → Valu
 kind_of_expression kind worth each (Single term) k value e is =
     let same : worth term ≡ value = cc in sym (ap kind_of same) ∙ each term k e
 kind_of_expression kind worth each (Sum left right) k value e is =
-    let h = kind_of_number (number_of (worth left) +ℤ number_of (worth right)) value is in cc
+    let h = number_kind (number_of (worth left) +ℤ number_of (worth right)) value is in cc
 kind_of_expression kind worth each (Difference left right) k value e is =
-    let h = kind_of_number (number_of (worth left) -ℤ number_of (worth right)) value is in cc
+    let h = number_kind (number_of (worth left) -ℤ number_of (worth right)) value is in cc
 
 kinds_of_all : {A : Type 0} (kind : A → Option Kind) (worth : A → Option Value)
     → ((a : A) (k : Kind) (value : Value) → kind a ≡ Some k → worth a ≡ Some value → kind_of value ≡ k)

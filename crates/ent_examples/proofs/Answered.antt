@@ -22,7 +22,7 @@ use Rattle.ent_examples.proofs.Choice.{taken, least_taken, have_partners}
 use Rattle.ent_examples.proofs.Component.{chosen, are_served, are_closed, joined, ascends, component, remains}
 use Rattle.ent_examples.proofs.Component.{linked_on}
 use Rattle.ent_examples.proofs.Component.{joined_by}
-use Rattle.ent_examples.proofs.Listed.{none_there, by_first, image_of, image_there, filtered_of, each_passes}
+use Rattle.ent_examples.proofs.Listed.{none_there, by_first, image_of, image_there, each_passes}
 
 pub at_most : (n m : ℕ) → nat_le n m ≡ true → n ≤ m
 at_most n m h = grind (arith, rules)
@@ -50,11 +50,6 @@ module _ (s : State) (friends : List Friend) (asked : pool s ≡ map posted frie
       (together : AreTogether friends among first more) where
     abbrev members : List Friend
     members = first ∷ more
-
-    member_there : (friend : Friend) → Contains members friend → Contains friends friend
-    member_there friend h =
-        (filtered_of (λ friend. among friend.tx) friends friend
-        (subst (λ xs. Contains xs friend) (sym together.are) h)).0
 
     pub present : IsPresentComponent s (map posted members)
     present =
@@ -140,12 +135,6 @@ no_class pool ones member next there join remains out h =
 
 same_work : (one other : List Posted) → Joint one ≡ Joint other → one ≡ other
 same_work one other e = cc
-
-number_itself : (n m : ℕ) → n ≡ m → (n == m) ≡ true
-number_itself n m e = grind (arith, rules)
-
-differs : (b : Bool) → b ≡ true → b ≡ false → ⊥
-differs b h e = cc
 
 -- the result of a component with a member of which another one, who remains, is joined, and who isn't of it
 pub grown : (s : State) (friends : List Friend) → pool s ≡ map posted friends → (among : ℕ → Bool)

@@ -273,7 +273,7 @@ qualified_head view (Some qualifier) more later e =
       | false ↦ refl
     ]
 
-unqualified : {A : Type 0} (names : List Name) (qualifier : Option Identifier) (more : Result A FormFault) (x : A)
+pub unqualified : {A : Type 0} (names : List Name) (qualifier : Option Identifier) (more : Result A FormFault) (x : A)
     → qualifier_in names qualifier more ≡ Ok x → more ≡ Ok x
 unqualified names (Some qualifier) more x e =
     demand_of (is_among names qualifier.name) (NoTable qualifier.place) more x e

@@ -177,12 +177,12 @@ put_kept kind (x ∷ xs) (first ∷ kinds) (suc number) new wanted e at is =
     parts : (x y : Option Kind) (xs ys : List (Option Kind)) → x ∷ xs ≡ y ∷ ys → (x ≡ y) × (xs ≡ ys)
     parts x y xs ys e = (cc, cc)
 
-behind : (before : List Kind) (kind : Kind) (after : List Kind) (number : ℕ) → length before ≡ number
+pub kind_behind : (before : List Kind) (kind : Kind) (after : List Kind) (number : ℕ) → length before ≡ number
     → slice_get (before ++ kind ∷ after) number ≡ Some kind
-behind [] kind after zero l = refl
-behind [] kind after (suc number) l = absurd (omega arith)
-behind (first ∷ before) kind after zero l = absurd (omega arith)
-behind (first ∷ before) kind after (suc number) l = behind before kind after number (omega arith)
+kind_behind [] kind after zero l = refl
+kind_behind [] kind after (suc number) l = absurd (omega arith)
+kind_behind (first ∷ before) kind after zero l = absurd (omega arith)
+kind_behind (first ∷ before) kind after (suc number) l = kind_behind before kind after number (omega arith)
 
 module _ (bound : Bound) (environment : Environment) (have : HasKinds bound environment) (scope : Scope)
     (columns : List ColumnSchema) (seen : map kind_seen scope.columns ≡ map kind_declared columns) where
@@ -201,7 +201,7 @@ module _ (bound : Bound) (environment : Environment) (have : HasKinds bound envi
       omega (arith, length-append before (column.kind ∷ []))
       in
       let rest = own_kept (before ++ column.kind ∷ []) more (suc first) longer in
-      λ i. behind before column.kind (map kind_declared more) first l i
+      λ i. kind_behind before column.kind (map kind_declared more) first l i
       ∷ (ap (λ (kinds : List Kind). map (kind_of_image kinds) (own_from (suc first) more))
       (sym (append_assoc before (column.kind ∷ []) (map kind_declared more))) ∙ rest) i
 

@@ -111,9 +111,6 @@ module _ (name : Name) where
   abbrev IsFirst : Kind → List (Option Kind × Term) → Option Kind × Term → Type 0
   IsFirst kind before side = (of_side side ≡ Some kind) × AllByRecursion (λ earlier. of_side earlier ≡ None) before
 
-  one_kind : (x y : Kind) → Some x ≡ Some y → x ≡ y
-  one_kind x y e = cc
-
   here_to : (kind found : Kind) (side : Option Kind × Term) (more : List (Option Kind × Term))
       → of_side side ≡ Some found
       → walk (Some found) more ≡ Some kind

@@ -30,13 +30,14 @@ use Rattle.ent_semantics.specs.Entangled.{Valuation}
 use Rattle.ent_semantics.specs.Kinds.{RowsHaveKinds}
 use Rattle.ent_semantics.specs.Selection.{meets}
 use Rattle.ent_semantics.specs.Term.{no_value, number_of, expression_value}
+use Rattle.ent_semantics.proofs.NumberKinds.{number_kind}
+use Rattle.ent_semantics.proofs.EachRow.{to_ascending, each_inserted, each_all_inserted, each_retained}
+use Rattle.ent_semantics.proofs.ItemKinds.{HaveKinds}
 use Rattle.ent_form.specs.declared.catalogue.TableSchema.{TableSchema}
 use Rattle.ent_closed.specs.Kinds.{operand_kind, expression_kind, KeepsKinds, Fits, tables_named}
 use Rattle.ent_form_laws.specs.Kinds.{kinds_numbered, AreDeclared, AreKinded}
 use Rattle.ent_form_laws.proofs.Found.{kinded_at, kinded_with}
-use Rattle.ent_form_laws.proofs.Known.{number_kind, one_value}
-use Rattle.ent_form_laws.proofs.KindedRows.{HaveKinds, each_ascending, inserted_kinds, all_inserted_kinds}
-use Rattle.ent_form_laws.proofs.KindedRows.{retained_kinds}
+use Rattle.ent_form_laws.proofs.Known.{one_value}
 
 -- ---- images
 
@@ -132,10 +133,11 @@ module _ (worth : Known → Value) (kinds : List Kind) (image : List (Expression
       let old = set.ascending (matched matches rows) in
       let left = unmatched matches rows in
       let images = filter_map image_of old in
-      let fit = images_kinds old (each_ascending (HaveKinds kinds) (matched matches rows)
-      (retained_kinds kinds rows matches h)) in
+      let fit = images_kinds old (to_ascending (HaveKinds kinds) (matched matches rows)
+      (each_retained (HaveKinds kinds) rows matches h)) in
       chosen (list_all (λ row. is_some (image_of row)) old) (set.insert_all left images) after
-      (all_inserted_kinds kinds left images (retained_kinds kinds rows (λ row. not (matches row)) h) fit) e
+      (each_all_inserted (HaveKinds kinds) left images
+      (each_retained (HaveKinds kinds) rows (λ row. not (matches row)) h) fit) e
 
 -- ---- tables
 
@@ -187,13 +189,13 @@ module _ (schemas : List TableSchema) (tables : Tables) (environment : Environme
         let rows = slice_index_or tables table set.empty in
         let row = map (known_worth environment) values in
         changed_kept table (if set.contains rows row then 0 else 1) (set.insert rows row) below.0
-        (inserted_kinds (kinds_numbered schemas table) rows row (kinded_at schemas tables table kinded below.0)
-        (sym fits))
+        (each_inserted (HaveKinds (kinds_numbered schemas table)) rows row
+        (kinded_at schemas tables table kinded below.0) (sym fits))
     tables_kept (statements.Delete table tests) valuation below fits =
         let rows = slice_index_or tables table set.empty in
         let matches = meets (operand_worth (known_worth environment)) tests in
         kinded_with schemas tables table (unmatched matches rows) kinded below.0
-        (retained_kinds (kinds_numbered schemas table) rows (λ row. not (matches row))
+        (each_retained (HaveKinds (kinds_numbered schemas table)) rows (λ row. not (matches row))
         (kinded_at schemas tables table kinded below.0))
     tables_kept (statements.Update table image tests) valuation below fits =
         let rows = slice_index_or tables table set.empty in

@@ -1,7 +1,7 @@
 -- What is known before a row is read is of the kind that it was looked up in.
-use Rattle.std.proofs.Common.{◌≡◌, true, false, List, [], ◌∷◌, ◌++◌, map, length, Option, Some, None, Ok, refl, sym, ap}
+use Rattle.std.proofs.Common.{◌≡◌, List, [], ◌∷◌, ◌++◌, map, length, Option, Some, Ok, refl, sym, ap}
 use Rattle.std.proofs.Common.{subst, ◌∙◌, arith}
-use Rattle.std.specs.Prelude.{ℤ, ◌+ℤ◌, ◌-ℤ◌, unwrap_or, if◌then◌else◌}
+use Rattle.std.specs.Prelude.{◌+ℤ◌, ◌-ℤ◌, unwrap_or}
 use Rattle.std.proofs.lemmas.List.{append-nil, append_assoc, map-append}
 use Rattle.ent_value.specs.Value.{kind_of}
 use Rattle.ent_value.specs.declared.value.Kind.{Kind}
@@ -16,7 +16,8 @@ use Rattle.ent_closed.specs.declared.operand.Known.{Known}
 use Rattle.ent_closed.specs.declared.operand.Known.TheVariants as known
 use Rattle.ent_closed.specs.Form.{known_worth}
 use Rattle.ent_semantics.specs.Database.{Environment}
-use Rattle.ent_semantics.specs.Term.{no_value, number_of, is_64_bits, in_64_bits, expression_value}
+use Rattle.ent_semantics.specs.Term.{no_value, number_of, expression_value}
+use Rattle.ent_semantics.proofs.NumberKinds.{number_kind}
 use Rattle.ent_form.specs.declared.catalogue.ColumnSchema.{ColumnSchema}
 use Rattle.ent_form.specs.declared.fault.FormFault.TheVariants.{WrongKind, NoHostVariable}
 use Rattle.ent_form.specs.Kinds.{Bound, same_kind}
@@ -27,17 +28,6 @@ use Rattle.ent_form_laws.specs.Kinds.{HasKinds}
 use Rattle.ent_form_laws.proofs.Steps.{one_answer, bound_given, demand_given, there_given, equal_kinds}
 
 -- ---- sums and differences
-
-pub number_kind : (number : ℤ) (value : Value) → in_64_bits number ≡ Some value → kind_of value ≡ kinds.Int
-number_kind number value e =
-    elim (is_64_bits number) as (λ b. (if b then Some (Int number) else None) ≡ Some value
-    → kind_of value ≡ kinds.Int) [
-      | true ↦ λ is. sym (ap kind_of (one_value (Int number) value is))
-      | false ↦ λ none. cc
-    ] e
-  where
-    one_value : (x y : Value) → Some x ≡ Some y → x ≡ y
-    one_value x y e = cc
 
 pub one_value : (x y : Value) → Some x ≡ Some y → x ≡ y
 one_value x y e = cc

@@ -14,7 +14,6 @@ pub mod Updating
 pub mod Statements
 pub mod Ordinary
 pub mod Declared
-pub mod KindedRows
 pub mod Opened
 pub mod NamesApart
 pub mod Known

@@ -17,6 +17,8 @@ use Rattle.ent_tree.specs.declared.operand.Literal.{Literal}
 use Rattle.ent_closed.specs.Form.{Tables}
 use Rattle.ent_semantics.specs.Database.{Name, Rows, same_name, row_of, opening_database}
 use Rattle.ent_semantics.specs.Names.{equal_names, name_itself}
+use Rattle.ent_semantics.proofs.EachRow.{to_ascending, each_listed}
+use Rattle.ent_semantics.proofs.ItemKinds.{HaveKinds}
 use Rattle.ent_form.specs.declared.catalogue.ColumnSchema.{ColumnSchema}
 use Rattle.ent_form.specs.declared.catalogue.TableSchema.{TableSchema}
 use Rattle.ent_form.specs.declared.fault.FormFault.TheVariants.{NoTable, Arity, WrongKind, Repeated}
@@ -27,7 +29,6 @@ use Rattle.ent_form.specs.OpeningFault.{literals_fault, row_fault, opening_row_f
 use Rattle.ent_form_laws.specs.Tables.{database_of, AreWide}
 use Rattle.ent_form_laws.specs.Kinds.{column_kinds, AreKinded}
 use Rattle.ent_form_laws.specs.Opened.{opening_tables}
-use Rattle.ent_form_laws.proofs.KindedRows.{HaveKinds, listed_kinds, each_ascending}
 use Rattle.ent_form_laws.proofs.Steps.{equal_kinds, nothing_first, nothing_later, not_refused, held, found_there}
 
 -- ---- a row without a fault
@@ -183,7 +184,7 @@ kinded : (opening : Opening) (creates : List Create)
     → AreKinded (schemas_of creates) (map (λ create. rows_under opening create.name.name) creates)
 kinded opening [] e h = tt
 kinded opening (create ∷ creates) e h = (
-  listed_kinds (column_kinds (table_schema create)) (rows_named opening create.name.name)
+  each_listed (HaveKinds (column_kinds (table_schema create))) (rows_named opening create.name.name)
       (rows_of_kind (schemas_of opening.tables) create.name.name (h.0.0, table_schema create) h.0.1 opening.rows e),
   kinded opening creates e h.1,
 )
@@ -242,7 +243,7 @@ kinded_wide [] [] h = tt
 kinded_wide [] (rows ∷ tables) h = absurd h
 kinded_wide (create ∷ creates) [] h = absurd h
 kinded_wide (create ∷ creates) (rows ∷ tables) h = (
-  each_ascending (λ row. length row ≡ length create.columns) rows
+  to_ascending (λ row. length row ≡ length create.columns) rows
       (λ row there. as_many create.columns row (h.0 row there)),
   kinded_wide creates tables h.1,
 )

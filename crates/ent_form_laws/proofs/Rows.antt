@@ -2,16 +2,12 @@
 use Rattle.std.proofs.Common.{◌≡◌, ℕ, Bool, true, false, cond, List, [], ◌∷◌, ◌++◌, map, length, refl, ap, ◌∙◌, arith}
 use Rattle.std.specs.List.{AllByRecursion, filter, flat_map}
 use Rattle.std.proofs.lemmas.List.{length-append}
+use Rattle.ent_lists.specs.Elements.{all_joined}
 use Rattle.ent_set.specs.Sets as set
 use Rattle.ent_value.specs.declared.value.Value.{Value}
 use Rattle.ent_semantics.specs.Database.{Rows}
 use Rattle.ent_semantics.specs.Selection.{combinations, selection}
 use Rattle.ent_form_laws.proofs.Sources.{total, AllWide}
-
-all_append : {A : Type 0} (P : A → Type 0) (xs ys : List A)
-    → AllByRecursion P xs → AllByRecursion P ys → AllByRecursion P (xs ++ ys)
-all_append P [] ys h k = k
-all_append P (x ∷ xs) ys h k = (h.0, all_append P xs ys h.1 k)
 
 all_map : {A B : Type 0} (P : A → Type 0) (Q : B → Type 0) (f : A → B) → ((x : A) → P x → Q (f x)) → (xs : List A)
     → AllByRecursion P xs → AllByRecursion Q (map f xs)
@@ -35,7 +31,7 @@ combinations_wide (rows ∷ more) (width ∷ widths) h =
         let longer : (others : List Value) → length others ≡ total widths → length (row ++ others)
         ≡ total (width ∷ widths) =
         λ others e. let a = length-append row others in let b = here.0 in omega arith in
-        all_append (λ row. length row ≡ total (width ∷ widths)) (map (λ others. row ++ others) (combinations more)) _
+        all_joined (λ row. length row ≡ total (width ∷ widths)) (map (λ others. row ++ others) (combinations more)) _
         (all_map (λ row. length row ≡ total widths) (λ row. length row ≡ total (width ∷ widths))
         (λ others. row ++ others) longer (combinations more) rest)
         (front rows here.1 rest)

@@ -52,9 +52,6 @@ neither {P} {Q} = (λ h. (λ p. h (inl p), λ q. h (inr q)), other)
     other h (inl p) = h.0 p
     other h (inr q) = h.1 q
 
-not_same : {P Q : Type 0} → P ↔ Q → (¬ P) ↔ (¬ Q)
-not_same f = (λ h q. h (f.1 q), λ h p. h (f.0 p))
-
 moved : {A P Q : Type 0} → ((A × (¬ P)) × (¬ Q)) ↔ (A × ((¬ P) × (¬ Q)))
 moved = (λ h. (h.0.0, (h.0.1, h.1)), λ h. ((h.0, h.1.0), h.1.1))
 

@@ -1,17 +1,12 @@
 -- UPDATE resolved.
-use Rattle.std.proofs.Common.{◌≡◌, ℕ, suc, Bool, true, false, ◌&&◌, ◌||◌, List, [], ◌∷◌, map, length, Option, Some}
+use Rattle.std.proofs.Common.{◌≡◌, ℕ, suc, Bool, true, false, ◌&&◌, List, [], ◌∷◌, map, length, Option, Some}
 use Rattle.std.proofs.Common.{None}
 use Rattle.std.proofs.Common.{Result, Ok, refl, sym, ap, subst, ◌∙◌, arith}
 use Rattle.std.specs.Prelude.{is_some, if◌then◌else◌}
-use Rattle.std.specs.Cmp.{Equal-is}
-use Rattle.std.specs.List.{AllByRecursion, IsDistinct, list_all, list_any, filter_map, cons_option}
-use Rattle.std.specs.Ordering.{eq_by_cmp}
-use Rattle.std.proofs.lemmas.Bool.{and_parts, or_right}
+use Rattle.std.specs.List.{AllByRecursion, IsDistinct, list_all, filter_map, cons_option}
 use Rattle.std.proofs.lemmas.List.{length-map}
+use Rattle.ent_lists.specs.Elements.{all_by}
 use Rattle.ent_set.specs.Sets as set
-use Rattle.ent_set.specs.Laws.{contains-ascending, contains-retain}
-use Rattle.ent_value.specs.Order.{rows_total, exact_rows, rows_equal}
-use Rattle.ent_value.specs.Value.{row_cmp}
 use Rattle.ent_value.specs.declared.value.Value.{Value}
 use Rattle.ent_tree.specs.declared.declaration.Create.{Create}
 use Rattle.ent_tree.specs.declared.statement.Update.{Update}
@@ -26,6 +21,7 @@ use Rattle.ent_semantics.specs.Entangled.{Valuation}
 use Rattle.ent_semantics.specs.Selection.{meets}
 use Rattle.ent_semantics.specs.Statement.{table_worth}
 use Rattle.ent_semantics.specs.Term.{SourceColumn, operand_value, expression_value, table_columns}
+use Rattle.ent_semantics.proofs.EachRow.{of_ascending, to_ascending, each_retained}
 use Rattle.ent_form.specs.declared.catalogue.ColumnSchema.{ColumnSchema}
 use Rattle.ent_form.specs.declared.catalogue.TableSchema.{TableSchema}
 use Rattle.ent_form.specs.declared.fault.FormFault.TheVariants.{NoTable}
@@ -43,42 +39,12 @@ use Rattle.ent_form_laws.proofs.Steps.{one_answer, bound_given, there_given}
 
 -- ---- rows of a width
 
-either : (left right : Bool) → (left || right) ≡ true → left ≡ false → right ≡ true
-either true right e none = cc
-either false right e none = e
-
-any_wide : (width : ℕ) (row : List Value) (rows : List (List Value)) → AllByRecursion (λ row. length row ≡ width) rows
-    → list_any (eq_by_cmp row_cmp row) rows ≡ true → length row ≡ width
-any_wide width row [] h e = cc
-any_wide width row (other ∷ rows) h e =
-    elim (eq_by_cmp row_cmp row other) as (λ b. eq_by_cmp row_cmp row other ≡ b → length row ≡ width) [
-      | true ↦ λ same. ap length (exact_rows row other ((Equal-is (row_cmp row other)).0 same)) ∙ h.0
-      | false ↦ λ differs. any_wide width row rows h.1 (either _ _ e differs)
-    ] refl
-
-each_among : (P : List Value → Type 0) (rows : List (List Value))
-    → ((row : List Value) → list_any (eq_by_cmp row_cmp row) rows ≡ true → P row) → AllByRecursion P rows
-each_among P [] h = tt
-each_among P (row ∷ rows) h = (
-  h row (ap (λ b. b || list_any (eq_by_cmp row_cmp row) rows) (rows_equal.refl row)),
-  each_among P rows (λ other e. h other (or_right (eq_by_cmp row_cmp other row) _ e)),
-)
-
 -- the rows that are kept have the width of all
 kept_wide : (width : ℕ) (rows : Rows) (test : List Value → Bool) → OfWidth width rows
     → OfWidth width (set.retain rows test)
 kept_wide width rows test wide =
-    each_among (λ row. length row ≡ width) (set.ascending (set.retain rows test)) (λ row e.
-    let kept : set.contains (set.retain rows test) row ≡ true = contains-ascending (set.retain rows test) row ∙ e in
-    let both : (set.contains rows row && test row) ≡ true =
-    sym (contains-retain rows_total rows test row (λ other same. ap test (sym (exact_rows row other same)))) ∙ kept in
-    any_wide width row (set.ascending rows) wide (sym (contains-ascending rows row)
-    ∙ (and_parts (set.contains rows row) (test row) both).0))
-
-all_map : (P Q : List Value → Type 0) → ((row : List Value) → P row → Q row) → (rows : List (List Value))
-    → AllByRecursion P rows → AllByRecursion Q rows
-all_map P Q each [] h = tt
-all_map P Q each (row ∷ rows) h = (each row h.0, all_map P Q each rows h.1)
+    to_ascending (λ row. length row ≡ width) (set.retain rows test)
+    (each_retained (λ row. length row ≡ width) rows test (of_ascending (λ row. length row ≡ width) rows wide))
 
 -- ---- images that agree on rows
 
@@ -99,7 +65,7 @@ updated_alike : (matches : List Value → Bool) (one other : List Value → Opti
 updated_alike matches one other rows width wide alike =
     let old = set.ascending (matched matches rows) in
     let each : AllByRecursion (λ row. one row ≡ other row) old =
-    all_map (λ row. length row ≡ width) (λ row. one row ≡ other row) alike old (kept_wide width rows matches wide) in
+    all_by (λ row. length row ≡ width) (λ row. one row ≡ other row) old alike (kept_wide width rows matches wide) in
     λ i. if all_same one other old each i
     then Some (set.insert_all (unmatched matches rows) (images_same one other old each i)) else None
 

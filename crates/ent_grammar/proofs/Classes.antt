@@ -1,6 +1,7 @@
 -- Classes of tokens that are apart have no token in common.
-use Rattle.std.proofs.Common.{◌≡◌, ℕ, Bool, true, false, not, ◌&&◌, ◌||◌, List, [], ◌∷◌, ◌++◌, Some, refl, sym, ap, ◌∙◌, rules, inl, inr, ◌⊎◌}
+use Rattle.std.proofs.Common.{◌≡◌, ℕ, Bool, true, false, not, ◌&&◌, List, [], ◌∷◌, ◌++◌, Some, refl, sym, ap, ◌∙◌, rules, inl, inr, ◌⊎◌}
 use denote.Enum.Bare.{same_true, true_same}
+use Rattle.ent_lists.specs.Elements.{or_cases, and_both, or_first, or_second}
 use Rattle.ent_text.specs.contracts.keyword.Keyword.{the_type as keyword_type}
 use Rattle.ent_text.specs.contracts.symbol.Symbol.{the_type as symbol_type}
 use Rattle.ent_text.specs.declared.token.TokenKind.{TokenKind}
@@ -55,33 +56,17 @@ both_alike c d k h g =
     let same : kind_of c ≡ kind_of d = sym (of_class c k h) ∙ of_class d k g in
     ap (alike (kind_of c)) (sym same) ∙ alike_self (kind_of c)
 
-pub either_of : (a b : Bool) → (a || b) ≡ true → (a ≡ true) ⊎ (b ≡ true)
-either_of true b e = inl refl
-either_of false b e = inr e
-
-pub both_of : (a b : Bool) → (a && b) ≡ true → (a ≡ true) × (b ≡ true)
-both_of true b e = (refl, e)
-both_of false b e = absurd cc
-
-or_left : (a b : Bool) → a ≡ true → (a || b) ≡ true
-or_left true b e = refl
-or_left false b e = absurd cc
-
-or_right : (a b : Bool) → b ≡ true → (a || b) ≡ true
-or_right true b e = refl
-or_right false b e = e
-
 pub among_head : (c : Class) (cs : List Class) (k : TokenKind) → is c k ≡ true → among (c ∷ cs) k ≡ true
 among_head c [] k e = e
-among_head c (d ∷ cs) k e = or_left (is c k) (among (d ∷ cs) k) e
+among_head c (d ∷ cs) k e = or_first (is c k) (among (d ∷ cs) k) e
 
 pub among_tail : (c : Class) (cs : List Class) (k : TokenKind) → among cs k ≡ true → among (c ∷ cs) k ≡ true
 among_tail c [] k e = absurd cc
-among_tail c (d ∷ cs) k e = or_right (is c k) (among (d ∷ cs) k) e
+among_tail c (d ∷ cs) k e = or_second (is c k) (among (d ∷ cs) k) e
 
 pub among_part : (c : Class) (cs : List Class) (k : TokenKind) → among (c ∷ cs) k ≡ true → (is c k ≡ true) ⊎ (among cs k ≡ true)
 among_part c [] k e = inl e
-among_part c (d ∷ cs) k e = either_of (is c k) (among (d ∷ cs) k) e
+among_part c (d ∷ cs) k e = or_cases (is c k) (among (d ∷ cs) k) e
 
 pub among_left : (cs ds : List Class) (k : TokenKind) → among cs k ≡ true → among (cs ++ ds) k ≡ true
 among_left [] ds k e = absurd cc
@@ -105,12 +90,12 @@ unlike_so : (c : Class) (ds : List Class) (k : TokenKind) → unlike c ds ≡ tr
 unlike_so c [] k e h g = absurd cc
 unlike_so c (d ∷ ds) k e h g =
     by_either (among_part d ds k g) (λ j. alike_not (alike (kind_of c) (kind_of d)) (unlike c ds) e (both_alike c d k h j))
-    (λ j. unlike_so c ds k (both_of (not (alike (kind_of c) (kind_of d))) (unlike c ds) e).1 h j)
+    (λ j. unlike_so c ds k (and_both (not (alike (kind_of c) (kind_of d))) (unlike c ds) e).1 h j)
 
 pub never_both : (cs ds : List Class) (k : TokenKind) → apart cs ds ≡ true → among cs k ≡ true → among ds k ≡ true → ⊥
 never_both [] ds k e h g = absurd cc
 never_both (c ∷ cs) ds k e h g =
-    let b = both_of (unlike c ds) (apart cs ds) e in
+    let b = and_both (unlike c ds) (apart cs ds) e in
     by_either (among_part c cs k h) (λ j. unlike_so c ds k b.0 j g) (λ j. never_both cs ds k b.1 j g)
 
 -- ---- what a token gives

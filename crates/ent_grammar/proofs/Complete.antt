@@ -1,6 +1,7 @@
 -- What a grammar spells is read, or there is too much of something.
 use Rattle.std.proofs.Common.{◌≡◌, ℕ, zero, suc, ◌≤◌, Bool, true, false, cond, List, [], ◌∷◌, ◌++◌, length, Option, Some, None, Ok, Err, refl, sym, ap, ◌∙◌, inl, inr, ◌⊎◌, subst, append_assoc, arith}
 use Rattle.std.specs.Prelude.{nat_le}
+use Rattle.ent_lists.specs.Elements.{not_so}
 use Rattle.ent_text.specs.declared.token.Token.{Token}
 use Rattle.ent_value.specs.Refusal.{◌>>=◌}
 use Rattle.ent_grammar.specs.declared.fault.GrammarFault.TheVariants.{TooMany}
@@ -97,13 +98,9 @@ ahead_with : {A : Type 0} (empty : Option A) (classes follow : List Class) (y : 
 ahead_with {A} empty classes follow y [] rest h k = subst (λ (o : Option A). Ahead (classes ++ if_some o follow) rest) (sym h) (ahead_right classes follow rest k)
 ahead_with empty classes follow y (t ∷ ts) rest h k = among_left classes (if_some empty follow) t.kind h
 
-never : (b : Bool) → (b ≡ true → ⊥) → b ≡ false
-never true h = absurd (h refl)
-never false h = refl
-
 not_begins : (cs ds : List Class) (ts : List Token) → apart cs ds ≡ true → Ahead ds ts → begins (among cs) ts ≡ false
 not_begins cs ds [] e h = refl
-not_begins cs ds (t ∷ ts) e h = never (among cs t.kind) (λ k. never_both cs ds t.kind e k h)
+not_begins cs ds (t ∷ ts) e h = not_so (among cs t.kind) (λ k. never_both cs ds t.kind e k h)
 
 begins_so : {A : Type 0} (classes : List Class) (y : A) (ts rest : List Token) → Begun None classes y ts → begins (among classes) (ts ++ rest) ≡ true
 begins_so classes y [] rest h = absurd cc

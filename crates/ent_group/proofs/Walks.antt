@@ -8,6 +8,7 @@ use Rattle.std.proofs.lemmas.Bool.Decides.{nat_tests}
 use Rattle.std.proofs.lemmas.Nat.Bits.{bit_at-zero, bit_at_or, bit_at-lt, bit_at_set_same, bit_at_set_other}
 use Rattle.std.proofs.lemmas.List.{get_or-replicate, get_or_past, get_or_default, take_more}
 use Rattle.std.proofs.lemmas.List.Elements.{All-head, All-tail, All-cons, All-contains, All-nil, Contains-append_left, Contains-push, Contains-push_cases}
+use Rattle.ent_lists.specs.Elements.{or_cases, and_both}
 use Rattle.ent_group.specs.Cycle.{waiters_of, links_to, IsOnCycle}
 use Rattle.ent_group.specs.Marks.{has_mark, IsMarked, joined}
 use Rattle.ent_group.specs.Reach.{AreWaiters, IsAt, AreInPair, IsWalk, greater}
@@ -94,14 +95,6 @@ index-map f none [] i = sym none
 index-map f none (x ∷ xs) zero = refl
 index-map f none (x ∷ xs) (suc i) = index-map f none xs i
 
-or_cases : (a b : Bool) → (a || b) ≡ true → (a ≡ true) ⊎ (b ≡ true)
-or_cases true b e = inl refl
-or_cases false b e = inr e
-
-and_cases : (a b : Bool) → (a && b) ≡ true → (a ≡ true) × (b ≡ true)
-and_cases true b e = (refl, e)
-and_cases false b e = absurd (true≢false (sym e))
-
 or_from : (a b : Bool) → (a ≡ true) ⊎ (b ≡ true) → (a || b) ≡ true
 or_from a b (inl e) = λ i. e i || b
 or_from true b (inr e) = refl
@@ -119,7 +112,7 @@ mark_over : (rows : List ℕ) (middle i j : ℕ) → IsMarked (rows_over rows mi
 mark_over rows middle i j marked =
     elim (or_cases (has_mark (slice_index rows i) j) (has_mark (slice_index rows i) middle && has_mark (slice_index rows middle) j) (sym (mark_is rows middle i j) ∙ marked)) [
       | inl old ↦ inl old
-      | inr both ↦ inr (and_cases (has_mark (slice_index rows i) middle) (has_mark (slice_index rows middle) j) both)
+      | inr both ↦ inr (and_both (has_mark (slice_index rows i) middle) (has_mark (slice_index rows middle) j) both)
     ]
 
 mark_kept : (rows : List ℕ) (middle i j : ℕ) → IsMarked rows i j → IsMarked (rows_over rows middle) i j

@@ -1,4 +1,3 @@
-pub mod Rows
 pub mod Numbers
 pub mod Widths
 pub mod FittedRows

@@ -1,5 +1,5 @@
 -- The uses of a closed form, by the names that its statement uses.
-use Rattle.std.proofs.Common.{◌≡◌, ℕ, ◌<◌, Bool, true, false, ◌&&◌, List, [], ◌∷◌, ◌++◌, length, map, refl, sym}
+use Rattle.std.proofs.Common.{◌≡◌, ℕ, ◌<◌, Bool, true, ◌&&◌, List, [], ◌∷◌, ◌++◌, length, map, refl, sym}
 use Rattle.std.proofs.Common.{ap, subst, ◌∙◌, inl, inr}
 use Rattle.std.specs.Prelude.{◌==◌}
 use Rattle.std.specs.List.{AllByRecursion, flat_map, list_any}
@@ -49,10 +49,6 @@ uses_are environment (forms.Update table image tests) = refl
 uses_are environment (forms.Set variable expression) = refl
 
 -- ---- uses of tables under some names
-
-and_left : (a b : Bool) → (a && b) ≡ true → a ≡ true
-and_left true b e = refl
-and_left false b e = e
 
 module _ (creates : List Create) where
   abbrev numbers : List Name → List ℕ

@@ -24,11 +24,11 @@ use Rattle.ent_semantics.specs.Effect.{Effect, changed}
 use Rattle.ent_semantics.specs.Entangled.{Valuation}
 use Rattle.ent_semantics.specs.Selection.{meets}
 use Rattle.ent_semantics.specs.Term.{expression_value}
+use Rattle.ent_semantics.proofs.EachRow.{EachRow, of_ascending, to_ascending, each_inserted, each_all_inserted}
+use Rattle.ent_semantics.proofs.EachRow.{each_retained}
 use Rattle.ent_form_laws.specs.Tables.{AreWide}
 use Rattle.ent_form_laws.proofs.Kept.{over_overflow}
 use Rattle.ent_headline.proofs.Numbers.{width_numbered, wide_at, wide_with}
-use Rattle.ent_headline.proofs.Rows.{EachRow, of_ascending, to_ascending, each_inserted, each_all_inserted}
-use Rattle.ent_headline.proofs.Rows.{each_retained}
 
 -- ---- images
 

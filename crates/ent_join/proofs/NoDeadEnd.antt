@@ -6,21 +6,21 @@ use Rattle.std.specs.Prelude.{◌==◌, ◌||◌, ◌&&◌, slice_index_or, unwr
 use Rattle.std.specs.List.{AllByRecursion, filter, list_all, list_any}
 use Rattle.std.specs.List.Sorted.{IsStrictlySortedBy}
 use Rattle.std.specs.Option.{option_map}
-use Rattle.std.specs.Ordering.{eq_by_cmp, is_eq, nat_cmp, ordering_then}
+use Rattle.std.specs.Ordering.{is_eq, nat_cmp, ordering_then}
 use Rattle.std.specs.declared.cmp.Ordering.TheVariants.{Less, Equal}
 use Rattle.std.proofs.lemmas.Bool.{eqb-true}
-use Rattle.std.proofs.lemmas.Cmp.{eq_by_cmp_equiv}
 use Rattle.std.proofs.lemmas.List.{length_push}
+use Rattle.ent_lists.specs.Elements.{or_second}
 use Rattle.ent_set.specs.Sets as set
-use Rattle.ent_set.specs.Laws.{contains-ascending}
-use Rattle.ent_value.specs.Value.{kind_of, kinds_of, row_cmp, value_cmp}
-use Rattle.ent_value.specs.Order.{exact_values, rows_total}
+use Rattle.ent_value.specs.Value.{kind_of, kinds_of, value_cmp}
+use Rattle.ent_value.specs.Order.{exact_values}
 use Rattle.ent_value.specs.declared.value.Kind.{Kind}
 use Rattle.ent_value.specs.declared.value.Kind.TheVariants as kinds
 use Rattle.ent_value.specs.declared.value.Value.{Value}
 use Rattle.ent_semantics.specs.Database.{Rows}
 use Rattle.ent_semantics.specs.Kinds.{RowsHaveKinds}
 use Rattle.ent_semantics.specs.Term.{no_value}
+use Rattle.ent_semantics.proofs.EachRow.{to_ascending}
 use Rattle.ent_closed.specs.declared.entangled.Term.{Term}
 use Rattle.ent_closed.specs.declared.entangled.Term.TheVariants as terms
 use Rattle.ent_plan.specs.Plan.{slot_kind}
@@ -37,10 +37,6 @@ use Rattle.ent_join.specs.declared.frame.Frame.{Frame}
 use Rattle.ent_join.proofs.Begun.{equal_then, get_next, is_equal, less_is, some_suc}
 use Rattle.ent_join.proofs.Chosen.{kinds_to}
 use Rattle.ent_join.proofs.Steps.{value_cmp-self}
-
-or_true : (a b : Bool) → b ≡ true → (a || b) ≡ true
-or_true true b e = refl
-or_true false b e = e
 
 -- ---- the numbers from one on
 
@@ -176,7 +172,7 @@ HasValue value column p P rows =
 
 one_later : (value : Value) (column : ℕ) (p : List Value → Bool) (P : List Value → Type 0) (row : List Value)
     (rows : List (List Value)) → HasValue value column p P rows → HasValue value column p P (row ∷ rows)
-one_later value column p P row rows f = (f.0, f.1, f.2, f.3, λ q e. or_true (q row) (list_any q rows) (f.4 q e))
+one_later value column p P row rows f = (f.0, f.1, f.2, f.3, λ q e. or_second (q row) (list_any q rows) (f.4 q e))
 
 -- a value of a column is that of a row
 in_column : (value : Value) (column : ℕ) (p : List Value → Bool) (P : List Value → Type 0) (rows : List (List Value))
@@ -272,18 +268,9 @@ module _ (ks : List Kind) (columns : List Slot) (classes : List ℕ) (are : clas
 
 -- ---- the kinds of rows
 
-each_row : (P : List Value → Type 0) (rows : List (List Value))
-    → ((row : List Value) → list_any (eq_by_cmp row_cmp row) rows ≡ true → P row) → AllByRecursion P rows
-each_row P [] h = tt
-each_row P (row ∷ rows) h = (
-  h row (ap (λ b. b || list_any (eq_by_cmp row_cmp row) rows) ((eq_by_cmp_equiv rows_total).refl row)),
-  each_row P rows (λ other e. h other (or_true (eq_by_cmp row_cmp other row) _ e)),
-)
-
 pub rows_of_kinds : (ks : List Kind) (rows : Rows) → RowsHaveKinds ks rows
     → AllByRecursion (λ row. kinds_of row ≡ ks) (set.ascending rows)
-rows_of_kinds ks rows have =
-    each_row (λ row. kinds_of row ≡ ks) (set.ascending rows) (λ row e. have row (contains-ascending rows row ∙ e))
+rows_of_kinds ks = to_ascending (λ row. kinds_of row ≡ ks)
 
 slot_kind_at : (ks : List Kind) (slots : List Slot) (number : ℕ)
     → slot_kind ks (slice_index_or slots number (Fixed no_value))

@@ -56,11 +56,6 @@ pub moved : (old pushed : List Value) (value : Value) → pushed ≡ old ++ valu
     → (rest : List Value) → pushed ++ rest ≡ old ++ value ∷ rest
 moved old pushed value push rest = ap (λ zs. zs ++ rest) push ∙ append_assoc old (value ∷ []) rest
 
-same_order : (o : Ordering) (y v : Value) → value_cmp y v ≡ o → value_cmp v y ≢ Greater → o ≢ Less
-same_order Less y v e h = λ _. h (values_total.antisymm v y ∙ ap ordering_reverse e)
-same_order Equal y v e h = λ f. cc
-same_order Greater y v e h = λ f. cc
-
 pub value_cmp-self : (v : Value) → value_cmp v v ≡ Equal
 value_cmp-self v = own_reverse (value_cmp v v) (values_total.antisymm v v)
   where

@@ -1,5 +1,5 @@
 -- Tables that are loaded with their opening rows.
-use Rattle.std.proofs.Common.{◌≡◌, ℕ, zero, suc, ◌+◌, ◌<◌, ◌≤◌, Bool, true, false, cond, ◌||◌, List, [], ◌∷◌, length}
+use Rattle.std.proofs.Common.{◌≡◌, ℕ, zero, suc, ◌<◌, ◌≤◌, Bool, true, false, cond, ◌||◌, List, [], ◌∷◌, length}
 use Rattle.std.proofs.Common.{map, get_or, Some, Result, Ok, Err, refl, sym, ap, ◌∙◌, arith, subst}
 use Rattle.std.specs.Prelude.{slice_get, slice_index_or, nat_le, All}
 use Rattle.std.specs.List.{filter, list_any}
@@ -9,8 +9,9 @@ use Rattle.std.proofs.lemmas.List.{length-map}
 use Rattle.std.proofs.lemmas.Simd.{map-map}
 use Rattle.std.proofs.lemmas.Option.{get_or_from_slice_get, slice_get_within}
 use Rattle.std.proofs.lemmas.Bool.{le-leb}
+use Rattle.ent_lists.specs.Elements.{shorter}
 use Rattle.ent_set.specs.Sets as set
-use Rattle.ent_set.specs.Laws.{contains-from_list, len-insert, len-empty}
+use Rattle.ent_set.specs.Laws.{contains-from_list, len-from_list}
 use Rattle.ent_value.specs.declared.limits.TheConstants.{MOST_ROWS}
 use Rattle.ent_value.specs.Value.{row_cmp, kinds_of}
 use Rattle.ent_value.specs.Order.{rows_total, exact_rows}
@@ -89,27 +90,13 @@ rows_fit opening schemas number schema kinds rows declared there kinds_are rows_
 
 -- ---- no table is too full
 
-filter_le : {A : Type 0} (p : A → Bool) (xs : List A) → length (filter p xs) ≤ length xs
-filter_le p [] = omega arith
-filter_le p (x ∷ xs) = let h = filter_le p xs in
-    elim (p x) as (λ b. length (cond b (x ∷ filter p xs) (filter p xs)) ≤ length (x ∷ xs)) [ true ↦ omega arith | false ↦ omega arith ]
-
-set_len_le : (rows : List (List Value)) → set.len (set.from_list {R = row_cmp} rows) ≤ length rows
-set_len_le [] = omega (arith, len-empty row_cmp)
-set_len_le (row ∷ rows) =
-    let h = set_len_le rows in
-    elim (set.contains (set.from_list {R = row_cmp} rows) row) as (λ b. set.len (set.insert (set.from_list {R = row_cmp} rows) row) ≡ cond b (set.len (set.from_list {R = row_cmp} rows)) (set.len (set.from_list {R = row_cmp} rows) + 1) → set.len (set.insert (set.from_list {R = row_cmp} rows) row) ≤ length (row ∷ rows)) [
-      | true ↦ λ e. omega arith
-      | false ↦ λ e. omega arith
-    ] (len-insert rows_total exact_rows (set.from_list rows) row)
-
 few_rows : (opening : Opening) (name : Name) → length opening.rows ≤ MOST_ROWS
     → set.len (set.from_list {R = row_cmp} (rows_named opening name)) ≤ MOST_ROWS
 few_rows opening name le =
     let named = filter (λ (row : OpeningRow). same_name row.table.name name) opening.rows in
-    let a : set.len (set.from_list {R = row_cmp} (rows_named opening name)) ≤ length (map row_of named) = set_len_le (map row_of named) in
+    let a : set.len (set.from_list {R = row_cmp} (rows_named opening name)) ≤ length (map row_of named) = len-from_list rows_total exact_rows (map row_of named) in
     let b : length (map row_of named) ≡ length named = length-map named row_of in
-    let c : length named ≤ length opening.rows = filter_le (λ (row : OpeningRow). same_name row.table.name name) opening.rows in
+    let c : length named ≤ length opening.rows = shorter (λ (row : OpeningRow). same_name row.table.name name) opening.rows in
     omega arith
 
 never_full : {X : Type 0} (rows : RowSet) (x : X) (fault : TableFull) → set.len rows ≤ MOST_ROWS

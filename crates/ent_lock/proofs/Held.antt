@@ -20,6 +20,7 @@ use Rattle.std.proofs.lemmas.List.{length-map, get_or-map, get_or_default, map-s
 use Rattle.std.proofs.lemmas.List.Elements.{All-append, All-cons, All-take, All-drop, All-nil, Contains-append_right}
 use Rattle.std.proofs.lemmas.List.Kept.{AllPairs-cons}
 use Rattle.std.proofs.lemmas.List.Folds.{list_any-append, list_any_none}
+use Rattle.ent_lists.specs.Elements.{and_both, not_so}
 use Rattle.ent_lock.specs.declared.mode.Mode.{Mode}
 use Rattle.ent_lock.specs.declared.mode.Mode.TheVariants.{Shared, Exclusive}
 use Rattle.ent_lock.specs.declared.holders.Holder.{Holder}
@@ -102,12 +103,6 @@ and_or : (b x y : Bool) → ((b && x) || (b && y)) ≡ (b && (x || y))
 and_or true x y = refl
 and_or false x y = refl
 
--- each element passes where it did and b
-any-map_less : {X : Type 0} (p : X → Bool) (b : Bool) (f : X → X) (xs : List X) → ((x : X) → p (f x) ≡ (b && p x)) → list_any p (map f xs) ≡ (b && list_any p xs)
-any-map_less p true f [] e = refl
-any-map_less p false f [] e = refl
-any-map_less p b f (x ∷ xs) e = (λ i. e x i || any-map_less p b f xs e i) ∙ and_or b (p x) (list_any p xs)
-
 -- one element alone may pass
 any-alone : {X : Type 0} (p : X → Bool) (xs : List X) (i : ℕ) → i < length xs → ((j : ℕ) (d : X) → j < length xs → j ≢ i → p (get_or xs j d) ≡ false) → (d : X) → list_any p xs ≡ p (get_or xs i d)
 any-alone p [] i within e d = absurd (omega arith)
@@ -160,15 +155,11 @@ contains-held_in key ts q =
     finite.contains-from_list use_total (flat_map (λ (t : TableUses _). uses_in (key t.table) t.holders.items) ts) q
     ∙ any-flat_map (is_use q) (λ (t : TableUses _). uses_in (key t.table) t.holders.items) ts
 
-pub not_true : (b : Bool) → (b ≡ true → ⊥) → b ≡ false
-not_true true h = absurd (h refl)
-not_true false h = refl
-
 other_table : (q : Use) (table : List ℕ) (hs : List Holder) → (q.table ≢ table) → list_any (is_use q) (uses_in table hs) ≡ false
 other_table q table [] apart = refl
 other_table q table (h ∷ hs) apart =
     let u : Use = record { holder = h.holder; table = table; mode = h.mode } in
-    let first : is_use q u ≡ false = not_true (is_use q u) (λ same. apart (ap (λ (v : Use). v.table) (is_use-true q u same))) in
+    let first : is_use q u ≡ false = not_so (is_use q u) (λ same. apart (ap (λ (v : Use). v.table) (is_use-true q u same))) in
     (λ i. first i || list_any (is_use q) (uses_in table hs)) ∙ other_table q table hs apart
 
 has_in_other : {T : Type 0} (key : T → List ℕ) (q : Use) (t : TableUses T) → (q.table ≢ (key t.table)) → has_in key q t ≡ false
@@ -446,17 +437,13 @@ placed key ts table h (Err at) in_range parted = record {
 
 -- ---- one holder
 
-pub both_true : (a b : Bool) → (a && b) ≡ true → (a ≡ true) × (b ≡ true)
-both_true true b e = (refl, e)
-both_true false b e = absurd (true≢false (sym e))
-
 pub is_use_symm : (q u : Use) → is_use q u ≡ is_use u q
 is_use_symm q u = both_ways (is_use q u) (is_use u q) (λ e. is_use-itself u q (sym (is_use-true q u e))) (λ e. is_use-itself q u (sym (is_use-true u q e)))
 
 pub same_holder : (tx : ℕ) (mode : Mode) (table : List ℕ) (h : Holder) → is_holder tx mode h ≡ is_use (the_use h.holder table h.mode) (the_use tx table mode)
 same_holder tx mode table h = both_ways (is_holder tx mode h) (is_use (the_use h.holder table h.mode) (the_use tx table mode))
     (λ e.
-    let parts = both_true (h.holder == tx) (mode_rank h.mode == mode_rank mode) e in
+    let parts = and_both (h.holder == tx) (mode_rank h.mode == mode_rank mode) e in
     let holder : h.holder ≡ tx = eqb-true h.holder tx parts.0 in
     let same : h.mode ≡ mode = same_mode h.mode mode (eqb-true (mode_rank h.mode) (mode_rank mode) parts.1) in
     is_use-itself (the_use h.holder table h.mode) (the_use tx table mode) (λ i. the_use (holder i) table (same i)))
@@ -571,10 +558,6 @@ on_err_then (Err e) P Q f h = f h
 pub no_err : {T E : Type 0} (r : Result T E) (P : Type 0) → is_err r ≡ false → OnErr r P
 no_err (Ok x) P e = tt
 no_err (Err x) P e = absurd (true≢false e)
-
-pub not_absent : (b : Bool) → not b ≡ true → b ≡ false
-not_absent true e = absurd (true≢false (sym e))
-not_absent false e = refl
 
 pub not_new : (b : Bool) → not b ≡ false → b ≡ true
 not_new true e = refl

@@ -1,3 +1,3 @@
 pub mod Held
 pub mod Own
-pub mod Asking
+pub mod Requests

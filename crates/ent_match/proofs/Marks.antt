@@ -72,7 +72,7 @@ abbrev pub SoFar : List Link → List Bool → List Bool → Bool → Type 0
 SoFar front old cur true = unmarked cur < unmarked old
 SoFar front old cur false = (cur ≡ old) × Closed front old
 
-front_cases : (links : List Link) (n : ℕ) (o x : Link) → n < length links → o ≡ get_or links n o
+pub front_cases : (links : List Link) (n : ℕ) (o x : Link) → n < length links → o ≡ get_or links n o
     → Contains (take (n + 1) links) x → Contains (take n links) x ⊎ (o ≡ x)
 front_cases links n o x below is inside =
     Contains-push_cases (take n links) o x

@@ -127,9 +127,6 @@ safe_but old new m adds safe asker first second index asks one two other other_o
     is_old x inside differs =
         elim ((adds x).0 inside) [ inl here ↦ here | inr is ↦ absurd (differs (sym (ap (λ z. z.tx) is))) ]
 
-Same : List Posted → List Posted → Type 0
-Same xs ys = (x : Posted) → (Contains xs x → Contains ys x) × (Contains ys x → Contains xs x)
-
 has_head : (xs ys : List Posted) → ((x : Posted) → Contains xs x → Contains ys x) → (tx index owner : ℕ)
     → HasHeadFor xs tx index owner → HasHeadFor ys tx index owner
 has_head xs ys into tx index owner h =

@@ -4,7 +4,7 @@ use Rattle.std.proofs.Common.{◌++◌, length, append-nil, sym, refl, ap, subst
 use Rattle.std.specs.Prelude.{◌||◌, ◌&&◌, not, cond}
 use Rattle.std.specs.List.{AllByRecursion, flat_map}
 use Rattle.std.specs.List.Sorted.{IsStrictlySortedBy}
-use Rattle.std.specs.Ordering.{eq_by_cmp, is_eq, is_lt}
+use Rattle.std.specs.Ordering.{eq_by_cmp, is_lt}
 use Rattle.std.specs.declared.cmp.Ordering.{Ordering}
 use Rattle.std.specs.declared.cmp.Ordering.TheVariants.{Less, Equal, Greater}
 use Rattle.std.proofs.lemmas.List.{append_assoc, length-append, take-append-drop, drop_all, drop_more}
@@ -16,7 +16,7 @@ use Rattle.ent_page.specs.Key.{key_cmp}
 use Rattle.ent_page.specs.Paged.{AllBelow, AllAbove}
 use Rattle.ent_page.specs.Front.{NoneBelow, IsSplitAt}
 use Rattle.ent_page.specs.Changed.{has, IsChanged, IsSplitBefore, IsPut}
-use Rattle.ent_page.proofs.Sorted.{nil_sorted, keys_total, keys_exact, flip, any_over, same_key}
+use Rattle.ent_page.proofs.Sorted.{nil_sorted, keys_total, keys_exact, flip, any_over, same_key, equal_keys}
 use Rattle.ent_page.proofs.Sorted.{sorted_front, sorted_back, sorted_below, sorted_above, above_more, none_above}
 use Rattle.ent_page.proofs.Beginnings.{not_itself, none_below_all}
 
@@ -51,18 +51,10 @@ right_only k r a m o n e f g = (λ i. ((e i && not (f i)) || g i) || ((m && not 
 
 -- ---- what a list has
 
-eq_same : (q x : List ℕ) → eq_by_cmp key_cmp q x ≡ true → q ≡ x
-eq_same q x h = keys_exact q x (by (key_cmp q x) h)
-  where
-    by : (o : Ordering) → is_eq o ≡ true → o ≡ Equal
-    by Equal h = refl
-    by Less h = absurd cc
-    by Greater h = absurd cc
-
 -- what holds of each key holds of one that the list has
 of_one : (P : List ℕ → Type 0) (xs : List (List ℕ)) (q : List ℕ) → AllByRecursion P xs → has xs q ≡ true → P q
 of_one P [] q h e = absurd cc
-of_one P (x ∷ xs) q h e = or_parts (eq_by_cmp key_cmp q x) (has xs q) (P q) (λ s. subst P (sym (eq_same q x s)) h.0)
+of_one P (x ∷ xs) q h e = or_parts (eq_by_cmp key_cmp q x) (has xs q) (P q) (λ s. subst P (sym (equal_keys q x s)) h.0)
     (of_one P xs q h.1) e
 
 -- and what holds of each that the list has holds of all
@@ -243,7 +235,7 @@ left_out key keys removed added later above out is =
         (((b || has keys q) && not (has removed q)) || has added q)
     by q false e = refl
     by q true e =
-        let same = eq_same q key e in
+        let same = equal_keys q key e in
         on (has keys q) (has removed q) (has added q) (ap (has keys) same ∙ none_above keys key above)
         (ap (λ z. has removed z || has added z) same ∙ out)
 
@@ -278,7 +270,7 @@ kept key keys removed added later above from stays old is =
         → (b || ((has keys q && not (has removed q)) || has added q)) ≡
         (((b || has keys q) && not (has removed q)) || has added q)
     by q false e = refl
-    by q true e = on (has keys q) (has removed q) (has added q) (ap (has removed) (eq_same q key e) ∙ stays)
+    by q true e = on (has keys q) (has removed q) (has added q) (ap (has removed) (equal_keys q key e) ∙ stays)
 
 -- ---- a change under way
 

@@ -48,10 +48,6 @@ whole_le [] (suc i) = omega arith
 whole_le (k ∷ ks) (suc i) =
     omega (arith, whole_le ks i, length-append k (concat (take i ks)), length-append k (concat ks))
 
-length-ends_from : (s : ℕ) (ks : List (List ℕ)) → length (ends_from s ks) ≡ length ks
-length-ends_from s [] = refl
-length-ends_from s (k ∷ ks) = ap suc (length-ends_from (s + length k) ks)
-
 -- what a page's arrays keep
 module _ (bs es : List ℕ) (laid : IsLaid bs es) where
   place_is : (i : ℕ) → i ≤ length es → start_of 0 es i ≡ length (concat (take i (pieces bs 0 es)))

@@ -1,6 +1,6 @@
 mod Laid
 mod Search
-mod Sorted
+pub mod Sorted
 mod Paging
 mod Fronts
 mod Cells

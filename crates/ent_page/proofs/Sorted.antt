@@ -7,7 +7,7 @@ use Rattle.std.specs.List.Sorted.{IsStrictlySortedBy}
 use Rattle.std.specs.Ordering.{ordering_reverse, eq_by_cmp, is_eq}
 use Rattle.std.specs.declared.cmp.Ordering.{Ordering}
 use Rattle.std.specs.declared.cmp.Ordering.TheVariants.{Less, Equal, Greater}
-use Rattle.std.specs.Cmp.{IsTotalOrder}
+use Rattle.std.specs.Cmp.{IsTotalOrder, Equal-is, eq_by_cmp_equiv}
 use Rattle.std.proofs.lemmas.Cmp.{nat_list_cmp_total}
 use Rattle.std.proofs.lemmas.Map.Lookups.{CmpEqualImpliesEq, exact_bytes}
 use Rattle.std.proofs.lemmas.Map.Keys.{Less-from_sorted}
@@ -23,6 +23,9 @@ keys_total = nat_list_cmp_total
 
 pub keys_exact : CmpEqualImpliesEq key_cmp
 keys_exact = exact_bytes
+
+pub equal_keys : (q x : List ℕ) → eq_by_cmp key_cmp q x ≡ true → q ≡ x
+equal_keys q x h = keys_exact q x ((Equal-is (key_cmp q x)).0 h)
 
 pub nil_sorted : IsStrictlySortedBy key_cmp []
 unfolding IsStrictlySortedBy
@@ -196,12 +199,7 @@ absent xs ys key below above =
     ∙ (λ i. none_below xs key below i || none_above ys key above i)
 
 pub same_key : (key : List ℕ) → eq_by_cmp key_cmp key key ≡ true
-same_key key = by (key_cmp key key) refl
-  where
-    by : (o : Ordering) → key_cmp key key ≡ o → is_eq (key_cmp key key) ≡ true
-    by Equal e = ap is_eq e
-    by Less e = absurd (let f : Less ≡ Greater = sym e ∙ flip_less key key e in cc)
-    by Greater e = absurd (let f : Greater ≡ Less = sym e ∙ flip key key e in cc)
+same_key key = (eq_by_cmp_equiv keys_total).refl key
 
 pub present : (xs ys : List (List ℕ)) (key : List ℕ)
     → set.contains (set.from_list {R = key_cmp} (xs ++ key ∷ ys)) key ≡ true

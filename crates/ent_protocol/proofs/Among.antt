@@ -1,35 +1,21 @@
 -- Who is among some members.
 use Rattle.std.proofs.Common.{◌≡◌, ℕ, Bool, true, false, cond, not, ◌||◌, List, [], ◌∷◌, ◌++◌, map, refl, sym, ap, ◌∙◌}
-use Rattle.std.proofs.Common.{arith, rules, Some}
+use Rattle.std.proofs.Common.{Some}
 use Rattle.std.specs.Prelude.{◌==◌}
 use Rattle.std.specs.List.{AllByRecursion, filter}
 use Rattle.std.proofs.Math.Bool.{or-true}
+use Rattle.ent_lists.specs.Elements.{same_number, number_itself, or_first, all_by}
 use Rattle.ent_protocol.specs.Member.{is_tx}
 use Rattle.ent_protocol.specs.Rollback.{is_among}
 use Rattle.ent_protocol.specs.State.{Member, first_of}
 
-pub same_number : (a b : ℕ) → (a == b) ≡ true → a ≡ b
-same_number a b h = grind (arith, rules)
-
-pub itself : (a : ℕ) → (a == a) ≡ true
-itself a = grind (arith, rules)
-
 -- ---- truth values
 
-pub or_left : (a b : Bool) → a ≡ true → (a || b) ≡ true
-or_left true b h = refl
-or_left false b h = cc
-
 pub or_both : (a b c d : Bool) → (a ≡ true → c ≡ true) → (b ≡ true → d ≡ true) → (a || b) ≡ true → (c || d) ≡ true
-or_both true b c d f g h = or_left c d (f refl)
+or_both true b c d f g h = or_first c d (f refl)
 or_both false b c d f g h = ap (λ x. c || x) (g h) ∙ or-true c
 
 -- ---- lists
-
-pub kept : {A : Type 0} (P Q : A → Type 0) (xs : List A) → ((x : A) → P x → Q x)
-    → AllByRecursion P xs → AllByRecursion Q xs
-kept P Q [] f h = tt
-kept P Q (x ∷ xs) f h = (f x h.0, kept P Q xs f h.1)
 
 pub kept_filtered : {A : Type 0} (P Q : A → Type 0) (p : A → Bool) (xs : List A)
     → ((x : A) → p x ≡ true → P x → Q x) → AllByRecursion P xs → AllByRecursion Q (filter p xs)
@@ -90,12 +76,12 @@ split : (p : Member → Bool) (m : Member) (ms : List Member) (tx : ℕ) (b t : 
     → (m.tx == tx) ≡ t → (t || is_among ms tx) ≡ true
     → is_among (cond b (m ∷ filter p ms) (filter p ms)) tx ≡ false
     → is_among (cond (not b) (m ∷ filter (λ x. not (p x)) ms) (filter (λ x. not (p x)) ms)) tx ≡ true
-split p m ms tx true true rest is h e = absurd (different (sym (or_left (m.tx == tx) _ is) ∙ e))
+split p m ms tx true true rest is h e = absurd (different (sym (or_first (m.tx == tx) _ is) ∙ e))
   where
     different : true ≡ false → ⊥
     different x = cc
 split p m ms tx true false rest is h e = rest h (sym (ap (λ b. b || is_among (filter p ms) tx) is) ∙ e)
-split p m ms tx false true rest is h e = or_left (m.tx == tx) _ is
+split p m ms tx false true rest is h e = or_first (m.tx == tx) _ is
 split p m ms tx false false rest is h e =
     ap (λ b. (m.tx == tx) || b) (rest h e) ∙ or-true _
 
@@ -108,8 +94,8 @@ among_split p (m ∷ ms) tx h e = split p m ms tx (p m) (m.tx == tx) (among_spli
 pub all_among : (ms : List Member) → AllByRecursion (λ m. is_among ms m.tx ≡ true) ms
 all_among [] = tt
 all_among (m ∷ ms) = (
-  or_left (m.tx == m.tx) (is_among ms m.tx) (itself m.tx),
-  kept (λ x. is_among ms x.tx ≡ true) (λ x. is_among (m ∷ ms) x.tx ≡ true) ms
+  or_first (m.tx == m.tx) (is_among ms m.tx) (number_itself m.tx),
+  all_by (λ x. is_among ms x.tx ≡ true) (λ x. is_among (m ∷ ms) x.tx ≡ true) ms
       (λ x h. ap (λ b. (m.tx == x.tx) || b) h ∙ or-true _) (all_among ms),
 )
 

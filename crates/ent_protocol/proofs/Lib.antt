@@ -1,5 +1,6 @@
 pub mod Idle
 pub mod Among
+pub mod Numbers
 pub mod Tidied
 pub mod TidySteps
 pub mod Led

@@ -1,9 +1,10 @@
 -- Every event keeps members and changes tidy.
 use Rattle.std.proofs.Common.{◌≡◌, ℕ, Bool, true, false, not, ◌||◌, List, [], ◌∷◌, ◌++◌, map}
-use Rattle.std.proofs.Common.{arith, rules, cond, refl, sym, ap, subst, ◌∙◌, Some}
+use Rattle.std.proofs.Common.{arith, rules, refl, sym, ap, subst, ◌∙◌, Some}
 use Rattle.std.specs.Prelude.{◌==◌}
 use Rattle.std.specs.List.{AllByRecursion, filter}
 use Rattle.std.proofs.Math.Bool.{or-true}
+use Rattle.ent_lists.specs.Elements.{turned, same_number, or_first, all_by}
 use Rattle.ent_value.specs.declared.value.Value.{Value}
 use Rattle.ent_semantics.specs.Entangled.{Valuation}
 use Rattle.ent_closed.specs.Kinds.{changed_tables}
@@ -15,15 +16,16 @@ use Rattle.ent_protocol.specs.Commit.{preparing, committing, committing_members}
 use Rattle.ent_protocol.specs.Finish.{finished, noted}
 use Rattle.ent_protocol.specs.Job.{Job, Outcome, Shown, Changed, Bound, Choice, Fault}
 use Rattle.ent_protocol.specs.Member.{is_tx, is_of, active_member}
-use Rattle.ent_protocol.specs.PoolEvents.{joining, answered_among, answered_by, answered_groups}
+use Rattle.ent_protocol.specs.PoolEvents.{joining, answered_among, answered_groups}
 use Rattle.ent_protocol.specs.PoolEvents.{in_joined_group}
 use Rattle.ent_protocol.specs.Rollback.{Cause, NoOne, is_among, taken_out}
 use Rattle.ent_protocol.specs.Run.{ending}
 use Rattle.ent_protocol.specs.State.{State, Member, Change, members}
 use Rattle.ent_protocol.specs.Tidy.{is_member, IsTidy}
-use Rattle.ent_protocol.proofs.Among.{same_number, or_left, or_both, kept, kept_filtered, none_filtered}
+use Rattle.ent_protocol.proofs.Among.{or_both, kept_filtered, none_filtered}
 use Rattle.ent_protocol.proofs.Among.{among_mapped, among_left, among_right, among_kept, among_split, all_among}
 use Rattle.ent_protocol.proofs.Among.{found_among}
+use Rattle.ent_protocol.proofs.Numbers.{answered_tx, replaced_tx}
 
 false_true : false ≡ true → ⊥
 false_true x = cc
@@ -56,7 +58,7 @@ same_members s new f g f_same g_same running prepared active changes h =
       no_prepared = λ off. prepared ∙ mapped_empty f s.prepared (h.no_prepared (sym running ∙ off));
       no_active = λ off. active ∙ mapped_empty g s.active (h.no_active (sym running ∙ off));
       owned = subst (λ cs. AllByRecursion (λ (c : Change). is_member new c.tx ≡ true) cs) (sym changes)
-          (kept (λ (c : Change). is_member s c.tx ≡ true) (λ (c : Change). is_member new c.tx ≡ true) s.changes
+          (all_by (λ (c : Change). is_member s c.tx ≡ true) (λ (c : Change). is_member new c.tx ≡ true) s.changes
           (λ c e. same c.tx ∙ e) h.owned);
     }
   where
@@ -71,13 +73,6 @@ same_members s new f g f_same g_same running prepared active changes h =
 identity : (ms : List Member) → ms ≡ map (λ m. m) ms
 identity [] = refl
 identity (m ∷ ms) = ap (λ xs. m ∷ xs) (identity ms)
-
-replaced_tx : (new m : Member) → (replaced new m).tx ≡ m.tx
-replaced_tx new m =
-    elim (m.tx == new.tx) as (λ b. (m.tx == new.tx) ≡ b → (cond b new m).tx ≡ m.tx) [
-      | true ↦ λ e. sym (same_number m.tx new.tx e)
-      | false ↦ λ e. refl
-    ] refl
 
 -- a state in which one member is another of its number
 pub one_replaced : (s new : State) (member : Member) → new.running ≡ s.running → new.prepared ≡ s.prepared
@@ -110,10 +105,10 @@ pub all_out : (s : State) → IsTidy s → IsTidy (ending s)
 all_out s h =
     record {
       no_prepared = λ off. none_filtered (λ m. not (is_among (members s) m.tx)) s.prepared
-          (kept (λ m. is_among s.prepared m.tx ≡ true) (λ m. not (is_among (members s) m.tx) ≡ false) s.prepared
+          (all_by (λ m. is_among s.prepared m.tx ≡ true) (λ m. not (is_among (members s) m.tx) ≡ false) s.prepared
           (λ m e. ap not (among_left s.prepared s.active m.tx e)) (all_among s.prepared));
       no_active = λ off. none_filtered (λ m. not (is_among (members s) m.tx)) s.active
-          (kept (λ m. is_among s.active m.tx ≡ true) (λ m. not (is_among (members s) m.tx) ≡ false) s.active
+          (all_by (λ m. is_among s.active m.tx ≡ true) (λ m. not (is_among (members s) m.tx) ≡ false) s.active
           (λ m e. ap not (among_right s.prepared s.active m.tx e)) (all_among s.active));
       owned = (out (members s) NoOne s h).owned;
     }
@@ -133,24 +128,20 @@ prepares s member h on =
     record {
       no_prepared = λ off. absurd (on off);
       no_active = λ off. absurd (on off);
-      owned = kept (λ (c : Change). is_member s c.tx ≡ true)
+      owned = all_by (λ (c : Change). is_member s c.tx ≡ true)
           (λ (c : Change). is_member (preparing s member) c.tx ≡ true) s.changes (λ c e. moved c.tx e) h.owned;
     }
   where
     moved : (tx : ℕ) → is_member s tx ≡ true → is_member (preparing s member) tx ≡ true
     moved tx e =
         elim (member.tx == tx) as (λ b. (member.tx == tx) ≡ b → is_member (preparing s member) tx ≡ true) [
-          | true ↦ λ is. or_left _ _ (among_right s.prepared (member ∷ []) tx (or_left (member.tx == tx) false is))
+          | true ↦ λ is. or_first _ _ (among_right s.prepared (member ∷ []) tx (or_first (member.tx == tx) false is))
           | false ↦ λ is. or_both (is_among s.prepared tx) (is_among s.active tx)
               (is_among (s.prepared ++ member ∷ []) tx)
               (is_among (filter (λ m. not (is_tx member.tx m)) s.active) tx)
               (among_left s.prepared (member ∷ []) tx)
               (among_kept (λ m. not (is_tx member.tx m)) s.active tx (λ m same. another member.tx tx m.tx is same)) e
         ] refl
-
-not_true : (b : Bool) → not b ≡ true → b ≡ false
-not_true true e = sym e
-not_true false e = refl
 
 pub commits : (s : State) (group : ℕ) → IsTidy s → (s.running ≡ false → ⊥) → IsTidy (committing s group)
 commits s group h on =
@@ -162,7 +153,7 @@ commits s group h on =
           (λ c. not (is_among (committing_members s group) c.tx)) s.changes
           (λ c stays e. or_both (is_among s.prepared c.tx) (is_among s.active c.tx)
           (is_among (filter (λ m. not (is_of group m)) s.prepared) c.tx) (is_among s.active c.tx)
-          (λ there. among_split (is_of group) s.prepared c.tx there (not_true _ stays)) (λ x. x) e) h.owned;
+          (λ there. among_split (is_of group) s.prepared c.tx there (turned _ stays)) (λ x. x) e) h.owned;
     }
 
 -- ---- a result comes in
@@ -196,17 +187,6 @@ finishes_tidy s member statement (Choice groundings) there h = h
 finishes_tidy s member statement (Fault failure) there h = h
 
 -- ---- a joint answer
-
-answered_tx : (asked : List Posted) (groundings : List Valuation) (m : Member)
-    → (answered_among asked groundings m).tx ≡ m.tx
-answered_tx [] groundings m = refl
-answered_tx (query ∷ asked) [] m = refl
-answered_tx (query ∷ asked) (values ∷ more) m =
-    elim (is_tx query.tx m) as (λ b. (cond b (answered_by query values m) (answered_among asked more m)).tx
-    ≡ m.tx) [
-      | true ↦ refl
-      | false ↦ answered_tx asked more m
-    ]
 
 pub joins : (s : State) (asked : List Posted) (groundings : List Valuation) → IsTidy s
     → IsTidy (joining s asked groundings)

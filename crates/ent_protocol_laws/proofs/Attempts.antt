@@ -27,9 +27,9 @@ use Rattle.ent_protocol_laws.proofs.Acts.{AreKept, reached}
 use Rattle.ent_protocol_laws.proofs.Left.{tx_of}
 use Rattle.ent_lists.specs.Elements.{In, of_all, to_all, of_filter, of_map, all_filtered, number_itself, clash}
 use Rattle.ent_lists.specs.Elements.{all_by, all_first, all_joined, all_second, taken_in}
+use Rattle.ent_protocol.proofs.Numbers.{answered_tx}
 use Rattle.ent_protocol_laws.specs.Numbered.{from_by_number}
 use Rattle.ent_protocol_laws.proofs.Found.{numbered_on}
-use Rattle.ent_protocol_laws.proofs.Placed.{answered_tx}
 
 -- ---- lists
 

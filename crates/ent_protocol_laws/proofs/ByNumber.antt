@@ -20,9 +20,10 @@ use Rattle.ent_protocol_laws.proofs.Asked.{asks_once}
 use Rattle.ent_protocol_laws.proofs.Left.{tx_of, dormant_tx, fated_tx}
 use Rattle.ent_lists.specs.Elements.{Pairs, of_all, to_all, pairs_filtered, pairs_joined, pairs_mapped}
 use Rattle.ent_lists.specs.Elements.{in_flat, pairs_short, pairs_index, same_number, not_so}
+use Rattle.ent_protocol.proofs.Numbers.{answered_tx, replaced_tx}
 use Rattle.ent_protocol_laws.specs.Numbered.{Below, by_number_ascends, keys_apart}
-use Rattle.ent_protocol_laws.proofs.Placed.{places_kept, places_opened, fresh_counted, answered_tx}
-use Rattle.ent_protocol_laws.proofs.Places.{within_once, Stands, members_once, replaced_tx}
+use Rattle.ent_protocol_laws.proofs.Placed.{places_kept, places_opened, fresh_counted}
+use Rattle.ent_protocol_laws.proofs.Places.{within_once, Stands, members_once}
 use Rattle.ent_protocol_laws.proofs.Times.{times, once_apart, count, count_split}
 
 -- ---- lists of distinct numbers

@@ -20,7 +20,7 @@ use Rattle.ent_protocol_laws.proofs.Classes.{labels_fresh}
 use Rattle.ent_protocol_laws.proofs.Left.{tx_of, dormant_tx, fated_tx, among_passing, left_counted}
 use Rattle.ent_protocol_laws.proofs.Left.{among_counted, counted_among}
 use Rattle.ent_lists.specs.Elements.{In, of_filter, to_filter, in_first, in_second, in_either, of_map, to_map, any_some}
-use Rattle.ent_lists.specs.Elements.{any_in, any_none, clash, not_so, turned, same_number, number_itself}
+use Rattle.ent_lists.specs.Elements.{any_in, any_none, clash, not_so, turned, same_number, number_itself, map_joined}
 use Rattle.ent_protocol_laws.specs.Numbered.{from_by_number}
 use Rattle.ent_protocol_laws.proofs.Placed.{places_kept}
 use Rattle.ent_protocol_laws.proofs.Places.{Stands, members_once}
@@ -56,20 +56,16 @@ replaced_label new x same = by (x.tx == new.tx) refl
         λ i. (sym own i, group i)
     by false is = refl
 
-pub joined_map : {X Y : Type 0} (f : X → Y) (xs ys : List X) → map f (xs ++ ys) ≡ map f xs ++ map f ys
-joined_map f [] ys = refl
-joined_map f (x ∷ xs) ys = ap (λ more. f x ∷ more) (joined_map f xs ys)
-
 -- another in the place of a member, in its group
 pub replaced_labels : (s : State) → Stands s → (new m : Member) → In m s.active → new.tx ≡ m.tx → new.group ≡ m.group
     → map label_of (s.prepared ++ map (replaced new) s.active) ≡ labels s
 replaced_labels s h new m at own group =
-    joined_map label_of s.prepared (map (replaced new) s.active)
+    map_joined label_of s.prepared (map (replaced new) s.active)
     ∙ ap (λ more. map label_of s.prepared ++ more) (labels_same (replaced new) s.active (λ x xt.
     replaced_label new x (λ same. group ∙ ap (λ (y : Member). y.group)
     (one_member s h m x (in_second s.prepared s.active m at) (in_second s.prepared s.active x xt)
     (sym own ∙ sym same)))))
-    ∙ sym (joined_map label_of s.prepared s.active)
+    ∙ sym (map_joined label_of s.prepared s.active)
 
 -- a member with a label
 pub of_labels : (s : State) (x : Labelled) → In x (labels s) → (m : Member) × In m (members s) × (x ≡ label_of m)

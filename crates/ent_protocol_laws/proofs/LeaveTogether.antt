@@ -1,5 +1,5 @@
 -- Members of a group leave the run together.
-use Rattle.std.proofs.Common.{◌≡◌, inl, inr, ℕ, Bool, true, false, cond, not, ◌==◌, List, [], ◌∷◌, ◌++◌, map, refl, sym}
+use Rattle.std.proofs.Common.{◌≡◌, inl, inr, ℕ, Bool, true, false, not, ◌==◌, List, [], ◌∷◌, ◌++◌, map, refl, sym}
 use Rattle.std.proofs.Common.{ap, subst, ◌∙◌}
 use Rattle.std.specs.List.{filter, list_any}
 use Rattle.ent_value.specs.declared.value.Value.{Value}
@@ -12,7 +12,7 @@ use Rattle.ent_protocol.specs.Event.{Event, Reply}
 use Rattle.ent_protocol.specs.Finish.{finished}
 use Rattle.ent_protocol.specs.Job.{Job, Outcome, Shown, Changed, Bound, Choice, Fault}
 use Rattle.ent_protocol.specs.Member.{is_of, is_tx}
-use Rattle.ent_protocol.specs.PoolEvents.{answered_among, answered_by, answered_groups, in_joined_group, joining}
+use Rattle.ent_protocol.specs.PoolEvents.{answered_among, answered_groups, in_joined_group, joining}
 use Rattle.ent_protocol.specs.PoolEvents.{joint_job}
 use Rattle.ent_protocol.specs.Rollback.{Cause, group_members, is_among, rolled_back}
 use Rattle.ent_protocol.specs.Run.{Forms, ending, starting, submitting}
@@ -23,10 +23,10 @@ use Rattle.ent_protocol_laws.specs.ByNumber.{StandByNumber}
 use Rattle.ent_protocol_laws.proofs.Leaves.{Leaves, left_behind}
 use Rattle.ent_lists.specs.Elements.{In, clash, in_either, in_first, in_second, not_so, of_filter, same_number, to_map}
 use Rattle.ent_lists.specs.Elements.{any_none, number_itself, to_filter, turned}
+use Rattle.ent_protocol.proofs.Numbers.{answered_tx, replaced_tx}
 use Rattle.ent_protocol_laws.specs.Numbered.{from_by_number, to_by_number}
 use Rattle.ent_protocol_laws.proofs.Left.{in_among, tx_of}
 use Rattle.ent_protocol_laws.proofs.Members.{among_in, is_in_run, of_run, same_member}
-use Rattle.ent_protocol_laws.proofs.Places.{replaced_tx}
 
 -- where one leaves, the others of its group do
 abbrev LeaveTogether : State → Bool → State → Type 0
@@ -87,17 +87,6 @@ finishes s m c (Bound value) = one_replaced s (finished s m c (Bound value)) _ f
 finishes s m c (Shown rows) = one_replaced s (finished s m c (Shown rows)) _ false refl refl
 finishes s m c (Choice groundings) = all_stay s s false (λ x at. (x, at, refl))
 finishes s m c (Fault failure) = all_stay s s false (λ x at. (x, at, refl))
-
-answered_tx : (asked : List Posted) (groundings : List Valuation) (m : Member)
-    → (answered_among asked groundings m).tx ≡ m.tx
-answered_tx [] groundings m = refl
-answered_tx (query ∷ asked) [] m = refl
-answered_tx (query ∷ asked) (values ∷ more) m = by (is_tx query.tx m) (answered_tx asked more m)
-  where
-    by : (b : Bool) → (answered_among asked more m).tx ≡ m.tx
-        → (cond b (answered_by query values m) (answered_among asked more m)).tx ≡ m.tx
-    by true e = refl
-    by false e = e
 
 joins : (s : State) (left : List Job) (asked : List Posted) (groundings : List Valuation)
     → LeaveTogether s false (joining (record s { lent = left }) asked groundings)

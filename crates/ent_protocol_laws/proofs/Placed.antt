@@ -16,7 +16,7 @@ use Rattle.ent_protocol.specs.Commit.{preparing, committing, commit_fates}
 use Rattle.ent_protocol.specs.Finish.{finished}
 use Rattle.ent_protocol.specs.Job.{Job, Outcome, Shown, Changed, Bound, Choice, Fault}
 use Rattle.ent_protocol.specs.Member.{is_of, is_tx}
-use Rattle.ent_protocol.specs.PoolEvents.{joining, in_joined_group, answered_among, answered_by, answered_groups}
+use Rattle.ent_protocol.specs.PoolEvents.{joining, in_joined_group, answered_among, answered_groups}
 use Rattle.ent_protocol.specs.Reached.{opened, IsReached}
 use Rattle.ent_protocol.specs.Rollback.{Cause, NoOne, taken_out, rolled_back, is_among, fated_by, dormant_by}
 use Rattle.ent_protocol.specs.Run.{Forms, submitting, starting, fresh, ending}
@@ -27,6 +27,7 @@ use Rattle.ent_protocol_laws.proofs.Left.{tx_of, dormant_tx, fated_tx, commits_c
 use Rattle.ent_protocol_laws.proofs.Left.{among_passing}
 use Rattle.ent_lists.specs.Elements.{In, filter_same, filter_joined, shorter, number_itself, same_number, in_first}
 use Rattle.ent_lists.specs.Elements.{in_second, contains_in, in_contains, pairs_index}
+use Rattle.ent_protocol.proofs.Numbers.{answered_tx}
 use Rattle.ent_protocol_laws.proofs.Places.{within, within_once, within_there, there_within, Stands, members_once}
 use Rattle.ent_protocol_laws.proofs.Places.{same_places, mapped_places, other_parts, one_replaced}
 use Rattle.ent_protocol_laws.proofs.Times.{one_if, times, times_joined, stands, stood, once_apart, count, count_joined}
@@ -60,7 +61,7 @@ submits s script form h =
 pub fresh_counted : (n : ℕ) (ds : List Dormant) → count tx_of n (map fresh ds) ≡ count dormant_tx n ds
 fresh_counted n ds = count_mapped tx_of n dormant_tx fresh ds (λ d at. refl)
 
-inserted_long : (m : Member) (ms : List Member) → length (inserted tx_of m ms) ≡ suc (length ms)
+pub inserted_long : (m : Member) (ms : List Member) → length (inserted tx_of m ms) ≡ suc (length ms)
 inserted_long m [] = refl
 inserted_long m (x ∷ xs) = by (nat_lt m.tx x.tx) (inserted_long m xs)
   where
@@ -69,7 +70,7 @@ inserted_long m (x ∷ xs) = by (nat_lt m.tx x.tx) (inserted_long m xs)
     by true e = refl
     by false e = ap suc e
 
-by_number_long : (ms : List Member) → length (by_number tx_of ms) ≡ length ms
+pub by_number_long : (ms : List Member) → length (by_number tx_of ms) ≡ length ms
 by_number_long [] = refl
 by_number_long (m ∷ ms) = inserted_long m (by_number tx_of ms) ∙ ap suc (by_number_long ms)
 
@@ -308,17 +309,6 @@ ends s h =
     }
 
 -- ---- members that go on
-
-pub answered_tx : (asked : List Posted) (groundings : List Valuation) (m : Member)
-    → (answered_among asked groundings m).tx ≡ m.tx
-answered_tx [] groundings m = refl
-answered_tx (query ∷ asked) [] m = refl
-answered_tx (query ∷ asked) (values ∷ more) m = by (is_tx query.tx m) (answered_tx asked more m)
-  where
-    by : (b : Bool) → (answered_among asked more m).tx ≡ m.tx
-        → (cond b (answered_by query values m) (answered_among asked more m)).tx ≡ m.tx
-    by true e = refl
-    by false e = e
 
 joins : (s : State) (left : List Job) (asked : List Posted) (groundings : List Valuation) → Stands s
     → Stands (joining (record s { lent = left }) asked groundings)

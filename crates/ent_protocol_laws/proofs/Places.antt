@@ -1,5 +1,5 @@
 -- Each transaction that was submitted is a member, is dormant or has a fate, and once.
-use Rattle.std.proofs.Common.{◌≡◌, ◌<◌, ◌≤◌, ◌+◌, ℕ, zero, suc, Bool, true, false, cond, ◌==◌, List, [], ◌∷◌}
+use Rattle.std.proofs.Common.{◌≡◌, ◌<◌, ◌≤◌, ◌+◌, ℕ, zero, suc, Bool, true, false, ◌==◌, List, [], ◌∷◌}
 use Rattle.std.proofs.Common.{◌++◌, map, length, refl, sym, ap, ◌∙◌, arith}
 use Rattle.std.proofs.lemmas.List.{length-append, length-map}
 use Rattle.ent_group.specs.declared.members.TheConstants.{MOST_MEMBERS}
@@ -7,6 +7,7 @@ use Rattle.ent_protocol.specs.Begin.{replaced}
 use Rattle.ent_protocol.specs.State.{State, Member, members}
 use Rattle.ent_protocol_laws.proofs.Left.{tx_of, dormant_tx, fated_tx}
 use Rattle.ent_lists.specs.Elements.{shorter, number_itself, same_number, clash}
+use Rattle.ent_protocol.proofs.Numbers.{replaced_tx}
 use Rattle.ent_protocol_laws.proofs.Times.{one_if, count, count_joined}
 use Rattle.ent_protocol_laws.proofs.Times.{count_mapped}
 
@@ -16,9 +17,6 @@ use Rattle.ent_protocol_laws.proofs.Times.{count_mapped}
 abbrev pub within : ℕ → ℕ → ℕ
 within n zero = 0
 within n (suc k) = one_if (suc k == n) (within n k)
-
-not_equal : (a b : ℕ) → b < a → (a == b) ≡ true → ⊥
-not_equal a b low e = let same = same_number a b e in absurd (omega (arith, low, same))
 
 pub within_beyond : (n k : ℕ) → k < n → within n k ≡ 0
 within_beyond n zero low = refl
@@ -131,13 +129,6 @@ pub other_parts : (s new : State) → new.prepared ≡ s.prepared → new.active
 other_parts s new prepared active dormant fates submitted running h =
     mapped_places s new (λ m. m) (λ m. m) (λ m. refl) (λ m. refl) (prepared ∙ unmapped s.prepared)
     (active ∙ unmapped s.active) dormant fates submitted running h
-
-pub replaced_tx : (new other : Member) → (replaced new other).tx ≡ other.tx
-replaced_tx new other = by (other.tx == new.tx) refl
-  where
-    by : (b : Bool) → (other.tx == new.tx) ≡ b → (cond b new other).tx ≡ other.tx
-    by true is = sym (same_number other.tx new.tx is)
-    by false is = refl
 
 -- another in the place of a member
 pub one_replaced : (s new : State) (member : Member) → new.prepared ≡ s.prepared

@@ -18,10 +18,10 @@ use Rattle.ent_protocol_laws.proofs.Classes.{Labelled, LabelsRight}
 use Rattle.ent_protocol_laws.proofs.Classes.{is_joined, relabelled, labels_joined}
 use Rattle.ent_protocol_laws.proofs.Left.{tx_of, dormant_tx, fated_tx}
 use Rattle.ent_lists.specs.Elements.{In, of_filter, to_filter, in_second, in_either, of_map, to_map, any_some, any_in}
-use Rattle.ent_lists.specs.Elements.{same_number, number_itself, or_cases, or_first, or_second}
+use Rattle.ent_lists.specs.Elements.{same_number, number_itself, or_cases, or_first, or_second, map_joined}
 use Rattle.ent_protocol_laws.proofs.Places.{Stands, within_once}
 use Rattle.ent_protocol_laws.proofs.Times.{count, count_in}
-use Rattle.ent_protocol_laws.proofs.Groups.{label_of, labels, GroupsRight, joined_map, of_labels}
+use Rattle.ent_protocol_laws.proofs.Groups.{label_of, labels, GroupsRight, of_labels}
 use Rattle.ent_protocol_laws.proofs.Places.{within, there_within}
 
 answered_label : (asked : List Posted) (groundings : List Valuation) (m : Member)
@@ -109,12 +109,12 @@ module _ (s : State) (left : List Job) (asked : List Posted) (groundings : List 
 
   labels_after : labels (joining (record s { lent = left }) asked groundings) ≡ map (relabelled groups) (labels s)
   labels_after =
-      joined_map label_of (map (in_joined_group groups) s.prepared)
+      map_joined label_of (map (in_joined_group groups) s.prepared)
       (map (λ m. in_joined_group groups (answered_among asked groundings m)) s.active)
       ∙ (λ i. relabelled_members groups (λ m. m) s.prepared (λ m. refl) i
       ++ relabelled_members groups (answered_among asked groundings) s.active (answered_label asked groundings) i)
-      ∙ sym (joined_map (relabelled groups) (map label_of s.prepared) (map label_of s.active))
-      ∙ ap (map (relabelled groups)) (sym (joined_map label_of s.prepared s.active))
+      ∙ sym (map_joined (relabelled groups) (map label_of s.prepared) (map label_of s.active))
+      ∙ ap (map (relabelled groups)) (sym (map_joined label_of s.prepared s.active))
 
   -- who asked is a member, and so isn't dormant
   known_after : (n : ℕ) → takes_part joint n ≡ true

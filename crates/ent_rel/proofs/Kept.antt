@@ -7,9 +7,10 @@ use Rattle.ent_value.specs.declared.value.Kind.{Kind}
 use Rattle.ent_page.specs.Key.{key_of}
 use Rattle.ent_page.specs.Read.{row_from}
 use Rattle.ent_page.specs.Rows.{IsKey}
+use Rattle.ent_page.proofs.Sorted.{keys_total, keys_exact}
 use Rattle.ent_rel.specs.Relation.{Relation}
 use Rattle.ent_rel.specs.Kept.{KeySet, rows_of, IsKept}
-use Rattle.ent_rel.proofs.Keyed.{keys_total, keys_exact, all_keys, ascending_rows}
+use Rattle.ent_rel.proofs.Keyed.{all_keys, ascending_rows}
 
 keys_again : (kinds : List Kind) (ks : List (List ℕ)) → AllByRecursion (IsKey kinds) ks
     → map key_of (map (row_from kinds) ks) ≡ ks

@@ -4,15 +4,12 @@ use Rattle.std.proofs.Common.{List, [], ◌∷◌, length, map, refl, sym, ap, s
 use Rattle.std.specs.Prelude.{◌||◌, ◌&&◌, if◌then◌else◌, All, Err}
 use Rattle.std.specs.List.{AllByRecursion, list_any, filter, IsDistinct}
 use Rattle.std.specs.List.Sorted.{IsStrictlySortedBy}
-use Rattle.std.specs.Ordering.{eq_by_cmp, is_lt, is_eq, ordering_reverse}
+use Rattle.std.specs.Ordering.{eq_by_cmp, is_lt, is_eq}
 use Rattle.std.specs.declared.cmp.Ordering.{Ordering}
 use Rattle.std.specs.declared.cmp.Ordering.TheVariants.{Less, Equal, Greater}
-use Rattle.std.specs.Cmp.{IsTotalOrder}
 use Rattle.std.specs.FinMap as finite
 use Rattle.std.specs.FinMap.Entries.{below_all}
-use Rattle.std.proofs.lemmas.Cmp.{nat_list_cmp_total}
 use Rattle.std.proofs.lemmas.List.Elements.{All-from_recursion, recursion_from_All}
-use Rattle.std.proofs.lemmas.Map.Lookups.{CmpEqualImpliesEq, exact_bytes}
 use Rattle.std.proofs.lemmas.Map.Keys.{IsDistinct-from_sorted}
 use Rattle.ent_set.specs.Sets as set
 use Rattle.ent_set.specs.Laws.{same_set, contains-from_list, contains-insert, contains-without_all, contains-empty}
@@ -20,6 +17,7 @@ use Rattle.ent_set.specs.Laws.{len-insert, contains-ascending, from_list-ascendi
 use Rattle.ent_set.specs.Laws.{any_same_set, len-distinct, ascending-from_list, is_sorted_from, without-append}
 use Rattle.ent_set.specs.Laws.{without-nothing}
 use Rattle.std.proofs.lemmas.List.{take_more, take_all, map-append}
+use Rattle.ent_lists.specs.Elements.{or_first, or_second}
 use Rattle.ent_value.specs.Value.{row_cmp, kind_of, kinds_of}
 use Rattle.ent_value.specs.Order.{rows_total, exact_rows}
 use Rattle.ent_value.specs.declared.value.Value.{Value}
@@ -31,15 +29,10 @@ use Rattle.ent_page.specs.Rows.{IsKey, row_again, key_of_row}
 use Rattle.ent_rel.specs.Change.{changed_rows}
 use Rattle.ent_rel.specs.Relation.{RowSet, HaveKinds, full, bounded}
 use Rattle.ent_value.specs.declared.limits.TheConstants.{MOST_ROWS}
+use Rattle.ent_page.proofs.Sorted.{equal_keys, same_key, keys_total, keys_exact}
 use Rattle.ent_rel.proofs.Lists.{same_rows, have_kinds}
 use Rattle.ent_rel.proofs.Meanings.{bounded_beyond}
 use Rattle.ent_rel.specs.Kept.{KeySet, listed_rows, rows_of, HoldRows, RemovesRows}
-
-pub keys_total : IsTotalOrder key_cmp
-keys_total = nat_list_cmp_total
-
-pub keys_exact : CmpEqualImpliesEq key_cmp
-keys_exact = exact_bytes
 
 and_parts : (a b : Bool) → T (a && b) → T a × T b
 and_parts true b h = (tt, h)
@@ -76,30 +69,13 @@ keys_ascend s = elements_ascend key_cmp s
 pub rows_ascend : (s : RowSet) → IsStrictlySortedBy row_cmp (set.ascending s)
 rows_ascend s = elements_ascend row_cmp s
 
-or_left : (a b : Bool) → a ≡ true → (a || b) ≡ true
-or_left true b h = refl
-or_left false b h = absurd cc
-
-or_right : (a b : Bool) → b ≡ true → (a || b) ≡ true
-or_right true b h = refl
-or_right false b h = h
-
-own : (k : List ℕ) → eq_by_cmp key_cmp k k ≡ true
-own k = by (key_cmp k k) refl
-  where
-    by : (o : Ordering) → key_cmp k k ≡ o → is_eq (key_cmp k k) ≡ true
-    by Equal e = ap is_eq e
-    by Less e = absurd (let f : Less ≡ Greater = sym e ∙ keys_total.antisymm k k ∙ (λ i. ordering_reverse (e i)) in cc)
-    by Greater e = absurd (let f : Greater ≡ Less = sym e ∙ keys_total.antisymm k k
-        ∙ (λ i. ordering_reverse (e i)) in cc)
-
 all_where : (P : List ℕ → Type 0) (ks : List (List ℕ)) → ((k : List ℕ) → list_any (eq_by_cmp key_cmp k) ks ≡ true
     → P k) → AllByRecursion P ks
 all_where P [] h = tt
 all_where P (k ∷ ks) h = (
-  h k (or_left (eq_by_cmp key_cmp k k) (list_any (eq_by_cmp key_cmp k) ks)
-      (own k)),
-  all_where P ks (λ q e. h q (or_right (eq_by_cmp key_cmp q k) (list_any (eq_by_cmp key_cmp q) ks) e)),
+  h k (or_first (eq_by_cmp key_cmp k k) (list_any (eq_by_cmp key_cmp k) ks)
+      (same_key k)),
+  all_where P ks (λ q e. h q (or_second (eq_by_cmp key_cmp q k) (list_any (eq_by_cmp key_cmp q) ks) e)),
 )
 
 pub all_keys : (kinds : List Kind) (s : KeySet) → HoldRows kinds s → AllByRecursion (IsKey kinds) (set.ascending s)
@@ -183,20 +159,12 @@ rows_insert kinds s row same fits =
     ∙ ap (λ t. set.insert t (key_of row)) (sym (from_list-ascending keys_total keys_exact s)))
     ∙ ap (λ r. set.insert (rows_of kinds s) r) (row_again kinds row same fits)
 
-eq_true : (q k : List ℕ) → eq_by_cmp key_cmp q k ≡ true → q ≡ k
-eq_true q k h = keys_exact q k (by (key_cmp q k) h)
-  where
-    by : (o : Ordering) → is_eq o ≡ true → o ≡ Equal
-    by Equal h = refl
-    by Less h = absurd cc
-    by Greater h = absurd cc
-
 pub hold_insert : (kinds : List Kind) (s : KeySet) (row : List Value) → kinds_of row ≡ kinds → AreStorable row
     → HoldRows kinds s → HoldRows kinds (set.insert s (key_of row))
 hold_insert kinds s row same fits hold key h = by (eq_by_cmp key_cmp key (key_of row)) refl
   where
     by : (b : Bool) → eq_by_cmp key_cmp key (key_of row) ≡ b → IsKey kinds key
-    by true e = subst (IsKey kinds) (sym (eq_true key (key_of row) e)) (key_of_row kinds row same fits)
+    by true e = subst (IsKey kinds) (sym (equal_keys key (key_of row) e)) (key_of_row kinds row same fits)
     by false e = hold key (sym (ap (λ b. b || set.contains s key) e)
         ∙ sym (contains-insert keys_total keys_exact s (key_of row) key) ∙ h)
 
@@ -276,7 +244,7 @@ key_there kinds (row ∷ rows) key same fits h = by (eq_by_cmp key_cmp key (key_
   where
     by : (b : Bool) → eq_by_cmp key_cmp key (key_of row) ≡ b
         → (list_any (eq_by_cmp key_cmp key) (map key_of rows) ≡ true → IsKey kinds key) → IsKey kinds key
-    by true e later = subst (IsKey kinds) (sym (eq_true key (key_of row) e)) (key_of_row kinds row same.0 fits.0)
+    by true e later = subst (IsKey kinds) (sym (equal_keys key (key_of row) e)) (key_of_row kinds row same.0 fits.0)
     by false e later = later (sym (ap (λ b. b || list_any (eq_by_cmp key_cmp key) (map key_of rows)) e) ∙ h)
 
 module _ (kinds : List Kind) (rows : List (List Value)) (keys : KeySet) (made : keys ≡ set.from_list

@@ -160,11 +160,6 @@ not_replaced_unless excused s removed image meant (Fault error) e (inl excuse) =
 not_replaced_unless excused s removed image meant (Fault error) e (inr told) =
     inr (e ∙ ap (λ r. r >>= λ new. Ok (length removed, changed_rows s removed new)) told)
 
-both_ok : {X Y : Type 0} (b : Bool) (x t : X) (y : Y) → cond b (Ok x) (Err full) ≡ Ok t
-    → cond b (Ok y) (Err full) ≡ Ok y
-both_ok true x t y e = refl
-both_ok false x t y e = absurd cc
-
 both_full : {X Y : Type 0} (b : Bool) (x : X) (y : Y) (fault : TableFull) → cond b (Ok x) (Err full) ≡ Err fault
     → cond b (Ok y) (Err full) ≡ Err fault
 both_full true x y fault e = absurd cc

@@ -8,6 +8,7 @@ use Rattle.std.proofs.lemmas.List.Elements.{All-cons, All-head, All-tail, All-ni
 use Rattle.std.proofs.lemmas.Map.Keys.{IsDistinct-head, IsDistinct-tail}
 use Rattle.ent_set.specs.Sets as set
 use Rattle.ent_set.specs.Laws.{len-distinct, len-insert, IsDistinct-filter, without-list}
+use Rattle.ent_lists.specs.Elements.{neither}
 use Rattle.ent_value.specs.declared.value.Value.{Value}
 use Rattle.ent_value.specs.Value.{row_cmp}
 use Rattle.ent_value.specs.Order.{rows_total, exact_rows, rows_equal}
@@ -42,16 +43,12 @@ part_all {X} P (x ∷ xs) part (inr (others, e, h)) all =
     let Q : List X → Type 0 = λ ys. All P ys in
     subst Q (sym e) (All-cons P x others (All-head P x xs all) (part_all P xs others h (All-tail P x xs all)))
 
-or_false : (a b : Bool) → (a || b) ≡ false → (a ≡ false) × (b ≡ false)
-or_false true b h = absurd cc
-or_false false b h = (refl, h)
-
 part_none : {X : Type 0} (p : X → Bool) (xs part : List X) → IsPart xs part → list_any p xs ≡ false
     → list_any p part ≡ false
 part_none p [] part h none = ap (list_any p) h
-part_none p (x ∷ xs) part (inl h) none = part_none p xs part h (or_false (p x) (list_any p xs) none).1
+part_none p (x ∷ xs) part (inl h) none = part_none p xs part h (neither (p x) (list_any p xs) none).1
 part_none p (x ∷ xs) part (inr (others, e, h)) none =
-    let both = or_false (p x) (list_any p xs) none in
+    let both = neither (p x) (list_any p xs) none in
     ap (list_any p) e ∙ (λ i. both.0 i || part_none p xs others h both.1 i)
 
 -- not among those taken out

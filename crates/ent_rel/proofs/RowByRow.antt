@@ -8,7 +8,7 @@ use Rattle.std.proofs.lemmas.Map.Views.{list_any-from_Contains, Contains-from_an
 use Rattle.ent_set.specs.Sets as set
 use Rattle.ent_set.specs.Laws.{contains-insert, contains-retain, contains-insert_all, contains-ascending}
 use Rattle.ent_set.specs.Laws.{contains-without_all, one_passing, passes_where}
-use Rattle.ent_lists.specs.Elements.{and_both}
+use Rattle.ent_lists.specs.Elements.{and_both, or_second, turned}
 use Rattle.ent_value.specs.declared.value.Value.{Value}
 use Rattle.ent_value.specs.Value.{row_cmp}
 use Rattle.ent_value.specs.Order.{rows_total, exact_rows, rows_equal}
@@ -22,14 +22,6 @@ use Rattle.ent_rel.proofs.Lists.{same_rows}
 cond_is : {X : Type 0} (b : Bool) (x y : X) → cond b (Ok x) (Err full) ≡ Ok y → x ≡ y
 cond_is true x y e = cc
 cond_is false x y e = absurd cc
-
-opposite : (b : Bool) → not b ≡ true → b ≡ false
-opposite true h = cc
-opposite false h = refl
-
-or_right : (a b : Bool) → b ≡ true → (a || b) ≡ true
-or_right true b h = refl
-or_right false b h = h
 
 -- the rows that pass a test
 stays_where : (rows : RowSet) (test : List Value → Bool) (q : List Value)
@@ -47,14 +39,14 @@ inserts_one rows after row count e q =
       λ either. told ∙ elim either [
         | inl same ↦ ap (λ b. b || set.contains rows q) (ap (λ r. eq_by_cmp row_cmp q r)
             (sym same) ∙ rows_equal.refl q)
-        | inr old ↦ or_right _ _ old
+        | inr old ↦ or_second _ _ old
       ],
     )
 
 pub deletes_matches : DeletesMatches
 deletes_matches rows test q =
     let told = stays_where rows (λ row. not (test row)) q in (
-      λ here. let p = and_both _ _ (sym told ∙ here) in (p.0, opposite _ p.1),
+      λ here. let p = and_both _ _ (sym told ∙ here) in (p.0, turned _ p.1),
       λ p. told ∙ (λ i. p.0 i && not (p.1 i)),
     )
 
@@ -136,7 +128,7 @@ replaces_matches {E} rows after test image count e q = by (images_of image (set.
           λ either. told ∙ elim either [
             | inl new ↦ ap (λ b. b || set.contains kept q)
                 (there_image rows test image images made q new)
-            | inr old ↦ or_right _ _ (stays.1 old)
+            | inr old ↦ or_second _ _ (stays.1 old)
           ],
         )
 
@@ -160,12 +152,12 @@ changes_rows rows removed added q =
         | inr old ↦ let p = and_both _ _ (sym left ∙ old) in inr (
           p.0,
           λ there. true_false (sym
-              (list_any-from_Contains rows_equal q removed there) ∙ opposite _ p.1),
+              (list_any-from_Contains rows_equal q removed there) ∙ turned _ p.1),
         )
       ],
       λ either. told ∙ elim either [
         | inl new ↦ ap (λ b. b || set.contains kept q) (list_any-from_Contains rows_equal q added new)
-        | inr old ↦ or_right _ _ (left ∙ (λ i. old.0 i && not (none_there removed q old.1 i)))
+        | inr old ↦ or_second _ _ (left ∙ (λ i. old.0 i && not (none_there removed q old.1 i)))
       ],
     )
   where

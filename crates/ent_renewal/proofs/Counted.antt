@@ -18,8 +18,8 @@ use Rattle.ent_book.proofs.Ascending.{count_of_ascending}
 use Rattle.ent_form.specs.Catalogue.{column_schema, table_schema}
 use Rattle.ent_form.specs.declared.catalogue.ColumnSchema.{ColumnSchema}
 use Rattle.ent_form_laws.specs.Kinds.{column_kinds}
-use Rattle.ent_form_laws.proofs.KindedRows.{each_ascending}
 use Rattle.ent_lists.specs.Elements.{nth_in, of_all}
+use Rattle.ent_semantics.proofs.EachRow.{to_ascending}
 use Rattle.ent_renewal.specs.Renewal.{rows_together}
 use Rattle.ent_renewal.specs.Rows.{opening_row, opening_rows, table_rows}
 
@@ -60,7 +60,7 @@ widths create rows most few kinds k d low =
     of_all (λ row. length row ≤ most) (set.ascending rows) _ each (nth_in (set.ascending rows) k d low)
   where
     each : AllByRecursion (λ row. length row ≤ most) (set.ascending rows)
-    each = each_ascending (λ row. length row ≤ most) rows (λ row there.
+    each = to_ascending (λ row. length row ≤ most) rows (λ row there.
         let e = as_many create row (kinds row there) in omega (arith, few, e))
 
 no_rows : set.ascending (set.empty {R = row_cmp}) ≡ []

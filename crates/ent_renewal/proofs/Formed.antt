@@ -23,8 +23,8 @@ use Rattle.ent_form.specs.declared.catalogue.ColumnSchema.{ColumnSchema}
 use Rattle.ent_form.specs.declared.catalogue.TableSchema.{TableSchema}
 use Rattle.ent_form.specs.declared.fault.FormFault.TheVariants.{Arity, NoTable, WrongKind}
 use Rattle.ent_form_laws.specs.Kinds.{column_kinds}
-use Rattle.ent_form_laws.proofs.KindedRows.{each_ascending}
 use Rattle.ent_lists.specs.Elements.{In, all_index, any_in, number_itself}
+use Rattle.ent_semantics.proofs.EachRow.{to_ascending}
 use Rattle.ent_renewal.specs.Renewal.{HoldsTablesOf, IsRenewed}
 use Rattle.ent_renewal.specs.Rows.{literal_of, opening_row, opening_rows, table_rows}
 use Rattle.ent_renewal.proofs.Again.{same_tables}
@@ -122,7 +122,7 @@ module _ (database : Database) where
         let own = found 0 declared name all
         (any_in (λ (c : Create). same_name c.name.name name) declared create at (name_itself name)) in
         none_mapped (opening_row_fault (schemas_of declared)) (opening_row create.name) (set.ascending (database name))
-        (each_ascending
+        (to_ascending
         (λ row. opening_row_fault (schemas_of declared) (opening_row create.name row) ≡ None) (database name)
         (λ row there.
         ap (λ found. where_there found (NoTable create.name.place)

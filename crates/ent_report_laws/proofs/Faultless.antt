@@ -42,7 +42,7 @@ AreOthers names earlier =
 abbrev ArePairwiseOthers : List Name → Type 0
 ArePairwiseOthers = Pairs (λ first second. same_name first second ≡ false)
 
-not_among : (earlier : List Name) (name : Name) → ((other : Name) → In other earlier → same_name other name ≡ false)
+pub not_among : (earlier : List Name) (name : Name) → ((other : Name) → In other earlier → same_name other name ≡ false)
     → is_among earlier name ≡ false
 not_among earlier name others =
     not_so (is_among earlier name) (λ is.

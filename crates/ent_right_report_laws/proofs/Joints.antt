@@ -1,5 +1,5 @@
 -- The joint answers that the report of a legal book tells.
-use Rattle.std.proofs.Common.{◌≡◌, ◌≢◌, ℕ, zero, suc, ◌<◌, ◌≤◌, List, [], ◌∷◌, map, length, refl, sym, ap, subst, ◌∙◌}
+use Rattle.std.proofs.Common.{◌≡◌, ◌≢◌, ◌<◌, ◌≤◌, List, [], ◌∷◌, map, length, refl, sym, ap, subst, ◌∙◌}
 use Rattle.std.proofs.Common.{arith, Some, Contains, AllPairs}
 use Rattle.std.specs.List.{AllByRecursion}
 use Rattle.ent_tree.specs.declared.limits.TheConstants.{MOST_SCRIPTS, MOST_STATEMENTS}
@@ -17,19 +17,12 @@ use Rattle.ent_history_form.specs.Joints.{PlacesRise}
 use Rattle.ent_history_form.specs.Parts.{IsNumber}
 use Rattle.ent_lists.specs.Elements.{In, Pairs, all_map, contains_in, in_contains, in_flat, index_pairs, of_all, to_all}
 use Rattle.ent_lists.specs.Elements.{to_flat}
+use Rattle.ent_semantics.proofs.Numbered.{numbered_low}
 use Rattle.ent_report_laws.specs.Tellable.{IsJointTold, IsMemberTold}
 use Rattle.ent_right_report_laws.proofs.Kept.{numbered_in}
 use Rattle.ent_right_report_laws.proofs.Seen.{seen_in}
 
 -- ---- numbers
-
-pub numbered_low : {X : Type 0} (xs : List X) (n : ℕ) (x : X) → numbered xs n ≡ Some x → n ≤ length xs
-numbered_low xs zero x e = omega arith
-numbered_low [] (suc k) x e = cc (e)
-numbered_low (y ∷ ys) (suc zero) x e = omega arith
-numbered_low (y ∷ ys) (suc (suc k)) x e =
-    let low = numbered_low ys (suc k) x e in
-    omega (arith, low)
 
 abbrev pub Rising : Member → Member → Type 0
 Rising first second = first.tx < second.tx

@@ -19,11 +19,11 @@ use Rattle.ent_history.specs.Told.{has_committed, told_fate}
 use Rattle.ent_history_form.specs.Answers.{AreRuns, IsFate}
 use Rattle.ent_history_form.specs.Parts.{IsNumber}
 use Rattle.ent_lists.specs.Elements.{In, got_in, in_contains, of_all, of_map}
+use Rattle.ent_semantics.proofs.Numbered.{numbered_low}
 use Rattle.ent_report_laws.specs.Tellable.{AreAnswersTo, AreTransactionsOf, IsTransactionTold}
 use Rattle.ent_right_report_laws.specs.Reportable.{runs_of}
 use Rattle.ent_right_report_laws.proofs.Entries.{AreFrom, entries_apart, first_tx, head_of, its_entry, more_tx, no_more}
 use Rattle.ent_right_report_laws.proofs.Entries.{tail_of}
-use Rattle.ent_right_report_laws.proofs.Joints.{numbered_low}
 
 -- ---- side by side
 

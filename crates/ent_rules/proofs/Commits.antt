@@ -14,7 +14,7 @@ use Rattle.ent_rules.specs.declared.finding.Thing.TheVariants as thing
 use Rattle.ent_rules.proofs.Accounts.{Other, one_account}
 use Rattle.ent_rules.proofs.Found.{unless_holds, holds_unless}
 use Rattle.ent_lists.specs.Elements.{In, Pairs, of_all, to_all, and_both, both_and, turned, clash, neither, any_some}
-use Rattle.ent_lists.specs.Elements.{any_none, same_number, number_itself, other_number, in_flat, to_flat}
+use Rattle.ent_lists.specs.Elements.{any_none, same_number, number_itself, other_number, in_flat}
 use Rattle.ent_lists.specs.Elements.{of_filter, to_filter, pairs_filtered, pairs_joined, got_in, pairs_by}
 use Rattle.ent_lists.specs.Elements.{NotBoth, only_one}
 use Rattle.ent_rules.proofs.Lists.{back, none_first, none_second, both_none}
@@ -275,13 +275,6 @@ in_numbers first (suc m) n (inr at) =
     let is = r.2 in
     (suc r.0, omega (arith, less), omega (arith, is))
 
-numbers_in : (first m k : ℕ) → k < m → In (first + k) (numbers_from first m)
-numbers_in first zero k less = absurd (omega (arith, less))
-numbers_in first (suc m) zero less = inl (omega arith)
-numbers_in first (suc m) (suc k) less =
-    inr (subst (λ n. In n (numbers_from (suc first) m)) (later_number first k)
-    (numbers_in (suc first) m k (omega (arith, less))))
-
 module _ (all : List Account) where
   abbrev as_number : ℕ → List Account
   as_number n = filter (committed_as n) all
@@ -296,12 +289,6 @@ module _ (all : List Account) where
       let f = of_filter (committed_as r.0) all a r.2 in
       let n = in_numbers first m r.0 r.1 in
       (n.0, n.1, f.0, committed_is r.0 (commit_number a.fate) f.1 ∙ ap (λ k. Some k) n.2)
-
-  to_ordered : (first m k : ℕ) (a : Account) → k < m → In a all → commit_number a.fate ≡ Some (first + k)
-      → In a (ordered first m)
-  to_ordered first m k a less at is =
-      to_flat as_number (numbers_from first m) (first + k) a (numbers_in first m k less)
-      (to_filter (committed_as (first + k)) all a at (is_committed (first + k) (commit_number a.fate) is))
 
   some_number : (n m : ℕ) → Some n ≡ Some m → n ≡ m
   some_number n m e = cc

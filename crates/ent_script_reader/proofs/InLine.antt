@@ -16,7 +16,7 @@ use Rattle.ent_text.specs.declared.token.TokenKind.{TokenKind}
 use Rattle.ent_text.specs.declared.token.TokenKind.TheVariants as kinds
 use Rattle.ent_text.specs.Keyword.{keyword_text}
 use Rattle.ent_text.specs.Spelling.{is_in_line}
-use Rattle.ent_text.proofs.Moved.{symbol_in_line}
+use Rattle.ent_text.proofs.Runs.{symbol_in_line}
 use Rattle.ent_print.specs.Lexeme.{Lexeme, Token, Negative, kind_text, lexeme_text, line_end, space, wants_before}
 use Rattle.ent_print.specs.Lexeme.{wants_behind, text_behind}
 use Rattle.ent_print.specs.Reading.{CanStand, CanBeRead}

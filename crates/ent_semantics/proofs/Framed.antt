@@ -7,6 +7,7 @@ use Rattle.std.specs.List.{list_all, flat_map}
 use Rattle.std.specs.Option.{option_map}
 use Rattle.std.proofs.Math.Bool.{or-true}
 use Rattle.ent_set.specs.Sets as set
+use Rattle.ent_lists.specs.Elements.{or_first}
 use Rattle.ent_value.specs.declared.limits.TheConstants.{MOST_ROWS}
 use Rattle.ent_value.specs.declared.value.Value.{Value}
 use Rattle.ent_tree.specs.declared.declaration.Create.{Create}
@@ -109,10 +110,6 @@ one_of name = ap (λ b. b || false) (name_itself name)
 
 -- ---- what a SELECT reads
 
-either_left : (a b : Bool) → a ≡ true → (a || b) ≡ true
-either_left true b h = refl
-either_left false b h = cc
-
 sources_same : (some : Name → Bool) (first second : Database) (sources : List Source)
     → ((name : Name) → is_among (map (λ (source : Source). source.table.name) sources) name ≡ true → some name ≡ true)
     → Agree some first second
@@ -121,7 +118,7 @@ sources_same : (some : Name → Bool) (first second : Database) (sources : List 
 sources_same some first second [] covers agree = refl
 sources_same some first second (source ∷ more) covers agree =
     let table : Name = source.table.name in
-    let here : first table ≡ second table = agree table (covers table (either_left _ _ (name_itself table))) in
+    let here : first table ≡ second table = agree table (covers table (or_first _ _ (name_itself table))) in
     let rest = sources_same some first second more
     (λ name there. covers name (ap (λ b. same_name table name || b) there ∙ or-true _)) agree in
     λ i. here i ∷ rest i

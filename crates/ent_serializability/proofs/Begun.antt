@@ -12,12 +12,12 @@ use Rattle.ent_protocol.specs.Run.{Forms}
 use Rattle.ent_protocol.specs.State.{State, Member, Use}
 use Rattle.ent_protocol.specs.Uses.{blocker}
 use Rattle.ent_protocol_laws.proofs.Lent.{replaced_here}
-use Rattle.ent_protocol_laws.proofs.Places.{replaced_tx}
 use Rattle.ent_serializability.specs.Faithful.{number_of, is_used, is_owned}
 use Rattle.ent_serializability.specs.History.{History, Replays}
 use Rattle.ent_serializability.specs.SerialState.{Follows, IsWhole}
 use Rattle.ent_lists.specs.Elements.{In, Pairs, of_all, to_all, all_by, in_first, in_second, in_either, of_map, to_map}
 use Rattle.ent_lists.specs.Elements.{clash, any_none, pairs_across, map_joined, same_number, other_number}
+use Rattle.ent_protocol.proofs.Numbers.{replaced_tx}
 use Rattle.ent_serializability.proofs.Frame.{Laws, IsCovered, apart_turned, WritesWithin, held}
 use Rattle.ent_serializability.proofs.Sound.{Fit, AreApart, fit_turned}
 use Rattle.ent_serializability.proofs.Acts.{Keeps}
@@ -79,10 +79,6 @@ module _ {F : Type 0} (forms : Forms F) (laws : Laws) (s : State) (kept : Kept f
                   free_active s x.member asked free y.member (active_at forms s kept y b) (λ e. fit.distinct (sym e))
             ]) (fit.groups d);
       }
-
-  distinct_from : (y : History) → In y kept.others → (y ≡ x → ⊥) → y.member.tx ≡ x.member.tx → ⊥
-  distinct_from y bt differs same =
-      differs (one_history all y x kept.sound.fit (in_all forms s kept y bt) (in_all forms s kept x at) same)
 
   covers : IsCovered s.opening.tables x → IsCovered s.opening.tables next
   covers covered =

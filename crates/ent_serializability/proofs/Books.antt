@@ -157,7 +157,7 @@ turns_scripts all (history ∷ more) whole turn (inl same) =
     ∙ (λ i. Some (sym same i).script)
 turns_scripts all (history ∷ more) whole turn (inr at) = turns_scripts all more whole.1 turn at
 
-named_same : (creates : List Create) (tables : Tables) (name : Name)
+pub named_same : (creates : List Create) (tables : Tables) (name : Name)
     → named_tables (map (λ (create : Create). create.name.name) creates) tables name ≡ database_of creates tables name
 named_same [] tables name = refl
 named_same (create ∷ more) [] name = refl

@@ -7,19 +7,10 @@ use Rattle.ent_protocol.specs.Commit.{commit_fates}
 use Rattle.ent_protocol.specs.Rollback.{Cause, fated_as, fated_by, dormant_by, fate_of}
 use Rattle.ent_protocol.specs.State.{Submitted, Member, Dormant}
 use Rattle.ent_lists.specs.Elements.{In, Pairs, of_all, to_all, pairs_at}
+use Rattle.ent_protocol.proofs.Numbers.{waiting_tx}
 use Rattle.ent_serializability.proofs.Kept.{OtherMember, OtherFated, OtherDormant}
 
 -- ---- members that go to the dormant list
-
-dormant_tx : (submitted : List Submitted) (cause : Cause) (m : Member) (d : Dormant)
-    → dormant_by submitted cause m ≡ Some d → d.tx ≡ m.tx
-dormant_tx submitted cause m d h = by (fate_of submitted cause m) refl
-  where
-    by : (f : Option Fate) → fate_of submitted cause m ≡ f → d.tx ≡ m.tx
-    by None e =
-        let k : Some (record { tx = m.tx; runs = m.attempt }) ≡ Some d = rw e at h in
-        cc
-    by (Some fate) e = let k : None ≡ Some d = rw e at h in cc
 
 pub of_dormant : (submitted : List Submitted) (cause : Cause) (ms : List Member) (d : Dormant)
     → In d (filter_map (dormant_by submitted cause) ms) → (m : Member) × In m ms × (d.tx ≡ m.tx)
@@ -34,7 +25,7 @@ of_dormant submitted cause (m ∷ ms) d dt =
         → (x : Member) × In x (m ∷ ms) × (d.tx ≡ x.tx)
     by None e h rest = let r = rest h in (r.0, inr r.1, r.2)
     by (Some other) e (inl same) rest =
-        (m, inl refl, ap (λ (x : Dormant). x.tx) same ∙ dormant_tx submitted cause m other e)
+        (m, inl refl, ap (λ (x : Dormant). x.tx) same ∙ waiting_tx submitted cause m other e)
     by (Some other) e (inr more) rest = let r = rest more in (r.0, inr r.1, r.2)
 
 pub dormant_pairs : (submitted : List Submitted) (cause : Cause) (ms : List Member)
@@ -52,7 +43,7 @@ dormant_pairs submitted cause (m ∷ ms) pairs =
       to_all (OtherDormant d) (filter_map (dormant_by submitted cause) ms) (λ other ot same.
           let r = of_dormant submitted cause ms other ot in
           of_all (λ (b : Member). m.tx ≡ b.tx → ⊥) ms r.0 pairs.0 r.1
-          (sym (dormant_tx submitted cause m d e) ∙ same ∙ r.2)),
+          (sym (waiting_tx submitted cause m d e) ∙ same ∙ r.2)),
       rest,
     )
 
@@ -134,7 +125,7 @@ of_sleeping submitted cause (m ∷ ms) d dt =
     by (Some other) e (inl same) rest = (
       m,
       inl refl,
-      ap (λ (x : Dormant). x.tx) same ∙ dormant_tx submitted cause m other e,
+      ap (λ (x : Dormant). x.tx) same ∙ waiting_tx submitted cause m other e,
       dormant_none submitted cause m other e,
     )
     by (Some other) e (inr more) rest = let r = rest more in (r.0, inr r.1, r.2, r.3)

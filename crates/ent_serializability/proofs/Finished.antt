@@ -19,13 +19,13 @@ use Rattle.ent_protocol.specs.Run.{Forms}
 use Rattle.ent_protocol.specs.State.{State, Member}
 use Rattle.ent_protocol.specs.Uses.{statement_uses}
 use Rattle.ent_protocol_laws.proofs.Lent.{replaced_here}
-use Rattle.ent_protocol_laws.proofs.Places.{replaced_tx}
 use Rattle.ent_serializability.specs.Faithful.{is_used, is_owned, AreFaithful}
 use Rattle.ent_serializability.specs.History.{History}
 use Rattle.ent_serializability.specs.SerialState.{Follows}
 use Rattle.ent_lists.specs.Elements.{In, Same, of_all, to_all, all_joined, all_filtered, of_filter, to_filter}
 use Rattle.ent_lists.specs.Elements.{in_either, in_first, in_second, of_map, to_map, map_joined, clash, turned}
 use Rattle.ent_lists.specs.Elements.{pairs_at, pairs_map, pairs_by, same_number, other_number, differ}
+use Rattle.ent_protocol.proofs.Numbers.{replaced_tx}
 use Rattle.ent_serializability.proofs.Frame.{Laws, apart_turned}
 use Rattle.ent_serializability.proofs.Undo.{at_number, set_elsewhere}
 use Rattle.ent_serializability.proofs.Sound.{AreApart, has_tx, last}

@@ -1,6 +1,6 @@
 -- What holds of every state that is reached.
-use Rattle.std.proofs.Common.{◌≡◌, ◌≤◌, ℕ, zero, suc, ◌==◌, true, false, cond, List, [], ◌∷◌, ◌++◌, map, length}
-use Rattle.std.proofs.Common.{refl, sym, ap, subst, ◌∙◌, inl, inr, arith, Some, Ok, slice_get}
+use Rattle.std.proofs.Common.{◌≡◌, ◌==◌, true, false, cond, List, [], ◌∷◌, ◌++◌, map}
+use Rattle.std.proofs.Common.{refl, sym, ap, subst, ◌∙◌, inl, inr, Some, Ok}
 use Rattle.std.specs.List.{AllByRecursion}
 use Rattle.ent_value.specs.declared.value.Value.{Value}
 use Rattle.ent_semantics.specs.declared.book.Entry.{Entry}
@@ -209,17 +209,6 @@ one_history (z ∷ zs) x y pairs (inl e) (inr bt) same =
 one_history (z ∷ zs) x y pairs (inr at) (inl f) same =
     absurd ((of_all (Fit z) zs x pairs.0 at).distinct (ap (λ (h : History). h.member.tx) (sym f) ∙ sym same))
 one_history (z ∷ zs) x y pairs (inr at) (inr bt) same = one_history zs x y pairs.1 at bt same
-
--- ---- scripts by number
-
-pub numbered_low : {X : Type 0} (xs : List X) (n : ℕ) (x : X) → numbered xs n ≡ Some x → n ≤ length xs
-numbered_low xs zero x e = cc (e)
-numbered_low xs (suc n) x e = low xs n x e
-  where
-    low : {X : Type 0} (xs : List X) (n : ℕ) (x : X) → slice_get xs n ≡ Some x → suc n ≤ length xs
-    low [] n x e = cc (e)
-    low (y ∷ ys) zero x e = omega arith
-    low (y ∷ ys) (suc n) x e = let h = low ys n x e in omega (arith, h)
 
 -- ---- members of a state
 

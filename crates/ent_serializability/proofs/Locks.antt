@@ -57,7 +57,7 @@ uses_kept (first ∷ more) uses own at =
     by true = at
     by false = to_inserted use_rank first uses own (inr at)
 
-uses_from : (asked uses : List Use) (own : Use) → In own (with_uses asked uses) → In own asked ⊎ In own uses
+pub uses_from : (asked uses : List Use) (own : Use) → In own (with_uses asked uses) → In own asked ⊎ In own uses
 uses_from [] uses own at = inr at
 uses_from (first ∷ more) uses own at =
     elim (uses_from more (cond (list_any (same_use first) uses) uses (inserted use_rank first uses)) own at) [

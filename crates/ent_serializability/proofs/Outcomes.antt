@@ -144,9 +144,6 @@ sources_same one other (source ∷ more) same =
     (λ table used. same table (or_second (source == table) (is_used (map shared more) table) used)) in
     λ i. first i ∷ rest i
 
-same_count : (m n : ℕ) → answers.Count m ≡ answers.Count n → m ≡ n
-same_count m n e = cc
-
 module _ (statement : Statement Value) (table : ℕ) (seen tables : Tables)
     (is_at : (there : Tables) → rows_to_change statement there ≡ at_number there table)
     (is_table : changed_tables statement ≡ table ∷ []) (room : table < length seen)

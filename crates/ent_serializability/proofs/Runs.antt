@@ -28,13 +28,14 @@ use Rattle.ent_lists.specs.Elements.{In, Pairs, of_all, to_all, all_by, all_join
 use Rattle.ent_lists.specs.Elements.{in_second, in_either, of_map, nobody, pairs_joined, pairs_first, pairs_second}
 use Rattle.ent_lists.specs.Elements.{pairs_across, pairs_map, pairs_by, pairs_of, pairs_filtered, of_filter, to_filter}
 use Rattle.ent_lists.specs.Elements.{filter_empty, clash, same_number, number_itself}
+use Rattle.ent_semantics.proofs.Numbered.{numbered_low}
 use Rattle.ent_serializability.proofs.Frame.{Laws, IsCovered}
 use Rattle.ent_serializability.proofs.Sound.{Fit, AreApart, Sound, IsOwner}
 use Rattle.ent_serializability.proofs.Locks.{by_number_same, by_number_pairs}
 use Rattle.ent_serializability.proofs.Jobs.{JobRight, WorkRight}
 use Rattle.ent_serializability.proofs.Kept.{Kept, PostedHolds, OtherDormant, OtherMember, member_of, history_of}
 use Rattle.ent_serializability.proofs.Kept.{map_map}
-use Rattle.ent_serializability.proofs.Kept.{active_at, numbered_low, prepared_at, one_history}
+use Rattle.ent_serializability.proofs.Kept.{active_at, prepared_at, one_history}
 use Rattle.ent_serializability.proofs.Left.{takes_out, fit_at}
 use Rattle.ent_serializability.proofs.Asks.{history_asks}
 use Rattle.ent_serializability.proofs.Joints.{JointsStand, stand_started}

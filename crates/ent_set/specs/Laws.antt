@@ -3,7 +3,7 @@
 -- These sets aren't the library's `FinSet`: its words can't be opened outside of it, and no law of it says that its
 -- items ascend, or counts the set of a list. So the words here are those of the map to nothing that both are. Each law
 -- below is one that a proof of this repository uses; where the library has it, it speaks of `FinSet` or of maps.
-use Rattle.std.proofs.Common.{◌≡◌, ℕ, ◌+◌, Bool, true, false, cond, not, ◌&&◌, ◌||◌, List, [], ◌∷◌, ◌++◌, length, map}
+use Rattle.std.proofs.Common.{◌≡◌, ℕ, ◌+◌, ◌≤◌, Bool, true, false, cond, not, ◌&&◌, ◌||◌, List, [], ◌∷◌, ◌++◌, length, map}
 use Rattle.std.proofs.Common.{refl, sym, ap, subst, ◌∙◌, arith, Option, Some, None, T}
 use Rattle.std.specs.Prelude.{is_some}
 use Rattle.std.specs.List.{list_any, filter, IsDistinct, AllByRecursion, dedup, dedup_from}
@@ -21,18 +21,10 @@ use Rattle.std.specs.List.Sorted.{IsStrictlySortedBy, IsSorted, IsPermutation}
 use Rattle.std.proofs.lemmas.List.Folds.{list_any-append}
 use Rattle.std.proofs.lemmas.List.Kept.{IsStrictlySortedBy-dedup}
 use Rattle.std.proofs.lemmas.List.Sorted.{list_any-IsPermutation}
+use Rattle.ent_lists.specs.Elements.{all_filtered}
 use Rattle.ent_set.specs.Sets.{Set, empty, contains, insert, retain, len, ascending, insert_all, without_all, from_list}
 
 -- ---- lists
-
-all_of_filter : {K : Type 0} (P : K → Type 0) (p : K → Bool) (xs : List K)
-    → AllByRecursion P xs → AllByRecursion P (filter p xs)
-all_of_filter P p [] h = tt
-all_of_filter P p (x ∷ xs) h =
-    elim (p x) as (λ b. AllByRecursion P (cond b (x ∷ filter p xs) (filter p xs))) [
-      | true ↦ (h.0, all_of_filter P p xs h.1)
-      | false ↦ all_of_filter P p xs h.1
-    ]
 
 -- what a filter keeps of distinct elements is distinct
 pub IsDistinct-filter : {K : Type 0} (e : K → K → Bool) (p : K → Bool) (xs : List K)
@@ -41,7 +33,7 @@ unfolding IsDistinct
 IsDistinct-filter e p [] h = tt
 IsDistinct-filter e p (x ∷ xs) h =
     elim (p x) as (λ b. IsDistinct e (cond b (x ∷ filter p xs) (filter p xs))) [
-      | true ↦ (all_of_filter (λ y. e x y ≡ false) p xs h.0, IsDistinct-filter e p xs h.1)
+      | true ↦ (all_filtered (λ y. e x y ≡ false) p xs h.0, IsDistinct-filter e p xs h.1)
       | false ↦ IsDistinct-filter e p xs h.1
     ]
 
@@ -200,6 +192,17 @@ module _ {K : Type 0} {R : K → K → Ordering} (o : IsTotalOrder R) (same : fi
 
   pub len-insert : (s : Set R) (k : K) → len (insert s k) ≡ cond (contains s k) (len s) (len s + 1)
   len-insert s k = finite.len-insert o s k tt
+
+  pub len-from_list : (xs : List K) → len (from_list {R = R} xs) ≤ length xs
+  len-from_list [] = omega (arith, len-empty R)
+  len-from_list (x ∷ xs) =
+      let h = len-from_list xs in
+      let before : Set R = from_list xs in
+      elim (contains before x) as (λ b. len (insert before x) ≡ cond b (len before) (len before + 1)
+      → len (insert before x) ≤ length (x ∷ xs)) [
+        | true ↦ λ e. omega arith
+        | false ↦ λ e. omega arith
+      ] (len-insert before x)
 
   pub len-distinct : (xs : List K) → IsDistinct (eq_by_cmp R) xs → len (from_list {R = R} xs) ≡ length xs
   len-distinct [] d = len-empty R

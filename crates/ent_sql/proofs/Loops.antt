@@ -19,10 +19,6 @@ regroup : {A : Type 0} (front : List A) (x : A) (read : Read (List A)) → with_
 regroup {A} front x (Ok xs) = ap (λ (y : List A). let r : Read (List A) = Ok (y, xs.1) in r) (sym (append_assoc front (x ∷ []) xs.0))
 regroup front x (Err f) = refl
 
-no_front : {A : Type 0} (x : A) (read : Read (List A)) → with_front (x ∷ []) read ≡ joined x read
-no_front x (Ok xs) = refl
-no_front x (Err f) = refl
-
 nothing_front : {A : Type 0} (read : Read (List A)) → with_front [] read ≡ read
 nothing_front (Ok xs) = refl
 nothing_front (Err f) = refl

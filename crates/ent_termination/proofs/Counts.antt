@@ -56,9 +56,6 @@ end_left (Some own) m n e = omega arith
 pub begun_unposted : (m : Member) → m.posted ≡ false → begun m ≡ pred m.place
 begun_unposted m e = rw e refl
 
-begun_posted : (m : Member) → m.posted ≡ true → begun m ≡ m.place
-begun_posted m e = rw e refl
-
 pub begun_most : (m : Member) → begun m ≤ m.place
 begun_most m = by m.posted
   where

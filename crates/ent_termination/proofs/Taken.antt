@@ -12,7 +12,7 @@ use Rattle.ent_protocol.specs.Begin.{BeginsMember, single_job}
 use Rattle.ent_protocol.specs.Commit.{preparing, is_ready}
 use Rattle.ent_protocol.specs.Event.{Event, Reply}
 use Rattle.ent_protocol.specs.Event as events
-use Rattle.ent_protocol.specs.Finish.{FinishesBy, Finishes, IsOutstandingSingle, IsTaken, finished}
+use Rattle.ent_protocol.specs.Finish.{FinishesBy, Finishes, IsOutstandingSingle, IsTaken}
 use Rattle.ent_protocol.specs.Job.{Job, One, Single, Done, Outcome, Shown, Changed, Bound, Choice, Fault}
 use Rattle.ent_protocol.specs.Member.{Next, Ordinary, Asks, Commits, RollsBack, active_member, is_prepared}
 use Rattle.ent_protocol.specs.Member.{next_of}
@@ -47,14 +47,6 @@ taken_alone job only jobs left alone taken =
     only_one taken.before taken.behind left job only (sym alone ∙ taken.is_there) taken.others
 
 -- ---- what is lent
-
-finished_lent : (s : State) (m : Member) (c : Statement Value) (outcome : Outcome)
-    → (finished s m c outcome).lent ≡ s.lent
-finished_lent s m c (Changed count removed added) = refl
-finished_lent s m c (Bound value) = refl
-finished_lent s m c (Shown rows) = refl
-finished_lent s m c (Choice groundings) = refl
-finished_lent s m c (Fault failure) = refl
 
 abbrev IsLentBy : Bool → Bool → List Job → State → Type 0
 IsLentBy added rolled jobs new = new.lent ≡ jobs

@@ -8,18 +8,16 @@ use Rattle.std.proofs.lemmas.Bool.{and_parts, or_parts}
 use Rattle.std.proofs.lemmas.List.{length-append}
 use Rattle.ent_value.specs.Name.{is_word_byte}
 use Rattle.ent_value.specs.Print.{doubled}
-use Rattle.ent_text.specs.declared.symbol.Symbol.{Symbol}
-use Rattle.ent_text.specs.declared.symbol.Symbol.TheVariants as symbols
 use Rattle.ent_text.specs.declared.token.Token.{Token}
 use Rattle.ent_text.specs.declared.token.TokenKind.{TokenKind}
 use Rattle.ent_text.specs.declared.token.TokenKind.TheVariants.{Word, Name, HostVariable, Number, Literal, Sign, Fault}
-use Rattle.ent_text.specs.Symbol.{symbol_text}
 use Rattle.ent_text.specs.Spelling.{IsPlain, IsPiece, IsLongest, is_in_line}
 use Rattle.ent_text.specs.Reading.{Reads, nothing, gap, token, AreTokens}
 use Rattle.ent_text.specs.Moved.{moved}
 use Rattle.ent_text.proofs.Digits.{digits_pass}
 use Rattle.ent_text.proofs.Ends.{blank_ends}
 use Rattle.ent_text.proofs.Firsts.{no_empty_piece}
+use Rattle.ent_text.proofs.Runs.{symbol_in_line}
 
 -- ---- no piece goes on behind a line end
 
@@ -44,26 +42,6 @@ doubled_plain (b ∷ text) plain =
         → list_all is_plain (doubled (b ∷ text) ++ 39 ∷ []) ≡ true
     on others plain true e = rw e others
     on others plain false e = rw (e, plain) others
-
-pub symbol_in_line : (symbol : Symbol) → list_all is_in_line (symbol_text symbol) ≡ true
-symbol_in_line symbols.Open = refl
-symbol_in_line symbols.Close = refl
-symbol_in_line symbols.Comma = refl
-symbol_in_line symbols.Semicolon = refl
-symbol_in_line symbols.Dot = refl
-symbol_in_line symbols.Star = refl
-symbol_in_line symbols.Plus = refl
-symbol_in_line symbols.Minus = refl
-symbol_in_line symbols.Equal = refl
-symbol_in_line symbols.NotEqual = refl
-symbol_in_line symbols.Less = refl
-symbol_in_line symbols.LessOrEqual = refl
-symbol_in_line symbols.Greater = refl
-symbol_in_line symbols.GreaterOrEqual = refl
-
--- a line end behind some byte
-abbrev Goes : ℕ → List ℕ → List ℕ → List ℕ
-Goes b front behind = b ∷ (front ++ 10 ∷ behind)
 
 no_piece : (piece : Option TokenKind) (b : ℕ) (front behind : List ℕ) → IsPiece (b ∷ (front ++ 10 ∷ behind)) piece → ⊥
 unfolding is_plain

@@ -109,24 +109,24 @@ blank_longest b rest k (x ∷ front) behind more piece same spelled =
     let le = blank_is_short (x ∷ (front ++ more)) piece (piece_of_first x 0 (front ++ more) piece (ap class_of first ∙ k) spelled) in
     omega (arith, length-append front more)
 
-mark_is_in_line : (symbol : Symbol) → list_all is_in_line (symbol_text symbol) ≡ true
-mark_is_in_line Open = refl
-mark_is_in_line Close = refl
-mark_is_in_line Comma = refl
-mark_is_in_line Semicolon = refl
-mark_is_in_line Dot = refl
-mark_is_in_line Star = refl
-mark_is_in_line Plus = refl
-mark_is_in_line Minus = refl
-mark_is_in_line Equal = refl
-mark_is_in_line NotEqual = refl
-mark_is_in_line Less = refl
-mark_is_in_line LessOrEqual = refl
-mark_is_in_line Greater = refl
-mark_is_in_line GreaterOrEqual = refl
+pub symbol_in_line : (symbol : Symbol) → list_all is_in_line (symbol_text symbol) ≡ true
+symbol_in_line Open = refl
+symbol_in_line Close = refl
+symbol_in_line Comma = refl
+symbol_in_line Semicolon = refl
+symbol_in_line Dot = refl
+symbol_in_line Star = refl
+symbol_in_line Plus = refl
+symbol_in_line Minus = refl
+symbol_in_line Equal = refl
+symbol_in_line NotEqual = refl
+symbol_in_line Less = refl
+symbol_in_line LessOrEqual = refl
+symbol_in_line Greater = refl
+symbol_in_line GreaterOrEqual = refl
 
 symbol_is_in_line : (bytes : List ℕ) (symbol : Symbol) → SpellsSymbol bytes symbol → list_all is_in_line bytes ≡ true
-symbol_is_in_line bytes symbol (inl e) = ap (list_all is_in_line) e ∙ mark_is_in_line symbol
+symbol_is_in_line bytes symbol (inl e) = ap (list_all is_in_line) e ∙ symbol_in_line symbol
 symbol_is_in_line bytes symbol (inr e) = ap (list_all is_in_line) e.0
 
 pub comment_is_in_line : (bytes : List ℕ) → IsComment bytes → list_all is_in_line bytes ≡ true

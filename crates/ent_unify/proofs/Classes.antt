@@ -1,5 +1,5 @@
 -- What stands for variables, by their bindings.
-use Rattle.std.proofs.Common.{◌≡◌, ◌≢◌, ℕ, zero, suc, ◌+◌, ◌<◌, ◌⊎◌, inl, inr, cond, List, [], ◌∷◌, ◌++◌, map, take}
+use Rattle.std.proofs.Common.{◌≡◌, ℕ, zero, suc, ◌+◌, ◌<◌, ◌⊎◌, inl, inr, cond, List, [], ◌∷◌, ◌++◌, map, take}
 use Rattle.std.proofs.Common.{length, get_or, refl, sym, ◌∙◌, ap, subst, arith, All}
 use Rattle.std.specs.Prelude.{IfSome}
 use Rattle.std.specs.List.{flat_map}
@@ -22,13 +22,6 @@ use Rattle.ent_unify.proofs.Solving.{same_variable-self, same_variable-true}
 class_first : (b : Binding) (bs : List Binding) (x : Variables) → b.variable ≡ x → class_of (b ∷ bs) x ≡ b.stands
 class_first b bs x is =
     ap (λ t. cond t b.stands (class_of bs x)) (ap (λ y. same_variable y x) is ∙ same_variable-self x)
-
-class_later : (b : Binding) (bs : List Binding) (x : Variables) → b.variable ≢ x → class_of (b ∷ bs) x ≡ class_of bs x
-class_later b bs x other =
-    elim (cases_Bool (same_variable b.variable x)) [
-      | inl same ↦ absurd (other (same_variable-true b.variable x same))
-      | inr differs ↦ ap (λ t. cond t b.stands (class_of bs x)) differs
-    ]
 
 -- ---- the bindings of equations
 

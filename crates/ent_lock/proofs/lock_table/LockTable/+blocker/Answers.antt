@@ -2,7 +2,7 @@ use Rattle.std.proofs.Common.{ℕ, List, sym, ap, subst}
 use Rattle.ent_lock.specs.declared.mode.Mode.{Mode}
 use Rattle.ent_lock.specs.Use.{Blocks, IsLeastIfAny, keyed}
 use Rattle.ent_lock.specs.Holders.{lesser}
-use Rattle.ent_lock.proofs.Asking.{BlocksOne, least_of_one, least_of_more}
+use Rattle.ent_lock.proofs.Requests.{BlocksOne, least_of_one, least_of_more}
 use Rattle.ent_lock.proofs.lock_table.LockTable.+blocker.Goals as goal
 
 pub returns : goal.returns

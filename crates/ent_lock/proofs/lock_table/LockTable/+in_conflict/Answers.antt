@@ -1,7 +1,7 @@
 use Rattle.std.proofs.Common.{ℕ, List, sym, ap, subst, ◌∙◌, true≢false, inl, inr}
 use Rattle.ent_lock.specs.declared.mode.Mode.{Mode}
 use Rattle.ent_lock.specs.Use.{InConflict, keyed}
-use Rattle.ent_lock.proofs.Asking.{conflict_more, conflict_cases}
+use Rattle.ent_lock.proofs.Requests.{conflict_more, conflict_cases}
 use Rattle.ent_lock.proofs.lock_table.LockTable.+in_conflict.Goals as goal
 
 pub returns-else-in_conflict_at : goal.returns-else-in_conflict_at

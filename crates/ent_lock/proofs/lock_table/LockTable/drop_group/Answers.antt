@@ -3,7 +3,7 @@ use Rattle.std.specs.FinSet as finite
 use Rattle.ent_lock.specs.Use.{Uses, DropsUses}
 use Rattle.ent_lock.specs.Layout.{held_in, is_use_of_none}
 use Rattle.std.proofs.lemmas.List.{with_items_is}
-use Rattle.ent_lock.proofs.Asking.{retain-DropsUses}
+use Rattle.ent_lock.proofs.Requests.{retain-DropsUses}
 use Rattle.ent_lock.proofs.lock_table.LockTable.drop_group.Goals as goal
 
 pub returns : goal.returns

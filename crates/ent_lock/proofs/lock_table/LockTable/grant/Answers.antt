@@ -1,7 +1,7 @@
 use Rattle.std.proofs.Common.{◌≡◌, sym, ap, subst, ◌∙◌}
 use Rattle.ent_lock.specs.Layout.{held_in}
 use Rattle.ent_lock.specs.Use.{Uses, AddsUses, with_uses, keyed}
-use Rattle.ent_lock.proofs.Asking.{with_uses-AddsUses}
+use Rattle.ent_lock.proofs.Requests.{with_uses-AddsUses}
 use Rattle.ent_lock.proofs.Held.{on_ok_then}
 use Rattle.ent_lock.proofs.lock_table.LockTable.grant.Goals as goal
 

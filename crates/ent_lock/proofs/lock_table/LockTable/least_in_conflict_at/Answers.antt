@@ -1,6 +1,6 @@
 use Rattle.std.proofs.Common.{sym, subst}
 use Rattle.ent_lock.specs.Use.{IsLeastIfAny}
-use Rattle.ent_lock.proofs.Asking.{ConflictsOne, least_of_any}
+use Rattle.ent_lock.proofs.Requests.{ConflictsOne, least_of_any}
 use Rattle.ent_lock.proofs.lock_table.LockTable.least_in_conflict_at.Goals as goal
 
 pub returns : goal.returns

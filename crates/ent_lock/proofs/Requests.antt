@@ -1,17 +1,18 @@
--- What asking for uses and dropping them make of the uses that are held.
+-- Who is in conflict with a request for locks, and what granting it and dropping locks make of the uses that are held.
 use Rattle.std.proofs.Common.{◌≡◌, ◌≢◌, ℕ, zero, suc, ◌≤◌, ◌==◌, Bool, true, false, not, ◌&&◌, ◌||◌, if◌then◌else◌, min, ◌⊎◌, inl, inr, List, [], ◌∷◌, refl, sym, ap, subst, ◌∙◌, arith, true≢false}
 use Rattle.std.specs.Prelude.{Contains, IsTrue, Option, None, Some, ◌↔◌}
 use Rattle.std.specs.List.{list_any}
 use Rattle.std.specs.FinSet as finite
 use Rattle.std.proofs.lemmas.Bool.{eqb-true, eq-eqb, ne_eqb, or_left, or_right}
 use Rattle.std.proofs.lemmas.List.Elements.{Contains-append_right}
+use Rattle.ent_lists.specs.Elements.{and_both, not_so, or_cases}
 use Rattle.ent_lock.specs.declared.mode.Mode.{Mode}
 use Rattle.ent_lock.specs.declared.holders.Holder.{Holder}
 use Rattle.ent_lock.specs.Mode.{in_conflict}
 use Rattle.ent_lock.specs.Holders.{is_conflicting, lesser, least_conflicting}
 use Rattle.ent_lock.specs.Use.{Use, Uses, Holds, InConflict, InConflictAt, Blocks, IsLeastIfAny, AddsUses, DropsUses, with_uses}
 use Rattle.ent_lock.specs.Layout.{is_use_of_none}
-use Rattle.ent_lock.proofs.Held.{the_use, use_total, is_use, is_use-true, is_use-itself, of_none_alike, not_true, both_true}
+use Rattle.ent_lock.proofs.Held.{the_use, use_total, is_use, is_use-true, is_use-itself, of_none_alike}
 
 -- ---- numbers of a list
 
@@ -33,7 +34,7 @@ number_from_any x (y ∷ ys) =
     ] refl
 
 not_any : (x : ℕ) (xs : List ℕ) → ¬ Contains xs x → not (list_any (λ m. m == x) xs) ≡ true
-not_any x xs apart = ap not (not_true (list_any (λ m. m == x) xs) (λ e. apart (number_from_any x xs e)))
+not_any x xs apart = ap not (not_so (list_any (λ m. m == x) xs) (λ e. apart (number_from_any x xs e)))
 
 not_inside : (x : ℕ) (xs : List ℕ) → not (list_any (λ m. m == x) xs) ≡ true → ¬ Contains xs x
 not_inside x xs none inside = true≢false (sym (sym (ap not (any_from_number x xs inside)) ∙ none))
@@ -103,14 +104,14 @@ least_conflicting-IsLeastIfAny tx mode pass (h ∷ hs) =
 
 -- ---- who blocks
 
--- a transaction's use of one table is in conflict with one that is asked for
+-- a transaction's use of one table is in conflict with one that is requested
 abbrev pub BlocksOne : Uses → ℕ → List ℕ → Mode → List ℕ → ℕ → Type 0
 BlocksOne held tx table mode pass v = (v ≢ tx) × ¬ Contains pass v × ((theirs : Mode) × Holds held v table theirs × IsTrue (in_conflict theirs mode))
 
 way_parts : (tx : ℕ) (mode : Mode) (pass : List ℕ) (v : ℕ) (theirs : Mode) → is_conflicting (Some tx) mode pass (holder_of v theirs) ≡ true → (v ≢ tx) × ¬ Contains pass v × IsTrue (in_conflict theirs mode)
 way_parts tx mode pass v theirs e =
-    let first = both_true (not (v == tx)) (in_conflict theirs mode && not (list_any (λ m. m == v) pass)) e in
-    let second = both_true (in_conflict theirs mode) (not (list_any (λ m. m == v) pass)) first.1 in
+    let first = and_both (not (v == tx)) (in_conflict theirs mode && not (list_any (λ m. m == v) pass)) e in
+    let second = and_both (in_conflict theirs mode) (not (list_any (λ m. m == v) pass)) first.1 in
     (λ same. true≢false (sym (sym (ap not (eq-eqb v tx same)) ∙ first.0)), not_inside v pass second.1, second.0)
 
 way_whole : (tx : ℕ) (mode : Mode) (pass : List ℕ) (v : ℕ) (theirs : Mode) → (v ≢ tx) → ¬ Contains pass v → IsTrue (in_conflict theirs mode) → is_conflicting (Some tx) mode pass (holder_of v theirs) ≡ true
@@ -164,7 +165,7 @@ ConflictsOne held table mode pass v = ¬ Contains pass v × InConflictAt held v 
 way_conflicts : (held : Uses) (table : List ℕ) (mode : Mode) (pass : List ℕ) (hs : List Holder) →
     ((v : ℕ) (theirs : Mode) → Contains hs (holder_of v theirs) ↔ Holds held v table theirs) → (v : ℕ) → Conflicting None mode pass hs v → ConflictsOne held table mode pass v
 way_conflicts held table mode pass hs holders v (theirs, inside, conflicting) =
-    let parts = both_true (in_conflict theirs mode) (not (list_any (λ m. m == v) pass)) conflicting in
+    let parts = and_both (in_conflict theirs mode) (not (list_any (λ m. m == v) pass)) conflicting in
     (not_inside v pass parts.1, (theirs, (holders v theirs).0 inside, parts.0))
 
 conflicts_way : (held : Uses) (table : List ℕ) (mode : Mode) (pass : List ℕ) (hs : List Holder) →
@@ -192,10 +193,6 @@ conflict_cases held v a asked (table, mode, theirs, (zero, within, e), there, co
 conflict_cases held v a asked (table, mode, theirs, (suc k, within, e), there, conflict) = inr (table, mode, theirs, (k, omega arith, e), there, conflict)
 
 -- ---- uses that are added
-
-or_cases : (a b : Bool) → (a || b) ≡ true → (a ≡ true) ⊎ (b ≡ true)
-or_cases true b e = inl refl
-or_cases false b e = inr e
 
 added_back : (held : Uses) (tx : ℕ) (asked : List (List ℕ × Mode)) (v : ℕ) (table : List ℕ) (mode : Mode) → Holds (with_uses held tx asked) v table mode → Holds held v table mode ⊎ ((v ≡ tx) × Contains asked (table, mode))
 added_back held tx [] v table mode h = inl h
@@ -238,7 +235,7 @@ retain-DropsUses held members v table mode =
     let q = the_use v table mode in
     let is = finite.contains-retain held (is_use_of_none members) q (λ u tie. of_none_alike members q u tie) in (
       λ there.
-          let parts = both_true (finite.contains held q) (is_use_of_none members q) (sym is ∙ there) in
+          let parts = and_both (finite.contains held q) (is_use_of_none members q) (sym is ∙ there) in
           (parts.0, not_inside v members parts.1),
       λ kept. is ∙ (λ i. kept.0 i && not_any v members kept.1 i),
     )
