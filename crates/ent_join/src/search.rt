@@ -52,7 +52,7 @@ fn search<G: Guide>(
     requires dead { AreDead (length values.old.items + left) (G.passes guide.now) dead.old }
     ensures found { IfOk result
         (IsSearched (G.passes guide.now) left values.old.items values.new.items reason.new) }
-    ensures rooms { rooms.new ≡ rooms.old }
+    ensures same { rooms.new ≡ rooms.old }
     ensures dead { OnOk result (AreDead (length values.old.items + left) (G.passes guide.now) dead.new) }
     ensures ticks { NoDeadEnds (length values.old.items + left) (G.candidates guide.now) (G.passes guide.now)
         → IfOk result (AreTicks left ticks.old ticks.new) }

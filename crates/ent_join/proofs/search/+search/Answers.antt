@@ -155,7 +155,7 @@ loop-value-preserved g t c =
           (none.0 ∙ push) c.search.new.values.ok.0 c.pop.ensures.rest)
           c.as_mut_slice-in-Some.ensures.value c.add_all.auto.marks c.loop-value.gathered.ok.0
           c.add_all.ensures.kept c.add_all.ensures.more c.in-Some.ensures.value none.1 now;
-      rooms = c.in_ok-search.ensures.rooms ∙ c.loop-value.invariant.rooms;
+      rooms = c.in_ok-search.ensures.same ∙ c.loop-value.invariant.rooms;
       dead = dead_learnt (length old + left) (left - 1) c.len-place.result passes c.search.new.reason old
           c.push.new.self.items value c.search.new.dead c.learn.new.self push
           (sym (pushed_count left (left - 1) old c.push.new.self.items value (omega arith) push))
