@@ -8,14 +8,14 @@ ghost use Rattle.ent_protocol.specs.Finish.{stepped, variable_of, with_bound};
 ghost use Rattle.ent_semantics.specs.declared.answer.Answer.TheVariants as answers;
 
 use ent_closed::Statement;
-use ent_eval::rows_copy;
 use ent_group::Tx;
 use ent_job::Single;
 use ent_members::Run;
 use ent_rel::Delta;
 use ent_semantics::Answer;
 use ent_tables::StoredTables;
-use ent_value::{Name, Row, Value};
+use ent_tree::Duplicate;
+use ent_value::{Name, Row, Sequence, Value};
 use std::alloc::{AllocError, Global};
 
 /// What a statement binds to a value: the host variable of a SET, and else nothing.
@@ -35,13 +35,18 @@ fn bound_by(
 
 /// The member of a number takes the rows of its SELECT, and is at the next statement. Where memory runs out nothing
 /// changes.
-pub(crate) fn show(alloc: Global, run: &mut Run, tx: Tx, rows: &[Row]) -> Result<(), AllocError>
+pub(crate) fn show(
+    alloc: Global,
+    run: &mut Run,
+    tx: Tx,
+    rows: &Sequence<Row>,
+) -> Result<(), AllocError>
     requires { IsSome (found run.old.active tx) }
     ensures ok { OnOk result (Changes (stepped (answers.Rows rows.now)) tx run.old.active run.new.active) }
     ensures prepared { run.new.prepared ≡ run.old.prepared }
     ensures err { OnErr result (run.new ≡ run.old) }
 {
-    let answer = Answer::Rows(rows_copy(alloc, rows)?);
+    let answer = Answer::Rows(rows.copy(alloc)?);
     run.step(tx, answer)
 }
 

@@ -1,8 +1,8 @@
 //! Copies of answers.
 ghost use Rattle.std.specs.Prelude.{◌≡◌, IfOk};
 
-use ent_eval::rows_copy;
 use ent_semantics::{Answer, Fact};
+use ent_tree::Duplicate;
 use ent_value::Sequence;
 use std::alloc::{AllocError, Global};
 
@@ -30,7 +30,7 @@ fn answer_copy(alloc: Global, answer: &Answer) -> Result<Answer, AllocError>
     match answer {
         Answer::Count(count) => Ok(Answer::Count(*count)),
         Answer::Value(value) => Ok(Answer::Value(value.copy(alloc)?)),
-        Answer::Rows(rows) => Ok(Answer::Rows(rows_copy(alloc, rows.as_slice())?)),
+        Answer::Rows(rows) => Ok(Answer::Rows(rows.copy(alloc)?)),
         Answer::Heads(heads) => Ok(Answer::Heads(facts_copy(alloc, heads.as_slice())?)),
     }
 }

@@ -93,7 +93,7 @@ fn advance(
     ensures err { OnErr result ((run.new ≡ run.old) × (tables.new ≡ tables.old)) }
 {
     match outcome {
-        Outcome::Rows(rows) => Ok(show(alloc, run, single.tx(), rows.as_slice())?),
+        Outcome::Rows(rows) => Ok(show(alloc, run, single.tx(), rows)?),
         Outcome::Value(value) => Ok(bind(alloc, run, single, value)?),
         Outcome::Changed { count, delta } => {
             Ok(change(alloc, run, tables, single, *count, delta)?)

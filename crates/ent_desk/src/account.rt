@@ -10,7 +10,6 @@ ghost use Rattle.ent_protocol.specs.Reached.{scripts_of};
 ghost use Rattle.ent_semantics.specs.declared.book.Fate.TheVariants.{Committed};
 ghost use Rattle.std.specs.List.{AllByRecursion};
 
-use crate::alike::{Alike, are_alike};
 use crate::naming::Naming;
 use crate::session::Session;
 use crate::ticket::{First, Receipt, Ticket};
@@ -24,7 +23,7 @@ fn is_first(first: &Option<First>, opening: &Opening, count: usize) -> bool
     ensures { result ≡ true → first.now ≡ Some (first_over opening.now count) }
 {
     match first {
-        Some(first) => first.count == count && first.opening.is_alike(opening),
+        Some(first) => first.count == count && first.opening.is_same(opening),
         None => false,
     }
 }
@@ -67,7 +66,7 @@ fn has_receipt(receipts: &[Receipt], number: u64, entry: &Entry, runs: u64) -> b
             receipt.number == number
                 && receipt.tx == entry.tx
                 && receipt.runs == runs
-                && are_alike(receipt.answers.as_slice(), entry.answers.as_slice())
+                && receipt.answers.is_same(&entry.answers)
         }
         None => false,
     }

@@ -8,7 +8,6 @@
 #![tactic(auto)]
 
 mod account;
-mod alike;
 mod audit;
 mod closing;
 mod desk;

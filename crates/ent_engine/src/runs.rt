@@ -10,8 +10,9 @@ ghost use Rattle.ent_semantics.specs.Book.{IsLegal};
 
 use crate::fault::RunFault;
 use ent_book::NamedTable;
+use ent_desk::core_over;
 use ent_form::FormFault;
-use ent_sched::{Core, Counted, Played, Watcher, run_all_watched};
+use ent_sched::{Core, Counted, Watcher, run_all_watched};
 use ent_semantics::Book;
 use ent_termination::events_lead_on;
 use ent_tree::Input;
@@ -25,11 +26,8 @@ pub fn submit_all(alloc: Global, input: Input) -> Result<Core, RunFault>
     ensures formed { IfOk result (λ core. input_fault input.opening input.scripts ≡ None) }
     ensures refused { IfErr result (λ fault. IsRefusedForForm input fault) }
 {
-    match Core::play(alloc, input, Sequence::new(alloc)) {
-        Ok(Played { core, .. }) => {
-            core.is_reached();
-            Ok(core)
-        }
+    match core_over(alloc, input) {
+        Ok(core) => Ok(core),
         Err(Refusal::Memory) => Err(RunFault::Memory),
         Err(Refusal::Fault(fault)) => Err(RunFault::Form(fault)),
     }

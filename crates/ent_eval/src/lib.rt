@@ -20,4 +20,4 @@ pub use done::{Done, NotDone, evaluate};
 pub use ent_job::{Job, Single, Work};
 pub use evaluation::statement_outcome;
 pub use law::{components_stand_alone, lent_tables_stand};
-pub use outcome::{JobOutcome, Outcome, rows_copy};
+pub use outcome::{JobOutcome, Outcome};

@@ -26,7 +26,7 @@ impl Outcome {
         ensures { IfOk result (λ copy. copy ≡ self.now) }
     {
         match self {
-            Outcome::Rows(rows) => Ok(Outcome::Rows(rows_copy(alloc, rows.as_slice())?)),
+            Outcome::Rows(rows) => Ok(Outcome::Rows(rows.copy(alloc)?)),
             Outcome::Changed { count, delta } => Ok(Outcome::Changed {
                 count: *count,
                 delta: delta.copy(alloc)?,
@@ -50,17 +50,6 @@ impl Outcome {
             Outcome::Fault(_failure) => None,
         }
     }
-}
-
-/// The same rows.
-pub fn rows_copy(alloc: Global, rows: &[Row]) -> Result<Sequence<Row>, AllocError>
-    ensures { IfOk result (λ copies. copies ≡ rows.now) }
-{
-    let mut copies = Vec::with_capacity(alloc, rows.len())?;
-    for row in rows {
-        copies.push(row.copy(alloc)?)?;
-    }
-    Ok(Sequence::from_vec(copies))
 }
 
 /// What a job comes to.

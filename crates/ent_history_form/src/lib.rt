@@ -1,5 +1,5 @@
 //! The form of a report of version 2: which line can stand below those that stand above it, and where a text can end.
 //!
-//! These are definitions, said section by section, and laws of them: functions without a body, whose contracts say what
-//! holds of every text.
+//! These are definitions, said section by section. The crate has no function: laws of the definitions stand in crates
+//! above it.
 #![tactic(auto)]

@@ -9,10 +9,10 @@ use crate::keyed::{columns_of, term_slot};
 use crate::made::{Made, index_for};
 use ent_closed::{Membership, Term};
 use ent_match::Posted;
-use ent_plan::Slot;
+use ent_plan::{JoinPlan, Slot};
 use ent_rel::NumberedTable;
 use ent_tree::Test;
-use ent_value::{Kind, Sequence, Value};
+use ent_value::{Sequence, Value};
 use std::alloc::{AllocError, Global};
 
 /// The index of the values under which a tuple is a row of its sub-select's result.
@@ -138,29 +138,19 @@ fn push_all_tests(
     Ok(())
 }
 
-fn kinds_copy(alloc: Global, kinds: &[Kind]) -> Result<Sequence<Kind>, AllocError>
-    ensures { IfOk result (λ copy. copy ≡ kinds.now) }
-{
-    let mut copy = Sequence::new(alloc);
-    for kind in kinds {
-        copy.push(*kind)?;
-    }
-    Ok(copy)
-}
-
-/// What statements ask whose written variables have these slots, the classes having these kinds.
+/// What the statements of a plan ask over tables, which are those of [`JoinPlan::tables`], in that order.
 pub(crate) fn frame_of(
     alloc: Global,
+    plan: &JoinPlan,
     tables: &[NumberedTable],
-    members: &[Posted],
-    slots: &[Sequence<Slot>],
-    kinds: &[Kind],
 ) -> Result<Frame, AllocError>
     ensures indexes { IfOk result (λ frame. frame.indexes
-        ≡ all_indexes tables.now (all_tests members.now slots.now) members.now slots.now) }
-    ensures tests { IfOk result (λ frame. frame.tests ≡ all_tests members.now slots.now) }
-    ensures kinds { IfOk result (λ frame. frame.kinds ≡ kinds.now) }
+        ≡ all_indexes tables.now (all_tests plan.now.members plan.now.slots) plan.now.members plan.now.slots) }
+    ensures tests { IfOk result (λ frame. frame.tests ≡ all_tests plan.now.members plan.now.slots) }
+    ensures kinds { IfOk result (λ frame. frame.kinds ≡ plan.now.kinds) }
 {
+    let members = plan.members();
+    let slots = plan.slots();
     let mut tests = Vec::new(alloc);
     push_all_tests(alloc, members, slots, &mut tests)?;
     let mut made = Vec::new(alloc);
@@ -174,9 +164,10 @@ pub(crate) fn frame_of(
         slots,
         &mut indexes,
     )?;
+    let kinds = Vec::from_slice(alloc, plan.kinds())?;
     Ok(Frame {
         indexes: Sequence::from_vec(indexes),
         tests: Sequence::from_vec(tests),
-        kinds: kinds_copy(alloc, kinds)?,
+        kinds: Sequence::from_vec(kinds),
     })
 }

@@ -125,12 +125,12 @@ fn counted_choice(
 {
     plan_has_the_choices();
     plan_keeps_the_order();
-    let members = plan.members();
-    let frame = frame_of(alloc, tables, members, plan.slots(), plan.kinds())?;
+    let kinds = plan.kinds();
+    let frame = frame_of(alloc, plan, tables)?;
     if frame.has_empty_domain() {
         return Ok(None);
     }
-    match least(alloc, &frame, plan.kinds().len(), ticks)? {
+    match least(alloc, &frame, kinds.len(), ticks)? {
         None => Ok(None),
         Some(values) => Ok(Some(valuations(alloc, values.values(), plan.slots())?)),
     }

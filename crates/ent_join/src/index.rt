@@ -11,6 +11,7 @@ ghost use Rattle.ent_join.specs.Reason.{AreMarkedIn, IsMarked};
 
 use crate::cursor::Cursor;
 use crate::reason::mark_each;
+use ent_tree::Duplicate;
 use ent_value::{Row, Sequence, Value};
 use std::alloc::{AllocError, Global};
 use std::cmp::Ordering;
@@ -53,7 +54,7 @@ impl Index {
     pub(crate) fn shared(&self, alloc: Global) -> Result<Index, AllocError>
         ensures { IfOk result (λ shared. shared ≡ self.now) }
     {
-        let classes = numbers_copy(alloc, self.classes.as_slice())?;
+        let classes = self.classes.copy(alloc)?;
         let rows = self.rows.clone()?;
         Ok(Index { classes, rows })
     }
@@ -124,13 +125,6 @@ impl Index {
     {
         rows_between(beginning, self.classes.as_slice(), self.rows.as_slice())
     }
-}
-
-fn numbers_copy(alloc: Global, numbers: &[usize]) -> Result<Sequence<usize>, AllocError>
-    ensures { IfOk result (λ copy. copy ≡ numbers.now) }
-{
-    let copy = Vec::from_slice(alloc, numbers)?;
-    Ok(Sequence::from_vec(copy))
 }
 
 fn column_of(class: usize, classes: &[usize]) -> Option<usize>

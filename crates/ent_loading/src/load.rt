@@ -56,7 +56,7 @@ fn load_table(
     // A law: the rows have the kinds of the table's columns.
     opening_tables_are_kinded();
     // Asked for its bound alone: an input has no more opening rows than a table may have.
-    let _ = opening.rows.len();
+    let _count = opening.rows.len();
     let kinds = kinds_of(alloc, schema.columns.as_slice())?;
     let rows = opening_rows(alloc, catalogue, number, opening)?;
     match Table::load(alloc, kinds, rows) {

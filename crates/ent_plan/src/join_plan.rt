@@ -110,12 +110,12 @@ fn slots_of(alloc: Global, members: &[Posted]) -> Result<Option<Slots>, AllocErr
     ensures { IfOk result (λ found. MatchOption found (HaveNoPlan members.now)
         (λ some. IsPlan (record { members = members.now; slots = some.slots.items; kinds = some.kinds.items }))) }
 {
-    let kinds = kinds_of(alloc, members)?;
-    let Some(unifier) = unifier_of(alloc, members, kinds.as_slice())? else {
+    let variable_kinds = kinds_of(alloc, members)?;
+    let Some(unifier) = unifier_of(alloc, members, variable_kinds.as_slice())? else {
         return Ok(None);
     };
     let mut classes = Vec::new(alloc);
-    let slots = rows_of(alloc, &mut classes, &unifier, kinds.as_slice())?;
+    let slots = rows_of(alloc, &mut classes, &unifier, variable_kinds.as_slice())?;
     let kinds = class_kinds(alloc, classes.as_slice())?;
     Ok(Some(Slots { slots, kinds }))
 }

@@ -248,7 +248,7 @@ impl Table {
         ensures limit { set.len self.now.rows ≤ MOST_ROWS }
     {
         // Asked for its bound alone.
-        let _ = self.len();
+        let _count = self.len();
         matches(alloc, self.look_up(alloc, values)?, test)
     }
 

@@ -1,4 +1,5 @@
 //! What statements answer.
+use ent_tree::Same;
 use ent_value::{Name, Row, Sequence, Value};
 
 /// A row of an answer relation.
@@ -48,4 +49,33 @@ pub enum Failure {
     Overflow,
     /// More rows than [`ent_value::MOST_ROWS`] would stand in a table.
     TableFull,
+}
+
+impl Same for Fact {
+    fn is_same(&self, other: &Fact) -> bool {
+        self.relation.is_same(&other.relation) && self.values.is_same(&other.values)
+    }
+}
+
+impl Same for Answer {
+    fn is_same(&self, other: &Answer) -> bool {
+        match self {
+            Answer::Count(mine) => match other {
+                Answer::Count(theirs) => mine == theirs,
+                _ => false,
+            },
+            Answer::Value(mine) => match other {
+                Answer::Value(theirs) => mine == theirs,
+                _ => false,
+            },
+            Answer::Rows(mine) => match other {
+                Answer::Rows(theirs) => mine.is_same(theirs),
+                _ => false,
+            },
+            Answer::Heads(mine) => match other {
+                Answer::Heads(theirs) => mine.is_same(theirs),
+                _ => false,
+            },
+        }
+    }
 }

@@ -4,6 +4,7 @@ ghost use Rattle.std.specs.Prelude.{◌≡◌, IfOk, map};
 use crate::duplicate::Duplicate;
 use crate::limits::{MOST_OPENING_ROWS, MOST_PARTS, MOST_TABLES};
 use crate::operand::{Identifier, Literal};
+use crate::same::Same;
 use ent_value::{Kind, Limited, Row};
 use std::alloc::{AllocError, Global};
 
@@ -93,5 +94,31 @@ impl Duplicate for Opening {
             tables: self.tables.copy(alloc)?,
             rows: self.rows.copy(alloc)?,
         })
+    }
+}
+
+impl Same for Column {
+    fn is_same(&self, other: &Column) -> bool {
+        self.name.is_same(&other.name) && self.kind == other.kind
+    }
+}
+
+impl Same for Create {
+    fn is_same(&self, other: &Create) -> bool {
+        self.name.is_same(&other.name) && self.columns.is_same(&other.columns)
+    }
+}
+
+impl Same for OpeningRow {
+    fn is_same(&self, other: &OpeningRow) -> bool {
+        self.table.is_same(&other.table)
+            && self.place == other.place
+            && self.values.is_same(&other.values)
+    }
+}
+
+impl Same for Opening {
+    fn is_same(&self, other: &Opening) -> bool {
+        self.tables.is_same(&other.tables) && self.rows.is_same(&other.rows)
     }
 }

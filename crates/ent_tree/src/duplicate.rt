@@ -1,7 +1,7 @@
 //! Copies.
 ghost use Rattle.std.specs.Prelude.{◌≡◌, IfOk};
 
-use ent_value::{Kind, Limited, Sequence, Value};
+use ent_value::{Kind, Limited, Row, Sequence, Value};
 use std::alloc::{AllocError, Global};
 
 /// A part of a tree, of which a copy can be made.
@@ -26,6 +26,12 @@ impl Duplicate for Kind {
 impl Duplicate for Value {
     fn copy(&self, alloc: Global) -> Result<Self, AllocError> {
         Value::copy(self, alloc)
+    }
+}
+
+impl Duplicate for Row {
+    fn copy(&self, alloc: Global) -> Result<Self, AllocError> {
+        Row::copy(self, alloc)
     }
 }
 

@@ -1,7 +1,7 @@
 //! Equality.
 ghost use Rattle.std.specs.Prelude.{◌≡◌, ◌↔◌, IsTrue};
 
-use ent_value::{Kind, Limited, Name, Sequence, Value};
+use ent_value::{Kind, Limited, Name, Row, Sequence, Value};
 
 /// A part of a tree that can be compared with another.
 pub trait Same {
@@ -31,6 +31,12 @@ impl Same for Name {
 impl Same for Value {
     fn is_same(&self, other: &Value) -> bool {
         self == other
+    }
+}
+
+impl Same for Row {
+    fn is_same(&self, other: &Row) -> bool {
+        are_same(self.values(), other.values())
     }
 }
 

@@ -69,7 +69,7 @@ impl<'a> Side<'a> {
 fn bytes_are_bytes(bytes: &[u8])
     ensures { AllByRecursion (λ byte. byte < 256) bytes.now }
 {
-    let _ = bytes.len();
+    let _count = bytes.len();
 }
 
 /// A value that stands anywhere is within the bounds of its kind.

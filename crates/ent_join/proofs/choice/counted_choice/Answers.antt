@@ -2,7 +2,6 @@ use Rattle.std.proofs.Common.{◌≡◌, ◌<◌, ◌∙◌, true, false, length
 use Rattle.std.specs.Prelude.{is_some}
 use Rattle.ent_coordination.specs.Choice.{IsLeastChoice}
 use Rattle.ent_plan.specs.Plan.{slot_value, spread}
-use Rattle.ent_join.specs.Asked.{all_indexes, all_tests}
 use Rattle.ent_join.specs.Frame.{candidates_of, lets_through}
 use Rattle.ent_join.specs.Search.{AreTicks, IsGuide}
 use Rattle.ent_join.proofs.Empty.{none_passes}
@@ -15,114 +14,79 @@ least-requires c =
     let plan = c.args.plan.now in
     let tables = c.args.tables.now in
     let frame = c.in_ok-frame.frame in
-    let indexes : frame.indexes ≡ all_indexes tables (all_tests plan.members plan.slots)
-    plan.members plan.slots =
-    c.in_ok-frame.ensures.indexes
-    ∙ (λ i. all_indexes tables (all_tests (c.members-members.ensures.members i) (c.slots.ensures.slots i))
-    (c.members-members.ensures.members i) (c.slots.ensures.slots i)) in
-    let tests : frame.tests ≡ all_tests plan.members plan.slots =
-    c.in_ok-frame.ensures.tests ∙ (λ i. all_tests (c.members-members.ensures.members i) (c.slots.ensures.slots i)) in
-    subst (λ n. IsGuide n (candidates_of frame) (lets_through frame)) (sym (ap length c.kinds-2.ensures.kinds))
-    (guides plan c.members-members.ensures.plan tables frame indexes tests
-    (c.in_ok-frame.ensures.kinds ∙ c.kinds.ensures.kinds) c.requires)
+    let framed = c.in_ok-frame.ensures in
+    subst (λ n. IsGuide n (candidates_of frame) (lets_through frame)) (sym (ap length c.kinds-kinds.ensures.kinds))
+    (guides plan c.kinds-kinds.ensures.plan tables frame framed.indexes framed.tests framed.kinds
+    c.requires)
 
 pub returns-then-has_empty_domain-clause-choice : goal.returns-then-has_empty_domain-clause-choice
 returns-then-has_empty_domain-clause-choice c = λ laid are.
     let plan = c.args.plan.now in
-    let is = c.members-members.ensures.plan in
+    let is = c.kinds-kinds.ensures.plan in
     let tables = c.args.tables.now in
     let frame = c.in_ok-frame.frame in
-    let indexes : frame.indexes ≡ all_indexes tables (all_tests plan.members plan.slots)
-    plan.members plan.slots =
-    c.in_ok-frame.ensures.indexes
-    ∙ (λ i. all_indexes tables (all_tests (c.members-members.ensures.members i) (c.slots.ensures.slots i))
-    (c.members-members.ensures.members i) (c.slots.ensures.slots i)) in
-    let tests : frame.tests ≡ all_tests plan.members plan.slots =
-    c.in_ok-frame.ensures.tests ∙ (λ i. all_tests (c.members-members.ensures.members i) (c.slots.ensures.slots i)) in
-    let of_kinds : frame.kinds ≡ plan.kinds = c.in_ok-frame.ensures.kinds ∙ c.kinds.ensures.kinds in
+    let framed = c.in_ok-frame.ensures in
     let empty = c.has_empty_domain.ensures c.if-has_empty_domain.true in
-    none_chosen plan is tables frame indexes tests of_kinds laid are
+    none_chosen plan is tables frame framed.indexes framed.tests framed.kinds laid are
     (λ groundings. c.plan_has_the_choices.ensures laid plan groundings is)
     (λ others values w v. c.plan_keeps_the_order.ensures plan others values is w v)
-    (none_passes (length plan.kinds) empty.0 frame (subst (λ n. empty.0 < n) (ap length of_kinds) empty.1) empty.2)
+    (none_passes (length plan.kinds) empty.0 frame (subst (λ n. empty.0 < n) (ap length framed.kinds) empty.1) empty.2)
 
 pub returns-in-None-clause-choice : goal.returns-in-None-clause-choice
 returns-in-None-clause-choice c = λ laid are.
     let plan = c.args.plan.now in
-    let is = c.members-members.ensures.plan in
+    let is = c.kinds-kinds.ensures.plan in
     let tables = c.args.tables.now in
     let frame = c.in_ok-frame.frame in
-    let indexes : frame.indexes ≡ all_indexes tables (all_tests plan.members plan.slots)
-    plan.members plan.slots =
-    c.in_ok-frame.ensures.indexes
-    ∙ (λ i. all_indexes tables (all_tests (c.members-members.ensures.members i) (c.slots.ensures.slots i))
-    (c.members-members.ensures.members i) (c.slots.ensures.slots i)) in
-    let tests : frame.tests ≡ all_tests plan.members plan.slots =
-    c.in_ok-frame.ensures.tests ∙ (λ i. all_tests (c.members-members.ensures.members i) (c.slots.ensures.slots i)) in
-    none_chosen plan is tables frame indexes tests (c.in_ok-frame.ensures.kinds ∙ c.kinds.ensures.kinds) laid are
+    let framed = c.in_ok-frame.ensures in
+    none_chosen plan is tables frame framed.indexes framed.tests framed.kinds laid are
     (λ groundings. c.plan_has_the_choices.ensures laid plan groundings is)
     (λ others values w v. c.plan_keeps_the_order.ensures plan others values is w v)
-    (none_found (length c.kinds-2.result.now) (length plan.kinds) (lets_through frame) c.in_ok-least.field-0
-    (ap length c.kinds-2.ensures.kinds) c.in-None.is c.in_ok-least.ensures.least)
+    (none_found (length c.kinds-kinds.result.now) (length plan.kinds) (lets_through frame) c.in_ok-least.field-0
+    (ap length c.kinds-kinds.ensures.kinds) c.in-None.is c.in_ok-least.ensures.least)
 
 pub returns-clause-choice : goal.returns-clause-choice
 returns-clause-choice c = λ laid are.
     let plan = c.args.plan.now in
-    let is = c.members-members.ensures.plan in
+    let is = c.kinds-kinds.ensures.plan in
     let tables = c.args.tables.now in
     let frame = c.in_ok-frame.frame in
-    let indexes : frame.indexes ≡ all_indexes tables (all_tests plan.members plan.slots)
-    plan.members plan.slots =
-    c.in_ok-frame.ensures.indexes
-    ∙ (λ i. all_indexes tables (all_tests (c.members-members.ensures.members i) (c.slots.ensures.slots i))
-    (c.members-members.ensures.members i) (c.slots.ensures.slots i)) in
-    let tests : frame.tests ≡ all_tests plan.members plan.slots =
-    c.in_ok-frame.ensures.tests ∙ (λ i. all_tests (c.members-members.ensures.members i) (c.slots.ensures.slots i)) in
+    let framed = c.in_ok-frame.ensures in
     let values = c.in-Some.values in
     let made : c.in_ok-valuations-in-Some.field-0 ≡ spread plan values =
     c.in_ok-valuations-in-Some.ensures
     ∙ (λ i. map (map (slot_value (c.values.ensures i))) (c.slots-in-Some.ensures.slots i)) in
     subst (IsLeastChoice laid plan.members) (sym made)
-    (chosen plan is tables frame indexes tests (c.in_ok-frame.ensures.kinds ∙ c.kinds.ensures.kinds) laid are
+    (chosen plan is tables frame framed.indexes framed.tests framed.kinds laid are
     (λ groundings. c.plan_has_the_choices.ensures laid plan groundings is)
     (λ others values w v. c.plan_keeps_the_order.ensures plan others values is w v) values
-    (least_found (length c.kinds-2.result.now) (length plan.kinds) (lets_through frame) c.in_ok-least.field-0 values
-    (ap length c.kinds-2.ensures.kinds) c.in-Some.is c.in_ok-least.ensures.least))
+    (least_found (length c.kinds-kinds.result.now) (length plan.kinds) (lets_through frame) c.in_ok-least.field-0 values
+    (ap length c.kinds-kinds.ensures.kinds) c.in-Some.is c.in_ok-least.ensures.least))
 
 pub returns-in-None-clause-ticks : goal.returns-in-None-clause-ticks
 returns-in-None-clause-ticks c = λ laid member are alone asks.
     let plan = c.args.plan.now in
-    let is = c.members-members.ensures.plan in
+    let is = c.kinds-kinds.ensures.plan in
     let tables = c.args.tables.now in
     let frame = c.in_ok-frame.frame in
-    let indexes : frame.indexes ≡ all_indexes tables (all_tests plan.members plan.slots)
-    plan.members plan.slots =
-    c.in_ok-frame.ensures.indexes
-    ∙ (λ i. all_indexes tables (all_tests (c.members-members.ensures.members i) (c.slots.ensures.slots i))
-    (c.members-members.ensures.members i) (c.slots.ensures.slots i)) in
-    let tests : frame.tests ≡ all_tests plan.members plan.slots =
-    c.in_ok-frame.ensures.tests ∙ (λ i. all_tests (c.members-members.ensures.members i) (c.slots.ensures.slots i)) in
-    row_ticks plan is tables frame indexes tests (c.in_ok-frame.ensures.kinds ∙ c.kinds.ensures.kinds) laid are
-    c.requires member alone asks (length c.kinds-2.result.now) c.args.ticks.now c.least.new.ticks false
-    (ap length c.kinds-2.ensures.kinds)
-    (λ ends. subst (λ found. AreTicks (length c.kinds-2.result.now) c.args.ticks.now c.least.new.ticks (is_some found))
+    let framed = c.in_ok-frame.ensures in
+    row_ticks plan is tables frame framed.indexes framed.tests framed.kinds laid are c.requires
+    member alone asks (length c.kinds-kinds.result.now) c.args.ticks.now c.least.new.ticks false
+    (ap length c.kinds-kinds.ensures.kinds)
+    (λ ends. subst
+    (λ found. AreTicks (length c.kinds-kinds.result.now) c.args.ticks.now c.least.new.ticks (is_some found))
     c.in-None.is (c.in_ok-least.ensures.ticks ends))
 
 pub returns-clause-ticks : goal.returns-clause-ticks
 returns-clause-ticks c = λ laid member are alone asks.
     let plan = c.args.plan.now in
-    let is = c.members-members.ensures.plan in
+    let is = c.kinds-kinds.ensures.plan in
     let tables = c.args.tables.now in
     let frame = c.in_ok-frame.frame in
-    let indexes : frame.indexes ≡ all_indexes tables (all_tests plan.members plan.slots)
-    plan.members plan.slots =
-    c.in_ok-frame.ensures.indexes
-    ∙ (λ i. all_indexes tables (all_tests (c.members-members.ensures.members i) (c.slots.ensures.slots i))
-    (c.members-members.ensures.members i) (c.slots.ensures.slots i)) in
-    let tests : frame.tests ≡ all_tests plan.members plan.slots =
-    c.in_ok-frame.ensures.tests ∙ (λ i. all_tests (c.members-members.ensures.members i) (c.slots.ensures.slots i)) in
-    row_ticks plan is tables frame indexes tests (c.in_ok-frame.ensures.kinds ∙ c.kinds.ensures.kinds) laid are
-    c.requires member alone asks (length c.kinds-2.result.now) c.args.ticks.now c.least.new.ticks true
-    (ap length c.kinds-2.ensures.kinds)
-    (λ ends. subst (λ found. AreTicks (length c.kinds-2.result.now) c.args.ticks.now c.least.new.ticks (is_some found))
+    let framed = c.in_ok-frame.ensures in
+    row_ticks plan is tables frame framed.indexes framed.tests framed.kinds laid are c.requires
+    member alone asks (length c.kinds-kinds.result.now) c.args.ticks.now c.least.new.ticks true
+    (ap length c.kinds-kinds.ensures.kinds)
+    (λ ends. subst
+    (λ found. AreTicks (length c.kinds-kinds.result.now) c.args.ticks.now c.least.new.ticks (is_some found))
     c.in-Some.is (c.in_ok-least.ensures.ticks ends))

@@ -13,7 +13,7 @@ load-requires c =
 
 pub unreachable-requires : goal.unreachable-requires
 unreachable-requires c =
-    fits_always c.args.opening.now c.args.schema.now.name c.in_ok-rows.rows.items _ _ (omega (arith, c.len.ensures.len, c.len.ensures.limit))
+    fits_always c.args.opening.now c.args.schema.now.name c.in_ok-rows.rows.items _ _ (omega (arith, c.len-count.ensures.len, c.len-count.ensures.limit))
     (rows_of_table c.args.opening.now c.args.catalogue.now.tables c.args.number c.args.schema.now c.in_ok-rows.rows.items c.requires.number c.in_ok-rows.ensures)
     (full_is _ _ _ c.in-Fault.is c.in-Err.ensures.fault)
 

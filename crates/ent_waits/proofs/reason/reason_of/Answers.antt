@@ -1,9 +1,8 @@
-use Rattle.std.proofs.Common.{◌≡◌, ℕ, List, Option, refl, sym, ap, subst}
+use Rattle.std.proofs.Common.{ℕ, List, Option, refl, sym, ap, subst}
 use Rattle.std.specs.Prelude.{IfSome}
 use Rattle.std.specs.Option.{is_some}
-use Rattle.ent_protocol.specs.Member.{pool}
-use Rattle.ent_protocol.specs.Quiet.{CanMove, HasJobOut, IsUntried}
-use Rattle.ent_protocol.specs.State.{Member}
+use Rattle.ent_protocol.specs.Quiet.{CanMove, HasJobOut, IsUntried, NoneIs}
+use Rattle.ent_protocol.specs.State.{Member, State}
 use Rattle.ent_protocol.specs.Waits.{IsDeadlock}
 use Rattle.ent_waits.specs.Movers.{OnlyPostedAsk}
 use Rattle.ent_waits.specs.Quiet.{state_of}
@@ -11,118 +10,100 @@ use Rattle.ent_waits.proofs.Reasons.{in_order, in_safety, is_least, is_none, lea
 use Rattle.ent_waits.proofs.Reasons.{posted_ask}
 use Rattle.ent_waits.proofs.reason.reason_of.Goals as goal
 
+-- what is known of each state with these parts, once a test found nothing
+none_out : (c : goal.In_default) (s : State)
+    → NoneIs (HasJobOut (state_of c.args.run.now c.args.submitted.now c.args.tried.now c.args.lent.now s))
+none_out c s =
+    let here = state_of c.args.run.now c.args.submitted.now c.args.tried.now c.args.lent.now s in
+    is_none (HasJobOut here) c.in_ok-tx.field-0 c.in_default.is
+    (c.in_ok-tx.ensures here (c.requires.posted here refl refl) refl)
+
+none_moves : (c : goal.In_default-2) (s : State)
+    → NoneIs (CanMove (state_of c.args.run.now c.args.submitted.now c.args.tried.now c.args.lent.now s))
+none_moves c s =
+    let here = state_of c.args.run.now c.args.submitted.now c.args.tried.now c.args.lent.now s in
+    is_none (CanMove here) c.in_ok-tx-2.field-0 c.in_default-2.is
+    (least_of_all here c.active-active.result.now c.in_ok-tx-2.field-0 c.active-active.ensures.list
+    (c.in_ok-tx-2.ensures (record s { tried = c.args.tried.now }) (c.requires.posted here refl refl)))
+
+none_untried : (c : goal.In_default-3) (s : State)
+    → NoneIs (IsUntried (state_of c.args.run.now c.args.submitted.now c.args.tried.now c.args.lent.now s))
+none_untried c s =
+    let here = state_of c.args.run.now c.args.submitted.now c.args.tried.now c.args.lent.now s in
+    is_none (IsUntried here) c.in_ok-tx-3.field-0 c.in_default-3.is
+    (least_if_any (IsUntried here) c.in_ok-tx-3.field-0
+    (c.in_ok-tx-3.ensures here (c.requires.posted here refl refl) refl))
+
 pub job_out-requires-clause-by_number : goal.job_out-requires-clause-by_number
 job_out-requires-clause-by_number c =
-    let posted = c.args.posted.now in
-    let are = c.requires.posted in
-    in_order c.args.submitted.now c.args.run.now.active posted c.requires.order are
+    in_order c.args.submitted.now c.args.run.now.active c.args.posted.now c.requires.order c.requires.posted
 
 pub job_out-requires-clause-safe : goal.job_out-requires-clause-safe
 job_out-requires-clause-safe c =
-    let posted = c.args.posted.now in
-    let are = c.requires.posted in
-    in_safety c.args.submitted.now c.args.run.now.active posted c.requires.order are
+    in_safety c.args.submitted.now c.args.run.now.active c.args.posted.now c.requires.order c.requires.posted
 
 pub returns-in-Some : goal.returns-in-Some
 returns-in-Some c = λ s.
-    let posted = c.args.posted.now in
-    let are = c.requires.posted in
     let here = state_of c.args.run.now c.args.submitted.now c.args.tried.now c.args.lent.now s in
-    let same : pool here ≡ posted = are here refl refl in
-    is_least (HasJobOut here) c.in_ok-tx.field-0 c.in-Some.tx c.in-Some.is (c.in_ok-tx.ensures here same refl)
+    is_least (HasJobOut here) c.in_ok-tx.field-0 c.in-Some.tx c.in-Some.is
+    (c.in_ok-tx.ensures here (c.requires.posted here refl refl) refl)
 
 pub least_mover-requires-clause-by_number : goal.least_mover-requires-clause-by_number
 least_mover-requires-clause-by_number c =
-    let posted = c.args.posted.now in
-    let are = c.requires.posted in
-    in_order c.args.submitted.now c.args.run.now.active posted c.requires.order are
+    in_order c.args.submitted.now c.args.run.now.active c.args.posted.now c.requires.order c.requires.posted
 
 pub least_mover-requires-clause-safe : goal.least_mover-requires-clause-safe
 least_mover-requires-clause-safe c =
-    let posted = c.args.posted.now in
-    let are = c.requires.posted in
-    in_safety c.args.submitted.now c.args.run.now.active posted c.requires.order are
+    in_safety c.args.submitted.now c.args.run.now.active c.args.posted.now c.requires.order c.requires.posted
 
 pub least_mover-requires-clause-apart : goal.least_mover-requires-clause-apart
 least_mover-requires-clause-apart c =
-    let posted = c.args.posted.now in
-    let are = c.requires.posted in
-    subst (λ (members : List Member). OnlyPostedAsk posted members) (sym c.active-active.ensures.list)
-    (posted_ask c.args.submitted.now c.args.run.now.active posted c.requires.order are)
+    subst (λ (members : List Member). OnlyPostedAsk c.args.posted.now members) (sym c.active-active.ensures.list)
+    (posted_ask c.args.submitted.now c.args.run.now.active c.args.posted.now c.requires.order c.requires.posted)
 
 pub returns-in-Some-2 : goal.returns-in-Some-2
 returns-in-Some-2 c = λ s.
-    let posted = c.args.posted.now in
-    let are = c.requires.posted in
     let here = state_of c.args.run.now c.args.submitted.now c.args.tried.now c.args.lent.now s in
-    let same : pool here ≡ posted = are here refl refl in
-    let nothing = is_none (HasJobOut here) c.in_ok-tx.field-0 c.in_default.is
-    (c.in_ok-tx.ensures here same refl) in
     let mover = is_least (CanMove here) c.in_ok-tx-2.field-0 c.in-Some-2.tx c.in-Some-2.is
     (least_of_all here c.active-active.result.now c.in_ok-tx-2.field-0 c.active-active.ensures.list
-    (c.in_ok-tx-2.ensures (record s { tried = c.args.tried.now }) same)) in
-    (nothing, mover)
+    (c.in_ok-tx-2.ensures (record s { tried = c.args.tried.now }) (c.requires.posted here refl refl))) in
+    (none_out (goal.at.returns-in-Some-2 c).In_default s, mover)
 
 pub first_untried-requires-clause-by_number : goal.first_untried-requires-clause-by_number
 first_untried-requires-clause-by_number c =
-    let posted = c.args.posted.now in
-    let are = c.requires.posted in
-    in_order c.args.submitted.now c.args.run.now.active posted c.requires.order are
+    in_order c.args.submitted.now c.args.run.now.active c.args.posted.now c.requires.order c.requires.posted
 
 pub first_untried-requires-clause-safe : goal.first_untried-requires-clause-safe
 first_untried-requires-clause-safe c =
-    let posted = c.args.posted.now in
-    let are = c.requires.posted in
-    in_safety c.args.submitted.now c.args.run.now.active posted c.requires.order are
+    in_safety c.args.submitted.now c.args.run.now.active c.args.posted.now c.requires.order c.requires.posted
 
 pub returns-in-Some-3 : goal.returns-in-Some-3
 returns-in-Some-3 c = λ s.
-    let posted = c.args.posted.now in
-    let are = c.requires.posted in
     let here = state_of c.args.run.now c.args.submitted.now c.args.tried.now c.args.lent.now s in
-    let same : pool here ≡ posted = are here refl refl in
-    let nothing = is_none (HasJobOut here) c.in_ok-tx.field-0 c.in_default.is
-    (c.in_ok-tx.ensures here same refl) in
-    let nobody = is_none (CanMove here) c.in_ok-tx-2.field-0 c.in_default-2.is
-    (least_of_all here c.active-active.result.now c.in_ok-tx-2.field-0 c.active-active.ensures.list
-    (c.in_ok-tx-2.ensures (record s { tried = c.args.tried.now }) same)) in
     let untried = is_least (IsUntried here) c.in_ok-tx-3.field-0 c.in-Some-3.tx c.in-Some-3.is
-    (least_if_any (IsUntried here) c.in_ok-tx-3.field-0 (c.in_ok-tx-3.ensures here same refl)) in
-    (nothing, nobody, untried)
+    (least_if_any (IsUntried here) c.in_ok-tx-3.field-0
+    (c.in_ok-tx-3.ensures here (c.requires.posted here refl refl) refl)) in (
+      none_out (goal.at.returns-in-Some-3 c).In_default s,
+      none_moves (goal.at.returns-in-Some-3 c).In_default-2 s,
+      untried,
+    )
 
 pub returns-in-Some-deadlock : goal.returns-in-Some-deadlock
 returns-in-Some-deadlock c = λ s.
-    let posted = c.args.posted.now in
-    let are = c.requires.posted in
     let here = state_of c.args.run.now c.args.submitted.now c.args.tried.now c.args.lent.now s in
-    let same : pool here ≡ posted = are here refl refl in
-    let nothing = is_none (HasJobOut here) c.in_ok-tx.field-0 c.in_default.is
-    (c.in_ok-tx.ensures here same refl) in
-    let nobody = is_none (CanMove here) c.in_ok-tx-2.field-0 c.in_default-2.is
-    (least_of_all here c.active-active.result.now c.in_ok-tx-2.field-0 c.active-active.ensures.list
-    (c.in_ok-tx-2.ensures (record s { tried = c.args.tried.now }) same)) in
-    let tried = is_none (IsUntried here) c.in_ok-tx-3.field-0 c.in_default-3.is
-    (least_if_any (IsUntried here) c.in_ok-tx-3.field-0 (c.in_ok-tx-3.ensures here same refl)) in
     let cycle = subst (λ (found : Option (List ℕ)). IfSome found (IsDeadlock here)) c.in-Some-deadlock.is
-    (c.deadlock.ensures.found (record s { tried = c.args.tried.now })) in
-    (nothing, nobody, tried, cycle)
+    (c.deadlock.ensures.found (record s { tried = c.args.tried.now })) in (
+      none_out (goal.at.returns-in-Some-deadlock c).In_default s,
+      none_moves (goal.at.returns-in-Some-deadlock c).In_default-2 s,
+      none_untried (goal.at.returns-in-Some-deadlock c).In_default-3 s,
+      cycle,
+    )
 
 pub returns-in-None : goal.returns-in-None
 returns-in-None c = λ s.
-    let posted = c.args.posted.now in
-    let are = c.requires.posted in
-    let here = state_of c.args.run.now c.args.submitted.now c.args.tried.now c.args.lent.now s in
-    let same : pool here ≡ posted = are here refl refl in
-    let nothing = is_none (HasJobOut here) c.in_ok-tx.field-0 c.in_default.is
-    (c.in_ok-tx.ensures here same refl) in
-    let nobody = is_none (CanMove here) c.in_ok-tx-2.field-0 c.in_default-2.is
-    (least_of_all here c.active-active.result.now c.in_ok-tx-2.field-0 c.active-active.ensures.list
-    (c.in_ok-tx-2.ensures (record s { tried = c.args.tried.now }) same)) in
-    let tried = is_none (IsUntried here) c.in_ok-tx-3.field-0 c.in_default-3.is
-    (least_if_any (IsUntried here) c.in_ok-tx-3.field-0 (c.in_ok-tx-3.ensures here same refl)) in
     record {
-      nothing_out = nothing;
-      nobody_moves = nobody;
-      all_tried = tried;
+      nothing_out = none_out (goal.at.returns-in-None c).In_default s;
+      nobody_moves = none_moves (goal.at.returns-in-None c).In_default-2 s;
+      all_tried = none_untried (goal.at.returns-in-None c).In_default-3 s;
       no_deadlock = c.deadlock.ensures.none (record s { tried = c.args.tried.now }) (ap is_some c.in-None.is);
     }
