@@ -3,7 +3,7 @@ use Rattle.std.proofs.Common.{◌≡◌, ◌≢◌, ◌<◌, ◌||◌, ℕ, Bool
 use Rattle.std.proofs.Common.{◌∙◌, subst, arith}
 use Rattle.std.specs.Prelude.{◌==◌, AllPairs, slice_index_or}
 use Rattle.std.specs.List.{AllByRecursion, list_any}
-use Rattle.std.proofs.lemmas.Bool.{eq-eqb, eqb-true}
+use Rattle.std.proofs.lemmas.Bool.{eqb-true}
 use Rattle.ent_set.specs.Sets as set
 use Rattle.ent_value.specs.Value.{kinds_of}
 use Rattle.ent_semantics.specs.Entangled.{Valuation}
@@ -12,6 +12,7 @@ use Rattle.ent_coordination.specs.Choice.{AreGroundings, IsChoice}
 use Rattle.ent_coordination.specs.Pool.{IsPool, Posted}
 use Rattle.ent_join.specs.Laid.{AreLaid, IsLaid, table_at}
 use Rattle.ent_join.specs.Plans.{AreKindedFor, HaveNoPlan, tables_named}
+use Rattle.ent_join.proofs.Deduped.{all_members}
 use Rattle.ent_protocol.specs.Job.{Numbered, tables_of}
 use Rattle.ent_job.specs.Work.{IsJoint}
 use Rattle.ent_eval.proofs.Used.{joint_tables}
@@ -60,19 +61,6 @@ found_laid laid (seen ∷ more) stand number there =
         (seen, refl, sym here ∙ ap (λ n. slice_index_or laid n set.empty) (eqb-true seen.table number is))
     by found false is there = found there
 
-or_true : (a b : Bool) → b ≡ true → (a || b) ≡ true
-or_true true b e = refl
-or_true false b e = e
-
--- what is so of each number that a list has is so of all of them
-all_there : (P : ℕ → Type 0) (numbers : List ℕ) → ((n : ℕ) → list_any (λ m. m == n) numbers ≡ true → P n)
-    → AllByRecursion P numbers
-all_there P [] each = tt
-all_there P (number ∷ numbers) each = (
-  each number (ap (λ b. b || list_any (λ m. m == number) numbers) (eq-eqb number number refl)),
-  all_there P numbers (λ n there. each n (or_true (number == n) (list_any (λ m. m == n) numbers) there)),
-)
-
 -- the tables of a joint job are those that its statements name, with the rows that they have in the job
 pub are_laid : (asked : List Posted) (tables : List Numbered) → IsJoint asked tables
     → AreLaid asked tables (tables_of tables)
@@ -80,5 +68,5 @@ are_laid asked tables is =
     let named : map (λ (seen : Numbered). seen.table) tables ≡ tables_named asked =
     is.used ∙ joint_tables asked in
     subst (AllByRecursion (IsLaid tables (tables_of tables))) named
-    (all_there (IsLaid tables (tables_of tables)) (map (λ (seen : Numbered). seen.table) tables)
+    (all_members (IsLaid tables (tables_of tables)) (map (λ (seen : Numbered). seen.table) tables)
     (found_laid (tables_of tables) tables is.stand))

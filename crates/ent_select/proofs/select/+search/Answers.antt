@@ -51,7 +51,7 @@ returns-in_default t c =
     λ tests. AreNarrowed tests front c.deref-in-len1-up-3.result.now.rows rows in
     let Q : Relation → Type 0 = λ table. AreNarrowed select.tests front table.rows rows in
     let are : AreNarrowed select.tests front table.rows rows =
-    subst Q c.deref-in-len1-up-3.ensures
+    subst Q (c.deref-in-len1-up-3.ensures ∙ c.table-in-len1-up.ensures)
     (subst P (c.as_slice-in-len1-up.ensures ∙ c.deref-in-len1-up-2.ensures) c.in_ok-rows-in-len1-up.ensures) in
     all_searched select.items select.tests front table.rows rows are (rows_listed (map relation_of more)) found
     c.loop-row.found.items c.loop-row.rows c.loop-row.invariant c.in_default.ensures.0
