@@ -15,9 +15,9 @@ use Rattle.ent_text.specs.declared.keyword.Keyword.TheVariants as keywords
 use Rattle.ent_text.specs.declared.symbol.Symbol.TheVariants as symbols
 use Rattle.ent_print.specs.Lexeme.{Lexeme}
 use Rattle.ent_print.specs.Reading.{CanBeRead}
-use Rattle.ent_print.specs.Spelling.{binding_spelling, comma_list, condition_spelling, each_behind, end_word}
+use Rattle.ent_print.specs.Spelling.{binding_spelling, comma_list, condition_spelling, end_word}
 use Rattle.ent_print.specs.Spelling.{entangled_item_spelling, line_spelling, relation_spelling, script_spelling}
-use Rattle.ent_print.specs.Spelling.{separated, sign, statement_spelling, term_spelling, where_clause, word}
+use Rattle.ent_print.specs.Spelling.{sign, statement_spelling, term_spelling, where_clause, word}
 use Rattle.ent_closed.specs.declared.operand.Known.{Known}
 use Rattle.ent_closed.specs.declared.statement.Statement.{Statement as Resolved}
 use Rattle.ent_closed.specs.declared.statement.Statement.TheVariants as resolved
@@ -34,7 +34,7 @@ use Rattle.ent_history_form.specs.Parts.{IsName}
 use Rattle.ent_history_form.specs.Scripts.{IsScript}
 use Rattle.ent_report_laws.specs.Tellable.{IsMemberTold}
 use Rattle.ent_lists.specs.Elements.{all_filtered, all_first, all_index, all_joined, all_second}
-use Rattle.ent_answer_laws.proofs.Read.{AreRead}
+use Rattle.ent_answer_laws.proofs.Read.{AreRead, separated_are_read}
 
 -- ---- what stands at a place
 
@@ -60,24 +60,10 @@ front_read = all_first CanBeRead
 back_read : (front behind : List Lexeme) → AreRead (front ++ behind) → AreRead behind
 back_read = all_second CanBeRead
 
-each_is_read : {A : Type 0} (separator : Lexeme) (spelling : A → List Lexeme) (xs : List A)
-    → AreRead (each_behind separator spelling xs) → AllByRecursion (λ x. AreRead (spelling x)) xs
-each_is_read separator spelling [] read = tt
-each_is_read separator spelling (x ∷ xs) read =
-    let more = each_behind separator spelling xs in
-    (front_read (spelling x) more read.1, each_is_read separator spelling xs (back_read (spelling x) more read.1))
-
-list_is_read : {A : Type 0} (separator : Lexeme) (spelling : A → List Lexeme) (xs : List A)
-    → AreRead (separated separator spelling xs) → AllByRecursion (λ x. AreRead (spelling x)) xs
-list_is_read separator spelling [] read = tt
-list_is_read separator spelling (x ∷ xs) read =
-    let more = each_behind separator spelling xs in
-    (front_read (spelling x) more read, each_is_read separator spelling xs (back_read (spelling x) more read))
-
 clause_is_read : {A : Type 0} (spelling : A → List Lexeme) (xs : List A) → AreRead (where_clause spelling xs)
     → AllByRecursion (λ x. AreRead (spelling x)) xs
 clause_is_read spelling [] read = tt
-clause_is_read spelling (x ∷ xs) read = list_is_read (word keywords.And) spelling (x ∷ xs) read.1
+clause_is_read spelling (x ∷ xs) read = separated_are_read (word keywords.And) spelling (x ∷ xs) read.1
 
 -- ---- the variables of an entangled statement
 
@@ -105,11 +91,11 @@ items_read (item ∷ items) read =
 condition_read : (condition : Condition) → AreRead (condition_spelling condition)
     → AllByRecursion IsTermRead (condition_terms condition)
 condition_read (conditions.InSelect tuple select) read =
-    list_is_read (sign symbols.Comma) term_spelling tuple.terms
+    separated_are_read (sign symbols.Comma) term_spelling tuple.terms
     (front_read (comma_list term_spelling tuple.terms) (sign symbols.Close ∷ [])
     (front_read (comma_list term_spelling tuple.terms ++ sign symbols.Close ∷ []) _ read.1))
 condition_read (conditions.InAnswer tuple relation) read =
-    list_is_read (sign symbols.Comma) term_spelling tuple.terms
+    separated_are_read (sign symbols.Comma) term_spelling tuple.terms
     (front_read (comma_list term_spelling tuple.terms) (sign symbols.Close ∷ [])
     (front_read (comma_list term_spelling tuple.terms ++ sign symbols.Close ∷ []) _ read.1))
 condition_read (conditions.Test test) read =
@@ -132,7 +118,7 @@ written_named entangled read =
     let from_found = back_read relations _ from_relations in
     let named = all_joined IsTermRead (head_terms entangled) (flat_map condition_terms entangled.conditions)
     (items_read entangled.items
-    (list_is_read (sign symbols.Comma) entangled_item_spelling entangled.items (front_read items _ read.1)))
+    (separated_are_read (sign symbols.Comma) entangled_item_spelling entangled.items (front_read items _ read.1)))
     (conditions_read entangled.conditions
     (clause_is_read condition_spelling entangled.conditions (front_read found _ from_found))) in
     firsts_named

@@ -2,15 +2,13 @@
 use Rattle.std.proofs.Common.{◌≡◌, ℕ, zero, suc, ◌+◌, ◌<◌, ◌≤◌, Bool, true, false, ◌&&◌, ◌||◌, ◌==◌, List, [], ◌∷◌}
 use Rattle.std.proofs.Common.{length, refl, sym, ap, subst, ◌∙◌, arith, is_some, slice_index_or, min}
 use Rattle.std.specs.List.{list_any}
+use Rattle.ent_lists.specs.Elements.{number_itself}
 use Rattle.ent_tree.specs.declared.script.Script.{Script}
 use Rattle.ent_semantics.specs.declared.book.Member.{Member}
 use Rattle.ent_semantics.specs.Serial.{numbered}
 use Rattle.ent_history.specs.declared.history.Told.{Told}
 use Rattle.ent_rules.specs.Account.{accounts_from, commit_number}
 use Rattle.ent_rules.specs.Joint.{is_entangled_one, is_statement_of}
-
-same : (n : ℕ) → (n == n) ≡ true
-same n = grind (arith)
 
 other : (m n : ℕ) → n < m → (m == n) ≡ false
 other m n less = grind (arith, less)
@@ -57,7 +55,7 @@ module _ (member : Member) where
   decided tx i (x ∷ xs) [] s t low low_told is = absurd (omega (arith, low_told))
   decided tx zero (x ∷ xs) (y ∷ ys) s t low low_told is =
       let n : tx ≡ member.tx = omega (arith, is) in
-      let first : (tx == member.tx) ≡ true = subst (λ k. (tx == k) ≡ true) n (same tx) in
+      let first : (tx == member.tx) ≡ true = subst (λ k. (tx == k) ≡ true) n (number_itself tx) in
       ap (λ b. (b && own x y) || list_any (is_statement_of member) (accounts_from (suc tx) xs ys)) first
       ∙ or_false (own x y) (list_any (is_statement_of member) (accounts_from (suc tx) xs ys))
       (none_later (suc tx) xs ys (omega (arith, is)))

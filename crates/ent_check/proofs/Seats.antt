@@ -8,6 +8,7 @@ use Rattle.std.specs.declared.cmp.Ordering.{Ordering}
 use Rattle.std.specs.declared.cmp.Ordering.TheVariants as orders
 use Rattle.std.proofs.lemmas.List.Folds.{find-append}
 use Rattle.std.specs.Cmp.{unsigned_tied}
+use Rattle.ent_lists.specs.Elements.{and_both}
 use Rattle.ent_semantics.specs.declared.book.Member.{Member}
 use Rattle.ent_rules.specs.Placed.{Placed, member_at, stands_at}
 use Rattle.ent_check.specs.Seats.{AreSeatsOf, place_cmp, seat_of}
@@ -26,11 +27,6 @@ at_place a b tx place =
     both (nat_cmp a tx) (nat_cmp b place)
     ∙ ap (λ x. x && is_eq (nat_cmp b place)) (same_number a tx)
     ∙ ap (λ y. (a == tx) && y) (same_number b place)
-
-and_both : (a b : Bool) → (a && b) ≡ true → (a ≡ true) × (b ≡ true)
-and_both true true is = (refl, refl)
-and_both true false is = cc (is)
-and_both false b is = cc (is)
 
 some_mapped : (o : Option Placed) → is_some (option_map seat_of o) ≡ true → is_some o ≡ true
 some_mapped (Some one) is = refl

@@ -34,6 +34,7 @@ use Rattle.ent_form.specs.declared.fault.FormFault.{FormFault}
 use Rattle.ent_form.specs.declared.script.Plain.{Plain}
 use Rattle.ent_form_laws.specs.Kinds.{AreDeclared, HasKinds, column_kinds}
 use Rattle.ent_form_laws.specs.Tables.{database_of, HaveDistinctColumns}
+use Rattle.ent_form_laws.proofs.Steps.{bound_given}
 use Rattle.ent_rules.specs.Placed.{Placed, member_at, told_operations}
 use Rattle.ent_rules.specs.Replay.{operations_findings, found_after, is_answered, later, ungrounded}
 use Rattle.ent_rules.specs.Verdict.{first_of}
@@ -47,7 +48,7 @@ use Rattle.ent_check.specs.Offers.{offer_of}
 use Rattle.ent_check.specs.declared.offer.Offer.{Offer}
 use Rattle.ent_check_run.specs.Alike.{IsAlike, answer_unless, operation_of, tree_findings, tree_meaning, tree_offers}
 use Rattle.ent_check.proofs.Numbers.{first_none, first_some}
-use Rattle.ent_check_run.proofs.Step.{bind_given, one_answer, statement_alike}
+use Rattle.ent_check_run.proofs.Step.{one_answer, statement_alike}
 
 -- ---- behind a statement
 
@@ -151,7 +152,7 @@ made_so : (schemas : List TableSchema) (more : List TreeStatement) (bound : Boun
 made_so schemas [] bound made out e =
     ([], sym (one_answer {E = FormFault} made out e) ∙ sym (append-nil made), tt)
 made_so schemas (tree ∷ more) bound made out e =
-    let w = bind_given (statement_in schemas bound tree) _ out e in
+    let w = bound_given (statement_in schemas bound tree) _ out e in
     let behind = made_so schemas more w.0.1 (made ++ w.0.0 ∷ []) out w.2 in (
       w.0.0 ∷ behind.0,
       behind.1 ∙ append_assoc made (w.0.0 ∷ []) behind.0,
@@ -161,7 +162,7 @@ made_so schemas (tree ∷ more) bound made out e =
 pub resolved_so : (schemas : List TableSchema) (script : Script) (plain : Plain)
     → script_in schemas script ≡ Ok plain → Resolves schemas none_bound script.statements plain.statements
 resolved_so schemas script plain e =
-    let w = bind_given (statements_from schemas none_bound [] script.statements) _ plain e in
+    let w = bound_given (statements_from schemas none_bound [] script.statements) _ plain e in
     let made = made_so schemas script.statements none_bound [] w.0 w.1 in
     let same : made.0 ≡ plain.statements =
     sym made.1 ∙ ap (λ (p : Plain). p.statements) (one_answer {E = FormFault} _ plain w.2) in
@@ -192,7 +193,7 @@ asks_entangled : (schemas : List TableSchema) (environment : Environment) (seat 
     → CanRun kinds (closed environment form) × HasSeat seat (closed environment form)
 unfolding statement_in
 asks_entangled schemas environment seat kinds (trees.Entangled tree) bound behind form is entangled seated =
-    let w = bind_given (entangled_in schemas bound tree) _ (form, behind) is in
+    let w = bound_given (entangled_in schemas bound tree) _ (form, behind) is in
     let P : Statement Known × Bound → Type 0 =
     λ p. CanRun kinds (closed environment p.0) × HasSeat seat (closed environment p.0) in
     subst P (one_answer {E = FormFault} (forms.Entangled w.0.0, w.0.1) (form, behind) w.2) (tt, seated)

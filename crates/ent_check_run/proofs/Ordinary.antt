@@ -25,27 +25,17 @@ use Rattle.ent_closed.specs.Kinds.{Fits, tables_named}
 use Rattle.ent_closed.specs.declared.statement.Statement.{Statement}
 use Rattle.ent_closed.specs.declared.statement.Statement.TheVariants as statements
 use Rattle.ent_eval.specs.Change.{IsApplicable}
-use Rattle.ent_eval.specs.Meant.{CanBeApplied, IsMeant, changed_number, effect_of, rows_under}
+use Rattle.ent_eval.specs.Meant.{CanBeApplied, IsMeant, changed_number, effect_of}
 use Rattle.ent_eval.specs.declared.outcome.Outcome.{Outcome}
 use Rattle.ent_eval.specs.declared.outcome.Outcome.TheVariants as outcomes
 use Rattle.ent_select.specs.Tables.{kinds_in, no_table, rows_in}
+use Rattle.ent_check.proofs.Places.{rows_of_numbers, rows_at}
 use Rattle.ent_check_run.specs.Sorts.{IsOrdinary, IsSet}
 
 -- ---- tables under their numbers
 
-rows_at : (tables : List Relation) (number : ℕ)
-    → (slice_index_or tables number no_table).rows ≡ slice_index_or (rows_in tables) number set.empty
-rows_at [] number = refl
-rows_at (table ∷ tables) zero = refl
-rows_at (table ∷ tables) (suc number) = rows_at tables number
-
 abbrev pub tables_at : List Relation → List ℕ → List Relation
 tables_at tables numbers = map (λ number. slice_index_or tables number no_table) numbers
-
-rows_of_numbers : (tables : List Relation) (numbers : List ℕ)
-    → rows_in (tables_at tables numbers) ≡ rows_under (rows_in tables) numbers
-rows_of_numbers tables [] = refl
-rows_of_numbers tables (number ∷ numbers) = λ i. rows_at tables number i ∷ rows_of_numbers tables numbers i
 
 -- ---- sorts of statements
 

@@ -34,6 +34,7 @@ use Rattle.ent_form.specs.declared.fault.FormFault.{FormFault}
 use Rattle.ent_form_laws.specs.Kinds.{AreKinded, AnswersInKind, HasKinds}
 use Rattle.ent_form_laws.specs.Tables.{database_of, effect_of, Answers, HaveDistinctColumns}
 use Rattle.ent_form_laws.proofs.Ordinary.{answers_any, in_any_kind}
+use Rattle.ent_form_laws.proofs.Steps.{bound_given}
 use Rattle.ent_rules.specs.Placed.{Placed, grounding_of, member_at}
 use Rattle.ent_rules.specs.Replay.{ground_finding, is_answered, ungrounded}
 use Rattle.ent_rules.specs.Verdict.{first_of}
@@ -53,11 +54,6 @@ SameResult x y = x ≡ y
 
 pub one_answer : {A E : Type 0} (x y : A) → SameResult {A = A} {E = E} (Ok x) (Ok y) → x ≡ y
 one_answer x y e = cc
-
-pub bind_given : {A B : Type 0} (first : Result A FormFault) (next : A → Result B FormFault) (y : B)
-    → (first >>= next) ≡ Ok y → (x : A) × (first ≡ Ok x) × (next x ≡ Ok y)
-bind_given (Ok x) next y e = (x, refl, e)
-bind_given (Err fault) next y e = cc
 
 and_first : (a b : Bool) → (a && b) ≡ true → a ≡ true
 and_first true b is = refl
@@ -336,7 +332,7 @@ pub statement_alike : (laws : Laws) (creates : List Create) → HaveDistinctColu
 unfolding statement_in
 statement_alike laws creates distinct members tx place bound after (trees.Entangled tree) form is answers tables kinded
     environment kinds seated =
-    let w = bind_given (entangled_in (schemas_of creates) bound tree) _ (form, after) is in
+    let w = bound_given (entangled_in (schemas_of creates) bound tree) _ (form, after) is in
     let one = there_is (member_at members tx place) seated in
     let P : Statement Known × Bound → Type 0 =
     λ p. IsAlike creates members tx place bound p.1 (trees.Entangled tree) (closed environment p.0) answers tables

@@ -1,6 +1,6 @@
 -- Members by number, and numbers that stand once.
 use Rattle.std.proofs.Common.{◌≡◌, ◌≢◌, ◌≤◌, ◌<◌, ◌==◌, ◌||◌, ℕ, suc, Bool, true, false, cond, List, [], ◌∷◌}
-use Rattle.std.proofs.Common.{length, map, refl, sym, ap, ◌∙◌, arith, nat_eq, nat_lt}
+use Rattle.std.proofs.Common.{map, refl, sym, ap, ◌∙◌, arith, nat_eq, nat_lt}
 use Rattle.std.specs.Prelude.{All, AllPairs}
 use Rattle.std.specs.List.{AllByRecursion, IsDistinct, filter, list_any}
 use Rattle.std.proofs.lemmas.Bool.Decides.{nat_tests}
@@ -109,19 +109,6 @@ pub all_by_number : (P : Member → Type 0) (ms : List Member) → AllByRecursio
     → AllByRecursion P (by_number tx_of ms)
 all_by_number P [] all = tt
 all_by_number P (m ∷ ms) all = all_inserted P m (by_number tx_of ms) all.0 (all_by_number P ms all.1)
-
-length_inserted : (m : Member) (ms : List Member) → length (inserted tx_of m ms) ≡ suc (length ms)
-length_inserted m [] = refl
-length_inserted m (o ∷ os) = by (nat_lt m.tx o.tx) (length_inserted m os)
-  where
-    by : (b : Bool) → length (inserted tx_of m os) ≡ suc (length os)
-        → length (cond b (m ∷ o ∷ os) (o ∷ inserted tx_of m os)) ≡ suc (suc (length os))
-    by true e = refl
-    by false e = ap suc e
-
-pub length_by_number : (ms : List Member) → length (by_number tx_of ms) ≡ length ms
-length_by_number [] = refl
-length_by_number (m ∷ ms) = length_inserted m (by_number tx_of ms) ∙ ap suc (length_by_number ms)
 
 or_swapped : (a b c : Bool) → (a || (b || c)) ≡ (b || (a || c))
 or_swapped true true c = refl

@@ -12,13 +12,12 @@ use Rattle.ent_members.specs.RunAttempts.{run_attempt_of, numbers_in, run_attemp
 use Rattle.ent_members.specs.Run.{Run, tx_of}
 use Rattle.ent_members.proofs.ByNumber.{run_attempt_numbers}
 use Rattle.ent_protocol.specs.Job.{Job, Work, One, Joint}
-use Rattle.ent_protocol.specs.Rollback.{Cause, dormant_by, fate_of, fated_by, goes_with, is_among, is_joint_of}
+use Rattle.ent_protocol.specs.Rollback.{Cause, dormant_by, fated_by, goes_with, is_among, is_joint_of}
 use Rattle.ent_protocol.specs.Rollback.{put_back, taken_out}
 use Rattle.ent_protocol.specs.State.{State, Submitted, Dormant, Member, Change, by_number, members}
 use Rattle.ent_transaction_table.specs.ByNumber.{IsNumbered}
 use Rattle.ent_transaction_table.specs.Leaving.{IsWithin, as_member}
 use Rattle.ent_transaction_table.specs.TransactionTable.{TransactionTable}
-use Rattle.ent_semantics.specs.declared.book.Fate.{Fate}
 use Rattle.ent_semantics.specs.declared.book.Fated.{Fated}
 use Rattle.ent_semantics.specs.declared.book.JointAnswer.{JointAnswer}
 use Rattle.ent_semantics.specs.Serial.{numbered}
@@ -26,24 +25,16 @@ use Rattle.ent_protocol_laws.specs.Attempts.{MayTakePart}
 use Rattle.ent_protocol_laws.specs.Standing.{StandOnce, standing}
 use Rattle.ent_protocol_laws.proofs.Times.{count_by_number, one_if, times, times_joined}
 use Rattle.ent_coordination.specs.Pool.{Posted}
+use Rattle.ent_protocol.proofs.Numbers.{waiting_tx}
+use Rattle.ent_protocol_laws.proofs.Placed.{by_number_long}
 use Rattle.ent_tables.specs.Stored.{Stored}
 use Rattle.ent_pool_laws.specs.Pooled.{IsPoolOf}
 use Rattle.ent_core.specs.Store.{IsKept}
 use Rattle.ent_core.specs.TakeOut.{MayLeave, is_joint_of_others}
 use Rattle.ent_core.proofs.Sorted.{all_by_number, among_by_number, distinct_if_apart, distinct_if_once}
-use Rattle.ent_core.proofs.Sorted.{length_by_number, once, times_filter}
+use Rattle.ent_core.proofs.Sorted.{once, times_filter}
 
 -- ---- who goes to the dormant list
-
-waiting_tx : (submitted : List Submitted) (cause : Cause) (m : Member) (own : Dormant)
-    → dormant_by submitted cause m ≡ Some own → own.tx ≡ m.tx
-waiting_tx submitted cause m own h = by (fate_of submitted cause m) refl
-  where
-    by : (f : Option Fate) → fate_of submitted cause m ≡ f → own.tx ≡ m.tx
-    by None e =
-        let k : Some (record { tx = m.tx; runs = m.attempt }) ≡ Some own = rw e at h in
-        cc
-    by (Some fate) e = let k : None ≡ Some own = rw e at h in cc
 
 abbrev waiting : List Dormant → List ℕ
 waiting dormant = map (λ own. own.tx) dormant
@@ -261,7 +252,7 @@ pub room_for : (s : State) (gone : List Member) (run_attempts : List RunAttempt)
     → length s.dormant + length s.fates + length run_attempts ≤ length s.submitted
 room_for s gone run_attempts counted is fewer =
     let long : length run_attempts ≡ length gone = ap length is ∙ length-map (by_number tx_of gone) run_attempt_of
-    ∙ length_by_number gone in
+    ∙ by_number_long gone in
     omega (arith, counted, long, fewer)
 
 pub may_leave : (s : State) (gone : List Member) → StandOnce s → AllByRecursion (MayTakePart s.submitted) gone

@@ -1,29 +1,22 @@
 -- A component of a safe pool is a component of the pool that it makes alone, and that pool is safe.
-use Rattle.std.proofs.Common.{◌≡◌, ◌<◌, ◌||◌, ℕ, zero, suc, Bool, true, false, List, [], ◌∷◌, length, refl, sym, ap}
+use Rattle.std.proofs.Common.{◌≡◌, ◌<◌, ◌||◌, ℕ, zero, suc, Bool, true, List, [], ◌∷◌, length, refl, sym, ap}
 use Rattle.std.proofs.Common.{◌∙◌}
 use Rattle.std.proofs.Common.{subst, arith, inl, inr}
 use Rattle.std.specs.Prelude.{◌↔◌, ◌==◌, Contains, Some, slice_get, slice_index_or}
 use Rattle.std.specs.List.{list_any}
-use Rattle.std.proofs.lemmas.Bool.Decides.{nat_tests}
+use Rattle.ent_lists.specs.Elements.{or_second, number_itself}
 use Rattle.ent_value.specs.declared.value.Value.{Value}
 use Rattle.ent_closed.specs.declared.entangled.Atom.{Atom}
 use Rattle.ent_coordination.specs.Component.{SetOfTransactions, IsIn, IsSupported, IsInRemainder, AreJoined}
 use Rattle.ent_coordination.specs.Component.{AreLinkedIn, AreLinked, IsComponent}
 use Rattle.ent_coordination.specs.Pool.{Posted, CanMeet, IsSafe}
 
-or_right : (a b : Bool) → b ≡ true → (a || b) ≡ true
-or_right true b is = refl
-or_right false b is = is
-
 any_at : {X : Type 0} (p : X → Bool) (xs : List X) (x : X) (k : ℕ) → k < length xs → slice_index_or xs k x ≡ x
     → p x ≡ true → list_any p xs ≡ true
 any_at p [] x k low at passes = absurd (omega (arith, low))
 any_at p (y ∷ ys) x zero low at passes = ap (λ b. b || list_any p ys) (ap p at ∙ passes)
 any_at p (y ∷ ys) x (suc k) low at passes =
-    or_right (p y) (list_any p ys) (any_at p ys x k (omega (arith, low)) at passes)
-
-same_number : (n : ℕ) → (n == n) ≡ true
-same_number n = grind (arith, nat_tests)
+    or_second (p y) (list_any p ys) (any_at p ys x k (omega (arith, low)) at passes)
 
 -- one step more
 linked_next : (n : ℕ) (pool : List Posted) (first last next : Posted) → AreLinkedIn n pool first last
@@ -40,7 +33,8 @@ module _ (pool members : List Posted) (component : IsComponent pool members) whe
 
   named : (member : Posted) → Contains members member → among member.tx ≡ true
   named member there =
-      any_at (λ (other : Posted). other.tx == member.tx) members member there.0 there.1 there.2 (same_number member.tx)
+      any_at (λ (other : Posted). other.tx == member.tx) members member there.0 there.1 there.2
+      (number_itself member.tx)
 
   -- what is joined to a member, and remains, is a member
   next_there : (last next : Posted) → Contains members last → AreJoined last next → IsInRemainder pool next

@@ -8,10 +8,11 @@ use Rattle.ent_set.specs.Sets as set
 use Rattle.ent_value.specs.Value.{kinds_of}
 use Rattle.ent_semantics.specs.Entangled.{Valuation}
 use Rattle.ent_closed.specs.Form.{Tables}
-use Rattle.ent_coordination.specs.Choice.{AreGroundings, IsChoice}
+use Rattle.ent_coordination.specs.Choice.{IsChoice}
 use Rattle.ent_coordination.specs.Pool.{IsPool, Posted}
 use Rattle.ent_join.specs.Laid.{AreLaid, IsLaid, table_at}
-use Rattle.ent_join.specs.Plans.{AreKindedFor, HaveNoPlan, tables_named}
+use Rattle.ent_join.specs.Plans.{HaveNoPlan, tables_named}
+use Rattle.ent_plan.proofs.Choices.{are_kinded}
 use Rattle.ent_join.proofs.Deduped.{all_members}
 use Rattle.ent_protocol.specs.Job.{Numbered, tables_of}
 use Rattle.ent_job.specs.Work.{IsJoint}
@@ -20,14 +21,6 @@ use Rattle.ent_eval.proofs.Used.{joint_tables}
 -- statements by number are of distinct transactions
 pub by_number : (members : List Posted) → AllPairs (λ (one other : Posted). one.tx < other.tx) members → IsPool members
 by_number members ascending = λ i j d below low. let less = ascending i j d below low in (λ same. omega arith)
-
-are_kinded : (tables : Tables) (members : List Posted) (groundings : List Valuation)
-    → AreGroundings tables members groundings → AreKindedFor members groundings
-are_kinded tables [] [] are = refl
-are_kinded tables [] (values ∷ more) are = absurd are
-are_kinded tables (member ∷ members) [] are = absurd are
-are_kinded tables (member ∷ members) (values ∷ more) are =
-    λ i. are.0.kinds i ∷ are_kinded tables members more are.1 i
 
 -- without a plan there is no choice
 pub no_choice : (tables : Tables) (members : List Posted) → HaveNoPlan members → (others : List Valuation)

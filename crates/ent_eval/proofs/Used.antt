@@ -13,6 +13,7 @@ use Rattle.std.proofs.lemmas.Bool.{eqb-true, ltb-true, ltb-false}
 use Rattle.std.proofs.lemmas.Bool.Decides.{nat_tests}
 use Rattle.std.proofs.lemmas.Cmp.{nat_cmp_total}
 use Rattle.std.proofs.lemmas.List.{map-append}
+use Rattle.ent_lists.specs.Elements.{neither}
 use Rattle.ent_set.specs.Laws.{same_set, contains-from_list, ascending-from_list, is_sorted_from}
 use Rattle.ent_set.specs.Sets as set
 use Rattle.ent_value.specs.declared.value.Value.{Value}
@@ -152,15 +153,11 @@ all_above : (n u : ℕ) (us : List ℕ) → n < u → AllByRecursion (λ m. u < 
 all_above n u [] below all = tt
 all_above n u (m ∷ us) below all = let first = all.0 in (omega arith, all_above n u us below all.1)
 
-not_either : (a b : Bool) → (a || b) ≡ false → (a ≡ false) × (b ≡ false)
-not_either true b is = absurd cc
-not_either false b is = (refl, is)
-
 insert_rises : (n : ℕ) (held : List ℕ) → list_any (λ u. n == u) held ≡ false → Rises held
     → Rises (inserted itself n held)
 insert_rises n [] new rises = (tt, tt)
 insert_rises n (u ∷ us) new rises =
-    let apart = not_either (n == u) (list_any (λ u. n == u) us) new in
+    let apart = neither (n == u) (list_any (λ u. n == u) us) new in
     by (nat_lt n u) refl apart.0 (insert_rises n us apart.1 rises.1)
   where
     by : (b : Bool) → nat_lt n u ≡ b → (n == u) ≡ false → Rises (inserted itself n us)

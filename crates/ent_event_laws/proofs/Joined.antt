@@ -70,7 +70,7 @@ labels_meet : (groups : List ℕ) (one other : ℕ) → (one ≡ other) ⊎ (In 
 labels_meet groups one other (inl same) = ap (joined_label groups) same
 labels_meet groups one other (inr h) = both_in groups one other h.0 h.1
 
--- ---- groups of those that are asked
+-- ---- groups of those that are answered
 
 module _ (s : State) (asked : List Posted) where
   abbrev group_of : Member → ℕ

@@ -3,6 +3,7 @@ use Rattle.std.proofs.Common.{◌≡◌, ℕ, List, [], ◌∷◌, ◌++◌, map
 use Rattle.std.proofs.Common.{◌∙◌, arith}
 use Rattle.std.specs.Prelude.{◌==◌}
 use Rattle.std.proofs.lemmas.List.{append-nil}
+use Rattle.ent_lists.specs.Elements.{same_number}
 use Rattle.ent_value.specs.declared.value.Kind.{Kind}
 use Rattle.ent_value.specs.declared.value.Kind.TheVariants as kinds
 use Rattle.ent_value.specs.declared.value.Value.{Value}
@@ -32,7 +33,6 @@ use Rattle.ent_form.specs.Lookup.{value_in, values_in, kind_in, expression_in}
 use Rattle.ent_form.specs.Ordinary.{row_from, insert_in, tests_in, delete_in, set_in}
 use Rattle.ent_form.specs.Scope.{table_in, table_scope}
 use Rattle.ent_form_laws.specs.Tables.{database_of, AreWide, effect_of}
-use Rattle.ent_form_laws.proofs.Grounding.{same_length}
 use Rattle.ent_form_laws.proofs.Heads.{grown}
 use Rattle.ent_form_laws.proofs.Putting.{put_at, insertion_same, deletion_same}
 use Rattle.ent_form_laws.proofs.Selecting.{where_same}
@@ -102,7 +102,7 @@ module _ (creates : List Create) (tables : Tables) (fitting : AreWide creates ta
       let rows : database_of creates tables name ≡ (table_numbered put.0).rows tables =
       here.rows ∙ ap (λ (n : ℕ). (table_numbered n).rows tables) (number ∙ sym place) in
       ap (λ values. insertion (table_named name) values (database_of creates tables) environment)
-      (sym (row_same environment bound found.0.1.columns insert.values [] row.0 (same_length _ _ kept.0) row.1))
+      (sym (row_same environment bound found.0.1.columns insert.values [] row.0 (same_number _ _ kept.0) row.1))
       ∙ insertion_same creates tables name put.0 put.2 environment (map (known_worth environment) row.0) rows
       ∙ ap (λ (n : ℕ). effect_of creates (insertion (table_numbered n) (map (known_worth environment) row.0) tables
       environment)) place

@@ -1,6 +1,6 @@
 -- What is worked out over a row is of the kind that it was looked up in.
 use Rattle.std.proofs.Common.{◌≡◌, ℕ, zero, suc, ◌+◌, true, false, List, [], ◌∷◌, ◌++◌, map, length, Option}
-use Rattle.std.proofs.Common.{Some, None, Result, Ok, refl, sym, ap, subst, ◌∙◌, arith}
+use Rattle.std.proofs.Common.{Some, Ok, refl, sym, ap, subst, ◌∙◌, arith}
 use Rattle.std.specs.Prelude.{not, slice_get, slice_set, if◌then◌else◌}
 use Rattle.std.proofs.lemmas.List.{append_assoc, length-append}
 use Rattle.std.proofs.lemmas.Simd.{map-map}
@@ -10,7 +10,6 @@ use Rattle.ent_value.specs.declared.value.Value.{Value}
 use Rattle.ent_tree.specs.declared.operand.ColumnReference.{ColumnReference}
 use Rattle.ent_tree.specs.declared.operand.Expression.{Expression}
 use Rattle.ent_tree.specs.declared.operand.Expression.TheVariants.{Single, Sum, Difference}
-use Rattle.ent_tree.specs.declared.operand.Identifier.{Identifier}
 use Rattle.ent_tree.specs.declared.operand.Operand.{Operand as TreeOperand}
 use Rattle.ent_tree.specs.declared.operand.Operand.TheVariants as operands
 use Rattle.ent_tree.specs.declared.statement.Assignment.{Assignment}
@@ -22,16 +21,16 @@ use Rattle.ent_closed.specs.declared.operand.Operand.TheVariants as resolved
 use Rattle.ent_semantics.specs.Database.{Name, Environment, same_name}
 use Rattle.ent_semantics.specs.Term.{refers_to}
 use Rattle.ent_form.specs.declared.catalogue.ColumnSchema.{ColumnSchema}
-use Rattle.ent_form.specs.declared.fault.FormFault.{FormFault}
-use Rattle.ent_form.specs.declared.fault.FormFault.TheVariants.{NoTable, NoColumn, WrongKind, Repeated}
+use Rattle.ent_form.specs.declared.fault.FormFault.TheVariants.{NoColumn, WrongKind, Repeated}
 use Rattle.ent_form.specs.Catalogue.{column_from, column_named, is_among}
 use Rattle.ent_form.specs.Kinds.{Bound, same_kind}
 use Rattle.ent_form.specs.Lookup.{value_in, operand_place, operand_in, operands_in, kind_in, expression_in}
 use Rattle.ent_form.specs.Lookup.{expression_place}
 use Rattle.ent_form.specs.Ordinary.{Image, own_from, assignment_in, assignments_from, image_in}
-use Rattle.ent_form.specs.Scope.{Visible, Scope, visible, referred_from, only_one, qualifier_in, column_in}
+use Rattle.ent_form.specs.Scope.{Visible, Scope, visible, referred_from, only_one, column_in}
 use Rattle.ent_form.specs.Steps.{there}
 use Rattle.ent_closed.specs.Kinds.{operand_kind, expression_kind}
+use Rattle.ent_form.proofs.Heads.{unqualified}
 use Rattle.ent_form_laws.specs.Kinds.{HasKinds}
 use Rattle.ent_form_laws.proofs.Known.{value_kinded}
 use Rattle.ent_form_laws.proofs.Steps.{one_answer, bound_given, demand_given, there_given, equal_kinds}
@@ -77,12 +76,6 @@ only_found : (all : List (ℕ × Kind)) (place : ℕ) (found : ℕ × Kind) → 
 only_found [] place found e = cc
 only_found (x ∷ []) place found e = ap (λ (y : ℕ × Kind). y ∷ []) (one_answer x found e)
 only_found (x ∷ y ∷ more) place found e = cc
-
-unqualified : {A : Type 0} (names : List Name) (qualifier : Option Identifier) (more : Result A FormFault) (x : A)
-    → qualifier_in names qualifier more ≡ Ok x → more ≡ Ok x
-unqualified names (Some qualifier) more x e = (demand_given (is_among names qualifier.name) (NoTable qualifier.place)
-    more x e).1
-unqualified names None more x e = e
 
 column_kinded : (scope : Scope) (reference : ColumnReference) (found : ℕ × Kind) → column_in scope reference ≡ Ok found
     → slice_get (map kind_seen scope.columns) found.0 ≡ Some found.1

@@ -1,7 +1,7 @@
 -- The values of a grounding are of the kinds that the variables are demanded in.
-use Rattle.std.proofs.Common.{◌≡◌, ℕ, zero, suc, Bool, true, false, ◌||◌, List, [], ◌∷◌, ◌++◌, length, map}
+use Rattle.std.proofs.Common.{◌≡◌, ℕ, suc, Bool, true, false, ◌||◌, List, [], ◌∷◌, ◌++◌, length, map}
 use Rattle.std.proofs.Common.{Option, Some, None, Ok, refl, sym, ap, subst, ◌∙◌, arith}
-use Rattle.std.specs.Prelude.{slice_get, slice_index_or, unwrap_or, if◌then◌else◌, ◌==◌}
+use Rattle.std.specs.Prelude.{slice_index_or, unwrap_or, if◌then◌else◌, ◌==◌}
 use Rattle.std.specs.List.{AllByRecursion, IsDistinct, list_all}
 use Rattle.std.proofs.lemmas.Bool.{and_parts, eqb-true}
 use Rattle.std.proofs.lemmas.List.{append-nil, append_assoc, map-append, length-append, length-map}
@@ -57,7 +57,7 @@ use Rattle.ent_form.specs.Scope.{Visible, Scope, sources_in, no_source}
 use Rattle.ent_form.specs.Steps.{there}
 use Rattle.ent_closed.specs.Kinds.{operand_kind}
 use Rattle.ent_form_laws.specs.Kinds.{kinds_numbered, AreKinded, HasKinds}
-use Rattle.ent_form_laws.proofs.Columns.{kind_seen, operand_kinded}
+use Rattle.ent_form_laws.proofs.Columns.{kind_seen, operand_kinded, kind_behind}
 use Rattle.ent_form_laws.proofs.Found.{sources_at, rows_kinded, sources_seen}
 use Rattle.ent_form_laws.proofs.Kept.{operand_value_kind}
 use Rattle.ent_form_laws.proofs.Noted.{OfVariable, OfVariables, OfItems, OfConditions, terms_weaker}
@@ -68,13 +68,6 @@ use Rattle.ent_form_laws.proofs.Steps.{one_answer, bound_given, demand_given, th
 
 same_heads : {A : Type 0} (x y : A) (xs ys : List A) → x ∷ xs ≡ y ∷ ys → (x ≡ y) × (xs ≡ ys)
 same_heads x y xs ys e = (cc, cc)
-
-behind : (before : List Kind) (kind : Kind) (after : List Kind) (number : ℕ) → length before ≡ number
-    → slice_get (before ++ kind ∷ after) number ≡ Some kind
-behind [] kind after zero l = refl
-behind [] kind after (suc number) l = absurd (omega arith)
-behind (first ∷ before) kind after zero l = absurd (omega arith)
-behind (first ∷ before) kind after (suc number) l = behind before kind after number (omega arith)
 
 -- what items that are of these kinds show
 items_show : (worth : Known → Value) (kinds : List Kind) (row : List Value) (all : List (Operand Known))
@@ -104,7 +97,7 @@ module _ (bound : Bound) (environment : Environment) (have : HasKinds bound envi
       omega (arith, length-append before (column.kind ∷ []))
       in
       let rest = columns_kinds (before ++ column.kind ∷ []) more (suc first) longer in
-      λ i. behind before column.kind (map kind_seen more) first l i
+      λ i. kind_behind before column.kind (map kind_seen more) first l i
       ∷ (ap (λ (kinds : List Kind). map (kind_over kinds) (columns_from (suc first) more))
       (sym (append_assoc before (column.kind ∷ []) (map kind_seen more))) ∙ rest) i
 

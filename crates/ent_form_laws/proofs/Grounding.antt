@@ -1,10 +1,10 @@
 -- The groundings of a resolved statement.
-use Rattle.std.proofs.Common.{◌≡◌, ℕ, Bool, true, false, ◌&&◌, List, [], ◌∷◌, ◌++◌, map, length, Option, Some, None, Ok}
+use Rattle.std.proofs.Common.{◌≡◌, Bool, true, false, ◌&&◌, List, [], ◌∷◌, ◌++◌, map, length, Option, Some, None, Ok}
 use Rattle.std.proofs.Common.{refl, sym, ap, ◌∙◌, arith}
 use Rattle.std.specs.Prelude.{◌==◌}
 use Rattle.std.specs.List.{list_all}
-use Rattle.std.proofs.lemmas.Bool.Decides.{nat_tests}
 use Rattle.std.proofs.lemmas.List.{append-nil}
+use Rattle.ent_lists.specs.Elements.{same_number}
 use Rattle.ent_set.specs.Sets as set
 use Rattle.ent_value.specs.declared.value.Kind.{Kind}
 use Rattle.ent_value.specs.declared.value.Value.{Value}
@@ -41,9 +41,6 @@ use Rattle.ent_form_laws.proofs.Steps.{one_answer, bound_given, demand_given}
 use Rattle.ent_form_laws.proofs.Terms.{worth, form_worth, variable_same, kind_value_same}
 use Rattle.ent_form_laws.proofs.Variables.{variables_written}
 use Rattle.ent_form_laws.proofs.Whole.{parts_of, kinds_counted}
-
-pub same_length : (m n : ℕ) → (m == n) ≡ true → m ≡ n
-same_length m n e = grind (arith, nat_tests)
 
 module _ (environment : Environment) (names : List Name) (valuation : Valuation)
     (l : length valuation ≡ length names) where
@@ -104,7 +101,7 @@ module _ (environment : Environment) (names : List Name) (valuation : Valuation)
         let found = bound_given (select_in (schemas_of creates) bound select) _ out e in
         let kept = demand_given (length tuple.terms == length found.0.1) (Arity tuple.place) _ out found.2 in
         let members = bound_given (members_from names bound [] demanded found.0.1 tuple.terms) _ out kept.1 in
-        let long : length tuple.terms ≡ length found.0.1 = same_length _ _ kept.0 in
+        let long : length tuple.terms ≡ length found.0.1 = same_number _ _ kept.0 in
         let values : map meant members.0.0 ≡ map said tuple.terms = members_same bound found.0.1 tuple.terms []
         demanded members.0 long members.1 in
         (λ i. set.contains (select_same creates tables fitting environment bound select found.0.0 found.0.1 found.1
@@ -183,7 +180,7 @@ module _ (creates : List Create) (tables : Tables) (fitting : AreWide creates ta
       (term_value environment (variable_value (variables_of tree) valuation))) tree.conditions)
       ≡ (b && (list_all (membership_holds (known_worth environment) tables valuation) form.atoms && list_all
       (holds (term_worth (known_worth environment) valuation)) form.tests))
-  counted true here = long_enough (same_length _ _ here)
+  counted true here = long_enough (same_number _ _ here)
   counted false here = refl
 
   pub grounding_same : is_grounding creates (database_of creates tables) environment tree valuation

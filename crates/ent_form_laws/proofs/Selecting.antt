@@ -1,6 +1,6 @@
 -- SELECT by the numbers of columns.
-use Rattle.std.proofs.Common.{◌≡◌, ℕ, zero, suc, ◌+◌, Bool, true, false, ◌&&◌, List, [], ◌∷◌, ◌++◌, map, length, Option}
-use Rattle.std.proofs.Common.{Some, None, Result, Ok, refl, sym, ap, ◌∙◌, subst, arith}
+use Rattle.std.proofs.Common.{◌≡◌, ℕ, zero, suc, ◌+◌, Bool, true, false, ◌&&◌, List, [], ◌∷◌, ◌++◌, map, length}
+use Rattle.std.proofs.Common.{Ok, refl, sym, ap, ◌∙◌, subst, arith}
 use Rattle.std.specs.Prelude.{slice_index_or, if◌then◌else◌}
 use Rattle.std.specs.List.{AllByRecursion, list_all}
 use Rattle.std.proofs.lemmas.List.{append-nil, append_assoc, map-append, length-append, get_or_at}
@@ -9,7 +9,6 @@ use Rattle.ent_value.specs.declared.value.Kind.{Kind}
 use Rattle.ent_value.specs.declared.value.Value.{Value}
 use Rattle.ent_tree.specs.declared.declaration.Create.{Create}
 use Rattle.ent_tree.specs.declared.operand.ColumnReference.{ColumnReference}
-use Rattle.ent_tree.specs.declared.operand.Identifier.{Identifier}
 use Rattle.ent_tree.specs.declared.operand.Operand.{Operand as TreeOperand}
 use Rattle.ent_tree.specs.declared.operand.Operand.TheVariants as operands
 use Rattle.ent_tree.specs.declared.operand.Test.{Test}
@@ -20,19 +19,19 @@ use Rattle.ent_closed.specs.declared.operand.Known.{Known}
 use Rattle.ent_closed.specs.declared.operand.Operand.{Operand}
 use Rattle.ent_closed.specs.declared.statement.Select.{Select}
 use Rattle.ent_closed.specs.Form.{Tables, known_worth, operand_worth, form_rows}
-use Rattle.ent_semantics.specs.Database.{Name, Environment}
+use Rattle.ent_semantics.specs.Database.{Environment}
 use Rattle.ent_semantics.specs.Selection.{compares, holds, meets, item_row, selection, select_rows, combinations}
 use Rattle.ent_semantics.specs.Term.{no_value, refers_to, column_value, operand_value}
-use Rattle.ent_form.specs.declared.fault.FormFault.{FormFault}
-use Rattle.ent_form.specs.declared.fault.FormFault.TheVariants.{WrongKind, NoTable}
-use Rattle.ent_form.specs.Catalogue.{schemas_of, is_among}
+use Rattle.ent_form.specs.declared.fault.FormFault.TheVariants.{WrongKind}
+use Rattle.ent_form.specs.Catalogue.{schemas_of}
 use Rattle.ent_form.specs.Kinds.{Bound, same_kind}
 use Rattle.ent_form.specs.Lookup.{value_in, operand_place, operand_in, operands_in, test_in}
 use Rattle.ent_form.specs.Ordinary.{tests_from, tests_in, Shown, with_item, items_from, columns_from, all_shown}
 use Rattle.ent_form.specs.Ordinary.{items_in}
 use Rattle.ent_form.specs.Ordinary.{select_in}
-use Rattle.ent_form.specs.Scope.{Visible, Scope, no_source, sources_in, referred_from, only_one, qualifier_in}
+use Rattle.ent_form.specs.Scope.{Visible, Scope, no_source, sources_in, referred_from, only_one}
 use Rattle.ent_form.specs.Scope.{column_in}
+use Rattle.ent_form.proofs.Heads.{unqualified}
 use Rattle.ent_form_laws.specs.Tables.{database_of, AreWide}
 use Rattle.ent_form_laws.proofs.Rows.{combinations_wide, selected_alike}
 use Rattle.ent_form_laws.proofs.Sources.{name_of, sources_seen}
@@ -98,12 +97,6 @@ one_meant : (all : List (ℕ × Kind)) (place : ℕ) (found : ℕ × Kind) → o
 one_meant [] place found e = cc
 one_meant (x ∷ []) place found e = ap (λ (y : ℕ × Kind). y ∷ []) (one_answer x found e)
 one_meant (x ∷ y ∷ more) place found e = cc
-
-unqualified : {A : Type 0} (names : List Name) (qualifier : Option Identifier) (more : Result A FormFault) (x : A)
-    → qualifier_in names qualifier more ≡ Ok x → more ≡ Ok x
-unqualified names (Some qualifier) more x e = (demand_given (is_among names qualifier.name) (NoTable qualifier.place)
-    more x e).1
-unqualified names None more x e = e
 
 column_same : (scope : Scope) (row : List Value) (reference : ColumnReference) (found : ℕ × Kind)
     → column_in scope reference ≡ Ok found

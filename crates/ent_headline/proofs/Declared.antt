@@ -1,8 +1,8 @@
 -- The tables that statements use are declared.
-use Rattle.std.proofs.Common.{◌≡◌, ◌⊎◌, ◌<◌, ℕ, suc, Bool, true, false, cond, List, [], ◌∷◌, ◌++◌, length, map}
+use Rattle.std.proofs.Common.{◌≡◌, ◌⊎◌, ◌<◌, ℕ, suc, List, [], ◌∷◌, ◌++◌, length, map}
 use Rattle.std.proofs.Common.{refl, sym, ap, subst, inl, inr, arith, All, Contains, Option, Some, None, Ok}
 use Rattle.std.specs.Prelude.{slice_index_or}
-use Rattle.std.specs.List.{AllByRecursion, flat_map, list_any}
+use Rattle.std.specs.List.{AllByRecursion, flat_map}
 use Rattle.ent_value.specs.declared.value.Value.{Value}
 use Rattle.ent_tree.specs.declared.declaration.Create.{Create}
 use Rattle.ent_tree.specs.declared.script.End.{End}
@@ -24,19 +24,18 @@ use Rattle.ent_form.specs.declared.fault.FormFault.{FormFault}
 use Rattle.ent_form_laws.specs.Kinds.{AreDeclared}
 use Rattle.ent_form_laws.proofs.Steps.{one_answer, bound_given}
 use Rattle.ent_coordination.specs.Pool.{Posted}
-use Rattle.ent_protocol.specs.Begin.{same_use, use_rank, with_uses}
 use Rattle.ent_protocol.specs.Member.{Ordinary, posted_by, end_next, environment_of, next_in, next_of, pool}
 use Rattle.ent_protocol.specs.Member.{statement_next}
 use Rattle.ent_protocol.specs.PoolEvents.{IsPresentComponent, joint_uses}
 use Rattle.ent_protocol.specs.Reached.{IsReached}
 use Rattle.ent_protocol.specs.PostedBy.{in_pool, is_present}
-use Rattle.ent_protocol.specs.State.{State, Submitted, Member, Use, inserted}
+use Rattle.ent_protocol.specs.State.{State, Submitted, Member, Use}
 use Rattle.ent_protocol.specs.Uses.{entangled_uses, shared, statement_uses}
 use Rattle.ent_protocol.specs.Waits.{next_uses}
-use Rattle.ent_protocol_laws.specs.Numbered.{from_inserted}
 use Rattle.ent_headline.specs.Resolved.{resolved_forms}
 use Rattle.ent_lists.specs.Elements.{In, contains_in, in_either, in_flat, of_all, all_joined, nth_in}
 use Rattle.ent_lists.specs.Elements.{all_first, all_second}
+use Rattle.ent_serializability.proofs.Locks.{uses_from}
 use Rattle.ent_headline.proofs.Lists.{numbered_in}
 use Rattle.ent_headline.proofs.Places.{statements_given}
 
@@ -49,23 +48,6 @@ pub of_index : {X : Type 0} (P : X → Type 0) (xs : List X) (x : X) → All P x
 of_index P [] x all at = absurd at
 of_index P (y ∷ ys) x all (inl same) = subst P (sym same) (all 0 x (omega arith))
 of_index P (y ∷ ys) x all (inr at) = of_index P ys x (λ k d low. all (suc k) d (omega (arith, low))) at
-
--- a use that is held was held before or is asked for
-of_uses : (asked held : List Use) (y : Use) → In y (with_uses asked held) → In y asked ⊎ In y held
-of_uses [] held y at = inr at
-of_uses (own ∷ more) held y at =
-    by (list_any (same_use own) held) at (of_uses more held y)
-    (λ there. elim (of_uses more (inserted use_rank own held) y there) [
-      | inl a ↦ inl (inr a)
-      | inr b ↦ elim (from_inserted use_rank own held y b) [ inl same ↦ inl (inl same) | inr before ↦ inr before ]
-    ])
-  where
-    by : (b : Bool) → In y (with_uses more (cond b held (inserted use_rank own held)))
-        → (In y (with_uses more held) → In y more ⊎ In y held)
-        → (In y (with_uses more (inserted use_rank own held)) → In y (own ∷ more) ⊎ In y held)
-        → In y (own ∷ more) ⊎ In y held
-    by true at kept put = elim (kept at) [ inl a ↦ inl (inr a) | inr b ↦ inr b ]
-    by false at kept put = put at
 
 -- ---- statements
 
@@ -227,7 +209,7 @@ joint_declared laws s reached asked present =
     let n = length s.opening.tables in
     let each = λ (query : Posted). entangled_uses query.statement in
     index_all (BelowIn s.opening.tables) (joint_uses asked) (λ own at.
-    elim (of_uses (flat_map each asked) [] own at) [
+    elim (uses_from (flat_map each asked) [] own at) [
       | inl there ↦
           let a = in_flat each asked own there in
           let m = in_pool s a.0 (is_present (pool s) asked present a.0 a.1) in

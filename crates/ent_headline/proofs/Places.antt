@@ -1,4 +1,5 @@
--- Where members that aren't prepared stand, their host variables have values of the kinds that resolving knows there.
+-- Settled tables have the kinds that are declared, and where members that aren't prepared stand, their host variables
+-- have values of the kinds that resolving knows there.
 use Rattle.std.proofs.Common.{◌≡◌, List, [], ◌∷◌, ◌++◌, length, map, take, Some, Ok}
 use Rattle.std.proofs.Common.{refl, sym, ap, subst, ◌∙◌, Contains}
 use Rattle.std.specs.List.{AllByRecursion}
@@ -21,7 +22,7 @@ use Rattle.ent_protocol.specs.Member.{environment_of}
 use Rattle.ent_protocol.specs.Reached.{IsReached, settled}
 use Rattle.ent_protocol.specs.State.{State, Submitted, Member}
 use Rattle.ent_headline.specs.Resolved.{resolved_forms}
-use Rattle.ent_headline.specs.Kinds.{bound_behind, HasKindsThere}
+use Rattle.ent_headline.specs.Kinds.{bound_behind, HasKindsThere, HoldsKinds}
 use Rattle.ent_lists.specs.Elements.{In, of_all, contains_in, in_contains, of_map, all_joined, all_by}
 use Rattle.ent_headline.proofs.Lists.{numbered_in}
 use Rattle.ent_headline.proofs.Posted.{plain_given}
@@ -112,9 +113,9 @@ statements_given s reached own there =
     out.1 ∙ ap (λ (all : List (Statement Known)). Ok all)
     (ap (λ (p : Plain). p.statements) (one_answer _ plain.0 out.2) ∙ plain.2)
 
-pub kinds_there : (laws : Laws) (s : State) → Opens s → IsReached resolved_forms s → IsSerialState s
-    → (member : Member) → Contains s.active member → HasKindsThere s member
-kinds_there laws s opens reached state member there =
+pub kinded_state : (laws : Laws) (s : State) → Opens s → IsReached resolved_forms s → IsSerialState s
+    → HoldsKinds s
+kinded_state laws s opens reached state =
     let creates = s.opening.tables in
     let resolved : (own : Submitted) → In own s.submitted → (out : List (Statement Known))
     × (statements_from (schemas_of creates) none_bound [] own.script.statements ≡ Ok out) =
@@ -132,18 +133,22 @@ kinds_there laws s opens reached state member there =
     (all_joined (Begins s.submitted) state.prepared state.others prepared others) earlier.0
     state.stands in
     let known = (of_both (IsKnown laws creates opens.apart s.submitted resolved) state.prepared state.others now.1).1 in
-    let at = of_map (λ (history : History). history.member) state.others member
-    (contains_in (map (λ (history : History). history.member) state.others) member
-    ((state.of_others member).1 there)) in
-    let k = of_all (IsKnown laws creates opens.apart s.submitted resolved) state.others at.0 known at.1 in
-    let follows = of_all (Follows s.submitted) state.others at.0 state.follow at.1 in
-    subst (HasKindsThere s) (sym at.2)
-    (record {
-      own = k.own;
-      submitted = k.submitted;
-      passed = length at.0.operations;
-      place = follows.place;
-      bound = k.left;
-      known = k.known;
-      kinds = k.kinds;
-    })
+    record {
+      tables = record { tables = earlier.0.tables; kinded = earlier.0.kinded; same = earlier.0.is };
+      variables = λ member there.
+          let at = of_map (λ (history : History). history.member) state.others member
+          (contains_in (map (λ (history : History). history.member) state.others) member
+          ((state.of_others member).1 there)) in
+          let k = of_all (IsKnown laws creates opens.apart s.submitted resolved) state.others at.0 known at.1 in
+          let follows = of_all (Follows s.submitted) state.others at.0 state.follow at.1 in
+          subst (HasKindsThere s) (sym at.2)
+          (record {
+            own = k.own;
+            submitted = k.submitted;
+            passed = length at.0.operations;
+            place = follows.place;
+            bound = k.left;
+            known = k.known;
+            kinds = k.kinds;
+          });
+    }

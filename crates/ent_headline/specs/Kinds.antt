@@ -1,15 +1,19 @@
--- Host variables of members that have values of the kinds that resolving knows at their places.
-use Rattle.std.specs.Prelude.{◌≡◌, ℕ, zero, suc, List, [], ◌∷◌, Some, Result, Ok}
+-- Settled tables of the kinds that are declared, and host variables of members that have values of the kinds that
+-- resolving knows at their places.
+use Rattle.std.specs.Prelude.{◌≡◌, ℕ, zero, suc, List, [], ◌∷◌, Contains, Some, Result, Ok}
 use Rattle.ent_value.specs.Refusal.{◌>>=◌}
 use Rattle.ent_tree.specs.declared.script.Statement.{Statement}
 use Rattle.ent_semantics.specs.Serial.{numbered}
+use Rattle.ent_closed.specs.Form.{Tables}
 use Rattle.ent_form.specs.Catalogue.{schemas_of}
 use Rattle.ent_form.specs.Form.{statement_in}
 use Rattle.ent_form.specs.Kinds.{Bound, none_bound}
 use Rattle.ent_form.specs.declared.catalogue.TableSchema.{TableSchema}
 use Rattle.ent_form.specs.declared.fault.FormFault.{FormFault}
-use Rattle.ent_form_laws.specs.Kinds.{HasKinds}
+use Rattle.ent_form_laws.specs.Kinds.{AreKinded, HasKinds}
+use Rattle.ent_form_laws.specs.Tables.{database_of}
 use Rattle.ent_protocol.specs.Member.{environment_of}
+use Rattle.ent_protocol.specs.Reached.{settled}
 use Rattle.ent_protocol.specs.State.{State, Submitted, Member}
 
 -- the kinds that are known behind so many statements of a script
@@ -28,3 +32,14 @@ pub record HasKindsThere (s : State) (member : Member) : Type 0 where
   pub bound : Bound
   pub known : bound_behind (schemas_of s.opening.tables) none_bound own.script.statements passed ≡ Ok bound
   pub kinds : HasKinds bound (environment_of member)
+
+-- what the committed transactions left is what tables of the declared kinds hold under the declared names
+pub record HasSettledKinds (s : State) : Type 0 where
+  pub tables : Tables
+  pub kinded : AreKinded (schemas_of s.opening.tables) tables
+  pub same : database_of s.opening.tables (settled s) ≡ database_of s.opening.tables tables
+
+-- the settled tables and the host variables of members that aren't prepared have the kinds that are known of them
+pub record HoldsKinds (s : State) : Type 0 where
+  pub tables : HasSettledKinds s
+  pub variables : (member : Member) → Contains s.active member → HasKindsThere s member

@@ -1,4 +1,5 @@
-//! Laws of members that aren't prepared, over an opening without a fault. What holds is in the contracts.
+//! Laws of settled tables and of members that aren't prepared, over an opening without a fault. What holds is in the
+//! contracts.
 ghost use Rattle.std.specs.Prelude.{◌≡◌, Contains, None, map};
 ghost use Rattle.ent_value.specs.declared.value.Value.{Value};
 ghost use Rattle.ent_closed.specs.declared.statement.Statement.{Statement};
@@ -10,7 +11,7 @@ ghost use Rattle.ent_protocol.specs.Begin.{single_job};
 ghost use Rattle.ent_protocol.specs.Member.{Ordinary, next_of};
 ghost use Rattle.ent_protocol.specs.Reached.{IsReached};
 ghost use Rattle.ent_protocol.specs.State.{State, Member};
-ghost use Rattle.ent_headline.specs.Kinds.{HasKindsThere};
+ghost use Rattle.ent_headline.specs.Kinds.{HasKindsThere, HoldsKinds};
 ghost use Rattle.ent_headline.specs.Resolved.{resolved_forms};
 
 use crate::run::resolved_runs_are_serial;
@@ -21,14 +22,14 @@ use ent_form_laws::{
     resolved_means_the_same, resolved_statements_fit, variables_are_the_written_ones,
 };
 
-/// In every state that is reached by scripts resolved over an opening without a fault, each host variable that is known
-/// to resolving at the place of a member that isn't prepared has a value of the kind that is known.
-pub fn host_variables_have_kinds()
-    ensures { (s : State) (member : Member)
+/// In every state that is reached by scripts resolved over an opening without a fault, the settled tables have the
+/// kinds that are declared, and each host variable that is known to resolving at the place of a member that isn't
+/// prepared has a value of the kind that is known.
+pub fn resolved_runs_keep_kinds()
+    ensures { (s : State)
         → opening_fault s.opening ≡ None
         → IsReached resolved_forms s
-        → Contains s.active member
-        → HasKindsThere s member }
+        → HoldsKinds s }
 {
     closing_keeps_the_meaning();
     effects_keep_kinds();
@@ -41,6 +42,18 @@ pub fn host_variables_have_kinds()
     resolved_means_the_same();
     variables_are_the_written_ones();
     resolved_runs_are_serial();
+}
+
+/// In every such state, each host variable that is known to resolving at the place of a member that isn't prepared has
+/// a value of the kind that is known.
+pub fn host_variables_have_kinds()
+    ensures { (s : State) (member : Member)
+        → opening_fault s.opening ≡ None
+        → IsReached resolved_forms s
+        → Contains s.active member
+        → HasKindsThere s member }
+{
+    resolved_runs_keep_kinds();
 }
 
 /// The next statement of such a member, where it is an ordinary one, fits the kinds of the tables that it names, as

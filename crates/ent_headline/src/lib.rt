@@ -17,7 +17,7 @@ mod run;
 mod work;
 
 pub use form::resolved_forms_are_faithful;
-pub use kinds::{host_variables_have_kinds, next_statements_fit};
+pub use kinds::{host_variables_have_kinds, next_statements_fit, resolved_runs_keep_kinds};
 pub use reached::{
     posted_heads_are_distinct, posted_variables_are_ranged, submitted_forms_are_resolved,
 };

@@ -9,6 +9,7 @@ use Rattle.std.specs.Ordering.{is_eq, nat_cmp, ordering_then}
 use Rattle.std.specs.declared.cmp.Ordering.{Ordering}
 use Rattle.std.specs.declared.cmp.Ordering.TheVariants.{Less, Equal, Greater}
 use Rattle.std.proofs.lemmas.Bool.{eqb-true}
+use Rattle.ent_lists.specs.Elements.{got_on}
 use borrow.Author.Tests.{ltb-true}
 use Rattle.ent_value.specs.Value.{value_cmp, row_cmp}
 use Rattle.ent_value.specs.Order.{exact_values}
@@ -18,12 +19,6 @@ use Rattle.ent_join.specs.Index.{known_cmp, begun_cmp, column_of}
 use Rattle.ent_join.proofs.Steps.{value_cmp-self}
 
 -- ---- what is known of a beginning stays known
-
-pub get_front : {X : Type 0} (xs ys : List X) (i : ℕ) (x : X) → slice_get xs i ≡ Some x
-    → slice_get (xs ++ ys) i ≡ Some x
-get_front [] ys i x h = cc
-get_front (y ∷ xs) ys zero x h = h
-get_front (y ∷ xs) ys (suc i) x h = get_front xs ys i x h
 
 pub get_next : {X : Type 0} (xs ys : List X) (x : X) → slice_get (xs ++ x ∷ ys) (length xs) ≡ Some x
 get_next [] ys x = refl
@@ -59,7 +54,7 @@ kept_cmp beginning rest (class ∷ classes) (value ∷ row) h =
     by more (Some known) e =
         let there : known_cmp (Some known) value (begun_cmp (beginning ++ rest) classes row) ≡ Equal =
         subst (λ k. known_cmp k value (begun_cmp (beginning ++ rest) classes row) ≡ Equal)
-        (get_front beginning rest class known e) h in
+        (got_on beginning rest class known e) h in
         let both = equal_then (value_cmp value known) (begun_cmp (beginning ++ rest) classes row) there in
         ap (λ o. ordering_then o (begun_cmp beginning classes row)) both.0
         ∙ more both.1
@@ -145,7 +140,7 @@ next_is beginning rest next (class ∷ classes) (value ∷ row) column sorted h 
     by others false is e =
         let k = some_suc (column_of (length beginning) classes) column e in
         let known = before_next beginning class classes k.0 sorted k.1 in
-        let more = (begun_by known.0 (get_front beginning (next ∷ rest) class known.0 known.1)).1 in
+        let more = (begun_by known.0 (got_on beginning (next ∷ rest) class known.0 known.1)).1 in
         ap (λ j. slice_index_or (value ∷ row) j no_value) k.2
         ∙ others k.0 k.1 more
 

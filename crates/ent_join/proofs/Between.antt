@@ -8,22 +8,16 @@ use Rattle.std.specs.Option.{option_map}
 use Rattle.std.specs.Ordering.{is_eq, is_le, is_lt, ordering_then, ordering_reverse}
 use Rattle.std.specs.declared.cmp.Ordering.{Ordering}
 use Rattle.std.specs.declared.cmp.Ordering.TheVariants.{Less, Equal, Greater}
-use Rattle.std.proofs.lemmas.Bool.{cases_order, eq-eqb, eqb-true}
+use Rattle.std.proofs.lemmas.Bool.{cases_order, eq-eqb}
 use Rattle.std.proofs.lemmas.Bool.Decides.{eqb_tells}
 use Rattle.std.proofs.lemmas.Map.Keys.{Less-from_sorted}
+use Rattle.ent_lists.specs.Elements.{all_filtered, other_number}
 use Rattle.ent_value.specs.Value.{value_cmp, row_cmp}
 use Rattle.ent_value.specs.Order.{values_total, exact_values}
 use Rattle.ent_value.specs.declared.value.Value.{Value}
 use Rattle.ent_join.specs.Index.{known_cmp, begun_cmp, column_of}
 
 -- ---- the column of a class
-
-is_other : (other class : ℕ) → (other ≡ class → ⊥) → (other == class) ≡ false
-is_other other class h = by (other == class) refl
-  where
-    by : (b : Bool) → (other == class) ≡ b → (other == class) ≡ false
-    by true e = absurd (h (eqb-true other class e))
-    by false e = e
 
 pub column_found : (class : ℕ) (classes : List ℕ) (column : ℕ)
     → ((k : ℕ) → k < column → get_or classes k 0 ≡ class → ⊥)
@@ -33,7 +27,8 @@ column_found class [] column before within is = absurd (omega arith)
 column_found class (other ∷ classes) zero before within is =
     ap (λ b. cond b (Some 0) (option_map suc (column_of class classes))) (eq-eqb other class is)
 column_found class (other ∷ classes) (suc column) before within is =
-    ap (λ b. cond b (Some 0) (option_map suc (column_of class classes))) (is_other other class (before 0 (omega arith)))
+    ap (λ b. cond b (Some 0) (option_map suc (column_of class classes)))
+    (other_number other class (before 0 (omega arith)))
     ∙ ap (option_map suc)
     (column_found class classes column (λ k h. before (suc k) (omega arith)) (omega arith) is)
 
@@ -42,7 +37,8 @@ pub column_not_found : (class : ℕ) (classes : List ℕ)
     → column_of class classes ≡ None
 column_not_found class [] before = refl
 column_not_found class (other ∷ classes) before =
-    ap (λ b. cond b (Some 0) (option_map suc (column_of class classes))) (is_other other class (before 0 (omega arith)))
+    ap (λ b. cond b (Some 0) (option_map suc (column_of class classes)))
+    (other_number other class (before 0 (omega arith)))
     ∙ ap (option_map suc) (column_not_found class classes (λ k h. before (suc k) (omega arith)))
 
 -- ---- rows in order
@@ -251,22 +247,13 @@ any_kept p (x ∷ xs) = by (any_kept p xs) (p x)
   where
     by : not (length (filter p xs) == 0) ≡ list_any p xs → (b : Bool)
         → not (length (cond b (x ∷ filter p xs) (filter p xs)) == 0) ≡ (b || list_any p xs)
-    by more true = let z : (length (x ∷ filter p xs) == 0) ≡ false = is_other _ 0 (λ e. omega arith) in ap not z
+    by more true = let z : (length (x ∷ filter p xs) == 0) ≡ false = other_number _ 0 (λ e. omega arith) in ap not z
     by more false = more
 
 pub any_from_filter : {X : Type 0} (p : X → Bool) (xs ys : List X) (n : Bool) → ys ≡ filter p xs
     → n ≡ (length ys == 0) → not n ≡ list_any p xs
 any_from_filter p xs ys n e is = ap not (is ∙ ap (λ zs. length zs == 0) e) ∙ any_kept p xs
 
-filtered : {X : Type 0} (P : X → Type 0) (p : X → Bool) (xs : List X) → AllByRecursion P xs
-    → AllByRecursion P (filter p xs)
-filtered P p [] all = tt
-filtered P p (x ∷ xs) all =
-    elim (p x) as (λ b. AllByRecursion P (cond b (x ∷ filter p xs) (filter p xs))) [
-      | true ↦ (all.0, filtered P p xs all.1)
-      | false ↦ filtered P p xs all.1
-    ]
-
-pub all_filtered : {X : Type 0} (P : X → Type 0) (p : X → Bool) (xs ys : List X) → AllByRecursion P xs
+pub all_of_filter : {X : Type 0} (P : X → Type 0) (p : X → Bool) (xs ys : List X) → AllByRecursion P xs
     → ys ≡ filter p xs → AllByRecursion P ys
-all_filtered P p xs ys all is = subst (AllByRecursion P) (sym is) (filtered P p xs all)
+all_of_filter P p xs ys all is = subst (AllByRecursion P) (sym is) (all_filtered P p xs all)

@@ -6,7 +6,7 @@ use Rattle.std.specs.List.{AllByRecursion, filter, list_all, list_any}
 use Rattle.std.specs.List.Sorted.{IsStrictlySortedBy}
 use Rattle.std.specs.declared.cmp.Ordering.TheVariants.{Less, Greater}
 use Rattle.std.specs.Ordering.{is_eq, nat_cmp}
-use Rattle.ent_lists.specs.Elements.{and_both}
+use Rattle.ent_lists.specs.Elements.{and_both, got_on}
 use Rattle.ent_tree.specs.declared.operand.Comparison.{Comparison}
 use Rattle.ent_tree.specs.declared.operand.Test.{Test}
 use Rattle.ent_value.specs.Value.{kind_of, value_cmp, row_cmp}
@@ -22,7 +22,7 @@ use Rattle.ent_join.specs.Index.{candidates_or, candidates_in}
 use Rattle.ent_join.specs.declared.frame.Frame.{Frame}
 use Rattle.ent_join.specs.Frame.{IsFrame, has_class, slot_there, may_compare, may_hold, lets_through}
 use Rattle.ent_join.specs.Frame.{are_of_kinds, candidates_of, is_kind}
-use Rattle.ent_join.proofs.Begun.{get_front, is_equal, kept_cmp, next_is, next_in_order}
+use Rattle.ent_join.proofs.Begun.{is_equal, kept_cmp, next_is, next_in_order}
 
 -- ---- one index
 
@@ -172,7 +172,7 @@ may_compare_kept comparison left right (Some v) (Some w) h k e =
 slot_kept : (beginning rest : List Value) (slot : Slot) (v : Value) → slot_there beginning slot ≡ Some v
     → slot_there (beginning ++ rest) slot ≡ Some v
 slot_kept beginning rest (Fixed value) v h = h
-slot_kept beginning rest (Class number) v h = get_front beginning rest number v h
+slot_kept beginning rest (Class number) v h = got_on beginning rest number v h
 
 may_hold_kept : (beginning rest : List Value) (test : Test Slot) → may_hold (beginning ++ rest) test ≡ true
     → may_hold beginning test ≡ true

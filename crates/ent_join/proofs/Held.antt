@@ -10,7 +10,7 @@ use Rattle.std.proofs.lemmas.Cmp.{nat_cmp_total}
 use Rattle.std.proofs.lemmas.List.Folds.{list_any-append}
 use Rattle.ent_set.specs.Sets as set
 use Rattle.ent_set.specs.Laws.{any_same_set, from_list-ascending}
-use Rattle.ent_lists.specs.Elements.{all_first, all_second}
+use Rattle.ent_lists.specs.Elements.{all_first, all_second, or_second}
 use Rattle.ent_value.specs.declared.value.Kind.{Kind}
 use Rattle.ent_value.specs.declared.value.Value.{Value}
 use Rattle.ent_tree.specs.declared.operand.Test.{Test}
@@ -33,10 +33,6 @@ use Rattle.ent_join.proofs.Deduped.{all_members}
 use Rattle.ent_join.proofs.Keys.{index_is, nat_exact}
 use Rattle.ent_join.proofs.Tied.{Named, SlotBelow}
 
-or_true : (a b : Bool) → b ≡ true → (a || b) ≡ true
-or_true true b e = refl
-or_true false b e = e
-
 -- ---- numbers
 
 -- each class up to the last is named
@@ -45,7 +41,7 @@ numbered_has : (next : ℕ) (slots : List Slot) (end class : ℕ) → AreNumbere
 numbered_has next [] end class h le less = absurd (omega arith)
 numbered_has next (Fixed value ∷ slots) end class h le less = numbered_has next slots end class h le less
 numbered_has next (Class number ∷ slots) end class (inl before) le less =
-    or_true (number == class) (list_any (is_class class) slots)
+    or_second (number == class) (list_any (is_class class) slots)
     (numbered_has next slots end class before.1 le less)
 numbered_has next (Class number ∷ slots) end class (inr new) le less =
     by (next == class) refl (λ l. numbered_has (suc next) slots end class new.1 l less)
@@ -57,7 +53,7 @@ numbered_has next (Class number ∷ slots) end class (inr new) le less =
         (eq-eqb number class (new.0 ∙ eqb-true next class is))
     by false is more =
         let other : (next ≡ class → ⊥) = λ e. let f : (next == class) ≡ true = eq-eqb next class e in cc in
-        or_true (number == class) (list_any (is_class class) slots) (more (let f = other in omega (arith, f)))
+        or_second (number == class) (list_any (is_class class) slots) (more (let f = other in omega (arith, f)))
 
 pub numbered_below : (next : ℕ) (slots : List Slot) (end : ℕ) → AreNumbered next slots end
     → (next ≤ end) × AllByRecursion (SlotBelow end) slots
@@ -121,7 +117,7 @@ class_more : (class : ℕ) (slot : Slot) (columns : List Slot)
     → list_any (λ n. n == class) (class_numbers columns) ≡ true
     → list_any (λ n. n == class) (class_numbers (slot ∷ columns)) ≡ true
 class_more class (Fixed value) columns h = h
-class_more class (Class number) columns h = or_true (number == class) _ h
+class_more class (Class number) columns h = or_second (number == class) _ h
 
 module _ (slots : List Slot) (class number : ℕ)
     (is : is_class class (slice_index_or slots number (Fixed no_value)) ≡ true) where
@@ -151,7 +147,7 @@ any_through p q f h (x ∷ xs) e = by (p x) refl (λ k. any_through p q f h xs k
     by : (b : Bool) → p x ≡ b → (list_any p xs ≡ true → list_any q (map f xs) ≡ true)
         → (b || list_any p xs) ≡ true → (q (f x) || list_any q (map f xs)) ≡ true
     by true is more e = ap (λ b. b || list_any q (map f xs)) (h x is)
-    by false is more e = or_true (q (f x)) (list_any q (map f xs)) (more e)
+    by false is more e = or_second (q (f x)) (list_any q (map f xs)) (more e)
 
 slot_with : (class : ℕ) (slots : List Slot) → list_any (is_class class) slots ≡ true
     → (number : ℕ) × (number < length slots)
@@ -219,7 +215,7 @@ module _ (tables : List Numbered) (tests : List (Test Slot)) (class_kinds : List
           || list_any (has_class class) (all_indexes tables tests members slots)) ≡ true
       by true e more h =
           ap (λ b. b || list_any (has_class class) (all_indexes tables tests members slots)) (here e)
-      by false e more h = or_true _ _ (more h)
+      by false e more h = or_second _ _ (more h)
 
   -- each class of a plan is one of an index
   pub held : (members : List Posted) (slots : List (List Slot))

@@ -35,15 +35,6 @@ filter_keeps p q (x ∷ xs) h =
     by true e more = (λ i. e i && list_all p (filter q xs)) ∙ more
     by false e more = more
 
-pub all_of_filter : {X : Type 0} (P : X → Type 0) (q : X → Bool) (xs : List X) → AllByRecursion P xs
-    → AllByRecursion P (filter q xs)
-all_of_filter P q [] h = tt
-all_of_filter P q (x ∷ xs) h = by (q x) (all_of_filter P q xs h.1)
-  where
-    by : (b : Bool) → AllByRecursion P (filter q xs) → AllByRecursion P (cond b (x ∷ filter q xs) (filter q xs))
-    by true more = (h.0, more)
-    by false more = more
-
 module _ (values : List Value) where
   -- the value that a tuple has under a class is the value of the class
   value_known : (columns : List Slot) (number : ℕ) (v : Value) → AllByRecursion (IsBelow values) (class_numbers columns)

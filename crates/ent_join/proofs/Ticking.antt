@@ -4,7 +4,7 @@ use Rattle.std.proofs.Common.{refl, sym, ap, subst, ◌∙◌, arith}
 use Rattle.std.specs.Prelude.{◌==◌, ◌||◌, is_some}
 use Rattle.std.specs.List.{AllByRecursion, flat_map, list_any}
 use Rattle.ent_set.specs.Sets as set
-use Rattle.ent_lists.specs.Elements.{all_first}
+use Rattle.ent_lists.specs.Elements.{all_first, all_filtered}
 use Rattle.ent_value.specs.Value.{kinds_of}
 use Rattle.ent_value.specs.declared.value.Kind.{Kind}
 use Rattle.ent_value.specs.declared.value.Value.{Value}
@@ -30,7 +30,6 @@ use Rattle.ent_plan.specs.Ranged.{AreRanged}
 use Rattle.ent_join.specs.Row.{AsksForARow}
 use Rattle.ent_join.specs.Search.{AreTicks, NoDeadEnds}
 use Rattle.ent_join.specs.declared.frame.Frame.{Frame}
-use Rattle.ent_join.proofs.Left.{all_of_filter}
 use Rattle.ent_join.proofs.Deduped.{all_alike, all_map, all_members}
 use Rattle.ent_join.proofs.EachClass.{classes_are_variables, kinded, one_list}
 use Rattle.ent_join.proofs.Held.{all_parts, column_any, held, numbered_below, sources_are_named}
@@ -149,7 +148,7 @@ module _ (plan : Plan) (is : IsPlan plan) (tables : List Numbered) (frame : Fram
       all_alike index.rows (keys_under columns index.classes left)
       (keys_alike (keys_under columns index.classes left)) (λ key. are_of_kinds ks key)
       (keys_fit ks columns index.classes numbered there left
-      (all_of_filter (λ row. kinds_of row ≡ map (slot_kind ks) columns) (is_left [] columns) (set.ascending given)
+      (all_filtered (λ row. kinds_of row ≡ map (slot_kind ks) columns) (is_left [] columns) (set.ascending given)
       (rows_of_kinds (map (slot_kind ks) columns) given given_kinds)))
 
   -- the search has one tick for each written variable of an answer, and none where there is none

@@ -1,11 +1,12 @@
 -- Values are read as they are written.
 use Rattle.std.proofs.Common.{◌≡◌, ℕ, zero, suc, pos, negsuc, ◌<◌, ◌≤◌, Bool, true, false, leb, List, [], ◌∷◌, ◌++◌, length, cond, Ok, Err, Result, refl, ap, sym, ◌∙◌, subst, arith, eqb, append_assoc}
-use Rattle.std.specs.Prelude.{◌||◌, ◌&&◌}
+use Rattle.std.specs.Prelude.{◌&&◌}
 use Rattle.std.specs.List.{list_all}
 use Rattle.std.specs.Char.{is_ascii_digit}
 use Rattle.std.specs.Fmt.{decimal}
 use Rattle.std.proofs.lemmas.Bool.{le-leb, leb-true, eqb-true, ne_eqb}
 use Rattle.std.proofs.lemmas.Fmt.{decimal_nonempty}
+use Rattle.ent_lists.specs.Elements.{neither}
 use Rattle.ent_value.specs.Refusal.{◌>>=◌}
 use Rattle.ent_value.specs.Name.{is_word_byte}
 use Rattle.ent_value.specs.Print.{value_text, doubled}
@@ -103,13 +104,9 @@ value_found (b ∷ bytes) rest value h = found_by b bytes rest value (eqb b 39) 
 
 -- ---- back
 
-word_or_not : (a b : Bool) → (a || b) ≡ false → (a ≡ false) × (b ≡ false)
-word_or_not true b h = cc
-word_or_not false b h = (refl, h)
-
 pub over_quote : (rest : List ℕ) → IsOver rest → Stops is_quote rest
 over_quote [] h = tt
-over_quote (c ∷ others) h = (word_or_not (is_word_byte c) (eqb c 39) h).1
+over_quote (c ∷ others) h = (neither (is_word_byte c) (eqb c 39) h).1
 
 digit_is_word : (c : ℕ) → is_ascii_digit c ≡ true → is_word_byte c ≡ true
 digit_is_word c h = rw h refl
@@ -123,7 +120,7 @@ no_digit c h = no_digit_by c (is_ascii_digit c) refl h
 
 pub over_digit : (rest : List ℕ) → IsOver rest → Stops is_ascii_digit rest
 over_digit [] h = tt
-over_digit (c ∷ others) h = no_digit c (word_or_not (is_word_byte c) (eqb c 39) h).0
+over_digit (c ∷ others) h = no_digit c (neither (is_word_byte c) (eqb c 39) h).0
 
 all_first : (a b : Bool) → (a && b) ≡ true → a ≡ true
 all_first true b h = refl

@@ -1,9 +1,9 @@
 -- The first statement of each class, where classes are looked for from the first place on.
 use Rattle.std.proofs.Common.{◌≡◌, ℕ, zero, suc, ◌<◌, ◌≤◌, Bool, true, false, List, [], ◌∷◌, refl, sym, ap, subst}
-use Rattle.std.proofs.Common.{◌∙◌, arith, inl, inr, length, true≢false}
+use Rattle.std.proofs.Common.{◌∙◌, arith, length, true≢false}
 use Rattle.std.specs.Prelude.{Contains}
-use Rattle.ent_coordination.specs.Component.{AreJoined}
 use Rattle.ent_coordination.specs.Pool.{Posted, first_tx}
+use Rattle.ent_coordination.proofs.Linked.{joined_back}
 use Rattle.ent_match.specs.declared.link.Link.{Link}
 use Rattle.ent_match.specs.Links.{Closed, IsMarked, PathIn}
 use Rattle.ent_match.specs.Remainder.{At}
@@ -27,10 +27,6 @@ first_is (false ∷ marks) (m ∷ pool) (suc n) a (below, is) marked least =
     first_is marks pool n a (omega arith, is) marked (λ p m. let l = least (suc p) m in omega arith)
 
 -- ---- joins lead both ways
-
-joined_back : (a b : Posted) → AreJoined a b → AreJoined b a
-joined_back a b (index, inl meets) = (index, inr meets)
-joined_back a b (index, inr meets) = (index, inl meets)
 
 module _ (pool : List Posted) (joins : List Link) (removed : List Bool) (s : AreLinkedBy pool joins removed) where
   leads_back : (join : Link) → Contains joins join → Contains joins (flipped join)

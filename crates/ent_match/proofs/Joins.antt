@@ -17,14 +17,9 @@ use Rattle.ent_match.specs.Remainder.{At}
 use Rattle.ent_match.specs.Components.{flipped, IsKept, AreJoinsOf, marked_in, AreLinkedBy}
 use Rattle.ent_match.proofs.Offered.{one_place}
 use Rattle.ent_match.proofs.Placed.{contains_cases, contains_first, contains_later}
+use Rattle.ent_match.proofs.Marks.{front_cases}
 
 -- ---- joins
-
-front_links : (links : List Link) (n : ℕ) (o x : Link) → n < length links → o ≡ get_or links n o
-    → Contains (take (n + 1) links) x → Contains (take n links) x ⊎ (o ≡ x)
-front_links links n o x below is inside =
-    Contains-push_cases (take n links) o x
-    (subst (λ xs. Contains xs x) (take_more links n o below ∙ ap (λ z. take n links ++ z ∷ []) (sym is)) inside)
 
 more_links : (links : List Link) (n : ℕ) (o x : Link) → n < length links → o ≡ get_or links n o
     → Contains (take n links) x → Contains (take (n + 1) links) x
@@ -58,7 +53,7 @@ module _ (links : List Link) (removed : List Bool) (n : ℕ) (o : Link) (below :
     where
       before : (link : Link) → IsKept (take (n + 1) links) removed link → IsKept (take n links) removed link
       before link (inside, remains) =
-          elim (front_links links n o link below is inside) [
+          elim (front_cases links n o link below is inside) [
             | inl front ↦ (front, remains)
             | inr last ↦ absurd (true≢false (sym gone ∙ (ap (λ (l : Link). get_or removed l.to false) last ∙ remains)))
           ]
@@ -80,11 +75,11 @@ module _ (links : List Link) (removed : List Bool) (n : ℕ) (o : Link) (below :
               | inr other ↦ inr (subst (λ j. IsKept (take (n + 1) links) removed (flipped j)) other
                   (last_link links n o below is, remains))
             ];
-        there = λ link (inside, kept). elim (front_links links n o link below is inside) [
+        there = λ link (inside, kept). elim (front_cases links n o link below is inside) [
           | inl front ↦ old_in link (are.there link (front, kept))
           | inr last ↦ subst (Contains new) last one_in
         ];
-        back = λ link (inside, kept). elim (front_links links n o link below is inside) [
+        back = λ link (inside, kept). elim (front_cases links n o link below is inside) [
           | inl front ↦ old_in (flipped link) (are.back link (front, kept))
           | inr last ↦ subst (λ l. Contains new (flipped l)) last other_in
         ];

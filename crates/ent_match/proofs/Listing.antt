@@ -1,12 +1,13 @@
 -- The list of classes, and what a pool's links say of its remainder.
 use Rattle.std.proofs.Common.{◌≡◌, ℕ, zero, suc, ◌+◌, ◌<◌, ◌≤◌, Bool, true, false, not, cond, List, [], ◌∷◌}
 use Rattle.std.proofs.Common.{◌++◌}
-use Rattle.std.proofs.Common.{length, get_or, refl, sym, ◌∙◌, ap, subst, arith, inl, inr, true≢false}
+use Rattle.std.proofs.Common.{length, get_or, sym, ◌∙◌, ap, subst, arith, inl, inr, true≢false}
 use Rattle.std.specs.Prelude.{Contains, ◌==◌, ◌≢◌, if◌then◌else◌}
 use Rattle.std.proofs.lemmas.Bool.{cases_lt, cases_Bool, eq-eqb, eqb-true}
 use Rattle.std.proofs.lemmas.List.Elements.{Contains-push_cases, Contains-push, Contains-append_left, Contains-get_or}
 use Rattle.std.proofs.lemmas.List.Quantifiers.{all_pairs_push}
 use Rattle.std.proofs.lemmas.Option.{slice_get_within}
+use Rattle.ent_lists.specs.Elements.{turned}
 use Rattle.ent_coordination.specs.Component.{IsComponent, IsInRemainder, IsSupported}
 use Rattle.ent_coordination.specs.Component.{SetOfTransactions}
 use Rattle.ent_coordination.specs.Pool.{Posted, CanMeet, IsSafe, first_tx}
@@ -228,10 +229,6 @@ remaining_at (b ∷ removed) (m ∷ pool) ordered (suc k) x (below, is) =
 not_false : (b : Bool) → b ≡ false → not b ≡ true
 not_false b is = ap not is
 
-false_from_not : (b : Bool) → not b ≡ true → b ≡ false
-false_from_not true is = absurd (true≢false (sym is))
-false_from_not false is = refl
-
 module _ (pool : List Posted) (ordered : IsByNumber pool) (safe : IsSafe pool) (links : List Link)
     (start removed : List Bool)
     (s : IsStart pool links start) (c : Closes links start removed) where
@@ -278,7 +275,7 @@ module _ (pool : List Posted) (ordered : IsByNumber pool) (safe : IsSafe pool) (
   supported : IsSupported pool (remaining removed pool)
   supported asker index post (contains, in_set) is_post =
       let at : At pool contains.0 asker = (contains.1, contains.2) in
-      let remains = false_from_not _ (sym (remaining_at removed pool ordered contains.0 asker at) ∙ in_set) in
+      let remains = turned _ (sym (remaining_at removed pool ordered contains.0 asker at) ∙ in_set) in
       let offer = offers_at contains.0 contains.1 remains asker index at
       (slice_get_within asker.statement.posts index post is_post) in
       let owner_remains = from_remains _ offer.listed remains in (

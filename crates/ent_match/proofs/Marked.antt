@@ -5,6 +5,7 @@ use Rattle.std.proofs.lemmas.Bool.{cases_Bool, cases_lt}
 use Rattle.std.proofs.lemmas.List.{get_or_default, get_or-set_same, get_or-set_other, length-set}
 use Rattle.ent_coordination.specs.Component.{AreJoined}
 use Rattle.ent_coordination.specs.Pool.{IsSafe, Posted}
+use Rattle.ent_coordination.proofs.Linked.{joined_back}
 use Rattle.ent_match.specs.Components.{marked_in}
 use Rattle.ent_match.specs.Links.{IsMarked}
 use Rattle.ent_match.specs.Parts.{AreLeast, AreMarkedFrom, AreSplit, IsMarkedPart, IsPart}
@@ -12,7 +13,7 @@ use Rattle.ent_match.specs.Parts.{JoinedAreMarked}
 use Rattle.ent_match.specs.Remainder.{At}
 use Rattle.ent_match.proofs.Joins.{at_marked, class_more, marked_at}
 use Rattle.ent_match.proofs.Offered.{one_place}
-use Rattle.ent_match.proofs.Parts.{joined_back, safe_part}
+use Rattle.ent_match.proofs.Parts.{safe_part}
 
 pub marked_below : (marks : List Bool) (place : ℕ) → IsMarked marks place → place < length marks
 marked_below [] place marked = absurd (true≢false (sym marked))

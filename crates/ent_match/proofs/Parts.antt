@@ -1,13 +1,14 @@
 -- What remains of a part of a pool is what remains of the pool in it, and its components are the pool's.
-use Rattle.std.proofs.Common.{◌≡◌, ◌∙◌, ℕ, zero, suc, ◌<◌, List, length, get_or, refl, sym, subst, inl, inr, true}
+use Rattle.std.proofs.Common.{◌≡◌, ◌∙◌, ℕ, zero, suc, ◌<◌, List, length, get_or, refl, sym, subst, inl, true}
 use Rattle.std.proofs.Common.{Decides}
 use Rattle.std.specs.Prelude.{◌==◌, ◌&&◌, Contains, HoldsAt}
 use Rattle.std.specs.List.{list_any}
 use Rattle.std.proofs.lemmas.Bool.Decides.{Decides-and, Decides-by_or, Decides-eqb}
 use Rattle.std.proofs.lemmas.List.{get_or_default}
-use Rattle.ent_coordination.specs.Component.{IsComponent, IsIn, IsInRemainder, AreJoined}
+use Rattle.ent_coordination.specs.Component.{IsComponent, IsIn, IsInRemainder}
 use Rattle.ent_coordination.specs.Component.{AreLinkedIn, SetOfTransactions}
 use Rattle.ent_coordination.specs.Pool.{Posted, IsSafe}
+use Rattle.ent_coordination.proofs.Linked.{joined_back}
 use Rattle.ent_match.specs.Fault.{IsByNumber}
 use Rattle.ent_match.specs.Parts.{IsPart}
 use Rattle.ent_match.proofs.Numbered.{same_member}
@@ -25,10 +26,6 @@ part_of_part pool rest part one other =
       joined = λ asker owner inside there joined.
           other.joined asker owner inside (one.joined asker owner (other.within asker inside) there joined) joined;
     }
-
-pub joined_back : (one other : Posted) → AreJoined one other → AreJoined other one
-joined_back one other (index, inl asks) = (index, inr asks)
-joined_back one other (index, inr asked) = (index, inl asked)
 
 -- ---- the remainder
 

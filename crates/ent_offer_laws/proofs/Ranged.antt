@@ -1,12 +1,13 @@
 -- Each written variable of a resolved statement stands in a tuple of some sub-select.
-use Rattle.std.proofs.Common.{◌≡◌, ◌⊎◌, ◌<◌, ℕ, Bool, true, false, ◌||◌, List, [], ◌∷◌, ◌++◌, length, map}
-use Rattle.std.proofs.Common.{Option, Some, None, Ok, refl, ap, subst, ◌∙◌, inl, inr, arith, rules}
+use Rattle.std.proofs.Common.{◌≡◌, ◌⊎◌, ◌<◌, Bool, true, false, ◌||◌, List, [], ◌∷◌, ◌++◌, length, map}
+use Rattle.std.proofs.Common.{Option, Some, None, Ok, refl, subst, ◌∙◌, inl, inr, arith}
 use Rattle.std.specs.Prelude.{◌==◌, Contains, if◌then◌else◌, unwrap_or}
 use Rattle.std.specs.List.{AllByRecursion, list_any}
 use Rattle.std.proofs.lemmas.Bool.{eqb-true}
 use Rattle.std.proofs.lemmas.List.{length-map}
 use Rattle.std.proofs.lemmas.List.Folds.{list_any-append}
-use Rattle.ent_lists.specs.Elements.{or_first, or_second}
+use Rattle.ent_lists.specs.Elements.{or_first, or_second, number_itself}
+use Rattle.ent_set.specs.Laws.{any_map}
 use Rattle.ent_value.specs.declared.value.Kind.{Kind}
 use Rattle.ent_value.specs.declared.value.Kind.TheVariants.{Int}
 use Rattle.ent_tree.specs.declared.entangled.Condition.{Condition}
@@ -52,13 +53,6 @@ module _ {X : Type 0} (p : X → Bool) where
   any_last : (xs : List X) (x : X) → p x ≡ true → list_any p (xs ++ x ∷ []) ≡ true
   any_last xs x e =
       list_any-append p xs (x ∷ []) ∙ or_second (list_any p xs) (p x || false) (or_first (p x) false e)
-
-any_map : {X Y : Type 0} (p : Y → Bool) (f : X → Y) (xs : List X) → list_any p (map f xs) ≡ list_any (λ x. p (f x)) xs
-any_map p f [] = refl
-any_map p f (x ∷ xs) = ap (λ b. p (f x) || b) (any_map p f xs)
-
-number_itself : (a : ℕ) → (a == a) ≡ true
-number_itself a = grind (arith, rules)
 
 module _ (environment : Environment) (names : List Name) where
   abbrev is_of : Name → Term Known → Bool

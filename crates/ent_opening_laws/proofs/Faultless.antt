@@ -21,7 +21,8 @@ use Rattle.ent_form.specs.declared.catalogue.TableSchema.{TableSchema}
 use Rattle.ent_form.specs.declared.fault.FormFault.{FormFault}
 use Rattle.ent_form.specs.declared.fault.FormFault.TheVariants.{Arity, NoTable, Repeated, WrongKind}
 use Rattle.ent_history.specs.Told.{opening_row, told_opening, told_rows}
-use Rattle.ent_lists.specs.Elements.{In, Pairs, any_some, clash, in_either, in_flat, not_so, of_all, of_map, to_all}
+use Rattle.ent_lists.specs.Elements.{In, Pairs, in_either, in_flat, of_all, of_map, to_all}
+use Rattle.ent_report_laws.proofs.Faultless.{not_among}
 use Rattle.ent_opening_laws.proofs.Declared.{Rises, names_rise, other_name, shown_declared, tables_rise, tables_told}
 use Rattle.ent_opening_laws.proofs.Faults.{found_alike, found_schema}
 use Rattle.ent_opening_laws.proofs.Rows.{row_itself, row_stands}
@@ -77,13 +78,6 @@ columns_once opening e =
 abbrev AreNew : List Name → List Create → Type 0
 AreNew earlier tables =
     (create : Create) → In create tables → (name : Name) → In name earlier → same_name name create.name.name ≡ false
-
-not_among : (earlier : List Name) (name : Name) → ((other : Name) → In other earlier → same_name other name ≡ false)
-    → is_among earlier name ≡ false
-not_among earlier name new =
-    not_so (is_among earlier name) (λ is.
-    let found = any_some (λ other. same_name other name) earlier is in
-    clash (same_name found.0 name) found.2 (new found.0 found.1))
 
 none_declared_again : (earlier : List Name) (tables : List Create) → AreNew earlier tables → Pairs Rises tables
     → AllByRecursion HasColumnsOnce tables → declarations_fault earlier tables ≡ None

@@ -5,20 +5,18 @@ use Rattle.std.specs.Prelude.{Contains, AllPairs, MatchOption, slice_get}
 use Rattle.std.proofs.lemmas.Bool.{cases_lt}
 use Rattle.std.proofs.lemmas.List.{get_or_default}
 use Rattle.std.proofs.lemmas.List.Elements.{All-contains, Contains-get_or}
-use Rattle.ent_value.specs.Value.{kind_of, kinds_of}
 use Rattle.ent_value.specs.declared.value.Kind.{Kind}
 use Rattle.ent_value.specs.declared.value.Kind.TheVariants as kinds
 use Rattle.ent_value.specs.declared.value.Value.{Value}
-use Rattle.ent_value.specs.declared.value.Value.TheVariants.{Int, Text}
 use Rattle.ent_semantics.specs.declared.answer.Fact.{Fact}
 use Rattle.ent_semantics.specs.Entangled.{Valuation}
-use Rattle.ent_semantics.specs.Kinds.{IsOfKind}
 use Rattle.ent_closed.specs.declared.entangled.Atom.{Atom}
 use Rattle.ent_coordination.specs.Choice.{all_heads, all_posts}
-use Rattle.ent_coordination.specs.Pool.{Posted, IsPool, IsSafe, AreOfKinds, CanMeet, fact_under}
+use Rattle.ent_coordination.specs.Pool.{Posted, IsPool, IsSafe, CanMeet, fact_under}
 use Rattle.ent_unify.specs.Unifier.{AreAllOfKinds, AreEqual, NoneEquals, IsMostGeneral, AreKinded}
 use Rattle.ent_unify.specs.declared.unifier.Binding.{Binding}
 use Rattle.ent_unify.specs.declared.unifier.MemberAtom.{MemberAtom}
+use Rattle.ent_unify.proofs.Atoms.{kinds_from}
 use Rattle.ent_plan.specs.Agreement.{variables_of, IsUnifierOf}
 use Rattle.ent_plan.specs.Pairs.{Placed, placed_posts, placed_heads, AtPlace, seen_pair, pair_of, DoUnify, StandApart}
 use Rattle.ent_plan.specs.Pairs.{ArePairs, HasLonePost}
@@ -213,28 +211,13 @@ module _ (members : List Posted) (one : IsPool members) (safe : IsSafe members) 
 
 -- ---- values within bounds are of their kinds
 
-kind_is : (kind : Kind) (value : Value) → IsOfKind kind value → kind_of value ≡ kind
-kind_is kinds.Int (Int number) h = refl
-kind_is kinds.Int (Text bytes) h = absurd h
-kind_is kinds.Text (Int number) h = absurd h
-kind_is kinds.Text (Text bytes) h = refl
-
-kinds_are : (ks : List Kind) (values : Valuation) → AreOfKinds ks values → kinds_of values ≡ ks
-kinds_are [] [] h = refl
-kinds_are [] (v ∷ vs) h = absurd h
-kinds_are (k ∷ ks) [] h = absurd h
-kinds_are (k ∷ ks) (v ∷ vs) h =
-    let first = kind_is k v h.0 in
-    let rest = kinds_are ks vs h.1 in
-    λ i. first i ∷ rest i
-
 all_kinds_are : (K : List (List Kind)) (groundings : List Valuation) → AreAllOfKinds K groundings
     → AreKinded K groundings
 all_kinds_are [] [] h = refl
 all_kinds_are [] (v ∷ vs) h = absurd h
 all_kinds_are (k ∷ ks) [] h = absurd h
 all_kinds_are (k ∷ ks) (v ∷ vs) h =
-    let first = kinds_are k v h.0 in
+    let first = kinds_from k v h.0 in
     let rest = all_kinds_are ks vs h.1 in
     λ i. first i ∷ rest i
 

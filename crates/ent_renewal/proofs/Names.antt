@@ -1,15 +1,13 @@
 -- Tables under the names that are declared, each once.
-use Rattle.std.proofs.Common.{◌≡◌, List, [], ◌∷◌, map, None, refl, ap, cond}
+use Rattle.std.proofs.Common.{◌≡◌, List, [], None}
 use Rattle.ent_tree.specs.declared.declaration.Create.{Create}
 use Rattle.ent_closed.specs.Form.{Tables}
-use Rattle.ent_semantics.specs.Database.{Name, same_name}
 use Rattle.ent_form.specs.Catalogue.{schemas_of}
 use Rattle.ent_form.specs.OpeningFault.{declarations_fault}
 use Rattle.ent_form_laws.specs.Kinds.{AreKinded}
 use Rattle.ent_form_laws.specs.Tables.{database_of}
 use Rattle.ent_form_laws.proofs.NamesApart.{kinds_under, names_apart, nothing_under}
 use Rattle.ent_lists.specs.Elements.{nth_in}
-use Rattle.ent_protocol.specs.Reached.{named_tables}
 use Rattle.ent_renewal.specs.Renewal.{HoldsTablesOf}
 
 -- kinded tables under names that are declared once
@@ -21,10 +19,3 @@ held_tables creates tables once kinded =
           kinds_under creates tables kinded (names_apart creates once) _ (nth_in creates k d low);
       others = nothing_under creates tables;
     }
-
-pub named_same : (creates : List Create) (tables : Tables) (name : Name)
-    → named_tables (map (λ (create : Create). create.name.name) creates) tables name ≡ database_of creates tables name
-named_same [] tables name = refl
-named_same (create ∷ more) [] name = refl
-named_same (create ∷ more) (rows ∷ tables) name =
-    ap (λ rest. cond (same_name create.name.name name) rows rest) (named_same more tables name)

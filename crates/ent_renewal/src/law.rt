@@ -9,13 +9,7 @@ ghost use Rattle.ent_protocol.specs.Reached.{IsFinishedBook};
 ghost use Rattle.ent_headline.specs.Resolved.{resolved_forms};
 ghost use Rattle.ent_renewal.specs.Renewal.{HoldsTablesOf};
 
-use ent_closed::closing_keeps_the_meaning;
-use ent_form_laws::{
-    declared_columns_are_distinct, effects_keep_kinds, groundings_are_of_their_kinds,
-    kinded_tables_are_wide, opening_tables_are_kinded, resolved_grounds_the_same,
-    resolved_means_the_same, resolved_statements_fit, variables_are_the_written_ones,
-};
-use ent_headline::resolved_runs_are_serial;
+use ent_headline::resolved_runs_keep_kinds;
 
 /// A finished book over an opening without a fault holds the tables that the opening declares, with rows of the kinds
 /// of their columns.
@@ -25,15 +19,5 @@ pub fn finished_books_hold_their_tables()
         → IsFinishedBook resolved_forms opening scripts book
         → HoldsTablesOf opening.tables book.database }
 {
-    closing_keeps_the_meaning();
-    effects_keep_kinds();
-    groundings_are_of_their_kinds();
-    kinded_tables_are_wide();
-    opening_tables_are_kinded();
-    resolved_statements_fit();
-    declared_columns_are_distinct();
-    resolved_grounds_the_same();
-    resolved_means_the_same();
-    variables_are_the_written_ones();
-    resolved_runs_are_serial();
+    resolved_runs_keep_kinds();
 }

@@ -5,9 +5,10 @@ use Rattle.std.specs.Prelude.{codes, nat_lt, ◌/◌, ◌%◌}
 use Rattle.std.specs.List.{list_all}
 use Rattle.std.specs.Fmt.{decimal, digit_glyph, digits, digits_onto}
 use Rattle.std.proofs.lemmas.Bool.{ne_eqb}
+use Rattle.ent_lists.specs.Elements.{both_and}
 use Rattle.ent_text.specs.Spelling.{is_in_line}
 use Rattle.ent_report_lines.specs.Scripts.{script_text}
-use Rattle.ent_script_reader.proofs.InLine.{IsInLine, both, in_line_append}
+use Rattle.ent_script_reader.proofs.InLine.{IsInLine, in_line_append}
 
 other_byte : (b : ℕ) → (b ≡ 10 → ⊥) → is_in_line b ≡ true
 other_byte b other = ap not (ne_eqb b 10 other)
@@ -28,7 +29,7 @@ onto_in_line : (k n : ℕ) (behind : List ℕ) → IsInLine behind → IsInLine 
 onto_in_line zero n behind h = h
 onto_in_line (suc k) n behind h =
     let glyph = digit_glyph false (n % 10) in
-    let more = both (is_in_line glyph) (list_all is_in_line behind) (glyph_in_line (n % 10)) h in
+    let more = both_and (is_in_line glyph) (list_all is_in_line behind) (glyph_in_line (n % 10)) h in
     either (n / 10 == 0) (glyph ∷ behind) (digits_onto k 10 false (n / 10) (glyph ∷ behind)) more
     (onto_in_line k (n / 10) (glyph ∷ behind) more)
 

@@ -14,8 +14,10 @@ use Rattle.ent_line.specs.declared.fault.LineFault.{LineFault}
 use Rattle.ent_line.specs.Pieces.{behind, number_at, value_at}
 use Rattle.ent_text.specs.Lexing.{Stops}
 use Rattle.ent_line.specs.Written.{IsOver, IsValue}
+use Rattle.ent_line.proofs.Numbers.{chosen}
+use Rattle.ent_line.proofs.Values.{bind_ok}
 use Rattle.ent_report_lines.specs.Bindings.{binding_at, with_first, bindings_at, member_at, member_line}
-use Rattle.ent_report_lines.proofs.Steps.{Parts, bind_ok, bind_with, chosen, ok, same_ok, no_bytes}
+use Rattle.ent_report_lines.proofs.Steps.{Parts, bind_with, ok, same_ok, no_bytes}
 
 -- ---- one behind the other
 

@@ -7,6 +7,7 @@ use Rattle.std.specs.List.{AllByRecursion}
 use Rattle.std.proofs.lemmas.Bool.{and_parts}
 use Rattle.std.proofs.lemmas.List.Folds.{list_any_at, list_any_none}
 use Rattle.std.proofs.lemmas.List.Kept.{AllPairs-cons}
+use Rattle.ent_lists.specs.Elements.{turned, both_and}
 use Rattle.ent_value.specs.Refusal.{◌>>=◌, Refuses}
 use Rattle.ent_value.specs.declared.refusal.Refusal.{Refusal}
 use Rattle.ent_value.specs.declared.refusal.Refusal.TheVariants.{Memory, Fault}
@@ -29,7 +30,7 @@ use Rattle.ent_report_lines.specs.Openings.{columns_at}
 use Rattle.ent_report_lines.specs.Listing.{listed_at, with_one}
 use Rattle.ent_report_lines.proofs.Listing.{with_front, with_front_one, at_end, at_limit, at_one, at_fault}
 use Rattle.ent_report_lines.proofs.Listing.{listed_found, listed_again}
-use Rattle.ent_report_lines.proofs.Names.{both, name_found, name_again}
+use Rattle.ent_report_lines.proofs.Names.{name_found, name_again}
 
 -- ---- kinds
 
@@ -197,10 +198,6 @@ columns_again (column ∷ more) rest are some few over =
 abbrev pub Differ : Column → Column → Type 0
 Differ first second = first.name.name ≢ second.name.name
 
-not_so : (b : Bool) → not b ≡ true → b ≡ false
-not_so true h = cc
-not_so false h = refl
-
 clash : (b : Bool) → b ≡ true → b ≡ false → ⊥
 clash true e f = cc
 clash false e f = cc
@@ -226,13 +223,13 @@ pub distinct_found : (columns : List Column) → are_distinct columns ≡ true �
 distinct_found [] h = λ i j d lt within. absurd (omega arith)
 distinct_found (column ∷ more) h =
     let parts = and_parts (not (is_among column.name.name more)) (are_distinct more) h in
-    AllPairs-cons Differ column more (apart column more (not_so (is_among column.name.name more) parts.0))
+    AllPairs-cons Differ column more (apart column more (turned (is_among column.name.name more) parts.0))
     (distinct_found more parts.1)
 
 pub distinct_again : (columns : List Column) → AllPairs Differ columns → are_distinct columns ≡ true
 distinct_again [] all = refl
 distinct_again (column ∷ more) all =
-    both (not (is_among column.name.name more)) (are_distinct more)
+    both_and (not (is_among column.name.name more)) (are_distinct more)
     (ap not (is_apart column more (λ k d below. all zero (suc k) d (omega arith) (omega arith))))
     (distinct_again more (λ i j d lt within. all (suc i) (suc j) d (omega arith) (omega arith)))
 

@@ -14,8 +14,10 @@ use Rattle.ent_line.specs.declared.fault.LineFault.TheVariants.{Misfit}
 use Rattle.ent_line.specs.Pieces.{behind, number_at, value_at}
 use Rattle.ent_text.specs.Lexing.{Stops}
 use Rattle.ent_line.specs.Written.{IsOver, IsValue}
+use Rattle.ent_line.proofs.Numbers.{chosen}
+use Rattle.ent_line.proofs.Values.{bind_ok}
 use Rattle.ent_report_lines.specs.Counts.{counted_at, table_at, placed_at, set_at, table_line, placed_line, set_line}
-use Rattle.ent_report_lines.proofs.Steps.{Parts, bind_ok, bind_with, chosen, ok, same_ok, no_bytes}
+use Rattle.ent_report_lines.proofs.Steps.{Parts, bind_with, ok, same_ok, no_bytes}
 
 abbrev ended : {A : Type 0} → A × List ℕ → Result A LineFault
 ended found = cond (eqb (length found.1) 0) (Ok found.0) (Err Misfit)

@@ -15,10 +15,12 @@ use Rattle.ent_history_form.specs.Parts.{IsNumber}
 use Rattle.ent_line.specs.declared.fault.LineFault.{LineFault}
 use Rattle.ent_line.specs.declared.fault.LineFault.TheVariants.{Misfit}
 use Rattle.ent_line.specs.Pieces.{behind, number_at}
+use Rattle.ent_line.proofs.Numbers.{chosen}
+use Rattle.ent_line.proofs.Values.{bind_ok}
 use Rattle.ent_history_form.specs.Answers.{AreRuns, IsFate}
 use Rattle.ent_report_lines.specs.Fates.{runs_at, committed_at, gave_up_at, rolled_back_at, failure_at, failed_at}
 use Rattle.ent_report_lines.specs.Fates.{fate_at, transaction_at, transaction_text}
-use Rattle.ent_report_lines.proofs.Steps.{Parts, bind_ok, bind_with, chosen, ok, same_ok, no_bytes}
+use Rattle.ent_report_lines.proofs.Steps.{Parts, bind_with, ok, same_ok, no_bytes}
 
 -- what is read is written so, and can be
 abbrev FateStands : List ℕ → Fate → Type 0

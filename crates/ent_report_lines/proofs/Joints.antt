@@ -7,6 +7,7 @@ use Rattle.std.specs.List.{AllByRecursion, flat_map}
 use Rattle.std.specs.Fmt.{decimal}
 use Rattle.std.proofs.lemmas.Bool.{and_parts, ltb-true, lt-ltb}
 use Rattle.std.proofs.lemmas.List.{append-nil}
+use Rattle.ent_lists.specs.Elements.{both_and}
 use Rattle.ent_value.specs.Refusal.{◌>>=◌}
 use Rattle.ent_history_form.specs.Joints.{PlacesRise, place_text}
 use Rattle.ent_history_form.specs.Parts.{IsNumber}
@@ -20,7 +21,6 @@ use Rattle.ent_report_lines.proofs.Steps.{bind_with, same_ok, no_bytes}
 use Rattle.ent_report_lines.specs.Joints.{place_at, places_at, rise, joint_at, joint_text}
 use Rattle.ent_report_lines.specs.Listing.{listed_at}
 use Rattle.ent_report_lines.proofs.Listing.{listed_found, listed_again, shorter_than_text, nonempty, is_nonempty}
-use Rattle.ent_report_lines.proofs.Names.{both}
 
 -- ---- a place
 
@@ -104,7 +104,7 @@ pub is_rising : (places : List (ℕ × ℕ)) → PlacesRise places → rise plac
 is_rising [] h = refl
 is_rising (place ∷ []) h = refl
 is_rising (place ∷ next ∷ more) h =
-    both (ltb place.0 next.0) (rise (next ∷ more)) (lt-ltb place.0 next.0 h.2) (is_rising (next ∷ more) h.3)
+    both_and (ltb place.0 next.0) (rise (next ∷ more)) (lt-ltb place.0 next.0 h.2) (is_rising (next ∷ more) h.3)
 
 -- ---- the line
 
@@ -172,4 +172,4 @@ joint_again number places small some rising =
     (number_again 9223372036854775807 number text (omega arith) small (no_digit places))
     ∙ bind_with (places_at text) (places, []) (λ places. whole_line number places) (all_places places (are_places places rising))
     ∙ ap (λ (t : Bool). wanted t (number, places))
-    (both (not (eqb (length places) 0)) (rise places) (is_nonempty places some) (is_rising places rising))
+    (both_and (not (eqb (length places) 0)) (rise places) (is_nonempty places some) (is_rising places rising))

@@ -12,6 +12,7 @@ use Rattle.std.proofs.lemmas.List.{append-nil}
 use Rattle.std.proofs.lemmas.List.Sums.{AllPass-from_list_all}
 use Rattle.std.proofs.lemmas.Str.{IsUtf8-from_ascii}
 use Rattle.std.proofs.lemmas.Str.Ascii.{IsAscii-from_all}
+use Rattle.ent_lists.specs.Elements.{both_and}
 use Rattle.ent_value.specs.Name.{is_word, is_word_byte}
 use Rattle.ent_value.specs.declared.name.TheConstants.{LONGEST_NAME}
 use Rattle.ent_text.specs.declared.keyword.Keyword.{Keyword}
@@ -33,9 +34,6 @@ use Rattle.ent_line.proofs.Numbers.{chosen, is_first, is_rest}
 use Rattle.ent_report_lines.specs.Names.{is_keyword, is_name, name_at}
 
 -- ---- which words are names
-
-pub both : (a b : Bool) → a ≡ true → b ≡ true → (a && b) ≡ true
-both a b p q = rw (p, q) refl
 
 word_parts : (word : List ℕ) → is_word word ≡ true
     → (length word ≤ 63) × (is_ascii_alphabetic (slice_index word 0) ≡ true) × (list_all is_word_byte word ≡ true)
@@ -74,10 +72,10 @@ is_name_of word is =
     let same : is.0.0 ≡ word = is.0.1.1 in
     let like = subst (λ bytes. (is_ascii_alphabetic (slice_index bytes 0) ≡ true) × (list_all is_word_byte bytes ≡ true)) same
     (is.0.1.0.0, is.0.1.0.1) in
-    both (is_word word) (is_none (keyword_of word))
-    (both (leb (length word) LONGEST_NAME) (is_ascii_alphabetic (slice_index word 0) && list_all is_word_byte word)
+    both_and (is_word word) (is_none (keyword_of word))
+    (both_and (leb (length word) LONGEST_NAME) (is_ascii_alphabetic (slice_index word 0) && list_all is_word_byte word)
     (le-leb (length word) LONGEST_NAME is.1)
-    (both (is_ascii_alphabetic (slice_index word 0)) (list_all is_word_byte word) like.0 like.1))
+    (both_and (is_ascii_alphabetic (slice_index word 0)) (list_all is_word_byte word) like.0 like.1))
     (free word (keyword_of word) refl
     (subst (λ bytes. (keyword : Keyword) → IsInAnyCase keyword bytes → ⊥) same is.0.1.2))
 

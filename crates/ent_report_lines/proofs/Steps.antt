@@ -1,5 +1,5 @@
 -- Steps of reading a line, one after the other.
-use Rattle.std.proofs.Common.{◌≡◌, ℕ, ◌<◌, ◌≤◌, ◌^◌, Bool, true, false, cond, eqb, List, [], ◌∷◌, ◌++◌, length, Ok, Err, Result, refl, ap, arith}
+use Rattle.std.proofs.Common.{◌≡◌, ℕ, ◌<◌, ◌≤◌, ◌^◌, true, eqb, List, [], ◌∷◌, ◌++◌, length, Ok, Err, Result, refl, ap, arith}
 use Rattle.std.specs.Char.{is_ascii_digit}
 use Rattle.std.specs.Fmt.{decimal}
 use Rattle.std.proofs.lemmas.Bool.{eqb-true}
@@ -17,20 +17,10 @@ pub record Parts : Type 0 where
   pub behind_found : (word bytes rest : List ℕ) → behind word bytes ≡ Ok rest → bytes ≡ word ++ rest
   pub behind_again : (word rest : List ℕ) → behind word (word ++ rest) ≡ Ok rest
 
-pub bind_ok : {A B : Type 0} (r : Result A LineFault) (f : A → Result B LineFault) (y : B) → (r >>= f) ≡ Ok y
-    → (x : A) × (r ≡ Ok x) × (f x ≡ Ok y)
-bind_ok (Ok x) f y h = (x, refl, h)
-bind_ok (Err e) f y h = cc
-
 -- goes on with what was read
 pub bind_with : {A B : Type 0} (r : Result A LineFault) (x : A) (f : A → Result B LineFault) → r ≡ Ok x
     → (r >>= f) ≡ f x
 bind_with r x f e = ap (λ s. s >>= f) e
-
-pub chosen : {A : Type 0} (b : Bool) (x : Result A LineFault) (e : LineFault) (y : A) → cond b x (Err e) ≡ Ok y
-    → (b ≡ true) × (x ≡ Ok y)
-chosen true x e y h = (refl, h)
-chosen false x e y h = cc
 
 abbrev pub ok : {A : Type 0} → A → Result A LineFault
 ok x = Ok x

@@ -7,11 +7,12 @@ use Rattle.std.proofs.lemmas.Bool.{ne_eqb}
 use Rattle.std.proofs.lemmas.Str.{IsCharBoundary-at_seam}
 use Rattle.std.proofs.lemmas.Str.Pattern.{IsSplitOnceResult, split_parts}
 use denote.Ref.{Bor}
+use Rattle.ent_lists.specs.Elements.{both_and}
 use Rattle.ent_text.specs.Spelling.{is_in_line}
 use Rattle.ent_book.specs.Report.{line}
 use Rattle.ent_book.specs.Report2.{line_count}
 use Rattle.ent_script_reader.specs.Begins.{HasWholeLines}
-use Rattle.ent_script_reader.proofs.InLine.{IsInLine, both}
+use Rattle.ent_script_reader.proofs.InLine.{IsInLine}
 use Rattle.ent_script_reader.proofs.Lines.{count_append, none_in_line}
 use Rattle.ent_report_reader.specs.Lines.{AreFrontLines, IsFirstLine}
 
@@ -20,7 +21,7 @@ use Rattle.ent_report_reader.specs.Lines.{AreFrontLines, IsFirstLine}
 no_end_inside : (xs : List ℕ) → ((i : ℕ) → i < length xs → get_or xs i 0 ≢ 10) → IsInLine xs
 no_end_inside [] h = refl
 no_end_inside (x ∷ xs) h =
-    both (is_in_line x) (list_all is_in_line xs) (ap not (ne_eqb x 10 (h 0 (omega arith))))
+    both_and (is_in_line x) (list_all is_in_line xs) (ap not (ne_eqb x 10 (h 0 (omega arith))))
     (no_end_inside xs (λ i low. h (suc i) (omega (arith, low))))
 
 abbrev Split : Type 0

@@ -8,6 +8,7 @@ use Rattle.std.specs.Str.Parse.{AllDigits}
 use Rattle.std.proofs.lemmas.Bool.{eqb-true}
 use Rattle.std.proofs.lemmas.Fmt.{decimal_is_IsNumeral}
 use Rattle.std.proofs.lemmas.List.Folds.{list_all-append}
+use Rattle.ent_lists.specs.Elements.{both_and}
 use Rattle.ent_value.specs.Name.{is_word_byte}
 use Rattle.ent_value.specs.Print.{doubled}
 use Rattle.ent_text.specs.declared.keyword.Keyword.{Keyword}
@@ -27,10 +28,6 @@ abbrev pub IsInLine : List ℕ → Type 0
 IsInLine text = list_all is_in_line text ≡ true
 
 -- ---- tests
-
-pub both : (p q : Bool) → p ≡ true → q ≡ true → (p && q) ≡ true
-both true q h k = k
-both false q h k = absurd cc
 
 left_of : (p q : Bool) → (p && q) ≡ true → p ≡ true
 left_of true q h = refl
@@ -58,14 +55,14 @@ other_than_end so never c h = from (c == 10) refl
 
 pub in_line_append : (xs ys : List ℕ) → IsInLine xs → IsInLine ys → IsInLine (xs ++ ys)
 in_line_append xs ys h k =
-    list_all-append is_in_line xs ys ∙ both (list_all is_in_line xs) (list_all is_in_line ys) h k
+    list_all-append is_in_line xs ys ∙ both_and (list_all is_in_line xs) (list_all is_in_line ys) h k
 
 -- ---- the text of a token
 
 pub word_in_line : (word : List ℕ) → list_all is_word_byte word ≡ true → IsInLine word
 word_in_line [] h = refl
 word_in_line (c ∷ cs) h =
-    both (is_in_line c) (list_all is_in_line cs)
+    both_and (is_in_line c) (list_all is_in_line cs)
     (other_than_end (λ d. is_word_byte d ≡ true) (λ e. absurd cc) c
     (left_of (is_word_byte c) (list_all is_word_byte cs) h))
     (word_in_line cs (right_of (is_word_byte c) (list_all is_word_byte cs) h))
@@ -73,7 +70,7 @@ word_in_line (c ∷ cs) h =
 pub digits_in_line : (digits : List ℕ) → AllDigits 10 digits → IsInLine digits
 digits_in_line [] h = refl
 digits_in_line (c ∷ cs) h =
-    both (is_in_line c) (list_all is_in_line cs)
+    both_and (is_in_line c) (list_all is_in_line cs)
     (other_than_end (λ d. digit_value d < 10) (λ e. absurd (omega arith)) c h.0)
     (digits_in_line cs h.1)
 
@@ -91,7 +88,7 @@ doubled_in_line (c ∷ cs) h =
     twice : (test : Bool) → is_in_line c ≡ true → IsInLine (doubled cs)
         → IsInLine (if test then 39 ∷ 39 ∷ doubled cs else (c ∷ doubled cs))
     twice true one more = more
-    twice false one more = both (is_in_line c) (list_all is_in_line (doubled cs)) one more
+    twice false one more = both_and (is_in_line c) (list_all is_in_line (doubled cs)) one more
 
 keyword_in_line : (keyword : Keyword) → IsInLine (keyword_text keyword)
 keyword_in_line keywords.And = refl

@@ -3,8 +3,8 @@
 -- These sets aren't the library's `FinSet`: its words can't be opened outside of it, and no law of it says that its
 -- items ascend, or counts the set of a list. So the words here are those of the map to nothing that both are. Each law
 -- below is one that a proof of this repository uses; where the library has it, it speaks of `FinSet` or of maps.
-use Rattle.std.proofs.Common.{◌≡◌, ℕ, ◌+◌, ◌≤◌, Bool, true, false, cond, not, ◌&&◌, ◌||◌, List, [], ◌∷◌, ◌++◌, length, map}
-use Rattle.std.proofs.Common.{refl, sym, ap, subst, ◌∙◌, arith, Option, Some, None, T}
+use Rattle.std.proofs.Common.{◌≡◌, ℕ, ◌+◌, ◌≤◌, Bool, true, false, cond, not, ◌&&◌, ◌||◌, List, [], ◌∷◌, ◌++◌, length}
+use Rattle.std.proofs.Common.{map, refl, sym, ap, subst, ◌∙◌, arith, Option, Some, None, T}
 use Rattle.std.specs.Prelude.{is_some}
 use Rattle.std.specs.List.{list_any, filter, IsDistinct, AllByRecursion, dedup, dedup_from}
 use Rattle.std.specs.FinMap.Entries.{below_all}

@@ -18,7 +18,8 @@ use Rattle.ent_termination.proofs.PostedQueries.{AreAsked, pool_distinct}
 use Rattle.ent_termination.proofs.PostedQueries.{present_in_all}
 use Rattle.ent_lists.specs.Elements.{In, Pairs, any_in, any_some, clash, contains_in, in_contains, number_itself}
 use Rattle.ent_lists.specs.Elements.{of_map, same_number, to_map, turned}
-use Rattle.ent_termination.proofs.Pools.{joined_in, swapped}
+use Rattle.ent_coordination.proofs.Linked.{joined_back}
+use Rattle.ent_termination.proofs.Pools.{joined_in}
 
 -- a number is that of one of these statements
 abbrev pub is_asked : List Posted → ℕ → Bool
@@ -118,7 +119,7 @@ module _ (s : State) (left : List Job) (asked : List Posted) (given : List Valua
               let there : Contains asked other =
               subst (Contains asked) same (in_contains asked some.0 at) in
               let other_there : Contains asked one =
-              joined_in (pool s) asked other one component there (swapped one other joined)
+              joined_in (pool s) asked other one component there (joined_back one other joined)
               first in
               clash (is_asked asked one.tx)
               (any_in (λ (a : Posted). one.tx == a.tx) asked one (contains_in asked one other_there)

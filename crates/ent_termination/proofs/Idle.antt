@@ -1,17 +1,16 @@
 -- A round in which nothing moves leaves the run quiet.
 use Rattle.std.proofs.Common.{◌≡◌, inl, inr, ℕ, Bool, true, false, cond, ◌||◌, ◌==◌, List, [], ◌∷◌, ◌++◌, map}
-use Rattle.std.proofs.Common.{refl, sym, ap, subst, ◌∙◌, arith, Option, Some, None}
+use Rattle.std.proofs.Common.{refl, sym, ap, subst, ◌∙◌, Option, Some, None}
 use Rattle.std.specs.List.{filter, list_any}
 use Rattle.ent_protocol_laws.proofs.Pooled.{pool_apart, never_unsafe}
 use Rattle.ent_value.specs.declared.value.Value.{Value}
-use Rattle.ent_group.specs.Cycle.{Closes, IsOnCycle}
 use Rattle.ent_closed.specs.declared.entangled.Entangled.{Entangled}
 use Rattle.ent_closed.specs.declared.statement.Statement.{Statement}
 use Rattle.ent_coordination.specs.Pool.{Posted, IsSafe}
 use Rattle.ent_semantics.specs.declared.book.Fated.{Fated}
 use Rattle.ent_protocol.specs.Begin.{BeginsCommit, BeginsEntangled, BeginsNext, BeginsOrdinary, Posts, pool_with}
 use Rattle.ent_protocol.specs.Commit.{preparing, is_ready}
-use Rattle.ent_protocol.specs.Event.{Reason, Reply}
+use Rattle.ent_protocol.specs.Event.{Reply}
 use Rattle.ent_protocol.specs.Event as events
 use Rattle.ent_protocol.specs.Lookup.{active_standing, running_members, standing, turn_of}
 use Rattle.ent_protocol.specs.Lookup as lookups
@@ -19,11 +18,11 @@ use Rattle.ent_protocol.specs.Member.{Next, Ordinary, Asks, Commits, RollsBack, 
 use Rattle.ent_protocol.specs.Member.{is_lent, is_single_of, is_tx, next_of}
 use Rattle.ent_protocol.specs.Play.{is_idle}
 use Rattle.ent_protocol.specs.PoolEvents.{CanBePicked, IsOut, Picks}
-use Rattle.ent_protocol.specs.Quiet.{CanMove, CanPost, HasJobOut, IsQuiet, IsReason, IsUntried, MovesBy, NoneIs}
+use Rattle.ent_protocol.specs.Quiet.{CanMove, CanPost, HasJobOut, IsQuiet, IsUntried, MovesBy, NoneIs}
 use Rattle.ent_protocol.specs.Run.{BreaksIfAny, Ends, EndsWhileRunning, Forms, ending}
 use Rattle.ent_protocol.specs.State.{State, Dormant, Member, first_of, members}
 use Rattle.ent_protocol.specs.Uses.{statement_uses, entangled_uses, blocker}
-use Rattle.ent_protocol.specs.Waits.{NoDeadlock, waits}
+use Rattle.ent_protocol.specs.Waits.{NoDeadlock}
 use Rattle.ent_protocol_laws.specs.ByNumber.{StandByNumber}
 use Rattle.ent_protocol_laws.specs.Standing.{StandOnce}
 use Rattle.ent_termination.specs.Idle.{IsHeldUp, IsIdleRound}
@@ -31,6 +30,7 @@ use Rattle.ent_lists.specs.Elements.{In, Pairs, of_all, in_first, in_second, cla
 use Rattle.ent_lists.specs.Elements.{filter_empty, index_pairs, pairs_across, contains_in, to_map}
 use Rattle.ent_protocol_laws.specs.Numbered.{Apart, Below, below_apart, one_passes}
 use Rattle.ent_protocol_laws.proofs.Left.{tx_of}
+use Rattle.ent_protocol_laws.proofs.Reasons.{no_reason}
 use Rattle.ent_termination.proofs.Numbers.{is_running, members_apart}
 use Rattle.ent_termination.proofs.Ready.{begins_next}
 
@@ -97,19 +97,6 @@ module _ (s : State) (once : StandOnce s) (by_number : StandByNumber s) (m : Mem
       let two = neither m.posted (is_lent s m.tx) waiting in
       stands_active ∙ (λ i. Some (cond (two.0 i) lookups.Posted
       (cond (two.1 i) lookups.Out (lookups.Ready (turn_of (next_of s m))))))
-
--- ---- a quiet run has no reason to go on
-
-one_on_cycle : (s : State) (cycle : List ℕ) → Closes (waits s) cycle → (tx : ℕ) × IsOnCycle (waits s) tx
-one_on_cycle s [] closes = let low = closes.not_empty in absurd (omega (arith, low))
-one_on_cycle s (x ∷ xs) closes = (x, (x ∷ xs, closes, (0, omega arith, refl)))
-
-no_reason : (s : State) → IsQuiet s → (reason : Reason) → IsReason s reason → ⊥
-no_reason s quiet (events.JobOut tx) h = quiet.nothing_out tx h.0
-no_reason s quiet (events.CanBegin tx) h = quiet.nobody_moves tx h.1.0
-no_reason s quiet (events.Untried tx) h = quiet.all_tried tx h.2.0
-no_reason s quiet (events.Cycle cycle) h =
-    let r = one_on_cycle s cycle h.3.is_cycle.closes in quiet.no_deadlock r.0 r.1
 
 -- ---- who may move isn't refused
 

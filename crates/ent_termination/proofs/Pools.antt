@@ -1,29 +1,13 @@
 -- Components of a pool, and of a part of it.
-use Rattle.std.proofs.Common.{◌≡◌, ◌⊎◌, inl, inr, ℕ, zero, suc, true, ◌&&◌, ◌==◌, List, Some, refl, sym, subst}
+use Rattle.std.proofs.Common.{◌≡◌, inl, ℕ, zero, suc, true, ◌&&◌, ◌==◌, List, refl, sym, subst}
 use Rattle.std.proofs.Common.{Contains}
-use Rattle.std.specs.Prelude.{slice_get}
 use Rattle.std.specs.List.{list_any}
-use Rattle.ent_value.specs.declared.value.Value.{Value}
-use Rattle.ent_closed.specs.declared.entangled.Atom.{Atom}
 use Rattle.ent_coordination.specs.Component.{SetOfTransactions, IsIn, IsSupported, IsInRemainder, AreJoined}
 use Rattle.ent_coordination.specs.Component.{AreLinkedIn, IsComponent}
-use Rattle.ent_coordination.specs.Pool.{Posted, CanMeet}
+use Rattle.ent_coordination.specs.Pool.{Posted}
 use Rattle.ent_lists.specs.Elements.{and_both, both_and, same_number, number_itself, any_some, any_in, contains_in}
 use Rattle.ent_lists.specs.Elements.{in_contains}
-
-pub swapped : (first second : Posted) → AreJoined first second → AreJoined second first
-swapped first second joined = (joined.0, turned joined.1)
-  where
-    turned : {A B : Type 0} → A ⊎ B → B ⊎ A
-    turned (inl a) = inr a
-    turned (inr b) = inl b
-
-met_within : (pool : List Posted) (asker : Posted) (index : ℕ) (post : Atom Value) → IsInRemainder pool asker
-    → slice_get asker.statement.posts index ≡ Some post
-    → (owner : Posted) × IsInRemainder pool owner × CanMeet asker index owner
-met_within pool asker index post h is_post =
-    let met = h.supported asker index post h.is_in is_post in
-    (met.0, record { among = h.among; supported = h.supported; is_in = met.1 }, met.2)
+use Rattle.ent_coordination.proofs.Linked.{itself_supported}
 
 -- one step more
 linked_behind : (n : ℕ) (pool : List Posted) (first middle last : Posted) → AreLinkedIn n pool first middle
@@ -127,7 +111,7 @@ module _ (keep : SetOfTransactions) (all part : List Posted) (kept : IsPart keep
         distinct some.0 asker ((component.class some.0).0 there).0.is_in.0 (kept.down asker is_in.0).0
         (same_number some.0.tx asker.tx some.2) in
         let asks : Contains members asker = subst (Contains members) same there in
-        let met = met_within all asker index post ((component.class asker).0 asks).0 is_post in
+        let met = itself_supported all asker index post ((component.class asker).0 asks).0 is_post in
         let offers : Contains members met.0 =
         joined_in all members asker met.0 component asks (index, inl met.2) met.1 in
         (met.0, alone met.0 offers, met.2)

@@ -43,35 +43,6 @@ module _ {X : Type 0} (f : X → ℕ) where
       by false true g low = let h = sum_by-cons f x (filter q xs) in omega (arith, h, low)
       by false false g low = low
 
-  pub sum_filtered : (p : X → Bool) (xs : List X) → sum_by f (filter p xs) ≤ sum_by f xs
-  sum_filtered p [] = omega arith
-  sum_filtered p (x ∷ xs) = by (p x) (sum_filtered p xs)
-    where
-      by : (b : Bool) → sum_by f (filter p xs) ≤ sum_by f xs
-          → sum_by f (cond b (x ∷ filter p xs) (filter p xs)) ≤ sum_by f (x ∷ xs)
-      by true low =
-          let e = sum_by-cons f x (filter p xs) in let h = sum_by-cons f x xs in omega (arith, e, h, low)
-      by false low = let h = sum_by-cons f x xs in omega (arith, h, low)
-
-  -- without one that doesn't pass
-  pub sum_without : (p : X → Bool) (xs : List X) (x : X) → In x xs → p x ≡ false
-      → f x + sum_by f (filter p xs) ≤ sum_by f xs
-  sum_without p [] x at is = absurd at
-  sum_without p (y ∷ ys) x (inl same) is = by (p y) (ap p (sym same) ∙ is) (sum_filtered p ys)
-    where
-      by : (b : Bool) → b ≡ false → sum_by f (filter p ys) ≤ sum_by f ys
-          → f x + sum_by f (cond b (y ∷ filter p ys) (filter p ys)) ≤ sum_by f (y ∷ ys)
-      by true e low = clash true refl e
-      by false e low =
-          let h = sum_by-cons f y ys in let own : f x ≡ f y = ap f same in omega (arith, h, own, low)
-  sum_without p (y ∷ ys) x (inr at) is = by (p y) (sum_without p ys x at is)
-    where
-      by : (b : Bool) → f x + sum_by f (filter p ys) ≤ sum_by f ys
-          → f x + sum_by f (cond b (y ∷ filter p ys) (filter p ys)) ≤ sum_by f (y ∷ ys)
-      by true low =
-          let e = sum_by-cons f y (filter p ys) in let h = sum_by-cons f y ys in omega (arith, e, h, low)
-      by false low = let h = sum_by-cons f y ys in omega (arith, h, low)
-
   pub sum_mapped : (g : X → X) (xs : List X) → ((x : X) → In x xs → f (g x) ≡ f x)
       → sum_by f (map g xs) ≡ sum_by f xs
   sum_mapped g [] same = refl

@@ -33,8 +33,8 @@ use Rattle.ent_lists.specs.Elements.{taken_in}
 use Rattle.ent_protocol_laws.specs.Numbered.{Apart, one_of, to_by_number}
 use Rattle.ent_protocol_laws.proofs.Left.{tx_of, in_among}
 use Rattle.ent_termination.proofs.Numbers.{members_apart}
-use Rattle.ent_termination.proofs.Sums.{sum_by_number, sum_fewer, sum_filtered, sum_given, sum_lowered, sum_mapped}
-use Rattle.ent_termination.proofs.Sums.{sum_without}
+use Rattle.ent_termination.proofs.Lists.{sum_filtered, sum_without}
+use Rattle.ent_termination.proofs.Sums.{sum_by_number, sum_fewer, sum_given, sum_lowered, sum_mapped}
 
 abbrev of_dormant : List Submitted → Dormant → ℕ
 of_dormant submitted dormant = runs_beyond submitted dormant.tx dormant.runs
@@ -265,8 +265,8 @@ prepares : (s : State) (m : Member) → In m s.active
 prepares s m at =
     let joined = run_parts s.submitted s.prepared (m ∷ []) in
     let one = sum_by-cons (of_member s.submitted) m [] in
-    let low = sum_without (of_member s.submitted) (λ other. not (is_tx m.tx other)) s.active m at
-    (ap not (number_itself m.tx)) in
+    let low = sum_without (of_member s.submitted) (λ other. not (is_tx m.tx other)) s.active m
+    (of_member s.submitted m) at (ap not (number_itself m.tx)) (omega arith) in
     omega (arith, joined, one, low)
 
 commits : (s : State) (m : Member) → In m s.active → NoMore s (committing (preparing s m) m.group)

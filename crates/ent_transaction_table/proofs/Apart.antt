@@ -7,6 +7,7 @@ use Rattle.ent_semantics.specs.declared.book.Fate.{Fate}
 use Rattle.ent_semantics.specs.declared.book.Fated.{Fated}
 use Rattle.ent_protocol.specs.Rollback.{Cause, dormant_by, fate_of, fated_by}
 use Rattle.ent_protocol.specs.State.{Submitted, Dormant, Member}
+use Rattle.ent_protocol.proofs.Numbers.{waiting_tx}
 
 all_but : (P : ℕ → Type 0) (xs ys : List ℕ) (y : ℕ) → AllByRecursion P (xs ++ y ∷ ys) → AllByRecursion P (xs ++ ys)
 all_but P [] ys y all = all.1
@@ -87,16 +88,6 @@ module _ {A : Type 0} where
       subst (λ (m : ℕ). IsDistinct nat_eq (m ∷ (map number xs ++ rest))) (sym (own x refl))
       (first_distinct (map number xs) rest n distinct)
 
-waiting_number : (submitted : List Submitted) (cause : Cause) (m : Member) (own : Dormant)
-    → dormant_by submitted cause m ≡ Some own → own.tx ≡ m.tx
-waiting_number submitted cause m own is = by (fate_of submitted cause m) refl
-  where
-    by : (f : Option Fate) → fate_of submitted cause m ≡ f → own.tx ≡ m.tx
-    by None e =
-        let k : Some (record { tx = m.tx; runs = m.attempt }) ≡ Some own = rw e at is in
-        cc
-    by (Some fate) e = let k : None ≡ Some own = rw e at is in cc
-
 finished_number : (submitted : List Submitted) (cause : Cause) (m : Member) (fated : Fated)
     → fated_by submitted cause m ≡ Some fated → fated.tx ≡ m.tx
 finished_number submitted cause m fated is = by (fate_of submitted cause m) refl
@@ -112,7 +103,7 @@ pub awake_after : (submitted : List Submitted) (cause : Cause) (m : Member) (dor
     → IsDistinct nat_eq (map (λ own. own.tx) (cons_option (dormant_by submitted cause m) [] ++ dormant) ++ rest)
 awake_after submitted cause m dormant rest =
     apart_before (λ (own : Dormant). own.tx) dormant (dormant_by submitted cause m) m.tx rest
-    (waiting_number submitted cause m)
+    (waiting_tx submitted cause m)
 
 pub unfinished_after : (submitted : List Submitted) (cause : Cause) (m : Member) (fates : List Fated) (rest : List ℕ)
     → IsDistinct nat_eq (map (λ fated. fated.tx) fates ++ m.tx ∷ rest)

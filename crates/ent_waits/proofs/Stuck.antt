@@ -1,5 +1,5 @@
 -- Who stands in a cycle is stuck: each of a cycle waits for one of it.
-use Rattle.std.proofs.Common.{◌≡◌, ◌≢◌, ℕ, zero, suc, ◌+◌, ◌<◌, ◌≤◌, ◌==◌, ◌⊎◌, inl, inr, Bool, true, false}
+use Rattle.std.proofs.Common.{◌≡◌, ◌≢◌, ℕ, ◌+◌, ◌<◌, ◌≤◌, ◌==◌, ◌⊎◌, inl, inr, Bool, true, false}
 use Rattle.std.proofs.Common.{not, ◌||◌, List, [], ◌∷◌, length, nat_eq, bit_and, refl, sym, ap, subst, ◌∙◌, arith}
 use Rattle.std.proofs.Common.{true≢false}
 use Rattle.std.specs.Prelude.{All, AllPairs, Contains, nat_lt, slice_index}
@@ -7,10 +7,11 @@ use Rattle.std.specs.Int.{bit_at}
 use Rattle.std.proofs.lemmas.Bool.{eqb-true, ltb-true, ltb-false}
 use Rattle.std.proofs.lemmas.Bool.Decides.{nat_tests}
 use Rattle.std.proofs.lemmas.Nat.Bits.{bit_at-zero, bit_at_and}
-use Rattle.std.proofs.lemmas.List.Elements.{All-contains, All-head, All-tail, Contains-append_right}
-use Rattle.ent_group.specs.Cycle.{IsOnCycle, links_to}
+use Rattle.std.proofs.lemmas.List.Elements.{All-contains}
+use Rattle.ent_group.specs.Cycle.{IsOnCycle}
 use Rattle.ent_group.specs.Marks.{IsMarked, has_mark}
 use Rattle.ent_group.specs.Reach.{IsAt}
+use Rattle.ent_group.proofs.CycleWalk.{next_of}
 use Rattle.ent_waits.specs.Rows.{IsMarkedPair}
 
 pub below_or : (i j : ℕ) → (i < j) ⊎ (j ≤ i)
@@ -91,32 +92,6 @@ stuck_same rows stuck left at share none all old = λ i j below marked other. el
 ]
 
 -- ---- cycles
-
-abbrev Linked : List (ℕ × ℕ) → List ℕ → ℕ → Type 0
-Linked waits xs end = All (Contains waits) (links_to xs end)
-
--- whom one of a chain waits for
-next_of : (waits : List (ℕ × ℕ)) (xs : List ℕ) (end f : ℕ) → Linked waits xs end → Contains xs f
-    → (y : ℕ) × Contains waits (f, y) × (Contains xs y ⊎ (y ≡ end))
-next_of waits [] end f linked (k, within, e) = absurd (omega arith)
-next_of waits (x ∷ []) end f linked (zero, within, e) =
-    (end, subst (λ (v : ℕ). Contains waits (v, end)) e (All-head (Contains waits) (x, end) [] linked), inr refl)
-next_of waits (x ∷ []) end f linked (suc k, within, e) = absurd (omega arith)
-next_of waits (x ∷ y ∷ xs) end f linked (zero, within, e) = (
-  y,
-  subst (λ (v : ℕ). Contains waits (v, y)) e (All-head (Contains waits) (x, y) (links_to (y ∷ xs) end) linked),
-  inl (1, omega arith, refl),
-)
-next_of waits (x ∷ y ∷ xs) end f linked (suc k, within, e) =
-    let later = next_of waits (y ∷ xs) end f (All-tail (Contains waits) (x, y) (links_to (y ∷ xs) end) linked)
-    (k, omega arith, e) in (
-      later.0,
-      later.1,
-      elim later.2 [
-        | inl inside ↦ inl (Contains-append_right (x ∷ []) (y ∷ xs) later.0 inside)
-        | inr last ↦ inr last
-      ],
-    )
 
 -- one of a cycle waits for one of it
 on_cycle_goes_on : (waits : List (ℕ × ℕ)) (x : ℕ) → IsOnCycle waits x
