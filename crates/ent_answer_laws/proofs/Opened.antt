@@ -10,10 +10,8 @@ use Rattle.ent_tree.specs.declared.declaration.Column.{Column}
 use Rattle.ent_tree.specs.declared.declaration.Create.{Create}
 use Rattle.ent_tree.specs.declared.declaration.Opening.{Opening}
 use Rattle.ent_tree.specs.declared.declaration.OpeningRow.{OpeningRow}
-use Rattle.ent_semantics.specs.Database.{Name, opening_database, row_of, same_name}
 use Rattle.ent_form.specs.Catalogue.{schemas_of}
 use Rattle.ent_form.specs.OpeningFault.{declarations_fault, first_of, opening_row_fault}
-use Rattle.ent_history.specs.Text.{rows_under}
 use Rattle.ent_history.specs.Told.{opening_row}
 use Rattle.ent_history_form.specs.Parts.{IsRow}
 use Rattle.ent_form_laws.proofs.Steps.{nothing_first}
@@ -22,6 +20,7 @@ use Rattle.ent_lists.specs.Elements.{In, any_in, clash, contains_in, filter_empt
 use Rattle.ent_lists.specs.Elements.{of_all, of_map, shorter}
 use Rattle.ent_set.specs.Laws.{len-from_list}
 use Rattle.ent_value.specs.Order.{exact_rows, rows_total}
+use Rattle.ent_semantics.specs.Database.{Name, opening_database, row_of, same_name, rows_named}
 use Rattle.ent_semantics.proofs.EachRow.{each_listed}
 use Rattle.ent_report_laws.specs.Tellable.{AreRowsOf, IsOpeningTold}
 use Rattle.ent_report_laws.proofs.Faultless.{opening_faultless}
@@ -44,10 +43,10 @@ module _ (opening : Opening) (told : IsOpeningTold opening) where
       → is_declared opening.tables name ≡ true
   row_declared row at name same =
       let of_table : Create → List OpeningRow = λ create.
-      map (opening_row create.name.name) (rows_under opening create.name.name) in
+      map (opening_row create.name.name) (rows_named opening create.name.name) in
       let found = in_flat of_table opening.tables row
       (subst (λ (rows : List OpeningRow). In row rows) told.in_order at) in
-      let values = of_map (opening_row found.0.name.name) (rows_under opening found.0.name.name) row found.2 in
+      let values = of_map (opening_row found.0.name.name) (rows_named opening found.0.name.name) row found.2 in
       let named = ap (λ (r : OpeningRow). r.table.name) values.2 in
       any_in (λ (create : Create). same_name create.name.name name) opening.tables found.0 found.1
       (ap (λ (n : Name). same_name n name) (sym named) ∙ same)
@@ -64,8 +63,8 @@ module _ (opening : Opening) (told : IsOpeningTold opening) where
     rows = λ create there row has.
         each_listed (λ (row : List Value). IsRow row
         × (kinds_of row ≡ map (λ (column : Column). column.kind) create.columns))
-        (rows_under opening create.name.name)
-        (of_all (λ (create : Create). AreRowsOf create.columns (rows_under opening create.name.name)) opening.tables
+        (rows_named opening create.name.name)
+        (of_all (λ (create : Create). AreRowsOf create.columns (rows_named opening create.name.name)) opening.tables
         create told.rows (contains_in opening.tables create there)).0 row has;
     few = λ create there.
         let named = filter (names_it create.name.name) opening.rows in

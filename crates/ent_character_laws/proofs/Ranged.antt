@@ -8,11 +8,9 @@ use Rattle.ent_tree.specs.declared.entangled.Entangled.{Entangled}
 use Rattle.ent_tree.specs.declared.entangled.EntangledItem.{EntangledItem}
 use Rattle.ent_tree.specs.declared.entangled.Term.{Term}
 use Rattle.ent_tree.specs.declared.entangled.Term.TheVariants as terms
-use Rattle.ent_semantics.specs.Database.{Name, same_name}
 use Rattle.ent_semantics.specs.Entangled.{condition_terms, first_of_each, head_terms, term_variables, written_variables}
 use Rattle.ent_semantics.specs.Names.{equal_names, name_itself}
 use Rattle.ent_form.specs.AllFaults.{faults_where, kinds_faults, repeated_names}
-use Rattle.ent_form.specs.Catalogue.{is_among}
 use Rattle.ent_form.specs.Entangled.{noted, noted_items, noted_terms, term_place}
 use Rattle.ent_form.specs.EntangledFaults.{binds_faults, body_variables, demanded_from, entangled_faults}
 use Rattle.ent_form.specs.EntangledFaults.{memberships_faults, offer_faults, others_faults, taking, term_faults}
@@ -24,6 +22,7 @@ use Rattle.ent_form.specs.declared.fault.FormFault.TheVariants.{Unbound, WrongKi
 use Rattle.ent_rules.proofs.Lists.{none_first, none_second}
 use Rattle.ent_lists.specs.Elements.{In, Pairs, all_filtered, all_joined, any_in, any_some, of_all, of_filter}
 use Rattle.ent_lists.specs.Elements.{pairs_filtered, to_all, to_flat, turned}
+use Rattle.ent_semantics.specs.Database.{Name, same_name, is_among}
 
 -- ---- each name where it comes first
 

@@ -15,7 +15,6 @@ use Rattle.ent_tree.specs.declared.declaration.Opening.{Opening}
 use Rattle.ent_tree.specs.declared.declaration.OpeningRow.{OpeningRow}
 use Rattle.ent_tree.specs.declared.script.Script.{Script}
 use Rattle.ent_semantics.specs.declared.book.Member.{Member}
-use Rattle.ent_semantics.specs.Database.{Name, row_of, same_name}
 use Rattle.ent_book.specs.Report.{answers_text, fate_text, line, member_place, member_text, rows_text}
 use Rattle.ent_book.specs.Report2.{binding_text, bindings_text, column_text, columns_text, kind_text}
 use Rattle.ent_book.specs.Report2.{more_columns_text, opening_line, scripts_text}
@@ -24,7 +23,6 @@ use Rattle.ent_history.specs.declared.history.Shown.{Shown}
 use Rattle.ent_history.specs.declared.history.Told.{Told}
 use Rattle.ent_history.specs.declared.history.ToldJoint.{ToldJoint}
 use Rattle.ent_history.specs.declared.history.ToldMember.{ToldMember}
-use Rattle.ent_history.specs.Text.{history_text, joint_text, joints_text, opened_text, opening_text, rows_under}
 use Rattle.ent_history.specs.Text.{shown_text, told_member_text, told_text, transactions_text, tx_text}
 use Rattle.ent_history.specs.Told.{has_committed}
 use Rattle.ent_history_form.specs.Opening.{IsDeclaration}
@@ -33,6 +31,8 @@ use Rattle.ent_history_form.specs.Scripts.{IsScript}
 use Rattle.ent_report_laws.specs.Tellable.{AreTablesOf, AreTransactionsOf, CanBeTold, IsJointTold, IsMemberTold}
 use Rattle.ent_report_laws.specs.Tellable.{IsTransactionTold}
 use Rattle.ent_lists.specs.Elements.{all_filtered, all_map}
+use Rattle.ent_semantics.specs.Database.{Name, row_of, same_name, rows_named}
+use Rattle.ent_history.specs.Text.{history_text, joint_text, joints_text, opened_text, opening_text}
 use Rattle.ent_character_laws.specs.Characters.{HoldsCharacters, IsAnswerOfCharacters, IsOpeningOfCharacters}
 use Rattle.ent_character_laws.specs.Characters.{IsRowOfCharacters}
 use Rattle.ent_character_laws.proofs.Answers.{answers_are_text, fate_is_text}
@@ -85,7 +85,7 @@ abbrev IsOpened : OpeningRow → Type 0
 IsOpened row = IsRowOfCharacters (row_of row)
 
 found_rows : (opening : Opening) (name : Name) → IsOpeningOfCharacters opening
-    → AllByRecursion IsRowOfCharacters (rows_under opening name)
+    → AllByRecursion IsRowOfCharacters (rows_named opening name)
 found_rows opening name is =
     let test = λ (row : OpeningRow). same_name row.table.name name in
     all_map row_of IsRowOfCharacters (filter test opening.rows) (all_filtered IsOpened test opening.rows is)
@@ -94,7 +94,7 @@ tables_are_text : (opening : Opening) (tables : List Create) → IsOpeningOfChar
     → AllByRecursion IsDeclaration tables → IsUtf8 (flat_map (opened_text opening) tables)
 tables_are_text opening [] is each = IsUtf8-nil
 tables_are_text opening (create ∷ tables) is each =
-    let rows = rows_under opening create.name.name in
+    let rows = rows_named opening create.name.name in
     joined (opened_text opening create) (flat_map (opened_text opening) tables)
     (joined (opening_line create.name.name create.columns (length rows)) (rows_text rows)
     (heading_is_text create (length rows) each.0)

@@ -1,8 +1,8 @@
 //! At which lines of a report the things stand that findings name.
 ghost use Rattle.std.specs.Prelude.{◌≡◌, ℕ, ◌+◌, ◌<◌, ◌^◌, SomeIff, length, sum_by, take};
+ghost use Rattle.ent_semantics.specs.Database.{rows_named};
 ghost use Rattle.ent_history.specs.Lines.{answer_line, answer_lines, joint_line, joint_lines, member_line};
 ghost use Rattle.ent_history.specs.Lines.{opening_lines, script_lines, shown_lines, table_line, told_lines, tx_line};
-ghost use Rattle.ent_history.specs.Text.{rows_under};
 ghost use Rattle.ent_rules.specs.Verdict.{line_of};
 
 use ent_history::{History, Shown, Told, ToldJoint};
@@ -85,7 +85,7 @@ fn before<T>(things: &[T], index: u64) -> &[T]
 
 /// How many of the opening rows are of the table of a name.
 fn count_rows(opening: &Opening, name: &Name) -> u64
-    ensures { result ≡ length (rows_under opening.now name.now) }
+    ensures { result ≡ length (rows_named opening.now name.now) }
 {
     let rows = opening.rows.as_slice();
     let mut count: u64 = 0;

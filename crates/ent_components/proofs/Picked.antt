@@ -4,6 +4,7 @@ use Rattle.std.proofs.Common.{length, refl, sym, ap, subst, arith, Option, Some,
 use Rattle.std.specs.Prelude.{Contains, MatchBool, MatchOption, nat_lt, slice_get}
 use Rattle.std.proofs.lemmas.Bool.{cases_Bool, ltb-false}
 use Rattle.std.proofs.lemmas.List.Elements.{Contains-append_cases, Contains-append_left, Contains-append_right}
+use Rattle.ent_lock.specs.Use.{IsLeast}
 use Rattle.ent_coordination.specs.Component.{IsComponent}
 use Rattle.ent_coordination.specs.Pool.{Posted, first_tx}
 use Rattle.ent_match.specs.Fault.{IsByNumber}
@@ -11,7 +12,7 @@ use Rattle.ent_match.specs.Parts.{IsPart}
 use Rattle.ent_protocol.specs.Job.{Job}
 use Rattle.ent_protocol.specs.Member.{pool}
 use Rattle.ent_protocol.specs.PoolEvents.{CanBePicked, IsPresentComponent}
-use Rattle.ent_protocol.specs.Quiet.{IsLeast, IsUntried, NoneIs}
+use Rattle.ent_protocol.specs.Quiet.{IsUntried, NoneIs}
 use Rattle.ent_protocol.specs.State.{State}
 use Rattle.ent_components.specs.Component.{IsPick, IsPickIn}
 use Rattle.ent_components.specs.Open.{IsOpen}

@@ -1,9 +1,10 @@
 //! Which component is picked.
 ghost use Rattle.std.specs.Prelude.{◌≡◌, ◌<◌, IfOk, MatchBool, MatchOption, length};
+ghost use Rattle.ent_lock.specs.Use.{IsLeast};
 ghost use Rattle.ent_coordination.specs.Pool.{IsSafe};
 ghost use Rattle.ent_match.specs.Fault.{IsByNumber};
 ghost use Rattle.ent_protocol.specs.Member.{pool};
-ghost use Rattle.ent_protocol.specs.Quiet.{IsLeast, IsUntried, NoneIs};
+ghost use Rattle.ent_protocol.specs.Quiet.{IsUntried, NoneIs};
 ghost use Rattle.ent_protocol.specs.State.{State};
 ghost use Rattle.ent_components.specs.Component.{IsPick};
 ghost use Rattle.ent_components.specs.Part.{AreBehind, IsEarlier};

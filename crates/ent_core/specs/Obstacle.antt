@@ -1,6 +1,7 @@
 -- Why a member can't move now, in the words of the protocol.
-use Rattle.std.specs.Prelude.{◌≡◌, ◌≢◌, ℕ, true, false, List, Contains, Option, Some, None, MatchOption}
+use Rattle.std.specs.Prelude.{◌≡◌, ℕ, true, false, List, Contains, Option, Some, None, MatchOption}
 use Rattle.ent_coordination.specs.Pool.{Posted, Unsafe}
+use Rattle.ent_components.specs.Part.{HasNoneOf}
 use Rattle.ent_core.specs.declared.obstacle.Obstacle.{Obstacle}
 use Rattle.ent_core.specs.declared.obstacle.Obstacle.TheVariants as told
 use Rattle.ent_form.specs.declared.fault.FormFault.{FormFault}
@@ -18,10 +19,6 @@ use Rattle.ent_protocol.specs.State.{State, Member, Use}
 use Rattle.ent_protocol.specs.Waits.{next_uses}
 
 -- ---- posted statements
-
--- none of some posted statements is of a transaction
-abbrev pub HasNoneOf : List Posted → ℕ → Type 0
-HasNoneOf posted tx = (query : Posted) → Contains posted query → query.tx ≢ tx
 
 abbrev pub IsOf : List Posted → ℕ → Posted → Type 0
 IsOf posted tx query = Contains posted query × (query.tx ≡ tx)

@@ -71,11 +71,7 @@ pub(crate) fn next_of(store: &Store, member: &Member) -> Result<Next, AllocError
 }
 
 /// The job of an ordinary statement that nobody blocks.
-fn job_of(
-    store: &Store,
-    member: &Member,
-    statement: Statement<Value>,
-) -> Result<Job, AllocError>
+fn job_of(store: &Store, member: &Member, statement: Statement<Value>) -> Result<Job, AllocError>
     requires kept { IsKeptState store.now }
     requires next { MayBegin store.now member.now.tx member.now (Ordinary statement) }
     requires unblocked { blocker store.now member.now (statement_uses statement) ≡ None }
@@ -120,7 +116,7 @@ fn member_at_turn(store: &Store, tx: Tx) -> Result<&Member, BeginRefusal>
             if member.is_posted() {
                 return Err(BeginRefusal::NotNow);
             }
-            if store.lent.is_out(tx) {
+            if store.lent.is_lent(tx) {
                 return Err(BeginRefusal::NotNow);
             }
             Ok(member)

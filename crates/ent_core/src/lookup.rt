@@ -2,12 +2,13 @@
 ghost use Rattle.std.specs.Prelude.{◌≡◌, MatchOption};
 ghost use Rattle.std.specs.Option.{option_copied, option_map};
 ghost use Rattle.ent_core.specs.Kinds.{kinds_of_table};
-ghost use Rattle.ent_core.specs.Obstacle.{HasNoneOf, IsOf};
 ghost use Rattle.ent_protocol.specs.Lookup.{answers_of, dormant_at, entry_at, group_of, present_rows};
 ghost use Rattle.ent_protocol.specs.Lookup.{running_members};
 ghost use Rattle.ent_protocol.specs.Member.{pool};
 ghost use Rattle.ent_protocol.specs.Reached.{scripts_of};
 ghost use Rattle.ent_semantics.specs.Serial.{numbered};
+ghost use Rattle.ent_components.specs.Part.{HasNoneOf};
+ghost use Rattle.ent_core.specs.Obstacle.{IsOf};
 
 use crate::obstacle::posted_of;
 use crate::store::Store;

@@ -5,7 +5,6 @@ ghost use Rattle.std.specs.List.{AllByRecursion};
 ghost use Rattle.std.specs.Option.{option_copied, option_map};
 ghost use Rattle.ent_book.specs.Tables.{book_seen};
 ghost use Rattle.ent_core.specs.Kinds.{kinds_of_table};
-ghost use Rattle.ent_core.specs.Obstacle.{HasNoneOf, IsBetween, IsObstacle, IsOf};
 ghost use Rattle.ent_core.specs.Reply.{reply_seen};
 ghost use Rattle.ent_core.specs.Standing.{standing_seen};
 ghost use Rattle.ent_form.specs.OpeningFault.{opening_fault, unless};
@@ -26,6 +25,8 @@ ghost use Rattle.ent_semantics.specs.Serial.{numbered};
 ghost use Rattle.ent_protocol_laws.specs.Attempts.{AsksForRun};
 ghost use Rattle.ent_value.specs.Refusal.{Gives};
 ghost use Rattle.ent_value.specs.declared.refusal.Refusal.TheVariants.{Fault};
+ghost use Rattle.ent_components.specs.Part.{HasNoneOf};
+ghost use Rattle.ent_core.specs.Obstacle.{IsBetween, IsObstacle, IsOf};
 ghost use Rattle.ent_core.specs.declared.closing.NotDone.{NotDone};
 
 use crate::begin::{begin, is_blocked};

@@ -35,7 +35,7 @@ fn active_standing(store: &Store, member: &Member) -> Standing
     if member.is_posted() {
         return Standing::Posted;
     }
-    if store.lent.is_out(member.tx()) {
+    if store.lent.is_lent(member.tx()) {
         return Standing::Out;
     }
     Standing::Ready(turn_of(store.submitted.as_slice(), member))

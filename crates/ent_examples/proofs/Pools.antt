@@ -2,7 +2,7 @@
 use Rattle.std.proofs.Common.{◌≡◌, ℕ, refl, arith}
 use Rattle.std.specs.Prelude.{Contains, codes}
 use Rattle.ent_coordination.specs.Pool.{CanMeet, IsSafe, IsUnsafeAt, HasHeadFor}
-use Rattle.ent_examples.specs.Friends.{Mickey, Minnie}
+use Rattle.ent_protocol.specs.Partners.{Mickey, Minnie}
 use Rattle.ent_examples.specs.Pool.{friend, flies_as, with_third}
 use Rattle.ent_examples.proofs.Meets.{under_122}
 

@@ -7,8 +7,9 @@ use Rattle.std.proofs.lemmas.List.Elements.{All-contains}
 use Rattle.ent_group.specs.Cycle.{IsOnCycle, Closes, links, links_to}
 use Rattle.ent_coordination.specs.Pool.{Posted}
 use Rattle.ent_protocol.specs.Member.{is_lent, pool}
-use Rattle.ent_protocol.specs.Quiet.{NoneIs, HasJobOut, OutJoint, CanMove, IsLeast, IsUntried}
 use Rattle.ent_lists.specs.Elements.{contains_in, in_contains}
+use Rattle.ent_lock.specs.Use.{IsLeast}
+use Rattle.ent_protocol.specs.Quiet.{NoneIs, HasJobOut, OutJoint, CanMove, IsUntried}
 use Rattle.ent_protocol.specs.PostedBy.{is_present}
 use Rattle.ent_protocol.specs.State.{State, Member}
 use Rattle.ent_protocol.specs.Waits.{waits, IsDeadlock}

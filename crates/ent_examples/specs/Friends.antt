@@ -4,22 +4,14 @@ use Rattle.ent_value.specs.declared.value.Kind.TheVariants as kinds
 use Rattle.ent_value.specs.declared.value.Value.{Value}
 use Rattle.ent_value.specs.declared.value.Value.TheVariants.{Int, Text}
 use Rattle.ent_tree.specs.declared.declaration.Opening.{Opening}
-use Rattle.ent_tree.specs.declared.declaration.OpeningRow.{OpeningRow}
 use Rattle.ent_tree.specs.declared.entangled.Condition.TheVariants.{InSelect, InAnswer}
 use Rattle.ent_tree.specs.declared.entangled.Entangled.{Entangled}
 use Rattle.ent_tree.specs.declared.entangled.Term.{Term}
 use Rattle.ent_tree.specs.declared.entangled.Term.TheVariants as terms
-use Rattle.ent_tree.specs.declared.operand.Comparison.TheVariants.{Equal}
-use Rattle.ent_tree.specs.declared.operand.Identifier.{Identifier}
-use Rattle.ent_tree.specs.declared.operand.Literal.{Literal}
-use Rattle.ent_tree.specs.declared.operand.Operand.{Operand}
-use Rattle.ent_tree.specs.declared.operand.Operand.TheVariants as operands
 use Rattle.ent_tree.specs.declared.operand.ValueSpecification.TheVariants as specifications
 use Rattle.ent_tree.specs.declared.script.End.TheVariants.{Commit}
 use Rattle.ent_tree.specs.declared.script.Script.{Script}
 use Rattle.ent_tree.specs.declared.script.Statement.TheVariants as statements
-use Rattle.ent_tree.specs.declared.select.Items.TheVariants.{Listed}
-use Rattle.ent_tree.specs.declared.select.Select.{Select}
 use Rattle.ent_semantics.specs.declared.answer.Answer.TheVariants as answers
 use Rattle.ent_semantics.specs.declared.answer.Fact.{Fact}
 use Rattle.ent_semantics.specs.declared.book.Book.{Book}
@@ -27,13 +19,9 @@ use Rattle.ent_semantics.specs.declared.book.Fate.TheVariants.{Committed, GaveUp
 use Rattle.ent_semantics.specs.declared.book.JointAnswer.{JointAnswer}
 use Rattle.ent_semantics.specs.declared.book.Member.{Member}
 use Rattle.ent_semantics.specs.Database.{Name, Database, opening_database}
-
--- places mean nothing here
-abbrev pub named : Name → Identifier
-named name = record { name = name; place = 0 }
-
-abbrev pub literal : Value → Literal
-literal value = record { value = value; place = 0 }
+use Rattle.ent_protocol.specs.Partners.{LA, Mickey, Minnie, flight, flight_122}
+use Rattle.ent_protocol.specs.Writers.{named}
+use Rattle.ent_examples.specs.Written.{literal, to_LA}
 
 abbrev pub written : Value → Term
 written value = terms.Value (specifications.Literal (literal value))
@@ -41,23 +29,10 @@ written value = terms.Value (specifications.Literal (literal value))
 abbrev pub variable : Name → Term
 variable name = terms.Variable (named name)
 
-abbrev pub column : Name → Operand
-column name = operands.Column (record { qualifier = None; column = named name })
-
--- CREATE TABLE Flights (fno INT, dest TEXT); flights 122 and 123 go to LA, 136 to Paris
-abbrev pub LA : Value
-LA = Text (codes "LA")
-
-abbrev pub flight_122 : Value
-flight_122 = Int (pos 122)
-
 abbrev pub flight_136 : Value
 flight_136 = Int (pos 136)
 
-abbrev pub flight : Value → Value → OpeningRow
-flight number destination =
-    record { table = named (codes "Flights"); place = 0; values = literal number ∷ literal destination ∷ [] }
-
+-- CREATE TABLE Flights (fno INT, dest TEXT); flights 122 and 123 go to LA, 136 to Paris
 abbrev pub friends_opening : Opening
 friends_opening =
     record {
@@ -67,19 +42,6 @@ friends_opening =
             ∷ record { name = named (codes "dest"); kind = kinds.Text } ∷ [];
       } ∷ [];
       rows = flight flight_122 LA ∷ flight (Int (pos 123)) LA ∷ flight flight_136 (Text (codes "Paris")) ∷ [];
-    }
-
--- SELECT fno FROM Flights WHERE dest = 'LA'
-abbrev pub to_LA : Select
-to_LA =
-    record {
-      items = Listed (column (codes "fno") ∷ []);
-      sources = record { table = named (codes "Flights"); alias = None } ∷ [];
-      tests = record {
-        left = column (codes "dest");
-        comparison = Equal;
-        right = operands.Value (specifications.Literal (literal LA));
-      } ∷ [];
     }
 
 -- SELECT own, fno INTO ANSWER R WHERE (fno) IN (SELECT ..) AND (partner, fno) IN ANSWER R CHOOSE 1
@@ -94,12 +56,6 @@ flies_with own partner =
           ∷ InAnswer (record { place = 0; terms = written partner ∷ variable (codes "fno") ∷ [] }) (named (codes "R"))
           ∷ [];
     }
-
-abbrev pub Mickey : Value
-Mickey = Text (codes "Mickey")
-
-abbrev pub Minnie : Value
-Minnie = Text (codes "Minnie")
 
 -- BEGIN TRANSACTION; entangled; COMMIT;
 abbrev pub alone : Entangled → Script

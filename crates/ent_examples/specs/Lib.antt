@@ -1,6 +1,7 @@
+pub mod Wish
+pub mod Written
 pub mod Friends
 pub mod Pool
-pub mod Wish
 pub mod Scripts
 pub mod HeldBack
 pub mod Busy
@@ -11,5 +12,4 @@ pub mod Earlier
 pub mod Twice
 pub mod Linked
 pub mod Ring
-pub mod Written
 pub mod WrittenScripts

@@ -1,6 +1,7 @@
 //! Two friends on one flight. Nothing here has a body; what holds is in the contracts.
 ghost use Rattle.std.specs.Prelude.{◌≡◌, ◌∷◌, [], None};
-ghost use Rattle.ent_examples.specs.Friends.{Mickey, Minnie, alone, flies_with, flight_122, friends_opening};
+ghost use Rattle.ent_protocol.specs.Partners.{Mickey, Minnie, flight_122};
+ghost use Rattle.ent_examples.specs.Friends.{alone, flies_with, friends_opening};
 ghost use Rattle.ent_examples.specs.Friends.{good_book, answered_apart, answered_elsewhere, left_out, answered_twice};
 ghost use Rattle.ent_examples.specs.Friends.{widowed};
 ghost use Rattle.ent_semantics.specs.Book.{IsLegal};

@@ -9,6 +9,7 @@ use Rattle.std.proofs.lemmas.List.{append-nil, append_assoc, map-append, length-
 use Rattle.std.proofs.lemmas.List.Folds.{list_any-append}
 use Rattle.std.proofs.lemmas.Simd.{map-map}
 use Rattle.ent_value.specs.declared.value.Kind.{Kind}
+use Rattle.ent_value.specs.Kinds.{same_kind}
 use Rattle.ent_tree.specs.declared.entangled.Condition.{Condition}
 use Rattle.ent_tree.specs.declared.entangled.Condition.TheVariants as conditions
 use Rattle.ent_tree.specs.declared.entangled.Entangled.{Entangled as TreeEntangled}
@@ -22,26 +23,25 @@ use Rattle.ent_tree.specs.declared.operand.Test.{Test}
 use Rattle.ent_tree.specs.declared.select.Items.{Items}
 use Rattle.ent_tree.specs.declared.select.Items.TheVariants as items
 use Rattle.ent_tree.specs.declared.select.Select.{Select as TreeSelect}
+use Rattle.ent_semantics.specs.Database.{Name, same_name, is_among, index_of}
 use Rattle.ent_closed.specs.declared.entangled.Atom.{Atom}
 use Rattle.ent_closed.specs.declared.entangled.Membership.{Membership}
 use Rattle.ent_closed.specs.declared.entangled.Term.{Term}
 use Rattle.ent_closed.specs.declared.entangled.Term.TheVariants as resolved
 use Rattle.ent_closed.specs.declared.operand.Known.{Known}
 use Rattle.ent_closed.specs.declared.statement.Select.{Select}
-use Rattle.ent_semantics.specs.Database.{Name, same_name}
 use Rattle.ent_semantics.specs.Entangled.{term_variables}
 use Rattle.ent_semantics.specs.Names.{equal_names}
 use Rattle.ent_form.specs.declared.catalogue.TableSchema.{TableSchema}
 use Rattle.ent_form.specs.declared.fault.FormFault.{FormFault}
 use Rattle.ent_form.specs.declared.fault.FormFault.TheVariants.{Arity, WrongKind, Unbound, Repeated}
-use Rattle.ent_form.specs.Catalogue.{is_among}
-use Rattle.ent_form.specs.Entangled.{index_of, noted, noted_terms, noted_items, variables_of, demanded_in, member_in}
+use Rattle.ent_form.specs.Entangled.{noted, noted_terms, noted_items, variables_of, demanded_in, member_in}
 use Rattle.ent_form.specs.Entangled.{members_from, membership_in, memberships_from, term_place, term_in, terms_in}
 use Rattle.ent_form.specs.Entangled.{Offer}
 use Rattle.ent_form.specs.Entangled.{no_offer, with_term, with_bind, bind_in, item_in, offer_from, heads_from}
 use Rattle.ent_form.specs.Entangled.{atom_from}
 use Rattle.ent_form.specs.Entangled.{post_in, others_from, entangled_in}
-use Rattle.ent_form.specs.Kinds.{Bound, same_kind, none_bound, with_kind}
+use Rattle.ent_form.specs.Kinds.{Bound, none_bound, with_kind}
 use Rattle.ent_form.specs.Lookup.{value_in, values_in, operand_in, operands_in, kind_in, test_in}
 use Rattle.ent_form.specs.Ordinary.{tests_in, Shown, with_item, items_from, all_shown, items_in, select_in}
 use Rattle.ent_form.specs.Scope.{Scope, sources_in}

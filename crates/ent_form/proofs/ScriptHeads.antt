@@ -11,16 +11,15 @@ use Rattle.ent_tree.specs.declared.script.Script.{Script}
 use Rattle.ent_tree.specs.declared.script.Statement.{Statement as TreeStatement}
 use Rattle.ent_tree.specs.declared.script.Statement.TheVariants as statements
 use Rattle.ent_tree.specs.declared.statement.Set.{Set}
+use Rattle.ent_semantics.specs.Database.{Name, is_among}
 use Rattle.ent_closed.specs.declared.entangled.Entangled.{Entangled}
 use Rattle.ent_closed.specs.declared.entangled.Term.{Term}
 use Rattle.ent_closed.specs.declared.operand.Known.{Known}
 use Rattle.ent_closed.specs.declared.statement.Statement.{Statement}
 use Rattle.ent_closed.specs.declared.statement.Statement.TheVariants as forms
-use Rattle.ent_semantics.specs.Database.{Name}
 use Rattle.ent_form.specs.declared.catalogue.TableSchema.{TableSchema}
 use Rattle.ent_form.specs.declared.fault.FormFault.TheVariants.{Repeated}
 use Rattle.ent_form.specs.Bindings.{bound_from}
-use Rattle.ent_form.specs.Catalogue.{is_among}
 use Rattle.ent_form.specs.Entangled.{variables_of, memberships_from, term_in, Offer, no_offer, with_term, with_bind}
 use Rattle.ent_form.specs.Entangled.{bind_in}
 use Rattle.ent_form.specs.Entangled.{item_in, offer_from, heads_from, others_from, entangled_in}

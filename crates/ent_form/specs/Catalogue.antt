@@ -1,6 +1,5 @@
 -- The tables that an input declares, without places.
-use Rattle.std.specs.Prelude.{ℕ, suc, Bool, List, [], ◌∷◌, map, Option, Some, None, if◌then◌else◌}
-use Rattle.std.specs.List.{list_any}
+use Rattle.std.specs.Prelude.{ℕ, suc, List, [], ◌∷◌, map, Option, Some, None, if◌then◌else◌}
 use Rattle.ent_value.specs.declared.value.Kind.{Kind}
 use Rattle.ent_tree.specs.declared.declaration.Column.{Column}
 use Rattle.ent_tree.specs.declared.declaration.Create.{Create}
@@ -37,6 +36,3 @@ column_named columns name = column_from 0 columns name
 
 abbrev pub names_of : List TableSchema → List Name
 names_of tables = map (λ table. table.name) tables
-
-abbrev pub is_among : List Name → Name → Bool
-is_among names name = list_any (λ other. same_name other name) names

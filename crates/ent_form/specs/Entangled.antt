@@ -1,10 +1,11 @@
 -- An entangled statement resolved: the form, or the first fault. First come all IN (SELECT ..) conditions from left to
 -- right, then all else in the order of the text: items, answer relations, postconditions and tests.
-use Rattle.std.specs.Prelude.{ℕ, suc, not, List, [], ◌∷◌, ◌++◌, map, length, Option, Some, None, Result, Ok, unwrap_or}
+use Rattle.std.specs.Prelude.{ℕ, not, List, [], ◌∷◌, ◌++◌, map, length, Option, Some, None, Result, Ok, unwrap_or}
 use Rattle.std.specs.Prelude.{if◌then◌else◌, ◌==◌}
 use Rattle.ent_value.specs.Refusal.{◌>>=◌}
 use Rattle.ent_value.specs.declared.value.Kind.{Kind}
 use Rattle.ent_value.specs.declared.value.Kind.TheVariants as kinds
+use Rattle.ent_value.specs.Kinds.{same_kind}
 use Rattle.ent_tree.specs.declared.entangled.Condition.{Condition}
 use Rattle.ent_tree.specs.declared.entangled.Condition.TheVariants as conditions
 use Rattle.ent_tree.specs.declared.entangled.Entangled.{Entangled as TreeEntangled}
@@ -15,6 +16,8 @@ use Rattle.ent_tree.specs.declared.entangled.Tuple.{Tuple}
 use Rattle.ent_tree.specs.declared.operand.Identifier.{Identifier}
 use Rattle.ent_tree.specs.declared.operand.Test.{Test}
 use Rattle.ent_tree.specs.declared.select.Select.{Select as TreeSelect}
+use Rattle.ent_tree.specs.Places.{value_place}
+use Rattle.ent_semantics.specs.Database.{Name, is_among, index_of}
 use Rattle.ent_closed.specs.declared.entangled.Atom.{Atom}
 use Rattle.ent_closed.specs.declared.entangled.Binding.{Binding as Bind}
 use Rattle.ent_closed.specs.declared.entangled.Entangled.{Entangled}
@@ -22,24 +25,17 @@ use Rattle.ent_closed.specs.declared.entangled.Membership.{Membership}
 use Rattle.ent_closed.specs.declared.entangled.Term.{Term}
 use Rattle.ent_closed.specs.declared.entangled.Term.TheVariants as resolved
 use Rattle.ent_closed.specs.declared.operand.Known.{Known}
-use Rattle.ent_semantics.specs.Database.{Name, same_name}
 use Rattle.ent_form.specs.declared.binding.Binding.{Binding}
 use Rattle.ent_form.specs.declared.catalogue.TableSchema.{TableSchema}
 use Rattle.ent_form.specs.declared.fault.FormFault.{FormFault}
 use Rattle.ent_form.specs.declared.fault.FormFault.TheVariants.{Arity, WrongKind, Unbound, Repeated}
 use Rattle.ent_form.specs.Bindings.{bound_from}
-use Rattle.ent_form.specs.Catalogue.{is_among}
-use Rattle.ent_form.specs.Kinds.{Bound, same_kind, none_bound, with_kind}
-use Rattle.ent_form.specs.Lookup.{Lookup, value_place, value_in, values_in, kind_in, test_in}
+use Rattle.ent_form.specs.Kinds.{Bound, none_bound, with_kind}
+use Rattle.ent_form.specs.Lookup.{Lookup, value_in, values_in, kind_in, test_in}
 use Rattle.ent_form.specs.Ordinary.{select_in}
 use Rattle.ent_form.specs.Steps.{there, demand}
 
 -- ---- written variables
-
--- how many names stand before the first such one: all, where there is none
-abbrev pub index_of : List Name → Name → ℕ
-index_of [] name = 0
-index_of (first ∷ names) name = if same_name first name then 0 else suc (index_of names name)
 
 -- the written variables of what was read, each where it came first, and those of one term more
 abbrev pub noted : List Name → TreeTerm → List Name

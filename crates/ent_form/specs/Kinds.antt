@@ -1,13 +1,7 @@
--- Kinds of values, and those that host variables are bound to, as they are known from a script's text.
-use Rattle.std.specs.Prelude.{Bool, true, false, List, [], ◌∷◌, Option, Some, None, if◌then◌else◌}
+-- The kinds that host variables are bound to, as they are known from a script's text.
+use Rattle.std.specs.Prelude.{List, [], ◌∷◌, Option, Some, None, if◌then◌else◌}
 use Rattle.ent_value.specs.declared.value.Kind.{Kind}
-use Rattle.ent_value.specs.declared.value.Kind.TheVariants as kinds
 use Rattle.ent_semantics.specs.Database.{Name, same_name}
-
-abbrev pub same_kind : Kind → Kind → Bool
-same_kind kinds.Int kinds.Int = true
-same_kind kinds.Text kinds.Text = true
-same_kind _ _ = false
 
 -- the kinds of the names that are bound
 abbrev pub Bound : Type 0

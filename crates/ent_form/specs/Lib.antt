@@ -2,7 +2,6 @@ pub mod Fault
 pub mod Catalogue
 pub mod Kinds
 pub mod Bindings
-pub mod Opening
 pub mod OpeningFault
 pub mod Steps
 pub mod Scope

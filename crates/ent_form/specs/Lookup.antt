@@ -4,6 +4,8 @@ use Rattle.ent_value.specs.Refusal.{◌>>=◌}
 use Rattle.ent_value.specs.Value.{kind_of}
 use Rattle.ent_value.specs.declared.value.Kind.{Kind}
 use Rattle.ent_value.specs.declared.value.Kind.TheVariants as kinds
+use Rattle.ent_value.specs.Kinds.{same_kind}
+use Rattle.ent_tree.specs.Places.{value_place}
 use Rattle.ent_tree.specs.declared.operand.Expression.{Expression}
 use Rattle.ent_tree.specs.declared.operand.Expression.TheVariants.{Single, Sum, Difference}
 use Rattle.ent_tree.specs.declared.operand.Identifier.{Identifier}
@@ -19,7 +21,7 @@ use Rattle.ent_closed.specs.declared.operand.Operand.{Operand as ResolvedOperand
 use Rattle.ent_closed.specs.declared.operand.Operand.TheVariants as resolved
 use Rattle.ent_form.specs.declared.fault.FormFault.{FormFault}
 use Rattle.ent_form.specs.declared.fault.FormFault.TheVariants.{WrongKind, NoHostVariable}
-use Rattle.ent_form.specs.Kinds.{Bound, same_kind}
+use Rattle.ent_form.specs.Kinds.{Bound}
 use Rattle.ent_form.specs.Scope.{Scope, column_in}
 use Rattle.ent_form.specs.Steps.{there, demand}
 
@@ -27,10 +29,6 @@ use Rattle.ent_form.specs.Steps.{there, demand}
 pub record Lookup (A B : Type 0) : Type 0 where
   pub find : A → Result (B × Kind) FormFault
   pub place : A → ℕ
-
-abbrev pub value_place : ValueSpecification → ℕ
-value_place (specifications.Literal literal) = literal.place
-value_place (specifications.HostVariable variable) = variable.place
 
 -- a value that is written, or a host variable that is bound
 abbrev pub value_in : Bound → ValueSpecification → Result (Known × Kind) FormFault

@@ -4,6 +4,7 @@ use Rattle.std.specs.Prelude.{ℕ, suc, not, List, [], ◌∷◌, ◌++◌, map,
 use Rattle.std.specs.Prelude.{Result, Ok, ◌==◌}
 use Rattle.ent_value.specs.Refusal.{◌>>=◌}
 use Rattle.ent_value.specs.declared.value.Kind.{Kind}
+use Rattle.ent_value.specs.Kinds.{same_kind}
 use Rattle.ent_tree.specs.declared.operand.Expression.{Expression}
 use Rattle.ent_tree.specs.declared.operand.Expression.TheVariants.{Single}
 use Rattle.ent_tree.specs.declared.operand.Operand.{Operand as TreeOperand}
@@ -17,6 +18,7 @@ use Rattle.ent_tree.specs.declared.statement.Delete.{Delete}
 use Rattle.ent_tree.specs.declared.statement.Insert.{Insert}
 use Rattle.ent_tree.specs.declared.statement.Set.{Set}
 use Rattle.ent_tree.specs.declared.statement.Update.{Update}
+use Rattle.ent_semantics.specs.Database.{Name, is_among}
 use Rattle.ent_closed.specs.declared.operand.Known.{Known}
 use Rattle.ent_closed.specs.declared.operand.Operand.{Operand}
 use Rattle.ent_closed.specs.declared.operand.Operand.TheVariants.{Column}
@@ -27,9 +29,8 @@ use Rattle.ent_form.specs.declared.catalogue.ColumnSchema.{ColumnSchema}
 use Rattle.ent_form.specs.declared.catalogue.TableSchema.{TableSchema}
 use Rattle.ent_form.specs.declared.fault.FormFault.{FormFault}
 use Rattle.ent_form.specs.declared.fault.FormFault.TheVariants.{NoColumn, Arity, WrongKind, Repeated}
-use Rattle.ent_semantics.specs.Database.{Name}
-use Rattle.ent_form.specs.Catalogue.{column_named, is_among}
-use Rattle.ent_form.specs.Kinds.{Bound, same_kind, with_kind}
+use Rattle.ent_form.specs.Catalogue.{column_named}
+use Rattle.ent_form.specs.Kinds.{Bound, with_kind}
 use Rattle.ent_form.specs.Lookup.{Lookup, values_in, operand_place, operands_in, kind_in, test_in, expression_in}
 use Rattle.ent_form.specs.Lookup.{expression_place}
 use Rattle.ent_form.specs.Scope.{Scope, Visible, sources_in, table_in, table_scope}

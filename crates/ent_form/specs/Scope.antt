@@ -6,13 +6,13 @@ use Rattle.ent_value.specs.declared.value.Kind.{Kind}
 use Rattle.ent_tree.specs.declared.operand.ColumnReference.{ColumnReference}
 use Rattle.ent_tree.specs.declared.operand.Identifier.{Identifier}
 use Rattle.ent_tree.specs.declared.select.Source.{Source}
-use Rattle.ent_semantics.specs.Database.{Name}
+use Rattle.ent_semantics.specs.Database.{Name, is_among}
 use Rattle.ent_semantics.specs.Term.{SourceColumn, source_name, refers_to}
 use Rattle.ent_form.specs.declared.catalogue.ColumnSchema.{ColumnSchema}
 use Rattle.ent_form.specs.declared.catalogue.TableSchema.{TableSchema}
 use Rattle.ent_form.specs.declared.fault.FormFault.{FormFault}
 use Rattle.ent_form.specs.declared.fault.FormFault.TheVariants.{NoTable, NoColumn, Ambiguous}
-use Rattle.ent_form.specs.Catalogue.{table_named, is_among}
+use Rattle.ent_form.specs.Catalogue.{table_named}
 use Rattle.ent_form.specs.Steps.{there, demand}
 
 -- a column that a statement sees, under the name that its source goes by

@@ -1,8 +1,8 @@
 //! Entangled statements resolved.
 ghost use Rattle.std.specs.Prelude.{◌≡◌, ◌<◌, ◌≤◌, ◌+◌, [], IfOk, OnOk, length, map};
 ghost use Rattle.ent_value.specs.Refusal.{Gives};
+ghost use Rattle.ent_semantics.specs.Database.{is_among};
 ghost use Rattle.ent_form.specs.Bindings.{bound_in, bound_from};
-ghost use Rattle.ent_form.specs.Catalogue.{is_among};
 ghost use Rattle.ent_form.specs.Entangled.{term_place, term_in, terms_in, no_offer, bind_in, item_in, offer_from};
 ghost use Rattle.ent_form.specs.Entangled.{heads_from, atom_from, post_in, others_from, kinds_of, entangled_in};
 ghost use Rattle.ent_form.specs.Entangled.{variables_of};
@@ -13,7 +13,7 @@ ghost use Rattle.ent_form.specs.Seen.{offer_of};
 use crate::binding::{Binding, Bindings};
 use crate::catalogue::Catalogue;
 use crate::fault::FormFault;
-use crate::lookup::{value, value_place};
+use crate::lookup::value;
 use crate::membership::memberships;
 use crate::row::same_kind;
 use crate::scope::is_among;
@@ -39,7 +39,7 @@ fn term_place(term: &Term) -> usize
     ensures { result ≡ term_place term.now }
 {
     match term {
-        Term::Value(value) => value_place(value),
+        Term::Value(value) => value.place(),
         Term::Variable(variable) => variable.place,
     }
 }

@@ -2,7 +2,7 @@
 ghost use Rattle.std.specs.Prelude.{◌≡◌};
 ghost use Rattle.ent_value.specs.Refusal.{Gives};
 ghost use Rattle.ent_form.specs.Bindings.{bound_in};
-ghost use Rattle.ent_form.specs.Lookup.{value_place, value_in, values_in, reference_place, operand_place, operand_in};
+ghost use Rattle.ent_form.specs.Lookup.{value_in, values_in, reference_place, operand_place, operand_in};
 ghost use Rattle.ent_form.specs.Lookup.{operands_in, kind_in, test_in, expression_in, expression_place};
 ghost use Rattle.ent_form.specs.Seen.{scope_of};
 
@@ -14,15 +14,6 @@ use ent_closed::{Known, Operand as ResolvedOperand};
 use ent_tree::{Boxed, ColumnReference, Expression, Operand, Test, ValueSpecification};
 use ent_value::{Kind, Refusal};
 use std::alloc::Global;
-
-pub(crate) fn value_place(value: &ValueSpecification) -> usize
-    ensures { result ≡ value_place value.now }
-{
-    match value {
-        ValueSpecification::Literal(literal) => literal.place,
-        ValueSpecification::HostVariable(variable) => variable.place,
-    }
-}
 
 /// A column stands where its qualifier does, if it has one.
 fn reference_place(reference: &ColumnReference) -> usize
@@ -38,7 +29,7 @@ fn operand_place(operand: &Operand) -> usize
     ensures { result ≡ operand_place operand.now }
 {
     match operand {
-        Operand::Value(value) => value_place(value),
+        Operand::Value(value) => value.place(),
         Operand::Column(reference) => reference_place(reference),
     }
 }
@@ -76,7 +67,7 @@ pub(crate) fn value_of_kind(
 {
     let (known, kind) = value(alloc, bindings, term)?;
     if !same_kind(wanted, kind) {
-        return Err(Refusal::Fault(FormFault::WrongKind(value_place(term))));
+        return Err(Refusal::Fault(FormFault::WrongKind(term.place())));
     }
     Ok(known)
 }

@@ -1,9 +1,9 @@
 //! Rows that are put in.
 ghost use Rattle.std.specs.Prelude.{◌≡◌, ◌<◌, [], IfOk, length, slice_index_or};
+ghost use Rattle.ent_value.specs.Kinds.{same_kind};
+ghost use Rattle.ent_semantics.specs.Database.{rows_named};
 ghost use Rattle.ent_form.specs.Catalogue.{names_of};
-ghost use Rattle.ent_form.specs.Opening.{rows_named};
 ghost use Rattle.ent_form.specs.OpeningFault.{literals_fault, row_fault, opening_row_fault, first_of};
-ghost use Rattle.ent_form.specs.Kinds.{same_kind};
 
 use crate::catalogue::{Catalogue, ColumnSchema, TableSchema};
 use crate::fault::FormFault;

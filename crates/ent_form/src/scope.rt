@@ -2,7 +2,7 @@
 ghost use Rattle.std.specs.Prelude.{◌≡◌, ◌<◌, ◌++◌, IfOk, OnOk, length, map};
 ghost use Rattle.ent_value.specs.Refusal.{Gives};
 ghost use Rattle.ent_semantics.specs.Term.{source_name, refers_to};
-ghost use Rattle.ent_form.specs.Catalogue.{is_among};
+ghost use Rattle.ent_semantics.specs.Database.{is_among};
 ghost use Rattle.ent_form.specs.Scope.{visible, source_place, sources_in, column_in, referred_from, only_one};
 ghost use Rattle.ent_form.specs.Scope.{no_source, table_scope, with_source};
 ghost use Rattle.ent_form.specs.Seen.{seen, scope_of};

@@ -1,6 +1,7 @@
 //! The written variables of an entangled statement.
 ghost use Rattle.std.specs.Prelude.{◌≡◌, OnOk, IfOk, map};
-ghost use Rattle.ent_form.specs.Entangled.{index_of, noted, noted_terms, noted_items, noted_condition};
+ghost use Rattle.ent_semantics.specs.Database.{index_of};
+ghost use Rattle.ent_form.specs.Entangled.{noted, noted_terms, noted_items, noted_condition};
 ghost use Rattle.ent_form.specs.Entangled.{noted_conditions, variables_of};
 
 use crate::scope::is_among;

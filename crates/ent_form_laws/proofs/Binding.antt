@@ -21,6 +21,8 @@ use Rattle.ent_tree.specs.declared.statement.Delete.{Delete}
 use Rattle.ent_tree.specs.declared.statement.Insert.{Insert}
 use Rattle.ent_tree.specs.declared.statement.Set.{Set}
 use Rattle.ent_tree.specs.declared.statement.Update.{Update}
+use Rattle.ent_semantics.specs.Database.{Name, Rows, Environment, same_name, with_value, with_values, is_among}
+use Rattle.ent_semantics.specs.Database.{index_of}
 use Rattle.ent_closed.specs.Form.{Tables, table_numbered, known_worth, operand_worth, term_worth, form_meaning}
 use Rattle.ent_closed.specs.declared.entangled.Binding.{Binding as Bind}
 use Rattle.ent_closed.specs.declared.entangled.Entangled.{Entangled}
@@ -33,7 +35,6 @@ use Rattle.ent_semantics.specs.declared.answer.Answer.TheVariants as answers
 use Rattle.ent_semantics.specs.declared.answer.Failure.{Failure}
 use Rattle.ent_semantics.specs.declared.answer.Failure.TheVariants.{TableFull}
 use Rattle.ent_semantics.specs.Change.{matched, updated, all_there}
-use Rattle.ent_semantics.specs.Database.{Name, Rows, Environment, same_name, with_value, with_values}
 use Rattle.ent_semantics.specs.Effect.{Effect, changed}
 use Rattle.ent_semantics.specs.Entangled.{Valuation}
 use Rattle.ent_semantics.specs.Names.{equal_names}
@@ -42,8 +43,7 @@ use Rattle.ent_semantics.specs.Term.{no_value, expression_value}
 use Rattle.ent_form.specs.declared.catalogue.TableSchema.{TableSchema}
 use Rattle.ent_form.specs.declared.fault.FormFault.TheVariants.{Arity, Unbound, Repeated}
 use Rattle.ent_form.specs.Bindings.{bound_from}
-use Rattle.ent_form.specs.Catalogue.{is_among}
-use Rattle.ent_form.specs.Entangled.{index_of, noted_items, variables_of, memberships_from, term_in}
+use Rattle.ent_form.specs.Entangled.{noted_items, variables_of, memberships_from, term_in}
 use Rattle.ent_form.specs.Entangled.{Offer, no_offer, with_term, with_bind, bind_in, item_in, offer_from, heads_from}
 use Rattle.ent_form.specs.Entangled.{others_from, kinds_of as kinds_demanded, entangled_in}
 use Rattle.ent_form.specs.Form.{statement_in}

@@ -7,33 +7,35 @@ use Rattle.std.proofs.lemmas.Simd.{map-map}
 use Rattle.ent_value.specs.declared.value.Kind.{Kind}
 use Rattle.ent_value.specs.declared.value.Kind.TheVariants as kinds
 use Rattle.ent_value.specs.declared.value.Value.{Value}
+use Rattle.ent_value.specs.Kinds.{same_kind, equal_kinds}
 use Rattle.ent_tree.specs.declared.operand.ColumnReference.{ColumnReference}
 use Rattle.ent_tree.specs.declared.operand.Expression.{Expression}
 use Rattle.ent_tree.specs.declared.operand.Expression.TheVariants.{Single, Sum, Difference}
 use Rattle.ent_tree.specs.declared.operand.Operand.{Operand as TreeOperand}
 use Rattle.ent_tree.specs.declared.operand.Operand.TheVariants as operands
 use Rattle.ent_tree.specs.declared.statement.Assignment.{Assignment}
+use Rattle.ent_semantics.specs.Database.{Name, Environment, same_name, is_among}
 use Rattle.ent_closed.specs.Closing.{operand_over, expression_over}
 use Rattle.ent_closed.specs.Form.{known_worth}
 use Rattle.ent_closed.specs.declared.operand.Known.{Known}
 use Rattle.ent_closed.specs.declared.operand.Operand.{Operand}
 use Rattle.ent_closed.specs.declared.operand.Operand.TheVariants as resolved
-use Rattle.ent_semantics.specs.Database.{Name, Environment, same_name}
 use Rattle.ent_semantics.specs.Term.{refers_to}
 use Rattle.ent_form.specs.declared.catalogue.ColumnSchema.{ColumnSchema}
-use Rattle.ent_form.specs.declared.fault.FormFault.TheVariants.{NoColumn, WrongKind, Repeated}
-use Rattle.ent_form.specs.Catalogue.{column_from, column_named, is_among}
-use Rattle.ent_form.specs.Kinds.{Bound, same_kind}
+use Rattle.ent_form.specs.declared.fault.FormFault.TheVariants.{NoColumn, WrongKind, Repeated, NoTable}
+use Rattle.ent_form.specs.Catalogue.{column_from, column_named}
+use Rattle.ent_form.specs.Kinds.{Bound}
 use Rattle.ent_form.specs.Lookup.{value_in, operand_place, operand_in, operands_in, kind_in, expression_in}
 use Rattle.ent_form.specs.Lookup.{expression_place}
 use Rattle.ent_form.specs.Ordinary.{Image, own_from, assignment_in, assignments_from, image_in}
-use Rattle.ent_form.specs.Scope.{Visible, Scope, visible, referred_from, only_one, column_in}
+use Rattle.ent_form.specs.Scope.{Visible, Scope, visible, referred_from, only_one, column_in, qualifier_in}
 use Rattle.ent_form.specs.Steps.{there}
 use Rattle.ent_closed.specs.Kinds.{operand_kind, expression_kind}
 use Rattle.ent_form.proofs.Heads.{unqualified}
+use Rattle.ent_form.specs.declared.fault.FormFault.{FormFault}
 use Rattle.ent_form_laws.specs.Kinds.{HasKinds}
 use Rattle.ent_form_laws.proofs.Known.{value_kinded}
-use Rattle.ent_form_laws.proofs.Steps.{one_answer, bound_given, demand_given, there_given, equal_kinds}
+use Rattle.ent_form_laws.proofs.Steps.{one_answer, bound_given, demand_given, there_given}
 
 -- ---- columns
 

@@ -6,10 +6,9 @@ use Rattle.std.proofs.lemmas.Bool.{or_parts}
 use Rattle.ent_tree.specs.declared.declaration.Column.{Column}
 use Rattle.ent_tree.specs.declared.declaration.Create.{Create}
 use Rattle.ent_tree.specs.declared.operand.Identifier.{Identifier}
-use Rattle.ent_semantics.specs.Database.{Name, same_name}
+use Rattle.ent_semantics.specs.Database.{Name, same_name, is_among}
 use Rattle.ent_form.specs.declared.fault.FormFault.{FormFault}
 use Rattle.ent_form.specs.declared.fault.FormFault.TheVariants.{Repeated}
-use Rattle.ent_form.specs.Catalogue.{is_among}
 use Rattle.ent_form.specs.OpeningFault.{Check, ◌before◌, refused_where, repeated, declarations_fault}
 use Rattle.ent_form_laws.specs.Tables.{HaveDistinctColumns}
 use Rattle.ent_form_laws.proofs.Variables.{among_behind}

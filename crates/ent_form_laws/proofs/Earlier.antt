@@ -11,10 +11,9 @@ use Rattle.ent_tree.specs.declared.entangled.EntangledItem.{EntangledItem}
 use Rattle.ent_tree.specs.declared.entangled.Term.{Term}
 use Rattle.ent_tree.specs.declared.entangled.Term.TheVariants as terms
 use Rattle.ent_tree.specs.declared.operand.Identifier.{Identifier}
-use Rattle.ent_semantics.specs.Database.{Name}
+use Rattle.ent_semantics.specs.Database.{Name, is_among}
 use Rattle.ent_semantics.specs.Entangled.{term_variables}
 use Rattle.ent_form.specs.declared.fault.FormFault.{FormFault}
-use Rattle.ent_form.specs.Catalogue.{is_among}
 use Rattle.ent_form.specs.Entangled.{noted, noted_terms, noted_items}
 use Rattle.ent_form.specs.Kinds.{Bound}
 use Rattle.ent_form.specs.EntangledFaults.{taking}

@@ -8,13 +8,13 @@ use Rattle.std.proofs.lemmas.List.{append-nil, map-append}
 use Rattle.ent_set.specs.Sets as set
 use Rattle.ent_tree.specs.declared.operand.Identifier.{Identifier}
 use Rattle.ent_tree.specs.declared.select.Source.{Source}
+use Rattle.ent_semantics.specs.Database.{Name, Rows, same_name, is_among}
 use Rattle.ent_closed.specs.Form.{Tables}
-use Rattle.ent_semantics.specs.Database.{Name, Rows, same_name}
 use Rattle.ent_semantics.specs.Kinds.{KindedSource, RowsHaveKinds, SourcesHaveKinds}
 use Rattle.ent_semantics.specs.Term.{source_name}
 use Rattle.ent_form.specs.declared.catalogue.TableSchema.{TableSchema}
 use Rattle.ent_form.specs.declared.fault.FormFault.TheVariants.{NoTable, Ambiguous}
-use Rattle.ent_form.specs.Catalogue.{table_from, table_named, is_among}
+use Rattle.ent_form.specs.Catalogue.{table_from, table_named}
 use Rattle.ent_form.specs.Scope.{Scope, visible, with_source, source_place, sources_from, table_in}
 use Rattle.ent_form.specs.Steps.{there}
 use Rattle.ent_form_laws.specs.Kinds.{column_kinds, kinds_numbered, AreKinded, AreDeclared}

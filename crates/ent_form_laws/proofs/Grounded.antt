@@ -12,6 +12,7 @@ use Rattle.ent_value.specs.Value.{kind_of, kinds_of}
 use Rattle.ent_value.specs.declared.value.Kind.{Kind}
 use Rattle.ent_value.specs.declared.value.Kind.TheVariants.{Int}
 use Rattle.ent_value.specs.declared.value.Value.{Value}
+use Rattle.ent_value.specs.Kinds.{same_kind}
 use Rattle.ent_tree.specs.declared.entangled.Condition.{Condition}
 use Rattle.ent_tree.specs.declared.entangled.Condition.TheVariants as conditions
 use Rattle.ent_tree.specs.declared.entangled.Entangled.{Entangled as TreeEntangled}
@@ -25,6 +26,7 @@ use Rattle.ent_tree.specs.declared.operand.Test.{Test}
 use Rattle.ent_tree.specs.declared.select.Items.{Items}
 use Rattle.ent_tree.specs.declared.select.Items.TheVariants as items
 use Rattle.ent_tree.specs.declared.select.Select.{Select as TreeSelect}
+use Rattle.ent_semantics.specs.Database.{Name, Rows, Environment, same_name, is_among, index_of}
 use Rattle.ent_closed.specs.Closing.{operand_over}
 use Rattle.ent_closed.specs.Form.{Tables, known_worth, operand_worth, term_worth, form_rows, membership_holds}
 use Rattle.ent_closed.specs.Form.{is_form_grounding}
@@ -36,7 +38,6 @@ use Rattle.ent_closed.specs.declared.entangled.Term.TheVariants as resolved
 use Rattle.ent_closed.specs.declared.operand.Known.{Known}
 use Rattle.ent_closed.specs.declared.operand.Operand.{Operand}
 use Rattle.ent_closed.specs.declared.statement.Select.{Select}
-use Rattle.ent_semantics.specs.Database.{Name, Rows, Environment, same_name}
 use Rattle.ent_semantics.specs.Entangled.{Valuation}
 use Rattle.ent_semantics.specs.Kinds.{KindedSource, RowsHaveKinds, SourcesHaveKinds, kinds_side_by_side, ShowsKinds}
 use Rattle.ent_semantics.specs.Names.{equal_names, name_itself}
@@ -44,18 +45,17 @@ use Rattle.ent_semantics.specs.Selection.{meets, selection}
 use Rattle.ent_semantics.specs.Term.{no_value}
 use Rattle.ent_form.specs.declared.catalogue.TableSchema.{TableSchema}
 use Rattle.ent_form.specs.declared.fault.FormFault.TheVariants.{Arity, WrongKind, Unbound}
-use Rattle.ent_form.specs.Catalogue.{is_among}
-use Rattle.ent_form.specs.Entangled.{index_of, variables_of, demanded_in, member_in}
 use Rattle.ent_form.specs.Entangled.{members_from, membership_in, memberships_from, term_in, terms_in, Offer, no_offer}
 use Rattle.ent_form.specs.Entangled.{item_in, offer_from, heads_from, atom_from, post_in, others_from}
 use Rattle.ent_form.specs.Entangled.{kinds_of as kinds_demanded, entangled_in}
-use Rattle.ent_form.specs.Kinds.{Bound, same_kind, none_bound, with_kind}
 use Rattle.ent_form.specs.Lookup.{values_in, operand_in, operands_in, kind_in, test_in}
 use Rattle.ent_form.specs.Ordinary.{tests_in, Shown, with_item, items_from, columns_from, all_shown, items_in}
 use Rattle.ent_form.specs.Ordinary.{select_in}
 use Rattle.ent_form.specs.Scope.{Visible, Scope, sources_in, no_source}
 use Rattle.ent_form.specs.Steps.{there}
 use Rattle.ent_closed.specs.Kinds.{operand_kind}
+use Rattle.ent_form.specs.Kinds.{Bound, none_bound, with_kind}
+use Rattle.ent_form.specs.Entangled.{variables_of, demanded_in, member_in}
 use Rattle.ent_form_laws.specs.Kinds.{kinds_numbered, AreKinded, HasKinds}
 use Rattle.ent_form_laws.proofs.Columns.{kind_seen, operand_kinded, kind_behind}
 use Rattle.ent_form_laws.proofs.Found.{sources_at, rows_kinded, sources_seen}

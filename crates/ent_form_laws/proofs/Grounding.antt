@@ -8,6 +8,7 @@ use Rattle.ent_lists.specs.Elements.{same_number}
 use Rattle.ent_set.specs.Sets as set
 use Rattle.ent_value.specs.declared.value.Kind.{Kind}
 use Rattle.ent_value.specs.declared.value.Value.{Value}
+use Rattle.ent_value.specs.Kinds.{same_kind}
 use Rattle.ent_tree.specs.declared.declaration.Create.{Create}
 use Rattle.ent_tree.specs.declared.entangled.Condition.{Condition}
 use Rattle.ent_tree.specs.declared.entangled.Condition.TheVariants as conditions
@@ -17,21 +18,21 @@ use Rattle.ent_tree.specs.declared.entangled.Term.TheVariants as terms
 use Rattle.ent_tree.specs.declared.entangled.Tuple.{Tuple}
 use Rattle.ent_tree.specs.declared.operand.Identifier.{Identifier}
 use Rattle.ent_tree.specs.declared.select.Select.{Select as TreeSelect}
+use Rattle.ent_semantics.specs.Database.{Name, Environment, index_of}
 use Rattle.ent_closed.specs.declared.entangled.Entangled.{Entangled}
 use Rattle.ent_closed.specs.declared.entangled.Membership.{Membership}
 use Rattle.ent_closed.specs.declared.entangled.Term.{Term}
 use Rattle.ent_closed.specs.declared.entangled.Term.TheVariants as resolved
 use Rattle.ent_closed.specs.declared.operand.Known.{Known}
 use Rattle.ent_closed.specs.Form.{Tables, known_worth, term_worth, membership_holds, is_form_grounding}
-use Rattle.ent_semantics.specs.Database.{Name, Environment}
 use Rattle.ent_semantics.specs.Entangled.{Valuation, condition_holds, is_grounding, term_value}
 use Rattle.ent_semantics.specs.Entangled.{variable_value}
 use Rattle.ent_semantics.specs.Selection.{holds, select_rows}
 use Rattle.ent_form.specs.declared.fault.FormFault.TheVariants.{WrongKind, Arity}
 use Rattle.ent_form.specs.Catalogue.{schemas_of}
-use Rattle.ent_form.specs.Entangled.{index_of, demanded_in, member_in, members_from, membership_in, memberships_from}
+use Rattle.ent_form.specs.Entangled.{demanded_in, member_in, members_from, membership_in, memberships_from}
 use Rattle.ent_form.specs.Entangled.{variables_of, entangled_in}
-use Rattle.ent_form.specs.Kinds.{Bound, same_kind, none_bound, with_kind}
+use Rattle.ent_form.specs.Kinds.{Bound, none_bound, with_kind}
 use Rattle.ent_form.specs.Lookup.{values_in, kind_in}
 use Rattle.ent_form.specs.Ordinary.{select_in}
 use Rattle.ent_form_laws.specs.Tables.{database_of, AreWide}

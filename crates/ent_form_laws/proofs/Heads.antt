@@ -12,17 +12,16 @@ use Rattle.ent_tree.specs.declared.entangled.Term.{Term as TreeTerm}
 use Rattle.ent_tree.specs.declared.entangled.Tuple.{Tuple}
 use Rattle.ent_tree.specs.declared.operand.Identifier.{Identifier}
 use Rattle.ent_tree.specs.declared.operand.Test.{Test}
+use Rattle.ent_semantics.specs.Database.{Name, Environment, is_among}
 use Rattle.ent_closed.specs.declared.entangled.Atom.{Atom}
 use Rattle.ent_closed.specs.declared.entangled.Binding.{Binding as Bind}
 use Rattle.ent_closed.specs.declared.entangled.Term.{Term}
 use Rattle.ent_closed.specs.declared.operand.Known.{Known}
 use Rattle.ent_closed.specs.Form.{known_worth, atom_fact}
 use Rattle.ent_semantics.specs.declared.answer.Fact.{Fact}
-use Rattle.ent_semantics.specs.Database.{Name, Environment}
 use Rattle.ent_semantics.specs.Entangled.{Valuation, facts, condition_posts, item_binds}
 use Rattle.ent_semantics.specs.Selection.{holds}
 use Rattle.ent_form.specs.declared.fault.FormFault.TheVariants.{Repeated}
-use Rattle.ent_form.specs.Catalogue.{is_among}
 use Rattle.ent_form.specs.Entangled.{term_in, terms_in, Offer, with_term, with_bind, bind_in, item_in, offer_from}
 use Rattle.ent_form.specs.Entangled.{heads_from, atom_from, post_in, others_from}
 use Rattle.ent_form.specs.Kinds.{Bound}

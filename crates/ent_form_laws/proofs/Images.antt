@@ -8,20 +8,21 @@ use Rattle.std.proofs.lemmas.List.{append_assoc, length-append, get_or_at}
 use Rattle.ent_value.specs.declared.value.Kind.{Kind}
 use Rattle.ent_value.specs.declared.value.Kind.TheVariants as kinds
 use Rattle.ent_value.specs.declared.value.Value.{Value}
+use Rattle.ent_value.specs.Kinds.{same_kind}
 use Rattle.ent_tree.specs.declared.operand.Expression.{Expression}
 use Rattle.ent_tree.specs.declared.operand.Expression.TheVariants.{Single, Sum, Difference}
 use Rattle.ent_tree.specs.declared.operand.Operand.{Operand as TreeOperand}
 use Rattle.ent_tree.specs.declared.statement.Assignment.{Assignment}
+use Rattle.ent_semantics.specs.Database.{Name, Environment, same_name, is_among}
 use Rattle.ent_closed.specs.declared.operand.Known.{Known}
 use Rattle.ent_closed.specs.declared.operand.Operand.{Operand}
 use Rattle.ent_semantics.specs.Change.{all_there, assigned_value, assigned_values, image}
-use Rattle.ent_semantics.specs.Database.{Name, Environment, same_name}
 use Rattle.ent_semantics.specs.Names.{equal_names, names_turned}
 use Rattle.ent_semantics.specs.Term.{no_value, expression_value}
 use Rattle.ent_form.specs.declared.catalogue.ColumnSchema.{ColumnSchema}
 use Rattle.ent_form.specs.declared.fault.FormFault.TheVariants.{NoColumn, WrongKind, Repeated}
-use Rattle.ent_form.specs.Catalogue.{column_from, column_named, is_among}
-use Rattle.ent_form.specs.Kinds.{Bound, same_kind}
+use Rattle.ent_form.specs.Catalogue.{column_from, column_named}
+use Rattle.ent_form.specs.Kinds.{Bound}
 use Rattle.ent_form.specs.Lookup.{operand_in, operands_in, operand_place, kind_in, expression_in, expression_place}
 use Rattle.ent_form.specs.Ordinary.{Image, own_from, assignment_in, assignments_from, image_in}
 use Rattle.ent_form.specs.Scope.{Scope}

@@ -8,10 +8,12 @@ use Rattle.ent_value.specs.declared.value.Kind.{Kind}
 use Rattle.ent_value.specs.declared.value.Kind.TheVariants as kinds
 use Rattle.ent_value.specs.declared.value.Value.{Value}
 use Rattle.ent_value.specs.declared.value.Value.TheVariants.{Int}
+use Rattle.ent_value.specs.Kinds.{same_kind, equal_kinds}
 use Rattle.ent_tree.specs.declared.operand.Expression.{Expression}
 use Rattle.ent_tree.specs.declared.operand.Expression.TheVariants.{Single, Sum, Difference}
 use Rattle.ent_tree.specs.declared.operand.ValueSpecification.{ValueSpecification}
 use Rattle.ent_tree.specs.declared.operand.ValueSpecification.TheVariants as specifications
+use Rattle.ent_tree.specs.Places.{value_place}
 use Rattle.ent_closed.specs.declared.operand.Known.{Known}
 use Rattle.ent_closed.specs.declared.operand.Known.TheVariants as known
 use Rattle.ent_closed.specs.Form.{known_worth}
@@ -20,12 +22,12 @@ use Rattle.ent_semantics.specs.Term.{no_value, number_of, expression_value}
 use Rattle.ent_semantics.proofs.NumberKinds.{number_kind}
 use Rattle.ent_form.specs.declared.catalogue.ColumnSchema.{ColumnSchema}
 use Rattle.ent_form.specs.declared.fault.FormFault.TheVariants.{WrongKind, NoHostVariable}
-use Rattle.ent_form.specs.Kinds.{Bound, same_kind}
-use Rattle.ent_form.specs.Lookup.{Lookup, value_place, value_in, values_in, kind_in, expression_in}
+use Rattle.ent_form.specs.Kinds.{Bound}
+use Rattle.ent_form.specs.Lookup.{Lookup, value_in, values_in, kind_in, expression_in}
 use Rattle.ent_form.specs.Ordinary.{row_from}
 use Rattle.ent_form.specs.Steps.{there}
 use Rattle.ent_form_laws.specs.Kinds.{HasKinds}
-use Rattle.ent_form_laws.proofs.Steps.{one_answer, bound_given, demand_given, there_given, equal_kinds}
+use Rattle.ent_form_laws.proofs.Steps.{one_answer, bound_given, demand_given, there_given}
 
 -- ---- sums and differences
 

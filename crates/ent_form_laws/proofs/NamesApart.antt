@@ -9,13 +9,13 @@ use Rattle.ent_lists.specs.Elements.{In, Pairs, clash, neither, of_all}
 use Rattle.ent_value.specs.Value.{kinds_of}
 use Rattle.ent_tree.specs.declared.declaration.Column.{Column}
 use Rattle.ent_tree.specs.declared.declaration.Create.{Create}
-use Rattle.ent_semantics.specs.Database.{Name, same_name}
+use Rattle.ent_semantics.specs.Database.{Name, same_name, is_among}
 use Rattle.ent_semantics.specs.Kinds.{RowsHaveKinds}
 use Rattle.ent_semantics.specs.Names.{name_itself}
 use Rattle.ent_closed.specs.Form.{Tables}
 use Rattle.ent_form.specs.declared.catalogue.ColumnSchema.{ColumnSchema}
 use Rattle.ent_form.specs.declared.fault.FormFault.TheVariants.{Repeated}
-use Rattle.ent_form.specs.Catalogue.{column_schema, is_among, schemas_of, table_schema}
+use Rattle.ent_form.specs.Catalogue.{column_schema, schemas_of, table_schema}
 use Rattle.ent_form.specs.OpeningFault.{◌before◌, declarations_fault, refused_where, repeated}
 use Rattle.ent_form_laws.specs.Kinds.{AreKinded, column_kinds}
 use Rattle.ent_form_laws.specs.Tables.{database_of}

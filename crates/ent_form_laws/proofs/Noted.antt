@@ -11,10 +11,9 @@ use Rattle.ent_tree.specs.declared.entangled.Entangled.{Entangled as TreeEntangl
 use Rattle.ent_tree.specs.declared.entangled.EntangledItem.{EntangledItem}
 use Rattle.ent_tree.specs.declared.entangled.Term.{Term}
 use Rattle.ent_tree.specs.declared.entangled.Term.TheVariants as terms
-use Rattle.ent_semantics.specs.Database.{Name, same_name}
+use Rattle.ent_semantics.specs.Database.{Name, same_name, is_among}
 use Rattle.ent_semantics.specs.Entangled.{condition_terms}
 use Rattle.ent_semantics.specs.Names.{name_itself}
-use Rattle.ent_form.specs.Catalogue.{is_among}
 use Rattle.ent_form.specs.Entangled.{noted, noted_terms, noted_items, noted_condition, noted_conditions}
 use Rattle.ent_form.specs.Entangled.{variables_of}
 

@@ -9,27 +9,27 @@ use Rattle.std.proofs.lemmas.List.Folds.{list_any-append}
 use Rattle.ent_set.specs.Sets as set
 use Rattle.ent_value.specs.Value.{row_cmp, kind_of, kinds_of}
 use Rattle.ent_value.specs.declared.value.Value.{Value}
+use Rattle.ent_value.specs.Kinds.{equal_kinds}
 use Rattle.ent_tree.specs.declared.declaration.Column.{Column}
 use Rattle.ent_tree.specs.declared.declaration.Create.{Create}
 use Rattle.ent_tree.specs.declared.declaration.Opening.{Opening}
 use Rattle.ent_tree.specs.declared.declaration.OpeningRow.{OpeningRow}
 use Rattle.ent_tree.specs.declared.operand.Literal.{Literal}
+use Rattle.ent_semantics.specs.Database.{Name, Rows, same_name, row_of, opening_database, is_among, rows_named}
 use Rattle.ent_closed.specs.Form.{Tables}
-use Rattle.ent_semantics.specs.Database.{Name, Rows, same_name, row_of, opening_database}
 use Rattle.ent_semantics.specs.Names.{equal_names, name_itself}
 use Rattle.ent_semantics.proofs.EachRow.{to_ascending, each_listed}
 use Rattle.ent_semantics.proofs.ItemKinds.{HaveKinds}
 use Rattle.ent_form.specs.declared.catalogue.ColumnSchema.{ColumnSchema}
 use Rattle.ent_form.specs.declared.catalogue.TableSchema.{TableSchema}
 use Rattle.ent_form.specs.declared.fault.FormFault.TheVariants.{NoTable, Arity, WrongKind, Repeated}
-use Rattle.ent_form.specs.Catalogue.{column_schema, table_schema, schemas_of, table_from, table_named, is_among}
-use Rattle.ent_form.specs.Opening.{rows_named}
+use Rattle.ent_form.specs.Catalogue.{column_schema, table_schema, schemas_of, table_from, table_named}
 use Rattle.ent_form.specs.OpeningFault.{◌before◌, refused_where, first_of, repeated, declarations_fault}
 use Rattle.ent_form.specs.OpeningFault.{literals_fault, row_fault, opening_row_fault, opening_fault}
 use Rattle.ent_form_laws.specs.Tables.{database_of, AreWide}
 use Rattle.ent_form_laws.specs.Kinds.{column_kinds, AreKinded}
 use Rattle.ent_form_laws.specs.Opened.{opening_tables}
-use Rattle.ent_form_laws.proofs.Steps.{equal_kinds, nothing_first, nothing_later, not_refused, held, found_there}
+use Rattle.ent_form_laws.proofs.Steps.{nothing_first, nothing_later, not_refused, held, found_there}
 
 -- ---- a row without a fault
 

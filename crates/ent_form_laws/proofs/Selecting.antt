@@ -7,6 +7,7 @@ use Rattle.std.proofs.lemmas.List.{append-nil, append_assoc, map-append, length-
 use Rattle.ent_value.specs.Value.{value_cmp}
 use Rattle.ent_value.specs.declared.value.Kind.{Kind}
 use Rattle.ent_value.specs.declared.value.Value.{Value}
+use Rattle.ent_value.specs.Kinds.{same_kind}
 use Rattle.ent_tree.specs.declared.declaration.Create.{Create}
 use Rattle.ent_tree.specs.declared.operand.ColumnReference.{ColumnReference}
 use Rattle.ent_tree.specs.declared.operand.Operand.{Operand as TreeOperand}
@@ -15,6 +16,7 @@ use Rattle.ent_tree.specs.declared.operand.Test.{Test}
 use Rattle.ent_tree.specs.declared.select.Items.{Items}
 use Rattle.ent_tree.specs.declared.select.Items.TheVariants as items
 use Rattle.ent_tree.specs.declared.select.Select.{Select as TreeSelect}
+use Rattle.ent_semantics.specs.Database.{Name, Environment, is_among}
 use Rattle.ent_closed.specs.declared.operand.Known.{Known}
 use Rattle.ent_closed.specs.declared.operand.Operand.{Operand}
 use Rattle.ent_closed.specs.declared.statement.Select.{Select}
@@ -22,9 +24,10 @@ use Rattle.ent_closed.specs.Form.{Tables, known_worth, operand_worth, form_rows}
 use Rattle.ent_semantics.specs.Database.{Environment}
 use Rattle.ent_semantics.specs.Selection.{compares, holds, meets, item_row, selection, select_rows, combinations}
 use Rattle.ent_semantics.specs.Term.{no_value, refers_to, column_value, operand_value}
-use Rattle.ent_form.specs.declared.fault.FormFault.TheVariants.{WrongKind}
+use Rattle.ent_form.specs.declared.fault.FormFault.TheVariants.{WrongKind, NoTable}
 use Rattle.ent_form.specs.Catalogue.{schemas_of}
-use Rattle.ent_form.specs.Kinds.{Bound, same_kind}
+use Rattle.ent_form.specs.Kinds.{Bound}
+use Rattle.ent_form.specs.declared.fault.FormFault.{FormFault}
 use Rattle.ent_form.specs.Lookup.{value_in, operand_place, operand_in, operands_in, test_in}
 use Rattle.ent_form.specs.Ordinary.{tests_from, tests_in, Shown, with_item, items_from, columns_from, all_shown}
 use Rattle.ent_form.specs.Ordinary.{items_in}

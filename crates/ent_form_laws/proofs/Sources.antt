@@ -8,13 +8,13 @@ use Rattle.ent_set.specs.Sets as set
 use Rattle.ent_tree.specs.declared.declaration.Column.{Column}
 use Rattle.ent_tree.specs.declared.declaration.Create.{Create}
 use Rattle.ent_tree.specs.declared.select.Source.{Source}
+use Rattle.ent_semantics.specs.Database.{Name, Rows, same_name, columns_of, is_among}
 use Rattle.ent_closed.specs.Form.{Tables}
-use Rattle.ent_semantics.specs.Database.{Name, Rows, same_name, columns_of}
 use Rattle.ent_semantics.specs.Term.{SourceColumn, source_name, source_columns}
 use Rattle.ent_form.specs.declared.catalogue.ColumnSchema.{ColumnSchema}
 use Rattle.ent_form.specs.declared.catalogue.TableSchema.{TableSchema}
 use Rattle.ent_form.specs.declared.fault.FormFault.TheVariants.{NoTable, Ambiguous}
-use Rattle.ent_form.specs.Catalogue.{column_schema, table_schema, schemas_of, table_from, table_named, is_among}
+use Rattle.ent_form.specs.Catalogue.{column_schema, table_schema, schemas_of, table_from, table_named}
 use Rattle.ent_form.specs.Scope.{Visible, Scope, visible, with_source, source_place, sources_from}
 use Rattle.ent_form_laws.proofs.Steps.{one_answer, bound_given, demand_given, there_given}
 use Rattle.ent_form.specs.Steps.{there}

@@ -7,6 +7,7 @@ use Rattle.std.proofs.lemmas.List.{append-nil, append_assoc}
 use Rattle.ent_value.specs.Value.{kind_of}
 use Rattle.ent_value.specs.declared.value.Kind.{Kind}
 use Rattle.ent_value.specs.declared.value.Kind.TheVariants as kinds
+use Rattle.ent_value.specs.Kinds.{same_kind}
 use Rattle.ent_tree.specs.declared.declaration.Create.{Create}
 use Rattle.ent_tree.specs.declared.declaration.Opening.{Opening}
 use Rattle.ent_tree.specs.declared.declaration.OpeningRow.{OpeningRow}
@@ -29,15 +30,15 @@ use Rattle.ent_tree.specs.declared.statement.Delete.{Delete}
 use Rattle.ent_tree.specs.declared.statement.Insert.{Insert}
 use Rattle.ent_tree.specs.declared.statement.Set.{Set}
 use Rattle.ent_tree.specs.declared.statement.Update.{Update}
-use Rattle.ent_semantics.specs.Database.{Name}
+use Rattle.ent_semantics.specs.Database.{Name, is_among}
 use Rattle.ent_semantics.specs.Term.{source_name}
 use Rattle.ent_form.specs.declared.catalogue.ColumnSchema.{ColumnSchema}
 use Rattle.ent_form.specs.declared.catalogue.TableSchema.{TableSchema}
 use Rattle.ent_form.specs.declared.fault.FormFault.{FormFault}
 use Rattle.ent_form.specs.declared.fault.FormFault.TheVariants.{NoTable, NoColumn, Arity, WrongKind, NoHostVariable}
 use Rattle.ent_form.specs.declared.fault.FormFault.TheVariants.{Ambiguous, Repeated}
-use Rattle.ent_form.specs.Catalogue.{schemas_of, table_named, names_of, column_named, is_among}
-use Rattle.ent_form.specs.Kinds.{Bound, same_kind}
+use Rattle.ent_form.specs.Catalogue.{schemas_of, table_named, names_of, column_named}
+use Rattle.ent_form.specs.Kinds.{Bound}
 use Rattle.ent_form.specs.Lookup.{operand_place, expression_place}
 use Rattle.ent_form.specs.Scope.{Visible, source_place}
 use Rattle.ent_form.specs.AllFaults.{faults_where, kinds_faults, repeated_names, declarations_faults}

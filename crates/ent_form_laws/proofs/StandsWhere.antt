@@ -7,15 +7,15 @@ use Rattle.std.specs.List.{Contains}
 use Rattle.std.proofs.lemmas.Bool.{eqb-true, eq-eqb}
 use Rattle.ent_value.specs.declared.value.Kind.{Kind}
 use Rattle.ent_value.specs.declared.value.Kind.TheVariants as kinds
+use Rattle.ent_value.specs.Kinds.{same_kind}
 use Rattle.ent_tree.specs.declared.operand.Identifier.{Identifier}
-use Rattle.ent_semantics.specs.Database.{Name, same_name}
+use Rattle.ent_semantics.specs.Database.{Name, same_name, is_among}
 use Rattle.ent_semantics.specs.Names.{equal_names, name_itself}
 use Rattle.ent_form.specs.declared.catalogue.ColumnSchema.{ColumnSchema}
 use Rattle.ent_form.specs.declared.catalogue.TableSchema.{TableSchema}
 use Rattle.ent_form.specs.declared.fault.FormFault.{FormFault}
 use Rattle.ent_form.specs.declared.fault.FormFault.TheVariants.{NoTable}
-use Rattle.ent_form.specs.Catalogue.{table_from, table_named, names_of, column_from, column_named, is_among}
-use Rattle.ent_form.specs.Kinds.{same_kind}
+use Rattle.ent_form.specs.Catalogue.{table_from, table_named, names_of, column_from, column_named}
 use Rattle.ent_form.specs.AllFaults.{faults_where, faults_at, unless_any, kinds_faults}
 use Rattle.ent_form_laws.specs.Standing.{IsTableFault, Differ}
 use Rattle.ent_form_laws.proofs.Membership.{both, either, holding, none_there, here, there, contains_cons}

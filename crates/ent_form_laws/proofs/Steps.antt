@@ -2,10 +2,7 @@
 use Rattle.std.proofs.Common.{◌≡◌, Bool, true, false, Option, Some, None, Result, Ok, Err, refl, ap}
 use Rattle.std.specs.Prelude.{if◌then◌else◌}
 use Rattle.ent_value.specs.Refusal.{◌>>=◌}
-use Rattle.ent_value.specs.declared.value.Kind.{Kind}
-use Rattle.ent_value.specs.declared.value.Kind.TheVariants as kinds
 use Rattle.ent_form.specs.declared.fault.FormFault.{FormFault}
-use Rattle.ent_form.specs.Kinds.{same_kind}
 use Rattle.ent_form.specs.OpeningFault.{Check, ◌before◌, refused_where, where_there}
 use Rattle.ent_form.specs.Steps.{there, demand}
 
@@ -28,12 +25,6 @@ pub there_given : {A : Type 0} (found : Option A) (fault : FormFault) (x : A)
     → there found fault ≡ Ok x → found ≡ Some x
 there_given (Some y) fault x e = ap Some (one_answer y x e)
 there_given None fault x e = cc
-
-pub equal_kinds : (left right : Kind) → same_kind left right ≡ true → left ≡ right
-equal_kinds kinds.Int kinds.Int e = refl
-equal_kinds kinds.Int kinds.Text e = cc
-equal_kinds kinds.Text kinds.Int e = cc
-equal_kinds kinds.Text kinds.Text e = refl
 
 -- ---- checks
 

@@ -6,23 +6,25 @@ use Rattle.std.proofs.lemmas.List.{append-nil, append_assoc, map-append}
 use Rattle.ent_value.specs.Value.{value_cmp}
 use Rattle.ent_value.specs.declared.value.Kind.{Kind}
 use Rattle.ent_value.specs.declared.value.Value.{Value}
+use Rattle.ent_value.specs.Kinds.{same_kind}
 use Rattle.ent_tree.specs.declared.entangled.Term.{Term as TreeTerm}
 use Rattle.ent_tree.specs.declared.entangled.Term.TheVariants as terms
 use Rattle.ent_tree.specs.declared.operand.Test.{Test}
 use Rattle.ent_tree.specs.declared.operand.ValueSpecification.{ValueSpecification}
 use Rattle.ent_tree.specs.declared.operand.ValueSpecification.TheVariants as specifications
+use Rattle.ent_tree.specs.Places.{value_place}
+use Rattle.ent_semantics.specs.Database.{Name, Environment, same_name, index_of}
 use Rattle.ent_closed.specs.declared.entangled.Term.{Term}
 use Rattle.ent_closed.specs.declared.operand.Known.{Known}
 use Rattle.ent_closed.specs.Form.{known_worth, term_worth}
-use Rattle.ent_semantics.specs.Database.{Name, Environment, same_name}
 use Rattle.ent_semantics.specs.Entangled.{Valuation, variable_value, term_value}
 use Rattle.ent_semantics.specs.Selection.{compares, holds}
 use Rattle.ent_semantics.specs.Term.{no_value, known_value}
 use Rattle.ent_form.specs.declared.fault.FormFault.TheVariants.{WrongKind, Unbound, NoHostVariable}
-use Rattle.ent_form.specs.Entangled.{index_of, term_in, terms_in, term_place}
+use Rattle.ent_form.specs.Entangled.{term_in, terms_in, term_place}
 use Rattle.ent_form.specs.Entangled.{atom_from}
-use Rattle.ent_form.specs.Kinds.{Bound, same_kind}
-use Rattle.ent_form.specs.Lookup.{value_in, values_in, value_place, kind_in, test_in}
+use Rattle.ent_form.specs.Kinds.{Bound}
+use Rattle.ent_form.specs.Lookup.{value_in, values_in, kind_in, test_in}
 use Rattle.ent_form.specs.Steps.{there}
 use Rattle.ent_form_laws.proofs.Steps.{one_answer, bound_given, demand_given}
 

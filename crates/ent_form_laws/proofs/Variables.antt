@@ -11,10 +11,9 @@ use Rattle.ent_tree.specs.declared.entangled.Entangled.{Entangled}
 use Rattle.ent_tree.specs.declared.entangled.EntangledItem.{EntangledItem}
 use Rattle.ent_tree.specs.declared.entangled.Term.{Term}
 use Rattle.ent_tree.specs.declared.entangled.Term.TheVariants as terms
-use Rattle.ent_semantics.specs.Database.{Name, same_name}
+use Rattle.ent_semantics.specs.Database.{Name, same_name, is_among}
 use Rattle.ent_semantics.specs.Entangled.{first_of_each, term_variables, condition_terms, head_terms, written_variables}
 use Rattle.ent_semantics.specs.Names.{equal_names}
-use Rattle.ent_form.specs.Catalogue.{is_among}
 use Rattle.ent_form.specs.Entangled.{noted, noted_terms, noted_items, noted_condition, noted_conditions, variables_of}
 
 -- names one after the other, each where it isn't there

@@ -3,8 +3,8 @@ use Rattle.std.specs.Prelude.{map}
 use Rattle.ent_set.specs.Sets as set
 use Rattle.ent_value.specs.Value.{row_cmp}
 use Rattle.ent_tree.specs.declared.declaration.Opening.{Opening}
+use Rattle.ent_semantics.specs.Database.{rows_named}
 use Rattle.ent_closed.specs.Form.{Tables}
-use Rattle.ent_form.specs.Opening.{rows_named}
 
 abbrev pub opening_tables : Opening → Tables
 opening_tables opening =

@@ -2,18 +2,19 @@
 use Rattle.std.proofs.Common.{◌≡◌, ℕ, suc, ◌+◌, List, [], ◌∷◌, ◌++◌, length, Ok, refl, sym, ap, ◌∙◌, arith}
 use Rattle.std.specs.Prelude.{not, slice_set}
 use Rattle.std.proofs.lemmas.List.{length-append, length-set}
+use Rattle.ent_value.specs.Kinds.{same_kind}
 use Rattle.ent_tree.specs.declared.operand.ValueSpecification.{ValueSpecification}
 use Rattle.ent_tree.specs.declared.statement.Assignment.{Assignment}
+use Rattle.ent_semantics.specs.Database.{Name, is_among}
 use Rattle.ent_closed.specs.declared.operand.Known.{Known}
 use Rattle.ent_form.specs.declared.catalogue.ColumnSchema.{ColumnSchema}
 use Rattle.ent_form.specs.declared.fault.FormFault.TheVariants.{NoColumn, Repeated, WrongKind}
-use Rattle.ent_form.specs.Catalogue.{column_named, is_among}
-use Rattle.ent_form.specs.Kinds.{Bound, same_kind}
 use Rattle.ent_form.specs.Lookup.{values_in, kind_in, operands_in, operand_place, expression_in, expression_place}
 use Rattle.ent_form.specs.Ordinary.{Image, row_from, own_from, assignment_in, assignments_from, image_in}
 use Rattle.ent_form.specs.Scope.{Scope}
 use Rattle.ent_form.specs.Steps.{there}
-use Rattle.ent_semantics.specs.Database.{Name}
+use Rattle.ent_form.specs.Kinds.{Bound}
+use Rattle.ent_form.specs.Catalogue.{column_named}
 use Rattle.ent_form_laws.proofs.Steps.{one_answer, bound_given, demand_given}
 
 nothing_more : (n : ℕ) → n ≡ n + 0

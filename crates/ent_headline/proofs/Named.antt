@@ -19,18 +19,17 @@ use Rattle.ent_tree.specs.declared.statement.Delete.{Delete}
 use Rattle.ent_tree.specs.declared.statement.Insert.{Insert}
 use Rattle.ent_tree.specs.declared.statement.Set.{Set}
 use Rattle.ent_tree.specs.declared.statement.Update.{Update}
+use Rattle.ent_semantics.specs.Database.{Name, is_among}
 use Rattle.ent_closed.specs.declared.entangled.Entangled.{Entangled}
 use Rattle.ent_closed.specs.declared.entangled.Membership.{Membership}
 use Rattle.ent_closed.specs.declared.operand.Known.{Known}
 use Rattle.ent_closed.specs.declared.statement.Select.{Select}
 use Rattle.ent_closed.specs.declared.statement.Statement.{Statement}
 use Rattle.ent_closed.specs.declared.statement.Statement.TheVariants as forms
-use Rattle.ent_semantics.specs.Database.{Name}
 use Rattle.ent_semantics.specs.Term.{source_name}
 use Rattle.ent_semantics.specs.Uses.{select_tables, condition_tables, shared_tables, exclusive_tables}
 use Rattle.ent_form.specs.declared.catalogue.TableSchema.{TableSchema}
 use Rattle.ent_form.specs.declared.fault.FormFault.TheVariants.{NoTable, Ambiguous, Arity}
-use Rattle.ent_form.specs.Catalogue.{schemas_of, table_named, is_among}
 use Rattle.ent_form.specs.Entangled.{membership_in, members_from, memberships_from, variables_of, offer_from, no_offer}
 use Rattle.ent_form.specs.Entangled.{heads_from, others_from, entangled_in}
 use Rattle.ent_form.specs.Form.{statement_in}
@@ -44,6 +43,7 @@ use Rattle.ent_form.specs.Steps.{there}
 use Rattle.ent_form_laws.proofs.Steps.{one_answer, bound_given, demand_given, there_given}
 use Rattle.ent_serializability.specs.Faithful.{number_of, IsFaithfulEntangled, AreAlike}
 use Rattle.ent_lists.specs.Elements.{all_joined}
+use Rattle.ent_form.specs.Catalogue.{schemas_of, table_named}
 use Rattle.ent_headline.proofs.FittedRows.{row_long, image_long}
 use Rattle.ent_headline.proofs.Numbers.{width_numbered, Found, found_named, found_in}
 use Rattle.ent_headline.proofs.Widths.{FitsTable, FitsWidth}

@@ -15,11 +15,11 @@ use Rattle.ent_tree.specs.declared.declaration.Column.{Column}
 use Rattle.ent_tree.specs.declared.declaration.Create.{Create}
 use Rattle.ent_tree.specs.declared.declaration.Opening.{Opening}
 use Rattle.ent_tree.specs.declared.declaration.OpeningRow.{OpeningRow}
-use Rattle.ent_semantics.specs.Database.{Name, opening_database, row_of, same_name}
+use Rattle.ent_semantics.specs.Database.{Name, opening_database, row_of, same_name, rows_named}
 use Rattle.ent_book.specs.Report.{names_by_bytes, rows_text}
 use Rattle.ent_book.specs.Report2 as book
 use Rattle.ent_book.specs.Report2.{opening_line, opening_table_text, declared_columns}
-use Rattle.ent_history.specs.Text.{rows_under, opened_text, opening_text}
+use Rattle.ent_history.specs.Text.{opened_text, opening_text}
 use Rattle.ent_history.specs.Told.{declared_under, opening_row, told_rows, told_opening}
 use Rattle.ent_history.proofs.Lists.{same_each, flat_map-flat_map, filter-flat_map, name_cmp, ties, other_way}
 use Rattle.ent_history.proofs.Lists.{is_same, AreApart, is_in, apart, each_in, of_name, one_of}
@@ -56,7 +56,7 @@ module _ (opening : Opening) where
   names_apart = apart _ (finite.entries_sorted _)
 
   rows_shown : (name : Name) → is_in name (names_by_bytes opening) ≡ true
-      → rows_under (told_opening opening) name ≡ set.ascending (opening_database opening name)
+      → rows_named (told_opening opening) name ≡ set.ascending (opening_database opening name)
   rows_shown name there =
       ap (map row_of)
       (filter-flat_map (λ (row : OpeningRow). same_name row.table.name name) (told_rows opening)
@@ -126,8 +126,8 @@ module _ (opening : Opening) where
   shown name there =
       let found = declared opening.tables name (are_declared name there) in
       let rows = set.ascending (opening_database opening name) in
-      let same_rows : rows_under (told_opening opening) found.create.name.name ≡ rows =
-      ap (rows_under (told_opening opening)) found.name_is ∙ rows_shown name there in
+      let same_rows : rows_named (told_opening opening) found.create.name.name ≡ rows =
+      ap (rows_named (told_opening opening)) found.name_is ∙ rows_shown name there in
       let text : Name → List Column → List (List Value) → List ℕ =
       λ name columns rows. opening_line name columns (length rows) ++ rows_text rows in
       ap (λ count. opening_line name (declared_columns opening.tables name) count ++ rows_text rows)

@@ -5,17 +5,17 @@ use Rattle.ent_tree.specs.declared.declaration.Opening.{Opening}
 use Rattle.ent_tree.specs.declared.script.Script.{Script}
 use Rattle.ent_semantics.specs.declared.answer.Answer.{Answer}
 use Rattle.ent_semantics.specs.declared.answer.Answer.TheVariants as answers
+use Rattle.ent_semantics.specs.Database.{rows_named}
 use Rattle.ent_history.specs.declared.history.History.{History}
 use Rattle.ent_history.specs.declared.history.Shown.{Shown}
 use Rattle.ent_history.specs.declared.history.Told.{Told}
 use Rattle.ent_history.specs.declared.history.ToldJoint.{ToldJoint}
-use Rattle.ent_history.specs.Text.{rows_under}
 
 -- ---- how many lines each thing has
 
 -- the tables at first, each with its rows
 abbrev pub opening_lines : Opening → ℕ
-opening_lines opening = sum_by (λ create. 1 + length (rows_under opening create.name.name)) opening.tables
+opening_lines opening = sum_by (λ create. 1 + length (rows_named opening create.name.name)) opening.tables
 
 -- a script with its own line: its beginning, its statements, and its end
 abbrev pub script_lines : Script → ℕ

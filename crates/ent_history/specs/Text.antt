@@ -1,11 +1,10 @@
 -- The text of a history, as a report of version 2 writes it.
-use Rattle.std.specs.Prelude.{ℕ, ◌+◌, List, [], ◌∷◌, ◌++◌, length, map, codes}
-use Rattle.std.specs.List.{filter, flat_map}
+use Rattle.std.specs.Prelude.{ℕ, ◌+◌, List, [], ◌∷◌, ◌++◌, length, codes}
+use Rattle.std.specs.List.{flat_map}
 use Rattle.std.specs.Fmt.{decimal}
-use Rattle.ent_value.specs.declared.value.Value.{Value}
 use Rattle.ent_tree.specs.declared.declaration.Create.{Create}
 use Rattle.ent_tree.specs.declared.declaration.Opening.{Opening}
-use Rattle.ent_semantics.specs.Database.{Name, row_of, same_name}
+use Rattle.ent_semantics.specs.Database.{rows_named}
 use Rattle.ent_book.specs.Report.{line, rows_text, fate_text, answers_text, member_place, member_text}
 use Rattle.ent_book.specs.Report2.{opening_line, scripts_text, bindings_text}
 use Rattle.ent_history.specs.declared.history.History.{History}
@@ -14,15 +13,11 @@ use Rattle.ent_history.specs.declared.history.Told.{Told}
 use Rattle.ent_history.specs.declared.history.ToldJoint.{ToldJoint}
 use Rattle.ent_history.specs.declared.history.ToldMember.{ToldMember}
 
--- the opening rows of a table, in the order in which they stand
-abbrev pub rows_under : Opening → Name → List (List Value)
-rows_under opening name = map row_of (filter (λ row. same_name row.table.name name) opening.rows)
-
 -- a table at first: its name, its columns, how many rows it has, and these
 abbrev pub opened_text : Opening → Create → List ℕ
 opened_text opening create =
-    opening_line create.name.name create.columns (length (rows_under opening create.name.name))
-    ++ rows_text (rows_under opening create.name.name)
+    opening_line create.name.name create.columns (length (rows_named opening create.name.name))
+    ++ rows_text (rows_named opening create.name.name)
 
 -- the tables at first, in the order in which they stand
 abbrev pub opening_text : Opening → List ℕ

@@ -10,9 +10,9 @@ use Rattle.ent_tree.specs.declared.declaration.Column.{Column}
 use Rattle.ent_tree.specs.declared.declaration.Create.{Create}
 use Rattle.ent_tree.specs.declared.declaration.Opening.{Opening}
 use Rattle.ent_tree.specs.declared.limits.TheConstants.{MOST_TABLES, MOST_PARTS, MOST_OPENING_ROWS}
+use Rattle.ent_semantics.specs.Database.{rows_named}
 use Rattle.ent_book.specs.Report.{line, row_line}
 use Rattle.ent_book.specs.Report2.{opening_line}
-use Rattle.ent_history.specs.Text.{rows_under}
 use Rattle.ent_history.specs.Told.{opening_row}
 use Rattle.ent_history_form.specs.Parts.{IsName, IsRow, Ascends}
 use Rattle.ent_history_form.specs.Draft.{Draft, Free, Heading, OpeningRows, rows_due, last_of, NothingBelowScripts}
@@ -84,5 +84,5 @@ pub record OpeningRowStands (draft : Draft) (text : List ℕ) (next : Draft) : T
   pub text_is : text ≡ row_line row
   pub is_row : IsRow row
   pub kinds : kinds_of row ≡ map (λ column. column.kind) create.columns
-  pub ascends : Ascends (rows_under draft.told.opening create.name.name) row
+  pub ascends : Ascends (rows_named draft.told.opening create.name.name) row
   pub next_is : next ≡ with_opening_row draft create row more

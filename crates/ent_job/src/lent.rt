@@ -81,7 +81,7 @@ impl LentJobs {
     }
 
     /// Whether a job of one statement of a transaction is lent.
-    pub fn is_out(&self, tx: Tx) -> bool
+    pub fn is_lent(&self, tx: Tx) -> bool
         ensures value { result ≡ list_any (is_single_of tx) self.now }
         ensures state { (s : State) → s.lent ≡ self.now → result ≡ is_lent s tx }
     {

@@ -17,5 +17,6 @@ mod work;
 
 pub use job::Job;
 pub use lent::LentJobs;
+pub use list::is_lent;
 pub use single::Single;
 pub use work::Work;

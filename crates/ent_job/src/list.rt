@@ -12,7 +12,7 @@ use crate::membership::goes_with;
 use ent_group::{Members, Tx};
 
 /// Whether a job of one statement of a transaction is among them.
-pub(crate) fn is_lent(jobs: &[Job], tx: Tx) -> bool
+pub fn is_lent(jobs: &[Job], tx: Tx) -> bool
     ensures { result ≡ list_any (is_single_of tx) jobs.now }
 {
     jobs.iter().any(|job| job.is_single_of(tx))

@@ -7,8 +7,8 @@ use Rattle.std.specs.Cmp.Lexicographic.{slice_cmp}
 use Rattle.ent_lists.specs.Elements.{and_both}
 use Rattle.ent_value.specs.Value.{kind_of, kinds_of, value_cmp}
 use Rattle.ent_value.specs.declared.value.Kind.{Kind}
-use Rattle.ent_value.specs.declared.value.Kind.TheVariants as kinds
 use Rattle.ent_value.specs.declared.value.Value.{Value}
+use Rattle.ent_value.specs.Kinds.{equal_kinds, kind_itself, same_kind}
 use Rattle.ent_tree.specs.declared.operand.Test.{Test}
 use Rattle.ent_rel.specs.Numbered.{Numbered}
 use Rattle.ent_semantics.specs.Entangled.{Valuation}
@@ -19,25 +19,15 @@ use Rattle.ent_plan.specs.Plan.{IsGroundedSpread, IsPlan, Plan, slot_kind, sprea
 use Rattle.ent_plan.specs.Tables.{tables_named}
 use Rattle.ent_plan.specs.declared.slot.Slot.{Slot}
 use Rattle.ent_join.specs.Asked.{all_indexes, all_tests}
-use Rattle.ent_join.specs.Frame.{IsFrame, are_of_kinds, candidates_of, has_class, is_kind, lets_through, may_hold}
 use Rattle.ent_join.specs.Index.{IsIndexed, goes_on}
 use Rattle.ent_join.specs.Laid.{AreLaid}
 use Rattle.ent_plan.specs.Ranged.{AreRanged}
+use Rattle.ent_join.specs.Frame.{IsFrame, are_of_kinds, candidates_of, has_class, lets_through, may_hold}
 use Rattle.ent_join.specs.Search.{IsGuide, IsLeast, NonePasses}
 use Rattle.ent_join.specs.declared.frame.Frame.{Frame}
 use Rattle.ent_join.proofs.Guiding.{frame_guides}
 use Rattle.ent_join.proofs.Held.{all_indexed, all_parts, held, numbered_below, sources_are_named}
 use Rattle.ent_join.proofs.Tied.{SlotBelow, groundings_from, groundings_to, tests_to}
-
-kind_exact : (one other : Kind) → is_kind one other ≡ true → one ≡ other
-kind_exact kinds.Int kinds.Int h = refl
-kind_exact kinds.Int kinds.Text h = cc
-kind_exact kinds.Text kinds.Int h = cc
-kind_exact kinds.Text kinds.Text h = refl
-
-kind_self : (kind : Kind) → is_kind kind kind ≡ true
-kind_self kinds.Int = refl
-kind_self kinds.Text = refl
 
 kinds_from : (class_kinds : List Kind) (values : List Value) → length values ≡ length class_kinds
     → are_of_kinds class_kinds values ≡ true → kinds_of values ≡ class_kinds
@@ -45,15 +35,15 @@ kinds_from [] [] w h = refl
 kinds_from (kind ∷ class_kinds) [] w h = absurd (omega arith)
 kinds_from [] (value ∷ values) w h = cc
 kinds_from (kind ∷ class_kinds) (value ∷ values) w h =
-    let k = and_both (is_kind (kind_of value) kind) (are_of_kinds class_kinds values) h in
-    let first : kind_of value ≡ kind = kind_exact (kind_of value) kind k.0 in
+    let k = and_both (same_kind (kind_of value) kind) (are_of_kinds class_kinds values) h in
+    let first : kind_of value ≡ kind = equal_kinds (kind_of value) kind k.0 in
     let rest : kinds_of values ≡ class_kinds = kinds_from class_kinds values (omega arith) k.1 in
     λ i. first i ∷ rest i
 
 pub kinds_to : (values : List Value) → are_of_kinds (kinds_of values) values ≡ true
 kinds_to [] = refl
 kinds_to (value ∷ values) =
-    ap (λ b. b && are_of_kinds (kinds_of values) values) (kind_self (kind_of value)) ∙ kinds_to values
+    ap (λ b. b && are_of_kinds (kinds_of values) values) (kind_itself (kind_of value)) ∙ kinds_to values
 
 kinds_width : (values : List Value) → length (kinds_of values) ≡ length values
 kinds_width [] = refl

@@ -7,12 +7,14 @@ use Rattle.std.specs.List.Sorted.{IsStrictlySortedBy}
 use Rattle.std.specs.declared.cmp.Ordering.TheVariants.{Less, Greater}
 use Rattle.std.specs.Ordering.{is_eq, nat_cmp}
 use Rattle.ent_lists.specs.Elements.{and_both, got_on}
+use Rattle.ent_value.specs.Kinds.{same_kind}
 use Rattle.ent_tree.specs.declared.operand.Comparison.{Comparison}
 use Rattle.ent_tree.specs.declared.operand.Test.{Test}
 use Rattle.ent_value.specs.Value.{kind_of, value_cmp, row_cmp}
 use Rattle.ent_value.specs.declared.value.Kind.{Kind}
 use Rattle.ent_value.specs.declared.value.Value.{Value}
 use Rattle.ent_semantics.specs.Term.{no_value}
+use Rattle.ent_select.specs.Early.{may_compare}
 use Rattle.ent_plan.specs.declared.slot.Slot.{Slot}
 use Rattle.ent_plan.specs.declared.slot.Slot.TheVariants.{Fixed, Class}
 use Rattle.ent_join.specs.Cursor.{column_values, IsAmong, IsAscending}
@@ -20,8 +22,8 @@ use Rattle.ent_join.specs.Search.{IsGuide}
 use Rattle.ent_join.specs.Index.{Indexed, IsIndexed, begins_so, goes_on, column_of}
 use Rattle.ent_join.specs.Index.{candidates_or, candidates_in}
 use Rattle.ent_join.specs.declared.frame.Frame.{Frame}
-use Rattle.ent_join.specs.Frame.{IsFrame, has_class, slot_there, may_compare, may_hold, lets_through}
-use Rattle.ent_join.specs.Frame.{are_of_kinds, candidates_of, is_kind}
+use Rattle.ent_join.specs.Frame.{IsFrame, has_class, slot_there, may_hold, lets_through, are_of_kinds}
+use Rattle.ent_join.specs.Frame.{candidates_of}
 use Rattle.ent_join.proofs.Begun.{is_equal, kept_cmp, next_is, next_in_order}
 
 -- ---- one index
@@ -199,7 +201,7 @@ kinds_kept kinds [] rest h = none kinds
     none (kind ∷ kinds) = refl
 kinds_kept [] (value ∷ beginning) rest h = cc
 kinds_kept (kind ∷ kinds) (value ∷ beginning) rest h =
-    let k = and_both (is_kind (kind_of value) kind) (are_of_kinds kinds (beginning ++ rest)) h in
+    let k = and_both (same_kind (kind_of value) kind) (are_of_kinds kinds (beginning ++ rest)) h in
     ap (λ b. b && are_of_kinds kinds beginning) k.0 ∙ kinds_kept kinds beginning rest k.1
 
 pub frame_guides : (count : ℕ) (frame : Frame) → IsFrame count frame

@@ -8,18 +8,21 @@ use Rattle.std.specs.Ordering.{is_eq}
 use Rattle.std.proofs.lemmas.Option.{slice_get_past}
 use Rattle.std.proofs.lemmas.Bool.{eq-eqb}
 use Rattle.ent_lists.specs.Elements.{and_both}
+use Rattle.ent_value.specs.Kinds.{same_kind}
 use Rattle.ent_tree.specs.declared.operand.Test.{Test}
 use Rattle.ent_value.specs.Value.{kind_of}
 use Rattle.ent_value.specs.declared.value.Kind.{Kind}
 use Rattle.ent_value.specs.declared.value.Value.{Value}
+use Rattle.ent_select.specs.Early.{may_compare}
+use Rattle.ent_match.specs.Links.{IsMarked}
 use Rattle.ent_plan.specs.declared.slot.Slot.{Slot}
 use Rattle.ent_plan.specs.declared.slot.Slot.TheVariants.{Fixed, Class}
 use Rattle.ent_join.specs.Cursor.{column_values}
-use Rattle.ent_join.specs.Frame.{are_of_kinds, fits, is_kind, may_compare, may_hold, slot_there}
 use Rattle.ent_join.specs.Index.{Indexed, begun_cmp, candidates_in, candidates_or, column_of, goes_on}
 use Rattle.ent_join.specs.Index.{known_cmp, rows_after}
 use Rattle.ent_join.specs.Keyed.{is_class}
-use Rattle.ent_join.specs.Reason.{Agrees, IsBegun, IsFollowedFor, IsMarked, IsRefusedFor}
+use Rattle.ent_join.specs.Frame.{are_of_kinds, fits, may_hold, slot_there}
+use Rattle.ent_join.specs.Reason.{Agrees, IsBegun, IsFollowedFor, IsRefusedFor}
 use Rattle.ent_join.specs.Slots.{IsSlotMarked}
 use Rattle.ent_join.proofs.Steps.{get_before, get_seam}
 
@@ -243,7 +246,7 @@ kinds_pushed [] [] last h is = cc
 kinds_pushed (kind ∷ kinds) [] last h is = λ i. is i && none_asked kinds i
 kinds_pushed [] (value ∷ front) last h is = cc
 kinds_pushed (kind ∷ kinds) (value ∷ front) last h is =
-    let k = and_both (is_kind (kind_of value) kind) (are_of_kinds kinds front) h in
+    let k = and_both (same_kind (kind_of value) kind) (are_of_kinds kinds front) h in
     let more : are_of_kinds kinds (front ++ last ∷ []) ≡ true = kinds_pushed kinds front last k.1 is in
     λ i. k.0 i && more i
 
@@ -254,10 +257,10 @@ kinds_unfit kinds [] place value is unfit = cc
 kinds_unfit [] (v ∷ values) place value is unfit = refl
 kinds_unfit (kind ∷ kinds) (v ∷ values) zero value is unfit =
     let same : v ≡ value = cc in
-    ap (λ b. b && are_of_kinds kinds values) (ap (λ w. is_kind (kind_of w) kind) same ∙ unfit)
+    ap (λ b. b && are_of_kinds kinds values) (ap (λ w. same_kind (kind_of w) kind) same ∙ unfit)
 kinds_unfit (kind ∷ kinds) (v ∷ values) (suc place) value is unfit =
-    ap (λ b. is_kind (kind_of v) kind && b) (kinds_unfit kinds values place value is unfit)
-    ∙ nothing (is_kind (kind_of v) kind)
+    ap (λ b. same_kind (kind_of v) kind && b) (kinds_unfit kinds values place value is unfit)
+    ∙ nothing (same_kind (kind_of v) kind)
 
 pub kinds_pass : (kinds : List Kind) (values : List Value) (place : ℕ) (value : Value)
     → place + 1 ≡ length values → slice_get values place ≡ Some value

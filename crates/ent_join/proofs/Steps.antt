@@ -13,10 +13,11 @@ use Rattle.ent_value.specs.Value.{value_cmp, row_cmp}
 use Rattle.ent_value.specs.Order.{values_total, exact_values}
 use Rattle.ent_value.specs.declared.value.Value.{Value}
 use Rattle.ent_join.specs.Cursor.{IsAmong, IsAscending, IsNext}
-use Rattle.ent_join.specs.Reason.{Agrees, AreMarkedIn, IsBegun, IsFollowedFor, IsMarked, IsRefusedFor, Refutes}
 use Rattle.ent_join.specs.Going.{AreLeft, IsGoing}
 use Rattle.ent_join.specs.Search.{IsLeast, NonePasses, IsGuide, IsSearched, NoDeadEnds, AreTicks}
 use Rattle.ent_value.specs.Ticks.{ticked}
+use Rattle.ent_match.specs.Links.{IsMarked}
+use Rattle.ent_join.specs.Reason.{Agrees, AreMarkedIn, IsBegun, IsFollowedFor, IsRefusedFor, Refutes}
 use Rattle.ent_join.proofs.Walked.{ascending_right, all_among, among_split}
 
 no_item : (ys : List Value) → length ys ≡ 0 → ys ≡ []

@@ -23,6 +23,7 @@ use Rattle.ent_closed.specs.declared.entangled.Membership.{Membership}
 use Rattle.ent_closed.specs.declared.entangled.Term.{Term}
 use Rattle.ent_closed.specs.declared.entangled.Term.TheVariants as terms
 use Rattle.ent_closed.specs.declared.statement.Select.{Select}
+use Rattle.ent_select.specs.Early.{may_compare}
 use Rattle.ent_coordination.specs.Choice.{AreGroundings}
 use Rattle.ent_coordination.specs.Pool.{Posted}
 use Rattle.ent_plan.specs.Plan.{slot_kind, slot_value}
@@ -34,7 +35,7 @@ use Rattle.ent_select.specs.Worth.{value_in}
 use Rattle.ent_join.specs.Alone.{is_left}
 use Rattle.ent_join.specs.Asked.{tables_at, left_rows, select_rows, membership_index, all_indexes, slot_test}
 use Rattle.ent_join.specs.Asked.{all_tests}
-use Rattle.ent_join.specs.Frame.{may_compare, may_hold, slot_there}
+use Rattle.ent_join.specs.Frame.{may_hold, slot_there}
 use Rattle.ent_join.specs.Index.{goes_on}
 use Rattle.ent_join.specs.Keyed.{class_numbers, term_slot}
 use Rattle.ent_join.specs.Laid.{IsLaid}

@@ -1,8 +1,8 @@
 -- Values that are dead at their places: no list that passes has them there.
 use Rattle.std.specs.Prelude.{◌≡◌, ◌<◌, ◌+◌, ◌⊎◌, ℕ, Bool, true, List, [], ◌∷◌, ◌++◌, length, slice_index_or}
 use Rattle.ent_value.specs.declared.value.Value.{Value}
+use Rattle.ent_match.specs.Links.{IsMarked}
 use Rattle.ent_join.specs.Cursor.{IsAmong}
-use Rattle.ent_join.specs.Reason.{IsMarked}
 
 -- no list of a number of values that passes has a value at a place
 abbrev pub IsDead : ℕ → (List Value → Bool) → ℕ → Value → Type 0

@@ -2,13 +2,12 @@
 use Rattle.std.specs.Prelude.{◌≡◌, ◌<◌, ℕ, Bool, true, false, ◌&&◌, List, [], ◌∷◌}
 use Rattle.std.specs.Prelude.{Option, Some, None, is_some, slice_get}
 use Rattle.std.specs.List.{AllByRecursion, list_all, list_any}
-use Rattle.ent_value.specs.Value.{kind_of, value_cmp}
+use Rattle.ent_value.specs.Kinds.{same_kind}
+use Rattle.ent_value.specs.Value.{kind_of}
 use Rattle.ent_value.specs.declared.value.Kind.{Kind}
-use Rattle.ent_value.specs.declared.value.Kind.TheVariants as kinds
 use Rattle.ent_value.specs.declared.value.Value.{Value}
-use Rattle.ent_tree.specs.declared.operand.Comparison.{Comparison}
 use Rattle.ent_tree.specs.declared.operand.Test.{Test}
-use Rattle.ent_semantics.specs.Selection.{compares}
+use Rattle.ent_select.specs.Early.{may_compare}
 use Rattle.ent_plan.specs.declared.slot.Slot.{Slot}
 use Rattle.ent_plan.specs.declared.slot.Slot.TheVariants.{Fixed, Class}
 use Rattle.ent_join.specs.declared.frame.Frame.{Frame}
@@ -19,31 +18,19 @@ abbrev pub slot_there : List Value → Slot → Option Value
 slot_there beginning (Fixed value) = Some value
 slot_there beginning (Class number) = slice_get beginning number
 
--- values compare so, or one of them isn't there yet
-abbrev pub may_compare : Comparison → Option Value → Option Value → Bool
-may_compare comparison (Some left) (Some right) = compares comparison (value_cmp left right)
-may_compare comparison (Some left) None = true
-may_compare comparison None right = true
-
 abbrev pub may_hold : List Value → Test Slot → Bool
 may_hold beginning test = may_compare test.comparison (slot_there beginning test.left) (slot_there beginning test.right)
-
-abbrev pub is_kind : Kind → Kind → Bool
-is_kind kinds.Int kinds.Int = true
-is_kind kinds.Int kinds.Text = false
-is_kind kinds.Text kinds.Int = false
-is_kind kinds.Text kinds.Text = true
 
 -- a value is of a kind, where there is one
 abbrev pub fits : Value → Option Kind → Bool
 fits value None = false
-fits value (Some kind) = is_kind (kind_of value) kind
+fits value (Some kind) = same_kind (kind_of value) kind
 
 -- values are of the first of some kinds
 abbrev pub are_of_kinds : List Kind → List Value → Bool
 are_of_kinds others [] = true
 are_of_kinds [] (value ∷ values) = false
-are_of_kinds (kind ∷ others) (value ∷ values) = is_kind (kind_of value) kind && are_of_kinds others values
+are_of_kinds (kind ∷ others) (value ∷ values) = same_kind (kind_of value) kind && are_of_kinds others values
 
 -- values are of their kinds, and no index and no test refuses them
 abbrev pub lets_through : Frame → List Value → Bool

@@ -1,10 +1,7 @@
 -- For which places of a list an answer stands: the places that it read, marked in a list.
 use Rattle.std.specs.Prelude.{◌≡◌, ◌<◌, ◌+◌, ℕ, Bool, true, false, List, [], ◌∷◌, ◌++◌, length, slice_get}
-use Rattle.std.specs.Prelude.{slice_index_or}
 use Rattle.ent_value.specs.declared.value.Value.{Value}
-
-abbrev pub IsMarked : List Bool → ℕ → Type 0
-IsMarked marks place = slice_index_or marks place false ≡ true
+use Rattle.ent_match.specs.Links.{IsMarked}
 
 -- the places that are marked in one list are marked in the other
 abbrev pub AreMarkedIn : List Bool → List Bool → Type 0

@@ -1,8 +1,8 @@
 -- Marks of the classes of slots.
 use Rattle.std.specs.Prelude.{◌<◌, List, Bool, length}
+use Rattle.ent_match.specs.Links.{IsMarked}
 use Rattle.ent_plan.specs.declared.slot.Slot.{Slot}
 use Rattle.ent_plan.specs.declared.slot.Slot.TheVariants.{Fixed, Class}
-use Rattle.ent_join.specs.Reason.{IsMarked}
 
 -- the class of a slot is marked, where there is room for it
 abbrev pub IsSlotMarked : List Bool → Slot → Type 0

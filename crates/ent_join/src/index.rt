@@ -4,10 +4,11 @@ ghost use Rattle.std.specs.List.{AllByRecursion, filter};
 ghost use Rattle.std.specs.List.Sorted.{IsPartitionPoint, IsStrictlySortedBy};
 ghost use Rattle.std.specs.Ordering.{is_le, is_lt};
 ghost use Rattle.ent_value.specs.Value.{row_cmp};
+ghost use Rattle.ent_match.specs.Links.{IsMarked};
 ghost use Rattle.ent_join.specs.Domain.{is_alone, may_have};
 ghost use Rattle.ent_join.specs.Cursor.{column_values};
 ghost use Rattle.ent_join.specs.Index.{IsIndexed, begun_cmp, begins_so, column_of, goes_on, rows_after};
-ghost use Rattle.ent_join.specs.Reason.{AreMarkedIn, IsMarked};
+ghost use Rattle.ent_join.specs.Reason.{AreMarkedIn};
 
 use crate::cursor::Cursor;
 use crate::reason::mark_each;

@@ -1,7 +1,8 @@
 //! Marks of places, and room for them.
 ghost use Rattle.std.specs.Prelude.{◌≡◌, ◌<◌, ◌≤◌, true, IfOk, List, Bool, OnOk, length};
 ghost use Rattle.std.specs.List.{AllByRecursion};
-ghost use Rattle.ent_join.specs.Reason.{AreMarkedIn, IsMarked};
+ghost use Rattle.ent_match.specs.Links.{IsMarked};
+ghost use Rattle.ent_join.specs.Reason.{AreMarkedIn};
 ghost use Rattle.ent_join.specs.Dead.{IsNoneBefore};
 
 use std::alloc::{AllocError, Global};

@@ -5,7 +5,7 @@ ghost use Rattle.ent_line.specs.Pieces.{behind, divided_at, more_at, row_at, wit
 
 use crate::fault::LineFault;
 use crate::printed::value;
-use crate::quoted::tail;
+use ent_text::tail;
 use ent_value::{Refusal, Row, Value};
 use std::alloc::Global;
 

@@ -5,7 +5,8 @@ ghost use Rattle.ent_line.specs.Pieces.{negative_at, positive_at, text_at, value
 
 use crate::fault::LineFault;
 use crate::numeral::{number, number_to};
-use crate::quoted::{content, tail};
+use crate::quoted::content;
+use ent_text::tail;
 use ent_value::{LONGEST_TEXT, Refusal, Text, Value};
 use std::alloc::Global;
 

@@ -1,5 +1,4 @@
 //! Texts in quotes.
-ghost use Rattle.std.specs.Prelude.{◌≡◌, ◌≤◌, length, drop};
 ghost use Rattle.ent_value.specs.Refusal.{Gives};
 ghost use Rattle.ent_line.specs.Pieces.{content_at};
 
@@ -7,14 +6,6 @@ use crate::fault::LineFault;
 use ent_text::quoted_at;
 use ent_value::Refusal;
 use std::alloc::Global;
-
-/// The bytes behind so many of them.
-pub(crate) fn tail(bytes: &[u8], len: usize) -> &[u8]
-    requires { len ≤ length bytes.now }
-    ensures { result.now ≡ drop len bytes.now }
-{
-    bytes.split_at(len).1
-}
 
 /// What stands in quotes, behind the opening one, and the bytes behind the closing one.
 #[tactic(auto, unfolding(crate::specs::Pieces::content_at))]

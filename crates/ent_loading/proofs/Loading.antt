@@ -24,12 +24,11 @@ use Rattle.ent_value.specs.declared.refusal.Refusal.{Refusal}
 use Rattle.ent_value.specs.declared.refusal.Refusal.TheVariants.{Memory, Fault}
 use Rattle.ent_tree.specs.declared.declaration.Opening.{Opening}
 use Rattle.ent_tree.specs.declared.declaration.OpeningRow.{OpeningRow}
-use Rattle.ent_semantics.specs.Database.{Name, Rows, same_name, row_of}
+use Rattle.ent_semantics.specs.Database.{Name, Rows, same_name, row_of, rows_named}
 use Rattle.ent_semantics.specs.Kinds.{RowsHaveKinds}
 use Rattle.ent_closed.specs.Form.{Tables}
 use Rattle.ent_form.specs.declared.catalogue.TableSchema.{TableSchema}
 use Rattle.ent_form.specs.Catalogue.{table_schema, schemas_of, names_of}
-use Rattle.ent_form.specs.Opening.{rows_named}
 use Rattle.ent_form_laws.specs.Kinds.{column_kinds, AreKinded}
 use Rattle.ent_form_laws.specs.Opened.{opening_tables}
 

@@ -3,8 +3,8 @@ ghost use Rattle.std.specs.Prelude.{◌≡◌, None, Some, IfOk, map, slice_get}
 ghost use Rattle.std.specs.Arc.{arc_value};
 ghost use Rattle.ent_set.specs.Sets as set;
 ghost use Rattle.ent_value.specs.Value.{row_cmp};
+ghost use Rattle.ent_semantics.specs.Database.{rows_named};
 ghost use Rattle.ent_form.specs.Catalogue.{schemas_of};
-ghost use Rattle.ent_form.specs.Opening.{rows_named};
 ghost use Rattle.ent_form.specs.OpeningFault.{opening_fault};
 ghost use Rattle.ent_form_laws.specs.Kinds.{column_kinds};
 ghost use Rattle.ent_form_laws.specs.Opened.{opening_tables};

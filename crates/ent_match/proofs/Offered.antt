@@ -11,7 +11,8 @@ use Rattle.ent_closed.specs.declared.entangled.Atom.{Atom}
 use Rattle.ent_coordination.specs.Component.{IsInRemainder}
 use Rattle.ent_coordination.specs.Pool.{Posted}
 use Rattle.ent_match.specs.declared.link.Link.{Link}
-use Rattle.ent_match.specs.Remainder.{At, HasNoOwner, IsOwnerAt, IsOffer, HasOffer, HasOffers, IsAsked, AsksTo}
+use Rattle.ent_match.specs.Fault.{HasNoOwner}
+use Rattle.ent_match.specs.Remainder.{At, IsOwnerAt, IsOffer, HasOffer, HasOffers, IsAsked, AsksTo}
 
 -- two statements at one place are one
 pub one_place : (pool : List Posted) (k : ℕ) (x y : Posted) → At pool k x → At pool k y → x ≡ y

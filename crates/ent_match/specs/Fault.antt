@@ -19,6 +19,10 @@ pub record IsOwner (pool : List Posted) (asker : Posted) (index tx : ℕ) : Type
   pub owner_is : owner.tx ≡ tx
   pub meets : CanMeet asker index owner
 
+-- no statement of a pool has a head for a post
+abbrev pub HasNoOwner : List Posted → Posted → ℕ → Type 0
+HasNoOwner pool asker index = (owner : Posted) → Contains pool owner → CanMeet asker index owner → ⊥
+
 -- the two least transactions that have a head for a post
 pub record AreTwoLeast (pool : List Posted) (asker : Posted) (index first second : ℕ) : Type 0 where
   pub below : first < second
@@ -42,7 +46,7 @@ IsSafeBut pool new =
 
 -- of the statements so far none has a head for a post, or the one of a transaction
 abbrev pub AreSoFar : List Posted → Posted → ℕ → Option ℕ → Type 0
-AreSoFar front asker index None = (owner : Posted) → Contains front owner → CanMeet asker index owner → ⊥
+AreSoFar front asker index None = HasNoOwner front asker index
 AreSoFar front asker index (Some tx) =
     IsOwner front asker index tx
     × ((owner : Posted) → Contains front owner → CanMeet asker index owner → owner.tx ≡ tx)

@@ -9,9 +9,6 @@ use Rattle.ent_match.specs.Links.{IsMarked}
 abbrev pub At : List Posted → ℕ → Posted → Type 0
 At pool place member = (place < length pool) × (slice_index_or pool place member ≡ member)
 
-abbrev pub HasNoOwner : List Posted → Posted → ℕ → Type 0
-HasNoOwner pool asker index = (owner : Posted) → Contains pool owner → CanMeet asker index owner → ⊥
-
 -- the statement at a place has a head for a post
 pub record IsOwnerAt (pool : List Posted) (asker : Posted) (index place : ℕ) : Type 0 where
   pub owner : Posted

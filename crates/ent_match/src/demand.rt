@@ -1,7 +1,7 @@
 //! Who offers what a statement demands.
 ghost use Rattle.std.specs.Prelude.{◌<◌, MatchOption, length};
-ghost use Rattle.ent_match.specs.Demand.{IsDemand, NobodyOffers};
-ghost use Rattle.ent_match.specs.Fault.{IsOwner};
+ghost use Rattle.ent_match.specs.Demand.{IsDemand};
+ghost use Rattle.ent_match.specs.Fault.{IsOwner, HasNoOwner};
 
 use crate::meets::can_meet;
 use crate::posted::Posted;
@@ -19,7 +19,7 @@ pub enum Demand {
 /// The first transaction whose statement has a head for a post.
 fn offerer(members: &[Posted], asker: &Posted, index: usize) -> Option<Tx>
     requires { index < length asker.now.statement.posts }
-    ensures { MatchOption result (NobodyOffers members.now asker.now index) (IsOwner members.now asker.now index) }
+    ensures { MatchOption result (HasNoOwner members.now asker.now index) (IsOwner members.now asker.now index) }
 {
     for owner in members {
         if can_meet(asker, index, owner) {

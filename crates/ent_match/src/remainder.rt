@@ -1,6 +1,7 @@
 //! Which statements of a pool remain: all that they ask for is offered within the remainder.
 ghost use Rattle.std.specs.Prelude.{◌≡◌, ◌<◌, length, IfOk, MatchOption};
-ghost use Rattle.ent_match.specs.Remainder.{HasNoOwner, IsOwnerAt, AsksTo, IsStart};
+ghost use Rattle.ent_match.specs.Fault.{HasNoOwner};
+ghost use Rattle.ent_match.specs.Remainder.{IsOwnerAt, AsksTo, IsStart};
 
 use crate::link::Link;
 use crate::meets::can_meet;

@@ -3,9 +3,9 @@ use Rattle.std.proofs.Common.{◌≡◌, ◌<◌, ℕ, zero, suc, Bool, false, L
 use Rattle.std.specs.Prelude.{if◌then◌else◌}
 use Rattle.std.specs.List.{AllByRecursion, IsDistinct}
 use Rattle.ent_tree.specs.declared.entangled.Entangled.{Entangled as TreeEntangled}
-use Rattle.ent_semantics.specs.Database.{Name, same_name}
+use Rattle.ent_semantics.specs.Database.{Name, same_name, index_of}
 use Rattle.ent_semantics.specs.Names.{name_itself}
-use Rattle.ent_form.specs.Entangled.{index_of, variables_of}
+use Rattle.ent_form.specs.Entangled.{variables_of}
 use Rattle.ent_form_laws.proofs.Noted.{OfItems, OfConditions, variables_all, variables_once}
 
 -- of those that differ from a name

@@ -10,6 +10,7 @@ use Rattle.ent_lists.specs.Elements.{or_first, or_second, number_itself}
 use Rattle.ent_set.specs.Laws.{any_map}
 use Rattle.ent_value.specs.declared.value.Kind.{Kind}
 use Rattle.ent_value.specs.declared.value.Kind.TheVariants.{Int}
+use Rattle.ent_value.specs.Kinds.{same_kind}
 use Rattle.ent_tree.specs.declared.entangled.Condition.{Condition}
 use Rattle.ent_tree.specs.declared.entangled.Condition.TheVariants as conditions
 use Rattle.ent_tree.specs.declared.entangled.Term.{Term as TreeTerm}
@@ -18,7 +19,7 @@ use Rattle.ent_tree.specs.declared.entangled.Tuple.{Tuple}
 use Rattle.ent_tree.specs.declared.operand.Identifier.{Identifier}
 use Rattle.ent_tree.specs.declared.script.Script.{Script}
 use Rattle.ent_tree.specs.declared.select.Select.{Select as TreeSelect}
-use Rattle.ent_semantics.specs.Database.{Environment, Name, same_name}
+use Rattle.ent_semantics.specs.Database.{Environment, Name, same_name, index_of}
 use Rattle.ent_semantics.specs.Names.{equal_names}
 use Rattle.ent_closed.specs.Closing.{closed_entangled, membership_over, term_over}
 use Rattle.ent_closed.specs.Form.{known_worth}
@@ -28,10 +29,10 @@ use Rattle.ent_closed.specs.declared.entangled.Term.{Term}
 use Rattle.ent_closed.specs.declared.entangled.Term.TheVariants as resolved
 use Rattle.ent_closed.specs.declared.operand.Known.{Known}
 use Rattle.ent_closed.specs.declared.statement.Statement.TheVariants as statements
-use Rattle.ent_form.specs.Entangled.{index_of, variables_of, demanded_in, member_in, members_from, membership_in}
+use Rattle.ent_form.specs.Entangled.{variables_of, demanded_in, member_in, members_from, membership_in}
 use Rattle.ent_form.specs.Entangled.{memberships_from, no_offer, offer_from, heads_from, others_from, entangled_in}
 use Rattle.ent_form.specs.Form.{script_in}
-use Rattle.ent_form.specs.Kinds.{Bound, same_kind, none_bound, with_kind}
+use Rattle.ent_form.specs.Kinds.{Bound, none_bound, with_kind}
 use Rattle.ent_form.specs.Lookup.{values_in, kind_in}
 use Rattle.ent_form.specs.Ordinary.{select_in}
 use Rattle.ent_form.specs.declared.catalogue.TableSchema.{TableSchema}

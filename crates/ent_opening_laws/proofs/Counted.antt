@@ -15,12 +15,11 @@ use Rattle.ent_value.specs.Order.{exact_rows, rows_total}
 use Rattle.ent_tree.specs.declared.declaration.Create.{Create}
 use Rattle.ent_tree.specs.declared.declaration.Opening.{Opening}
 use Rattle.ent_tree.specs.declared.declaration.OpeningRow.{OpeningRow}
-use Rattle.ent_semantics.specs.Database.{Name, opening_database, row_of, same_name}
 use Rattle.ent_semantics.specs.Names.{equal_names}
 use Rattle.ent_book.specs.Report.{names_by_bytes}
-use Rattle.ent_history.specs.Text.{rows_under}
 use Rattle.ent_history.specs.Told.{declared_under, opening_row, told_opening, told_rows}
 use Rattle.ent_lists.specs.Elements.{Pairs, filter_empty, of_all}
+use Rattle.ent_semantics.specs.Database.{Name, opening_database, row_of, same_name, rows_named}
 use Rattle.ent_opening_laws.proofs.Declared.{names_apart}
 
 -- ---- sets
@@ -89,9 +88,9 @@ few_each : (opening : Opening) (name : Name) → length (told_rows opening name)
 few_each opening name =
     let shown : length (told_rows opening name) ≡ length (set.ascending (opening_database opening name)) =
     length-map (set.ascending (opening_database opening name)) (opening_row name) in
-    let distinct : length (set.ascending (opening_database opening name)) ≤ length (rows_under opening name) =
-    fewer_elements rows_total exact_rows (rows_under opening name) in
-    let all : length (rows_under opening name) ≡ count_under opening.rows name =
+    let distinct : length (set.ascending (opening_database opening name)) ≤ length (rows_named opening name) =
+    fewer_elements rows_total exact_rows (rows_named opening name) in
+    let all : length (rows_named opening name) ≡ count_under opening.rows name =
     length-map (filter (λ row. same_name row.table.name name) opening.rows) row_of in
     omega (arith, shown, distinct, all)
 

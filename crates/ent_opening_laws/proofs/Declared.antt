@@ -13,13 +13,12 @@ use Rattle.ent_set.specs.Laws.{any_map, contains-ascending, contains-from_list}
 use Rattle.ent_tree.specs.declared.declaration.Create.{Create}
 use Rattle.ent_tree.specs.declared.declaration.Opening.{Opening}
 use Rattle.ent_rel.proofs.Keyed.{keys_ascend}
-use Rattle.ent_semantics.specs.Database.{Name, same_name}
 use Rattle.ent_semantics.specs.Names.{equal_names, names_turned}
-use Rattle.ent_semantics.specs.Uses.{is_among}
 use Rattle.ent_book.specs.Report.{names_by_bytes}
 use Rattle.ent_history.specs.Told.{declared_under, told_opening}
 use Rattle.ent_rules.specs.Formed.{is_declared}
 use Rattle.ent_lists.specs.Elements.{In, Pairs, in_flat, neither, of_all, pairs_by, pairs_joined, rise}
+use Rattle.ent_semantics.specs.Database.{Name, same_name, is_among}
 use Rattle.ent_opening_laws.specs.Alike.{AreDeclaredAlike}
 
 -- ---- names

@@ -3,17 +3,18 @@ use Rattle.std.proofs.Common.{◌≡◌, ℕ, Bool, true, false, cond, ◌==◌,
 use Rattle.std.proofs.Common.{ap, ◌∙◌, inl, inr, Option, Some, None}
 use Rattle.std.specs.List.{AllByRecursion}
 use Rattle.std.proofs.lemmas.List.{length-map}
+use Rattle.ent_lists.specs.Elements.{In, Pairs, any_some, clash, in_either, in_flat, not_so, of_all, of_map, to_all}
 use Rattle.ent_set.specs.Sets as set
 use Rattle.ent_value.specs.Value.{kind_of}
 use Rattle.ent_value.specs.declared.value.Value.{Value}
+use Rattle.ent_value.specs.Kinds.{same_kind}
 use Rattle.ent_tree.specs.declared.declaration.Create.{Create}
 use Rattle.ent_tree.specs.declared.declaration.Opening.{Opening}
 use Rattle.ent_tree.specs.declared.declaration.OpeningRow.{OpeningRow}
 use Rattle.ent_tree.specs.declared.operand.Literal.{Literal}
-use Rattle.ent_semantics.specs.Database.{Name, opening_database, row_of, same_name}
+use Rattle.ent_semantics.specs.Database.{Name, opening_database, row_of, same_name, is_among}
+use Rattle.ent_form.specs.Catalogue.{schemas_of, table_named}
 use Rattle.ent_book.specs.Report.{names_by_bytes}
-use Rattle.ent_form.specs.Catalogue.{is_among, schemas_of, table_named}
-use Rattle.ent_form.specs.Kinds.{same_kind}
 use Rattle.ent_form.specs.OpeningFault.{Check, ◌before◌, declarations_fault, first_of, literals_fault, opening_fault}
 use Rattle.ent_form.specs.OpeningFault.{opening_row_fault, refused_where, repeated, row_fault, where_there}
 use Rattle.ent_form.specs.declared.catalogue.ColumnSchema.{ColumnSchema}

@@ -17,12 +17,12 @@ use Rattle.ent_tree.specs.declared.select.Source.{Source}
 use Rattle.ent_tree.specs.declared.statement.Delete.{Delete}
 use Rattle.ent_tree.specs.declared.statement.Insert.{Insert}
 use Rattle.ent_tree.specs.declared.statement.Update.{Update}
-use Rattle.ent_semantics.specs.Database.{Name, same_name}
+use Rattle.ent_semantics.specs.Database.{Name, same_name, is_among}
 use Rattle.ent_semantics.specs.Term.{source_name}
 use Rattle.ent_form.specs.AllFaults.{assignments_faults, columns_there, delete_faults, faults_at, faults_where}
 use Rattle.ent_form.specs.AllFaults.{insert_faults, items_faults, operands_over, select_faults, sources_faults}
 use Rattle.ent_form.specs.AllFaults.{table_view, test_faults, unless_any, update_faults, values_faults, view_of}
-use Rattle.ent_form.specs.Catalogue.{is_among, schemas_of, table_from, table_named, table_schema}
+use Rattle.ent_form.specs.Catalogue.{schemas_of, table_from, table_named, table_schema}
 use Rattle.ent_form.specs.Entangled.{noted_items}
 use Rattle.ent_form.specs.EntangledFaults.{body_variables, demanded_from, demanding_unless, entangled_faults}
 use Rattle.ent_form.specs.EntangledFaults.{members_faults, membership_faults, memberships_faults, offer_faults}

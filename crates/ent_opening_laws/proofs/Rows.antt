@@ -12,16 +12,14 @@ use Rattle.ent_value.specs.Value.{row_cmp}
 use Rattle.ent_value.specs.declared.value.Value.{Value}
 use Rattle.ent_tree.specs.declared.declaration.Opening.{Opening}
 use Rattle.ent_tree.specs.declared.declaration.OpeningRow.{OpeningRow}
-use Rattle.ent_semantics.specs.Database.{Name, opening_database, row_of, same_name}
 use Rattle.ent_semantics.specs.Names.{equal_names, names_turned}
-use Rattle.ent_semantics.specs.Uses.{is_among}
 use Rattle.ent_book.specs.Report.{names_by_bytes}
 use Rattle.ent_form.specs.OpeningFault.{opening_fault}
-use Rattle.ent_history.specs.Text.{rows_under}
 use Rattle.ent_history.specs.Told.{opening_row, told_opening, told_rows}
 use Rattle.ent_rules.specs.Formed.{is_declared}
 use Rattle.ent_lists.specs.Elements.{In, Pairs, any_in, any_some, clash, filter_empty, filter_joined, filter_whole}
 use Rattle.ent_lists.specs.Elements.{not_so, of_all, of_filter, of_map}
+use Rattle.ent_semantics.specs.Database.{Name, opening_database, row_of, same_name, is_among, rows_named}
 use Rattle.ent_report_laws.proofs.Opened.{names_it, row_again}
 use Rattle.ent_opening_laws.specs.Alike.{AreAlike}
 use Rattle.ent_opening_laws.proofs.Declared.{named, names_apart, tables_told}
@@ -77,7 +75,7 @@ module _ (rows : Name → List (List Value)) (name : Name) where
 -- ---- the rows that are shown
 
 -- under the name of a table its rows, ascending, and none under any other
-pub rows_shown : (opening : Opening) (name : Name) → rows_under (told_opening opening) name
+pub rows_shown : (opening : Opening) (name : Name) → rows_named (told_opening opening) name
     ≡ cond (is_declared opening.tables name) (set.ascending (opening_database opening name)) []
 rows_shown opening name =
     ap (map row_of)
@@ -134,8 +132,8 @@ pub record Stands (opening : Opening) (name : Name) (row : List Value) : Type 0 
 pub row_stands : (opening : Opening) (name : Name) (row : List Value)
     → set.contains (opening_database opening name) row ≡ true → Stands opening name row
 row_stands opening name row there =
-    let found = any_some (eq_by_cmp row_cmp row) (rows_under opening name)
-    (sym (contains-from_list rows_total exact_rows (rows_under opening name) row) ∙ there) in
+    let found = any_some (eq_by_cmp row_cmp row) (rows_named opening name)
+    (sym (contains-from_list rows_total exact_rows (rows_named opening name) row) ∙ there) in
     let from = of_map row_of (filter (names_it name) opening.rows) found.0 found.1 in
     let stands = of_filter (names_it name) opening.rows from.0 from.1 in
     record {

@@ -15,11 +15,8 @@ use Rattle.ent_tree.specs.declared.declaration.Opening.{Opening}
 use Rattle.ent_tree.specs.declared.declaration.OpeningRow.{OpeningRow}
 use Rattle.ent_tree.specs.declared.operand.Identifier.{Identifier}
 use Rattle.ent_rel.proofs.Keyed.{rows_ascend}
-use Rattle.ent_semantics.specs.Database.{Name, opening_database, row_of, same_name}
 use Rattle.ent_semantics.specs.Kinds.{RowsHaveKinds}
 use Rattle.ent_semantics.specs.Names.{name_itself}
-use Rattle.ent_form.specs.Catalogue.{is_among, schemas_of, table_schema}
-use Rattle.ent_form.specs.Opening.{rows_named}
 use Rattle.ent_form.specs.OpeningFault.{opening_fault, refused_where, repeated}
 use Rattle.ent_form.specs.declared.fault.FormFault.TheVariants.{Repeated}
 use Rattle.ent_form_laws.specs.Kinds.{AreKinded, column_kinds}
@@ -27,7 +24,6 @@ use Rattle.ent_form_laws.specs.Opened.{opening_tables}
 use Rattle.ent_form_laws.proofs.NamesApart.{schema_kinds}
 use Rattle.ent_form_laws.proofs.Steps.{not_refused}
 use Rattle.ent_book.specs.Report.{names_by_bytes}
-use Rattle.ent_history.specs.Text.{rows_under}
 use Rattle.ent_history.specs.Told.{declared_under, opening_row, told_opening, told_rows}
 use Rattle.ent_history_form.specs.Opening.{IsDeclaration}
 use Rattle.ent_history_form.specs.Parts.{IsName, IsRow, IsValue}
@@ -35,6 +31,8 @@ use Rattle.ent_report_laws.specs.Tellable.{AreRowsOf, IsOpeningTold}
 use Rattle.ent_rules.specs.Formed.{is_declared}
 use Rattle.ent_lists.specs.Elements.{In, Pairs, any_in, in_flat, neither, of_all, pairs_before, pairs_index, to_all}
 use Rattle.ent_lists.specs.Elements.{rise}
+use Rattle.ent_semantics.specs.Database.{Name, opening_database, row_of, same_name, is_among, rows_named}
+use Rattle.ent_form.specs.Catalogue.{schemas_of, table_schema}
 use Rattle.ent_opening_laws.specs.Read.{AreUnplaced, IsOpeningRead, IsTableRead, IsUnplaced}
 use Rattle.ent_opening_laws.proofs.Counted.{few_rows, few_tables}
 use Rattle.ent_opening_laws.proofs.Declared.{Rises, named, names_rise, one_under, tables_rise, under_is}
@@ -135,7 +133,7 @@ module _ (opening : Opening) (read : IsOpeningRead opening) (unplaced : AreUnpla
       ∙ any_in (λ other. same_name other name) (names_by_bytes opening) name at (name_itself name)
 
   shown_rows : (name : Name) → In name (names_by_bytes opening)
-      → rows_under told name ≡ set.ascending (opening_database opening name)
+      → rows_named told name ≡ set.ascending (opening_database opening name)
   shown_rows name at =
       rows_shown opening name
       ∙ ap (λ (b : Bool). cond b (set.ascending (opening_database opening name)) []) (name_declared name at)
@@ -161,7 +159,7 @@ module _ (opening : Opening) (read : IsOpeningRead opening) (unplaced : AreUnpla
   -- ---- rows
 
   abbrev own_rows : Create → List OpeningRow
-  own_rows create = map (opening_row create.name.name) (rows_under told create.name.name)
+  own_rows create = map (opening_row create.name.name) (rows_named told create.name.name)
 
   rows_here : (name : Name) → In name (names_by_bytes opening)
       → told_rows opening name ≡ flat_map own_rows (declared_under opening.tables name)
@@ -169,7 +167,7 @@ module _ (opening : Opening) (read : IsOpeningRead opening) (unplaced : AreUnpla
       let found = one_under opening.tables name (name_declared name at) in
       sym (ap (flat_map own_rows) found.1
       ∙ append-nil (own_rows found.0)
-      ∙ ap (λ (n : Name). map (opening_row n) (rows_under told n)) found.2
+      ∙ ap (λ (n : Name). map (opening_row n) (rows_named told n)) found.2
       ∙ ap (map (opening_row name)) (shown_rows name at))
 
   rows_in_order : (names : List Name) → ((name : Name) → In name names → In name (names_by_bytes opening))
@@ -183,7 +181,7 @@ module _ (opening : Opening) (read : IsOpeningRead opening) (unplaced : AreUnpla
       (flat_map (declared_under opening.tables) names))
 
   rows_fit : (create : Create) → In create told.tables
-      → AreRowsOf create.columns (rows_under told create.name.name)
+      → AreRowsOf create.columns (rows_named told create.name.name)
   rows_fit create at =
       let is = shown_is create at in
       let rows : set.Set row_cmp = opening_database opening create.name.name in
@@ -217,5 +215,5 @@ module _ (opening : Opening) (read : IsOpeningRead opening) (unplaced : AreUnpla
         rise = pairs_index Rises told.tables
             (tables_rise opening.tables (names_by_bytes opening) (names_rise opening));
         in_order = rows_in_order (names_by_bytes opening) (λ name at. at);
-        rows = to_all (λ create. AreRowsOf create.columns (rows_under told create.name.name)) told.tables rows_fit;
+        rows = to_all (λ create. AreRowsOf create.columns (rows_named told create.name.name)) told.tables rows_fit;
       }

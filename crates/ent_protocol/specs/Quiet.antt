@@ -1,6 +1,7 @@
 -- When a run may end.
-use Rattle.std.specs.Prelude.{◌≡◌, ◌⊎◌, ◌≤◌, ℕ, ◌||◌, true, false, List, Contains, Option, Some, None}
+use Rattle.std.specs.Prelude.{◌≡◌, ◌⊎◌, ℕ, ◌||◌, true, false, List, Contains, Option, Some, None}
 use Rattle.ent_value.specs.declared.value.Value.{Value}
+use Rattle.ent_lock.specs.Use.{IsLeast}
 use Rattle.ent_closed.specs.declared.entangled.Entangled.{Entangled}
 use Rattle.ent_coordination.specs.Pool.{IsSafe, Posted, first_tx}
 use Rattle.ent_protocol.specs.Begin.{pool_with}
@@ -10,10 +11,6 @@ use Rattle.ent_protocol.specs.PoolEvents.{IsPresentComponent, IsOut}
 use Rattle.ent_protocol.specs.State.{State, Member}
 use Rattle.ent_protocol.specs.Uses.{statement_uses, entangled_uses, blocker}
 use Rattle.ent_protocol.specs.Waits.{IsDeadlock, NoDeadlock}
-
--- the least number of which something holds
-abbrev pub IsLeast : (ℕ → Type 0) → ℕ → Type 0
-IsLeast P tx = P tx × ((other : ℕ) → P other → tx ≤ other)
 
 -- a job of a transaction is out: one of its statements, or a joint one whose members are exactly a component
 pub record OutJoint (s : State) (tx : ℕ) : Type 0 where

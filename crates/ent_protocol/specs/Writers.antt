@@ -1,5 +1,5 @@
 -- Two writers who take the same two tables in turn, event by event.
-use Rattle.std.specs.Prelude.{ℕ, suc, pos, List, [], ◌∷◌, map, codes, Ok, if◌then◌else◌}
+use Rattle.std.specs.Prelude.{ℕ, pos, List, [], ◌∷◌, map, codes, Ok}
 use Rattle.std.specs.List.{flat_map}
 use Rattle.ent_value.specs.declared.value.Kind.TheVariants as kinds
 use Rattle.ent_value.specs.declared.value.Value.TheVariants.{Int}
@@ -13,7 +13,6 @@ use Rattle.ent_tree.specs.declared.script.Script.{Script}
 use Rattle.ent_tree.specs.declared.script.Statement.{Statement}
 use Rattle.ent_tree.specs.declared.script.Statement.TheVariants as statements
 use Rattle.ent_semantics.specs.declared.answer.Answer.TheVariants as answers
-use Rattle.ent_semantics.specs.Database.{Name, same_name}
 use Rattle.ent_closed.specs.declared.operand.Known.{Known}
 use Rattle.ent_closed.specs.declared.operand.Known.TheVariants as known
 use Rattle.ent_closed.specs.declared.statement.Statement.{Statement as FormStatement}
@@ -24,6 +23,7 @@ use Rattle.ent_protocol.specs.Job.{Job, One, Done, Changed}
 use Rattle.ent_protocol.specs.Reached.{table_names}
 use Rattle.ent_protocol.specs.Run.{Forms}
 use Rattle.ent_set.specs.Sets as set
+use Rattle.ent_semantics.specs.Database.{Name, index_of}
 
 -- ---- scripts of INSERTs, resolved
 
@@ -31,13 +31,9 @@ abbrev pub known_of : ValueSpecification → Known
 known_of (specifications.Literal literal) = known.Constant literal.value
 known_of (specifications.HostVariable variable) = known.HostVariable variable.name
 
-abbrev pub number_among : List Name → Name → ℕ
-number_among [] name = 0
-number_among (first ∷ names) name = if same_name first name then 0 else suc (number_among names name)
-
 abbrev pub insert_form : List Name → Statement → List (FormStatement Known)
 insert_form names (statements.Insert insert) =
-    forms.Insert (number_among names insert.table.name) (map known_of insert.values) ∷ []
+    forms.Insert (index_of names insert.table.name) (map known_of insert.values) ∷ []
 insert_form names other = []
 
 abbrev pub insert_forms : Forms ℕ

@@ -1,8 +1,9 @@
 -- Deadlocks that are shown, and reasons why a run can't end yet.
 use Rattle.std.proofs.Common.{◌≡◌, ◌⊎◌, inl, inr, ℕ, List, [], ◌∷◌, refl, ap, arith, slice_index}
 use Rattle.ent_group.specs.Cycle.{Closes, IsOnCycle}
+use Rattle.ent_lock.specs.Use.{IsLeast}
 use Rattle.ent_protocol.specs.Event.{Reason, JobOut, CanBegin, Untried, Cycle}
-use Rattle.ent_protocol.specs.Quiet.{IsLeast, IsQuiet, IsReason}
+use Rattle.ent_protocol.specs.Quiet.{IsQuiet, IsReason}
 use Rattle.ent_protocol.specs.State.{State}
 use Rattle.ent_protocol.specs.Waits.{IsDeadlock, NoDeadlock, waits}
 use Rattle.ent_protocol_laws.specs.Alike.{BeginAlike}

@@ -6,8 +6,6 @@ use Rattle.std.specs.List.{AllByRecursion, list_any}
 use Rattle.std.proofs.lemmas.List.{length-map}
 use Rattle.ent_set.specs.Sets as set
 use Rattle.ent_value.specs.Value.{kind_of, kinds_of}
-use Rattle.ent_value.specs.declared.value.Kind.{Kind}
-use Rattle.ent_value.specs.declared.value.Kind.TheVariants as kinds
 use Rattle.ent_value.specs.declared.value.Value.{Value}
 use Rattle.ent_tree.specs.declared.declaration.Create.{Create}
 use Rattle.ent_tree.specs.declared.declaration.Opening.{Opening}
@@ -16,7 +14,6 @@ use Rattle.ent_semantics.specs.Database.{Database, Name, same_name}
 use Rattle.ent_semantics.specs.Kinds.{RowsHaveKinds}
 use Rattle.ent_semantics.specs.Names.{equal_names, name_itself}
 use Rattle.ent_form.specs.Catalogue.{schemas_of, table_from, table_schema}
-use Rattle.ent_form.specs.Kinds.{same_kind}
 use Rattle.ent_form.specs.OpeningFault.{Check, ◌before◌, declarations_fault, first_of, literals_fault}
 use Rattle.ent_form.specs.OpeningFault.{opening_fault, opening_row_fault, row_fault, where_there}
 use Rattle.ent_form.specs.declared.catalogue.ColumnSchema.{ColumnSchema}
@@ -24,6 +21,7 @@ use Rattle.ent_form.specs.declared.catalogue.TableSchema.{TableSchema}
 use Rattle.ent_form.specs.declared.fault.FormFault.TheVariants.{Arity, NoTable, WrongKind}
 use Rattle.ent_form_laws.specs.Kinds.{column_kinds}
 use Rattle.ent_lists.specs.Elements.{In, all_index, any_in, number_itself}
+use Rattle.ent_value.specs.Kinds.{kind_itself, same_kind}
 use Rattle.ent_semantics.proofs.EachRow.{to_ascending}
 use Rattle.ent_renewal.specs.Renewal.{HoldsTablesOf, IsRenewed}
 use Rattle.ent_renewal.specs.Rows.{literal_of, opening_row, opening_rows, table_rows}
@@ -52,10 +50,6 @@ none_mapped check f (x ∷ xs) all =
     nothing (check (f x)) (first_of check (map f xs)) all.0 (none_mapped check f xs all.1)
 
 -- ---- a row
-
-kind_itself : (kind : Kind) → same_kind kind kind ≡ true
-kind_itself kinds.Int = refl
-kind_itself kinds.Text = refl
 
 literals_formed : (columns : List ColumnSchema) (row : List Value)
     → kinds_of row ≡ map (λ column. column.kind) columns

@@ -12,6 +12,7 @@ use Rattle.std.specs.Prelude.{get_or, slice_get}
 use Rattle.std.specs.Option.{option_map}
 use Rattle.ent_value.specs.declared.value.Kind.{Kind}
 use Rattle.ent_semantics.specs.Serial.{numbered}
+use Rattle.ent_semantics.specs.Database.{Name, row_of, same_name, rows_named}
 use Rattle.ent_history.specs.declared.history.History.{History}
 use Rattle.ent_history.specs.declared.history.Shown.{Shown}
 use Rattle.ent_report_draft.specs.Due.{TableTakes}
@@ -22,8 +23,6 @@ use Rattle.ent_tree.specs.declared.declaration.Create.{Create}
 use Rattle.ent_tree.specs.declared.declaration.Opening.{Opening}
 use Rattle.ent_tree.specs.declared.declaration.OpeningRow.{OpeningRow}
 use Rattle.ent_tree.specs.declared.limits.TheConstants.{MOST_PARTS}
-use Rattle.ent_semantics.specs.Database.{Name, row_of, same_name}
-use Rattle.ent_history.specs.Text.{rows_under}
 use Rattle.ent_history.specs.Told.{opening_row}
 use Rattle.ent_history_form.specs.Parts.{Ascends}
 use Rattle.ent_history_form.specs.Opening.{NamesAscend, with_row}
@@ -87,7 +86,7 @@ itself name = nat_list_eq_equiv.refl name
 
 -- the rows of the last table, with one more
 pub under_with : (opening : Opening) (create : Create) (row : List Value)
-    → rows_under (with_row create row opening) create.name.name ≡ rows_under opening create.name.name ++ row ∷ []
+    → rows_named (with_row create row opening) create.name.name ≡ rows_named opening create.name.name ++ row ∷ []
 under_with opening create row =
     let name = create.name.name in
     let own : OpeningRow → Bool = λ (row : OpeningRow). same_name row.table.name name in
@@ -117,7 +116,7 @@ opened tables rows last_row create order ascends =
     let below = rows_below tables rows last_row create order ascends in record {
       reached = λ own h. subst (λ (c : Create). AllByRecursion (λ (row : OpeningRow). IsUpTo row.table.name c.name.name) rows)
           (is_last own h) (all_up_to create.name.name rows below);
-      own = λ own h. subst (λ (c : Create). last_of (rows_under (record { tables = tables ++ create ∷ []; rows = rows }) c.name.name) ≡ None)
+      own = λ own h. subst (λ (c : Create). last_of (rows_named (record { tables = tables ++ create ∷ []; rows = rows }) c.name.name) ≡ None)
           (is_last own h) (ap (λ rs. last_of (map row_of rs)) (none_under create.name.name rows below));
       none = λ h. let e : Some create ≡ None = sym (last_of-push tables create) ∙ h in cc;
     }
@@ -133,9 +132,9 @@ pub grown : (tables : List Create) (rows : List OpeningRow) (last_row : Option (
 grown tables rows last_row create row there order = record {
   reached = λ own h. subst (λ (c : Create). AllByRecursion (λ (row : OpeningRow). IsUpTo row.table.name c.name.name) (rows ++ opening_row create.name.name row ∷ []))
       (is_last own h) (all_behind create.name.name rows (opening_row create.name.name row) (inr refl) (order.reached create there));
-  own = λ own h. subst (λ (c : Create). last_of (rows_under (record { tables = tables; rows = rows ++ opening_row create.name.name row ∷ [] }) c.name.name) ≡ Some row)
+  own = λ own h. subst (λ (c : Create). last_of (rows_named (record { tables = tables; rows = rows ++ opening_row create.name.name row ∷ [] }) c.name.name) ≡ Some row)
       (is_last own h) (ap last_of (under_with (record { tables = tables; rows = rows }) create row)
-      ∙ last_of-push (rows_under (record { tables = tables; rows = rows }) create.name.name) row);
+      ∙ last_of-push (rows_named (record { tables = tables; rows = rows }) create.name.name) row);
   none = λ h. let e : Some create ≡ None = sym there ∙ h in cc;
 }
   where
@@ -155,7 +154,7 @@ takes tables rows last_row create row order there kinds below = record {
   create = create;
   last = there;
   kinds = kinds;
-  ascends = ascends_if (rows_under (record { tables = tables; rows = rows }) create.name.name) row
+  ascends = ascends_if (rows_named (record { tables = tables; rows = rows }) create.name.name) row
       (subst (λ o. EndsBelow o row) (sym (order.own create there)) below);
 }
 
@@ -164,10 +163,10 @@ pub is_below : (tables : List Create) (rows : List OpeningRow) (last_row : Optio
     → OpeningTakes (record { tables = tables; rows = rows }) row → EndsBelow last_row row
 is_below tables rows last_row create row order there takes =
     let same : takes.create ≡ create = same_Some takes.create create (sym takes.last ∙ there) in
-    let e : last_of (rows_under (record { tables = tables; rows = rows }) takes.create.name.name) ≡ last_row =
-    ap (λ (c : Create). last_of (rows_under (record { tables = tables; rows = rows }) c.name.name)) same ∙ order.own create there in
+    let e : last_of (rows_named (record { tables = tables; rows = rows }) takes.create.name.name) ≡ last_row =
+    ap (λ (c : Create). last_of (rows_named (record { tables = tables; rows = rows }) c.name.name)) same ∙ order.own create there in
     subst (λ o. EndsBelow o row) e
-    (ends_below_if (rows_under (record { tables = tables; rows = rows }) takes.create.name.name) row takes.ascends)
+    (ends_below_if (rows_named (record { tables = tables; rows = rows }) takes.create.name.name) row takes.ascends)
 
 pub is_of_kinds : (opening : Opening) (create : Create) (row : List Value) → last_of opening.tables ≡ Some create
     → OpeningTakes opening row → kinds_of row ≡ map (λ column. column.kind) create.columns

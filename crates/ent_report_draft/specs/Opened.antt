@@ -11,8 +11,7 @@ use Rattle.ent_tree.specs.declared.declaration.Opening.{Opening}
 use Rattle.ent_tree.specs.declared.declaration.OpeningRow.{OpeningRow}
 use Rattle.ent_tree.specs.declared.limits.TheConstants.{MOST_OPENING_ROWS}
 use Rattle.ent_tree.specs.declared.operand.Literal.{Literal}
-use Rattle.ent_semantics.specs.Database.{Name}
-use Rattle.ent_history.specs.Text.{rows_under}
+use Rattle.ent_semantics.specs.Database.{Name, rows_named}
 use Rattle.ent_history_form.specs.Opening.{NamesAscend}
 use Rattle.ent_history_form.specs.Parts.{Ascends}
 use Rattle.ent_history_form.specs.Draft.{last_of}
@@ -26,7 +25,7 @@ pub record IsInOrder (tables : List Create) (rows : List OpeningRow) (last_row :
   pub reached : (create : Create) → last_of tables ≡ Some create
       → AllByRecursion (λ row. IsUpTo row.table.name create.name.name) rows
   pub own : (create : Create) → last_of tables ≡ Some create
-      → last_of (rows_under (record { tables = tables; rows = rows }) create.name.name) ≡ last_row
+      → last_of (rows_named (record { tables = tables; rows = rows }) create.name.name) ≡ last_row
   pub none : last_of tables ≡ None → rows ≡ []
 
 -- where there is a last row, it comes before this one
@@ -39,7 +38,7 @@ pub record OpeningTakes (opening : Opening) (row : List Value) : Type 0 where
   pub create : Create
   pub last : last_of opening.tables ≡ Some create
   pub kinds : kinds_of row ≡ map (λ column. column.kind) create.columns
-  pub ascends : Ascends (rows_under opening create.name.name) row
+  pub ascends : Ascends (rows_named opening create.name.name) row
 
 -- a table with so many rows that can stand below those above
 pub record Opens (opening : Opening) (create : Create) (count : ℕ) : Type 0 where

@@ -10,7 +10,7 @@ use Rattle.ent_tree.specs.declared.script.Script.{Script}
 use Rattle.ent_semantics.specs.declared.answer.Answer.{Answer}
 use Rattle.ent_semantics.specs.declared.answer.Answer.TheVariants as answers
 use Rattle.ent_semantics.specs.declared.book.Fate.{Fate}
-use Rattle.ent_semantics.specs.Database.{Name}
+use Rattle.ent_semantics.specs.Database.{Name, rows_named}
 use Rattle.ent_book.specs.Report.{line, row_line, rows_text, answer_text, answers_text}
 use Rattle.ent_book.specs.Report2.{opening_line, scripts_text}
 use Rattle.ent_history.specs.declared.history.History.{History}
@@ -18,7 +18,7 @@ use Rattle.ent_history.specs.declared.history.Shown.{Shown}
 use Rattle.ent_history.specs.declared.history.Told.{Told}
 use Rattle.ent_history.specs.declared.history.ToldJoint.{ToldJoint}
 use Rattle.ent_history.specs.declared.history.ToldMember.{ToldMember}
-use Rattle.ent_history.specs.Text.{rows_under, opened_text, opening_text, tx_text, told_text, transactions_text}
+use Rattle.ent_history.specs.Text.{opened_text, opening_text, tx_text, told_text, transactions_text}
 use Rattle.ent_history.specs.Text.{joint_text}
 use Rattle.ent_history.specs.Text.{joints_text, told_member_text, shown_text, history_text}
 use Rattle.ent_history_form.specs.Answers.{answer_line_text}
@@ -138,14 +138,14 @@ pub record OpeningWaits (told : History) (due : ℕ) (text : List ℕ) : Type 0 
   pub nothing_below : NothingBelowScripts told
   pub text_is : text
       ≡ above_opened told.opening front
-      ++ (opened_line create (length (rows_under told.opening create.name.name) + due)
-      ++ rows_text (rows_under told.opening create.name.name))
+      ++ (opened_line create (length (rows_named told.opening create.name.name) + due)
+      ++ rows_text (rows_named told.opening create.name.name))
 
 pub opening_settled : (told : History) (text : List ℕ) → OpeningWaits told 0 text → text ≡ begun_text told
 opening_settled told text waits =
     waits.text_is
     ∙ counted (above_opened told.opening waits.front) (opened_line waits.create)
-    (rows_under told.opening waits.create.name.name)
+    (rows_named told.opening waits.create.name.name)
     ∙ append_assoc (line (codes "report 2")) (flat_map (opened_text told.opening) waits.front)
     (opened_text told.opening waits.create)
     ∙ ap (λ rest. line (codes "report 2") ++ rest)

@@ -1,21 +1,17 @@
 -- An opening that a report tells has no fault of form.
-use Rattle.std.proofs.Common.{◌≡◌, ◌≢◌, ℕ, suc, Bool, true, false, cond, ◌==◌, List, [], ◌∷◌, ◌++◌, map, length}
+use Rattle.std.proofs.Common.{◌≡◌, ◌≢◌, ℕ, suc, Bool, false, cond, ◌==◌, List, [], ◌∷◌, ◌++◌, map, length}
 use Rattle.std.proofs.Common.{refl, sym, ap, ◌∙◌, inl, inr, Option, Some, None}
 use Rattle.std.specs.List.{AllByRecursion}
 use Rattle.std.proofs.lemmas.List.{length-map}
 use Rattle.ent_value.specs.Value.{kind_of, kinds_of}
 use Rattle.ent_value.specs.declared.value.Kind.{Kind}
-use Rattle.ent_value.specs.declared.value.Kind.TheVariants.{Int, Text}
 use Rattle.ent_tree.specs.declared.declaration.Column.{Column}
 use Rattle.ent_tree.specs.declared.declaration.Create.{Create}
 use Rattle.ent_tree.specs.declared.declaration.Opening.{Opening}
 use Rattle.ent_tree.specs.declared.declaration.OpeningRow.{OpeningRow}
 use Rattle.ent_tree.specs.declared.operand.Identifier.{Identifier}
 use Rattle.ent_tree.specs.declared.operand.Literal.{Literal}
-use Rattle.ent_semantics.specs.Database.{Name, row_of, same_name}
 use Rattle.ent_semantics.specs.Names.{equal_names, name_itself}
-use Rattle.ent_form.specs.Catalogue.{column_schema, is_among, schemas_of, table_from, table_schema}
-use Rattle.ent_form.specs.Kinds.{same_kind}
 use Rattle.ent_form.specs.OpeningFault.{Check, ◌before◌, declarations_fault, first_of, literals_fault, opening_fault}
 use Rattle.ent_form.specs.OpeningFault.{opening_row_fault, refused_where, repeated, row_fault, where_there}
 use Rattle.ent_form.specs.declared.catalogue.TableSchema.{TableSchema}
@@ -24,6 +20,9 @@ use Rattle.ent_form.specs.declared.fault.FormFault.TheVariants.{Arity, NoTable, 
 use Rattle.ent_history_form.specs.Opening.{IsDeclaration}
 use Rattle.ent_lists.specs.Elements.{In, Pairs, any_some, clash, in_either, index_pairs, not_so, number_itself, of_all}
 use Rattle.ent_lists.specs.Elements.{pairs_mapped}
+use Rattle.ent_value.specs.Kinds.{kind_itself, same_kind}
+use Rattle.ent_semantics.specs.Database.{Name, row_of, same_name, is_among}
+use Rattle.ent_form.specs.Catalogue.{column_schema, schemas_of, table_from, table_schema}
 use Rattle.ent_report_laws.proofs.Opened.{Before, IsOpened, IsRowOf, other_name}
 
 both_none : (first second : Check) → first ≡ None → second ≡ None → (first before second) ≡ None
@@ -138,10 +137,6 @@ find_table number (table ∷ tables) create (inr at) apart =
           (other_name table create (of_all (Before table) tables create apart.0 at))
           ∙ rest.1,
     )
-
-kind_itself : (kind : Kind) → same_kind kind kind ≡ true
-kind_itself Int = refl
-kind_itself Text = refl
 
 first_kind : {kind other : Kind} {kinds others : List Kind} → kind ∷ kinds ≡ other ∷ others → kind ≡ other
 first_kind e = cc

@@ -18,10 +18,11 @@ use Rattle.ent_history.specs.declared.history.Shown.{Shown}
 use Rattle.ent_history.specs.declared.history.Told.{Told}
 use Rattle.ent_history.specs.declared.history.ToldJoint.{ToldJoint}
 use Rattle.ent_history.specs.Lines.{answer_lines, joint_lines, opening_lines, script_lines, shown_lines, told_lines}
-use Rattle.ent_history.specs.Text.{rows_under, opened_text, opening_text, tx_text, told_text, transactions_text}
 use Rattle.ent_history.specs.Text.{joint_text}
 use Rattle.ent_history.specs.Text.{joints_text, told_member_text, shown_text}
 use Rattle.ent_lists.specs.Elements.{In}
+use Rattle.ent_semantics.specs.Database.{rows_named}
+use Rattle.ent_history.specs.Text.{opened_text, opening_text, tx_text, told_text, transactions_text}
 use Rattle.ent_report_laws.proofs.Begun.{placed_answer, whole_joint}
 
 some_line : (text : List ℕ) → 1 ≤ length (line text)
@@ -89,11 +90,11 @@ some_opening create count =
 
 pub opening_fits : (opening : Opening) → opening_lines opening ≤ length (opening_text opening)
 opening_fits opening =
-    sum_fits (λ create. 1 + length (rows_under opening create.name.name)) (opened_text opening)
+    sum_fits (λ create. 1 + length (rows_named opening create.name.name)) (opened_text opening)
     (λ create. headed_rows_fit
-    (opening_line create.name.name create.columns (length (rows_under opening create.name.name)))
-    (rows_under opening create.name.name)
-    (some_opening create (length (rows_under opening create.name.name))))
+    (opening_line create.name.name create.columns (length (rows_named opening create.name.name)))
+    (rows_named opening create.name.name)
+    (some_opening create (length (rows_named opening create.name.name))))
     opening.tables
 
 pub scripts_fit : (scripts : List Script) → length scripts ≤ 10000

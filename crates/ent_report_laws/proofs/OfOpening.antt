@@ -11,7 +11,6 @@ use Rattle.ent_tree.specs.declared.declaration.Opening.{Opening}
 use Rattle.ent_tree.specs.declared.declaration.OpeningRow.{OpeningRow}
 use Rattle.ent_semantics.specs.Names.{names_turned}
 use Rattle.ent_history.specs.declared.history.History.{History}
-use Rattle.ent_history.specs.Text.{rows_under}
 use Rattle.ent_history.specs.Told.{opening_row}
 use Rattle.ent_history_form.specs.Draft.{Draft, Due, Heading as Headed, Free, OpeningRows, AnswerRows, Members}
 use Rattle.ent_history_form.specs.Draft.{TableRows, Ended, blank, last_of, members_due, rows_due}
@@ -23,6 +22,7 @@ use Rattle.ent_history_form.specs.Stands.{AnswerRow, Joint, Member, Table, Table
 use Rattle.ent_value.specs.Order.{rows_total}
 use Rattle.ent_lists.specs.Elements.{In, Pairs, all_by, all_first, all_joined, all_second, of_all, pairs_across}
 use Rattle.ent_lists.specs.Elements.{pairs_behind, pairs_index, to_all}
+use Rattle.ent_semantics.specs.Database.{rows_named}
 use Rattle.ent_report_laws.specs.Tellable.{AreRowsOf, IsOpeningTold}
 use Rattle.ent_report_laws.proofs.Kept.{IsSound, blank_sound, sound_kept}
 use Rattle.ent_report_laws.proofs.Lists.{all_before, ends, longer}
@@ -61,8 +61,8 @@ no_members_due (place ∷ more) = refl
 -- the rows under a table's name are of its kinds, ascending
 abbrev HasRows : Opening → Create → Type 0
 HasRows opening create =
-    AreOfKinds create.columns (rows_under opening create.name.name)
-    × Pairs IsBelow (rows_under opening create.name.name)
+    AreOfKinds create.columns (rows_named opening create.name.name)
+    × Pairs IsBelow (rows_named opening create.name.name)
 
 record IsFit (opening : Opening) (due : ℕ) : Type 0 where
   few_tables : length opening.tables ≤ 64
@@ -98,7 +98,7 @@ table_fit opening due count create opened fit ascend few many = record {
       (subst (λ rows. AreOfKinds create.columns rows × Pairs IsBelow rows) (sym none) (tt, tt), tt);
 }
   where
-    none : rows_under opening create.name.name ≡ []
+    none : rows_named opening create.name.name ≡ []
     none = none_under opening create opened ascend
 
 -- ---- a row more
@@ -115,7 +115,7 @@ module _ (opening : Opening) (create : Create) (row : List Value) (opened : IsOp
   longer_opening = with_row opening create.name.name row
 
   same_rows : (other : Create) → In other front
-      → rows_under longer_opening other.name.name ≡ rows_under opening other.name.name
+      → rows_named longer_opening other.name.name ≡ rows_named opening other.name.name
   same_rows other at =
       under_other opening create.name.name other.name.name row
       (names_turned create.name.name other.name.name
@@ -135,14 +135,14 @@ module _ (opening : Opening) (create : Create) (row : List Value) (opened : IsOp
       ∙ append_assoc (flat_map (own_rows longer_opening) front) (own_rows opening create)
       (opening_row create.name.name row ∷ [])
       ∙ ap (λ more. flat_map (own_rows longer_opening) front ++ more)
-      (sym (map-append (opening_row create.name.name) (rows_under opening create.name.name) (row ∷ []))
+      (sym (map-append (opening_row create.name.name) (rows_named opening create.name.name) (row ∷ []))
       ∙ ap (map (opening_row create.name.name)) (sym (under_itself opening create.name.name row)))
       ∙ sym (flat_behind (own_rows longer_opening) front create)
       ∙ ap (flat_map (own_rows longer_opening)) (sym tables_are)
 
   rows_fit : AllByRecursion (HasRows opening) opening.tables → IsRow row
       → kinds_of row ≡ map (λ column. column.kind) create.columns
-      → Ascends (rows_under opening create.name.name) row
+      → Ascends (rows_named opening create.name.name) row
       → AllByRecursion (HasRows longer_opening) opening.tables
   rows_fit fit is_row kinds ascends =
       subst (AllByRecursion (HasRows longer_opening)) (sym tables_are)
@@ -152,9 +152,9 @@ module _ (opening : Opening) (create : Create) (row : List Value) (opened : IsOp
       (of_all (HasRows opening) front other (all_first (HasRows opening) front (create ∷ []) split) at))) (
         subst (λ rows. AreOfKinds create.columns rows × Pairs IsBelow rows)
             (sym (under_itself opening create.name.name row)) (
-              all_joined _ (rows_under opening create.name.name) (row ∷ []) was.0 ((is_row, kinds), tt),
-              pairs_behind IsBelow (rows_under opening create.name.name) row was.1
-                  (all_before IsBelow (λ a b c. rows_total.trans a b c) (rows_under opening create.name.name) row was.1
+              all_joined _ (rows_named opening create.name.name) (row ∷ []) was.0 ((is_row, kinds), tt),
+              pairs_behind IsBelow (rows_named opening create.name.name) row was.1
+                  (all_before IsBelow (λ a b c. rows_total.trans a b c) (rows_named opening create.name.name) row was.1
                   ascends),
             ),
         tt,
@@ -247,6 +247,6 @@ opening_is_told text history so tells =
       rise = pairs_index Before history.opening.tables so.opened.apart;
       in_order = fit.in_order;
       rows = all_by (HasRows history.opening)
-          (λ create. AreRowsOf create.columns (rows_under history.opening create.name.name)) history.opening.tables
-          (λ create has. (has.0, pairs_index IsBelow (rows_under history.opening create.name.name) has.1)) fit.rows;
+          (λ create. AreRowsOf create.columns (rows_named history.opening create.name.name)) history.opening.tables
+          (λ create has. (has.0, pairs_index IsBelow (rows_named history.opening create.name.name) has.1)) fit.rows;
     }

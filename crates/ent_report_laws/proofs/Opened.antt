@@ -12,14 +12,13 @@ use Rattle.ent_value.specs.declared.value.Value.{Value}
 use Rattle.ent_tree.specs.declared.declaration.Create.{Create}
 use Rattle.ent_tree.specs.declared.declaration.Opening.{Opening}
 use Rattle.ent_tree.specs.declared.declaration.OpeningRow.{OpeningRow}
-use Rattle.ent_semantics.specs.Database.{Name, row_of, same_name}
 use Rattle.ent_semantics.specs.Names.{name_itself}
-use Rattle.ent_history.specs.Text.{rows_under}
 use Rattle.ent_history.specs.Told.{opening_row}
 use Rattle.ent_history_form.specs.Draft.{last_of}
 use Rattle.ent_history_form.specs.Opening.{IsDeclaration, NamesAscend}
 use Rattle.ent_lists.specs.Elements.{In, Pairs, of_all, all_by, all_joined, in_first, in_second, filter_empty}
 use Rattle.ent_lists.specs.Elements.{filter_joined, map_joined, pairs_behind}
+use Rattle.ent_semantics.specs.Database.{Name, row_of, same_name, rows_named}
 use Rattle.ent_report_laws.proofs.Lists.{all_before, ends}
 
 -- a name stands before another, by bytes
@@ -88,7 +87,7 @@ module _ (opening : Opening) where
 
   -- no row stands in a table that comes behind all
   pub none_under : (create : Create) → IsOpened opening → NamesAscend opening.tables create
-      → rows_under opening create.name.name ≡ []
+      → rows_named opening create.name.name ≡ []
   none_under create opened ascend =
       ap (map row_of) (filter_empty (names_it create.name.name) opening.rows (λ row at.
       let there = of_all (IsRowOf opening.tables) opening.rows row opened.rows at in
@@ -96,13 +95,13 @@ module _ (opening : Opening) where
       ∙ other_name there.0 create (before_all opening.tables create opened.apart ascend there.0 there.1)))
 
   pub under_itself : (name : Name) (row : List Value)
-      → rows_under (with_row name row) name ≡ rows_under opening name ++ row ∷ []
+      → rows_named (with_row name row) name ≡ rows_named opening name ++ row ∷ []
   under_itself name row = under_more opening.rows name name row true (name_itself name)
 
   pub under_other : (name other : Name) (row : List Value) → same_name name other ≡ false
-      → rows_under (with_row name row) other ≡ rows_under opening other
+      → rows_named (with_row name row) other ≡ rows_named opening other
   under_other name other row e =
-      under_more opening.rows name other row false e ∙ append-nil (rows_under opening other)
+      under_more opening.rows name other row false e ∙ append-nil (rows_named opening other)
 
   pub table_opened : (create : Create) → IsOpened opening → IsDeclaration create → NamesAscend opening.tables create
       → IsOpened (with_table create)

@@ -11,14 +11,12 @@ use Rattle.ent_tree.specs.declared.script.Statement.{Statement}
 use Rattle.ent_semantics.specs.declared.answer.Answer.{Answer}
 use Rattle.ent_semantics.specs.declared.answer.Answer.TheVariants as answers
 use Rattle.ent_semantics.specs.declared.book.Fate.{Fate}
-use Rattle.ent_semantics.specs.Database.{Name}
 use Rattle.ent_semantics.specs.Names.{names_turned}
 use Rattle.ent_book.specs.Report.{line, rows_text}
 use Rattle.ent_book.specs.Report2.{scripts_text, numbered_script_text}
 use Rattle.ent_history.specs.declared.history.History.{History}
 use Rattle.ent_history.specs.declared.history.Told.{Told}
 use Rattle.ent_history.specs.declared.history.ToldMember.{ToldMember}
-use Rattle.ent_history.specs.Text.{rows_under, opened_text, opening_text, told_member_text, transactions_text, tx_text}
 use Rattle.ent_history.specs.Text.{history_text}
 use Rattle.ent_history_form.specs.Answers.{TxStands, AnswerStands, AnswerRowStands, IsAnswer, HasSoMany}
 use Rattle.ent_history_form.specs.Answers.{answers_so_far}
@@ -32,6 +30,8 @@ use Rattle.ent_history_form.specs.Opening.{HeadingStands, OpeningStands, Opening
 use Rattle.ent_history_form.specs.Scripts.{ScriptStands}
 use Rattle.ent_history_form.specs.Tables.{TableStands, TableRowStands, EndStands, table_line_text, with_table_row}
 use Rattle.ent_lists.specs.Elements.{In, Pairs, pairs_across}
+use Rattle.ent_semantics.specs.Database.{Name, rows_named}
+use Rattle.ent_history.specs.Text.{opened_text, opening_text, told_member_text, transactions_text, tx_text}
 use Rattle.ent_report_laws.proofs.Begun.{begun_text, ended_text, blank_text, only_opening, to_scripts, to_transactions}
 use Rattle.ent_report_laws.proofs.Begun.{to_joints, grows, uncounted, opened_line, above_opened, OpeningWaits}
 use Rattle.ent_report_laws.proofs.Begun.{opening_settled, told_of, to_answers, transactions_behind, at_answers}
@@ -105,7 +105,7 @@ module _ (draft : Draft) (text piece : List ℕ) (next : Draft) (so : IsTextOf d
             ap (λ t. t ++ piece) (at Free s.free ∙ only_opening draft.told s.no_scripts s.nothing_below)
             ∙ ap (λ p. above_opened draft.told.opening draft.told.opening.tables ++ p) s.text_is
             ∙ uncounted (above_opened draft.told.opening draft.told.opening.tables) (opened_line s.create)
-            (rows_under draft.told.opening s.create.name.name) s.count
+            (rows_named draft.told.opening s.create.name.name) s.count
             (none_under draft.told.opening s.create opened s.ascends);
       }))
     where
@@ -235,12 +235,12 @@ module _ (draft : Draft) (text piece : List ℕ) (next : Draft) (so : IsTextOf d
       tables_are = was.tables_are ∙ ap (λ (c : Create). was.front ++ c ∷ []) same
 
       text_is : text ≡ above_opened opening was.front
-          ++ (opened_line s.create (length (rows_under opening name) + suc s.more)
-          ++ rows_text (rows_under opening name))
+          ++ (opened_line s.create (length (rows_named opening name) + suc s.more)
+          ++ rows_text (rows_named opening name))
       text_is = was.text_is ∙ ap
           (λ (c : Create). above_opened opening was.front
-          ++ (opened_line c (length (rows_under opening c.name.name) + suc s.more)
-          ++ rows_text (rows_under opening c.name.name)))
+          ++ (opened_line c (length (rows_named opening c.name.name) + suc s.more)
+          ++ rows_text (rows_named opening c.name.name)))
           same
 
       others : (create : Create) → In create was.front
@@ -267,12 +267,12 @@ module _ (draft : Draft) (text piece : List ℕ) (next : Draft) (so : IsTextOf d
         };
         text_is =
             ap (λ p. text ++ p) s.text_is
-            ∙ grows (above_opened opening was.front) (opened_line s.create) (rows_under opening name)
-            (rows_under (with_row opening name s.row) name) s.row s.more text (under_itself opening name s.row) text_is
+            ∙ grows (above_opened opening was.front) (opened_line s.create) (rows_named opening name)
+            (rows_named (with_row opening name s.row) name) s.row s.more text (under_itself opening name s.row) text_is
             ∙ ap
             (λ front. (line (codes "report 2") ++ front)
-            ++ (opened_line s.create (length (rows_under (with_row opening name s.row) name) + s.more)
-            ++ rows_text (rows_under (with_row opening name s.row) name)))
+            ++ (opened_line s.create (length (rows_named (with_row opening name s.row) name) + s.more)
+            ++ rows_text (rows_named (with_row opening name s.row) name)))
             (flat_same (opened_text opening) (opened_text (with_row opening name s.row)) was.front others);
       }
 

@@ -10,16 +10,17 @@ use Rattle.ent_tree.specs.declared.declaration.Column.{Column}
 use Rattle.ent_tree.specs.declared.declaration.Create.{Create}
 use Rattle.ent_tree.specs.declared.declaration.Opening.{Opening}
 use Rattle.ent_tree.specs.declared.declaration.OpeningRow.{OpeningRow}
+use Rattle.ent_semantics.specs.Database.{rows_named}
 use Rattle.ent_book.specs.Report.{row_line, rows_text}
 use Rattle.ent_book.specs.Report2.{opening_line}
 use Rattle.ent_history.specs.declared.history.History.{History}
-use Rattle.ent_history.specs.Text.{rows_under, opened_text}
 use Rattle.ent_history.specs.Told.{opening_row}
 use Rattle.ent_history_form.specs.Draft.{Draft, Free, OpeningRows, NothingBelowScripts, last_of, rows_due}
 use Rattle.ent_history_form.specs.Opening.{IsDeclaration, NamesAscend, OpeningStands, OpeningRowStands}
 use Rattle.ent_history_form.specs.Parts.{Ascends, IsRow}
 use Rattle.ent_history_form.specs.Stands as stands
 use Rattle.ent_lists.specs.Elements.{In, Pairs, all_joined, in_second, index_pairs, pairs_across}
+use Rattle.ent_history.specs.Text.{opened_text}
 use Rattle.ent_report_laws.specs.Tellable.{AreRowsOf}
 use Rattle.ent_report_laws.proofs.Opened.{Before, IsOpened, IsRowOf, none_under, row_again, row_opened, table_opened}
 use Rattle.ent_report_laws.proofs.Opened.{under_itself, with_row, with_table}
@@ -62,7 +63,7 @@ module _ (create : Create) where
   )
 
   pub rows_lead : (told : History) (done rest : List (List Value)) → IsOpened told.opening
-      → last_of told.opening.tables ≡ Some create → rows_under told.opening create.name.name ≡ done
+      → last_of told.opening.tables ≡ Some create → rows_named told.opening create.name.name ≡ done
       → AreOfKinds create.columns rest → Pairs IsBelow (done ++ rest)
       → Leads (record { told = told; due = rows_due OpeningRows (length rest) }) (rows_text rest)
       (record { told = with_rows told rest; due = Free })
@@ -106,7 +107,7 @@ module _ (create : Create) where
         text_is = refl;
         is_row = fit.0.0;
         kinds = fit.0.1;
-        ascends = ascends_behind (rows_under told.opening create.name.name) done row more under pairs;
+        ascends = ascends_behind (rows_named told.opening create.name.name) done row more under pairs;
         next_is = refl;
       }
 
@@ -114,7 +115,7 @@ module _ (create : Create) where
 
 module _ (full : Opening) where
   abbrev pub own_rows : Create → List OpeningRow
-  own_rows create = map (opening_row create.name.name) (rows_under full create.name.name)
+  own_rows create = map (opening_row create.name.name) (rows_named full create.name.name)
 
   abbrev pub with_tables : History → List Create → History
   with_tables told rest =
@@ -127,7 +128,7 @@ module _ (full : Opening) where
 
   pub tables_lead : (told : History) (rest : List Create) → IsOpened told.opening → told.scripts ≡ []
       → NothingBelowScripts told → Pairs Before (told.opening.tables ++ rest) → AllByRecursion IsDeclaration rest
-      → AllByRecursion (λ create. AreRowsOf create.columns (rows_under full create.name.name)) rest
+      → AllByRecursion (λ create. AreRowsOf create.columns (rows_named full create.name.name)) rest
       → length (told.opening.tables ++ rest) ≤ 64
       → length (told.opening.rows ++ flat_map own_rows rest) ≤ 65536
       → Leads (record { told = told; due = Free }) (flat_map (opened_text full) rest)
@@ -168,7 +169,7 @@ module _ (full : Opening) where
       (subst (λ (rs : List OpeningRow). length rs ≤ 65536) (sym same_rows) many)))
     where
       own : List (List Value)
-      own = rows_under full create.name.name
+      own = rows_named full create.name.name
 
       first : History
       first = record told { opening = with_table told.opening create }

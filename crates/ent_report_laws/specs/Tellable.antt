@@ -15,12 +15,12 @@ use Rattle.ent_tree.specs.declared.script.Script.{Script}
 use Rattle.ent_tree.specs.declared.script.Statement.{Statement}
 use Rattle.ent_semantics.specs.declared.answer.Answer.{Answer}
 use Rattle.ent_semantics.specs.declared.answer.Answer.TheVariants as answers
+use Rattle.ent_semantics.specs.Database.{rows_named}
 use Rattle.ent_history.specs.declared.history.History.{History}
 use Rattle.ent_history.specs.declared.history.Shown.{Shown}
 use Rattle.ent_history.specs.declared.history.Told.{Told}
 use Rattle.ent_history.specs.declared.history.ToldJoint.{ToldJoint}
 use Rattle.ent_history.specs.declared.history.ToldMember.{ToldMember}
-use Rattle.ent_history.specs.Text.{rows_under}
 use Rattle.ent_history.specs.Told.{has_committed, opening_row}
 use Rattle.ent_history_form.specs.Answers.{IsFact, IsFate, IsOfSort}
 use Rattle.ent_history_form.specs.Joints.{BindsRight, PlacesRise, member_binds}
@@ -45,8 +45,8 @@ pub record IsOpeningTold (opening : Opening) : Type 0 where
   pub rise : AllPairs (λ (first second : Create). slice_cmp nat_cmp first.name.name second.name.name ≡ Less)
       opening.tables
   pub in_order : opening.rows
-      ≡ flat_map (λ create. map (opening_row create.name.name) (rows_under opening create.name.name)) opening.tables
-  pub rows : AllByRecursion (λ create. AreRowsOf create.columns (rows_under opening create.name.name)) opening.tables
+      ≡ flat_map (λ create. map (opening_row create.name.name) (rows_named opening create.name.name)) opening.tables
+  pub rows : AllByRecursion (λ create. AreRowsOf create.columns (rows_named opening create.name.name)) opening.tables
 
 abbrev pub IsAnswerTold : Answer → Type 0
 IsAnswerTold (answers.Count count) = IsNumber count

@@ -1,16 +1,15 @@
 //! Names as they are written.
-ghost use Rattle.std.specs.Prelude.{◌≡◌, ◌≤◌, length, slice_index};
-ghost use Rattle.std.specs.List.{prefix_len};
+ghost use Rattle.std.specs.Prelude.{◌≡◌, slice_index};
 ghost use Rattle.std.specs.Option.{is_some};
-ghost use Rattle.ent_value.specs.Name.{is_word_byte, IsWord};
+ghost use Rattle.ent_value.specs.Name.{IsWord};
 ghost use Rattle.ent_value.specs.Refusal.{Gives};
 ghost use Rattle.ent_text.specs.Lexing.{keyword_of};
 ghost use Rattle.ent_text.specs.View.{kind_seen};
 ghost use Rattle.ent_report_lines.specs.Names.{is_keyword, name_at};
 
 use ent_line::LineFault;
-use ent_text::{TokenView, Tokens};
-use ent_value::{Name, Refusal, is_word, is_word_byte};
+use ent_text::{TokenView, Tokens, word_len};
+use ent_value::{Name, Refusal, is_word};
 use std::alloc::Global;
 use std::str;
 
@@ -19,14 +18,6 @@ pub fn first_byte(bytes: &[u8]) -> u8
     ensures { result ≡ slice_index bytes.now 0 }
 {
     bytes.get(0).copied().unwrap_or(0)
-}
-
-/// How many letters, digits and `_` stand in front.
-fn word_len(bytes: &[u8]) -> usize
-    ensures value { result ≡ prefix_len is_word_byte bytes.now }
-    ensures bound { result ≤ length bytes.now }
-{
-    bytes.iter().take_while(|byte| is_word_byte(**byte)).count()
 }
 
 /// Whether a token is a reserved word.

@@ -2,12 +2,11 @@
 use Rattle.std.proofs.Common.{◌≡◌, Bool, true, false, ◌||◌, List, [], ◌∷◌, map, refl, sym, ap, ◌∙◌}
 use Rattle.ent_set.specs.Sets as set
 use Rattle.ent_tree.specs.declared.declaration.Opening.{Opening}
-use Rattle.ent_semantics.specs.Database.{Database, Name, same_name}
-use Rattle.ent_semantics.specs.Uses.{is_among}
 use Rattle.ent_book.specs.Report.{names_by_bytes}
 use Rattle.ent_history.specs.declared.history.Shown.{Shown}
 use Rattle.ent_history.specs.Told.{shown_database, shown_table}
 use Rattle.ent_lists.specs.Elements.{In, of_map}
+use Rattle.ent_semantics.specs.Database.{Database, Name, same_name, is_among}
 use Rattle.ent_opening_laws.proofs.Declared.{named}
 use Rattle.ent_rules.specs.Formed.{is_declared, is_shown}
 use Rattle.ent_rules.proofs.Tables.{not_shown, shown_is}

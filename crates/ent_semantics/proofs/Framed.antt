@@ -24,7 +24,7 @@ use Rattle.ent_semantics.specs.declared.answer.Answer.TheVariants as answers
 use Rattle.ent_semantics.specs.declared.answer.Failure.{Failure}
 use Rattle.ent_semantics.specs.declared.answer.Failure.TheVariants.{TableFull}
 use Rattle.ent_semantics.specs.Change.{matched, unmatched, updated, image}
-use Rattle.ent_semantics.specs.Database.{Name, Rows, Database, Environment, Table, same_name, with_rows}
+use Rattle.ent_semantics.specs.Database.{Name, Rows, Database, Environment, Table, same_name, with_rows, is_among}
 use Rattle.ent_semantics.specs.Database.{table_named}
 use Rattle.ent_semantics.specs.Effect.{Effect, changed, or_overflow, insertion, deletion, replacement, setting}
 use Rattle.ent_semantics.specs.Entangled.{Valuation, condition_holds, is_grounding, term_worth, written_variables}
@@ -33,7 +33,7 @@ use Rattle.ent_semantics.specs.Selection.{meets, selection, item_row, select_wor
 use Rattle.ent_semantics.specs.Serial.{Operation, Run, answered_first, after, run}
 use Rattle.ent_semantics.specs.Statement.{table_worth, statement_meaning}
 use Rattle.ent_semantics.specs.Term.{known_value, expression_value, table_columns}
-use Rattle.ent_semantics.specs.Uses.{uses, changes, is_among, select_tables, condition_tables, shared_tables}
+use Rattle.ent_semantics.specs.Uses.{uses, changes, select_tables, condition_tables, shared_tables}
 use Rattle.ent_semantics.specs.Uses.{exclusive_tables, Agree, Covers, EffectsAlike, KeepsOthers, RunsAlike, CoversAll}
 
 -- ---- one table, whatever holds it

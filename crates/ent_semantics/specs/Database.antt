@@ -1,6 +1,6 @@
 -- Databases and environments, and the tables that an input declares.
-use Rattle.std.specs.Prelude.{ℕ, Bool, List, [], ◌∷◌, map, Option, Some, None, if◌then◌else◌, ◌==◌}
-use Rattle.std.specs.List.{filter}
+use Rattle.std.specs.Prelude.{ℕ, suc, Bool, List, [], ◌∷◌, map, Option, Some, None, if◌then◌else◌, ◌==◌}
+use Rattle.std.specs.List.{filter, list_any}
 use Rattle.std.specs.Cmp.Lexicographic.{pointwise}
 use Rattle.ent_set.specs.Sets as set
 use Rattle.ent_value.specs.Value.{row_cmp}
@@ -16,6 +16,14 @@ Name = List ℕ
 -- names are compared byte by byte
 abbrev pub same_name : Name → Name → Bool
 same_name = pointwise ◌==◌
+
+abbrev pub is_among : List Name → Name → Bool
+is_among names name = list_any (λ other. same_name other name) names
+
+-- how many names stand before the first such one: all, where there is none
+abbrev pub index_of : List Name → Name → ℕ
+index_of [] name = 0
+index_of (first ∷ names) name = if same_name first name then 0 else suc (index_of names name)
 
 -- a finite set of rows
 abbrev pub Rows : Type 0
@@ -65,7 +73,10 @@ columns_of (create ∷ more) table =
 abbrev pub row_of : OpeningRow → List Value
 row_of row = map (λ literal. literal.value) row.values
 
+-- the opening rows that name a table, in their order
+abbrev pub rows_named : Opening → Name → List (List Value)
+rows_named opening name = map row_of (filter (λ row. same_name row.table.name name) opening.rows)
+
 -- each table holds the opening rows that name it
 abbrev pub opening_database : Opening → Database
-opening_database opening table =
-    set.from_list (map row_of (filter (λ row. same_name row.table.name table) opening.rows))
+opening_database opening table = set.from_list (rows_named opening table)

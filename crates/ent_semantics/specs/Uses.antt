@@ -1,13 +1,13 @@
 -- Which tables a statement uses, and that it keeps to them.
 use Rattle.std.specs.Prelude.{◌≡◌, Bool, true, false, List, [], ◌∷◌, ◌++◌, map, Option, Some, None, Result, Ok, Err}
-use Rattle.std.specs.List.{flat_map, list_any, AllByRecursion}
+use Rattle.std.specs.List.{flat_map, AllByRecursion}
 use Rattle.ent_tree.specs.declared.entangled.Condition.{Condition}
 use Rattle.ent_tree.specs.declared.entangled.Condition.TheVariants as conditions
 use Rattle.ent_tree.specs.declared.script.Statement.{Statement}
 use Rattle.ent_tree.specs.declared.script.Statement.TheVariants as statements
 use Rattle.ent_tree.specs.declared.select.Select.{Select}
 use Rattle.ent_semantics.specs.declared.answer.Failure.{Failure}
-use Rattle.ent_semantics.specs.Database.{Name, Database, same_name}
+use Rattle.ent_semantics.specs.Database.{Name, Database, is_among}
 use Rattle.ent_semantics.specs.Effect.{Effect}
 use Rattle.ent_semantics.specs.Serial.{Run, Operation}
 
@@ -32,9 +32,6 @@ exclusive_tables (statements.Insert insert) = insert.table.name ∷ []
 exclusive_tables (statements.Delete delete) = delete.table.name ∷ []
 exclusive_tables (statements.Update update) = update.table.name ∷ []
 exclusive_tables other = []
-
-abbrev pub is_among : List Name → Name → Bool
-is_among tables name = list_any (λ table. same_name table name) tables
 
 -- whether a statement uses a table, and whether it may change it
 abbrev pub uses : Statement → Name → Bool

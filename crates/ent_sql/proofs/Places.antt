@@ -4,6 +4,7 @@ use Rattle.ent_text.specs.declared.token.Token.{Token}
 use Rattle.ent_text.specs.declared.token.TokenKind.{TokenKind}
 use Rattle.ent_text.specs.declared.token.TokenKind.TheVariants as kinds
 use Rattle.ent_text.specs.declared.symbol.Symbol.TheVariants as signs
+use Rattle.ent_tree.specs.Places.{value_place}
 use Rattle.ent_grammar.specs.Read.{place_of}
 use Rattle.ent_grammar.specs.Class.{Class, word, sign, name, variable, number, positive, one, text, Given, given, if_so}
 use Rattle.ent_grammar.specs.Phrase.{Phrase, ◌⨾◌, nothing, Single}
@@ -20,7 +21,7 @@ use Rattle.ent_tree.specs.declared.entangled.Tuple.{Tuple}
 use Rattle.ent_tree.specs.declared.entangled.Condition.{Condition}
 use Rattle.ent_sql.specs.Operands as grammar
 use Rattle.ent_sql.specs.Entangling as entangling
-use Rattle.ent_sql.specs.Entangling.{place_of_specification, place_of_term}
+use Rattle.ent_sql.specs.Entangling.{place_of_term}
 use Rattle.ent_sql.specs.Places.{place_before, place_of_operand, place_of_expression, place_of_condition}
 
 -- ---- tokens
@@ -82,10 +83,10 @@ module _ (end : ℕ) where
   literal_stands kept y ts (inr (inl h)) = along ts (sym (ap (λ (z : Literal). z.place) h.1.second.0)) (begins_there ts h.1 (single_stands number h.0 h.1.front h.1.first))
   literal_stands kept y ts (inr (inr h)) = along ts (sym (ap (λ (z : Literal). z.place) h.1.second.0)) (begins_there ts h.1 (single_stands text h.0 h.1.front h.1.first))
 
-  pub value_stands : (kept : Bool) (y : ValueSpecification) (ts : List Token) → spells grammar.value kept y ts → Stands ts (place_of_specification y)
+  pub value_stands : (kept : Bool) (y : ValueSpecification) (ts : List Token) → spells grammar.value kept y ts → Stands ts (value_place y)
   unfolding grammar.value
-  value_stands kept y ts (inl h) = along ts (sym (ap place_of_specification h.1.second.0)) (begins_there ts h.1 (variable_stands kept h.0 h.1.front h.1.first))
-  value_stands kept y ts (inr h) = along ts (sym (ap place_of_specification h.1.second.0)) (begins_there ts h.1 (literal_stands kept h.0 h.1.front h.1.first))
+  value_stands kept y ts (inl h) = along ts (sym (ap value_place h.1.second.0)) (begins_there ts h.1 (variable_stands kept h.0 h.1.front h.1.first))
+  value_stands kept y ts (inr h) = along ts (sym (ap value_place h.1.second.0)) (begins_there ts h.1 (literal_stands kept h.0 h.1.front h.1.first))
 
   pub term_stands : (kept : Bool) (y : Term) (ts : List Token) → spells grammar.term kept y ts → Stands ts (place_of_term y)
   unfolding grammar.term

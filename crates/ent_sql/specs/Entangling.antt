@@ -2,10 +2,9 @@
 use Rattle.std.specs.Prelude.{ℕ, ◌-◌, Bool, true, false, ◌&&◌, List, [], ◌∷◌, ◌++◌, length, Option, Some, None, cond}
 use Rattle.ent_text.specs.declared.keyword.Keyword.TheVariants as words
 use Rattle.ent_text.specs.declared.symbol.Symbol.TheVariants as signs
+use Rattle.ent_tree.specs.Places.{value_place}
 use Rattle.ent_tree.specs.declared.limits.TheConstants.{MOST_PARTS}
 use Rattle.ent_tree.specs.declared.operand.Identifier.{Identifier}
-use Rattle.ent_tree.specs.declared.operand.ValueSpecification.{ValueSpecification}
-use Rattle.ent_tree.specs.declared.operand.ValueSpecification.TheVariants as specifications
 use Rattle.ent_tree.specs.declared.operand.Operand.{Operand}
 use Rattle.ent_tree.specs.declared.operand.Operand.TheVariants as operands
 use Rattle.ent_tree.specs.declared.select.Items.TheVariants.{All, Listed}
@@ -114,12 +113,8 @@ bracketed = do
   membership (record { place = place; terms = members })
 
 -- where a term stands
-abbrev pub place_of_specification : ValueSpecification → ℕ
-place_of_specification (specifications.Literal l) = l.place
-place_of_specification (specifications.HostVariable v) = v.place
-
 abbrev pub place_of_term : Term → ℕ
-place_of_term (terms.Value v) = place_of_specification v
+place_of_term (terms.Value v) = value_place v
 place_of_term (terms.Variable n) = n.place
 
 -- comparison term

@@ -7,7 +7,8 @@ use Rattle.ent_tree.specs.declared.operand.Expression.{Expression}
 use Rattle.ent_tree.specs.declared.operand.Expression.TheVariants.{Single, Sum, Difference}
 use Rattle.ent_tree.specs.declared.entangled.Condition.{Condition}
 use Rattle.ent_tree.specs.declared.entangled.Condition.TheVariants as conditions
-use Rattle.ent_sql.specs.Entangling.{place_of_specification, place_of_term}
+use Rattle.ent_tree.specs.Places.{value_place}
+use Rattle.ent_sql.specs.Entangling.{place_of_term}
 
 -- the qualifier's place where there is one
 abbrev pub place_before : Option Identifier → Identifier → ℕ
@@ -15,7 +16,7 @@ place_before None column = column.place
 place_before (Some qualifier) column = qualifier.place
 
 abbrev pub place_of_operand : Operand → ℕ
-place_of_operand (operands.Value v) = place_of_specification v
+place_of_operand (operands.Value v) = value_place v
 place_of_operand (operands.Column c) = place_before c.qualifier c.column
 
 -- the place of its first operand

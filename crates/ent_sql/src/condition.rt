@@ -5,7 +5,7 @@ ghost use Rattle.ent_grammar.specs.Read.{begins};
 ghost use Rattle.ent_grammar.specs.Class.{among, one};
 ghost use Rattle.ent_grammar.specs.Grammar.{token, firsts, reads};
 ghost use Rattle.ent_sql.specs.Operands.{comparison};
-ghost use Rattle.ent_sql.specs.Entangling.{relation, membership, bracketed, place_of_specification, place_of_term};
+ghost use Rattle.ent_sql.specs.Entangling.{relation, membership, bracketed, place_of_term};
 ghost use Rattle.ent_sql.specs.Entangling.{comparison_behind, tuple_behind, condition_behind, condition};
 ghost use Rattle.ent_sql.specs.Entangling.{entangled_conditions};
 
@@ -18,7 +18,7 @@ use ent_grammar::{
     Divider, GrammarFault, begins_with_sign, begins_with_word, sign_at, unexpected, word_at,
 };
 use ent_text::{Keyword, Symbol, TokenView, Tokens};
-use ent_tree::{Condition, Identifier, MOST_PARTS, Term, Test, Tuple, ValueSpecification};
+use ent_tree::{Condition, Identifier, MOST_PARTS, Term, Test, Tuple};
 use ent_value::{Limited, Refusal};
 use std::alloc::Global;
 
@@ -41,22 +41,12 @@ pub(crate) fn one_at(
     }
 }
 
-/// Where a value stands.
-fn place_of_specification(value: &ValueSpecification) -> usize
-    ensures { result ≡ place_of_specification value.now }
-{
-    match value {
-        ValueSpecification::Literal(literal) => literal.place,
-        ValueSpecification::HostVariable(variable) => variable.place,
-    }
-}
-
 /// Where a term stands.
 fn place_of_term(term: &Term) -> usize
     ensures { result ≡ place_of_term term.now }
 {
     match term {
-        Term::Value(value) => place_of_specification(value),
+        Term::Value(value) => value.place(),
         Term::Variable(variable) => variable.place,
     }
 }

@@ -9,7 +9,7 @@ pub(crate) fn byte_at(bytes: &[u8], index: usize) -> u8
 }
 
 /// The bytes behind so many of them.
-pub(crate) fn tail(bytes: &[u8], len: usize) -> &[u8]
+pub fn tail(bytes: &[u8], len: usize) -> &[u8]
     requires { len ≤ length bytes.now }
     ensures { result.now ≡ drop len bytes.now }
 {

@@ -21,6 +21,7 @@ mod tokenizer;
 mod view;
 mod word;
 
+pub use bytes::tail;
 pub use fault::TextFault;
 pub use keyword::Keyword;
 pub use laws::{line_end_parts_texts, one_reading, pieces_end, reader_is_exact};
@@ -32,3 +33,4 @@ pub use symbol::Symbol;
 pub use token::{Token, TokenKind};
 pub use tokenizer::tokens;
 pub use view::TokenView;
+pub use word::word_len;

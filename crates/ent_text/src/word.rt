@@ -12,7 +12,7 @@ use crate::view::TokenView;
 use ent_value::{LONGEST_NAME, is_word_byte};
 
 /// How many letters, digits and `_` stand in front.
-pub(crate) fn word_len(bytes: &[u8]) -> usize
+pub fn word_len(bytes: &[u8]) -> usize
     ensures value { result ≡ prefix_len is_word_byte bytes.now }
     ensures bound { result ≤ length bytes.now }
 {

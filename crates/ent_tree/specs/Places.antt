@@ -1,5 +1,6 @@
--- Trees with their places left aside: each place is 0, so that trees that say the same are equal.
-use Rattle.std.specs.Prelude.{List, map}
+-- Where values stand, and trees with their places left aside: each place is 0, so that trees that say the same are
+-- equal.
+use Rattle.std.specs.Prelude.{ℕ, List, map}
 use Rattle.std.specs.Option.{option_map}
 use Rattle.ent_tree.specs.declared.operand.Identifier.{Identifier}
 use Rattle.ent_tree.specs.declared.operand.Literal.{Literal}
@@ -30,6 +31,10 @@ use Rattle.ent_tree.specs.declared.statement.Set.{Set}
 use Rattle.ent_tree.specs.declared.script.Statement.{Statement}
 use Rattle.ent_tree.specs.declared.script.Statement.TheVariants as statements
 use Rattle.ent_tree.specs.declared.script.Script.{Script}
+
+abbrev pub value_place : ValueSpecification → ℕ
+value_place (specifications.Literal literal) = literal.place
+value_place (specifications.HostVariable variable) = variable.place
 
 abbrev pub unplaced_identifier : Identifier → Identifier
 unplaced_identifier identifier = record { name = identifier.name; place = 0 }

@@ -1,4 +1,7 @@
 //! Names, values and what is made of them.
+ghost use Rattle.std.specs.Prelude.{◌≡◌};
+ghost use Rattle.ent_tree.specs.Places.{value_place};
+
 use crate::boxed::Boxed;
 use crate::duplicate::Duplicate;
 use crate::same::Same;
@@ -25,6 +28,18 @@ pub struct Literal {
 pub enum ValueSpecification {
     Literal(Literal),
     HostVariable(Identifier),
+}
+
+impl ValueSpecification {
+    /// Where the value stands.
+    pub fn place(&self) -> usize
+        ensures { result ≡ value_place self.now }
+    {
+        match self {
+            ValueSpecification::Literal(literal) => literal.place,
+            ValueSpecification::HostVariable(variable) => variable.place,
+        }
+    }
 }
 
 /// `column`, or `qualifier.column`. The qualifier is the name or the alias of a source.

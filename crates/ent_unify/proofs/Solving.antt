@@ -6,12 +6,11 @@ use Rattle.std.proofs.lemmas.Bool.{and_parts, and_from, eqb-true, eq-eqb, cases_
 use Rattle.std.proofs.lemmas.List.{get_or_default}
 use Rattle.std.proofs.lemmas.List.Elements.{All-nil, All-cons, All-head, All-get_or}
 use Rattle.ent_value.specs.Value.{kind_of}
-use Rattle.ent_value.specs.declared.value.Kind.{Kind}
-use Rattle.ent_value.specs.declared.value.Kind.TheVariants as kinds
+use Rattle.ent_value.specs.Kinds.{equal_kinds, kind_itself}
 use Rattle.ent_unify.specs.declared.variable.Representative.{Representative}
 use Rattle.ent_unify.specs.declared.variable.Representative.TheVariants.{Constant, Variable}
 use Rattle.ent_unify.specs.declared.variable.Variable.{Variable as Variables}
-use Rattle.ent_unify.specs.Side.{Assignment, worth, side_kind, IsWithinBounds, same_kind, same_variable, Substitution}
+use Rattle.ent_unify.specs.Side.{Assignment, worth, side_kind, IsWithinBounds, same_variable, Substitution}
 use Rattle.ent_unify.specs.Side.{resolved, single}
 use Rattle.ent_unify.specs.Equation.{Sides, Holds, HasKinds, AreWithinBounds, resolved_both, Solves, AreRefuted}
 use Rattle.ent_unify.specs.Equation.{PutsSolution}
@@ -19,20 +18,10 @@ use Rattle.ent_unify.proofs.Places.{get_or-map}
 
 -- ---- a variable and itself
 
-same_kind-self : (k : Kind) → same_kind k k ≡ true
-same_kind-self kinds.Int = refl
-same_kind-self kinds.Text = refl
-
-same_kind-true : (j k : Kind) → same_kind j k ≡ true → j ≡ k
-same_kind-true kinds.Int kinds.Int h = refl
-same_kind-true kinds.Int kinds.Text h = cc
-same_kind-true kinds.Text kinds.Int h = cc
-same_kind-true kinds.Text kinds.Text h = refl
-
 pub same_variable-self : (x : Variables) → same_variable x x ≡ true
 same_variable-self x =
     and_from _ _ (eq-eqb x.member x.member refl)
-    (and_from _ _ (eq-eqb x.index x.index refl) (same_kind-self x.kind))
+    (and_from _ _ (eq-eqb x.index x.index refl) (kind_itself x.kind))
 
 pub same_variable-true : (x y : Variables) → same_variable x y ≡ true → x ≡ y
 same_variable-true x y h =
@@ -40,7 +29,7 @@ same_variable-true x y h =
     let rest : _ × _ = and_parts (x.index == y.index) _ parts.1 in
     let member = eqb-true x.member y.member parts.0 in
     let index = eqb-true x.index y.index rest.0 in
-    let kind = same_kind-true x.kind y.kind rest.1 in
+    let kind = equal_kinds x.kind y.kind rest.1 in
     λ i. record { member = member i; index = index i; kind = kind i }
 
 -- ---- what is put in the place of variables

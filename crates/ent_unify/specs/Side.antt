@@ -1,8 +1,8 @@
 -- Values and variables, and what they are worth under an assignment of values to variables.
-use Rattle.std.specs.Prelude.{◌==◌, ◌&&◌, Bool, true, false, if◌then◌else◌}
+use Rattle.std.specs.Prelude.{◌==◌, ◌&&◌, Bool, if◌then◌else◌}
+use Rattle.ent_value.specs.Kinds.{same_kind}
 use Rattle.ent_value.specs.Value.{kind_of}
 use Rattle.ent_value.specs.declared.value.Kind.{Kind}
-use Rattle.ent_value.specs.declared.value.Kind.TheVariants as kinds
 use Rattle.ent_value.specs.declared.value.Value.{Value}
 use Rattle.ent_semantics.specs.Kinds.{IsOfKind}
 use Rattle.ent_unify.specs.declared.side.Side.{Side}
@@ -32,12 +32,6 @@ side_kind (Variable x) = x.kind
 abbrev pub IsWithinBounds : Representative → Type 0
 IsWithinBounds (Constant value) = IsOfKind (kind_of value) value
 IsWithinBounds (Variable x) = Unit {0}
-
-abbrev pub same_kind : Kind → Kind → Bool
-same_kind kinds.Int kinds.Int = true
-same_kind kinds.Int kinds.Text = false
-same_kind kinds.Text kinds.Int = false
-same_kind kinds.Text kinds.Text = true
 
 abbrev pub same_variable : Variables → Variables → Bool
 same_variable x y = (x.member == y.member) && ((x.index == y.index) && same_kind x.kind y.kind)

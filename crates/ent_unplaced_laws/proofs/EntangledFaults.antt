@@ -17,11 +17,10 @@ use Rattle.ent_tree.specs.declared.operand.Test.{Test}
 use Rattle.ent_tree.specs.declared.select.Items.{Items}
 use Rattle.ent_tree.specs.declared.select.Items.TheVariants as items
 use Rattle.ent_tree.specs.declared.select.Select.{Select}
-use Rattle.ent_semantics.specs.Database.{Name}
+use Rattle.ent_semantics.specs.Database.{Name, is_among}
 use Rattle.ent_semantics.specs.Entangled.{term_variables}
 use Rattle.ent_form.specs.AllFaults.{View, faults_where, kinds_faults, repeated_names, value_kind}
 use Rattle.ent_form.specs.AllFaults.{values, operand_kind, view_of, select_faults}
-use Rattle.ent_form.specs.Catalogue.{is_among}
 use Rattle.ent_form.specs.Entangled.{noted, noted_terms, noted_items, term_place}
 use Rattle.ent_form.specs.EntangledFaults.{shown_kinds, select_kinds, demanding, demanding_all, demanding_unless}
 use Rattle.ent_form.specs.EntangledFaults.{demanded_from, member_faults, members_faults, membership_faults}

@@ -5,13 +5,13 @@ use Rattle.ent_value.specs.declared.value.Kind.{Kind}
 use Rattle.ent_tree.specs.Places.{unplaced_identifier}
 use Rattle.ent_tree.specs.declared.declaration.Create.{Create}
 use Rattle.ent_tree.specs.declared.operand.Identifier.{Identifier}
-use Rattle.ent_semantics.specs.Database.{Name}
 use Rattle.ent_form.specs.AllFaults.{faults_where, faults_at, unless_any, kinds_faults, repeated_names}
-use Rattle.ent_form.specs.Catalogue.{column_schema, table_schema, schemas_of, is_among}
 use Rattle.ent_form.specs.declared.catalogue.ColumnSchema.{ColumnSchema}
 use Rattle.ent_form.specs.declared.fault.FormFault.{FormFault}
 use Rattle.ent_form.specs.declared.fault.FormFault.TheVariants.{Repeated}
 use Rattle.ent_lists.specs.Elements.{map_joined}
+use Rattle.ent_semantics.specs.Database.{Name, is_among}
+use Rattle.ent_form.specs.Catalogue.{column_schema, table_schema, schemas_of}
 use Rattle.ent_unplaced_laws.specs.Faults.{unplaced_fault}
 use Rattle.ent_unplaced_laws.specs.Unplaced.{unplaced_create, unplaced_declared}
 use Rattle.ent_unplaced_laws.proofs.Through.{map_through}

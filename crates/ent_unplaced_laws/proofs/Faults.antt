@@ -19,14 +19,14 @@ use Rattle.ent_tree.specs.declared.statement.Delete.{Delete}
 use Rattle.ent_tree.specs.declared.statement.Insert.{Insert}
 use Rattle.ent_tree.specs.declared.statement.Set.{Set}
 use Rattle.ent_tree.specs.declared.statement.Update.{Update}
-use Rattle.ent_semantics.specs.Database.{Name}
+use Rattle.ent_semantics.specs.Database.{Name, is_among}
 use Rattle.ent_semantics.specs.Term.{source_name}
 use Rattle.ent_form.specs.AllFaults.{Terms, View, faults_where, unless_any, kinds_faults, values}
 use Rattle.ent_form.specs.AllFaults.{operands_over, wanted_faults, test_faults, expression_faults, expression_kind}
 use Rattle.ent_form.specs.AllFaults.{columns_there, view_of, sources_faults, items_faults, select_faults, values_faults}
 use Rattle.ent_form.specs.AllFaults.{insert_faults, table_view, delete_faults, assignment_faults, assignments_faults}
 use Rattle.ent_form.specs.AllFaults.{update_faults, set_faults}
-use Rattle.ent_form.specs.Catalogue.{table_named, column_named, is_among}
+use Rattle.ent_form.specs.Catalogue.{table_named, column_named}
 use Rattle.ent_form.specs.Kinds.{Bound}
 use Rattle.ent_form.specs.Lookup.{operand_place, expression_place}
 use Rattle.ent_form.specs.Scope.{source_place}

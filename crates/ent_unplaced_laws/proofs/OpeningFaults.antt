@@ -4,6 +4,7 @@ use Rattle.std.proofs.Common.{Option, Some, None}
 use Rattle.std.specs.Option.{option_map}
 use Rattle.std.proofs.lemmas.List.{length-map}
 use Rattle.ent_value.specs.Value.{kind_of}
+use Rattle.ent_value.specs.Kinds.{same_kind}
 use Rattle.ent_tree.specs.Places.{unplaced_identifier, unplaced_literal}
 use Rattle.ent_tree.specs.declared.declaration.Column.{Column}
 use Rattle.ent_tree.specs.declared.declaration.Create.{Create}
@@ -11,9 +12,8 @@ use Rattle.ent_tree.specs.declared.declaration.Opening.{Opening}
 use Rattle.ent_tree.specs.declared.declaration.OpeningRow.{OpeningRow}
 use Rattle.ent_tree.specs.declared.operand.Identifier.{Identifier}
 use Rattle.ent_tree.specs.declared.operand.Literal.{Literal}
-use Rattle.ent_semantics.specs.Database.{Name}
-use Rattle.ent_form.specs.Catalogue.{schemas_of, table_named, is_among}
-use Rattle.ent_form.specs.Kinds.{same_kind}
+use Rattle.ent_semantics.specs.Database.{Name, is_among}
+use Rattle.ent_form.specs.Catalogue.{schemas_of, table_named}
 use Rattle.ent_form.specs.OpeningFault.{Check, ◌before◌, refused_where, first_of, repeated, declarations_fault}
 use Rattle.ent_form.specs.OpeningFault.{where_there, literals_fault, row_fault, opening_row_fault, opening_fault}
 use Rattle.ent_form.specs.declared.catalogue.ColumnSchema.{ColumnSchema}

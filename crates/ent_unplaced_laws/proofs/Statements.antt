@@ -13,14 +13,13 @@ use Rattle.ent_tree.specs.declared.script.Statement.TheVariants as statements
 use Rattle.ent_tree.specs.declared.select.Select.{Select}
 use Rattle.ent_tree.specs.declared.statement.Assignment.{Assignment}
 use Rattle.ent_semantics.specs.Change.{all_there, assigned_value, assigned_values, image}
-use Rattle.ent_semantics.specs.Database.{Name, Rows, Database, Environment, same_name, table_named}
+use Rattle.ent_semantics.specs.Database.{Name, Rows, Database, Environment, same_name, table_named, is_among}
 use Rattle.ent_semantics.specs.Effect.{insertion, deletion, replacement, setting, shown, heads_given}
 use Rattle.ent_semantics.specs.Entangled.{Valuation}
 use Rattle.ent_semantics.specs.Selection.{meets}
 use Rattle.ent_semantics.specs.Statement.{table_worth, statement_meaning}
 use Rattle.ent_semantics.specs.Term.{SourceColumn, Worth, table_columns, operand_value, known_value}
 use Rattle.ent_semantics.specs.Uses.{select_tables, condition_tables, shared_tables, exclusive_tables, uses, changes}
-use Rattle.ent_semantics.specs.Uses.{is_among}
 use Rattle.ent_unplaced_laws.specs.Unplaced.{unplaced_create}
 use Rattle.ent_unplaced_laws.proofs.Through.{map_through, flat_through}
 use Rattle.ent_unplaced_laws.proofs.Terms.{table_columns_same, known_same, operand_same, expression_same, meets_same}

@@ -5,7 +5,7 @@ use Rattle.std.specs.Option.{option_map}
 use Rattle.ent_value.specs.declared.value.Kind.{Kind}
 use Rattle.ent_value.specs.declared.value.Kind.TheVariants as kinds
 use Rattle.ent_tree.specs.Places.{unplaced_identifier, unplaced_specification, unplaced_column, unplaced_operand}
-use Rattle.ent_tree.specs.Places.{unplaced_expression, unplaced_test}
+use Rattle.ent_tree.specs.Places.{unplaced_expression, unplaced_test, value_place}
 use Rattle.ent_tree.specs.declared.operand.ColumnReference.{ColumnReference}
 use Rattle.ent_tree.specs.declared.operand.Expression.{Expression}
 use Rattle.ent_tree.specs.declared.operand.Expression.TheVariants.{Single, Sum, Difference}
@@ -15,13 +15,13 @@ use Rattle.ent_tree.specs.declared.operand.Operand.TheVariants as operands
 use Rattle.ent_tree.specs.declared.operand.Test.{Test}
 use Rattle.ent_tree.specs.declared.operand.ValueSpecification.{ValueSpecification}
 use Rattle.ent_tree.specs.declared.operand.ValueSpecification.TheVariants as specifications
+use Rattle.ent_semantics.specs.Database.{is_among}
 use Rattle.ent_form.specs.AllFaults.{Terms, View, kinds_faults, value_kind, value_faults, values, columns_meant}
 use Rattle.ent_form.specs.AllFaults.{meant_faults, qualifier_faults, reference_faults, operand_kind, operand_faults}
 use Rattle.ent_form.specs.AllFaults.{only_kind}
 use Rattle.ent_form.specs.AllFaults.{operands_over, wanted_faults, test_faults, expression_faults, expression_kind}
-use Rattle.ent_form.specs.Catalogue.{is_among}
 use Rattle.ent_form.specs.Kinds.{Bound}
-use Rattle.ent_form.specs.Lookup.{reference_place, operand_place, value_place, expression_place}
+use Rattle.ent_form.specs.Lookup.{reference_place, operand_place, expression_place}
 use Rattle.ent_form.specs.Scope.{Visible}
 use Rattle.ent_form.specs.declared.fault.FormFault.{FormFault}
 use Rattle.ent_form.specs.declared.fault.FormFault.TheVariants.{NoTable, WrongKind, NoHostVariable}

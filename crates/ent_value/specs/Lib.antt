@@ -5,3 +5,4 @@ pub mod Print
 pub mod Refusal
 pub mod Watched
 pub mod Ticks
+pub mod Kinds

@@ -17,7 +17,8 @@ use Rattle.ent_lists.specs.Elements.{contains_in, in_contains}
 use Rattle.ent_components.proofs.Numbered.{same_member}
 use Rattle.ent_protocol.specs.PostedBy.{in_pool}
 use Rattle.ent_protocol.specs.State.{State, Member}
-use Rattle.ent_waits.specs.Movers.{IsNotPosting, OnlyPostedAsk}
+use Rattle.ent_components.specs.Part.{HasNoneOf}
+use Rattle.ent_waits.specs.Movers.{OnlyPostedAsk}
 use Rattle.ent_waits.proofs.Smallest.{contains_none}
 
 -- ---- lists
@@ -55,7 +56,7 @@ only_posted_ask s ascends member active unposted query there own =
 
 -- ---- one statement more
 
-pub has_none : (posted : List Posted) (query : Posted) (tx : ℕ) → query.tx ≡ tx → IsNotPosting posted tx
+pub has_none : (posted : List Posted) (query : Posted) (tx : ℕ) → query.tx ≡ tx → HasNoneOf posted tx
     → HasNone posted query
 has_none posted query tx is none other there same = none other there (same ∙ is)
 

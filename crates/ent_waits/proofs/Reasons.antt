@@ -1,13 +1,13 @@
 -- Why a run can't end yet.
 use Rattle.std.proofs.Common.{◌≡◌, ℕ, List, Option, Some, None, subst}
 use Rattle.std.specs.Prelude.{MatchOption}
+use Rattle.ent_lock.specs.Use.{IsLeast, IsLeastIfAny}
 use Rattle.ent_coordination.specs.Pool.{IsSafe, Posted}
 use Rattle.ent_match.specs.Fault.{IsByNumber}
+use Rattle.ent_protocol.specs.Quiet.{CanMove, NoneIs}
 use Rattle.ent_pool_laws.specs.Pooled.{IsPoolOf}
 use Rattle.ent_protocol.specs.Member.{pool}
-use Rattle.ent_protocol.specs.Quiet.{CanMove, IsLeast, NoneIs}
 use Rattle.ent_protocol.specs.State.{State, Member, Submitted}
-use Rattle.ent_waits.specs.Least.{LeastIfAny}
 use Rattle.ent_waits.specs.Movers.{HasMoverIn, OnlyPostedAsk}
 use Rattle.ent_waits.specs.Quiet.{AreInOrder}
 use Rattle.ent_waits.proofs.WouldMove.{can_move, has_mover}
@@ -34,17 +34,17 @@ module _ (submitted : List Submitted) (active : List Member) (posted : List Post
 
 -- of all members that aren't prepared
 pub least_of_all : (s : State) (members : List Member) (least : Option ℕ) → members ≡ s.active
-    → LeastIfAny (HasMoverIn s members) least → LeastIfAny (CanMove s) least
+    → IsLeastIfAny (HasMoverIn s members) least → IsLeastIfAny (CanMove s) least
 least_of_all s members least all is =
     least_same (HasMoverIn s s.active) (CanMove s) (can_move s) (has_mover s) least
-    (subst (λ (those : List Member). LeastIfAny (HasMoverIn s those) least) all is)
+    (subst (λ (those : List Member). IsLeastIfAny (HasMoverIn s those) least) all is)
 
-pub is_least : (P : ℕ → Type 0) (least : Option ℕ) (tx : ℕ) → least ≡ Some tx → LeastIfAny P least → IsLeast P tx
-is_least P least tx is found = subst (LeastIfAny P) is found
+pub is_least : (P : ℕ → Type 0) (least : Option ℕ) (tx : ℕ) → least ≡ Some tx → IsLeastIfAny P least → IsLeast P tx
+is_least P least tx is found = subst (IsLeastIfAny P) is found
 
-pub is_none : (P : ℕ → Type 0) (least : Option ℕ) → least ≡ None → LeastIfAny P least → NoneIs P
-is_none P least is found = subst (LeastIfAny P) is found
+pub is_none : (P : ℕ → Type 0) (least : Option ℕ) → least ≡ None → IsLeastIfAny P least → NoneIs P
+is_none P least is found = subst (IsLeastIfAny P) is found
 
-pub least_if_any : (P : ℕ → Type 0) (least : Option ℕ) → MatchOption least (NoneIs P) (IsLeast P) → LeastIfAny P least
+pub least_if_any : (P : ℕ → Type 0) (least : Option ℕ) → MatchOption least (NoneIs P) (IsLeast P) → IsLeastIfAny P least
 least_if_any P None none = none
 least_if_any P (Some tx) found = found

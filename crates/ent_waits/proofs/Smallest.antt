@@ -5,7 +5,7 @@ use Rattle.std.specs.Prelude.{Contains, min, nat_lt}
 use Rattle.std.proofs.lemmas.Bool.{ltb-true, ltb-false}
 use Rattle.std.proofs.lemmas.List.Elements.{Contains-append_right}
 use Rattle.ent_lock.specs.Holders.{lesser}
-use Rattle.ent_waits.specs.Least.{LeastIfAny}
+use Rattle.ent_lock.specs.Use.{IsLeastIfAny}
 
 below_or : (i j : ℕ) → (i < j) ⊎ (j ≤ i)
 below_or i j =
@@ -14,7 +14,7 @@ below_or i j =
 
 -- what holds of the one or of the other
 both_least : (P Q R : ℕ → Type 0) → ((n : ℕ) → R n → P n ⊎ Q n) → ((n : ℕ) → P n → R n) → ((n : ℕ) → Q n → R n)
-    → (a b : Option ℕ) → LeastIfAny P a → LeastIfAny Q b → LeastIfAny R (lesser a b)
+    → (a b : Option ℕ) → IsLeastIfAny P a → IsLeastIfAny Q b → IsLeastIfAny R (lesser a b)
 both_least P Q R split left right None None neither none = λ n r. by_cases n (split n r)
   where
     by_cases : (n : ℕ) → P n ⊎ Q n → ⊥
@@ -44,7 +44,7 @@ both_least P Q R split left right (Some x) (Some y) (is, least) (is_too, least_t
     by_cases n (inr q) = let h = least_too n q in omega (arith, h)
 
 pub least_same : (P Q : ℕ → Type 0) → ((n : ℕ) → P n → Q n) → ((n : ℕ) → Q n → P n) → (o : Option ℕ)
-    → LeastIfAny P o → LeastIfAny Q o
+    → IsLeastIfAny P o → IsLeastIfAny Q o
 least_same P Q to back None none = λ n q. none n (back n q)
 least_same P Q to back (Some x) (is, least) = (to x is, λ n q. least n (back n q))
 
@@ -60,11 +60,11 @@ module _ {X : Type 0} where
   abbrev pub HoldsIn : (X → ℕ → Type 0) → List X → ℕ → Type 0
   HoldsIn P xs n = (x : X) × Contains xs x × P x n
 
-  pub least_nil : (P : X → ℕ → Type 0) → LeastIfAny (HoldsIn P []) None
+  pub least_nil : (P : X → ℕ → Type 0) → IsLeastIfAny (HoldsIn P []) None
   least_nil P = λ n h. contains_none h.0 h.1
 
-  pub least_cons : (P : X → ℕ → Type 0) (x : X) (xs : List X) (a b : Option ℕ) → LeastIfAny (P x) a
-      → LeastIfAny (HoldsIn P xs) b → LeastIfAny (HoldsIn P (x ∷ xs)) (lesser a b)
+  pub least_cons : (P : X → ℕ → Type 0) (x : X) (xs : List X) (a b : Option ℕ) → IsLeastIfAny (P x) a
+      → IsLeastIfAny (HoldsIn P xs) b → IsLeastIfAny (HoldsIn P (x ∷ xs)) (lesser a b)
   least_cons P x xs a b own later =
       both_least (P x) (HoldsIn P xs) (HoldsIn P (x ∷ xs)) (λ n h. split n h.0 h.2 (contains_cases x h.0 xs h.1))
       (λ n p. (x, (0, omega arith, refl), p))

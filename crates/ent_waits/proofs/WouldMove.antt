@@ -1,9 +1,9 @@
 -- Who would move, in the words of the protocol.
 use Rattle.std.proofs.Common.{◌≡◌, ◌||◌, ℕ, Bool, true, false, Some, refl, sym, subst, arith}
+use Rattle.ent_lock.specs.Use.{IsLeastIfAny}
 use Rattle.ent_protocol.specs.Member.{is_lent, next_of}
 use Rattle.ent_protocol.specs.Quiet.{CanMove, MovesBy}
 use Rattle.ent_protocol.specs.State.{State, Member}
-use Rattle.ent_waits.specs.Least.{LeastIfAny}
 use Rattle.ent_waits.specs.Movers.{HasMoverIn, IsMover}
 use Rattle.ent_waits.specs.Free.{IsIdle}
 
@@ -13,7 +13,7 @@ idle_is_unposted false lent idle = refl
 
 -- a member that would move is the least of itself
 pub mover : (s : State) (member : Member) (tx : ℕ) → tx ≡ member.tx → IsIdle s member
-    → MovesBy s member (next_of s member) → LeastIfAny (IsMover s member) (Some tx)
+    → MovesBy s member (next_of s member) → IsLeastIfAny (IsMover s member) (Some tx)
 mover s member tx is idle moves =
     (record { own = sym is; idle = idle; moves = moves }, λ other m. let own = m.own in omega (arith, is, own))
 

@@ -2,7 +2,6 @@ pub mod Waits
 pub mod Rows
 pub mod Free
 pub mod Victim
-pub mod Least
 pub mod Jobs
 pub mod Movers
 pub mod Quiet

@@ -1,5 +1,6 @@
 //! Whose jobs are out.
 ghost use Rattle.std.specs.Prelude.{◌≡◌, IfOk};
+ghost use Rattle.ent_lock.specs.Use.{IsLeastIfAny};
 ghost use Rattle.ent_coordination.specs.Pool.{IsSafe};
 ghost use Rattle.ent_match.specs.Fault.{IsByNumber};
 ghost use Rattle.ent_protocol.specs.Member.{pool};
@@ -7,7 +8,6 @@ ghost use Rattle.ent_protocol.specs.Quiet.{HasJobOut};
 ghost use Rattle.ent_protocol.specs.State.{State};
 ghost use Rattle.ent_job.specs.Work.{work_seen};
 ghost use Rattle.ent_waits.specs.Jobs.{HasPostedQuery, HasJobIn, IsWorkOf};
-ghost use Rattle.ent_waits.specs.Least.{LeastIfAny};
 
 use ent_components::is_present;
 use ent_group::Tx;
@@ -18,7 +18,7 @@ use std::alloc::{AllocError, Global};
 
 /// The least transaction of some statements.
 fn least_of(asked: &[Posted]) -> Option<Tx>
-    ensures { LeastIfAny (HasPostedQuery asked.now) result }
+    ensures { IsLeastIfAny (HasPostedQuery asked.now) result }
 {
     let Some((first, rest)) = asked.split_first() else {
         return None;
@@ -32,7 +32,7 @@ fn least_at(alloc: Global, posted: &[Posted], work: &Work) -> Result<Option<Tx>,
     requires safe { IsSafe posted.now }
     ensures { IfOk result (λ least. (s : State)
         → pool s ≡ posted.now
-        → LeastIfAny (IsWorkOf s (work_seen work.now)) least) }
+        → IsLeastIfAny (IsWorkOf s (work_seen work.now)) least) }
 {
     match work {
         Work::One(single) => Ok(Some(single.tx())),
@@ -50,7 +50,7 @@ fn least_at(alloc: Global, posted: &[Posted], work: &Work) -> Result<Option<Tx>,
 fn least_out(alloc: Global, posted: &[Posted], lent: &[Job]) -> Result<Option<Tx>, AllocError>
     requires by_number { IsByNumber posted.now }
     requires safe { IsSafe posted.now }
-    ensures { IfOk result (λ least. (s : State) → pool s ≡ posted.now → LeastIfAny (HasJobIn s lent.now) least) }
+    ensures { IfOk result (λ least. (s : State) → pool s ≡ posted.now → IsLeastIfAny (HasJobIn s lent.now) least) }
 {
     let Some((job, rest)) = lent.split_first() else {
         return Ok(None);
@@ -68,7 +68,7 @@ pub fn job_out(alloc: Global, posted: &[Posted], lent: &[Job]) -> Result<Option<
     ensures { IfOk result (λ least. (s : State)
         → pool s ≡ posted.now
         → s.lent ≡ lent.now
-        → LeastIfAny (HasJobOut s) least) }
+        → IsLeastIfAny (HasJobOut s) least) }
 {
     let least = least_out(alloc, posted, lent)?;
     Ok(least)

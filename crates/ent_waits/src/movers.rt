@@ -1,15 +1,16 @@
 //! Who would move.
 ghost use Rattle.std.specs.Prelude.{◌≡◌, ◌∷◌, ◌↔◌, [], IfOk, IsTrue};
 ghost use Rattle.ent_value.specs.declared.value.Value.{Value};
+ghost use Rattle.ent_lock.specs.Use.{IsLeastIfAny};
 ghost use Rattle.ent_closed.specs.declared.entangled.Entangled.{Entangled};
 ghost use Rattle.ent_coordination.specs.Pool.{IsSafe};
 ghost use Rattle.ent_match.specs.Fault.{IsByNumber};
 ghost use Rattle.ent_protocol.specs.Begin.{pool_with};
 ghost use Rattle.ent_protocol.specs.Member.{Asks, next_of, pool};
 ghost use Rattle.ent_protocol.specs.State.{State};
+ghost use Rattle.ent_components.specs.Part.{HasNoneOf};
 ghost use Rattle.ent_waits.specs.Waits.{state_with};
-ghost use Rattle.ent_waits.specs.Least.{LeastIfAny};
-ghost use Rattle.ent_waits.specs.Movers.{HasMoverIn, IsMover, IsNotPosting, OnlyPostedAsk};
+ghost use Rattle.ent_waits.specs.Movers.{HasMoverIn, IsMover, OnlyPostedAsk};
 
 use crate::free::{is_free, is_posting};
 use ent_components::post_fault;
@@ -30,7 +31,7 @@ fn stays_safe(
 ) -> Result<bool, AllocError>
     requires by_number { IsByNumber posted.now }
     requires safe { IsSafe posted.now }
-    requires none { IsNotPosting posted.now member.now.tx }
+    requires none { HasNoneOf posted.now member.now.tx }
     ensures { IfOk result (λ safe. (s : State) (statement : Entangled Value)
         → s.submitted ≡ submitted.now
         → pool s ≡ posted.now
@@ -62,7 +63,7 @@ fn mover_of(
     requires apart { OnlyPostedAsk posted.now (member.now ∷ []) }
     ensures { IfOk result (λ mover. (s : State)
         → pool (state_with run.now submitted.now lent.now s) ≡ posted.now
-        → LeastIfAny (IsMover (state_with run.now submitted.now lent.now s) member.now) mover) }
+        → IsLeastIfAny (IsMover (state_with run.now submitted.now lent.now s) member.now) mover) }
 {
     if !is_free(run, submitted, lent, member) {
         return Ok(None);
@@ -91,7 +92,7 @@ pub(crate) fn least_mover(
     requires apart { OnlyPostedAsk posted.now members.now }
     ensures { IfOk result (λ least. (s : State)
         → pool (state_with run.now submitted.now lent.now s) ≡ posted.now
-        → LeastIfAny (HasMoverIn (state_with run.now submitted.now lent.now s) members.now) least) }
+        → IsLeastIfAny (HasMoverIn (state_with run.now submitted.now lent.now s) members.now) least) }
 {
     let Some((member, rest)) = members.split_first() else {
         return Ok(None);

@@ -1,5 +1,5 @@
 use Rattle.std.proofs.Common.{◌≡◌, ◌+◌, ◌<◌, ◌^◌, length, take, sum_by}
-use Rattle.ent_history.specs.Text.{rows_under}
+use Rattle.ent_semantics.specs.Database.{rows_named}
 use Rattle.ent_check.proofs.line.opening_lines.Given as goal
 
 -- the lines of the tables so far
@@ -7,5 +7,5 @@ abbrev pub invariant-loop-create : goal.invariant-loop-create
 invariant-loop-create l = record {
   fits : l.lines < 2 ^ 64;
   so_far : l.lines
-      ≡ sum_by (λ create. 1 + length (rows_under l.opening create.name.name)) (take l.create-index l.opening.tables);
+      ≡ sum_by (λ create. 1 + length (rows_named l.opening create.name.name)) (take l.create-index l.opening.tables);
 }

@@ -1,6 +1,7 @@
 use Rattle.std.proofs.Common.{[], List, Option, sym, ap, subst, ◌∙◌}
+use Rattle.ent_lock.specs.Use.{IsLeast}
 use Rattle.ent_coordination.specs.Pool.{Posted, first_tx}
-use Rattle.ent_protocol.specs.Quiet.{IsLeast, IsUntried}
+use Rattle.ent_protocol.specs.Quiet.{IsUntried}
 use Rattle.ent_components.specs.Component.{IsPick}
 use Rattle.ent_components.proofs.Picked.{least_untried, no_untried}
 use Rattle.ent_components.proofs.picking.first_untried.Goals as goal

@@ -15,26 +15,26 @@ returns-then-is_posted-clause-refused c =
     refused_out now c.args.tx member there
     (ap (λ (b : Bool). b || is_lent now c.args.tx) (sym c.is_posted.ensures ∙ c.if-is_posted.true))
 
-pub returns-then-is_out-clause-refused : goal.returns-then-is_out-clause-refused
-returns-then-is_out-clause-refused c =
+pub returns-then-is_lent-clause-refused : goal.returns-then-is_lent-clause-refused
+returns-then-is_lent-clause-refused c =
     let s : State = the_view c.store.inside in
     let now = c.args.store.now in
     let member = c.in-Some.member.now in
     let there = ap (λ (x : State). active_member x c.args.tx) (sym c.store.view_is) ∙ sym (c.in-Some.ensures s) in
     refused_out now c.args.tx member there (either member.posted (is_lent now c.args.tx)
     (ap (λ (x : State). is_lent x c.args.tx) (sym c.store.view_is)
-    ∙ sym (c.is_out.ensures.state s refl) ∙ c.if-is_out.true))
+    ∙ sym (c.is_lent.ensures.state s refl) ∙ c.if-is_lent.true))
 
-pub returns-else-is_out-clause-number : goal.returns-else-is_out-clause-number
-returns-else-is_out-clause-number c =
+pub returns-else-is_lent-clause-number : goal.returns-else-is_lent-clause-number
+returns-else-is_lent-clause-number c =
     let s : State = the_view c.store.inside in
     let now = c.args.store.now in
     let member = c.in-Some.member.now in
     number_found c.args.tx now.active member
     (ap (λ (x : State). active_member x c.args.tx) (sym c.store.view_is) ∙ sym (c.in-Some.ensures s))
 
-pub returns-else-is_out-clause-free : goal.returns-else-is_out-clause-free
-returns-else-is_out-clause-free c =
+pub returns-else-is_lent-clause-free : goal.returns-else-is_lent-clause-free
+returns-else-is_lent-clause-free c =
     let s : State = the_view c.store.inside in
     let now = c.args.store.now in
     let member = c.in-Some.member.now in
@@ -42,7 +42,7 @@ returns-else-is_out-clause-free c =
       there = ap (λ (x : State). active_member x c.args.tx) (sym c.store.view_is) ∙ sym (c.in-Some.ensures s);
       free = neither member.posted (is_lent now c.args.tx) (sym c.is_posted.ensures ∙ c.if-is_posted.false)
           (ap (λ (x : State). is_lent x c.args.tx) (sym c.store.view_is)
-          ∙ sym (c.is_out.ensures.state s refl) ∙ c.if-is_out.false);
+          ∙ sym (c.is_lent.ensures.state s refl) ∙ c.if-is_lent.false);
       is_next = refl;
     }
 

@@ -1,5 +1,5 @@
 use Rattle.std.proofs.Common.{◌≡◌, map, drop}
-use Rattle.ent_form.specs.Catalogue.{is_among}
+use Rattle.ent_semantics.specs.Database.{is_among}
 use Rattle.ent_form.proofs.entangled.is_bound.Given as goal
 
 -- the name is looked for among the rest

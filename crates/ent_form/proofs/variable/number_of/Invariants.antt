@@ -1,5 +1,5 @@
 use Rattle.std.proofs.Common.{◌≡◌, ◌+◌, map, drop}
-use Rattle.ent_form.specs.Entangled.{index_of}
+use Rattle.ent_semantics.specs.Database.{index_of}
 use Rattle.ent_form.proofs.variable.number_of.Given as goal
 
 -- the name is looked for among the rest

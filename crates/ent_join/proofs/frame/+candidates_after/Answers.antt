@@ -1,7 +1,8 @@
 use Rattle.std.proofs.Common.{◌-◌, ◌<◌, length, take, drop, ◌∙◌, sym, subst, arith}
 use Rattle.std.specs.List.{AllByRecursion}
+use Rattle.ent_match.specs.Links.{IsMarked}
 use Rattle.ent_join.specs.Index.{candidates_in}
-use Rattle.ent_join.specs.Reason.{IsFollowedFor, IsMarked}
+use Rattle.ent_join.specs.Reason.{IsFollowedFor}
 use Rattle.ent_join.proofs.Read.{index_followed}
 use Rattle.ent_join.proofs.Walked.{first_and_others}
 use Rattle.ent_join.proofs.frame.+candidates_after.Goals as goal

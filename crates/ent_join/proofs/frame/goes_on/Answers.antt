@@ -1,6 +1,6 @@
 use Rattle.std.proofs.Common.{◌<◌, ◌∙◌, sym, subst, arith}
 use Rattle.std.specs.List.{AllByRecursion}
-use Rattle.ent_join.specs.Reason.{IsMarked}
+use Rattle.ent_match.specs.Links.{IsMarked}
 use Rattle.ent_join.proofs.Read.{index_refuses, index_unread, none_there}
 use Rattle.ent_join.proofs.frame.goes_on.Goals as goal
 

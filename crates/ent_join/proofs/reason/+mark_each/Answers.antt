@@ -1,7 +1,7 @@
 use Rattle.std.proofs.Common.{ℕ, ◌-◌, ◌<◌, ◌≤◌, List, [], ◌∷◌, length, take, drop, get_or, subst, arith}
 use Rattle.std.proofs.lemmas.List.{take_all}
 use Rattle.std.specs.List.{AllByRecursion}
-use Rattle.ent_join.specs.Reason.{IsMarked}
+use Rattle.ent_match.specs.Links.{IsMarked}
 use Rattle.ent_join.proofs.reason.+mark_each.Goals as goal
 
 of_first : (P : ℕ → Type 0) (places : List ℕ) → 1 ≤ length places → P (get_or places 0 0)

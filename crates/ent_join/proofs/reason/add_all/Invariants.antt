@@ -1,5 +1,6 @@
 use Rattle.std.proofs.Common.{ℕ, ◌<◌}
-use Rattle.ent_join.specs.Reason.{AreMarkedIn, IsMarked}
+use Rattle.ent_match.specs.Links.{IsMarked}
+use Rattle.ent_join.specs.Reason.{AreMarkedIn}
 use Rattle.ent_join.proofs.reason.add_all.Given as goal
 
 abbrev pub invariant-loop-place : goal.invariant-loop-place

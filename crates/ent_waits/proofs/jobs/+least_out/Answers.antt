@@ -1,7 +1,7 @@
 use Rattle.std.proofs.Common.{◌≡◌, ℕ, List, ◌∷◌, Option, sym, subst}
+use Rattle.ent_lock.specs.Use.{IsLeastIfAny}
 use Rattle.ent_protocol.specs.Job.{Job, Work}
 use Rattle.ent_waits.specs.Jobs.{HasJobIn, IsWorkOf}
-use Rattle.ent_waits.specs.Least.{LeastIfAny}
 use Rattle.ent_waits.proofs.Smallest.{least_cons}
 use Rattle.ent_waits.proofs.jobs.+least_out.Goals as goal
 
@@ -13,8 +13,8 @@ returns t c = λ s same.
     let later = c.in_ok-later.later in
     let whole : c.args.lent.now ≡ job ∷ rest =
     c.in-Some.ensures.cases.0 in
-    let first = subst (λ (work : Work). LeastIfAny (IsWorkOf s work) own) c.work.ensures.work
+    let first = subst (λ (work : Work). IsLeastIfAny (IsWorkOf s work) own) c.work.ensures.work
     (c.in_ok-own.ensures s same) in
-    subst (λ (lent : List Job). LeastIfAny (HasJobIn s lent) c.lesser.result) (sym whole)
-    (subst (λ (least : Option ℕ). LeastIfAny (HasJobIn s (job ∷ rest)) least) (sym c.lesser.ensures)
+    subst (λ (lent : List Job). IsLeastIfAny (HasJobIn s lent) c.lesser.result) (sym whole)
+    (subst (λ (least : Option ℕ). IsLeastIfAny (HasJobIn s (job ∷ rest)) least) (sym c.lesser.ensures)
     (least_cons (λ (one : Job) tx. IsWorkOf s one.work tx) job rest own later first (c.in_ok-later.ensures s same)))

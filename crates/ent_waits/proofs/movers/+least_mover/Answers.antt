@@ -1,7 +1,7 @@
 use Rattle.std.proofs.Common.{◌≡◌, ℕ, List, ◌∷◌, Option, sym, subst, arith, length, ap}
+use Rattle.ent_lock.specs.Use.{IsLeastIfAny}
 use Rattle.ent_protocol.specs.State.{Member}
 use Rattle.ent_waits.specs.Waits.{state_with}
-use Rattle.ent_waits.specs.Least.{LeastIfAny}
 use Rattle.ent_waits.specs.Movers.{HasMoverIn, IsMover, OnlyPostedAsk}
 use Rattle.ent_waits.proofs.Posting.{first_asks, rest_ask}
 use Rattle.ent_waits.proofs.Smallest.{least_cons}
@@ -40,7 +40,7 @@ returns t c = λ s same.
     let later = c.in_ok-later.later in
     let whole : c.args.members.now ≡ first ∷ rest =
     c.in-Some.ensures.cases.0 in
-    subst (λ (members : List Member). LeastIfAny (HasMoverIn here members) c.lesser.result) (sym whole)
-    (subst (λ (least : Option ℕ). LeastIfAny (HasMoverIn here (first ∷ rest)) least) (sym c.lesser.ensures)
+    subst (λ (members : List Member). IsLeastIfAny (HasMoverIn here members) c.lesser.result) (sym whole)
+    (subst (λ (least : Option ℕ). IsLeastIfAny (HasMoverIn here (first ∷ rest)) least) (sym c.lesser.ensures)
     (least_cons (λ (one : Member) tx. IsMover here one tx) first rest own later (c.in_ok-own.ensures s same)
     (c.in_ok-later.ensures s same)))
