@@ -66,26 +66,18 @@ impl Closing for Statement<Known> {
                 table,
                 image,
                 tests,
-            } => {
-                let image = closed_sequence(alloc, environment, image)?;
-                let tests = closed_list(alloc, environment, tests)?;
-                Ok(Statement::Update {
-                    table: *table,
-                    image,
-                    tests,
-                })
-            }
+            } => Ok(Statement::Update {
+                table: *table,
+                image: closed_sequence(alloc, environment, image)?,
+                tests: closed_list(alloc, environment, tests)?,
+            }),
             Statement::Set {
                 variable,
                 expression,
-            } => {
-                let variable = variable.copy(alloc)?;
-                let expression = expression.closed(alloc, environment)?;
-                Ok(Statement::Set {
-                    variable,
-                    expression,
-                })
-            }
+            } => Ok(Statement::Set {
+                variable: variable.copy(alloc)?,
+                expression: expression.closed(alloc, environment)?,
+            }),
         }
     }
 }

@@ -190,6 +190,5 @@ pub(crate) fn index_of(
     let own = tests_of(alloc, tests, columns)?;
     let classes = classes_of(alloc, columns)?;
     let keys = ascending(keys_under(alloc, own.as_slice(), columns, classes.as_slice(), rows)?)?;
-    let index = Index::new(alloc, Sequence::from_vec(classes), Sequence::from_vec(keys))?;
-    Ok(index)
+    Index::new(alloc, Sequence::from_vec(classes), Sequence::from_vec(keys))
 }

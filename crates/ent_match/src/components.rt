@@ -96,8 +96,7 @@ fn components_from(
 {
     mark_all(links, removed);
     let joins = joins_of(alloc, links, removed)?;
-    let classes = classes_of(alloc, members, joins.as_slice(), removed)?;
-    Ok(classes)
+    classes_of(alloc, members, joins.as_slice(), removed)
 }
 
 /// The components of a pool.
@@ -111,6 +110,5 @@ pub(crate) fn components_of(
     ensures by_first { IfOk result (λ lists. AscendByFirst lists.items) }
 {
     let Offers { links, mut removed } = links_of(alloc, members)?;
-    let components = components_from(alloc, members, links.as_slice(), removed.as_mut_slice())?;
-    Ok(components)
+    components_from(alloc, members, links.as_slice(), removed.as_mut_slice())
 }

@@ -40,7 +40,7 @@ impl Key {
     }
 
     /// The key of one value.
-    pub fn of_value(alloc: Global, value: &Value) -> Result<Self, AllocError>
+    pub(crate) fn of_value(alloc: Global, value: &Value) -> Result<Self, AllocError>
         ensures key { IfOk result (λ key. key ≡ value_key value.now) }
         ensures stored { IfOk result (λ key. IsStorable value.now) }
     {

@@ -30,5 +30,4 @@ pub use laws::{first_values_are_fronts, keys_are_in_order, values_are_in_order};
 pub use page::Page;
 pub use pages::PAGE_LIMIT;
 pub use probe::Probe;
-pub use reading::decode;
 pub use stored_row::StoredRow;

@@ -44,8 +44,7 @@ pub(crate) fn changed_pages(
         added = later;
     }
     push_all(alloc, &mut out, added)?;
-    let pages = out.finish(alloc)?;
-    Ok(pages)
+    out.finish(alloc)
 }
 
 /// The keys that are below the first of a page, and the others. All are below a page that isn't there.

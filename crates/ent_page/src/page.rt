@@ -173,9 +173,9 @@ fn start_at(ends: &[usize], index: usize) -> usize
 
 /// What stands between the place before and the one at an index.
 fn piece<'a>(bytes: &'a [u8], ends: &[usize], index: usize) -> &'a [u8]
-    requires index { index < length ends.now }
+    requires within { index < length ends.now }
     requires order { start_of 0 ends.now index ≤ get_or ends.now index 0 }
-    requires within { get_or ends.now index 0 ≤ length bytes.now }
+    requires end_within { get_or ends.now index 0 ≤ length bytes.now }
     ensures { result.now ≡ between (start_of 0 ends.now index) (get_or ends.now index 0) bytes.now }
 {
     &bytes[start_at(ends, index)..ends[index]]

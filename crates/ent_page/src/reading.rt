@@ -9,7 +9,7 @@ use ent_value::{Kind, Row, Text, Value};
 use std::alloc::{AllocError, Global};
 
 /// The row of these kinds that has this key. Bytes that are no key of these kinds give some row.
-pub fn decode(alloc: Global, kinds: &[Kind], key: &[u8]) -> Result<Row, AllocError>
+pub(crate) fn decode(alloc: Global, kinds: &[Kind], key: &[u8]) -> Result<Row, AllocError>
     ensures { IfOk result (λ row. row ≡ row_from kinds.now key.now) }
 {
     Ok(Row::from_vec(read_values(alloc, kinds, key)?))

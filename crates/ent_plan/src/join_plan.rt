@@ -98,8 +98,7 @@ fn unifier_of(
     let Some(pairs) = pairs_of(alloc, posts.as_slice(), heads.as_slice())? else {
         return Ok(None);
     };
-    let unifier = unify(alloc, kinds, pairs.as_slice())?;
-    Ok(unifier)
+    unify(alloc, kinds, pairs.as_slice())
 }
 
 /// What the written variables of members are; none where no groundings make each post equal to a head.

@@ -12,6 +12,5 @@ pub fn table_at(tables: &[Arc<Table>], number: usize) -> Result<Arc<Table>, Allo
     requires { number < length tables.now }
     ensures { IfOk result (λ table. arc_value table ≡ slice_index_or (map arc_value tables.now) number no_table) }
 {
-    let table = tables[number].clone()?;
-    Ok(table)
+    tables[number].clone()
 }

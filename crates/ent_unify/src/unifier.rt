@@ -191,8 +191,7 @@ fn unify_with<'a>(
         return Ok(None);
     };
     let given = Vec::from_slice(alloc, equations.as_slice())?;
-    let unifier = unifier_of(alloc, given.as_slice(), equations.as_mut_slice())?;
-    Ok(unifier)
+    unifier_of(alloc, given.as_slice(), equations.as_mut_slice())
 }
 
 /// The most general unifier of pairs of atoms: values make all pairs equal exactly where they agree within each class

@@ -1,4 +1,5 @@
 use Rattle.std.proofs.Common.{◌≡◌, ◌∙◌, ap, sym, subst}
+use Rattle.std.proofs.lemmas.Result.{IfOk-weaker}
 use Rattle.std.specs.List.{filter, list_all}
 use Rattle.ent_set.specs.Sets as set
 use Rattle.ent_value.specs.Value.{row_cmp}
@@ -36,4 +37,4 @@ returns c =
     ∙ (λ i. keys_under columns ((c.as_slice-2.ensures.value ∙ c.in_ok-classes.ensures) i)
     (filter (λ row. list_all (may_hold_in columns row) ((c.as_slice.ensures.value ∙ c.in_ok-own.ensures) i))
     c.args.rows.now))) in
-    c.in_ok-index.ensures ∙ (λ i. record { classes = classes i; rows = keys i })
+    IfOk-weaker c.new.result _ _ (λ index is. is ∙ (λ i. record { classes = classes i; rows = keys i })) c.new.ensures

@@ -1,6 +1,7 @@
 use Rattle.std.proofs.Common.{◌+◌, arith, drop, []}
 use Rattle.std.specs.Arc.{arc_value}
 use Rattle.std.specs.List.{flat_map}
+use Rattle.std.proofs.lemmas.Result.{IfOk-weaker}
 use Rattle.ent_page.proofs.Sorted.{sorted_front}
 use Rattle.ent_page.proofs.Changes.{ordered_from, split_sorted, page_step, ends, nothing_left, all_of_it}
 use Rattle.ent_page.proofs.merging.changed_pages.Goals as goal
@@ -33,11 +34,12 @@ loop-at-preserved c =
 
 pub returns-clause-keys : goal.returns-clause-keys
 returns-clause-keys c =
-    all_of_it (flat_map arc_value c.args.pages.now) c.args.removed.now c.args.added.now c.push_all.new.out
-    (flat_map arc_value c.in_ok-pages.pages.items)
+    IfOk-weaker c.finish.result _ _
+    (λ pages. all_of_it (flat_map arc_value c.args.pages.now) c.args.removed.now c.args.added.now c.push_all.new.out
+    (flat_map arc_value pages.items)
     (ends (flat_map arc_value c.args.pages.now)
     c.args.removed.now c.args.added.now [] c.loop-at.out c.loop-at.removed.now c.loop-at.added.now
     c.push_all.new.out
     (rw (nothing_left arc_value c.args.pages.now c.loop-at.at (omega arith)) at c.loop-at.invariant)
-    c.in_ok-push_all.ensures)
-    c.in_ok-pages.ensures.keys
+    c.in_ok-push_all.ensures))
+    c.finish.ensures.keys

@@ -4,8 +4,8 @@ use Rattle.ent_page.specs.Layout.{start_of}
 use Rattle.ent_page.proofs.Laid.{length-shown, piece_at, start_le, place_le}
 use Rattle.ent_page.proofs.page.Page.key.Goals as goal
 
-pub piece-requires-clause-index : goal.piece-requires-clause-index
-piece-requires-clause-index c =
+pub piece-requires-clause-within : goal.piece-requires-clause-within
+piece-requires-clause-within c =
     let n = length-shown c.self.inside.bytes.items c.self.inside.ends.items c.args.self.now c.self.view_is in
     omega (arith, n, ap length c.deref-2.ensures.value)
 
