@@ -52,7 +52,7 @@ pub(crate) fn audit_all<L: Naming>(
     scripts: &mut Book<L::Scripts>,
     entries: &mut Book<L::Entries>,
 )
-    requires some { 0 < length sessions.old }
+    requires nonempty { 0 < length sessions.old }
     requires submitted { length sessions.old ≡ L.Scripts.parts }
     requires committed { length sessions.old ≡ L.Entries.parts }
     ensures same { sessions.new ≡ sessions.old }

@@ -62,7 +62,7 @@ impl<L: Naming> Desk<L> {
         self,
         sessions: &mut [Session<L>],
     ) -> Result<Book<Sequence<NamedTable>>, NotClosed<L>>
-        requires some { 0 < length sessions.old }
+        requires nonempty { 0 < length sessions.old }
         requires scripts { length sessions.old ≡ L.Scripts.parts }
         requires entries { length sessions.old ≡ L.Entries.parts }
         ensures same { sessions.new ≡ sessions.old }
@@ -93,7 +93,7 @@ impl<L: Naming> Desk<L> {
         self,
         sessions: &mut [Session<L>],
     ) -> Result<Book<Sequence<NamedTable>>, NotClosed<L>>
-        requires some { 0 < length sessions.old }
+        requires nonempty { 0 < length sessions.old }
         requires scripts { length sessions.old ≡ L.Scripts.parts }
         requires entries { length sessions.old ≡ L.Entries.parts }
         requires done { CanClose self.core }

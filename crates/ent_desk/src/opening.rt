@@ -91,7 +91,7 @@ fn seat_all<L: Naming>(
     mut committed: Share<L::Entries>,
     count: usize,
 ) -> Result<Vec<Session<L>>, AllocError>
-    requires some { 0 < count }
+    requires nonempty { 0 < count }
     requires submitted { (submitted.parts + 1 ≡ count) × (submitted.amount ≡ 0) }
     requires committed { (committed.parts + 1 ≡ count) × (committed.amount ≡ 0) }
     ensures { IfOk result (λ sessions. sessions.items ≡ first ∷ replicate (count - 1) other_session) }
@@ -114,7 +114,7 @@ pub fn open<L: Naming>(
     input: Input,
     count: usize,
 ) -> Result<(Desk<L>, Vec<Session<L>>), Refusal<FormFault>>
-    requires some { 0 < count }
+    requires nonempty { 0 < count }
     requires names { (blank.scripts.name ≡ L.Scripts.name) × (blank.entries.name ≡ L.Entries.name) }
     requires blank { (blank.scripts.parts ≡ count) × (blank.entries.parts ≡ count) }
     requires parts { (L.Scripts.parts ≡ count) × (L.Entries.parts ≡ count) }

@@ -108,7 +108,7 @@ impl SubmittedScript {
     pub fn within(&self) -> u64
         ensures number { result ≡ self.now.script.within }
         ensures least { 1 ≤ self.now.script.within }
-        ensures most { self.now.script.within ≤ MOST_RUNS }
+        ensures limit { self.now.script.within ≤ MOST_RUNS }
     {
         self.script.within.get()
     }

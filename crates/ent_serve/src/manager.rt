@@ -68,7 +68,7 @@ impl<L: Naming, G: Gate> Manager<L, G> {
         gate: G,
         sessions: usize,
     ) -> Result<(Self, Vec<Session<L>>), PlayFault>
-        requires some { 0 < sessions }
+        requires nonempty { 0 < sessions }
         requires names { (blank.scripts.name ≡ L.Scripts.name) × (blank.entries.name ≡ L.Entries.name) }
         requires blank { (blank.scripts.parts ≡ sessions) × (blank.entries.parts ≡ sessions) }
         requires scripts { (L.Scripts.seats ≡ sessions) × (L.Scripts.parts ≡ sessions) }

@@ -106,10 +106,10 @@ fn close_or_work<L: Naming, G: Gate, R: Wait>(
     sessions: Vec<Session<L>>,
 ) -> Result<Result<Book<Sequence<NamedTable>>, NotClosed<L, G>>, Refusal<ServeFault>>
     requires ledgers { (L.Scripts.seats ≡ L.Scripts.parts) × (L.Entries.seats ≡ L.Entries.parts) }
-    requires some { 0 < vec_len sessions }
+    requires nonempty { 0 < vec_len sessions }
     ensures book { IfOk result (λ tried. IfOk tried (λ book. IsClosedBook (book_seen book) sessions.items)) }
     ensures left { IfOk result (λ tried. IfErr tried (λ left. SameSeats sessions.items left.sessions.items)) }
-    ensures some { IfOk result (λ tried. IfErr tried (λ left. 0 < vec_len left.sessions)) }
+    ensures nonempty { IfOk result (λ tried. IfErr tried (λ left. 0 < vec_len left.sessions)) }
     ensures fault { IfErr result (λ refusal. (fault : FormFault) → refusal ≡ Fault (Form fault) → ⊥) }
 {
     match manager.close(sessions) {
@@ -131,7 +131,7 @@ fn close_all<L: Naming, G: Gate, R: Wait>(
     sessions: Vec<Session<L>>,
 ) -> Result<Book<Sequence<NamedTable>>, Refusal<ServeFault>>
     requires ledgers { (L.Scripts.seats ≡ L.Scripts.parts) × (L.Entries.seats ≡ L.Entries.parts) }
-    requires some { 0 < vec_len sessions }
+    requires nonempty { 0 < vec_len sessions }
     ensures book { IfOk result (λ book.
         (closed : List SessionState) × SameSeats sessions.items closed × IsClosedBook (book_seen book) closed) }
     ensures fault { IfErr result (λ refusal. (fault : FormFault) → refusal ≡ Fault (Form fault) → ⊥) }
@@ -163,7 +163,7 @@ pub fn serve<L: Naming + Send + Sync, G: Gate + Sync, R: Threads + Wait + Sync>(
     workers: usize,
     gate: G,
 ) -> Result<Book<Sequence<NamedTable>>, Refusal<ServeFault>>
-    requires some { 0 < workers }
+    requires nonempty { 0 < workers }
     requires names { (blank.scripts.name ≡ L.Scripts.name) × (blank.entries.name ≡ L.Entries.name) }
     requires blank { (blank.scripts.parts ≡ workers) × (blank.entries.parts ≡ workers) }
     requires scripts { (L.Scripts.seats ≡ workers) × (L.Scripts.parts ≡ workers) }
@@ -201,7 +201,7 @@ fn serve_by<
     workers: usize,
     gate: G,
 ) -> Result<Book<Sequence<NamedTable>>, Refusal<ServeFault>>
-    requires some { 0 < workers }
+    requires nonempty { 0 < workers }
     requires names { (blank.scripts.name ≡ S.name) × (blank.entries.name ≡ E.name) }
     requires blank { (blank.scripts.parts ≡ workers) × (blank.entries.parts ≡ workers) }
     requires scripts { (S.seats ≡ workers) × (S.parts ≡ workers) }

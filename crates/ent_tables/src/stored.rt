@@ -117,7 +117,7 @@ impl StoredTables {
         table: usize,
         delta: &Delta,
     ) -> Result<(), AllocError>
-        requires there { table < length self.old.tables }
+        requires within { table < length self.old.tables }
         requires applicable { IsApplicable (relation_at self.old table) delta.now }
         ensures ok { OnOk result (self.new ≡ changed tx table delta.now.removed delta.now.added self.old) }
         ensures err { OnErr result (self.new ≡ self.old) }

@@ -12,7 +12,7 @@ const FEW: usize = 3;
 /// The entries from one place up to another come into the opposite order.
 fn reverse_part(order: &mut IndexMap<Tx, usize>, start: usize, end: usize)
     requires ordered { start ≤ end }
-    requires range { end ≤ index_map_len order.old }
+    requires within { end ≤ index_map_len order.old }
     ensures entries { order.new.entries ≡ part_reversed start end order.old.entries }
     ensures reordered { IsReordered nat_eq order.old order.new }
 {

@@ -110,7 +110,7 @@ fn group_row(run: &Run, table: usize, group: Tx, known: Option<GroupRow>) -> Gro
 /// The row of a member that changes a table, where some of its own group hold the table. The row that it has in common
 /// with its group is its own, but where it is marked itself: then it holds the table too, and has a row for itself.
 fn row_in_group(run: &Run, asker: &Member, place: usize, common: &mut ChangersRow) -> Row
-    requires place { place < MOST_MEMBERS }
+    requires within { place < MOST_MEMBERS }
     requires known { IsOfChangers run.now common.old }
     ensures row { MarksAll run.now.active
         (is_awaited (with_run run.now nothing) asker.now (exclusive common.old.table ∷ [])) result }
@@ -134,7 +134,7 @@ pub(crate) fn row_of_changer(
     table: usize,
     known: &mut Option<ChangersRow>,
 ) -> Row
-    requires place { place < MOST_MEMBERS }
+    requires within { place < MOST_MEMBERS }
     requires known { IfSome known.old (IsOfChangers run.now) }
     ensures row { MarksAll run.now.active
         (is_awaited (with_run run.now nothing) asker.now (exclusive table ∷ [])) result }

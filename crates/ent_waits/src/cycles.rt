@@ -74,7 +74,7 @@ fn push_pairs(
 )
     requires { length pairs.old + length run.now.active ≤ MOST_PAIRS }
     ensures pairs { pairs.new ≡ pairs.old ++ pairs_while_waiting run.now submitted.now lent.now asker.now }
-    ensures length { length pairs.new ≤ length pairs.old + length run.now.active }
+    ensures bound { length pairs.new ≤ length pairs.old + length run.now.active }
 {
     if is_waiting(lent, asker) {
         push_awaited(pairs, run, asker, next_uses(submitted, asker).as_slice());
@@ -85,7 +85,7 @@ fn push_pairs(
 fn push_awaited(pairs: &mut Pairs, run: &Run, asker: &Member, asked: &[Use])
     requires { length pairs.old + length run.now.active ≤ MOST_PAIRS }
     ensures pairs { pairs.new ≡ pairs.old ++ flat_map (pair_if_awaited run.now asker.now asked.now) run.now.active }
-    ensures length { length pairs.new ≤ length pairs.old + length run.now.active }
+    ensures bound { length pairs.new ≤ length pairs.old + length run.now.active }
 {
     let active = run.active();
     for other in active {
@@ -97,7 +97,7 @@ fn push_awaited(pairs: &mut Pairs, run: &Run, asker: &Member, asked: &[Use])
 fn push_pair(pairs: &mut Pairs, run: &Run, asker: &Member, asked: &[Use], other: &Member)
     requires { length pairs.old + 1 ≤ MOST_PAIRS }
     ensures pairs { pairs.new ≡ pairs.old ++ pair_if_awaited run.now asker.now asked.now other.now }
-    ensures length { length pairs.new ≤ length pairs.old + 1 }
+    ensures bound { length pairs.new ≤ length pairs.old + 1 }
 {
     if run.awaits(asker, asked, other) {
         pairs.push((asker.tx(), other.tx()));

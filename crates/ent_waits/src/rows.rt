@@ -115,7 +115,7 @@ fn row_of_form(
     form: &Statement<Known>,
     known: &mut Option<ChangersRow>,
 ) -> Row
-    requires place { place < MOST_MEMBERS }
+    requires within { place < MOST_MEMBERS }
     requires known { IfSome known.old (IsOfChangers run.now) }
     ensures row { MarksAll run.now.active (is_awaited (with_run run.now nothing) asker.now (statement_uses form.now))
         result }
@@ -136,7 +136,7 @@ fn row_while_waiting(
     place: usize,
     known: &mut Option<ChangersRow>,
 ) -> Row
-    requires place { place < MOST_MEMBERS }
+    requires within { place < MOST_MEMBERS }
     requires known { IfSome known.old (IsOfChangers run.now) }
     ensures row { MarksAll run.now.active (awaits_now run.now submitted.now lent.now asker.now) result }
     ensures known { IfSome known.new (IsOfChangers run.now) }

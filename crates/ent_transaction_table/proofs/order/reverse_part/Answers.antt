@@ -16,7 +16,7 @@ loop-step-preserved c =
       reordered_again old mid new c.loop-step.invariant.0 c.swap_indices.ensures.reordered,
       (λ i. part_reversed (next i) (before i) (c.swap_indices.ensures.entries i))
           ∙ swap_reversed mid.entries (0, 0) low last (omega (arith, c.loop-step-test.true))
-          (omega (arith, c.loop-step.invariant.0.1, c.requires.range))
+          (omega (arith, c.loop-step.invariant.0.1, c.requires.within))
           ∙ ap (λ (n : ℕ). part_reversed low n mid.entries) end
           ∙ c.loop-step.invariant.1,
     )

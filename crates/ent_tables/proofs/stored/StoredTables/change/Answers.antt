@@ -14,7 +14,7 @@ invariant_of-self-2 c =
     let at : slice_index_or (map arc_value c.as_slice-tables.result.now) c.args.table no_table ≡ slice_index_or (map arc_value arcs) c.args.table no_table =
     λ i. slice_index_or (map arc_value (c.as_slice-tables.ensures.value i)) c.args.table no_table in
     change_is_noted (map arc_value arcs) _ c.self.inside.log c.note.new.self c.args.self.now c.args.tx c.args.table
-    (arc_value c.in_ok-changed.changed) (arc_value c.in_ok-before.before) c.self.view_is c.requires.there
+    (arc_value c.in_ok-changed.changed) (arc_value c.in_ok-before.before) c.self.view_is c.requires.within
     (map-set arc_value arcs c.args.table c.in_ok-changed.changed) c.in_ok-note.ensures.ok (c.in_ok-before.ensures ∙ at)
     (c.in_ok-changed.ensures.kinds ∙ ap (λ (t : Relation). t.kinds) at) c.self.invariant
 
@@ -24,7 +24,7 @@ returns-clause-ok c =
     let at : slice_index_or (map arc_value c.as_slice-tables.result.now) c.args.table no_table ≡ slice_index_or (map arc_value arcs) c.args.table no_table =
     λ i. slice_index_or (map arc_value (c.as_slice-tables.ensures.value i)) c.args.table no_table in
     change_is_made (map arc_value arcs) _ c.self.inside.log c.note.new.self c.args.self.now c.args.tx c.args.table
-    (arc_value c.in_ok-changed.changed) (arc_value c.in_ok-before.before) c.self.view_is c.requires.there
+    (arc_value c.in_ok-changed.changed) (arc_value c.in_ok-before.before) c.self.view_is c.requires.within
     (map-set arc_value arcs c.args.table c.in_ok-changed.changed) c.in_ok-note.ensures.ok (c.in_ok-before.ensures ∙ at)
     (c.in_ok-changed.ensures.kinds ∙ ap (λ (t : Relation). t.kinds) at)
     c.args.delta.now.removed c.args.delta.now.added
@@ -36,6 +36,6 @@ returns-clause-undone c =
     let at : slice_index_or (map arc_value c.as_slice-tables.result.now) c.args.table no_table ≡ slice_index_or (map arc_value arcs) c.args.table no_table =
     λ i. slice_index_or (map arc_value (c.as_slice-tables.ensures.value i)) c.args.table no_table in
     change_is_undone (map arc_value arcs) _ c.self.inside.log c.note.new.self c.args.self.now c.args.tx c.args.table
-    (arc_value c.in_ok-changed.changed) (arc_value c.in_ok-before.before) c.self.view_is c.requires.there
+    (arc_value c.in_ok-changed.changed) (arc_value c.in_ok-before.before) c.self.view_is c.requires.within
     (map-set arc_value arcs c.args.table c.in_ok-changed.changed) c.in_ok-note.ensures.ok (c.in_ok-before.ensures ∙ at)
     (c.in_ok-changed.ensures.kinds ∙ ap (λ (t : Relation). t.kinds) at)
