@@ -3,6 +3,7 @@ use Rattle.std.proofs.Common.{◌-◌, List, [], ◌∷◌, ◌++◌, length, Op
 use Rattle.std.specs.List.{AllByRecursion}
 use Rattle.ent_text.specs.declared.keyword.Keyword.TheVariants as keywords
 use Rattle.ent_text.specs.declared.token.TokenKind.TheVariants as kinds
+use Rattle.ent_tree.specs.Places.{term_place}
 use Rattle.ent_tree.specs.declared.limits.TheConstants.{MOST_PARTS}
 use Rattle.ent_tree.specs.declared.operand.Identifier.{Identifier}
 use Rattle.ent_tree.specs.declared.operand.Operand.{Operand}
@@ -101,7 +102,7 @@ carry_condition_behind first h =
     (λ right k. carry_give
     (sides_whole (term_spelling first) (term_spelling right) (comparison_symbol compares) h k))))
     (carry_then (carry_more (MOST_PARTS - 1) Comma carry_term)
-    (λ others k. carry_membership (record { place = grammar.place_of_term first; terms = first ∷ others }) (h, k)))
+    (λ others k. carry_membership (record { place = term_place first; terms = first ∷ others }) (h, k)))
 
 carry_condition : Carries grammar.condition (IsWhole condition_spelling)
 unfolding grammar.condition

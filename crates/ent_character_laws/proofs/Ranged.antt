@@ -8,10 +8,11 @@ use Rattle.ent_tree.specs.declared.entangled.Entangled.{Entangled}
 use Rattle.ent_tree.specs.declared.entangled.EntangledItem.{EntangledItem}
 use Rattle.ent_tree.specs.declared.entangled.Term.{Term}
 use Rattle.ent_tree.specs.declared.entangled.Term.TheVariants as terms
+use Rattle.ent_tree.specs.Places.{term_place}
 use Rattle.ent_semantics.specs.Entangled.{condition_terms, first_of_each, head_terms, term_variables, written_variables}
 use Rattle.ent_semantics.specs.Names.{equal_names, name_itself}
 use Rattle.ent_form.specs.AllFaults.{faults_where, kinds_faults, repeated_names}
-use Rattle.ent_form.specs.Entangled.{noted, noted_items, noted_terms, term_place}
+use Rattle.ent_form.specs.Entangled.{noted, noted_items, noted_terms}
 use Rattle.ent_form.specs.EntangledFaults.{binds_faults, body_variables, demanded_from, entangled_faults}
 use Rattle.ent_form.specs.EntangledFaults.{memberships_faults, offer_faults, others_faults, taking, term_faults}
 use Rattle.ent_form.specs.EntangledFaults.{term_kind, terms_faults, tuple_variables}

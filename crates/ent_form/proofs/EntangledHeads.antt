@@ -23,6 +23,7 @@ use Rattle.ent_tree.specs.declared.operand.Test.{Test}
 use Rattle.ent_tree.specs.declared.select.Items.{Items}
 use Rattle.ent_tree.specs.declared.select.Items.TheVariants as items
 use Rattle.ent_tree.specs.declared.select.Select.{Select as TreeSelect}
+use Rattle.ent_tree.specs.Places.{term_place}
 use Rattle.ent_semantics.specs.Database.{Name, same_name, is_among, index_of}
 use Rattle.ent_closed.specs.declared.entangled.Atom.{Atom}
 use Rattle.ent_closed.specs.declared.entangled.Membership.{Membership}
@@ -36,7 +37,7 @@ use Rattle.ent_form.specs.declared.catalogue.TableSchema.{TableSchema}
 use Rattle.ent_form.specs.declared.fault.FormFault.{FormFault}
 use Rattle.ent_form.specs.declared.fault.FormFault.TheVariants.{Arity, WrongKind, Unbound, Repeated}
 use Rattle.ent_form.specs.Entangled.{noted, noted_terms, noted_items, variables_of, demanded_in, member_in}
-use Rattle.ent_form.specs.Entangled.{members_from, membership_in, memberships_from, term_place, term_in, terms_in}
+use Rattle.ent_form.specs.Entangled.{members_from, membership_in, memberships_from, term_in, terms_in}
 use Rattle.ent_form.specs.Entangled.{Offer}
 use Rattle.ent_form.specs.Entangled.{no_offer, with_term, with_bind, bind_in, item_in, offer_from, heads_from}
 use Rattle.ent_form.specs.Entangled.{atom_from}

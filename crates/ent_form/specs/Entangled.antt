@@ -1,6 +1,6 @@
 -- An entangled statement resolved: the form, or the first fault. First come all IN (SELECT ..) conditions from left to
 -- right, then all else in the order of the text: items, answer relations, postconditions and tests.
-use Rattle.std.specs.Prelude.{ℕ, not, List, [], ◌∷◌, ◌++◌, map, length, Option, Some, None, Result, Ok, unwrap_or}
+use Rattle.std.specs.Prelude.{not, List, [], ◌∷◌, ◌++◌, map, length, Option, Some, None, Result, Ok, unwrap_or}
 use Rattle.std.specs.Prelude.{if◌then◌else◌, ◌==◌}
 use Rattle.ent_value.specs.Refusal.{◌>>=◌}
 use Rattle.ent_value.specs.declared.value.Kind.{Kind}
@@ -16,7 +16,7 @@ use Rattle.ent_tree.specs.declared.entangled.Tuple.{Tuple}
 use Rattle.ent_tree.specs.declared.operand.Identifier.{Identifier}
 use Rattle.ent_tree.specs.declared.operand.Test.{Test}
 use Rattle.ent_tree.specs.declared.select.Select.{Select as TreeSelect}
-use Rattle.ent_tree.specs.Places.{value_place}
+use Rattle.ent_tree.specs.Places.{term_place}
 use Rattle.ent_semantics.specs.Database.{Name, is_among, index_of}
 use Rattle.ent_closed.specs.declared.entangled.Atom.{Atom}
 use Rattle.ent_closed.specs.declared.entangled.Binding.{Binding as Bind}
@@ -112,10 +112,6 @@ memberships_from tables bound names made demanded (conditions.Test test ∷ more
     memberships_from tables bound names made demanded more
 
 -- ---- all other terms
-
-abbrev pub term_place : TreeTerm → ℕ
-term_place (terms.Value value) = value_place value
-term_place (terms.Variable variable) = variable.place
 
 -- a value, or a written variable that is demanded in some column
 abbrev pub term_in : List Name → Bound → Bound → TreeTerm → Result (Term Known × Kind) FormFault

@@ -15,12 +15,13 @@ use Rattle.ent_tree.specs.declared.operand.Identifier.{Identifier}
 use Rattle.ent_tree.specs.declared.select.Items.{Items}
 use Rattle.ent_tree.specs.declared.select.Items.TheVariants as items
 use Rattle.ent_tree.specs.declared.select.Select.{Select}
+use Rattle.ent_tree.specs.Places.{term_place}
 use Rattle.ent_semantics.specs.Database.{Name, is_among}
 use Rattle.ent_semantics.specs.Entangled.{term_variables}
 use Rattle.ent_form.specs.declared.catalogue.TableSchema.{TableSchema}
 use Rattle.ent_form.specs.declared.fault.FormFault.{FormFault}
 use Rattle.ent_form.specs.declared.fault.FormFault.TheVariants.{Arity, WrongKind, Unbound, Repeated}
-use Rattle.ent_form.specs.Entangled.{noted, noted_terms, noted_items, term_place}
+use Rattle.ent_form.specs.Entangled.{noted, noted_terms, noted_items}
 use Rattle.ent_form.specs.Kinds.{Bound, none_bound, with_kind}
 use Rattle.ent_form.specs.AllFaults.{faults_where, unless_any, kinds_faults, repeated_names, value_kind, value_faults}
 use Rattle.ent_form.specs.AllFaults.{values, View, operand_kind, view_of, select_faults}

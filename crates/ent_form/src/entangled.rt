@@ -3,7 +3,7 @@ ghost use Rattle.std.specs.Prelude.{◌≡◌, ◌<◌, ◌≤◌, ◌+◌, [], 
 ghost use Rattle.ent_value.specs.Refusal.{Gives};
 ghost use Rattle.ent_semantics.specs.Database.{is_among};
 ghost use Rattle.ent_form.specs.Bindings.{bound_in, bound_from};
-ghost use Rattle.ent_form.specs.Entangled.{term_place, term_in, terms_in, no_offer, bind_in, item_in, offer_from};
+ghost use Rattle.ent_form.specs.Entangled.{term_in, terms_in, no_offer, bind_in, item_in, offer_from};
 ghost use Rattle.ent_form.specs.Entangled.{heads_from, atom_from, post_in, others_from, kinds_of, entangled_in};
 ghost use Rattle.ent_form.specs.Entangled.{variables_of};
 ghost use Rattle.ent_form.specs.Kinds.{none_bound};
@@ -33,15 +33,6 @@ struct SeenOffer {
     terms: Limited<ResolvedTerm<Known>, MOST_PARTS>,
     binds: Limited<Bind<Known>, MOST_PARTS>,
     bound: Sequence<Binding>,
-}
-
-fn term_place(term: &Term) -> usize
-    ensures { result ≡ term_place term.now }
-{
-    match term {
-        Term::Value(value) => value.place(),
-        Term::Variable(variable) => variable.place,
-    }
 }
 
 /// A value, or a written variable that is demanded in some column.
@@ -85,7 +76,7 @@ fn test(
     let (left, left_kind) = term(alloc, names, kinds, bindings, &test.left)?;
     let (right, right_kind) = term(alloc, names, kinds, bindings, &test.right)?;
     if !same_kind(left_kind, right_kind) {
-        return Err(Refusal::Fault(FormFault::WrongKind(term_place(&test.right))));
+        return Err(Refusal::Fault(FormFault::WrongKind(test.right.place())));
     }
     Ok(Test {
         left,

@@ -17,13 +17,13 @@ use Rattle.ent_tree.specs.declared.script.Script.{Script}
 use Rattle.ent_tree.specs.declared.script.Statement.{Statement}
 use Rattle.ent_tree.specs.declared.script.Statement.TheVariants as statements
 use Rattle.ent_tree.specs.declared.select.Select.{Select}
-use Rattle.ent_tree.specs.Places.{value_place}
+use Rattle.ent_tree.specs.Places.{value_place, term_place}
 use Rattle.ent_semantics.specs.Database.{Name, is_among}
 use Rattle.ent_semantics.specs.Entangled.{term_variables}
 use Rattle.ent_form.specs.declared.catalogue.TableSchema.{TableSchema}
 use Rattle.ent_form.specs.declared.fault.FormFault.{FormFault}
 use Rattle.ent_form.specs.declared.fault.FormFault.TheVariants.{Arity, WrongKind, Unbound, Repeated}
-use Rattle.ent_form.specs.Entangled.{noted, noted_terms, noted_items, term_place}
+use Rattle.ent_form.specs.Entangled.{noted, noted_terms, noted_items}
 use Rattle.ent_form.specs.Kinds.{Bound, none_bound}
 use Rattle.ent_form.specs.AllFaults.{faults_where, kinds_faults, repeated_names, value_kind, value_faults}
 use Rattle.ent_form.specs.AllFaults.{select_faults}

@@ -12,7 +12,7 @@ use Rattle.ent_tree.specs.declared.entangled.Term.TheVariants as terms
 use Rattle.ent_tree.specs.declared.operand.Test.{Test}
 use Rattle.ent_tree.specs.declared.operand.ValueSpecification.{ValueSpecification}
 use Rattle.ent_tree.specs.declared.operand.ValueSpecification.TheVariants as specifications
-use Rattle.ent_tree.specs.Places.{value_place}
+use Rattle.ent_tree.specs.Places.{value_place, term_place}
 use Rattle.ent_semantics.specs.Database.{Name, Environment, same_name, index_of}
 use Rattle.ent_closed.specs.declared.entangled.Term.{Term}
 use Rattle.ent_closed.specs.declared.operand.Known.{Known}
@@ -21,7 +21,7 @@ use Rattle.ent_semantics.specs.Entangled.{Valuation, variable_value, term_value}
 use Rattle.ent_semantics.specs.Selection.{compares, holds}
 use Rattle.ent_semantics.specs.Term.{no_value, known_value}
 use Rattle.ent_form.specs.declared.fault.FormFault.TheVariants.{WrongKind, Unbound, NoHostVariable}
-use Rattle.ent_form.specs.Entangled.{term_in, terms_in, term_place}
+use Rattle.ent_form.specs.Entangled.{term_in, terms_in}
 use Rattle.ent_form.specs.Entangled.{atom_from}
 use Rattle.ent_form.specs.Kinds.{Bound}
 use Rattle.ent_form.specs.Lookup.{value_in, values_in, kind_in, test_in}

@@ -11,13 +11,12 @@ use Rattle.ent_tree.specs.declared.entangled.Term.TheVariants as terms
 use Rattle.ent_tree.specs.declared.entangled.Tuple.{Tuple}
 use Rattle.ent_tree.specs.declared.operand.Identifier.{Identifier}
 use Rattle.ent_tree.specs.declared.select.Select.{Select}
-use Rattle.ent_tree.specs.Places.{value_place}
+use Rattle.ent_tree.specs.Places.{value_place, term_place}
 use Rattle.ent_semantics.specs.Database.{Name}
 use Rattle.ent_semantics.specs.Entangled.{term_variables}
 use Rattle.ent_form.specs.declared.catalogue.TableSchema.{TableSchema}
 use Rattle.ent_form.specs.declared.fault.FormFault.{FormFault}
 use Rattle.ent_form.specs.declared.fault.FormFault.TheVariants.{Arity, WrongKind, Unbound, Repeated}
-use Rattle.ent_form.specs.Entangled.{term_place}
 use Rattle.ent_form.specs.Kinds.{Bound, none_bound}
 use Rattle.ent_form.specs.AllFaults.{value_kind}
 use Rattle.ent_form.specs.EntangledFaults.{select_kinds, demanding, demanded_from, body_variables, term_kind}

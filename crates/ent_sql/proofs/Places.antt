@@ -4,7 +4,7 @@ use Rattle.ent_text.specs.declared.token.Token.{Token}
 use Rattle.ent_text.specs.declared.token.TokenKind.{TokenKind}
 use Rattle.ent_text.specs.declared.token.TokenKind.TheVariants as kinds
 use Rattle.ent_text.specs.declared.symbol.Symbol.TheVariants as signs
-use Rattle.ent_tree.specs.Places.{value_place}
+use Rattle.ent_tree.specs.Places.{value_place, term_place}
 use Rattle.ent_grammar.specs.Read.{place_of}
 use Rattle.ent_grammar.specs.Class.{Class, word, sign, name, variable, number, positive, one, text, Given, given, if_so}
 use Rattle.ent_grammar.specs.Phrase.{Phrase, ◌⨾◌, nothing, Single}
@@ -21,7 +21,6 @@ use Rattle.ent_tree.specs.declared.entangled.Tuple.{Tuple}
 use Rattle.ent_tree.specs.declared.entangled.Condition.{Condition}
 use Rattle.ent_sql.specs.Operands as grammar
 use Rattle.ent_sql.specs.Entangling as entangling
-use Rattle.ent_sql.specs.Entangling.{place_of_term}
 use Rattle.ent_sql.specs.Places.{place_before, place_of_operand, place_of_expression, place_of_condition}
 
 -- ---- tokens
@@ -88,10 +87,10 @@ module _ (end : ℕ) where
   value_stands kept y ts (inl h) = along ts (sym (ap value_place h.1.second.0)) (begins_there ts h.1 (variable_stands kept h.0 h.1.front h.1.first))
   value_stands kept y ts (inr h) = along ts (sym (ap value_place h.1.second.0)) (begins_there ts h.1 (literal_stands kept h.0 h.1.front h.1.first))
 
-  pub term_stands : (kept : Bool) (y : Term) (ts : List Token) → spells grammar.term kept y ts → Stands ts (place_of_term y)
+  pub term_stands : (kept : Bool) (y : Term) (ts : List Token) → spells grammar.term kept y ts → Stands ts (term_place y)
   unfolding grammar.term
-  term_stands kept y ts (inl h) = along ts (sym (ap place_of_term h.1.second.0)) (begins_there ts h.1 (name_stands kept h.0 h.1.front h.1.first))
-  term_stands kept y ts (inr h) = along ts (sym (ap place_of_term h.1.second.0)) (begins_there ts h.1 (value_stands kept h.0 h.1.front h.1.first))
+  term_stands kept y ts (inl h) = along ts (sym (ap term_place h.1.second.0)) (begins_there ts h.1 (name_stands kept h.0 h.1.front h.1.first))
+  term_stands kept y ts (inr h) = along ts (sym (ap term_place h.1.second.0)) (begins_there ts h.1 (value_stands kept h.0 h.1.front h.1.first))
 
   abbrev Qualified : Bool → Identifier → ColumnReference → Phrase
   Qualified kept first y = chained (Single (sign signs.Dot)) (λ p y. chained (spells grammar.identifier kept) (λ c y us. (y ≡ record { qualifier = Some first; column = c }) × nothing us) y) y
@@ -131,10 +130,10 @@ module _ (end : ℕ) where
   bracketed_stands kept y ts h =
       along ts (membership_place kept (record { place = h.0; terms = h.1.second.0 }) y h.1.second.1.second.1.back h.1.second.1.second.1.second) (begins_there ts h.1 (single_stands (sign signs.Open) h.0 h.1.front h.1.first))
 
-  behind_term : (kept : Bool) (first : Term) (y : Condition) (ts : List Token) → spells (entangling.condition_behind first) kept y ts → place_of_term first ≡ place_of_condition y
+  behind_term : (kept : Bool) (first : Term) (y : Condition) (ts : List Token) → spells (entangling.condition_behind first) kept y ts → term_place first ≡ place_of_condition y
   unfolding entangling.condition_behind entangling.comparison_behind entangling.tuple_behind
   behind_term kept first y ts (inl h) = sym (ap place_of_condition h.1.second.1.second.0)
-  behind_term kept first y ts (inr h) = membership_place kept (record { place = place_of_term first; terms = first ∷ h.0 }) y h.1.back h.1.second
+  behind_term kept first y ts (inr h) = membership_place kept (record { place = term_place first; terms = first ∷ h.0 }) y h.1.back h.1.second
 
   pub condition_stands : (kept : Bool) (y : Condition) (ts : List Token) → spells entangling.condition kept y ts → Stands ts (place_of_condition y)
   unfolding entangling.condition

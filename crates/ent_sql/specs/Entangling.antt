@@ -1,8 +1,8 @@
 -- The grammar of entangled SELECT.
-use Rattle.std.specs.Prelude.{ℕ, ◌-◌, Bool, true, false, ◌&&◌, List, [], ◌∷◌, ◌++◌, length, Option, Some, None, cond}
+use Rattle.std.specs.Prelude.{◌-◌, Bool, true, false, ◌&&◌, List, [], ◌∷◌, ◌++◌, length, Option, Some, None, cond}
 use Rattle.ent_text.specs.declared.keyword.Keyword.TheVariants as words
 use Rattle.ent_text.specs.declared.symbol.Symbol.TheVariants as signs
-use Rattle.ent_tree.specs.Places.{value_place}
+use Rattle.ent_tree.specs.Places.{term_place}
 use Rattle.ent_tree.specs.declared.limits.TheConstants.{MOST_PARTS}
 use Rattle.ent_tree.specs.declared.operand.Identifier.{Identifier}
 use Rattle.ent_tree.specs.declared.operand.Operand.{Operand}
@@ -112,11 +112,6 @@ bracketed = do
   _ ← symbol signs.Close
   membership (record { place = place; terms = members })
 
--- where a term stands
-abbrev pub place_of_term : Term → ℕ
-place_of_term (terms.Value v) = value_place v
-place_of_term (terms.Variable n) = n.place
-
 -- comparison term
 unfoldable pub comparison_behind : Term → Grammar Condition
 comparison_behind first = do
@@ -128,7 +123,7 @@ comparison_behind first = do
 unfoldable pub tuple_behind : Term → Grammar Condition
 tuple_behind first = do
   others ← more (MOST_PARTS - 1) Comma term
-  membership (record { place = place_of_term first; terms = first ∷ others })
+  membership (record { place = term_place first; terms = first ∷ others })
 
 -- comparison term | { "," term } IN .., behind a first term
 unfoldable pub condition_behind : Term → Grammar Condition

@@ -7,8 +7,7 @@ use Rattle.ent_tree.specs.declared.operand.Expression.{Expression}
 use Rattle.ent_tree.specs.declared.operand.Expression.TheVariants.{Single, Sum, Difference}
 use Rattle.ent_tree.specs.declared.entangled.Condition.{Condition}
 use Rattle.ent_tree.specs.declared.entangled.Condition.TheVariants as conditions
-use Rattle.ent_tree.specs.Places.{value_place}
-use Rattle.ent_sql.specs.Entangling.{place_of_term}
+use Rattle.ent_tree.specs.Places.{value_place, term_place}
 
 -- the qualifier's place where there is one
 abbrev pub place_before : Option Identifier → Identifier → ℕ
@@ -29,4 +28,4 @@ place_of_expression (Difference x y) = place_of_operand x
 abbrev pub place_of_condition : Condition → ℕ
 place_of_condition (conditions.InSelect tuple select) = tuple.place
 place_of_condition (conditions.InAnswer tuple relation) = tuple.place
-place_of_condition (conditions.Test test) = place_of_term test.left
+place_of_condition (conditions.Test test) = term_place test.left

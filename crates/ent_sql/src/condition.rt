@@ -5,7 +5,7 @@ ghost use Rattle.ent_grammar.specs.Read.{begins};
 ghost use Rattle.ent_grammar.specs.Class.{among, one};
 ghost use Rattle.ent_grammar.specs.Grammar.{token, firsts, reads};
 ghost use Rattle.ent_sql.specs.Operands.{comparison};
-ghost use Rattle.ent_sql.specs.Entangling.{relation, membership, bracketed, place_of_term};
+ghost use Rattle.ent_sql.specs.Entangling.{relation, membership, bracketed};
 ghost use Rattle.ent_sql.specs.Entangling.{comparison_behind, tuple_behind, condition_behind, condition};
 ghost use Rattle.ent_sql.specs.Entangling.{entangled_conditions};
 
@@ -38,16 +38,6 @@ pub(crate) fn one_at(
             }
         }
         _ => Err(unexpected(end, &tokens)),
-    }
-}
-
-/// Where a term stands.
-fn place_of_term(term: &Term) -> usize
-    ensures { result ≡ place_of_term term.now }
-{
-    match term {
-        Term::Value(value) => value.place(),
-        Term::Variable(variable) => variable.place,
     }
 }
 
@@ -152,7 +142,7 @@ fn tuple_behind(
 ) -> Result<(Condition, Tokens<'_>), Refusal<GrammarFault>>
     ensures { Gives (λ x. x) result (reads (tuple_behind first) end tokens.entry) }
 {
-    let place = place_of_term(&first);
+    let place = first.place();
     let mut before = Limited::new(alloc);
     before.push(first)?;
     let (terms, rest) = appended(alloc, Divider::Comma, before, end, tokens)?;

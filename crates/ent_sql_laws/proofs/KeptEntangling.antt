@@ -3,6 +3,7 @@ use Rattle.std.proofs.Common.{◌≡◌, ◌≤◌, ◌-◌, List, [], ◌∷◌
 use Rattle.std.proofs.lemmas.List.{length-append}
 use Rattle.ent_text.specs.declared.keyword.Keyword.TheVariants as keywords
 use Rattle.ent_text.specs.declared.token.TokenKind.TheVariants as kinds
+use Rattle.ent_tree.specs.Places.{term_place}
 use Rattle.ent_tree.specs.declared.limits.TheConstants.{MOST_PARTS}
 use Rattle.ent_tree.specs.declared.operand.Identifier.{Identifier}
 use Rattle.ent_tree.specs.declared.operand.Operand.{Operand}
@@ -127,7 +128,7 @@ keep_condition_behind first h =
           k,
     ))))
     (keep_then (keep_more (MOST_PARTS - 1) Comma keep_term)
-    (λ others k. keep_membership (record { place = grammar.place_of_term first; terms = first ∷ others })
+    (λ others k. keep_membership (record { place = term_place first; terms = first ∷ others })
     ((omega arith, omega (arith, k.1)), (h, k.0))))
 
 keep_condition : Keeps grammar.condition ConditionKept

@@ -12,11 +12,11 @@ use Rattle.ent_tree.specs.declared.entangled.Term.{Term}
 use Rattle.ent_tree.specs.declared.entangled.Tuple.{Tuple}
 use Rattle.ent_tree.specs.declared.entangled.Condition.{Condition}
 use Rattle.ent_tree.specs.declared.entangled.Condition.TheVariants as conditions
+use Rattle.ent_tree.specs.Places.{term_place}
 use Rattle.ent_grammar.specs.declared.divider.Divider.TheVariants.{Comma}
 use Rattle.ent_grammar.specs.Phrase.{Phrase, ◌⨾◌}
 use Rattle.ent_grammar.specs.Spelling.{chained}
 use Rattle.ent_sql.specs.Entangling as grammar
-use Rattle.ent_sql.specs.Entangling.{place_of_term}
 use Rattle.ent_sql_laws.specs.Phrases.{Standing}
 use Rattle.ent_sql_laws.specs.Phrases as phrases
 use Rattle.ent_sql_laws.specs.Operands as operands
@@ -110,7 +110,7 @@ ComparedWith first = Made {P = Comparison × Term}
 
 abbrev Unbracketed : Term → Condition → Phrase
 Unbracketed first = chained (phrases.many (MOST_PARTS - 1) (λ y. phrases.divides Comma ⨾ operands.term y))
-    (λ others. Member (record { place = place_of_term first; terms = first ∷ others }))
+    (λ others. Member (record { place = term_place first; terms = first ∷ others }))
 
 abbrev BehindTerm : Term → Condition → Phrase
 BehindTerm first y tokens = ComparedWith first y tokens ⊎ Unbracketed first y tokens
@@ -123,7 +123,7 @@ behind_term_spelled first =
     (λ c r. operands.term r) comparison_spelled
     (λ c. last_spelled (λ r. conditions.Test (record { left = first; comparison = c; right = r })) term_spelled))
     (chain_spelled (more_spelled (MOST_PARTS - 1) Comma term_spelled)
-    (λ others. membership_spelled (record { place = place_of_term first; terms = first ∷ others })))
+    (λ others. membership_spelled (record { place = term_place first; terms = first ∷ others })))
 
 abbrev AnyCondition : Condition → Phrase
 AnyCondition y tokens = Bracketed y tokens ⊎ chained operands.term BehindTerm y tokens
@@ -139,7 +139,7 @@ condition_to y tokens (inr h) = on h.1.second
     on : BehindTerm h.0 y h.1.back → said.condition y tokens
     on (inl k) = made_gives (λ z. said.condition z tokens) (λ parts l. join h.1.front h.1.back h.1.whole h.1.first l) k
     on (inr k) =
-        let t : Tuple = record { place = place_of_term h.0; terms = h.0 ∷ k.0 } in
+        let t : Tuple = record { place = term_place h.0; terms = h.0 ∷ k.0 } in
         let long : length (h.0 ∷ k.0) ≤ MOST_PARTS = omega (arith, k.1.first.0) in
         let parts = to_left {behind = Member t y} (join h.1.front h.1.back h.1.whole h.1.first
         (join k.1.front k.1.back k.1.whole k.1.first.1 k.1.second)) in
@@ -161,7 +161,7 @@ member_from place ts y tokens h = on ts h.first h.second
         inl (place, join parts.front parts.back parts.whole parts.first (ts, inner))
     on [] (inr k) m = absurd k
     on (x ∷ xs) (inr k) m =
-        let t : Tuple = record { place = place_of_term x; terms = x ∷ xs } in
+        let t : Tuple = record { place = term_place x; terms = x ∷ xs } in
         let member = subst (λ (n : ℕ). Member (record { place = n; terms = x ∷ xs }) y h.back) k.0 m in
         let parts = to_right {behind = Member t y} (join h.front h.back h.whole k.1.1 member) in
         let few : length xs ≤ MOST_PARTS - 1 = omega (arith, k.1.0) in

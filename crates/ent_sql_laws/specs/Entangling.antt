@@ -11,9 +11,9 @@ use Rattle.ent_tree.specs.declared.entangled.Tuple.{Tuple}
 use Rattle.ent_tree.specs.declared.entangled.Condition.{Condition}
 use Rattle.ent_tree.specs.declared.entangled.Condition.TheVariants as conditions
 use Rattle.ent_tree.specs.declared.entangled.Entangled.{Entangled}
+use Rattle.ent_tree.specs.Places.{term_place}
 use Rattle.ent_grammar.specs.declared.divider.Divider.TheVariants.{Comma, And}
 use Rattle.ent_grammar.specs.Phrase.{Phrase, ◌⨾◌, nothing}
-use Rattle.ent_sql.specs.Entangling.{place_of_term}
 use Rattle.ent_sql_laws.specs.Phrases.{Standing, single, word, sign, listed}
 use Rattle.ent_sql_laws.specs.Operands.{identifier, host_variable, term, compared}
 use Rattle.ent_sql_laws.specs.Selects.{select}
@@ -41,7 +41,7 @@ in_brackets t = Standing t.place (kinds.Sign signs.Open) ⨾ listed MOST_PARTS C
 abbrev pub without_brackets : ℕ → List Term → Phrase
 without_brackets place [] = λ tokens. ⊥
 without_brackets place (x ∷ xs) =
-    λ tokens. (place ≡ place_of_term x) × listed MOST_PARTS Comma term (x ∷ xs) tokens
+    λ tokens. (place ≡ term_place x) × listed MOST_PARTS Comma term (x ∷ xs) tokens
 
 -- terms, in brackets or without
 abbrev pub tuple : Tuple → Phrase

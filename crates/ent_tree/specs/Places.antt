@@ -1,5 +1,5 @@
--- Where values stand, and trees with their places left aside: each place is 0, so that trees that say the same are
--- equal.
+-- Where values and terms stand, and trees with their places left aside: each place is 0, so that trees that say the
+-- same are equal.
 use Rattle.std.specs.Prelude.{ℕ, List, map}
 use Rattle.std.specs.Option.{option_map}
 use Rattle.ent_tree.specs.declared.operand.Identifier.{Identifier}
@@ -35,6 +35,10 @@ use Rattle.ent_tree.specs.declared.script.Script.{Script}
 abbrev pub value_place : ValueSpecification → ℕ
 value_place (specifications.Literal literal) = literal.place
 value_place (specifications.HostVariable variable) = variable.place
+
+abbrev pub term_place : Term → ℕ
+term_place (terms.Value value) = value_place value
+term_place (terms.Variable variable) = variable.place
 
 abbrev pub unplaced_identifier : Identifier → Identifier
 unplaced_identifier identifier = record { name = identifier.name; place = 0 }

@@ -1,4 +1,7 @@
 //! Entangled SELECT: an answer for its own script that depends on the answers of others.
+ghost use Rattle.std.specs.Prelude.{◌≡◌};
+ghost use Rattle.ent_tree.specs.Places.{term_place};
+
 use crate::duplicate::Duplicate;
 use crate::limits::MOST_PARTS;
 use crate::operand::{Identifier, Test, ValueSpecification};
@@ -12,6 +15,18 @@ use std::alloc::{AllocError, Global};
 pub enum Term {
     Value(ValueSpecification),
     Variable(Identifier),
+}
+
+impl Term {
+    /// Where the term stands.
+    pub fn place(&self) -> usize
+        ensures { result ≡ term_place self.now }
+    {
+        match self {
+            Term::Value(value) => value.place(),
+            Term::Variable(variable) => variable.place,
+        }
+    }
 }
 
 /// A term of the select list, and the host variable that is bound to its value after the answer.

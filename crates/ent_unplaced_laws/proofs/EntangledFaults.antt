@@ -3,7 +3,7 @@ use Rattle.std.proofs.Common.{◌≡◌, not, ◌&&◌, ◌==◌, List, [], ◌�
 use Rattle.std.proofs.Common.{Option, Some, None}
 use Rattle.std.specs.Option.{option_map}
 use Rattle.ent_value.specs.declared.value.Kind.{Kind}
-use Rattle.ent_tree.specs.Places.{unplaced_identifier, unplaced_operand, unplaced_items, unplaced_select}
+use Rattle.ent_tree.specs.Places.{unplaced_identifier, unplaced_operand, unplaced_items, unplaced_select, term_place}
 use Rattle.ent_tree.specs.Places.{unplaced_term, unplaced_item, unplaced_tuple, unplaced_condition, unplaced_entangled}
 use Rattle.ent_tree.specs.declared.entangled.Condition.{Condition}
 use Rattle.ent_tree.specs.declared.entangled.Condition.TheVariants as conditions
@@ -21,7 +21,7 @@ use Rattle.ent_semantics.specs.Database.{Name, is_among}
 use Rattle.ent_semantics.specs.Entangled.{term_variables}
 use Rattle.ent_form.specs.AllFaults.{View, faults_where, kinds_faults, repeated_names, value_kind}
 use Rattle.ent_form.specs.AllFaults.{values, operand_kind, view_of, select_faults}
-use Rattle.ent_form.specs.Entangled.{noted, noted_terms, noted_items, term_place}
+use Rattle.ent_form.specs.Entangled.{noted, noted_terms, noted_items}
 use Rattle.ent_form.specs.EntangledFaults.{shown_kinds, select_kinds, demanding, demanding_all, demanding_unless}
 use Rattle.ent_form.specs.EntangledFaults.{demanded_from, member_faults, members_faults, membership_faults}
 use Rattle.ent_form.specs.EntangledFaults.{memberships_faults, tuple_variables, body_variables, term_faults}
