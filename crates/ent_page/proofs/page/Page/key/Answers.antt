@@ -15,8 +15,8 @@ piece-requires-clause-order c =
     rw c.deref-2.ensures.value
     (start_le c.self.inside.bytes.items c.self.inside.ends.items c.self.invariant c.args.index (omega (arith, n)))
 
-pub piece-requires-clause-within : goal.piece-requires-clause-within
-piece-requires-clause-within c =
+pub piece-requires-clause-end_within : goal.piece-requires-clause-end_within
+piece-requires-clause-end_within c =
     let n = length-shown c.self.inside.bytes.items c.self.inside.ends.items c.args.self.now c.self.view_is in
     rw (c.deref-2.ensures.value, c.deref.ensures.value)
     (place_le c.self.inside.bytes.items c.self.inside.ends.items c.self.invariant (suc c.args.index)
