@@ -1,4 +1,4 @@
-use Rattle.std.proofs.Common.{◌≡◌, ◌<◌, ◌×◌, ℕ, [], ◌∷◌, length, map, refl, sym, ap, subst, ◌∙◌}
+use Rattle.std.proofs.Common.{◌≡◌, ◌<◌, ℕ, [], ◌∷◌, length, map, refl, sym, ap, subst, ◌∙◌}
 use Rattle.std.specs.Arc.{arc_value}
 use Rattle.std.specs.Prelude.{slice_index_or, slice_set}
 use Rattle.ent_set.specs.Sets as set
@@ -18,9 +18,10 @@ use Rattle.ent_semantics.specs.declared.answer.Answer.TheVariants as answers
 use Rattle.ent_check_run.proofs.Ordinary.{applied_so, change_applies, change_there, is_set, meant_so, one_table}
 use Rattle.ent_check_run.proofs.Ordinary.{same_effect, tables_at}
 use Rattle.ent_check_run.proofs.statement.carry_out_ordinary.Goals as goal
+use Rattle.ent_check_run.proofs.statement.carry_out_ordinary.Goals.{After-changed_number, In_ok-rows}
 
 -- the tables over which the outcome was computed are those that the statement names
-are_named : (c : goal.In_ok-rows) → map relation_of c.deref-2.result.now
+are_named : (c : In_ok-rows) → map relation_of c.deref-2.result.now
     ≡ tables_at (map arc_value c.args.tables.now.items) (tables_named c.args.statement.now)
 are_named c =
     ap (map relation_of) c.deref-2.ensures.value
@@ -29,7 +30,7 @@ are_named c =
     ((c.deref.ensures.value ∙ c.in_ok-numbers.ensures) i))
 
 -- the statement means what the outcome says
-means : (c : goal.In_ok-rows) (outcome : Outcome) → c.in_ok-rows.field-0 ≡ outcome
+means : (c : In_ok-rows) (outcome : Outcome) → c.in_ok-rows.field-0 ≡ outcome
     → form_meaning closed_worth c.args.statement.now [] (rows_in (map arc_value c.args.tables.now.items))
     (environment_of c.args.environment.now)
     ≡ effect_of c.args.statement.now outcome (rows_in (map arc_value c.args.tables.now.items))
@@ -43,7 +44,7 @@ returns-in-Rows-clause-meaning c =
     means (goal.at.returns-in-Rows-clause-meaning c).In_ok-rows (outcomes.Rows c.in-Rows.rows) c.in-Rows.is
 
 -- a change is of the one table that the statement names, and can be made there
-changes : (c : goal.After-changed_number)
+changes : (c : After-changed_number)
     → (tables_named c.args.statement.now ≡ changed_number c.args.statement.now ∷ []) × ((table : Relation) ×
     (tables_at (map arc_value c.args.tables.now.items) (tables_named c.args.statement.now) ≡ table ∷ []) ×
     IsApplicable table c.in-Changed.delta)

@@ -9,16 +9,17 @@ use Rattle.ent_waits.specs.Quiet.{state_of}
 use Rattle.ent_waits.proofs.Reasons.{in_order, in_safety, is_least, is_none, least_if_any, least_of_all}
 use Rattle.ent_waits.proofs.Reasons.{posted_ask}
 use Rattle.ent_waits.proofs.reason.reason_of.Goals as goal
+use Rattle.ent_waits.proofs.reason.reason_of.Goals.{In_default, In_default-2, In_default-3}
 
 -- what is known of each state with these parts, once a test found nothing
-none_out : (c : goal.In_default) (s : State)
+none_out : (c : In_default) (s : State)
     → NoneIs (HasJobOut (state_of c.args.run.now c.args.submitted.now c.args.tried.now c.args.lent.now s))
 none_out c s =
     let here = state_of c.args.run.now c.args.submitted.now c.args.tried.now c.args.lent.now s in
     is_none (HasJobOut here) c.in_ok-tx.field-0 c.in_default.is
     (c.in_ok-tx.ensures here (c.requires.posted here refl refl) refl)
 
-none_moves : (c : goal.In_default-2) (s : State)
+none_moves : (c : In_default-2) (s : State)
     → NoneIs (CanMove (state_of c.args.run.now c.args.submitted.now c.args.tried.now c.args.lent.now s))
 none_moves c s =
     let here = state_of c.args.run.now c.args.submitted.now c.args.tried.now c.args.lent.now s in
@@ -26,7 +27,7 @@ none_moves c s =
     (least_of_all here c.active-active.result.now c.in_ok-tx-2.field-0 c.active-active.ensures.list
     (c.in_ok-tx-2.ensures (record s { tried = c.args.tried.now }) (c.requires.posted here refl refl)))
 
-none_untried : (c : goal.In_default-3) (s : State)
+none_untried : (c : In_default-3) (s : State)
     → NoneIs (IsUntried (state_of c.args.run.now c.args.submitted.now c.args.tried.now c.args.lent.now s))
 none_untried c s =
     let here = state_of c.args.run.now c.args.submitted.now c.args.tried.now c.args.lent.now s in
