@@ -7,14 +7,14 @@ use ent_semantics::{Answer, Fact};
 use ent_value::Row;
 
 /// Whether two lists of rows are the same.
-pub fn same_rows(first: &[Row], second: &[Row]) -> bool
+pub(crate) fn same_rows(first: &[Row], second: &[Row]) -> bool
     ensures { result ≡ same_rows first.now second.now }
 {
     first == second
 }
 
 /// Whether two facts are the same.
-pub fn same_fact(first: &Fact, second: &Fact) -> bool
+pub(crate) fn same_fact(first: &Fact, second: &Fact) -> bool
     ensures { result ≡ same_fact first.now second.now }
 {
     first.relation == second.relation && first.values == second.values

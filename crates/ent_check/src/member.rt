@@ -39,7 +39,11 @@ fn has_entangled(script: &Script, told: &Told, place: u64) -> bool
 }
 
 /// Whether a member is an entangled statement of a transaction that has committed.
-pub fn is_entangled_statement(scripts: &[Script], transactions: &[Told], member: &Member) -> bool
+pub(crate) fn is_entangled_statement(
+    scripts: &[Script],
+    transactions: &[Told],
+    member: &Member,
+) -> bool
     ensures { result ≡ list_any (is_statement_of member.now) (accounts_from 1 scripts.now transactions.now) }
 {
     let all = scripts.len().min(transactions.len());

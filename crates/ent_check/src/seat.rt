@@ -11,7 +11,7 @@ use std::collections::BTreeMap;
 pub type Seats = BTreeMap<(u64, u64), (u64, u64)>;
 
 /// A member of these numbers takes its seat, unless its statement has one already.
-pub fn take_seat(
+pub(crate) fn take_seat(
     seats: &mut Seats,
     joint: u64,
     number: u64,

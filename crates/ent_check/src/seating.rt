@@ -11,7 +11,7 @@ use std::alloc::{AllocError, Global};
 use std::collections::BTreeMap;
 
 /// The seat of the member that is the statement of a transaction's place, if there is one.
-pub fn seat_at(seats: &Seats, tx: u64, place: u64) -> Option<(u64, u64)>
+pub(crate) fn seat_at(seats: &Seats, tx: u64, place: u64) -> Option<(u64, u64)>
     ensures { result ≡ get place_cmp seats.now (tx, place) }
 {
     seats.get(&(tx, place)).copied()

@@ -15,7 +15,5 @@ mod transaction;
 
 pub use declared::Declared;
 pub use law::statements_are_found_as_their_forms;
-pub use operation::{Place, Stage, operation_finding};
 pub use serial::{Replayed, replay};
 pub use statement::carry_out;
-pub use transaction::transaction_finding;

@@ -31,14 +31,14 @@ use std::sync::Arc;
 /// What scripts have made so far: the tables as they stand, in the order of their declaration, and what their entangled
 /// statements offered and demanded.
 #[derive(Drop)]
-pub struct Stage {
+pub(crate) struct Stage {
     pub tables: Vec<Arc<Table>>,
     pub offers: Vec<Offer>,
 }
 
 /// A statement's place: the number of its transaction and its own number in the script, both counted from 1.
 #[derive(Clone, Copy)]
-pub struct Place {
+pub(crate) struct Place {
     pub tx: u64,
     pub place: u64,
 }
@@ -105,7 +105,7 @@ fn answer_finding(
 /// Runs a closed statement, an entangled one under the grounding of its seat, and finds what is wrong with it first:
 /// its grounding or its answer. Where nothing is, the tables and the environment are as it leaves them, and what it
 /// offers and demands stands behind the offers.
-pub fn operation_finding(
+pub(crate) fn operation_finding(
     alloc: Global,
     groundings: &Groundings<'_>,
     place: Place,

@@ -35,7 +35,7 @@ fn form_of(alloc: Global, catalogue: &Catalogue, script: &Script) -> Result<Plai
 /// Runs a transaction alone, from the tables as they stand, and finds what is wrong with it first: of each statement
 /// the grounding, then the answer. Where nothing is, the tables are as the transaction leaves them, and what its
 /// entangled statements offer and demand stands behind the offers.
-pub fn transaction_finding(
+pub(crate) fn transaction_finding(
     alloc: Global,
     declared: &Declared<'_>,
     groundings: &Groundings<'_>,

@@ -23,7 +23,7 @@ pub(crate) fn is_among(lists: &[Sequence<Posted>], asked: &[Posted]) -> bool
 }
 
 /// Whether a job is one of exactly these statements.
-fn is_joint_of(job: &Job, asked: &[Posted]) -> bool
+fn is_job_of(job: &Job, asked: &[Posted]) -> bool
     ensures { IsTrue result ↔ (job.now.work ≡ Joint asked.now) }
 {
     match job.work() {
@@ -37,7 +37,7 @@ fn is_out(lent: &[Job], asked: &[Posted]) -> bool
     ensures { IsTrue result ↔ IsOutAmong lent.now asked.now }
 {
     for job in lent {
-        if is_joint_of(job, asked) {
+        if is_job_of(job, asked) {
             return true;
         }
     }

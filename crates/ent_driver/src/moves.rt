@@ -143,7 +143,7 @@ fn go(alloc: Global, core: &mut Core, asked: Move) -> Result<Reply, AllocError>
 /// Takes all jobs back, and makes a move: its event, and where that lends a job the job's result too, whose reply is
 /// told then. Where memory runs out, what was done stands, and the move may be made again; a deadlock is broken without
 /// memory.
-pub fn make_move(alloc: Global, core: &mut Core, asked: Move) -> Result<Reply, AllocError>
+pub(crate) fn make_move(alloc: Global, core: &mut Core, asked: Move) -> Result<Reply, AllocError>
     ensures ok { IfOk result (λ reply. Makes asked core.old (reply_seen reply) core.new) }
     ensures err { OnErr result (StopsMove asked core.old core.new) }
 {

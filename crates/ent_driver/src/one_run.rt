@@ -11,7 +11,7 @@ use std::alloc::{AllocFailed, Global};
 /// Takes all jobs back, and makes one run: it starts, unless one is on; rounds follow until nothing moves in one; and
 /// it ends. Where nothing is left to be done no run is made. Where memory runs out the core comes back with all that
 /// was done, and may be run again.
-pub fn run_once(alloc: Global, core: Core) -> Result<Core, AllocFailed<Core>>
+pub(crate) fn run_once(alloc: Global, core: Core) -> Result<Core, AllocFailed<Core>>
     ensures ok { IfOk result (λ new. RunsOnce core new) }
     ensures handed_back { IfErr result (λ refused. (count : ℕ) × LeadsOn resolved_forms count core refused.value) }
 {

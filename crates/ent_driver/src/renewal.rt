@@ -25,7 +25,7 @@ fn open(alloc: Global, opening: Opening) -> Result<Core, AllocError>
 }
 
 /// A core over the declarations of a book, with the tables that the book ends with. Nothing is submitted to it yet.
-pub fn renewed_core(alloc: Global, book: &FinishedBook) -> Result<Core, DriverFault>
+pub(crate) fn renewed_core(alloc: Global, book: &FinishedBook) -> Result<Core, DriverFault>
     ensures ok { IfOk result (λ core. GoesOnFrom book.now core) }
     ensures refused { IfErr result (λ fault. CannotGoOn book.now fault) }
 {

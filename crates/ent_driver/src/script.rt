@@ -34,7 +34,7 @@ pub fn read_script(alloc: Global, bytes: &[u8]) -> Result<Script, RunFault>
 }
 
 /// Takes the script that bytes are, which then waits for a run, and answers its number. At a refusal nothing changes.
-pub fn submit(alloc: Global, core: &mut Core, bytes: &[u8]) -> Result<Tx, DriverFault>
+pub(crate) fn submit(alloc: Global, core: &mut Core, bytes: &[u8]) -> Result<Tx, DriverFault>
     ensures ok { IfOk result (λ tx. Takes bytes.now core.old tx core.new) }
     ensures err { OnErr result (core.new ≡ core.old) }
     ensures refused { IfErr result (λ fault. IsNotTaken bytes.now core.old fault) }

@@ -34,7 +34,7 @@ fn answers_so_far(core: &Core, tx: Tx) -> &[Answer]
 }
 
 /// The lines of a transaction's answers so far, as the report has them.
-pub fn answers_text(alloc: Global, core: &Core, tx: Tx) -> Result<Vec<u8>, AllocError>
+pub(crate) fn answers_text(alloc: Global, core: &Core, tx: Tx) -> Result<Vec<u8>, AllocError>
     ensures { IfOk result (λ text. text.items ≡ report.answers_text 1 (answers_so_far core.now tx)) }
 {
     let mut text = Vec::new(alloc);
@@ -62,7 +62,7 @@ fn lines_under(alloc: Global, core: &Core, name: &Name) -> Result<Option<Vec<u8>
 }
 
 /// The lines of the table of this name as it stands, as the report has them.
-pub fn table_text(alloc: Global, core: &Core, name: &[u8]) -> Result<Vec<u8>, DriverFault>
+pub(crate) fn table_text(alloc: Global, core: &Core, name: &[u8]) -> Result<Vec<u8>, DriverFault>
     ensures table { IfOk result (λ text. lines_under core.now name.now ≡ Some text.items) }
     ensures refused { IfErr result (λ fault. HasNoTable core.now name.now fault) }
 {
@@ -77,7 +77,7 @@ pub fn table_text(alloc: Global, core: &Core, name: &[u8]) -> Result<Vec<u8>, Dr
 }
 
 /// The report of a book, of this version.
-pub fn report_text(
+pub(crate) fn report_text(
     alloc: Global,
     book: &Book<Sequence<NamedTable>>,
     version: ReportVersion,

@@ -243,7 +243,7 @@ fn obstacle_text(
 }
 
 /// What keeps a transaction from moving now, in a line with its end.
-pub fn why_text(alloc: Global, core: &Core, tx: Tx) -> Result<Vec<u8>, DriverFault>
+pub(crate) fn why_text(alloc: Global, core: &Core, tx: Tx) -> Result<Vec<u8>, DriverFault>
     ensures ok { IfOk result (λ text. TellsWhy core.now tx text.items) }
     ensures refused { IfErr result (λ fault. IsUntold core.now tx fault) }
 {

@@ -9,6 +9,7 @@ ghost use Rattle.ent_report_draft.specs.View.{HasRoom, IsMemberAt, NoMember, due
 use ent_value::Sequence;
 
 /// What has to stand next below the lines that stand. `more` says how many rows are due behind the next one.
+#[derive(Drop)]
 pub(crate) enum Due {
     /// The first line.
     Heading,
@@ -35,25 +36,6 @@ pub(crate) enum Due {
     },
     /// Nothing: the last line stands.
     Ended,
-}
-
-/// Written out, so that the crates above call it, and none makes and compiles it anew.
-impl Drop for Due {
-    fn drop(self) {
-        match self {
-            Due::Heading => {}
-            Due::Free => {}
-            Due::OpeningRows { more: _more } => {}
-            Due::AnswerRows { more: _more } => {}
-            Due::Members {
-                tx: _tx,
-                place: _place,
-                more: _more,
-            } => {}
-            Due::TableRows { more: _more } => {}
-            Due::Ended => {}
-        }
-    }
 }
 
 impl Due {

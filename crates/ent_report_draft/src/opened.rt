@@ -20,6 +20,7 @@ use std::alloc::{AllocError, Global};
 use std::marker::Model;
 
 /// The tables of an opening and its rows, as far as they are told.
+#[derive(Drop)]
 pub(crate) struct Opened {
     tables: Limited<Create, MOST_TABLES>,
     rows: Limited<OpeningRow, MOST_OPENING_ROWS>,
@@ -27,18 +28,6 @@ pub(crate) struct Opened {
     last_row: Option<Row>,
     /// The tables, as statements are resolved against them.
     catalogue: Catalogue,
-}
-
-/// Written out, so that the crates above call it, and none makes and compiles it anew.
-impl Drop for Opened {
-    fn drop(self) {
-        let Opened {
-            tables: _tables,
-            rows: _rows,
-            last_row: _last_row,
-            catalogue: _catalogue,
-        } = self;
-    }
 }
 
 impl Model for Opened {

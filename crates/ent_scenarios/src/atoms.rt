@@ -17,19 +17,10 @@ pub(crate) struct Sides {
 }
 
 /// An atom, and whose it is.
+#[derive(Drop)]
 struct Owned {
     member: usize,
     atom: Atom<Value>,
-}
-
-/// Written out, so that it is proved once.
-impl Drop for Owned {
-    fn drop(self) {
-        let Owned {
-            member: _member,
-            atom: _atom,
-        } = self;
-    }
 }
 
 fn read_term(alloc: Global, word: &str) -> Result<Term<Value>> {

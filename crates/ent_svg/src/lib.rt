@@ -16,4 +16,4 @@ mod svg;
 
 pub use ent_trace_reader::StrangeLine;
 pub use escape::{escaped, escaped_texts_hold_no_markup};
-pub use svg::{draw, svg_of};
+pub use svg::draw;

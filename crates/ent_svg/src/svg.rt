@@ -13,7 +13,7 @@ use ent_value::Refusal;
 use std::alloc::Global;
 
 /// The SVG of a picture of a trace. Where memory runs out there is none.
-pub fn svg_of(alloc: Global, picture: &Picture, trace: &[Exchange]) -> Option<Vec<u8>> {
+pub(crate) fn svg_of(alloc: Global, picture: &Picture, trace: &[Exchange]) -> Option<Vec<u8>> {
     let place = Place::new(picture.columns.len() as u64, picture.lanes.len() as u64);
     let mut sheet = Sheet::new(alloc);
     put_head(

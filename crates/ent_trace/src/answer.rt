@@ -5,7 +5,7 @@ use ent_value::Row;
 use std::alloc::Global;
 
 /// An answer as a report has it, in one line and without its place.
-pub fn put_answer(alloc: Global, text: &mut Text, answer: &Answer) {
+pub(crate) fn put_answer(alloc: Global, text: &mut Text, answer: &Answer) {
     match answer {
         Answer::Count(count) => text.put_number("count", *count),
         Answer::Value(value) => {

@@ -3,7 +3,7 @@ use crate::text::Text;
 use ent_sched::Told;
 
 /// The line of an event, where the mark of a result is the number of its job, counted from 1 as jobs are lent.
-pub fn put_event(text: &mut Text, told: &Told<u64>) {
+pub(crate) fn put_event(text: &mut Text, told: &Told<u64>) {
     match told {
         Told::StartRun => text.put("start_run"),
         Told::Begin(tx) => text.put_number("begin", *tx),

@@ -9,8 +9,7 @@ mod reply;
 mod text;
 mod trace;
 
-pub use answer::{put_answer, put_answers, put_rows};
-pub use event::put_event;
+pub use answer::{put_answers, put_rows};
 pub use reply::{failure_name, put_reply};
 pub use text::Text;
 pub use trace::Trace;

@@ -62,7 +62,11 @@ fn least_out(alloc: Global, posted: &[Posted], lent: &[Job]) -> Result<Option<Tx
 
 /// The least transaction that has a job out: one of its statements, or posted statements with its own that are a
 /// component now; none where no job is out. Jobs of posted statements that are no component any more don't count.
-pub fn job_out(alloc: Global, posted: &[Posted], lent: &[Job]) -> Result<Option<Tx>, AllocError>
+pub(crate) fn job_out(
+    alloc: Global,
+    posted: &[Posted],
+    lent: &[Job],
+) -> Result<Option<Tx>, AllocError>
     requires by_number { IsByNumber posted.now }
     requires safe { IsSafe posted.now }
     ensures { IfOk result (λ least. (s : State)

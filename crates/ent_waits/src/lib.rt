@@ -26,6 +26,5 @@ mod waiting;
 
 pub use cycles::deadlock;
 pub use free::blocker_of;
-pub use jobs::job_out;
 pub use reason::{Reason, reason_of};
 pub use victim::{Victim, victim_of};
