@@ -1,6 +1,7 @@
 -- Members that are taken out of the run.
 use Rattle.std.proofs.Common.{◌≡◌, ◌≤◌, ◌+◌, ◌==◌, ◌||◌, ℕ, zero, suc, Bool, true, false, cond, not, List, [], ◌∷◌}
 use Rattle.std.proofs.Common.{◌++◌, length, map, refl, sym, ap, subst, ◌∙◌, arith, rules, nat_eq, Option, Some, None}
+use Rattle.std.specs.Prelude.{IfSome, IsNone}
 use Rattle.std.specs.List.{AllByRecursion, IsDistinct, cons_option, filter, filter_map, list_any}
 use Rattle.std.proofs.lemmas.List.{length-map, map-append}
 use Rattle.ent_lists.specs.Elements.{all_joined}
@@ -10,10 +11,10 @@ use Rattle.ent_form.specs.declared.catalogue.TableSchema.{TableSchema}
 use Rattle.ent_members.specs.declared.run_attempts.RunAttempt.{RunAttempt}
 use Rattle.ent_members.specs.RunAttempts.{run_attempt_of, numbers_in, run_attempts_in}
 use Rattle.ent_members.specs.Run.{Run, tx_of}
-use Rattle.ent_members.proofs.ByNumber.{run_attempt_numbers}
+use Rattle.ent_members.proofs.ByNumber.{every_run_attempt, group_run_attempts, run_attempt_numbers}
 use Rattle.ent_protocol.specs.Job.{Job, Work, One, Joint}
 use Rattle.ent_protocol.specs.Rollback.{Cause, dormant_by, fated_by, goes_with, is_among, is_joint_of}
-use Rattle.ent_protocol.specs.Rollback.{put_back, taken_out}
+use Rattle.ent_protocol.specs.Rollback.{group_members, put_back, taken_out}
 use Rattle.ent_protocol.specs.State.{State, Submitted, Dormant, Member, Change, by_number, members}
 use Rattle.ent_transaction_table.specs.ByNumber.{IsNumbered}
 use Rattle.ent_transaction_table.specs.Leaving.{IsWithin, as_member}
@@ -293,7 +294,15 @@ may_leave s gone stand part fewer =
         let few = fewer n in
         omega (arith, all, joined, behind, here, same, few)
 
--- those whom the run tells are those who may leave
+-- whom the run tells
+pub who_left : (group : Option ℕ) (s : State) (left : List RunAttempt)
+    → IfSome group (λ label. left ≡ map run_attempt_of (group_members s label))
+    → (IsNone group → left ≡ map run_attempt_of (by_number tx_of (members s)))
+    → left ≡ run_attempts_in group (members s)
+who_left None s left of_group of_all = of_all refl ∙ sym (every_run_attempt (members s))
+who_left (Some label) s left of_group of_all = of_group ∙ sym (group_run_attempts label (members s))
+
+-- they are those who may leave
 pub may_leave_run : (group : Option ℕ) (run_attempts : List RunAttempt) (s old : State) → s ≡ old
     → run_attempts ≡ run_attempts_in group (members s) → MayLeave (run_attempts_in group (members old)) old
     → MayLeave run_attempts s

@@ -49,7 +49,7 @@ unanswered : (front : List MemberAnswer) (member : Member) → AreApart front me
 unanswered [] member apart = refl
 unanswered (first ∷ front) member apart =
     ap (λ b. if b then stepping first.answer first.bound member else answered_from front member)
-    (eq_turned first.tx member.tx apart.0)
+    (eq_turned member.tx first.tx ∙ apart.0)
     ∙ unanswered front member apart.1
 
 its_own : (front : List MemberAnswer) (own : MemberAnswer) (member : Member) → AreApart front member.tx
@@ -58,7 +58,7 @@ its_own : (front : List MemberAnswer) (own : MemberAnswer) (member : Member) →
 its_own [] own member apart is = ap (λ b. if b then stepping own.answer own.bound member else member) is
 its_own (first ∷ front) own member apart is =
     ap (λ b. if b then stepping first.answer first.bound member else answered_from (front ++ own ∷ []) member)
-    (eq_turned first.tx member.tx apart.0)
+    (eq_turned member.tx first.tx ∙ apart.0)
     ∙ its_own front own member apart.1 is
 
 another : (front : List MemberAnswer) (own : MemberAnswer) (member : Member) → is_tx own.tx member ≡ false
@@ -78,7 +78,7 @@ others front own (x ∷ xs) all =
 turned : (tx : ℕ) (ns : List ℕ) → AllByRecursion (λ n. nat_eq tx n ≡ false) ns
     → AllByRecursion (λ n. (n == tx) ≡ false) ns
 turned tx [] all = tt
-turned tx (n ∷ ns) all = (eq_turned tx n all.0, turned tx ns all.1)
+turned tx (n ∷ ns) all = (eq_turned n tx ∙ all.0, turned tx ns all.1)
 
 pub one_more : (front : List MemberAnswer) (own : MemberAnswer) (xs : List Member) (i : ℕ) (new d : Member)
     → AreApart front own.tx → IsDistinct nat_eq (map tx_of xs) → i < length xs → (get_or xs i d).tx ≡ own.tx
@@ -149,11 +149,6 @@ answered_group (own ∷ more) member = by (is_tx own.tx member) (answered_group 
         → (if b then stepping own.answer own.bound member else answered_from more member).group ≡ member.group
     by true rest = refl
     by false rest = rest
-
-pub answered_numbers : (given : List MemberAnswer) (xs : List Member)
-    → map tx_of (map (answered_from given) xs) ≡ map tx_of xs
-answered_numbers given [] = refl
-answered_numbers given (x ∷ xs) = λ i. answered_tx given x i ∷ answered_numbers given xs i
 
 same_labels : (numbers : List ℕ) (given : List MemberAnswer) (xs : List Member)
     → labels_in numbers (map (answered_from given) xs) ≡ labels_in numbers xs

@@ -7,12 +7,12 @@ use Rattle.ent_protocol.specs.State.{Member}
 use Rattle.ent_members.specs.Order.{IsAscending}
 use Rattle.ent_members.specs.Run.{IsRun, tx_of}
 
-apart : (n m : ℕ) → n < m → nat_eq n m ≡ false
-apart n m below = grind (arith, nat_tests)
+pub eq_below : (n m : ℕ) → n < m → nat_eq n m ≡ false
+eq_below n m below = grind (arith, nat_tests)
 
 all_apart : (n : ℕ) (ns : List ℕ) → AllByRecursion (λ m. n < m) ns → AllByRecursion (λ m. nat_eq n m ≡ false) ns
 all_apart n [] all = tt
-all_apart n (m ∷ ms) all = (apart n m all.0, all_apart n ms all.1)
+all_apart n (m ∷ ms) all = (eq_below n m all.0, all_apart n ms all.1)
 
 distinct_numbers : (ns : List ℕ) → IsAscending ns → IsDistinct nat_eq ns
 unfolding IsDistinct

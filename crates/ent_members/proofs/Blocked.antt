@@ -1,26 +1,26 @@
 -- Who blocks by the lock table is who is in conflict.
-use Rattle.std.proofs.Common.{◌≡◌, ◌⊎◌, inl, inr, ℕ, Bool, true, false, not, ◌==◌, ◌&&◌, ◌||◌, if◌then◌else◌}
-use Rattle.std.proofs.Common.{List, [], ◌∷◌, ◌++◌, map, refl, sym, ap, subst, ◌∙◌, arith, true≢false}
-use Rattle.std.specs.Prelude.{Contains, filter, ◌↔◌, Option, IsTrue}
+use Rattle.std.proofs.Common.{◌≡◌, ◌⊎◌, inl, inr, ℕ, true, not, ◌==◌}
+use Rattle.std.proofs.Common.{List, ◌∷◌, ◌++◌, map, refl, sym, ap, subst, ◌∙◌}
+use Rattle.std.specs.Prelude.{Contains, filter, Option}
 use Rattle.std.specs.List.{list_any}
 use Rattle.std.proofs.lemmas.List.Elements.{Contains-append_left, Contains-append_right, Contains-append_cases}
+use Rattle.ent_lists.specs.Elements.{and_both, both_and, number_itself, same_number}
 use Rattle.ent_lock.specs.declared.mode.Mode.{Mode}
 use Rattle.ent_lock.specs.declared.mode.Mode.TheVariants.{Shared, Exclusive}
 use Rattle.ent_lock.specs.Holders.{lesser}
 use Rattle.ent_lock.specs.Mode.{in_conflict}
-use Rattle.ent_lock.specs.Use.{Uses, Holds, InConflictAt, IsLeastIfAny, key_of_number}
+use Rattle.ent_lock.specs.Use.{Uses, InConflictAt, IsLeastIfAny, key_of_number}
 use Rattle.ent_protocol.specs.State.{State, Member, Use}
-use Rattle.ent_protocol.specs.Uses.{conflicting, is_conflicting, not_passed, uses_conflict, least, blocker}
+use Rattle.ent_protocol.specs.Uses.{is_conflicting, uses_conflict, least, blocker}
 use Rattle.ent_members.specs.declared.blockers.Passed.TheVariants.{Group, Itself}
-use Rattle.ent_members.specs.Locks.{IsHeld, BlocksUses, IsLockedRun, passed_numbers, use_of}
+use Rattle.ent_members.specs.Locks.{BlocksUses, IsLockedRun, passed_numbers, use_of}
 use Rattle.ent_members.specs.Moves.{run_of}
 use Rattle.ent_members.specs.Passed.{is_passed}
 use Rattle.ent_members.specs.Run.{with_run, tx_of}
 use Rattle.ent_members.proofs.LeastOf.{least_either, least_of_list, least_same, one_least}
-use Rattle.ent_members.proofs.Lists.{contains_none, contains_cases, contains_first, contains_later}
+use Rattle.ent_members.proofs.Lists.{contains_cases, contains_first, contains_later}
 use Rattle.ent_members.proofs.Lists.{any_of, some_of, into_filter, out_of_filter, into_map, out_of_map}
-use Rattle.ent_members.proofs.Locked.{eq_is, eq_refl, not_false, not_true, held_by_one, either_member, one_member}
-use Rattle.ent_members.proofs.HeldUses.{both_true}
+use Rattle.ent_members.proofs.Locked.{not_false, not_true, either_member, one_member}
 
 turned : (a b : Mode) → in_conflict a b ≡ true → in_conflict b a ≡ true
 turned Shared Shared e = e
@@ -28,13 +28,7 @@ turned Shared Exclusive e = refl
 turned Exclusive Shared e = refl
 turned Exclusive Exclusive e = refl
 
-both : (a b : Bool) → a ≡ true → b ≡ true → (a && b) ≡ true
-both a b e f = λ i. e i && f i
-
 -- ---- the uses that are asked for, one by one
-
-pub none_in_conflict : (locks : Uses) (pass : List ℕ) (v : ℕ) → ¬ BlocksUses locks [] pass v
-none_in_conflict locks pass v (apart, (own, there, conflict)) = contains_none own there
 
 pub least_of_more : (locks : Uses) (first : Use) (rest : List Use) (pass : List ℕ) (a b : Option ℕ)
     → IsLeastIfAny (λ v. ¬ Contains pass v × InConflictAt locks v (key_of_number first.table) first.mode) a
@@ -65,9 +59,9 @@ conflict_of : (asked : List Use) (holder : Member) → is_conflicting asked hold
 conflict_of asked holder way =
     let own = some_of (λ own. list_any (uses_conflict own) holder.uses) asked way in
     let other = some_of (uses_conflict own.0) holder.uses own.2 in
-    let parts = both_true (own.0.table == other.0.table) (in_conflict own.0.mode other.0.mode) other.2 in
+    let parts = and_both (own.0.table == other.0.table) (in_conflict own.0.mode other.0.mode) other.2 in
     let same : other.0 ≡ use_of own.0.table other.0.mode =
-    λ i. use_of (sym (eq_is own.0.table other.0.table parts.0) i) other.0.mode in
+    λ i. use_of (sym (same_number own.0.table other.0.table parts.0) i) other.0.mode in
     (own.0, own.1, (other.0.mode, subst (Contains holder.uses) same other.1, turned own.0.mode other.0.mode parts.1))
 
 way_of : (asked : List Use) (holder : Member) (own : Use) (theirs : Mode) → Contains asked own
@@ -75,7 +69,8 @@ way_of : (asked : List Use) (holder : Member) (own : Use) (theirs : Mode) → Co
 way_of asked holder own theirs there held conflict =
     any_of (λ u. list_any (uses_conflict u) holder.uses) asked own there
     (any_of (uses_conflict own) holder.uses (use_of own.table theirs) held
-    (both (own.table == own.table) (in_conflict own.mode theirs) (eq_refl own.table) (turned theirs own.mode conflict)))
+    (both_and (own.table == own.table) (in_conflict own.mode theirs) (number_itself own.table)
+    (turned theirs own.mode conflict)))
 
 -- ---- who is passed
 

@@ -1,7 +1,7 @@
 -- Lists that are put in order by number.
 use Rattle.std.proofs.Common.{◌≡◌, ℕ, suc, ◌<◌, ◌≤◌, Bool, true, false, nat_lt, nat_eq, if◌then◌else◌, List, [], ◌∷◌}
 use Rattle.std.proofs.Common.{◌++◌, length, map, insert, refl, sym, ap, subst, ◌∙◌, arith}
-use Rattle.std.specs.Prelude.{Option, Some, None}
+use Rattle.std.specs.Prelude.{IfSome, IsNone, Option, Some, None}
 use Rattle.std.specs.List.{filter, IsDistinct, AllByRecursion}
 use Rattle.std.proofs.lemmas.Bool.Decides.{nat_tests}
 use Rattle.ent_protocol.specs.Member.{is_of}
@@ -163,6 +163,16 @@ group_run_attempts group xs = run_attempts_are (Some group) xs
 
 pub every_run_attempt : (xs : List Member) → run_attempts_in None xs ≡ map run_attempt_of (by_number tx_of xs)
 every_run_attempt xs = run_attempts_are None xs ∙ ap (λ ys. map run_attempt_of (by_number tx_of ys)) (all_within xs)
+
+pub group_left : (group : Option ℕ) (xs : List Member) (left : List RunAttempt) → left ≡ run_attempts_in group xs
+    → IfSome group (λ label. left ≡ map run_attempt_of (by_number tx_of (filter (is_of label) xs)))
+group_left None xs left is = tt
+group_left (Some label) xs left is = is ∙ group_run_attempts label xs
+
+pub all_left : (group : Option ℕ) (xs : List Member) (left : List RunAttempt) → left ≡ run_attempts_in group xs
+    → IsNone group → left ≡ map run_attempt_of (by_number tx_of xs)
+all_left None xs left is none = is ∙ every_run_attempt xs
+all_left (Some label) xs left is none = cc
 
 pub run_attempt_numbers : (xs : List Member) → numbers_in (map run_attempt_of xs) ≡ map tx_of xs
 run_attempt_numbers [] = refl

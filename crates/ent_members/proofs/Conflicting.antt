@@ -1,5 +1,5 @@
 -- Those that are in conflict.
-use Rattle.std.proofs.Common.{◌≡◌, ℕ, Bool, true, false, not, ◌==◌, ◌&&◌, if◌then◌else◌, List, [], ◌∷◌, ◌++◌, map}
+use Rattle.std.proofs.Common.{◌≡◌, ℕ, Bool, true, false, not, ◌&&◌, if◌then◌else◌, List, [], ◌∷◌, ◌++◌, map}
 use Rattle.std.proofs.Common.{◌+◌, ◌<◌, length, take, get_or, refl, sym, ap, ◌∙◌}
 use Rattle.std.specs.Prelude.{Option, Some, None, nat_lt}
 use Rattle.std.specs.List.{filter}
@@ -31,7 +31,7 @@ filtered_twice asked passed (x ∷ xs) =
 
 -- ---- the numbers of those that are passed
 
-number_if : (member : Member) (b : Bool)
+pub number_if : (member : Member) (b : Bool)
     → map tx_of (if b then member ∷ [] else []) ≡ (if b then member.tx ∷ [] else [])
 number_if member true = refl
 number_if member false = refl

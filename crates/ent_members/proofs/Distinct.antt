@@ -1,34 +1,24 @@
 -- Members of different numbers.
-use Rattle.std.proofs.Common.{◌≡◌, inl, inr, ℕ, suc, ◌<◌, Bool, true, false, nat_eq, if◌then◌else◌, List, [], ◌∷◌, ◌++◌, map, refl, ap, sym}
-use Rattle.std.proofs.Common.{subst, ◌∙◌, arith}
-use Rattle.std.specs.Prelude.{Contains, filter, All, AllPairs}
+use Rattle.std.proofs.Common.{◌≡◌, inl, inr, ℕ, suc, ◌<◌, Bool, true, false, nat_eq, if◌then◌else◌, List, [], ◌∷◌, ◌++◌}
+use Rattle.std.proofs.Common.{map, refl, sym, subst, arith}
+use Rattle.std.specs.Prelude.{Contains, filter, AllPairs}
 use Rattle.std.specs.List.{IsDistinct, AllByRecursion}
 use Rattle.std.specs.List.Sorted.{IsStrictlyIncreasing}
-use Rattle.std.proofs.lemmas.Bool.Decides.{nat_tests}
-use Rattle.std.proofs.lemmas.List.Elements.{All-head, All-tail}
 use Rattle.std.proofs.lemmas.List.Kept.{AllPairs-from_increasing}
+use Rattle.ent_lists.specs.Elements.{all_index, other_number}
 use Rattle.ent_protocol.specs.State.{Member}
 use Rattle.ent_members.specs.Order.{IsAscending}
 use Rattle.ent_members.specs.Run.{tx_of}
 use Rattle.ent_members.proofs.Ascending.{all_filter}
 use Rattle.ent_members.proofs.Lists.{contains_none, contains_cases, contains_first, contains_later}
 
-eq_is : (a b : ℕ) → nat_eq a b ≡ true → a ≡ b
-eq_is a b is = grind (arith, nat_tests)
-
-differs : (a b : ℕ) → (a ≡ b → ⊥) → nat_eq a b ≡ false
-differs a b apart = by_test (nat_eq a b) refl
-  where
-    by_test : (t : Bool) → nat_eq a b ≡ t → nat_eq a b ≡ false
-    by_test true is = absurd (apart (eq_is a b is))
-    by_test false is = is
-
--- a number that none of them has differs from each
+-- a number that none of them has other_number from each
 pub all_differ : (n : ℕ) (xs : List Member) → (Contains (map tx_of xs) n → ⊥)
     → AllByRecursion (λ k. nat_eq n k ≡ false) (map tx_of xs)
 all_differ n [] apart = tt
 all_differ n (x ∷ xs) apart = (
-  differs n x.tx (λ same. apart (subst (Contains (x.tx ∷ map tx_of xs)) (sym same) (contains_first x.tx (map tx_of xs)))),
+  other_number n x.tx (λ same. apart
+      (subst (Contains (x.tx ∷ map tx_of xs)) (sym same) (contains_first x.tx (map tx_of xs)))),
   all_differ n xs (λ there. apart (contains_later x.tx n (map tx_of xs) there)),
 )
 
@@ -65,14 +55,10 @@ distinct_filter p (x ∷ xs) distinct =
 
 -- ---- numbers that rise
 
-all_of : (P : ℕ → Type 0) (ns : List ℕ) → All P ns → AllByRecursion P ns
-all_of P [] all = tt
-all_of P (n ∷ ns) all = (All-head P n ns all, all_of P ns (All-tail P n ns all))
-
 ascending_pairs : (ns : List ℕ) → AllPairs (λ n m. n < m) ns → IsAscending ns
 ascending_pairs [] pairs = tt
 ascending_pairs (n ∷ ns) pairs = (
-  all_of (λ m. n < m) ns (λ k d within. pairs 0 (suc k) d (omega arith) (omega (arith, within))),
+  all_index (λ m. n < m) ns (λ k d within. pairs 0 (suc k) d (omega arith) (omega (arith, within))),
   ascending_pairs ns (λ i j d below within. pairs (suc i) (suc j) d (omega (arith, below)) (omega (arith, within))),
 )
 

@@ -7,20 +7,18 @@ use Rattle.std.proofs.lemmas.List.{map-append, take_more}
 use Rattle.std.proofs.lemmas.List.Elements.{Contains-append_left, Contains-append_right, Contains-append_cases}
 use Rattle.ent_group.specs.declared.groups.Membership.{Membership}
 use Rattle.ent_group.specs.Groups.{group_of}
+use Rattle.ent_lists.specs.Elements.{number_itself, same_number, turned}
 use Rattle.ent_protocol.specs.Member.{is_tx}
 use Rattle.ent_protocol.specs.Run.{fresh}
 use Rattle.ent_protocol.specs.State.{Dormant, Member}
-use Rattle.ent_members.specs.Grouped.{AreGrouped, AreNamed, IsLabelled, unless_gone}
+use Rattle.ent_members.specs.Grouped.{AreGrouped, IsLabelled, unless_gone}
 use Rattle.ent_members.specs.Run.{tx_of}
 use Rattle.ent_members.proofs.Lists.{contains_none, contains_cases, contains_first}
 use Rattle.ent_members.proofs.Lists.{into_filter, out_of_filter, into_map, out_of_map}
-use Rattle.ent_members.proofs.Locked.{eq_is, eq_refl, not_false, not_true, one_member}
-use Rattle.ent_members.proofs.OneMember.{removed_at}
+use Rattle.ent_members.proofs.Locked.{one_member}
+use Rattle.ent_members.proofs.OneMember.{removed_at, some_same}
 
 -- ---- labels
-
-pub some_is : (a b : ℕ) → Some a ≡ Some b → a ≡ b
-some_is a b same = let is : Some a ≡ Some b = same in cc
 
 pub none_is_some : (a : ℕ) → None ≡ Some a → ⊥
 none_is_some a same = let is : None ≡ Some a = same in absurd cc
@@ -33,7 +31,7 @@ label_of groups members member grouped there = (grouped.labels member.tx member.
 pub one_label : (groups : List Membership) (members : List Member) (m n : Member) → AreGrouped groups members
     → Contains members m → Contains members n → m.tx ≡ n.tx → m.group ≡ n.group
 one_label groups members m n grouped there also same =
-    some_is m.group n.group
+    some_same m.group n.group
     (sym (label_of groups members m grouped there) ∙ ap (group_of groups) same ∙ label_of groups members n grouped also)
 
 -- other members of which each number has the label that it had
@@ -77,14 +75,14 @@ module _ (old new : List Membership) (one : Member) (alone : one.group ≡ one.t
   added_if x b is = added x ∙ ap (λ t. if t then Some one.tx else group_of old x) is
 
   own_label : group_of new one.tx ≡ Some one.tx
-  own_label = added_if one.tx true (eq_refl one.tx)
+  own_label = added_if one.tx true (number_itself one.tx)
 
   other_label : (x group : ℕ) → group_of old x ≡ Some group → group_of new x ≡ Some group
   other_label x group is = by_test (one.tx == x) refl
     where
       by_test : (b : Bool) → (one.tx == x) ≡ b → group_of new x ≡ Some group
       by_test true same =
-          absurd (none_is_some group (sym apart ∙ ap (group_of old) (eq_is one.tx x same) ∙ is))
+          absurd (none_is_some group (sym apart ∙ ap (group_of old) (same_number one.tx x same) ∙ is))
       by_test false same = added_if x false same ∙ is
 
   label_cases : (x group : ℕ) → group_of new x ≡ Some group
@@ -93,7 +91,7 @@ module _ (old new : List Membership) (one : Member) (alone : one.group ≡ one.t
     where
       by_test : (b : Bool) → (one.tx == x) ≡ b
           → ((one.tx ≡ x) × (one.tx ≡ group)) ⊎ (group_of old x ≡ Some group)
-      by_test true same = inl (eq_is one.tx x same, some_is one.tx group (sym (added_if x true same) ∙ is))
+      by_test true same = inl (same_number one.tx x same, some_same one.tx group (sym (added_if x true same) ∙ is))
       by_test false same = inr (sym (added_if x false same) ∙ is)
 
   pub grouped_more : (members : List Member) → AreGrouped old members → AreGrouped new (members ++ one ∷ [])
@@ -146,7 +144,7 @@ apart_before (x ∷ xs) (suc i) e other lt at distinct there same =
   where
     by_cases : (Contains (take i xs) other → ⊥) → (x ≡ other) ⊎ Contains (take i xs) other → ⊥
     by_cases rest (inl is) =
-        true≢false (sym (ap (λ n. n == e.tx) (ap number_of is ∙ same) ∙ eq_refl e.tx)
+        true≢false (sym (ap (λ n. n == e.tx) (ap number_of is ∙ same) ∙ number_itself e.tx)
         ∙ all_to (λ n. nat_eq x.tx n ≡ false) xs i e (omega (arith, lt)) at distinct.0)
     by_cases rest (inr later) = rest later
 
@@ -226,7 +224,8 @@ grouped_prepared groups prepared active i member lt at distinct grouped =
     to_last : (tx group : ℕ) (m : Member) (b : Bool) → is_tx member.tx m ≡ b → Contains active m → m.tx ≡ tx
         → m.group ≡ group → IsLabelled ((prepared ++ member ∷ []) ++ remove active i) tx group
     to_last tx group m true is there here labelled =
-        let one : m ≡ member = one_member active distinct m member there there_before (eq_is m.tx member.tx is) in (
+        let one : m ≡ member =
+        one_member active distinct m member there there_before (same_number m.tx member.tx is) in (
           m,
           Contains-append_left (prepared ++ member ∷ []) (remove active i) m (Contains-append_right prepared (member ∷ [])
               m (subst (Contains (member ∷ [])) (sym one) (contains_first member []))),
@@ -290,7 +289,7 @@ module _ (gone : ℕ) (old new : List Membership)
       by_test before true had same =
           absurd (none_is_some group (sym (left x ∙ ap (unless_gone gone) had ∙ gone_if gone before true same) ∙ is))
       by_test before false had same =
-          let one : before ≡ group = some_is before group (sym (stays x before had same) ∙ is) in
+          let one : before ≡ group = some_same before group (sym (stays x before had same) ∙ is) in
           (had ∙ ap Some one, ap (λ g. g == gone) (sym one) ∙ same)
 
       by_label : (o : Option ℕ) → group_of old x ≡ o → (group_of old x ≡ Some group) × ((group == gone) ≡ false)
@@ -310,16 +309,12 @@ module _ (gone : ℕ) (old new : List Membership)
       λ has.
           let inside = out_of_filter p members has.0 has.1 in
           stays tx group ((grouped.labels tx group).1 (has.0, inside.0, has.2, has.3))
-          (ap (λ g. g == gone) (sym has.3) ∙ is_false (has.0.group == gone) (sym (tells has.0 inside.0) ∙ inside.1)),
+          (ap (λ g. g == gone) (sym has.3) ∙ turned (has.0.group == gone) (sym (tells has.0 inside.0) ∙ inside.1)),
     );
     named = λ tx group is.
         let before = was tx group is in
         stays group group (grouped.named tx group before.0) before.1;
   }
-    where
-      is_false : (b : Bool) → not b ≡ true → b ≡ false
-      is_false true other = absurd (true≢false (sym other))
-      is_false false other = refl
 
 pub grouped_none : (p : Member → Bool) (members : List Member) → ((m : Member) → Contains members m → p m ≡ false)
     → AreGrouped [] (filter p members)

@@ -1,8 +1,9 @@
 -- The uses that a member holds, with those that are asked for.
-use Rattle.std.proofs.Common.{◌≡◌, ◌⊎◌, inl, inr, ℕ, Bool, true, false, ◌==◌, ◌&&◌, nat_lt, if◌then◌else◌, List, [], ◌∷◌, map}
-use Rattle.std.proofs.Common.{refl, sym, ap, subst, ◌∙◌, arith, true≢false}
+use Rattle.std.proofs.Common.{◌≡◌, ◌⊎◌, inl, inr, ℕ, Bool, true, false, ◌==◌, nat_lt, if◌then◌else◌, List, [], ◌∷◌, map}
+use Rattle.std.proofs.Common.{refl, sym, ap, subst, ◌∙◌, arith}
 use Rattle.std.specs.Prelude.{Contains, Some, IsSome}
 use Rattle.std.specs.List.{list_any}
+use Rattle.ent_lists.specs.Elements.{and_both, same_number}
 use Rattle.ent_lock.specs.declared.mode.Mode.{Mode}
 use Rattle.ent_lock.specs.declared.mode.Mode.TheVariants.{Shared, Exclusive}
 use Rattle.ent_lock.specs.Mode.{mode_rank}
@@ -13,11 +14,7 @@ use Rattle.ent_members.specs.Locks.{IsLockedRun, Locks, use_of}
 use Rattle.ent_members.specs.Places.{Changes, found}
 use Rattle.ent_members.specs.Run.{tx_of}
 use Rattle.ent_members.proofs.Lists.{contains_none, contains_cases, contains_first, contains_later, some_of}
-use Rattle.ent_members.proofs.Locked.{Adds, eq_is, run_changed, some_member}
-
-pub both_true : (a b : Bool) → (a && b) ≡ true → (a ≡ true) × (b ≡ true)
-both_true true b e = (refl, e)
-both_true false b e = absurd (true≢false (sym e))
+use Rattle.ent_members.proofs.Locked.{run_changed, some_value}
 
 same_mode : (a b : Mode) → mode_rank a ≡ mode_rank b → a ≡ b
 same_mode Shared Shared e = refl
@@ -27,9 +24,9 @@ same_mode Exclusive Exclusive e = refl
 
 same_is : (a b : Use) → same_use a b ≡ true → a ≡ b
 same_is a b e =
-    let parts = both_true (a.table == b.table) (mode_rank a.mode == mode_rank b.mode) e in
-    let table : a.table ≡ b.table = eq_is a.table b.table parts.0 in
-    let mode : a.mode ≡ b.mode = same_mode a.mode b.mode (eq_is (mode_rank a.mode) (mode_rank b.mode) parts.1) in
+    let parts = and_both (a.table == b.table) (mode_rank a.mode == mode_rank b.mode) e in
+    let table : a.table ≡ b.table = same_number a.table b.table parts.0 in
+    let mode : a.mode ≡ b.mode = same_mode a.mode b.mode (same_number (mode_rank a.mode) (mode_rank b.mode) parts.1) in
     λ i. use_of (table i) (mode i)
 
 -- ---- one more in a list by number
@@ -175,7 +172,7 @@ pub run_held : (change : List Use → Member → Member) → ((us : List Use) (m
     → Changes (change uses) tx old new → map tx_of new ≡ map tx_of old → Locks tx asked locks next
     → IsLockedRun next prepared new
 run_held change same sets locks next prepared old new asked uses tx run there are changes numbers more =
-    let one = some_member (found old tx) there in
+    let one = some_value (found old tx) there in
     let is : (change uses one.0).uses ≡ with_uses asked one.0.uses = sets uses one.0 ∙ are one.0 one.1 in
     run_changed locks next prepared old new (change uses) asked tx one.0 run one.1 changes numbers
     (record {

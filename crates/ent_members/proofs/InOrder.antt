@@ -1,4 +1,4 @@
--- What members that stand by number allow: a search, the first as the least, and a list that is in order already.
+-- What members that stand by number allow: a search, and a list that is in order already.
 use Rattle.std.proofs.Common.{◌≡◌, ℕ, zero, suc, ◌+◌, ◌<◌, ◌≤◌, Bool, true, false, ◌==◌, nat_lt, if◌then◌else◌, List}
 use Rattle.std.proofs.Common.{[], ◌∷◌, length, map, get_or, refl, sym, ap, subst, ◌∙◌, arith}
 use Rattle.std.specs.Prelude.{Option, Some, None}
@@ -11,24 +11,16 @@ use Rattle.std.proofs.lemmas.Cmp.{nat_cmp_total}
 use Rattle.std.proofs.lemmas.List.Sorted.{searchable_from_sorted}
 use Rattle.ent_protocol.specs.Member.{is_tx}
 use Rattle.ent_protocol.specs.State.{Member, first_of, inserted}
-use Rattle.ent_protocol.specs.Uses.{least}
 use Rattle.ent_members.specs.declared.run_attempts.RunAttempt.{RunAttempt}
 use Rattle.ent_members.specs.RunAttempts.{gathered, is_within, run_attempt_of, run_attempts_in, number_of, numbers_in}
 use Rattle.ent_members.specs.Order.{IsAscending}
 use Rattle.ent_members.specs.Places.{found}
 use Rattle.ent_members.specs.Run.{tx_of}
-use Rattle.ent_members.proofs.Ascending.{all_filter}
+use Rattle.ent_members.proofs.Ascending.{all_filter, eq_below}
 use Rattle.ent_members.proofs.ByNumber.{run_attempt_numbers}
-use Rattle.ent_members.proofs.Conflicting.{lesser_with}
-use Rattle.ent_members.proofs.OneMember.{all_at}
+use Rattle.ent_members.proofs.OneMember.{all_at, eq_same}
 
 -- ---- the member of a number
-
-eq_is : (n m : ℕ) → n ≡ m → (n == m) ≡ true
-eq_is n m is = grind (arith, nat_tests)
-
-eq_below : (n m : ℕ) → n < m → (n == m) ≡ false
-eq_below n m below = grind (arith, nat_tests)
 
 eq_above : (n m : ℕ) → m < n → (n == m) ≡ false
 eq_above n m above = grind (arith, nat_tests)
@@ -37,7 +29,7 @@ pub found_here : (xs : List Member) (i tx : ℕ) (d : Member) → IsAscending (m
     → (get_or xs i d).tx ≡ tx → found xs tx ≡ Some (get_or xs i d)
 found_here [] i tx d ascending lt is = absurd (omega (arith, lt))
 found_here (x ∷ xs) zero tx d ascending lt is =
-    ap (λ b. first_of (if b then x ∷ filter (is_tx tx) xs else filter (is_tx tx) xs)) (eq_is x.tx tx is)
+    ap (λ b. first_of (if b then x ∷ filter (is_tx tx) xs else filter (is_tx tx) xs)) (eq_same x.tx tx is)
 found_here (x ∷ xs) (suc i) tx d ascending lt is =
     let below : x.tx < (get_or xs i d).tx = all_at (λ n. x.tx < n) xs i d (omega (arith, lt)) ascending.0 in
     ap (λ b. first_of (if b then x ∷ filter (is_tx tx) xs else filter (is_tx tx) xs))
@@ -132,23 +124,6 @@ found_between xs tx i ascending parted = found_nowhere xs tx (λ k d lt. on_a_si
         → ((get_or xs k d).tx == tx) ≡ false
     on_a_side k d lt true is = not_less (get_or xs k d).tx tx (sides.0 k d (omega arith) (below k is))
     on_a_side k d lt false is = not_greater (get_or xs k d).tx tx (sides.1 k d (beyond k is) lt)
-
--- ---- the least is the first
-
-lesser_above : (n m : ℕ) (ms : List ℕ) → n < m → AllByRecursion (λ k. n < k) ms → n < lesser_with m (least ms)
-lesser_above n m [] lt all = lt
-lesser_above n m (k ∷ ks) lt all = lesser_if (lesser_with k (least ks)) (lesser_above n k ks all.0 all.1)
-  where
-    lesser_if : (j : ℕ) → n < j → n < (if nat_lt m j then m else j)
-    lesser_if j above = grind (arith, lt, above)
-
-first_is_lesser : (n m : ℕ) → n < m → (if nat_lt n m then n else m) ≡ n
-first_is_lesser n m lt = grind (arith, lt)
-
-pub least_first : (n : ℕ) (ns : List ℕ) → AllByRecursion (λ m. n < m) ns → least (n ∷ ns) ≡ Some n
-least_first n [] all = refl
-least_first n (m ∷ ms) all =
-    ap Some (first_is_lesser n (lesser_with m (least ms)) (lesser_above n m ms all.0 all.1))
 
 -- ---- those who leave
 

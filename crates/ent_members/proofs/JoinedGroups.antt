@@ -1,19 +1,17 @@
 -- Members whose groups become one.
-use Rattle.std.proofs.Common.{◌≡◌, ℕ, ◌+◌, ◌<◌, Bool, true, false, ◌==◌, ◌||◌, if◌then◌else◌, List, [], ◌∷◌, ◌++◌}
-use Rattle.std.proofs.Common.{length, map, take, get_or, refl, sym, ap, ◌∙◌, arith}
+use Rattle.std.proofs.Common.{◌≡◌, ℕ, ◌==◌, ◌||◌, if◌then◌else◌, List, [], ◌∷◌, ◌++◌}
+use Rattle.std.proofs.Common.{map, refl, ap, ◌∙◌, arith}
 use Rattle.std.specs.Prelude.{filter}
 use Rattle.std.specs.List.{list_any}
-use Rattle.std.proofs.lemmas.Bool.Decides.{nat_tests}
-use Rattle.std.proofs.lemmas.List.{length-map, map-append, take_more}
+use Rattle.std.proofs.lemmas.List.{length-map, map-append}
 use Rattle.std.proofs.lemmas.List.Elements.{filter-append}
 use Rattle.ent_coordination.specs.Pool.{Posted}
 use Rattle.ent_protocol.specs.Member.{is_tx}
 use Rattle.ent_protocol.specs.PoolEvents.{in_joined_group}
 use Rattle.ent_protocol.specs.State.{Member}
-use Rattle.ent_members.specs.Joined.{JoinGroups, is_one_of, labels_in}
-use Rattle.ent_members.specs.Moves.{run_of}
-use Rattle.ent_members.specs.Run.{IsRun, Run, tx_of}
-use Rattle.ent_members.proofs.OneMember.{run_kept}
+use Rattle.ent_members.specs.Joined.{is_one_of, labels_in}
+use Rattle.ent_members.specs.Run.{IsRun, tx_of}
+use Rattle.ent_members.proofs.OneMember.{eq_turned, run_kept}
 
 -- ---- labels
 
@@ -24,9 +22,6 @@ labels-append numbers xs ys =
     ∙ map-append (λ (member : Member). member.group) (filter (is_one_of numbers) xs) (filter (is_one_of numbers) ys)
 
 -- ---- the members that are asked for
-
-eq_turned : (a b : ℕ) → (a == b) ≡ (b == a)
-eq_turned a b = grind (arith, nat_tests)
 
 one_asked : (asked : List Posted) (member : Member)
     → is_one_of (map (λ (query : Posted). query.tx) asked) member
@@ -65,15 +60,4 @@ run_joined labels prepared active run =
       bound = omega (arith, kept.bound, length-map prepared (in_joined_group labels));
       ascending = kept.ascending;
       distinct = kept.distinct;
-    }
-
-pub joins : (labels whole : List ℕ) (old : Run) (prepared active next_prepared next_active : List Member)
-    → run_of prepared active ≡ old → labels ≡ whole → next_prepared ≡ map (in_joined_group labels) prepared
-    → next_active ≡ map (in_joined_group labels) active → JoinGroups whole old (run_of next_prepared next_active)
-joins labels whole old prepared active next_prepared next_active view same first second =
-    record {
-      prepared = first ∙ ap (λ (ls : List ℕ). map (in_joined_group ls) prepared) same
-          ∙ ap (λ (run : Run). map (in_joined_group whole) run.prepared) view;
-      active = second ∙ ap (λ (ls : List ℕ). map (in_joined_group ls) active) same
-          ∙ ap (λ (run : Run). map (in_joined_group whole) run.active) view;
     }

@@ -1,10 +1,11 @@
 -- What lists contain.
 use Rattle.std.proofs.Common.{◌≡◌, ◌⊎◌, inl, inr, ℕ, zero, suc, ◌<◌, Bool, true, false, ◌||◌}
 use Rattle.std.proofs.Common.{if◌then◌else◌, List, [], ◌∷◌, ◌++◌, length, map, get_or, refl, sym, ap, subst, ◌∙◌}
-use Rattle.std.proofs.Common.{arith, true≢false}
+use Rattle.std.proofs.Common.{◌==◌, arith, true≢false}
 use Rattle.std.specs.Prelude.{Contains, filter}
 use Rattle.std.specs.List.{flat_map, list_any}
 use Rattle.std.proofs.lemmas.List.Elements.{Contains-append_left, Contains-append_right, Contains-append_cases}
+use Rattle.ent_lists.specs.Elements.{number_itself, same_number}
 
 module _ {X : Type 0} where
   pub contains_none : (x : X) → Contains [] x → ⊥
@@ -122,3 +123,13 @@ module _ {X Y : Type 0} where
       by_cases out (inl here) = (z, contains_first z xs, here)
       by_cases out (inr later) =
           let rest = out later in (rest.0, contains_later z rest.0 xs rest.1, rest.2)
+
+-- ---- numbers
+
+pub into_among : (numbers : List ℕ) (tx : ℕ) → Contains numbers tx → list_any (λ n. n == tx) numbers ≡ true
+into_among numbers tx there = any_of (λ n. n == tx) numbers tx there (number_itself tx)
+
+pub out_of_among : (numbers : List ℕ) (tx : ℕ) → list_any (λ n. n == tx) numbers ≡ true → Contains numbers tx
+out_of_among numbers tx is =
+    let one = some_of (λ n. n == tx) numbers is in
+    subst (Contains numbers) (same_number one.0 tx one.2) one.1

@@ -1,30 +1,21 @@
 -- What changes of members make of the lock table that has their uses.
-use Rattle.std.proofs.Common.{◌≡◌, ◌⊎◌, inl, inr, ℕ, suc, ◌<◌, ◌≤◌, Bool, true, false, not, ◌==◌, ◌||◌, if◌then◌else◌}
-use Rattle.std.proofs.Common.{List, [], ◌∷◌, ◌++◌, map, nat_eq, length, remove, refl, sym, ap, subst, ◌∙◌, arith, true≢false}
-use Rattle.std.specs.Prelude.{Contains, filter, ◌↔◌, Option, Some, None, IsSome, Result, Ok, Err, OnOk, OnErr}
-use Rattle.std.specs.List.{list_any, IsDistinct, AllByRecursion}
-use Rattle.std.specs.FinSet as finite
-use Rattle.std.proofs.lemmas.Bool.Decides.{nat_tests}
+use Rattle.std.proofs.Common.{◌≡◌, ◌⊎◌, inl, inr, ℕ, Bool, true, false, not, ◌==◌, if◌then◌else◌}
+use Rattle.std.proofs.Common.{List, [], ◌∷◌, ◌++◌, map, nat_eq, refl, sym, ap, subst, ◌∙◌, true≢false}
+use Rattle.std.specs.Prelude.{Contains, filter, Option, Some, None, IsSome, Result, Ok, Err, OnOk, OnErr}
+use Rattle.std.specs.List.{IsDistinct, AllByRecursion}
 use Rattle.std.proofs.lemmas.List.Elements.{Contains-append_left, Contains-append_right, Contains-append_cases}
+use Rattle.ent_lists.specs.Elements.{number_itself, same_number}
 use Rattle.ent_lock.specs.declared.mode.Mode.{Mode}
-use Rattle.ent_lock.specs.Mode.{mode_rank}
-use Rattle.ent_lock.specs.Use.{Uses, Holds, AddsUses, key_of_number, keyed}
+use Rattle.ent_lock.specs.Use.{Uses, AddsUses, key_of_number, keyed}
 use Rattle.ent_protocol.specs.Begin.{replaced}
-use Rattle.ent_protocol.specs.Member.{is_of, is_tx}
+use Rattle.ent_protocol.specs.Member.{is_tx}
 use Rattle.ent_protocol.specs.State.{Member, Use, first_of}
-use Rattle.ent_members.specs.Locks.{AreLocked, IsHeld, IsLockedRun, Locks, lock_of, use_of}
-use Rattle.ent_members.specs.Moves.{is_not_of, is_of_another}
+use Rattle.ent_members.specs.Locks.{IsHeld, IsLockedRun, Locks, lock_of, use_of}
 use Rattle.ent_members.specs.Places.{Changes, found}
-use Rattle.ent_members.specs.Run.{IsRun, tx_of}
+use Rattle.ent_members.specs.Run.{tx_of}
 use Rattle.ent_members.proofs.Lists.{contains_none, contains_cases, contains_first, contains_later}
-use Rattle.ent_members.proofs.Lists.{into_filter, out_of_filter, into_map, out_of_map, any_of, some_of}
+use Rattle.ent_members.proofs.Lists.{into_map, out_of_map}
 use Rattle.ent_members.proofs.OneMember.{found_tx, run_kept, some_same}
-
-pub eq_refl : (n : ℕ) → (n == n) ≡ true
-eq_refl n = grind (arith, nat_tests)
-
-pub eq_is : (n m : ℕ) → (n == m) ≡ true → n ≡ m
-eq_is n m is = grind (arith, nat_tests)
 
 pub not_true : (b : Bool) → not b ≡ true → b ≡ true → ⊥
 not_true true is same = true≢false (sym is)
@@ -57,7 +48,7 @@ never_apart n (x ∷ xs) m all there same =
     by_cases (λ later. never_apart n xs m all.1 later same) (contains_cases x m xs there)
   where
     by_cases : (Contains xs m → ⊥) → (x ≡ m) ⊎ Contains xs m → ⊥
-    by_cases rest (inl is) = true≢false (sym (ap (nat_eq n) (sym (same ∙ ap tx_of (sym is))) ∙ eq_refl n) ∙ all.0)
+    by_cases rest (inl is) = true≢false (sym (ap (nat_eq n) (sym (same ∙ ap tx_of (sym is))) ∙ number_itself n) ∙ all.0)
     by_cases rest (inr later) = rest later
 
 one_of_cons : (x : Member) (xs : List Member) → AllByRecursion (λ k. nat_eq x.tx k ≡ false) (map tx_of xs)
@@ -106,7 +97,8 @@ module _ (change : Member → Member) (asked : List Use) (old : List Member) (me
   put_in : (m : Member) (b : Bool) → (m.tx == (change member).tx) ≡ b → Contains old m
       → (own : Use) → Contains m.uses own → (n : Member) × (n ≡ replaced (change member) m) × (n.tx ≡ m.tx) × Contains n.uses own
   put_in m true is inside own uses =
-      let same : m ≡ member = one_member old distinct m member inside there (eq_is m.tx (change member).tx is ∙ adds.same) in (
+      let same : m ≡ member =
+      one_member old distinct m member inside there (same_number m.tx (change member).tx is ∙ adds.same) in (
         change member,
         ap (λ b. if b then change member else m) (sym is),
         adds.same ∙ ap tx_of (sym same),
@@ -122,7 +114,7 @@ module _ (change : Member → Member) (asked : List Use) (old : List Member) (me
   held_after tx own (inr (is, uses)) = (
     change member,
     subst (Contains changed)
-        (ap (λ b. if b then change member else member) (ap (λ n. member.tx == n) adds.same ∙ eq_refl member.tx))
+        (ap (λ b. if b then change member else member) (ap (λ n. member.tx == n) adds.same ∙ number_itself member.tx))
         (into_map (replaced (change member)) old member there),
     adds.same ∙ sym is,
     adds.into own (inr uses),
@@ -198,16 +190,16 @@ adds_nothing change member same uses =
 
 -- ---- one member takes an answer
 
-pub some_member : (o : Option Member) → IsSome o → (member : Member) × (o ≡ Some member)
-some_member (Some member) there = (member, refl)
-some_member None there = absurd (true≢false (sym there))
+pub some_value : {A : Type 0} (o : Option A) → IsSome o → (x : A) × (o ≡ Some x)
+some_value (Some x) there = (x, refl)
+some_value None there = absurd (true≢false (sym there))
 
 pub run_stepped : {T E : Type 0} (r : Result T E) (locks : Uses) (prepared old new : List Member)
     (change : Member → Member) → ((m : Member) → (change m).tx ≡ m.tx) → ((m : Member) → (change m).uses ≡ m.uses)
     → (tx : ℕ) → IsLockedRun locks prepared old → IsSome (found old tx) → OnOk r (Changes change tx old new)
     → OnErr r (new ≡ old) → map tx_of new ≡ map tx_of old → IsLockedRun locks prepared new
 run_stepped (Ok x) locks prepared old new change same uses tx run there ok err numbers =
-    let one = some_member (found old tx) there in
+    let one = some_value (found old tx) there in
     run_changed locks locks prepared old new change [] tx one.0 run one.1 ok numbers
     (adds_nothing change one.0 (same one.0) (uses one.0)) (locks_nothing tx locks)
 run_stepped (Err e) locks prepared old new change same uses tx run there ok err numbers =

@@ -1,13 +1,12 @@
 -- Runs that start, and members that move, take answers or leave, with the lock table that has their uses.
-use Rattle.std.proofs.Common.{◌≡◌, ◌⊎◌, inl, inr, ℕ, ◌+◌, ◌<◌, ◌≤◌, Bool, true, false, not, ◌==◌, if◌then◌else◌}
-use Rattle.std.proofs.Common.{List, [], ◌∷◌, ◌++◌, map, nat_eq, length, get_or, take, refl, sym, ap, subst, ◌∙◌, arith, true≢false}
-use Rattle.std.specs.Prelude.{Contains, filter, ◌↔◌, Some, Result, Ok, Err, OnOk, OnErr}
+use Rattle.std.proofs.Common.{◌≡◌, ◌⊎◌, inl, inr, ℕ, ◌<◌, ◌≤◌, Bool, true, false, not, ◌==◌, if◌then◌else◌}
+use Rattle.std.proofs.Common.{List, [], ◌∷◌, ◌++◌, map, nat_eq, length, get_or, refl, sym, ap, subst, ◌∙◌, true≢false}
+use Rattle.std.specs.Prelude.{Contains, filter, Result, Ok, Err, OnOk, OnErr}
 use Rattle.std.specs.List.{list_any, IsDistinct, remove}
 use Rattle.std.specs.FinSet as finite
-use Rattle.std.proofs.lemmas.List.{length-map, map-append, take_more}
-use Rattle.std.proofs.lemmas.List.Elements.{Contains-append_left, Contains-append_right, Contains-append_cases, filter-append}
-use Rattle.ent_lock.specs.declared.mode.Mode.{Mode}
-use Rattle.ent_lock.specs.Use.{Uses, Holds, DropsUses, use_cmp, key_of_number}
+use Rattle.std.proofs.lemmas.List.Elements.{Contains-append_cases}
+use Rattle.ent_lists.specs.Elements.{number_itself, same_number}
+use Rattle.ent_lock.specs.Use.{Uses, DropsUses, use_cmp, key_of_number}
 use Rattle.ent_protocol.specs.Member.{is_of, is_tx}
 use Rattle.ent_protocol.specs.PoolEvents.{in_joined_group}
 use Rattle.ent_protocol.specs.Run.{fresh}
@@ -16,16 +15,15 @@ use Rattle.ent_members.specs.Answered.{MemberAnswer, answered_from}
 use Rattle.ent_members.specs.Changes.{stepping}
 use Rattle.ent_members.specs.Locks.{AreLocked, IsHeld, IsLockedRun, use_of}
 use Rattle.ent_members.specs.Moves.{is_not_of, is_of_another}
-use Rattle.ent_members.specs.Places.{found}
 use Rattle.ent_members.specs.Run.{IsRun, tx_of}
 use Rattle.ent_members.proofs.Answered.{answered_tx}
 use Rattle.ent_members.proofs.ByNumber.{no_member, starts}
 use Rattle.ent_members.proofs.Distinct.{distinct_append, distinct_filter}
 use Rattle.ent_members.proofs.HeldUses.{out_of_by_number}
 use Rattle.ent_members.proofs.JoinedGroups.{run_joined}
-use Rattle.ent_members.proofs.Lists.{contains_none, contains_cases, contains_first, contains_later}
-use Rattle.ent_members.proofs.Lists.{into_filter, out_of_filter, into_map, out_of_map, any_of, some_of}
-use Rattle.ent_members.proofs.Locked.{eq_is, eq_refl, not_false, not_true, held_by_either, held_by_one, one_member}
+use Rattle.ent_members.proofs.Lists.{contains_none, contains_cases, contains_first}
+use Rattle.ent_members.proofs.Lists.{into_among, into_filter, out_of_among, out_of_filter, into_map, out_of_map}
+use Rattle.ent_members.proofs.Locked.{not_false, not_true, held_by_either, held_by_one, one_member}
 use Rattle.ent_members.proofs.Moved.{run_filtered, run_committed, run_prepared}
 use Rattle.ent_members.proofs.OneMember.{removed_at, run_kept}
 
@@ -168,14 +166,6 @@ run_answered_or_not (Err e) given locks prepared old new ok err run = subst (IsL
 
 -- ---- members that leave
 
-among : (numbers : List ℕ) (tx : ℕ) → Contains numbers tx → list_any (λ n. n == tx) numbers ≡ true
-among numbers tx there = any_of (λ n. n == tx) numbers tx there (eq_refl tx)
-
-is_among : (numbers : List ℕ) (tx : ℕ) → list_any (λ n. n == tx) numbers ≡ true → Contains numbers tx
-is_among numbers tx is =
-    let one = some_of (λ n. n == tx) numbers is in
-    subst (Contains numbers) (eq_is one.0 tx one.2) one.1
-
 numbers_filtered : (p : Member → Bool) (xs : List Member) (tx : ℕ) → Contains (map tx_of (filter p xs)) tx
     → Contains (map tx_of xs) tx
 numbers_filtered p xs tx there =
@@ -188,7 +178,7 @@ held_filtered numbers xs tx own (m, there, is, holds) =
     let inside = out_of_filter (is_not_of numbers) xs m there in (
       (m, inside.0, is, holds),
       λ gone. not_true (list_any (λ n. n == m.tx) numbers) inside.1
-          (among numbers m.tx (subst (Contains numbers) (sym is) gone)),
+          (into_among numbers m.tx (subst (Contains numbers) (sym is) gone)),
     )
 
 filtered_held : (numbers : List ℕ) (xs : List Member) (tx : ℕ) (own : Use) → ¬ Contains numbers tx → IsHeld xs tx own
@@ -196,7 +186,7 @@ filtered_held : (numbers : List ℕ) (xs : List Member) (tx : ℕ) (own : Use) �
 filtered_held numbers xs tx own stays (m, there, is, holds) = (
   m,
   into_filter (is_not_of numbers) xs m there (not_false (list_any (λ n. n == m.tx) numbers)
-      (λ gone. stays (subst (Contains numbers) is (is_among numbers m.tx gone)))),
+      (λ gone. stays (subst (Contains numbers) is (out_of_among numbers m.tx gone)))),
   is,
   holds,
 )
@@ -333,12 +323,13 @@ run_locked_prepared locks prepared active i member lt at run = record {
     elsewhere tx (inr same) also =
         let m = out_of_map tx_of (filter (λ other. not (is_tx member.tx other)) active) tx also in
         not_true (is_tx member.tx m.0) (out_of_filter (λ other. not (is_tx member.tx other)) active m.0 m.1).1
-        (ap (λ n. n == member.tx) (m.2 ∙ sym same) ∙ eq_refl member.tx)
+        (ap (λ n. n == member.tx) (m.2 ∙ sym same) ∙ number_itself member.tx)
 
     to_last : (tx : ℕ) (own : Use) (m : Member) (b : Bool) → is_tx member.tx m ≡ b → Contains active m → m.tx ≡ tx
         → Contains m.uses own → IsHeld (prepared ++ member ∷ []) tx own ⊎ IsHeld (remove active i) tx own
     to_last tx own m true same there is holds =
-        let one : m ≡ member = one_member active run.run.distinct m member there there_before (eq_is m.tx member.tx same) in
+        let one : m ≡ member =
+        one_member active run.run.distinct m member there there_before (same_number m.tx member.tx same) in
         inl (held_by_either prepared (member ∷ []) tx own
         (inr (member, contains_first member [], ap tx_of (sym one) ∙ is, subst (λ (k : Member). Contains k.uses own) one holds)))
     to_last tx own m false same there is holds =

@@ -4,20 +4,22 @@ use Rattle.std.proofs.Common.{◌+◌, ◌<◌, length, take, get_or, refl, sym,
 use Rattle.std.specs.Prelude.{Contains, filter, Option, Some, None, IsSome}
 use Rattle.std.specs.List.{AllByRecursion, cons_option, filter_map, list_any}
 use Rattle.std.specs.Option.{option_map}
-use Rattle.std.proofs.lemmas.Bool.Decides.{nat_tests}
 use Rattle.std.proofs.lemmas.List.{map-append, take_more}
 use Rattle.std.proofs.lemmas.List.Elements.{filter-append, filter_map-append}
 use Rattle.std.proofs.lemmas.List.Folds.{list_any-append}
 use Rattle.ent_group.specs.declared.groups.Membership.{Membership}
 use Rattle.ent_group.specs.Groups.{Relabels, group_of, moved_label}
+use Rattle.ent_lists.specs.Elements.{number_itself, same_number}
 use Rattle.ent_protocol.specs.PoolEvents.{in_joined_group, joined_label}
-use Rattle.ent_protocol.specs.State.{Member, first_of}
-use Rattle.ent_members.specs.Grouped.{AreGrouped, AreNamed, IsLabelled, labelled}
+use Rattle.ent_protocol.specs.State.{Member}
+use Rattle.ent_members.specs.Grouped.{AreGrouped, IsLabelled, labelled}
 use Rattle.ent_members.specs.Joined.{is_one_of, labels_in}
 use Rattle.ent_members.specs.Run.{tx_of}
-use Rattle.ent_members.proofs.Grouped.{label_of, none_is_some, some_is}
-use Rattle.ent_members.proofs.Lists.{contains_first, contains_later, into_map, out_of_map, any_of, some_of}
-use Rattle.ent_members.proofs.Locked.{eq_is, eq_refl}
+use Rattle.ent_members.proofs.Conflicting.{number_if}
+use Rattle.ent_members.proofs.Grouped.{label_of, none_is_some}
+use Rattle.ent_members.proofs.Lists.{contains_first, contains_later, into_among, into_map, out_of_among, out_of_map}
+use Rattle.ent_members.proofs.Locked.{some_value}
+use Rattle.ent_members.proofs.OneMember.{eq_turned, some_same}
 
 -- ---- labels that are joined
 
@@ -27,13 +29,13 @@ joined_if first more group b is = ap (λ t. if t then first else group) is
 
 pub first_joined : (first : ℕ) (more : List ℕ) → joined_label (first ∷ more) first ≡ first
 first_joined first more =
-    joined_if first more first true (ap (λ b. b || list_any (λ joined. joined == first) more) (eq_refl first))
+    joined_if first more first true (ap (λ b. b || list_any (λ joined. joined == first) more) (number_itself first))
 
 pub one_joined : (first group : ℕ) → joined_label (first ∷ []) group ≡ group
 one_joined first group = by_test (first == group) refl
   where
     by_test : (b : Bool) → (first == group) ≡ b → joined_label (first ∷ []) group ≡ group
-    by_test true same = joined_if first [] group true (ap (λ b. b || false) same) ∙ eq_is first group same
+    by_test true same = joined_if first [] group true (ap (λ b. b || false) same) ∙ same_number first group same
     by_test false same = joined_if first [] group false (ap (λ b. b || false) same)
 
 -- of two labels, where the one is among some and the other isn't
@@ -43,11 +45,9 @@ apart_among labels a b there also = by_test (a == b) refl
   where
     by_test : (t : Bool) → (a == b) ≡ t → (a == b) ≡ false
     by_test true same =
-        absurd (true≢false (sym there ∙ ap (λ n. list_any (λ joined. joined == n) labels) (eq_is a b same) ∙ also))
+        absurd (true≢false (sym there
+        ∙ ap (λ n. list_any (λ joined. joined == n) labels) (same_number a b same) ∙ also))
     by_test false same = same
-
-turned : (a b : ℕ) → (a == b) ≡ (b == a)
-turned a b = grind (arith, nat_tests)
 
 -- one more group joins those of the labels
 pub joined_more : (first : ℕ) (more : List ℕ) (label group : ℕ)
@@ -90,7 +90,7 @@ joined_more first more label group =
         or_false false = refl
 
     first_is_among : among first ≡ true
-    first_is_among = ap (λ b. b || list_any (λ joined. joined == first) more) (eq_refl first)
+    first_is_among = ap (λ b. b || list_any (λ joined. joined == first) more) (number_itself first)
 
     by_test : (a b : Bool) → among group ≡ a → among label ≡ b
         → moved_label (joined_label (first ∷ more) label) first (joined_label (first ∷ more) group)
@@ -100,10 +100,10 @@ joined_more first more label group =
         ∙ sym (whole true is)
     by_test false true is also =
         moved false true is also
-        ∙ moved_if first false (turned group first ∙ apart_among (first ∷ more) first group first_is_among is)
+        ∙ moved_if first false (eq_turned group first ∙ apart_among (first ∷ more) first group first_is_among is)
         ∙ sym (whole false is ∙ whole_if false (apart_among (first ∷ more) label group also is))
     by_test false false is also =
-        moved false false is also ∙ moved_if label (label == group) (turned group label)
+        moved false false is also ∙ moved_if label (label == group) (eq_turned group label)
         ∙ sym (whole false is ∙ whole_if (label == group) refl)
 
 -- ---- members of these numbers
@@ -125,11 +125,6 @@ numbers_gathered numbers none first both xs ys is more all =
     all ∙ ap (λ ns. ns ++ numbers_among numbers ys) (more ∙ ap (λ ns. ns ++ numbers_among numbers xs) is)
     ∙ sym (numbers_among-append numbers xs ys)
 
-number_if : (member : Member) (b : Bool)
-    → map tx_of (if b then member ∷ [] else []) ≡ (if b then member.tx ∷ [] else [])
-number_if member true = refl
-number_if member false = refl
-
 pub numbers_more : (numbers : List ℕ) (xs : List Member) (i : ℕ) (member : Member) (b : Bool) → i < length xs
     → member ≡ get_or xs i member → is_one_of numbers member ≡ b
     → numbers_among numbers (take (i + 1) xs) ≡ numbers_among numbers (take i xs) ++ (if b then member.tx ∷ [] else [])
@@ -148,10 +143,6 @@ label_first : (groups : List Membership) (tx group : ℕ) (more : List ℕ) → 
     → labels_of groups (tx ∷ more) ≡ group ∷ labels_of groups more
 label_first groups tx group more is = ap (λ (o : Option ℕ). cons_option o (labels_of groups more)) is
 
-some_label : (o : Option ℕ) → IsSome o → (n : ℕ) × (o ≡ Some n)
-some_label (Some n) there = (n, refl)
-some_label None there = absurd (true≢false (sym there))
-
 -- ---- groups that join the first one after another
 
 one_label_joined : (first : ℕ) (o : Option ℕ) → o ≡ option_map (joined_label (first ∷ [])) o
@@ -161,7 +152,7 @@ one_label_joined first (Some group) = ap Some (sym (one_joined first group))
 pub merged_first : (groups : List Membership) (first : ℕ) → IsSome (group_of groups first) → (x : ℕ)
     → group_of groups x ≡ option_map (joined_label (labels_of groups (first ∷ []))) (group_of groups x)
 merged_first groups first there x =
-    let own = some_label (group_of groups first) there in
+    let own = some_value (group_of groups first) there in
     one_label_joined own.0 (group_of groups x)
     ∙ ap (λ ls. option_map (joined_label ls) (group_of groups x)) (sym (label_first groups first own.0 [] own.1))
 
@@ -169,7 +160,7 @@ merged_first groups first there x =
 pub merged_in : (old mid : List Membership) (labels : List ℕ) (tx : ℕ) → IsSome (group_of old tx)
     → ((x : ℕ) → group_of mid x ≡ option_map (joined_label labels) (group_of old x)) → IsSome (group_of mid tx)
 merged_in old mid labels tx there so_far =
-    let own = some_label (group_of old tx) there in
+    let own = some_value (group_of old tx) there in
     subst IsSome (sym (so_far tx ∙ ap (option_map (joined_label labels)) own.1)) refl
 
 pub all_at : (P : ℕ → Type 0) (ns : List ℕ) (i d : ℕ) → i < length ns → AllByRecursion P ns → P (get_or ns i d)
@@ -192,10 +183,10 @@ merged_more old mid new first others i d lt here there so_far relabels x =
     other = get_or others i d
 
     head : ℕ
-    head = (some_label (group_of old first) here).0
+    head = (some_value (group_of old first) here).0
 
     label : ℕ
-    label = (some_label (group_of old other) there).0
+    label = (some_value (group_of old other) there).0
 
     more : List ℕ
     more = labels_of old (take i others)
@@ -204,25 +195,25 @@ merged_more old mid new first others i d lt here there so_far relabels x =
     labels = head ∷ more
 
     labels_are_now : labels_of old (first ∷ take i others) ≡ labels
-    labels_are_now = label_first old first head (take i others) (some_label (group_of old first) here).1
+    labels_are_now = label_first old first head (take i others) (some_value (group_of old first) here).1
 
     mid_is : (y : ℕ) → group_of mid y ≡ option_map (joined_label labels) (group_of old y)
     mid_is y = so_far y ∙ ap (λ ls. option_map (joined_label ls) (group_of old y)) labels_are_now
 
     first_is : group_of mid first ≡ Some head
-    first_is = mid_is first ∙ ap (option_map (joined_label labels)) (some_label (group_of old first) here).1
+    first_is = mid_is first ∙ ap (option_map (joined_label labels)) (some_value (group_of old first) here).1
         ∙ ap Some (first_joined head more)
 
     other_is : group_of mid other ≡ Some (joined_label labels label)
-    other_is = mid_is other ∙ ap (option_map (joined_label labels)) (some_label (group_of old other) there).1
+    other_is = mid_is other ∙ ap (option_map (joined_label labels)) (some_value (group_of old other) there).1
 
     labels_more : labels_of old (first ∷ take (i + 1) others) ≡ labels ++ label ∷ []
     labels_more =
-        label_first old first head (take (i + 1) others) (some_label (group_of old first) here).1
+        label_first old first head (take (i + 1) others) (some_value (group_of old first) here).1
         ∙ ap (λ ls. head ∷ ls)
         (ap (labels_of old) (take_more others i d lt)
         ∙ filter_map-append (group_of old) (take i others) (other ∷ [])
-        ∙ ap (λ ls. more ++ ls) (label_first old other label [] (some_label (group_of old other) there).1))
+        ∙ ap (λ ls. more ++ ls) (label_first old other label [] (some_value (group_of old other) there).1))
 
     twice : (o : Option ℕ)
         → option_map (moved_label (joined_label labels label) head) (option_map (joined_label labels) o)
@@ -292,18 +283,10 @@ module _ (first : ℕ) (more : List ℕ) (old new : List Membership)
   members_joined numbers members into back own =
       each_labelled (labelled numbers first) (in_joined_group (first ∷ more)) members
       (λ m there. member_labelled first more numbers m
-      (λ is. some_is (joined_label (first ∷ more) m.group) first
-      (sym (joined_of m.tx m.group (own m there)) ∙ into m.tx (among numbers m.tx is)))
-      (λ is. not_joined m.group (λ same. absurd (true≢false (sym (any_among numbers m.tx
+      (λ is. some_same (joined_label (first ∷ more) m.group) first
+      (sym (joined_of m.tx m.group (own m there)) ∙ into m.tx (out_of_among numbers m.tx is)))
+      (λ is. not_joined m.group (λ same. absurd (true≢false (sym (into_among numbers m.tx
       (back m.tx (joined_of m.tx m.group (own m there) ∙ ap Some same))) ∙ is)))))
-    where
-      among : (ns : List ℕ) (tx : ℕ) → list_any (λ n. n == tx) ns ≡ true → Contains ns tx
-      among ns tx is =
-          let one = some_of (λ n. n == tx) ns is in
-          subst (Contains ns) (eq_is one.0 tx one.2) one.1
-
-      any_among : (ns : List ℕ) (tx : ℕ) → Contains ns tx → list_any (λ n. n == tx) ns ≡ true
-      any_among ns tx there = any_of (λ n. n == tx) ns tx there (eq_refl tx)
 
   pub grouped_joined : (members : List Member) → group_of old first ≡ Some first → AreGrouped old members
       → AreGrouped new (map (in_joined_group (first ∷ more)) members)
@@ -329,7 +312,7 @@ module _ (first : ℕ) (more : List ℕ) (old new : List Membership)
             into_map (in_joined_group (first ∷ more)) members has.0 has.1,
             has.2,
             ap (joined_label (first ∷ more)) has.3
-                ∙ some_is (joined_label (first ∷ more) before) group (sym (joined_of tx before had) ∙ is),
+                ∙ some_same (joined_label (first ∷ more) before) group (sym (joined_of tx before had) ∙ is),
           )
 
       named_by : (tx group : ℕ) (o : Option ℕ) → group_of old tx ≡ o → group_of new tx ≡ Some group
@@ -339,7 +322,7 @@ module _ (first : ℕ) (more : List ℕ) (old new : List Membership)
       named_by tx group (Some before) had is = by_test (list_any (λ label. label == before) (first ∷ more)) refl
         where
           now : joined_label (first ∷ more) before ≡ group
-          now = some_is (joined_label (first ∷ more) before) group (sym (joined_of tx before had) ∙ is)
+          now = some_same (joined_label (first ∷ more) before) group (sym (joined_of tx before had) ∙ is)
 
           by_test : (b : Bool) → list_any (λ label. label == before) (first ∷ more) ≡ b
               → group_of new group ≡ Some group

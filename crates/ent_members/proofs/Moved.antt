@@ -1,10 +1,10 @@
 -- Members that leave a list.
-use Rattle.std.proofs.Common.{◌≡◌, ℕ, suc, ◌<◌, ◌≤◌, Bool, not, ◌||◌, ◌==◌, if◌then◌else◌, List}
+use Rattle.std.proofs.Common.{◌≡◌, ℕ, suc, ◌<◌, Bool, not, ◌||◌, ◌==◌, if◌then◌else◌, List}
 use Rattle.std.proofs.Common.{[], ◌∷◌, ◌++◌, length, map, take, drop, get_or, refl, sym, ap, subst, ◌∙◌, arith}
 use Rattle.std.specs.Prelude.{filter}
 use Rattle.std.specs.List.{remove, list_any}
 use Rattle.std.proofs.lemmas.List.{length-append, length-take, length-drop}
-use Rattle.std.proofs.lemmas.List.Sums.{count_by-le-length, length-filter}
+use Rattle.ent_lists.specs.Elements.{shorter}
 use Rattle.ent_protocol.specs.Member.{is_tx}
 use Rattle.ent_protocol.specs.Rollback.{is_among}
 use Rattle.ent_protocol.specs.State.{Member}
@@ -13,9 +13,6 @@ use Rattle.ent_members.specs.Order.{IsAscending}
 use Rattle.ent_members.specs.Run.{IsRun, tx_of}
 use Rattle.ent_members.proofs.Ascending.{ascending_filter, run_by_number}
 use Rattle.ent_members.proofs.OneMember.{removed_at}
-
-shorter : (p : Member → Bool) (xs : List Member) → length (filter p xs) ≤ length xs
-shorter p xs = omega (arith, length-filter p xs, count_by-le-length p xs)
 
 pub run_filtered : (p : Member → Bool) (prepared active : List Member) → IsRun prepared active
     → IsRun (filter p prepared) (filter p active)

@@ -18,11 +18,8 @@ use Rattle.ent_members.specs.Run.{IsRun, tx_of}
 pub eq_same : (a b : ℕ) → a ≡ b → (a == b) ≡ true
 eq_same a b is = grind (arith, nat_tests)
 
-eq_apart : (a b : ℕ) → nat_eq a b ≡ false → (a == b) ≡ false
-eq_apart a b is = is
-
-pub eq_turned : (a b : ℕ) → nat_eq a b ≡ false → (b == a) ≡ false
-eq_turned a b is = grind (arith, nat_tests)
+pub eq_turned : (a b : ℕ) → (a == b) ≡ (b == a)
+eq_turned a b = grind (arith, nat_tests)
 
 pub all_at : (P : ℕ → Type 0) (xs : List Member) (i : ℕ) (d : Member) → i < length xs
     → AllByRecursion P (map tx_of xs) → P (get_or xs i d).tx
@@ -34,7 +31,7 @@ untouched : (new : Member) (xs : List Member) → AllByRecursion (λ n. nat_eq n
     → map (replaced new) xs ≡ xs
 untouched new [] all = refl
 untouched new (x ∷ xs) all =
-    ap (λ b. (if b then new else x) ∷ map (replaced new) xs) (eq_turned new.tx x.tx all.0)
+    ap (λ b. (if b then new else x) ∷ map (replaced new) xs) (eq_turned x.tx new.tx ∙ all.0)
     ∙ ap (λ ms. x ∷ ms) (untouched new xs all.1)
 
 replaced_at : (xs : List Member) (i : ℕ) (new d : Member) → IsDistinct nat_eq (map tx_of xs) → i < length xs
@@ -57,7 +54,7 @@ kept_if : (x : Member) (xs : List Member) (tx : ℕ) → AllByRecursion (λ n. n
 kept_if x [] tx all = refl
 kept_if x (y ∷ ys) tx all =
     ap (λ b. if not b then y ∷ filter (λ other. not (is_tx tx other)) ys else filter (λ other. not (is_tx tx other)) ys)
-    (eq_turned tx y.tx all.0)
+    (eq_turned y.tx tx ∙ all.0)
     ∙ ap (λ ms. y ∷ ms) (kept_if x ys tx all.1)
 
 pub removed_at : (xs : List Member) (i : ℕ) (d : Member) → IsDistinct nat_eq (map tx_of xs) → i < length xs

@@ -10,6 +10,7 @@ use Rattle.std.proofs.lemmas.List.{map-append}
 use Rattle.std.proofs.lemmas.List.Elements.{Contains-append_left, Contains-append_right, filter-append}
 use Rattle.ent_group.specs.declared.groups.Membership.{Membership}
 use Rattle.ent_group.specs.Groups.{group_of}
+use Rattle.ent_lists.specs.Elements.{number_itself, same_number}
 use Rattle.ent_lock.specs.Use.{Uses, DropsUses}
 use Rattle.ent_protocol.specs.Begin.{replaced, with_uses}
 use Rattle.ent_protocol.specs.Member.{is_of}
@@ -19,7 +20,7 @@ use Rattle.ent_protocol.specs.State.{Member, Dormant, Use, by_number, first_of}
 use Rattle.ent_members.specs.Answered.{MemberAnswer, answered_from}
 use Rattle.ent_members.specs.Grouped.{AreGrouped, IsRunWith, labelled, unless_gone}
 use Rattle.ent_members.specs.Joined.{JoinGroups, is_one_of, labels_in}
-use Rattle.ent_members.specs.Locks.{IsLockedRun, Locks}
+use Rattle.ent_members.specs.Locks.{Locks}
 use Rattle.ent_members.specs.Moves.{is_not_of, is_of_another, run_of}
 use Rattle.ent_members.specs.Places.{Changes, found}
 use Rattle.ent_members.specs.Run.{tx_of}
@@ -28,14 +29,15 @@ use Rattle.ent_members.proofs.Answered.{answered_group, answered_tx}
 use Rattle.ent_members.proofs.ByNumber.{ascending-by_number, run_attempt_numbers, run_attempts_are}
 use Rattle.ent_members.proofs.Distinct.{ascending_of, distinct_append, distinct_filter, same_ascending}
 use Rattle.ent_members.proofs.Grouped.{grouped_left, grouped_mapped, label_of, nobody_grouped, none_is_some}
-use Rattle.ent_members.proofs.Grouped.{one_label, regrouped, same_labels, some_is}
+use Rattle.ent_members.proofs.Grouped.{one_label, regrouped, same_labels}
 use Rattle.ent_members.proofs.HeldUses.{into_by_number, out_of_by_number, run_held}
-use Rattle.ent_members.proofs.Lists.{any_of, contains_first, contains_later, into_filter, into_map, out_of_filter}
-use Rattle.ent_members.proofs.Lists.{out_of_map, some_of}
-use Rattle.ent_members.proofs.Locked.{eq_is, eq_refl, found_there, run_stepped, some_member}
+use Rattle.ent_members.proofs.Lists.{contains_first, contains_later, into_among, into_filter, into_map, out_of_among}
+use Rattle.ent_members.proofs.Lists.{out_of_filter, out_of_map}
+use Rattle.ent_members.proofs.Locked.{found_there, run_stepped, some_value}
 use Rattle.ent_members.proofs.LockedRuns.{nobody_runs, run_answered_or_not, run_left, run_left_by_group, run_locked_joined}
 use Rattle.ent_members.proofs.LockedRuns.{run_starts}
 use Rattle.ent_members.proofs.Merged.{grouped_joined, members_joined}
+use Rattle.ent_members.proofs.OneMember.{some_same}
 
 -- ---- a run that starts
 
@@ -58,14 +60,14 @@ replaced_tx : (new m : Member) → (replaced new m).tx ≡ m.tx
 replaced_tx new m = by_test (m.tx == new.tx) refl
   where
     by_test : (b : Bool) → (m.tx == new.tx) ≡ b → (replaced new m).tx ≡ m.tx
-    by_test true is = ap (λ (b : Bool). (if b then new else m).tx) is ∙ sym (eq_is m.tx new.tx is)
+    by_test true is = ap (λ (b : Bool). (if b then new else m).tx) is ∙ sym (same_number m.tx new.tx is)
     by_test false is = ap (λ (b : Bool). (if b then new else m).tx) is
 
 replaced_group : (new m : Member) → (m.tx ≡ new.tx → new.group ≡ m.group) → (replaced new m).group ≡ m.group
 replaced_group new m same = by_test (m.tx == new.tx) refl
   where
     by_test : (b : Bool) → (m.tx == new.tx) ≡ b → (replaced new m).group ≡ m.group
-    by_test true is = ap (λ (b : Bool). (if b then new else m).group) is ∙ same (eq_is m.tx new.tx is)
+    by_test true is = ap (λ (b : Bool). (if b then new else m).group) is ∙ same (same_number m.tx new.tx is)
     by_test false is = ap (λ (b : Bool). (if b then new else m).group) is
 
 -- it keeps its number and its label
@@ -73,7 +75,7 @@ grouped_changed : (groups : List Membership) (prepared old new : List Member) (c
     → ((m : Member) → (change m).tx ≡ m.tx) → ((m : Member) → (change m).group ≡ m.group) → IsSome (found old tx)
     → Changes change tx old new → AreGrouped groups (prepared ++ old) → AreGrouped groups (prepared ++ new)
 grouped_changed groups prepared old new change tx numbers labels there changes grouped =
-    let one = some_member (found old tx) there in
+    let one = some_value (found old tx) there in
     let member : Member = one.0 in
     let inside : Contains (prepared ++ old) member =
     Contains-append_right prepared old member (found_there old tx member one.1) in
@@ -157,20 +159,19 @@ leaving_told group numbers groups members m is grouped there = ap not (by_test (
 
     inside : is_within group m ≡ true → list_any (λ n. n == m.tx) numbers ≡ true
     inside within =
-        any_of (λ n. n == m.tx) numbers m.tx
+        into_among numbers m.tx
         (subst (λ ns. Contains ns m.tx) (sym are)
         (into_map tx_of leaving m (into_by_number tx_of (filter (is_within group) members) m
         (into_filter (is_within group) members m there within))))
-        (eq_refl m.tx)
 
     outside : list_any (λ n. n == m.tx) numbers ≡ true → is_within group m ≡ true
     outside any =
-        let one = some_of (λ n. n == m.tx) numbers any in
-        let other = out_of_map tx_of leaving one.0 (subst (λ ns. Contains ns one.0) are one.1) in
+        let other = out_of_map tx_of leaving m.tx
+        (subst (λ ns. Contains ns m.tx) are (out_of_among numbers m.tx any)) in
         let from = out_of_filter (is_within group) members other.0
         (out_of_by_number tx_of (filter (is_within group) members) other.0 other.1) in
         within_same group m other.0
-        (one_label groups members m other.0 grouped there from.0 (sym (other.2 ∙ eq_is one.0 m.tx one.2))) ∙ from.1
+        (one_label groups members m other.0 grouped there from.0 (sym other.2)) ∙ from.1
 
     by_test : (b : Bool) → is_within group m ≡ b → list_any (λ n. n == m.tx) numbers ≡ is_within group m
     by_test true within = inside within ∙ sym within
@@ -243,13 +244,13 @@ group_told group numbers locks groups prepared active rising are run =
         subst (Contains (map tx_of (by_number tx_of own))) has.2
         (into_map tx_of (by_number tx_of own) has.0 (into_by_number tx_of own has.0
         (into_filter (is_of group) (prepared ++ active) has.0 has.1
-        (ap (λ g. g == group) has.3 ∙ eq_refl group))))
+        (ap (λ g. g == group) has.3 ∙ number_itself group))))
 
     back : (x : ℕ) → Contains (map tx_of (by_number tx_of own)) x → Contains numbers x
     back x there =
         let m = out_of_map tx_of (by_number tx_of own) x there in
         let from = out_of_filter (is_of group) (prepared ++ active) m.0 (out_of_by_number tx_of own m.0 m.1) in
-        (are x).1 ((run.1.labels x group).1 (m.0, from.0, m.2, eq_is m.0.group group from.1))
+        (are x).1 ((run.1.labels x group).1 (m.0, from.0, m.2, same_number m.0.group group from.1))
 
 -- ---- members whose groups become one
 
@@ -261,92 +262,109 @@ pub unlabelled : (xs : List Member) → xs ≡ map (in_joined_group []) xs
 unlabelled [] = refl
 unlabelled (x ∷ xs) = ap (λ ms. x ∷ ms) (unlabelled xs)
 
-module _ (numbers : List ℕ) (locks : Uses) (groups new : List Membership) (prepared active first_read second_read : List Member)
-    (first_same : first_read ≡ prepared) (second_same : second_read ≡ active)
-    (labels : (x : ℕ) → group_of new x
-    ≡ option_map (joined_label (labels_in numbers (first_read ++ second_read))) (group_of groups x))
-    (run : IsRunWith locks groups prepared active) where
-  -- the labels of the groups that become one
+-- groups of a run that became one: those of the members of these numbers
+pub record Merging : Type 0 where
+  pub numbers : List ℕ
+  pub locks : Uses
+  pub groups : List Membership
+  pub new : List Membership
+  pub prepared : List Member
+  pub active : List Member
+  pub labels : (x : ℕ) → group_of new x
+      ≡ option_map (joined_label (labels_in numbers (prepared ++ active))) (group_of groups x)
+  pub run : IsRunWith locks groups prepared active
+
+module _ (merging : Merging) where
+  abbrev members : List Member
+  members = merging.prepared ++ merging.active
+
+  -- the labels of the groups that became one
   abbrev own : List ℕ
-  own = labels_in numbers (prepared ++ active)
+  own = labels_in merging.numbers members
 
-  after : (x : ℕ) (ls : List ℕ) → own ≡ ls → group_of new x ≡ option_map (joined_label ls) (group_of groups x)
+  after : (x : ℕ) (ls : List ℕ) → own ≡ ls
+      → group_of merging.new x ≡ option_map (joined_label ls) (group_of merging.groups x)
   after x ls are =
-      labels x
-      ∙ (λ i. option_map (joined_label (labels_in numbers (first_same i ++ second_same i))) (group_of groups x))
-      ∙ ap (λ (ls : List ℕ). option_map (joined_label ls) (group_of groups x)) are
+      merging.labels x ∙ ap (λ (ls : List ℕ). option_map (joined_label ls) (group_of merging.groups x)) are
 
-  first_is : (first : ℕ) (more : List ℕ) → own ≡ first ∷ more → group_of groups first ≡ Some first
+  label_is : (m : Member) → Contains members m → group_of merging.groups m.tx ≡ Some m.group
+  label_is m there = label_of merging.groups members m merging.run.1 there
+
+  first_is : (first : ℕ) (more : List ℕ) → own ≡ first ∷ more → group_of merging.groups first ≡ Some first
   first_is first more are =
-      let m = out_of_map (λ (member : Member). member.group) (filter (is_one_of numbers) (prepared ++ active)) first
+      let m = out_of_map (λ (member : Member). member.group) (filter (is_one_of merging.numbers) members) first
       (subst (λ ls. Contains ls first) (sym are) (contains_first first more)) in
-      let from = out_of_filter (is_one_of numbers) (prepared ++ active) m.0 m.1 in
-      subst (λ label. group_of groups label ≡ Some label) m.2
-      (run.1.named m.0.tx m.0.group (label_of groups (prepared ++ active) m.0 run.1 from.0))
+      let from = out_of_filter (is_one_of merging.numbers) members m.0 m.1 in
+      subst (λ label. group_of merging.groups label ≡ Some label) m.2
+      (merging.run.1.named m.0.tx m.0.group (label_is m.0 from.0))
 
   by_labels : (ls : List ℕ) → own ≡ ls
-      → IsRunWith locks new (map (in_joined_group ls) prepared) (map (in_joined_group ls) active)
+      → IsRunWith merging.locks merging.new (map (in_joined_group ls) merging.prepared)
+      (map (in_joined_group ls) merging.active)
   by_labels [] are = (
-    run_locked_joined [] locks prepared active run.0,
-    subst (AreGrouped new) (λ i. unlabelled prepared i ++ unlabelled active i)
-        (same_labels groups new (prepared ++ active) (λ x. after x [] are ∙ as_it_was (group_of groups x)) run.1),
+    run_locked_joined [] merging.locks merging.prepared merging.active merging.run.0,
+    subst (AreGrouped merging.new) (λ i. unlabelled merging.prepared i ++ unlabelled merging.active i)
+        (same_labels merging.groups merging.new members
+        (λ x. after x [] are ∙ as_it_was (group_of merging.groups x)) merging.run.1),
   )
     where
       as_it_was : (o : Option ℕ) → option_map (joined_label []) o ≡ o
       as_it_was None = refl
       as_it_was (Some label) = refl
   by_labels (first ∷ more) are = (
-    run_locked_joined (first ∷ more) locks prepared active run.0,
-    subst (AreGrouped new) (map-append (in_joined_group (first ∷ more)) prepared active)
-        (grouped_joined first more groups new (λ x. after x (first ∷ more) are) (prepared ++ active)
-        (first_is first more are) run.1),
+    run_locked_joined (first ∷ more) merging.locks merging.prepared merging.active merging.run.0,
+    subst (AreGrouped merging.new) (map-append (in_joined_group (first ∷ more)) merging.prepared merging.active)
+        (grouped_joined first more merging.groups merging.new (λ x. after x (first ∷ more) are) members
+        (first_is first more are) merging.run.1),
   )
 
-  pub joined_with : IsRunWith locks new (map (in_joined_group own) prepared) (map (in_joined_group own) active)
+  pub joined_with : IsRunWith merging.locks merging.new (map (in_joined_group own) merging.prepared)
+      (map (in_joined_group own) merging.active)
   joined_with = by_labels own refl
 
-  -- the label that is told
-  told : (label : Option ℕ) → label ≡ first_of (labels_in numbers (first_read ++ second_read)) → first_of own ≡ label
-  told label is = sym (is ∙ (λ i. first_of (labels_in numbers (first_same i ++ second_same i))))
-
   -- where nobody is answered, the run is as it was
-  pub as_before : None ≡ first_of (labels_in numbers (first_read ++ second_read))
-      → IsRunWith locks new prepared active × JoinGroups own (run_of prepared active) (run_of prepared active)
+  pub as_before : None ≡ first_of own → IsRunWith merging.locks merging.new merging.prepared merging.active
+      × JoinGroups own (run_of merging.prepared merging.active) (run_of merging.prepared merging.active)
   as_before none =
-      let unjoined : own ≡ [] = none_first own (told None none) in (
-        subst (λ ms. IsRunWith locks new ms active) (sym (unlabelled prepared))
-            (subst (λ ms. IsRunWith locks new (map (in_joined_group []) prepared) ms) (sym (unlabelled active))
-            (by_labels [] unjoined)),
+      let unjoined : own ≡ [] = none_first own (sym none) in (
+        subst (λ ms. IsRunWith merging.locks merging.new ms merging.active) (sym (unlabelled merging.prepared))
+            (subst (λ ms. IsRunWith merging.locks merging.new (map (in_joined_group []) merging.prepared) ms)
+            (sym (unlabelled merging.active)) (by_labels [] unjoined)),
         record {
-          prepared = unlabelled prepared ∙ ap (λ ls. map (in_joined_group ls) prepared) (sym unjoined);
-          active = unlabelled active ∙ ap (λ ls. map (in_joined_group ls) active) (sym unjoined);
+          prepared = unlabelled merging.prepared
+              ∙ ap (λ ls. map (in_joined_group ls) merging.prepared) (sym unjoined);
+          active = unlabelled merging.active
+              ∙ ap (λ ls. map (in_joined_group ls) merging.active) (sym unjoined);
         },
       )
 
   labelled_by : (label : ℕ) (group ls : List ℕ) → own ≡ ls → first_of ls ≡ Some label
-      → ((x : ℕ) → Contains group x ↔ (group_of new x ≡ Some label)) → (members : List Member)
-      → ((m : Member) → Contains members m → Contains (prepared ++ active) m)
-      → map (labelled group label) members ≡ map (in_joined_group ls) members
-  labelled_by label group [] are first members_are members inside = absurd (none_is_some label first)
-  labelled_by label group (head ∷ more) are first members_are members inside =
-      let same : head ≡ label = some_is head label first in
-      ap (λ n. map (labelled group n) members) (sym same)
-      ∙ members_joined head more groups new (λ x. after x (head ∷ more) are) group members
-      (λ x there. (members_are x).0 there ∙ ap Some (sym same)) (λ x is_head. (members_are x).1 (is_head ∙ ap Some same))
-      (λ m there. label_of groups (prepared ++ active) m run.1 (inside m there))
+      → ((x : ℕ) → Contains group x ↔ (group_of merging.new x ≡ Some label)) → (some : List Member)
+      → ((m : Member) → Contains some m → Contains members m)
+      → map (labelled group label) some ≡ map (in_joined_group ls) some
+  labelled_by label group [] are first members_are some inside = absurd (none_is_some label first)
+  labelled_by label group (head ∷ more) are first members_are some inside =
+      let same : head ≡ label = some_same head label first in
+      ap (λ n. map (labelled group n) some) (sym same)
+      ∙ members_joined head more merging.groups merging.new (λ x. after x (head ∷ more) are) group some
+      (λ x there. (members_are x).0 there ∙ ap Some (sym same))
+      (λ x is_head. (members_are x).1 (is_head ∙ ap Some same))
+      (λ m there. label_is m (inside m there))
 
   -- the members of the group that is made have its label
-  pub with_labels : (label : ℕ) (group : List ℕ) → Some label ≡ first_of (labels_in numbers (first_read ++ second_read))
-      → ((x : ℕ) → Contains group x ↔ (group_of new x ≡ Some label))
-      → IsRunWith locks new (map (labelled group label) prepared) (map (labelled group label) active)
-      × JoinGroups own (run_of prepared active)
-      (run_of (map (labelled group label) prepared) (map (labelled group label) active))
+  pub with_labels : (label : ℕ) (group : List ℕ) → Some label ≡ first_of own
+      → ((x : ℕ) → Contains group x ↔ (group_of merging.new x ≡ Some label))
+      → IsRunWith merging.locks merging.new (map (labelled group label) merging.prepared)
+      (map (labelled group label) merging.active)
+      × JoinGroups own (run_of merging.prepared merging.active)
+      (run_of (map (labelled group label) merging.prepared) (map (labelled group label) merging.active))
   with_labels label group is members_are =
-      let first = labelled_by label group own refl (told (Some label) is) members_are prepared
-      (λ m there. Contains-append_left prepared active m there) in
-      let second = labelled_by label group own refl (told (Some label) is) members_are active
-      (λ m there. Contains-append_right prepared active m there) in (
-        subst (λ ms. IsRunWith locks new ms (map (labelled group label) active)) (sym first)
-            (subst (λ ms. IsRunWith locks new (map (in_joined_group own) prepared) ms) (sym second) joined_with),
+      let first = labelled_by label group own refl (sym is) members_are merging.prepared
+      (λ m there. Contains-append_left merging.prepared merging.active m there) in
+      let second = labelled_by label group own refl (sym is) members_are merging.active
+      (λ m there. Contains-append_right merging.prepared merging.active m there) in (
+        subst (λ ms. IsRunWith merging.locks merging.new ms (map (labelled group label) merging.active)) (sym first)
+            (subst (λ ms. IsRunWith merging.locks merging.new (map (in_joined_group own) merging.prepared) ms)
+            (sym second) joined_with),
         record { prepared = first; active = second },
       )

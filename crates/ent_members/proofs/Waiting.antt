@@ -1,10 +1,11 @@
 -- Who waits for whom: pairs made by holders are those made by who is waited for.
 use Rattle.std.proofs.Common.{◌≡◌, ◌⊎◌, inl, inr, ℕ, Bool, true, false, not, ◌==◌, ◌&&◌, ◌||◌}
-use Rattle.std.proofs.Common.{if◌then◌else◌, List, [], ◌∷◌, ◌++◌, map, refl, sym, ap, subst, ◌∙◌, arith, true≢false}
+use Rattle.std.proofs.Common.{if◌then◌else◌, List, [], ◌∷◌, ◌++◌, map, refl, sym, ap, subst, ◌∙◌}
 use Rattle.std.specs.Prelude.{Contains, filter}
 use Rattle.std.specs.List.{flat_map, list_any}
-use Rattle.std.proofs.lemmas.Bool.Decides.{nat_tests}
 use Rattle.std.proofs.lemmas.List.Elements.{Contains-append_cases, filter-append}
+use Rattle.std.proofs.lemmas.List.Folds.{list_any-append}
+use Rattle.ent_lists.specs.Elements.{number_itself, same_number}
 use Rattle.ent_protocol.specs.Member.{is_of}
 use Rattle.ent_protocol.specs.State.{State, Member, Use}
 use Rattle.ent_protocol.specs.Uses.{conflicting, is_conflicting, not_passed}
@@ -15,22 +16,13 @@ use Rattle.ent_members.specs.Waits.{is_awaited, is_awaited_over, pairs_of, waits
 use Rattle.ent_members.proofs.Conflicting.{filtered_twice}
 use Rattle.ent_members.proofs.Lists.{contains_none, contains_cases, contains_first, into_filter, out_of_filter}
 use Rattle.ent_members.proofs.Lists.{any_of, some_of, into_map, out_of_map, into_flat_map, out_of_flat_map}
+use Rattle.ent_members.proofs.Locked.{not_true}
 
 abbrev pair_with : ℕ → Member → ℕ × ℕ
 pair_with tx other = (tx, other.tx)
 
 abbrev pairs_over : State → Member → Member → List (ℕ × ℕ)
 pairs_over s asker holder = map (λ other. (asker.tx, other.tx)) (awaited s asker holder)
-
-eq_refl : (n : ℕ) → (n == n) ≡ true
-eq_refl n = grind (arith, nat_tests)
-
-eq_is : (n m : ℕ) → (n == m) ≡ true → n ≡ m
-eq_is n m is = grind (arith, nat_tests)
-
-not_false : (b : Bool) → not b ≡ true → b ≡ true → ⊥
-not_false true is same = true≢false (sym is)
-not_false false is same = true≢false (sym same)
 
 own_is_active : (s : State) (asker holder : Member) (asked : List Use) → Contains (conflicting s asker asked) holder
     → (holder.group == asker.group) ≡ true → Contains s.active holder
@@ -41,7 +33,7 @@ own_is_active s asker holder asked there own =
   where
     by_list : Contains (filter (λ (h : Member). not (h.group == asker.group)) s.prepared) holder
         ⊎ Contains (filter (λ (h : Member). not (h.tx == asker.tx)) s.active) holder → Contains s.active holder
-    by_list (inl first) = absurd (not_false (holder.group == asker.group)
+    by_list (inl first) = absurd (not_true (holder.group == asker.group)
         (out_of_filter (λ (h : Member). not (h.group == asker.group)) s.prepared holder first).1 own)
     by_list (inr second) = (out_of_filter (λ (h : Member). not (h.tx == asker.tx)) s.active holder second).0
 
@@ -53,7 +45,7 @@ awaited_is active holder other true there h = by_cases (contains_cases holder ot
     by_cases : (holder ≡ other) ⊎ Contains [] other → Contains active other × ((holder.tx == other.tx) ≡ true)
     by_cases (inl same) = (
       subst (Contains active) same (there refl),
-      ap (λ (m : Member). holder.tx == m.tx) (sym same) ∙ eq_refl holder.tx,
+      ap (λ (m : Member). holder.tx == m.tx) (sym same) ∙ number_itself holder.tx,
     )
     by_cases (inr none) = absurd (contains_none other none)
 awaited_is active holder other false there h = out_of_filter (is_of holder.group) active other h
@@ -76,7 +68,7 @@ into_pairs s asker asked pair h =
 awaited_from : (active : List Member) (holder other : Member) (b : Bool) → Contains active other
     → (if b then holder.tx == other.tx else (other.group == holder.group)) ≡ true
     → (m : Member) × Contains (if b then holder ∷ [] else filter (is_of holder.group) active) m × (m.tx ≡ other.tx)
-awaited_from active holder other true there is = (holder, contains_first holder [], eq_is holder.tx other.tx is)
+awaited_from active holder other true there is = (holder, contains_first holder [], same_number holder.tx other.tx is)
 awaited_from active holder other false there is =
     (other, into_filter (is_of holder.group) active other there is, refl)
 
@@ -105,15 +97,6 @@ any_filter : (p q : Member → Bool) (xs : List Member) → list_any q (filter p
 any_filter p q [] = refl
 any_filter p q (x ∷ xs) = any_if q x (filter p xs) (p x) ∙ ap (λ b. (p x && q x) || b) (any_filter p q xs)
 
-or_assoc : (a b c : Bool) → ((a || b) || c) ≡ (a || (b || c))
-or_assoc true b c = refl
-or_assoc false b c = refl
-
-any_append : (q : Member → Bool) (xs ys : List Member) → list_any q (xs ++ ys) ≡ (list_any q xs || list_any q ys)
-any_append q [] ys = refl
-any_append q (x ∷ xs) ys =
-    ap (λ b. q x || b) (any_append q xs ys) ∙ sym (or_assoc (q x) (list_any q xs) (list_any q ys))
-
 pub awaited_by_lists : (asked : List Use) (group tx : ℕ) (other : Member) (prepared active : List Member)
     → (list_any (is_awaited_over asked (Group group) group other) prepared
     || list_any (is_awaited_over asked (Itself tx) group other) active)
@@ -125,7 +108,7 @@ awaited_by_lists asked group tx other prepared active =
     let passing = filter (λ (holder : Member). not (holder.group == group)) prepared in
     let others = filter (λ (holder : Member). not (holder.tx == tx)) active in
     sym (ap (list_any q) (filter-append (is_conflicting asked) passing others)
-    ∙ any_append q (filter (is_conflicting asked) passing) (filter (is_conflicting asked) others)
+    ∙ list_any-append q (filter (is_conflicting asked) passing) (filter (is_conflicting asked) others)
     ∙ ap (λ ms. list_any q ms || list_any q (filter (is_conflicting asked) others))
     (sym (filtered_twice asked (Group group) prepared))
     ∙ ap (λ ms. list_any q (filter (is_blocking asked (Group group)) prepared) || list_any q ms)

@@ -10,15 +10,15 @@ ghost use Rattle.ent_protocol.specs.Commit.{committing_members, is_ready};
 ghost use Rattle.ent_protocol.specs.Finish.{stepped};
 ghost use Rattle.ent_protocol.specs.Lookup.{member_of, running_members};
 ghost use Rattle.ent_protocol.specs.Member.{active_member, is_of, is_prepared};
-ghost use Rattle.ent_protocol.specs.Rollback.{group_numbers};
+ghost use Rattle.ent_protocol.specs.Rollback.{group_members, group_numbers};
 ghost use Rattle.ent_protocol.specs.Run.{fresh};
-ghost use Rattle.ent_protocol.specs.State.{Member as Seen, State, by_number};
+ghost use Rattle.ent_protocol.specs.State.{Member as Seen, State, by_number, members};
 ghost use Rattle.ent_protocol.specs.Uses.{blocker, statement_uses};
 ghost use Rattle.ent_semantics.specs.Entangled.{Valuation};
 ghost use Rattle.ent_members.specs.Answered.{AnswerTogether, IsJoining, answer_tx, answered_from, member_answers};
 ghost use Rattle.ent_members.specs.Changes.{posting, stepping};
 ghost use Rattle.ent_members.specs.Joined.{JoinGroups, labels_in};
-ghost use Rattle.ent_members.specs.RunAttempts.{numbers_in, run_attempts_in};
+ghost use Rattle.ent_members.specs.RunAttempts.{numbers_in, run_attempt_of, run_attempts_in};
 ghost use Rattle.ent_members.specs.Locks.{passed_numbers};
 ghost use Rattle.ent_members.specs.Moves.{Leave, Prepares, is_not_of, is_of_another};
 ghost use Rattle.ent_members.specs.Places.{Changes, found};
@@ -363,7 +363,10 @@ impl Run {
     /// The members of the group with a label leave the run, or all, if none is named. Tells who left, by number. It
     /// takes no memory.
     pub fn remove(&mut self, group: Option<Tx>) -> RunAttempts
-        ensures left { result ≡ run_attempts_in group (self.old.prepared ++ self.old.active) }
+        ensures group { (s : State) → IfSome group (λ label.
+            result ≡ map run_attempt_of (group_members (with_run self.old s) label)) }
+        ensures all { (s : State) → IsNone group →
+            result ≡ map run_attempt_of (by_number tx_of (members (with_run self.old s))) }
         ensures prepared { self.new.prepared ≡ filter (is_not_of (numbers_in result)) self.old.prepared }
         ensures active { self.new.active ≡ filter (is_not_of (numbers_in result)) self.old.active }
         ensures leave { (gone : List Seen) → numbers_in result ≡ map tx_of gone → Leave gone self.old self.new }

@@ -2,7 +2,8 @@ use Rattle.std.proofs.Common.{◌≡◌, ◌∙◌, ◌++◌, ◌+◌, ◌≤◌
 use Rattle.std.specs.List.{AllByRecursion, IsDistinct, filter, filter_map}
 use Rattle.ent_pool_laws.specs.Pooled.{IsPoolOf, is_of_none}
 use Rattle.ent_core.proofs.Pooled.{kept_gone}
-use Rattle.ent_core.proofs.TakenOut.{as_run_attempts, joints_left, kept_taken, may_leave_run, numbers_leaving, taken}
+use Rattle.ent_core.proofs.TakenOut.{as_run_attempts, joints_left, kept_taken, may_leave_run, numbers_leaving}
+use Rattle.ent_core.proofs.TakenOut.{taken, who_left}
 use Rattle.ent_core.specs.TakeOut.{MayLeave}
 use Rattle.ent_core.specs.contracts.store.Store.{the_view}
 use Rattle.ent_members.specs.declared.run_attempts.RunAttempt.{RunAttempt}
@@ -16,6 +17,20 @@ use Rattle.ent_transaction_table.specs.Cause.{cause_seen}
 use Rattle.ent_transaction_table.specs.Leaving.{IsWithin, as_member}
 use Rattle.ent_tables.specs.Stored.{Stored}
 use Rattle.ent_core.proofs.take_out.take_out.Goals as goal
+use Rattle.ent_core.proofs.take_out.take_out.Goals.{After-remove-run_attempts}
+
+-- who left
+left : (c : After-remove-run_attempts) → c.remove-run_attempts.result
+    ≡ run_attempts_in c.args.group (members (the_view c.store.inside))
+left c =
+    let s : State = the_view c.store.inside in
+    who_left c.args.group s c.remove-run_attempts.result (c.remove-run_attempts.ensures.group s)
+    (c.remove-run_attempts.ensures.all s)
+
+leaving : (c : After-remove-run_attempts) → MayLeave c.remove-run_attempts.result (the_view c.store.inside)
+leaving c =
+    may_leave_run c.args.group c.remove-run_attempts.result (the_view c.store.inside) c.args.store.now c.store.view_is
+    (left c) c.requires.leaving
 
 pub leave-requires-clause-room : goal.leave-requires-clause-room
 leave-requires-clause-room c =
@@ -25,49 +40,42 @@ leave-requires-clause-room c =
     length x.dormant + length x.fates + length (run_attempts_in group (members x)) ≤ length x.submitted in
     let room : R s = subst R (sym c.store.view_is) c.requires.room in
     let long : length c.as_slice.result.now ≡ length (run_attempts_in group (members s)) =
-    ap length (c.as_slice.ensures.list ∙ c.remove-run_attempts.ensures.left) in
+    ap length (c.as_slice.ensures.list
+    ∙ left (goal.at.leave-requires-clause-room c).After-remove-run_attempts) in
     omega (arith, room, c.store.invariant.known, long)
 
 pub leave-requires-clause-numbers : goal.leave-requires-clause-numbers
 leave-requires-clause-numbers c =
     let inside = c.store.inside in
-    let leaving : MayLeave c.remove-run_attempts.result (the_view inside) =
-    may_leave_run c.args.group c.remove-run_attempts.result (the_view inside) c.args.store.now c.store.view_is
-    c.remove-run_attempts.ensures.left c.requires.leaving in
+    let may = leaving (goal.at.leave-requires-clause-numbers c).After-remove-run_attempts in
     let N : ℕ → List RunAttempt → Type 0 = λ known all.
     AllByRecursion (λ run_attempt. IsNumbered known run_attempt.tx) all in
     subst (λ known. N known c.as_slice.result.now) (sym c.store.invariant.known)
-    (subst (N (length inside.submitted.items)) (sym c.as_slice.ensures.list) leaving.arrived)
+    (subst (N (length inside.submitted.items)) (sym c.as_slice.ensures.list) may.arrived)
 
 pub leave-requires-clause-within : goal.leave-requires-clause-within
 leave-requires-clause-within c =
     let inside = c.store.inside in
-    let leaving : MayLeave c.remove-run_attempts.result (the_view inside) =
-    may_leave_run c.args.group c.remove-run_attempts.result (the_view inside) c.args.store.now c.store.view_is
-    c.remove-run_attempts.ensures.left c.requires.leaving in
+    let may = leaving (goal.at.leave-requires-clause-within c).After-remove-run_attempts in
     let W : List Submitted → List RunAttempt → Type 0 = λ submitted all. AllByRecursion (IsWithin submitted) all in
     subst (λ submitted. W submitted c.as_slice.result.now) (sym c.as_slice-2.ensures.value)
-    (subst (W inside.submitted.items) (sym c.as_slice.ensures.list) leaving.within)
+    (subst (W inside.submitted.items) (sym c.as_slice.ensures.list) may.within)
 
 pub leave-requires-clause-awake : goal.leave-requires-clause-awake
 leave-requires-clause-awake c =
     let inside = c.store.inside in
-    let leaving : MayLeave c.remove-run_attempts.result (the_view inside) =
-    may_leave_run c.args.group c.remove-run_attempts.result (the_view inside) c.args.store.now c.store.view_is
-    c.remove-run_attempts.ensures.left c.requires.leaving in
+    let may = leaving (goal.at.leave-requires-clause-awake c).After-remove-run_attempts in
     subst (λ (all : List RunAttempt). IsDistinct nat_eq
     (map (λ own. own.tx) inside.transaction_table.dormant ++ numbers_in all)) (sym c.as_slice.ensures.list)
-    leaving.distinct
+    may.distinct
 
 pub leave-requires-clause-unfinished : goal.leave-requires-clause-unfinished
 leave-requires-clause-unfinished c =
     let inside = c.store.inside in
-    let leaving : MayLeave c.remove-run_attempts.result (the_view inside) =
-    may_leave_run c.args.group c.remove-run_attempts.result (the_view inside) c.args.store.now c.store.view_is
-    c.remove-run_attempts.ensures.left c.requires.leaving in
+    let may = leaving (goal.at.leave-requires-clause-unfinished c).After-remove-run_attempts in
     subst (λ (all : List RunAttempt). IsDistinct nat_eq
     (map (λ fated. fated.tx) inside.transaction_table.fates ++ numbers_in all)) (sym c.as_slice.ensures.list)
-    leaving.unfinished
+    may.unfinished
 
 pub invariant_of-store : goal.invariant_of-store
 invariant_of-store c =
@@ -75,12 +83,10 @@ invariant_of-store c =
     let run_attempts : List RunAttempt = c.remove-run_attempts.result in
     let run = c.remove-run_attempts.new.self in
     let cause = cause_seen c.args.cause in
-    let leaving : MayLeave run_attempts (the_view inside) =
-    may_leave_run c.args.group run_attempts (the_view inside) c.args.store.now c.store.view_is
-    c.remove-run_attempts.ensures.left c.requires.leaving in
+    let may = leaving (goal.at.invariant_of-store c).After-remove-run_attempts in
     kept_taken inside.catalogue.tables inside.opening inside.submitted.items inside.transaction_table c.leave.new.self
     inside.running inside.run run inside.tables c.roll_back.new.self inside.pool c.withdraw_each.new.pool
-    run_attempts cause (is_not_of (numbers_in run_attempts)) c.store.invariant leaving.arrived leaving.distinct
+    run_attempts cause (is_not_of (numbers_in run_attempts)) c.store.invariant may.arrived may.distinct
     (c.leave.ensures.dormant (map as_member run_attempts) (c.as_slice.ensures.list ∙ as_run_attempts run_attempts)
     ∙ (λ i. inside.transaction_table.dormant
     ++ filter_map (dormant_by (c.as_slice-2.ensures.value i) cause) (map as_member run_attempts)))
@@ -94,7 +100,7 @@ invariant_of-store c =
 
 pub returns-clause-members : goal.returns-clause-members
 returns-clause-members c =
-    c.numbers-numbers.ensures ∙ ap numbers_in c.remove-run_attempts.ensures.left
+    c.numbers-numbers.ensures ∙ ap numbers_in (left (goal.at.returns-clause-members c).After-remove-run_attempts)
     ∙ ap (λ (s : State). numbers_in (run_attempts_in c.args.group (members s))) c.store.view_is
 
 pub returns-clause-state : goal.returns-clause-state
@@ -104,11 +110,12 @@ returns-clause-state c = λ gone is.
     let run = c.remove-run_attempts.new.self in
     let cause = cause_seen c.args.cause in
     let sorted : List Member = by_number tx_of gone in
-    let are : run_attempts ≡ map run_attempt_of sorted = c.remove-run_attempts.ensures.left
+    let are : run_attempts ≡ map run_attempt_of sorted =
+    left (goal.at.returns-clause-state c).After-remove-run_attempts
     ∙ ap (λ (s : State). run_attempts_in c.args.group (members s)) c.store.view_is ∙ is in
     let numbers : c.numbers-numbers.result ≡ map tx_of sorted =
     numbers_leaving c.numbers-numbers.result run_attempts sorted c.numbers-numbers.ensures are in
-    let left = c.remove-run_attempts.ensures.leave sorted (sym c.numbers-numbers.ensures ∙ numbers) in
+    let leave = c.remove-run_attempts.ensures.leave sorted (sym c.numbers-numbers.ensures ∙ numbers) in
     let stored = c.roll_back.ensures.members sorted numbers in
     taken (the_view inside) gone cause c.leave.new.self.dormant c.leave.new.self.fates run.prepared run.active
     c.remove_joints.new.joints.items c.remove_with.new.self c.roll_back.new.self.tables c.roll_back.new.self.changes
@@ -116,7 +123,7 @@ returns-clause-state c = λ gone is.
     ∙ (λ i. inside.transaction_table.dormant ++ filter_map (dormant_by (c.as_slice-2.ensures.value i) cause) sorted))
     (c.leave.ensures.fates sorted (c.as_slice.ensures.list ∙ are)
     ∙ (λ i. inside.transaction_table.fates ++ filter_map (fated_by (c.as_slice-2.ensures.value i) cause) sorted))
-    left.prepared left.active
+    leave.prepared leave.active
     (c.remove_joints.ensures ∙ joints_left c.numbers-numbers.result sorted inside.joints.items numbers)
     (c.remove_with.ensures.gone sorted numbers)
     (ap (λ (s : Stored). s.tables) stored) (ap (λ (s : Stored). s.changes) stored)

@@ -1,4 +1,4 @@
-use Rattle.std.proofs.Common.{◌+◌, length, arith, ap, subst, sym, refl, ◌∙◌, map, List, []}
+use Rattle.std.proofs.Common.{length, arith, ap, subst, sym, refl, ◌∙◌, map, List, []}
 use Rattle.std.specs.Prelude.{IsNone}
 use Rattle.ent_group.specs.declared.groups.Membership.{Membership}
 use Rattle.ent_protocol.specs.Run.{fresh}

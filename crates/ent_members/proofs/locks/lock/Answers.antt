@@ -1,4 +1,4 @@
-use Rattle.std.proofs.Common.{ap, ◌∙◌}
+use Rattle.std.proofs.Common.{◌∙◌}
 use Rattle.ent_lock.specs.Use.{AddsUses, key_of_number, keyed}
 use Rattle.ent_members.specs.Locks.{Locks}
 use Rattle.ent_members.proofs.Locked.{granted}

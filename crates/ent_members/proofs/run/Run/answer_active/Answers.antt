@@ -1,6 +1,5 @@
-use Rattle.std.proofs.Common.{◌≡◌, List, map, sym, ap, subst, ◌∙◌}
+use Rattle.std.proofs.Common.{sym, subst, ◌∙◌}
 use Rattle.std.proofs.lemmas.List.{with_items_is}
-use Rattle.ent_protocol.specs.State.{Member}
 use Rattle.ent_members.specs.Grouped.{IsRunWith}
 use Rattle.ent_members.proofs.RunWith.{answered_with}
 use Rattle.ent_members.proofs.run.Run.answer_active.Goals as goal

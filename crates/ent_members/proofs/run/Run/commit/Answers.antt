@@ -1,6 +1,7 @@
-use Rattle.std.proofs.Common.{◌≡◌, Bool, true, false, not, List, ◌++◌, map, refl, sym, ap, subst, ◌∙◌}
+use Rattle.std.proofs.Common.{not, List, ◌++◌, map, sym, ap, subst, ◌∙◌}
 use Rattle.std.specs.Prelude.{filter}
 use Rattle.std.specs.List.{list_any}
+use Rattle.ent_lists.specs.Elements.{turned}
 use Rattle.ent_lock.specs.Use.{DropsUses}
 use Rattle.ent_protocol.specs.Member.{is_of}
 use Rattle.ent_protocol.specs.State.{Member}
@@ -8,16 +9,12 @@ use Rattle.ent_members.specs.Run.{Run, tx_of}
 use Rattle.ent_members.proofs.RunWith.{committed_with}
 use Rattle.ent_members.proofs.run.Run.commit.Goals as goal
 
-none_active : (b : Bool) → not b ≡ true → b ≡ false
-none_active true is = sym is
-none_active false is = refl
-
 pub invariant_of-self : goal.invariant_of-self
 invariant_of-self c =
     rw c.take_group.ensures.kept
     (committed_with c.args.group c.self.inside.locks c.drop_group.new.self c.self.inside.groups
     c.remove_labelled.new.groups c.self.inside.prepared.items c.self.inside.active.items
-    (none_active (list_any (is_of c.args.group) c.self.inside.active.items)
+    (turned (list_any (is_of c.args.group) c.self.inside.active.items)
     (sym (c.is_ready.ensures ∙ ap (λ (run : Run). not (list_any (is_of c.args.group) run.active)) (sym c.self.view_is))
     ∙ c.if-not-is_ready.false))
     (subst (DropsUses c.self.inside.locks c.drop_group.new.self)

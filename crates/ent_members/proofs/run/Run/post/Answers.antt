@@ -4,7 +4,7 @@ use Rattle.std.proofs.lemmas.List.{with_items_is}
 use Rattle.ent_protocol.specs.Begin.{replaced, with_uses}
 use Rattle.ent_protocol.specs.State.{Member}
 use Rattle.ent_members.specs.Grouped.{IsRunWith}
-use Rattle.ent_members.specs.Places.{Changes, found}
+use Rattle.ent_members.specs.Places.{found}
 use Rattle.ent_members.specs.Run.{Run}
 use Rattle.ent_members.specs.Changes.{posting_all}
 use Rattle.ent_members.proofs.HeldUses.{holds_asked}

@@ -1,8 +1,10 @@
 use Rattle.std.proofs.Common.{◌≡◌, ◌++◌, ℕ, List, not, filter, sym, ap, ◌∙◌}
 use Rattle.ent_protocol.specs.Rollback.{is_among}
+use Rattle.ent_protocol.specs.State.{members}
 use Rattle.ent_members.specs.Moves.{is_not_of}
-use Rattle.ent_members.specs.Run.{Run}
+use Rattle.ent_members.specs.Run.{Run, with_run}
 use Rattle.ent_members.specs.RunAttempts.{numbers_in, run_attempts_in}
+use Rattle.ent_members.proofs.ByNumber.{all_left, group_left}
 use Rattle.ent_members.proofs.Moved.{filtered_out}
 use Rattle.ent_members.proofs.RunWith.{left_with}
 use Rattle.ent_members.proofs.run.Run.remove.Goals as goal
@@ -17,6 +19,16 @@ invariant_of-self c =
     rw (c.remove.ensures, c.remove-2.ensures)
     (left_with c.args.group c.numbers-numbers.result c.self.inside.locks c.drop_group.new.self c.self.inside.groups
     c.leave.new.groups prepared active numbers c.drop_group.ensures c.leave.ensures c.self.invariant)
+
+pub returns-clause-group : goal.returns-clause-group
+returns-clause-group c = λ s.
+    group_left c.args.group (members (with_run c.args.self.now s)) c.run_attempts-run_attempts.result
+    c.run_attempts-run_attempts.ensures
+
+pub returns-clause-all : goal.returns-clause-all
+returns-clause-all c = λ s.
+    all_left c.args.group (members (with_run c.args.self.now s)) c.run_attempts-run_attempts.result
+    c.run_attempts-run_attempts.ensures
 
 pub returns-clause-leave : goal.returns-clause-leave
 returns-clause-leave c = λ gone is. record {
