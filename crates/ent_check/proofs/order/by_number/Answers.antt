@@ -35,5 +35,5 @@ returns c =
     let over : min (length scripts) (length told) ≤ c.loop-index.index = grind (arith, rules) in
     record {
       numbered = all_entered scripts told c.loop-index.index c.loop-index.indices over c.loop-index.invariant.entered;
-      below = c.loop-index.invariant.below;
+      within = c.loop-index.invariant.below;
     }

@@ -44,5 +44,5 @@ returns c =
     record {
       in_order = ordered_all all c.commit_count-count.result c.loop-before.before c.loop-before.order.items
           c.loop-before.invariant.counted over c.loop-before.invariant.ordered;
-      below = c.loop-before.invariant.below;
+      within = c.loop-before.invariant.below;
     }
