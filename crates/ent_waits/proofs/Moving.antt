@@ -1,6 +1,6 @@
 -- Who would move, where something blocks it or nothing is.
 use Rattle.std.proofs.Common.{◌≡◌, ◌↔◌, ℕ, Bool, true, false, not, ◌&&◌, ◌||◌, List, [], ◌∷◌, Option, Some, None}
-use Rattle.std.proofs.Common.{refl, sym, subst, true≢false}
+use Rattle.std.proofs.Common.{refl, sym, ap, subst, ◌∙◌, true≢false}
 use Rattle.std.specs.List.{filter}
 use Rattle.std.specs.Option.{is_some}
 use Rattle.ent_value.specs.declared.value.Value.{Value}
@@ -36,13 +36,13 @@ waiting_is_idle false false waiting = refl
 
 -- ---- in conflict
 
-pub holder_of : (blocker : Option ℕ) → is_some blocker ≡ true → (holder : ℕ) × (blocker ≡ Some holder)
-holder_of (Some holder) some = (holder, refl)
-holder_of None some = absurd (true≢false (sym some))
-
 pub no_holder : (blocker : Option ℕ) → is_some blocker ≡ false → blocker ≡ None
 no_holder (Some holder) none = absurd (true≢false none)
 no_holder None none = refl
+
+pub nobody_blocks : (blocker : Option ℕ) (none : Bool) → is_some blocker ≡ not none → blocker ≡ None → none ≡ true
+nobody_blocks blocker true some nobody = refl
+nobody_blocks blocker false some nobody = absurd (true≢false (sym some ∙ ap is_some nobody))
 
 -- ---- by what comes next
 

@@ -55,7 +55,7 @@ returns-clause-choice c = λ laid are.
     let values = c.in-Some.values in
     let made : c.in_ok-valuations-in-Some.field-0 ≡ spread plan values =
     c.in_ok-valuations-in-Some.ensures
-    ∙ (λ i. map (map (slot_value (c.values.ensures i))) (c.slots-in-Some.ensures.slots i)) in
+    ∙ (λ i. map (map (slot_value (c.values.ensures i))) (c.slots.ensures.slots i)) in
     subst (IsLeastChoice laid plan.members) (sym made)
     (chosen plan is tables frame framed.indexes framed.tests framed.kinds laid are
     (λ groundings. c.plan_has_the_choices.ensures laid plan groundings is)
