@@ -38,7 +38,7 @@ use Rattle.ent_core.specs.declared.reply.Reply.{Reply as Given}
 use Rattle.ent_lists.specs.Elements.{contains_in, index_pairs}
 use Rattle.ent_protocol_laws.specs.ByNumber.{StandByNumber}
 use Rattle.ent_protocol_laws.specs.Numbered.{below_apart, one_of}
-use Rattle.ent_core.specs.Begin.{IsGroupOf, IsIdle, IsToBegin, IsToPost, LendsTo, MayBegin, job_uses}
+use Rattle.ent_core.specs.Begin.{IsFree, IsGroupOf, IsIdle, IsToBegin, IsToLend, IsToPost, LendsTo, MayBegin, job_uses}
 
 -- ---- the member of a number
 
@@ -193,6 +193,19 @@ module _ (s : State) (tx : ℕ) where
         → IsSafe (pool_with s member statement) → (new : State) → new ≡ posting s member statement
         → Begins {F = FormFault} s tx replies.Posted new
     entangled_posted none safe new is = entangled None none replies.Posted new (inl (safe, refl, is))
+
+  -- a free member may begin what comes next
+  pub begun_next : (member : Member) (next : Next) → IsFree s tx member → next ≡ next_of s member
+      → MayBegin s tx member next
+  begun_next member next free is = record { there = free.may.there; free = free.may.free; is_next = sym is }
+
+  -- lending the job of what comes next is the begin
+  pub begun_lends : {E : Type 0} (job : Job) → IsToLend s tx job → (result : Result Given E) (new : State)
+      → IfOk result (λ reply. reply_seen reply ≡ replies.Lent job) → IfOk result (λ reply. LendsTo tx job s new)
+      → IfOk result (λ reply. Begins s tx (reply_seen reply) new)
+  begun_lends job begun (Ok reply) new is lends =
+      subst (λ (r : Reply FormFault). Begins s tx r new) (sym is) (begun.lends new lends)
+  begun_lends job begun (Err e) new is lends = tt
 
   -- whatever comes next, who blocks what it asks for blocks it
   pub begun_blocked : (member : Member) (next : Next) → MayBegin s tx member next → (holder : ℕ)
