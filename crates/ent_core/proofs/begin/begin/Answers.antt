@@ -1,12 +1,44 @@
-use Rattle.std.proofs.Common.{◌≡◌, ◌∙◌, ap, subst, sym}
+use Rattle.std.proofs.Common.{◌≡◌, ◌∙◌, ℕ, ap, subst, sym}
 use Rattle.std.specs.Arc.{arc_value}
 use Rattle.ent_headline.specs.Resolved.{resolved_forms}
 use Rattle.ent_next.specs.Next.{next_seen}
 use Rattle.ent_protocol.specs.Member.{Asks, Commits, Next, Ordinary, RollsBack, next_of}
 use Rattle.ent_protocol.specs.Uses.{blocker}
 use Rattle.ent_protocol.specs.Waits.{next_uses}
-use Rattle.ent_core.specs.Begin.{IsToLend, IsToPost, MayBegin}
+use Rattle.ent_core.specs.Begin.{IsIdle, IsToLend, IsToPost, MayBegin}
 use Rattle.ent_core.proofs.Begun.{begun_commits, begun_lends, begun_next, begun_rolls_back, idle_at_turn, plans_no_job}
 use Rattle.ent_core.proofs.Begun.{plans_no_post, some_found}
 use Rattle.ent_core.proofs.Posting.{to_post}
 use Rattle.ent_core.proofs.begin.begin.Goals as goal
+
+pub lend-requires-clause-idle : goal.lend-requires-clause-idle
+lend-requires-clause-idle c =
+    subst (λ (n : ℕ). IsIdle c.args.store.now n) c.in-Ok.ensures.number c.in_ok-job-in-Ordinary.ensures.idle
+
+pub commit-requires-clause-idle : goal.commit-requires-clause-idle
+commit-requires-clause-idle c =
+    let now = c.args.store.now in
+    let member = c.in-Ok.member.now in
+    idle_at_turn now c.args.tx member Commits (c.members_stand_by_number.ensures resolved_forms now c.requires.kept.reached)
+    (begun_next now c.args.tx member Commits c.in-Ok.ensures.free
+    (sym (ap next_seen c.in-Commits.is) ∙ c.in_ok-statement.ensures.next))
+
+pub commit-requires-clause-counted : goal.commit-requires-clause-counted
+commit-requires-clause-counted c =
+    c.transactions_are_counted.ensures resolved_forms c.args.store.now c.requires.kept.reached
+
+pub commit-requires-clause-within : goal.commit-requires-clause-within
+commit-requires-clause-within c =
+    c.attempts_stay_within.ensures.own resolved_forms c.args.store.now c.requires.kept.reached c.asks_for_runs.ensures
+
+pub roll_back-requires-clause-counted : goal.roll_back-requires-clause-counted
+roll_back-requires-clause-counted c =
+    c.transactions_are_counted.ensures resolved_forms c.args.store.now c.requires.kept.reached
+
+pub roll_back-requires-clause-within : goal.roll_back-requires-clause-within
+roll_back-requires-clause-within c =
+    c.attempts_stay_within.ensures.own resolved_forms c.args.store.now c.requires.kept.reached c.asks_for_runs.ensures
+
+pub roll_back-requires-clause-once : goal.roll_back-requires-clause-once
+roll_back-requires-clause-once c =
+    c.transactions_stand_once.ensures.once resolved_forms c.args.store.now c.requires.kept.reached
