@@ -1,9 +1,9 @@
 -- A member begins: what is planned and done is the begin.
 use Rattle.std.proofs.Common.{◌≡◌, ◌||◌, ℕ, Bool, true, false, List, [], ◌∷◌, ◌++◌, refl, sym, ap, subst, ◌∙◌}
 use Rattle.std.proofs.Common.{inl, inr, ◌≤◌, ◌<◌, length, map, nat_eq}
-use Rattle.std.proofs.Common.{Option, Some, None, cond, if◌then◌else◌, arith, suc, Result, Ok, Err}
+use Rattle.std.proofs.Common.{Option, Some, None, cond, if◌then◌else◌, arith, suc}
 use Rattle.std.specs.List.{AllByRecursion, IsDistinct, filter}
-use Rattle.std.specs.Prelude.{IfOk, IsSome, Contains, is_some}
+use Rattle.std.specs.Prelude.{IsSome, Contains, is_some}
 use Rattle.std.proofs.lemmas.Bool.Decides.{nat_tests}
 use Rattle.ent_value.specs.declared.value.Value.{Value}
 use Rattle.ent_closed.specs.declared.entangled.Entangled.{Entangled}
@@ -11,17 +11,15 @@ use Rattle.ent_closed.specs.declared.statement.Statement.{Statement}
 use Rattle.ent_coordination.specs.Pool.{IsFirstUnsafe, IsSafe, Unsafe, Posted}
 use Rattle.ent_form.specs.declared.catalogue.TableSchema.{TableSchema}
 use Rattle.ent_form.specs.declared.fault.FormFault.{FormFault}
-use Rattle.ent_protocol.specs.Begin.{Begins, BeginsCommit, BeginsEntangled, BeginsMember, BeginsNext, BeginsOrdinary}
+use Rattle.ent_protocol.specs.Begin.{Begins, BeginsEntangled, BeginsMember, BeginsNext, BeginsOrdinary}
 use Rattle.ent_protocol.specs.Begin.{BeginsUnless}
 use Rattle.ent_protocol.specs.Begin.{holding, pool_with, posting, single_job, with_member}
-use Rattle.ent_protocol.specs.Commit.{is_ready, preparing}
 use Rattle.ent_protocol.specs.Event.{Reply}
 use Rattle.ent_protocol.specs.Event as replies
 use Rattle.ent_protocol.specs.Job.{Job}
 use Rattle.ent_protocol.specs.Member.{Asks, Commits, Next, Ordinary, RollsBack, active_member, is_lent, is_prepared}
 use Rattle.ent_protocol.specs.Member.{is_tx}
 use Rattle.ent_protocol.specs.Member.{next_of}
-use Rattle.ent_protocol.specs.Rollback.{Asked, group_numbers, rolled_back}
 use Rattle.ent_protocol.specs.State.{State, Dormant, Member, first_of}
 use Rattle.ent_protocol.specs.Uses.{blocker, entangled_uses, statement_uses}
 use Rattle.ent_protocol.specs.Waits.{next_uses}
@@ -33,12 +31,10 @@ use Rattle.ent_pool_laws.specs.Pooled.{IsPoolOf}
 use Rattle.ent_core.specs.Store.{IsKept}
 use Rattle.ent_tables.specs.Stored.{Stored}
 use Rattle.ent_waits.proofs.Moving.{free_at_end}
-use Rattle.ent_core.specs.Reply.{reply_seen}
-use Rattle.ent_core.specs.declared.reply.Reply.{Reply as Given}
 use Rattle.ent_lists.specs.Elements.{contains_in, index_pairs}
 use Rattle.ent_protocol_laws.specs.ByNumber.{StandByNumber}
 use Rattle.ent_protocol_laws.specs.Numbered.{below_apart, one_of}
-use Rattle.ent_core.specs.Begin.{IsFree, IsGroupOf, IsIdle, IsToBegin, IsToLend, IsToPost, LendsTo, MayBegin, job_uses}
+use Rattle.ent_core.specs.Begin.{IsFree, IsIdle, LendsTo, MayBegin, job_uses}
 
 -- ---- the member of a number
 
@@ -199,14 +195,6 @@ module _ (s : State) (tx : ℕ) where
       → MayBegin s tx member next
   begun_next member next free is = record { there = free.may.there; free = free.may.free; is_next = sym is }
 
-  -- lending the job of what comes next is the begin
-  pub begun_lends : {E : Type 0} (job : Job) → IsToLend s tx job → (result : Result Given E) (new : State)
-      → IfOk result (λ reply. reply_seen reply ≡ replies.Lent job) → IfOk result (λ reply. LendsTo tx job s new)
-      → IfOk result (λ reply. Begins s tx (reply_seen reply) new)
-  begun_lends job begun (Ok reply) new is lends =
-      subst (λ (r : Reply FormFault). Begins s tx r new) (sym is) (begun.lends new lends)
-  begun_lends job begun (Err e) new is lends = tt
-
   -- whatever comes next, who blocks what it asks for blocks it
   pub begun_blocked : (member : Member) (next : Next) → MayBegin s tx member next → (holder : ℕ)
       → blocker s member (next_uses next) ≡ Some holder → Begins {F = FormFault} s tx (replies.Blocked holder) s
@@ -214,63 +202,6 @@ module _ (s : State) (tx : ℕ) where
   begun_blocked member (Asks statement) begun holder is = entangled_blocked member statement begun holder is
   begun_blocked member Commits begun holder is = let free = free_at_end s member in absurd cc
   begun_blocked member RollsBack begun holder is = let free = free_at_end s member in absurd cc
-
-  pub begun_rolls_back : (begun : IsToBegin s tx RollsBack) (group : ℕ) → IsGroupOf s tx group
-      → (numbers : List ℕ) → numbers ≡ group_numbers s group → (new : State) → new ≡ rolled_back group (Asked tx) s
-      → Begins {F = FormFault} s tx (replies.RolledBack numbers) new
-  begun_rolls_back begun group own numbers numbers_are new is =
-      let member = begun.member in
-      let label : group ≡ member.group = own member begun.may.there in
-      let number : tx ≡ member.tx = sym (number_found tx s.active member begun.may.there) in
-      begins_next member RollsBack begun.may (replies.RolledBack numbers) new (
-        ap (λ (ns : List ℕ). replies.RolledBack ns) (numbers_are ∙ ap (group_numbers s) label),
-        is ∙ (λ i. rolled_back (label i) (Asked (number i)) s),
-      )
-
-  pub begun_commits : {E : Type 0} (begun : IsToBegin s tx Commits) (result : Result Given E) (new : State)
-      → IfOk result (λ reply. (member : Member) → active_member s tx ≡ Some member
-      → BeginsCommit (preparing s member) member.group (is_ready (preparing s member) member.group) (reply_seen reply)
-      new) → IfOk result (λ reply. Begins s tx (reply_seen reply) new)
-  begun_commits begun (Ok reply) new h =
-      begins_next begun.member Commits begun.may (reply_seen reply) new (h begun.member begun.may.there)
-  begun_commits begun (Err e) new h = tt
-
-  -- ---- what a member that rolls back doesn't do
-
-  module _ (member : Member) (there : active_member s tx ≡ Some member) (rolls : next_of s member ≡ RollsBack) where
-    seen_in : (reply : Reply FormFault) (new : State) → Begins s tx reply new
-        → BeginsUnless (member.posted || is_lent s tx) s member reply new
-    seen_in reply new h =
-        let P : Option Member → Type 0 = λ o. BeginsMember s tx o reply new in subst P there h
-
-    pub lends_not : (job : Job) (new : State) → Begins {F = FormFault} s tx (replies.Lent job) new → ⊥
-    lends_not job new h = by (member.posted || is_lent s tx) (seen_in (replies.Lent job) new h)
-      where
-        by : (b : Bool) → BeginsUnless {F = FormFault} b s member (replies.Lent job) new → ⊥
-        by true refused = let e = refused.0 in cc
-        by false begun =
-            let R : Next → Type 0 = λ n. BeginsNext {F = FormFault} s member n (replies.Lent job) new in
-            let e = (subst R rolls begun).0 in cc
-
-    pub commits_not : IsToBegin s tx Commits → ⊥
-    commits_not begun =
-        let same : begun.member ≡ member = one_member begun.member member (sym begun.may.there ∙ there) in
-        let e : RollsBack ≡ Commits = sym rolls ∙ ap (next_of s) (sym same) ∙ begun.may.is_next in
-        cc
-
-    -- so a plan that lends or posts isn't its plan
-    pub plans_no_job : (job : Job)
-        → ((new : State) → LendsTo tx job s new → Begins {F = FormFault} s tx (replies.Lent job) new) → ⊥
-    plans_no_job job plan =
-        let done : Member → State =
-        λ m. record (with_member (holding m (job_uses job)) s) { lent = s.lent ++ job ∷ [] } in
-        lends_not job (done member) (plan (done member) (λ m at. ap done (one_member member m (sym there ∙ at))))
-
-    pub plans_no_post : (query : Posted) → IsToPost s tx query → ⊥
-    plans_no_post query plan =
-        let same : plan.member ≡ member = one_member plan.member member (sym plan.may.there ∙ there) in
-        let e : RollsBack ≡ Asks query.statement = sym rolls ∙ ap (next_of s) (sym same) ∙ plan.may.is_next in
-        cc
 
 -- ---- what the store keeps
 

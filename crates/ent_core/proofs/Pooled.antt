@@ -16,7 +16,7 @@ use Rattle.ent_members.specs.Moves.{Prepares, is_not_of}
 use Rattle.ent_members.specs.Places.{Changes, found}
 use Rattle.ent_members.specs.Run.{Run, with_run}
 use Rattle.ent_protocol.specs.Begin.{holding, posting, replaced, with_member}
-use Rattle.ent_protocol.specs.Member.{Asks, is_tx, next_in, pool, posted_as, posted_by}
+use Rattle.ent_protocol.specs.Member.{Asks, is_tx, next_in, posted_as, posted_by}
 use Rattle.ent_protocol.specs.PoolEvents.{joining}
 use Rattle.ent_protocol.specs.Run.{fresh, submitting}
 use Rattle.ent_protocol.specs.State.{State, Submitted, Dormant, Member, by_number}

@@ -6,7 +6,7 @@ use Rattle.ent_protocol.specs.Begin.{Begins, holding, with_member}
 use Rattle.ent_protocol.specs.Event.{Reply}
 use Rattle.ent_protocol.specs.Event as replies
 use Rattle.ent_protocol.specs.Job.{Job, Joint, One, Work}
-use Rattle.ent_protocol.specs.Member.{Asks, Commits, Next, RollsBack, active_member, is_lent, next_of, posted_as}
+use Rattle.ent_protocol.specs.Member.{Asks, Next, active_member, is_lent, next_of, posted_as}
 use Rattle.ent_protocol.specs.State.{State, Member, Use}
 use Rattle.ent_protocol.specs.Uses.{blocker, entangled_uses, statement_uses}
 use Rattle.ent_protocol.specs.Waits.{next_uses}
@@ -34,10 +34,6 @@ begin_refusal_seen refusals.Absent = replies.Absent
 begin_refusal_seen refusals.NotNow = replies.NotNow
 begin_refusal_seen (refusals.Blocked holder) = replies.Blocked holder
 
-pub record IsToBegin (s : State) (tx : ℕ) (next : Next) : Type 0 where
-  pub member : Member
-  pub may : MayBegin s tx member next
-
 -- the uses of the statement that work carries out alone; posted statements hold theirs already
 abbrev pub work_uses : Work → List Use
 work_uses (One single) = statement_uses single.statement
@@ -64,7 +60,3 @@ pub record IsToPost (s : State) (tx : ℕ) (query : Posted) : Type 0 where
   pub may : MayBegin s tx member (Asks query.statement)
   pub unblocked : blocker s member (entangled_uses query.statement) ≡ None
   pub is : query ≡ posted_as member query.statement
-
--- the label of the group of the member of a number
-abbrev pub IsGroupOf : State → ℕ → ℕ → Type 0
-IsGroupOf s tx group = (member : Member) → active_member s tx ≡ Some member → group ≡ member.group

@@ -18,7 +18,7 @@ use Rattle.ent_semantics.specs.declared.answer.Answer.TheVariants as answers
 use Rattle.ent_check_run.proofs.Ordinary.{applied_so, change_applies, change_there, is_set, meant_so, one_table}
 use Rattle.ent_check_run.proofs.Ordinary.{same_effect, tables_at}
 use Rattle.ent_check_run.proofs.statement.carry_out_ordinary.Goals as goal
-use Rattle.ent_check_run.proofs.statement.carry_out_ordinary.Goals.{After-delta, In_ok-rows}
+use Rattle.ent_check_run.proofs.statement.carry_out_ordinary.Goals.{After-delta-1, In_ok-rows}
 
 -- the tables over which the outcome was computed are those that the statement names
 are_named : (c : In_ok-rows) → map relation_of c.deref-2.result.now
@@ -44,7 +44,7 @@ returns-in-Rows-clause-meaning c =
     means (goal.at.returns-in-Rows-clause-meaning c).In_ok-rows (outcomes.Rows c.in-Rows.rows) c.in-Rows.is
 
 -- a change is of the one table that the statement names, and can be made there
-changes : (c : After-delta)
+changes : (c : After-delta-1)
     → (tables_named c.args.statement.now ≡ changed_number c.args.statement.now ∷ []) × ((table : Relation) ×
     (tables_at (map arc_value c.args.tables.now.items) (tables_named c.args.statement.now) ≡ table ∷ []) ×
     IsApplicable table c.in-Changed.delta)
