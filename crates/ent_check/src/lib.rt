@@ -1,9 +1,9 @@
-//! Parts of a check of what a report tells, against the definitions of ent_rules.
+//! The rules of ent_rules, checked over what a report tells.
 //!
 //! The rules of the journal, of joint answers and of postconditions are checked whole, and the commits are put in
-//! order. What is found has a line. A grounding is looked up by the place of its statement, and tested: each tuple is
-//! looked for among the rows of its sub-select's result, and each test is made. What a statement answers is compared
-//! with what is told. Nothing is searched for.
+//! order. Each finding has a line. Nothing is searched for: a grounding is looked up by the place of its statement and
+//! tested, each tuple among the rows of its sub-select's result, and each test; an answer is compared with the one that
+//! the report tells.
 #![tactic(auto)]
 
 mod alike;

@@ -1,10 +1,10 @@
-//! A core that is driven by one caller, call by call, until its book is closed: what stands behind a handle of another
-//! language.
+//! A core for one caller, who submits scripts as texts, makes runs or single moves, and closes the book. A manager of
+//! the library for other languages is a driver.
 //!
-//! A [`Driver`] is vacant, open over a core, or closed with that core's book. A caller may rely on it that each call
-//! makes of the core what its contract says, and that one which is refused leaves all as it was. Bytes come in as texts
-//! do, and texts go out as the report has them. A driver that is closed may be renewed: then a core is open that goes
-//! on with the tables.
+//! A [`Driver`] is vacant, open over a core, or closed with that core's book. Scripts come in as texts; answers, tables
+//! and books go out in the lines of a report. Each call does to the core what its contract says, and a refused call
+//! leaves all as it was. A closed driver can be renewed: then it is open over a new core, which begins with the tables
+//! at the end of the book.
 #![tactic(auto)]
 
 mod closing;

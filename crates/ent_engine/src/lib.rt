@@ -1,10 +1,10 @@
 //! The engine of the program: from the bytes of an input to the bytes of its report.
 //!
-//! A caller may rely on [`run`]: what it writes is the report of the input, after a fault of the writer a beginning
-//! of it, and after any other fault nothing. The report is the text of a book of the input: its scripts were all
-//! submitted before anything else, and were run, several at once, until each had its fate; and the book is legal.
-//! [`run_watched`] is the same, and tells a watcher each event of the core that is run, with its reply. Whoever runs
-//! the scripts another way takes its parts: [`parse_bytes`], [`submit_all`] and [`write_book`].
+//! [`run`] writes the report of the input; after a fault of the writer a beginning of it, and after any other fault
+//! nothing. The report is the text of a book of the input: all scripts were submitted before any other event, and run
+//! concurrently until each had its fate; and the book is legal. [`run_watched`] does the same, and tells a watcher each
+//! event of the core with its reply. A caller that runs the scripts in another way uses the parts: [`parse_bytes`],
+//! [`submit_all`] and [`write_book`].
 #![tactic(auto)]
 
 mod engine;

@@ -1,7 +1,7 @@
-//! Events and serial runs, told once more in words that a reader believes at once.
+//! Second definitions of events and of the serial run, which a reader believes sooner than the first ones.
 //!
-//! The functions here have no body: their contracts say that what is told here is what the definitions of ent_protocol
-//! and ent_semantics say.
+//! The functions here have no body: their contracts say that these definitions and those of ent_protocol and
+//! ent_semantics say the same.
 #![tactic(auto)]
 
 mod law;

@@ -1,13 +1,14 @@
-//! Runs of scripts that are resolved over their opening: the law of the protocol without a premise on forms.
+//! The headline: the book of every state that a core can reach is legal, so its committed transactions are serializable
+//! with an oracle. [`resolved_runs_are_legal`] says so, for scripts that `resolve` resolves over an opening without a
+//! fault of form.
 //!
-//! The forms that resolving gives mean what their statements mean and use the tables that those use, so every state
-//! that is reached over an opening without a fault of form has a legal book.
+//! ent_serializability proves the same for all forms that mean what their statements mean and use the tables that those
+//! use. Here it is proved that the forms of `resolve` are such.
 //!
-//! What runs such scripts may rely on more: the form of each script that was submitted is what it resolves to, so the
-//! statements in the pool are what resolving gave, closed; the heads of each are of distinct relations, and its written
-//! variables stand in tuples of sub-selects. The host variables of a member that isn't prepared have values of the
-//! kinds that are known at its place, so its next statement fits the tables that are lent with it. Each law is the
-//! contract of a public function that does nothing but call laws.
+//! More holds of these states. The form of each submitted script is what it resolves to. The heads of a statement in
+//! the pool are of distinct relations, and its written variables stand in tuples of sub-selects. The host variables of
+//! an unprepared member have values of the kinds that are known at its place, so its next statement fits the tables
+//! that are lent with it. Each law is the contract of a public function that does nothing but call laws.
 #![tactic(auto)]
 
 mod form;

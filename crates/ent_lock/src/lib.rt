@@ -1,8 +1,8 @@
-//! Shared and exclusive locks on tables, held by transactions.
+//! A lock manager: shared and exclusive locks of transactions on tables.
 //!
-//! The lock table is a finite relation of transactions, tables and modes. A caller may rely on it that all uses that
-//! are asked for are granted or none, that none is granted while another transaction that is not to be passed holds one
-//! in conflict, that the least such transaction is named, and that uses go only where their group is dropped.
+//! Contracts see a [`LockTable`] as a finite relation of transactions, tables and modes. `ask` grants all locks of a
+//! request or none: none if another transaction, which isn't to be passed, holds a conflicting lock. The least such
+//! transaction is named. Only `drop_group` releases locks: all those of a group.
 #![tactic(auto)]
 
 mod holders;

@@ -1,12 +1,13 @@
 //! Many clients, one manager: sessions in threads of their own submit scripts and work on them, behind one lock.
 //!
-//! A [`Manager`] keeps one lock over a [`ent_desk::Desk`], and hands out sessions, one for each client.
-//! [`Manager::submit`] takes a script, [`Manager::work`] goes on with what is to be done, whoever submitted it,
-//! [`Manager::fate`] tells what became of a transaction, and [`Manager::close`] gives the book of all. [`serve`] does
-//! the whole of it for one input and so many workers. A caller may rely on it that the core behind the lock is reached
-//! and its book legal each time the lock is got; that sessions hold exactly what the manager was given and has
-//! committed; and that the book of [`serve`] is a finished, legal one of its input. Nothing is promised of the order in
-//! which threads come to the lock.
+//! A [`Manager`] keeps an [`ent_desk::Desk`] behind one lock, and gives out sessions, one for each client.
+//! [`Manager::submit`] takes a script, [`Manager::work`] makes the next step, whoever submitted the script,
+//! [`Manager::fate`] tells the fate of a transaction, and [`Manager::close`] gives the book. [`serve`] does all of this
+//! for one input and a number of workers.
+//!
+//! Contracts promise that the core behind the lock is reached, and its book legal, each time a thread takes the lock;
+//! that sessions hold exactly what the manager was given and has committed; and that the book of [`serve`] is a
+//! finished, legal book of its input. They promise nothing about the order in which threads get the lock.
 #![tactic(auto)]
 
 mod bell;

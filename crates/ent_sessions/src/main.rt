@@ -1,17 +1,17 @@
-//! Sessions of a manager, by their calls. With no word, three runs, one after the other, each of which prints the same
-//! whatever the schedule:
+//! Sessions of a manager, by their calls. Without an argument the program makes three runs, one after the other, each
+//! of which prints the same for every schedule:
 //!
-//! - sessions of two threads, each held at a gate until the other has come far enough: a gate that is called with the
-//!   lock held, or jobs that are done one after the other, would run into the limit;
-//! - two friends who book through one session, in one thread, where each call for which memory runs out is made again:
+//! - sessions of two threads, each held at a gate until the other has come far enough; a manager that called the gate
+//!   with the lock held, or did jobs one after the other, would exceed the limit of polls;
+//! - two friends who book through one session, in one thread, where each call that runs out of memory is made again:
 //!   once with their scripts submitted one by one, and once with a manager that is opened over them;
-//! - an ordinary service's load: eight sessions in threads, each of which submits 50 scripts while all work.
+//! - the load of an ordinary service: eight sessions in threads, each of which submits 50 scripts while all work.
 //!
-//! `memory` runs the second alone: `tools/check refusals --sessions` refuses its allocations in turn. On standard
-//! error it
-//! says which call was made again, if any was. Where memory runs out in nothing of the manager's, but while the text
-//! is read or a report is made, it ends with status 1 and writes nothing. `load [COUNT]` runs the third alone, with so
-//! many scripts a session. How long it took, and how long a submit waited at most, goes to standard error.
+//! With the word `memory` it makes the second run alone: `tools/check refusals --sessions` refuses its allocations in
+//! turn. Standard error says which call was made again, if any was. If memory runs out outside the manager, while the
+//! text is read or a report is made, the program ends with status 1 and writes nothing. With `load [COUNT]` it makes
+//! the third run alone, with so many scripts a session. Standard error says how long it took, and how long a submit
+//! waited at most.
 #![tactic(auto)]
 
 mod again;
