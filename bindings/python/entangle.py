@@ -131,7 +131,7 @@ class OutOfMemory(Fault, MemoryError):
 
 
 class StateError(Exception):
-    """The manager is closed or freed; or, where a report is asked for, it isn't closed."""
+    """The manager is closed or freed; or, for a report or a renewal, it isn't closed."""
 
 
 Value = Union[int, str]
@@ -479,12 +479,12 @@ class Manager:
     def _end(status: int, told: _Told) -> None:
         """Raises what a status says."""
         if status == _MISUSED:
-            raise StateError("the manager is closed, or isn't where that is asked for")
+            raise StateError("the manager is closed or freed; or, for a report or a renewal, it isn't closed")
         if status != _DONE:
             raise _fault(status, told)
 
     def _text(self, call: Callable[..., int], *given: object) -> str:
-        """The text that a call hands out; it is made again where the first buffer was too short."""
+        """The text that a call gives; the call is made again if the first buffer was too short."""
         told, capacity = _Told(), _FIRST_CAPACITY
         while True:
             buffer = ctypes.create_string_buffer(capacity)
@@ -618,7 +618,7 @@ class Manager:
             return self._text(_LIBRARY.ent_c_closed_report, version)
 
     def close(self) -> None:
-        """Frees the manager, whatever it has come to. Each call behind this raises StateError."""
+        """Frees the manager, whatever its state. Each later call raises StateError."""
         with self._lock:
             _LIBRARY.ent_c_free(self._place())
 

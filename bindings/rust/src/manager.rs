@@ -13,7 +13,7 @@ use std::sync::{Mutex, MutexGuard, PoisonError};
 pub enum Error {
     /// The text that was handed in is refused, it isn't there, or memory ran out.
     Fault(Fault),
-    /// The manager is closed; or, where a report is asked for, it isn't.
+    /// The manager is closed; or, for a report or a renewal, it isn't.
     State,
 }
 
@@ -21,7 +21,7 @@ impl fmt::Display for Error {
     fn fmt(&self, f: &mut fmt::Formatter<'_>) -> fmt::Result {
         match self {
             Error::Fault(fault) => fault.fmt(f),
-            Error::State => f.write_str("the manager is closed, or isn't where that is asked for"),
+            Error::State => f.write_str("the manager is closed; or, for a report or a renewal, it isn't"),
         }
     }
 }
