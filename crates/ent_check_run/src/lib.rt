@@ -1,8 +1,7 @@
-//! Statements and transactions that a check of a history runs alone, over tables and host variables as those before
-//! left them.
+//! Statements and transactions that the check of a report runs alone, each over the tables that the one before left.
 //!
-//! An entangled statement is answered under the grounding that is told; nothing is searched for. A law says that what
-//! is found of a closed form is what is found of the statement whose form it is.
+//! An entangled statement is answered under the grounding that the report tells; nothing is searched for. A law says
+//! that a closed form and the statement whose form it is have the same finding.
 #![tactic(auto)]
 
 mod declared;

@@ -1,13 +1,12 @@
 //! The least coordinating choice of a component, by a search over ordered indexes.
 //!
-//! A caller may rely on [`first`]: over any tables in which the statements' tables stand, it is the least choice of the
-//! plan's statements, or there is none. [`first_with`] answers the same and counts the values that the search was given
-//! in `Ticks`. The search gives values to the plan's classes one after the other, the least first, and leaves a
-//! beginning as soon as a sub-select's result, a test or a kind refuses it. Where all values of a class fail it goes
-//! back to the last class that had to do with it; a value that fails whatever the classes before have isn't tried
-//! again. Rows that a test of their own columns refuses are left out before, and a class without a value ends the
-//! search before it begins.
-//! Plans and their members are passed on by their names.
+//! [`first`] answers the least choice of a plan's statements, over any tables in which the plan's tables stand, or that
+//! there is none. [`first_with`] answers the same, and counts the values that the search was given in `Ticks`.
+//!
+//! The search gives values to the plan's classes one after the other, the least first, and leaves a beginning as soon
+//! as a sub-select's result, a test or a kind refuses it. If all values of a class fail, it goes back to the last class
+//! that had to do with it. A value that fails whatever the classes before it have isn't tried again. Rows that a test
+//! of their own columns refuses are left out before, and a class without a value ends the search before it begins.
 #![tactic(auto)]
 
 mod alone;

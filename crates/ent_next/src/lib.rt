@@ -1,8 +1,8 @@
-//! What comes next in submitted scripts: what a member begins, and what its statement asks for.
+//! What comes next in submitted scripts: what a member begins, and which locks its statement needs.
 //!
-//! A [`SubmittedScript`] is a script with its statements resolved, and the script of a transaction is found by its
-//! number. A caller may rely on it that [`next_of`] is what the protocol says comes next, closed under what the member
-//! bound; and that [`next_form`], which takes no memory, asks for the same uses.
+//! A [`SubmittedScript`] is a script with its statements resolved; the number of a transaction finds its script.
+//! [`next_of`] is what the protocol says comes next, closed under what the member bound. [`next_form`] takes no memory,
+//! and answers the statement before it is closed, which needs the same locks.
 #![tactic(auto)]
 
 mod first_asked;

@@ -1,8 +1,8 @@
-//! What entangled statements that were resolved offer, and over what they range.
+//! What resolved entangled statements offer, and where their variables get their values.
 //!
-//! A caller may rely on [`resolved_heads_are_distinct`]: the heads of each are of distinct relations, so that each post
-//! unifies with one of them at most, which a plan and a joint job ask for; and on [`resolved_variables_are_ranged`]:
-//! each written variable stands in a tuple of some sub-select, so that rows of tables give its values.
+//! [`resolved_heads_are_distinct`]: the heads of each are of distinct relations, so each post unifies with one of them
+//! at most, as a plan and a joint job require. [`resolved_variables_are_ranged`]: each written variable stands in a
+//! tuple of some sub-select, so rows of tables give its values.
 #![tactic(auto)]
 
 mod law;

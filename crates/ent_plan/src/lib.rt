@@ -1,10 +1,9 @@
 //! The plan of the coordinating choices of posted statements.
 //!
-//! [`combine`] makes of statements of a pool a [`JoinPlan`]: each written variable is a value, or of a class of
-//! variables that have one value. A caller may rely on it that the plan is exact: groundings make each post equal to a
-//! head exactly where they are what the plan makes of one value for each class, and there is no plan exactly where no
-//! groundings do. The classes are numbered such that the lists of their values are in the order of the choices.
-//! The members of a pool, of which a plan is made, are passed on by their name.
+//! [`combine`] makes a [`JoinPlan`] of statements of a pool: each written variable is a value, or is of a class of
+//! variables that have one value. The plan is exact: groundings make each post equal to a head exactly if the plan
+//! makes them of one value for each class; and there is no plan exactly if no groundings make each post equal to a
+//! head. The classes are numbered such that the lists of their values have the order of the choices.
 #![tactic(auto)]
 
 mod class;

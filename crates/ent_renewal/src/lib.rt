@@ -1,8 +1,8 @@
 //! An opening that goes on where a book ends.
 //!
-//! A caller may rely on [`renewed_opening`]: of a finished book it makes an opening of the same declarations, without a
-//! fault of form, whose tables at first are those that the book ends with; and it refuses only where more rows stand in
-//! them together than an opening has, or where memory runs out. A [`FinishedBook`] keeps in its type that it is one.
+//! [`renewed_opening`] makes an opening of a finished book: with the same declarations, without a fault of form, and
+//! with first tables that are those at the end of the book. It refuses only if these have more rows together than an
+//! opening may have, or if memory runs out. The type [`FinishedBook`] keeps that its book is finished.
 #![tactic(auto)]
 
 mod book;

@@ -1,6 +1,8 @@
-//! The law of the protocol: in every state that is reached the book is legal.
+//! In every reached state of the protocol the book is legal: the committed transactions are serializable with an
+//! oracle.
 //!
-//! The functions here have no body: their contracts are laws of the definitions of ent_protocol.
+//! The functions here have no body: their contracts are laws of the definitions of ent_protocol, for forms that mean
+//! what their statements mean.
 #![tactic(auto)]
 
 mod law;

@@ -1,8 +1,8 @@
-//! What is told of an input before its scripts run, to people: demands that nothing in it is offered for, and answer
-//! relations that nobody demands.
+//! Warnings about an input before its scripts run, for people: demands that no statement of it offers, and answer
+//! relations of which rows are only demanded or only offered.
 //!
-//! What is offered and demanded is proved to be what the scripts say. Which warnings there are, and how they are
-//! printed, rests on rows of examples, which `ent_rows` plays.
+//! What statements offer and demand is proved to be what the scripts say. Rows of examples test which warnings there
+//! are and how they are printed; `ent_rows` plays them.
 #![tactic(auto)]
 
 mod names;
