@@ -1,9 +1,9 @@
-//! Entangle for C, as a static library: the report of an input, what is said of its fault, the check of a report, and
-//! managers that a caller keeps and drives.
+//! Entangle for C, as a static library: the report of an input, the explanation of its fault, the check of a report,
+//! and managers, which keep tables between calls.
 //!
-//! `include/entangle.h` declares the calls, and says of each what it asks of its caller. A text goes into a buffer of
-//! the caller's, as far as that reaches; what is told beside it goes into a [`Told`]. Only a manager keeps anything
-//! between calls, behind a [`Handle`]; all else that a call allocates it frees.
+//! `include/entangle.h` declares the calls, with the conditions of each. A text goes into the caller's buffer, as far
+//! as the buffer reaches; its length, and a fault, go into a [`Told`]. Only a manager keeps anything between calls,
+//! behind a [`Handle`]; everything else that a call allocates it frees.
 #![tactic(auto)]
 
 ghost use Rattle.std.specs.Prelude.{MatchOption};

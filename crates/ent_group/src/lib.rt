@@ -1,8 +1,8 @@
 //! Groups of transactions, and cycles of transactions that wait for each other.
 //!
-//! A run's members, up to 64, stand each in one group, and groups only grow together or leave whole. A caller may rely
-//! on it that the members of a group come by number, that of all cycles the one is found that begins with the greatest
-//! transaction on any, and that no call takes memory, so that none can fail.
+//! Each of up to 64 members is in one group. Groups are merged, or leave whole. Contracts promise that the members of a
+//! group come by number; that [`cycle`] finds a cycle that begins with the greatest transaction on any cycle, or that
+//! there is none; and that no call takes memory, so no call can fail.
 #![tactic(auto)]
 
 mod groups;

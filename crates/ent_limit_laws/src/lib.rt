@@ -1,8 +1,8 @@
 //! The limits of the product, as numbers.
 //!
-//! The other crates name their limits. Here each of them stands as the number that a user reads: once of its constant,
-//! and once of what it limits, a type of the tree, a table, a list of members, the scripts of a core. So neither a
-//! constant nor what it limits can change unseen.
+//! The other crates name their limits. Here each limit is the number that a user reads, stated twice: of its constant,
+//! and of what it limits, which is a type of the tree, a table, a list of members, or the scripts of a core. So neither
+//! a constant nor what it limits can change unnoticed.
 #![tactic(auto)]
 
 mod law;

@@ -1,7 +1,7 @@
 //! Pictures of traces: which lanes, bars, links and marks there are, as plain values.
 //!
-//! A caller may rely on it that each member of the runs has one lane, by number, that those who met one who is picked
-//! are found, and that columns come in the order of their events.
+//! Contracts promise that each member of the runs has one lane, by number; that all are found who met a picked
+//! transaction; and that columns come in the order of their events.
 #![tactic(auto)]
 
 mod columns;

@@ -1,7 +1,7 @@
-//! The SVG of a picture of a trace, and of a trace whole.
+//! The SVG of a picture of a trace, and of a whole trace.
 //!
-//! The bytes are a function of the trace and of the lanes that are asked for. A caller may rely on it that texts of the
-//! trace stand escaped in them.
+//! The bytes are a function of the trace and of the lanes that the caller picks. Texts of the trace are escaped in
+//! them, so none of them becomes markup.
 #![tactic(auto)]
 
 mod bars;

@@ -1,7 +1,7 @@
 //! Traces of runs, read back: events with their replies, from the lines that `entangle run --trace` writes.
 //!
-//! A caller may rely on it that what is read, printed as a trace, is exactly the lines of the text, in order, and that
-//! all lines before one that a fault names could be read. That such a line can't stand there is shown by tests alone.
+//! What is read, printed as a trace, is exactly the lines of the text, in order. If a fault names a line, all lines
+//! before it could be read; only tests show that this line can't stand there.
 #![tactic(auto)]
 
 mod answer;
