@@ -27,7 +27,7 @@ use Rattle.ent_closed.specs.declared.operand.Operand.{Operand}
 use Rattle.ent_closed.specs.declared.statement.Statement.{Statement}
 use Rattle.ent_closed.specs.declared.statement.Statement.TheVariants as statements
 use Rattle.ent_select.specs.Tables.{rows_in}
-use Rattle.ent_select.specs.Worth.{value_in}
+use Rattle.ent_select.specs.Worth.{worth_over}
 use Rattle.ent_eval.specs.Change.{or_full, image_or_overflow, replacement_of, Changes, IsFault}
 use Rattle.ent_eval.specs.Meant.{rows_under, changed_number, effect_of, IsMeant, CanBeApplied}
 use Rattle.ent_eval.specs.Worth.{image_of, there_or_overflow}
@@ -135,14 +135,14 @@ module _ (tables : Tables) (environment : Environment) (valuation : Valuation) (
 
   pub delete_meaning : (tests : List (Test (Operand Value)))
       → form_meaning closed_worth (statements.Delete number tests) valuation tables environment
-      ≡ with_change tables environment number (Ok (deletion table.rows (meets value_in tests)))
+      ≡ with_change tables environment number (Ok (deletion table.rows (meets worth_over tests)))
   delete_meaning tests = rw here refl
 
   pub update_meaning : (image : List (Expression (Operand Value))) (tests : List (Test (Operand Value)))
       → form_meaning closed_worth (statements.Update number image tests) valuation tables environment
-      ≡ with_change tables environment number (replacement_of table.rows (meets value_in tests) (image_of image))
+      ≡ with_change tables environment number (replacement_of table.rows (meets worth_over tests) (image_of image))
   update_meaning image tests =
-      let passes : List Value → Bool = meets value_in tests in
+      let passes : List Value → Bool = meets worth_over tests in
       let image_in : List Value → Option (List Value) = image_of image in
       let old = set.ascending (matched passes table.rows) in
       let kept = unmatched passes table.rows in
@@ -165,7 +165,7 @@ pub deleted_so : (statement : Statement Value) (tests : List (Test (Operand Valu
     (relations : List Relation)
     (table : Relation) (outcome : Outcome)
     → statement ≡ statements.Delete number tests → relations ≡ table ∷ []
-    → Changes table (Ok (deletion table.rows (meets value_in tests))) outcome
+    → Changes table (Ok (deletion table.rows (meets worth_over tests))) outcome
     → IsMeant statement (rows_in relations) outcome
 deleted_so statement tests number relations table outcome is one changes tables environment valuation named =
     let here : slice_index_or tables number set.empty
@@ -179,7 +179,7 @@ pub updated_so : (statement : Statement Value) (image : List (Expression (Operan
     (tests : List (Test (Operand Value)))
     (number : ℕ) (relations : List Relation) (table : Relation) (outcome : Outcome)
     → statement ≡ statements.Update number image tests → relations ≡ table ∷ []
-    → Changes table (replacement_of table.rows (meets value_in tests) (image_of image)) outcome
+    → Changes table (replacement_of table.rows (meets worth_over tests) (image_of image)) outcome
     → IsMeant statement (rows_in relations) outcome
 updated_so statement image tests number relations table outcome is one changes tables environment valuation named =
     let here : slice_index_or tables number set.empty

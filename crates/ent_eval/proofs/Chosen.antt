@@ -11,7 +11,7 @@ use Rattle.ent_closed.specs.Form.{Tables}
 use Rattle.ent_coordination.specs.Choice.{IsChoice}
 use Rattle.ent_coordination.specs.Pool.{IsPool, Posted}
 use Rattle.ent_join.specs.Laid.{AreLaid, IsLaid, table_at}
-use Rattle.ent_join.specs.Plans.{HaveNoPlan, tables_named}
+use Rattle.ent_join.specs.Plans.{HaveNoPlan, source_tables}
 use Rattle.ent_plan.proofs.Choices.{are_kinded}
 use Rattle.ent_join.proofs.Deduped.{all_members}
 use Rattle.ent_protocol.specs.Job.{Numbered, tables_of}
@@ -58,7 +58,7 @@ found_laid laid (seen ∷ more) stand number there =
 pub are_laid : (asked : List Posted) (tables : List Numbered) → IsJoint asked tables
     → AreLaid asked tables (tables_of tables)
 are_laid asked tables is =
-    let named : map (λ (seen : Numbered). seen.table) tables ≡ tables_named asked =
+    let named : map (λ (seen : Numbered). seen.table) tables ≡ source_tables asked =
     is.used ∙ joint_tables asked in
     subst (AllByRecursion (IsLaid tables (tables_of tables))) named
     (all_members (IsLaid tables (tables_of tables)) (map (λ (seen : Numbered). seen.table) tables)

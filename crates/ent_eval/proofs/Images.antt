@@ -19,7 +19,7 @@ use Rattle.ent_semantics.specs.declared.answer.Failure.{Failure}
 use Rattle.ent_semantics.proofs.NumberKinds.{number_kind}
 use Rattle.ent_closed.specs.declared.operand.Operand.{Operand}
 use Rattle.ent_closed.specs.declared.operand.Operand.TheVariants as operands
-use Rattle.ent_select.specs.Worth.{value_in}
+use Rattle.ent_select.specs.Worth.{worth_over}
 use Rattle.ent_eval.specs.Change.{image_or_overflow}
 use Rattle.ent_closed.specs.Kinds.{operand_kind, expression_kind, KeepsKinds}
 use Rattle.ent_eval.specs.Worth.{image_of, there_or_overflow}
@@ -31,7 +31,7 @@ kind_of_column (value ∷ row) zero kind e = cc
 kind_of_column (value ∷ row) (suc number) kind e = kind_of_column row number kind e
 
 kind_of_operand : (row : List Value) (operand : Operand Value) (kind : Kind)
-    → operand_kind (kinds_of row) operand ≡ Some kind → kind_of (value_in row operand) ≡ kind
+    → operand_kind (kinds_of row) operand ≡ Some kind → kind_of (worth_over row operand) ≡ kind
 kind_of_operand row (operands.Known value) kind e = cc
 kind_of_operand row (operands.Column number) kind e = kind_of_column row number kind e
 
@@ -75,8 +75,8 @@ kinds_of_all {A} kind worth each (a ∷ image) (k ∷ columns) new e is =
 kinds_of_image : (image : List (Expression (Operand Value))) (row new : List Value) (columns : List Kind)
     → KeepsKinds columns image → kinds_of row ≡ columns → image_of image row ≡ Some new → kinds_of new ≡ columns
 kinds_of_image image row new columns e of_row is =
-    kinds_of_all (expression_kind (operand_kind columns)) (expression_value (value_in row))
-    (kind_of_expression (operand_kind columns) (value_in row)
+    kinds_of_all (expression_kind (operand_kind columns)) (expression_value (worth_over row))
+    (kind_of_expression (operand_kind columns) (worth_over row)
     (λ term k e. kind_of_operand row term k (ap (λ ks. operand_kind ks term) of_row ∙ e))) image columns new e is
 
 -- what there is, from an answer that isn't an overflow

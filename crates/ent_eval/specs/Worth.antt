@@ -7,11 +7,11 @@ use Rattle.ent_semantics.specs.Term.{expression_value}
 use Rattle.ent_semantics.specs.declared.answer.Failure.{Failure}
 use Rattle.ent_semantics.specs.declared.answer.Failure.TheVariants.{Overflow}
 use Rattle.ent_closed.specs.declared.operand.Operand.{Operand}
-use Rattle.ent_select.specs.Worth.{value_in}
+use Rattle.ent_select.specs.Worth.{worth_over}
 
 -- a row with each column changed to its expression's value; nothing where one is beyond 64 bits
 abbrev pub image_of : List (Expression (Operand Value)) → List Value → Option (List Value)
-image_of image row = all_there (map (expression_value (value_in row)) image)
+image_of image row = all_there (map (expression_value (worth_over row)) image)
 
 -- what there is; an overflow where there is nothing
 abbrev pub there_or_overflow : {A : Type 0} → Option A → Result A Failure

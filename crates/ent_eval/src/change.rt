@@ -4,7 +4,7 @@ ghost use Rattle.ent_value.specs.Refusal.{Gives};
 ghost use Rattle.ent_value.specs.Value.{kinds_of};
 ghost use Rattle.ent_rel.specs.Change.{deletion};
 ghost use Rattle.ent_semantics.specs.Selection.{meets};
-ghost use Rattle.ent_select.specs.Worth.{value_in};
+ghost use Rattle.ent_select.specs.Worth.{worth_over};
 ghost use Rattle.ent_eval.specs.Change.{Changes, IsFault, insertion_of, image_or_overflow, replacement_of};
 ghost use Rattle.ent_closed.specs.Kinds.{KeepsKinds};
 ghost use Rattle.ent_eval.specs.Worth.{image_of};
@@ -42,7 +42,7 @@ pub(crate) fn deletion(
     table: &Table,
     tests: &[Test<Operand<Value>>],
 ) -> Result<Outcome, AllocError>
-    ensures { let left = deletion table.now.rows (meets value_in tests.now) in
+    ensures { let left = deletion table.now.rows (meets worth_over tests.now) in
         IfOk result (λ outcome. Changes table.now (Ok left) outcome) }
 {
     let prepared = PreparedTests::new(alloc, &[], tests)?;
@@ -73,7 +73,7 @@ pub(crate) fn replacement(
     tests: &[Test<Operand<Value>>],
 ) -> Result<Outcome, AllocError>
     requires { KeepsKinds table.now.kinds image.now }
-    ensures { let after = replacement_of table.now.rows (meets value_in tests.now) (image_of image.now) in
+    ensures { let after = replacement_of table.now.rows (meets worth_over tests.now) (image_of image.now) in
         IfOk result (λ outcome. Changes table.now after outcome) }
 {
     let prepared = PreparedTests::new(alloc, &[], tests)?;

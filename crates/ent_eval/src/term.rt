@@ -2,7 +2,7 @@
 ghost use Rattle.std.specs.Prelude.{◌≡◌, ◌+ℤ◌, ◌-ℤ◌};
 ghost use Rattle.ent_value.specs.Refusal.{Gives};
 ghost use Rattle.ent_semantics.specs.Term.{number_of, in_64_bits, expression_value};
-ghost use Rattle.ent_select.specs.Worth.{itself, value_in};
+ghost use Rattle.ent_select.specs.Worth.{itself, worth_over};
 ghost use Rattle.ent_eval.specs.Worth.{there_or_overflow};
 
 use ent_closed::Operand;
@@ -63,7 +63,7 @@ pub(crate) fn operand_expression(
     expression: &Expression<Operand<Value>>,
 ) -> Result<Value, Refusal<Failure>>
     ensures { Gives (λ value. value) result
-        (there_or_overflow (expression_value (value_in row.now) expression.now)) }
+        (there_or_overflow (expression_value (worth_over row.now) expression.now)) }
 {
     let none = Value::Int(0);
     match expression {

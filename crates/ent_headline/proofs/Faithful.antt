@@ -30,7 +30,7 @@ use Rattle.ent_form_laws.proofs.Opened.{declared_once}
 use Rattle.ent_form_laws.proofs.Steps.{one_answer, bound_given}
 use Rattle.ent_protocol.specs.Reached.{table_names}
 use Rattle.ent_protocol.specs.Uses.{shared, exclusive, statement_uses}
-use Rattle.ent_serializability.specs.Faithful.{number_of, is_used, is_owned, IsFaithfulEntangled, IsFaithful, InTurn}
+use Rattle.ent_serializability.specs.Faithful.{table_number, is_used, is_owned, IsFaithfulEntangled, IsFaithful, InTurn}
 use Rattle.ent_serializability.specs.Faithful.{AreFaithful}
 use Rattle.ent_headline.specs.Resolved.{resolved_forms}
 use Rattle.ent_headline.proofs.Named.{IsRight, statement_right}
@@ -116,10 +116,10 @@ module _ (laws : Laws) (creates : List Create) (apart : HaveDistinctColumns crea
             IfOk-at_ok (λ effect. AreWide creates effect.database) is
             (widths_kept creates tables environment wide form valuation right.fits);
         reads = λ environment name there.
-            subst (λ all. is_used all (number_of creates name) ≡ true) (uses_named statement form right environment)
+            subst (λ all. is_used all (table_number creates name) ≡ true) (uses_named statement form right environment)
             (used_there creates reads changes name there);
         writes = λ environment name there.
-            subst (λ all. is_owned all (number_of creates name) ≡ true) (uses_named statement form right environment)
+            subst (λ all. is_owned all (table_number creates name) ≡ true) (uses_named statement form right environment)
             (owned_there creates reads changes name there);
         declared = λ environment table there.
             all_declared creates reads changes right.reads.declared right.changes.declared table

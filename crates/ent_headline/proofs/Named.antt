@@ -41,7 +41,7 @@ use Rattle.ent_form.specs.Scope.{Scope, with_source, source_place, sources_from,
 use Rattle.ent_form.specs.Scope.{table_scope}
 use Rattle.ent_form.specs.Steps.{there}
 use Rattle.ent_form_laws.proofs.Steps.{one_answer, bound_given, demand_given, there_given}
-use Rattle.ent_serializability.specs.Faithful.{number_of, IsFaithfulEntangled, AreAlike}
+use Rattle.ent_serializability.specs.Faithful.{table_number, IsFaithfulEntangled, AreAlike}
 use Rattle.ent_lists.specs.Elements.{all_joined}
 use Rattle.ent_form.specs.Catalogue.{schemas_of, table_named}
 use Rattle.ent_headline.proofs.FittedRows.{row_long, image_long}
@@ -68,8 +68,8 @@ changed_by (forms.Set variable expression) = []
 module _ (creates : List Create) where
   -- tables by number, and declared under these names
   pub record Named (names : List Name) (tables : List ℕ) : Type 0 where
-    pub numbers : tables ≡ map (number_of creates) names
-    pub declared : AllByRecursion (λ name. number_of creates name < length creates) names
+    pub numbers : tables ≡ map (table_number creates) names
+    pub declared : AllByRecursion (λ name. table_number creates name < length creates) names
 
   none_named : Named [] []
   none_named = record { numbers = refl; declared = tt }
@@ -78,8 +78,8 @@ module _ (creates : List Create) where
       → Named (names ++ others) (tables ++ more)
   joined names others tables more h k =
       record {
-        numbers = (λ i. h.numbers i ++ k.numbers i) ∙ sym (map-append (number_of creates) names others);
-        declared = all_joined (λ name. number_of creates name < length creates) names others h.declared k.declared;
+        numbers = (λ i. h.numbers i ++ k.numbers i) ∙ sym (map-append (table_number creates) names others);
+        declared = all_joined (λ name. table_number creates name < length creates) names others h.declared k.declared;
       }
 
   one_named : (name : Name) (found : ℕ × TableSchema) → Found creates name found → Named (name ∷ []) (found.0 ∷ [])

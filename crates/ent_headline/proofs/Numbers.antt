@@ -15,7 +15,7 @@ use Rattle.ent_form.specs.Catalogue.{column_schema, table_schema, schemas_of, ta
 use Rattle.ent_form.specs.Scope.{table_in}
 use Rattle.ent_form_laws.specs.Tables.{AreWide}
 use Rattle.ent_form_laws.proofs.Steps.{there_given}
-use Rattle.ent_serializability.specs.Faithful.{number_of}
+use Rattle.ent_serializability.specs.Faithful.{table_number}
 
 -- the columns of the table of a number
 abbrev pub width_numbered : List Create → ℕ → ℕ
@@ -28,9 +28,9 @@ OfWidth width rows = AllByRecursion (λ row. length row ≡ width) (set.ascendin
 -- ---- a table that is found
 
 pub record FoundFrom (creates : List Create) (name : Name) (first : ℕ) (found : ℕ × TableSchema) : Type 0 where
-  pub counted : found.0 ≡ first + number_of creates name
-  pub declared : number_of creates name < length creates
-  pub width : width_numbered creates (number_of creates name) ≡ length found.1.columns
+  pub counted : found.0 ≡ first + table_number creates name
+  pub declared : table_number creates name < length creates
+  pub width : width_numbered creates (table_number creates name) ≡ length found.1.columns
 
 none_before : (found n : ℕ) → found ≡ 0 + n → found ≡ n
 none_before found n e = omega (arith, e)
@@ -49,11 +49,11 @@ found_here : (create : Create) (more : List Create) (name : Name) (first : ℕ) 
     → FoundFrom (create ∷ more) name first found
 found_here create more name first found same e =
     let is : (first, table_schema create) ≡ found = one_found (first, table_schema create) found e in
-    let none : number_of (create ∷ more) name ≡ 0 =
-    ap (λ b. if b then 0 else suc (number_of more name)) same in
+    let none : table_number (create ∷ more) name ≡ 0 =
+    ap (λ b. if b then 0 else suc (table_number more name)) same in
     subst (λ (f : ℕ × TableSchema). FoundFrom (create ∷ more) name first f) is
     (record {
-      counted = no_further first (number_of (create ∷ more) name) none;
+      counted = no_further first (table_number (create ∷ more) name) none;
       declared = subst (λ n. n < suc (length more)) (sym none) (omega arith);
       width = ap (width_numbered (create ∷ more)) none ∙ sym (length-map create.columns column_schema);
     })
@@ -65,11 +65,13 @@ found_later : (create : Create) (more : List Create) (name : Name) (first : ℕ)
     → same_name create.name.name name ≡ false → FoundFrom more name (suc first) found
     → FoundFrom (create ∷ more) name first found
 found_later create more name first found other told =
-    let next : number_of (create ∷ more) name ≡ suc (number_of more name) =
-    ap (λ b. if b then 0 else suc (number_of more name)) other in
+    let next : table_number (create ∷ more) name ≡ suc (table_number more name) =
+    ap (λ b. if b then 0 else suc (table_number more name)) other in
     record {
-      counted = one_further found.0 first (number_of more name) (number_of (create ∷ more) name) told.counted next;
-      declared = one_longer (number_of more name) (number_of (create ∷ more) name) (length more) told.declared next;
+      counted = one_further found.0 first (table_number more name) (table_number (create ∷ more) name)
+          told.counted next;
+      declared = one_longer (table_number more name) (table_number (create ∷ more) name) (length more)
+          told.declared next;
       width = ap (width_numbered (create ∷ more)) next ∙ told.width;
     }
 
@@ -86,16 +88,16 @@ found_from (create ∷ more) name first found e =
     ] refl e
 
 pub record Found (creates : List Create) (name : Name) (found : ℕ × TableSchema) : Type 0 where
-  pub number : found.0 ≡ number_of creates name
-  pub declared : number_of creates name < length creates
-  pub width : width_numbered creates (number_of creates name) ≡ length found.1.columns
+  pub number : found.0 ≡ table_number creates name
+  pub declared : table_number creates name < length creates
+  pub width : width_numbered creates (table_number creates name) ≡ length found.1.columns
 
 pub found_named : (creates : List Create) (name : Name) (found : ℕ × TableSchema)
     → table_named (schemas_of creates) name ≡ Some found → Found creates name found
 found_named creates name found e =
     let told = found_from creates name 0 found e in
     record {
-      number = none_before found.0 (number_of creates name) told.counted;
+      number = none_before found.0 (table_number creates name) told.counted;
       declared = told.declared;
       width = told.width;
     }

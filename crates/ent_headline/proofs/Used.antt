@@ -19,7 +19,7 @@ use Rattle.ent_closed.specs.declared.statement.Statement.TheVariants as forms
 use Rattle.ent_semantics.specs.Names.{equal_names}
 use Rattle.ent_protocol.specs.State.{Use}
 use Rattle.ent_protocol.specs.Uses.{shared, exclusive, statement_uses}
-use Rattle.ent_serializability.specs.Faithful.{number_of, is_used, is_owned}
+use Rattle.ent_serializability.specs.Faithful.{table_number, is_used, is_owned}
 use Rattle.ent_lists.specs.Elements.{number_itself, or_cases, or_first}
 use Rattle.ent_headline.proofs.Named.{read_by, changed_by}
 
@@ -51,20 +51,20 @@ uses_are environment (forms.Set variable expression) = refl
 
 module _ (creates : List Create) where
   abbrev numbers : List Name → List ℕ
-  numbers names = map (number_of creates) names
+  numbers names = map (table_number creates) names
 
   abbrev AreDeclared : List Name → Type 0
-  AreDeclared names = AllByRecursion (λ name. number_of creates name < length creates) names
+  AreDeclared names = AllByRecursion (λ name. table_number creates name < length creates) names
 
   -- uses that a test of this table lets through
-  passing : (test : Use → Bool) (make : ℕ → Use) (name : Name) → test (make (number_of creates name)) ≡ true
+  passing : (test : Use → Bool) (make : ℕ → Use) (name : Name) → test (make (table_number creates name)) ≡ true
       → (names : List Name) → is_among names name ≡ true → list_any test (map make (numbers names)) ≡ true
   passing test make name is [] there = cc
   passing test make name is (first ∷ names) there =
       elim (or_cases (same_name first name) (is_among names name) there) [
-        | inl here ↦ or_first (test (make (number_of creates first))) (list_any test (map make (numbers names)))
-            (ap (λ (n : Name). test (make (number_of creates n))) (equal_names first name here) ∙ is)
-        | inr more ↦ or_right (test (make (number_of creates first))) (list_any test (map make (numbers names)))
+        | inl here ↦ or_first (test (make (table_number creates first))) (list_any test (map make (numbers names)))
+            (ap (λ (n : Name). test (make (table_number creates n))) (equal_names first name here) ∙ is)
+        | inr more ↦ or_right (test (make (table_number creates first))) (list_any test (map make (numbers names)))
             (passing test make name is names more)
       ]
 
@@ -72,10 +72,10 @@ module _ (creates : List Create) where
       → AreDeclared names → is_used (map make (numbers names)) table ≡ true → table < length creates
   is_declared make own table [] h there = cc
   is_declared make own table (name ∷ names) h there =
-      elim (or_cases ((make (number_of creates name)).table == table) (is_used (map make (numbers names)) table)
+      elim (or_cases ((make (table_number creates name)).table == table) (is_used (map make (numbers names)) table)
       there) [
         | inl here ↦ subst (λ n. n < length creates)
-            (sym (own (number_of creates name)) ∙ eqb-true (make (number_of creates name)).table table here) h.0
+            (sym (own (table_number creates name)) ∙ eqb-true (make (table_number creates name)).table table here) h.0
         | inr more ↦ is_declared make own table names h.1 more
       ]
 
@@ -84,10 +84,10 @@ module _ (creates : List Create) where
     UsesOf = map shared (numbers reads) ++ map exclusive (numbers changes)
 
     pub used_there : (name : Name) → is_among (reads ++ changes) name ≡ true
-        → is_used UsesOf (number_of creates name) ≡ true
+        → is_used UsesOf (table_number creates name) ≡ true
     used_there name there =
-        let test : Use → Bool = λ own. own.table == number_of creates name in
-        let is = number_itself (number_of creates name) in
+        let test : Use → Bool = λ own. own.table == table_number creates name in
+        let is = number_itself (table_number creates name) in
         list_any-append test (map shared (numbers reads)) (map exclusive (numbers changes))
         ∙ elim (or_cases (is_among reads name) (is_among changes name)
         (sym (list_any-append (λ table. same_name table name) reads changes) ∙ there)) [
@@ -96,11 +96,11 @@ module _ (creates : List Create) where
         ]
 
     pub owned_there : (name : Name) → is_among changes name ≡ true
-        → is_owned UsesOf (number_of creates name) ≡ true
+        → is_owned UsesOf (table_number creates name) ≡ true
     owned_there name there =
-        let test : Use → Bool = λ own. (own.table == number_of creates name) && (mode_rank own.mode == 1) in
-        let is : test (exclusive (number_of creates name)) ≡ true =
-        ap (λ b. b && true) (number_itself (number_of creates name)) in
+        let test : Use → Bool = λ own. (own.table == table_number creates name) && (mode_rank own.mode == 1) in
+        let is : test (exclusive (table_number creates name)) ≡ true =
+        ap (λ b. b && true) (number_itself (table_number creates name)) in
         list_any-append test (map shared (numbers reads)) (map exclusive (numbers changes))
         ∙ or_right _ _ (passing test exclusive name is changes there)
 

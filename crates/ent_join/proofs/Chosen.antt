@@ -16,7 +16,7 @@ use Rattle.ent_closed.specs.Form.{Tables}
 use Rattle.ent_coordination.specs.Choice.{AreGroundings, IsChoice, IsLeastChoice, choice_cmp}
 use Rattle.ent_coordination.specs.Pool.{Posted}
 use Rattle.ent_plan.specs.Plan.{IsGroundedSpread, IsPlan, Plan, slot_kind, spread}
-use Rattle.ent_plan.specs.Tables.{tables_named}
+use Rattle.ent_plan.specs.Tables.{source_tables}
 use Rattle.ent_plan.specs.declared.slot.Slot.{Slot}
 use Rattle.ent_join.specs.Asked.{all_indexes, all_tests}
 use Rattle.ent_join.specs.Index.{IsIndexed, goes_on}
@@ -98,7 +98,7 @@ module _ (plan : Plan) (is : IsPlan plan) (tables : List Numbered) (frame : Fram
         ≡ map (λ (member : Posted). member.statement.variables) plan.members =
         ap (λ ks. map (map (slot_kind ks)) plan.slots) same ∙ is.kinded in (
           same,
-          groundings_from tables laid (tables_named plan.members) are values checks (and_both _ _ k.1).1 plan.members
+          groundings_from tables laid (source_tables plan.members) are values checks (and_both _ _ k.1).1 plan.members
               plan.slots kinded (below values w) (sources_are_named plan.members) k.1,
         )
 
@@ -112,8 +112,8 @@ module _ (plan : Plan) (is : IsPlan plan) (tables : List Numbered) (frame : Fram
         ∙ (λ i. of i
         && (list_all (goes_on values) (all_indexes tables checks plan.members plan.slots)
         && list_all (may_hold values) (all_tests plan.members plan.slots)))
-        ∙ groundings_to tables laid (tables_named plan.members) are values checks
-        (tests_to tables laid (tables_named plan.members) are values plan.members plan.slots (below values w) g)
+        ∙ groundings_to tables laid (source_tables plan.members) are values checks
+        (tests_to tables laid (source_tables plan.members) are values plan.members plan.slots (below values w) g)
         plan.members plan.slots (below values w) (sources_are_named plan.members) g
 
     module _ (choices : (groundings : List Valuation)

@@ -21,7 +21,7 @@ use Rattle.ent_closed.specs.declared.entangled.Term.{Term}
 use Rattle.ent_closed.specs.declared.entangled.Term.TheVariants as terms
 use Rattle.ent_coordination.specs.Pool.{Posted}
 use Rattle.ent_plan.specs.Plan.{AreNumbered, slot_kind}
-use Rattle.ent_plan.specs.Tables.{sources_of, tables_named}
+use Rattle.ent_plan.specs.Tables.{sources_of, source_tables}
 use Rattle.ent_plan.specs.declared.slot.Slot.{Slot}
 use Rattle.ent_plan.specs.declared.slot.Slot.TheVariants.{Fixed, Class}
 use Rattle.ent_join.specs.Asked.{all_indexes, left_rows, membership_index}
@@ -86,10 +86,10 @@ numbers_alike ns test =
 
 -- each table that a sub-select names is one of those that the statements name
 pub sources_are_named : (members : List Posted)
-    → AllByRecursion (Named (tables_named members))
+    → AllByRecursion (Named (source_tables members))
     (flat_map (λ (member : Posted). sources_of member.statement) members)
 sources_are_named members =
-    all_members (Named (tables_named members)) (flat_map (λ (member : Posted). sources_of member.statement) members)
+    all_members (Named (source_tables members)) (flat_map (λ (member : Posted). sources_of member.statement) members)
     (λ n h. numbers_alike (flat_map (λ (member : Posted). sources_of member.statement) members) (λ m. m == n) ∙ h)
 
 -- ---- classes of indexes

@@ -18,7 +18,7 @@ use Rattle.ent_closed.specs.declared.entangled.Membership.{Membership}
 use Rattle.ent_closed.specs.declared.entangled.Term.{Term}
 use Rattle.ent_coordination.specs.Pool.{Posted}
 use Rattle.ent_plan.specs.Plan.{IsPlan, Plan, slot_kind}
-use Rattle.ent_plan.specs.Tables.{sources_of, tables_named}
+use Rattle.ent_plan.specs.Tables.{sources_of, source_tables}
 use Rattle.ent_plan.specs.declared.slot.Slot.{Slot}
 use Rattle.ent_join.specs.Alone.{is_left}
 use Rattle.ent_join.specs.Asked.{all_indexes, all_tests, left_rows, membership_index, select_rows, slot_test}
@@ -62,7 +62,7 @@ module _ (plan : Plan) (is : IsPlan plan) (tables : List Numbered) (frame : Fram
   ks = plan.kinds
 
   abbrev names : List ℕ
-  names = tables_named plan.members
+  names = source_tables plan.members
 
   one : (slots : List Slot) × (plan.slots ≡ slots ∷ [])
       × (map (slot_kind plan.kinds) slots ≡ member.statement.variables)

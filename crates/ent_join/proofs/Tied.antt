@@ -31,7 +31,7 @@ use Rattle.ent_plan.specs.Tables.{sources_of}
 use Rattle.ent_plan.specs.declared.slot.Slot.{Slot}
 use Rattle.ent_plan.specs.declared.slot.Slot.TheVariants.{Fixed, Class}
 use Rattle.ent_select.specs.Tables.{rows_in}
-use Rattle.ent_select.specs.Worth.{value_in}
+use Rattle.ent_select.specs.Worth.{worth_over}
 use Rattle.ent_join.specs.Alone.{is_left}
 use Rattle.ent_join.specs.Asked.{tables_at, left_rows, select_rows, membership_index, all_indexes, slot_test}
 use Rattle.ent_join.specs.Asked.{all_tests}
@@ -133,7 +133,7 @@ module _ (tables : List Numbered) (laid : Tables) (numbers : List ℕ)
   pub rows_are : (select : Select Value) → AllByRecursion (Named numbers) select.sources
       → select_rows tables select ≡ form_rows (λ value. value) laid select
   rows_are select named =
-      ap (selection (meets value_in select.tests) (λ row. map (value_in row) select.items))
+      ap (selection (meets worth_over select.tests) (λ row. map (worth_over row) select.items))
       (sources_are tables laid numbers all select.sources named)
 
   test_is : (slots : List Slot) (test : Test (Term Value)) → AllByRecursion (SlotBelow (length values)) slots

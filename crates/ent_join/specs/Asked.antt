@@ -13,7 +13,7 @@ use Rattle.ent_closed.specs.declared.statement.Select.{Select}
 use Rattle.ent_coordination.specs.Pool.{Posted}
 use Rattle.ent_plan.specs.declared.slot.Slot.{Slot}
 use Rattle.ent_select.specs.Tables.{rows_in}
-use Rattle.ent_select.specs.Worth.{value_in}
+use Rattle.ent_select.specs.Worth.{worth_over}
 use Rattle.ent_join.specs.Alone.{is_left}
 use Rattle.ent_join.specs.Index.{Indexed}
 use Rattle.ent_join.specs.declared.made.Made.{Made}
@@ -28,7 +28,7 @@ tables_at tables (source ∷ sources) = cons_option (table_at source tables) (ta
 -- the rows of a sub-select's result, over numbered tables
 abbrev pub select_rows : List Numbered → Select Value → Rows
 select_rows tables select =
-    selection (meets value_in select.tests) (λ row. map (value_in row) select.items)
+    selection (meets worth_over select.tests) (λ row. map (worth_over row) select.items)
     (rows_in (map relation_of (tables_at tables select.sources)))
 
 -- those of them, in order, that no test refuses which reads nothing but the columns of a tuple

@@ -5,7 +5,7 @@ use Rattle.ent_set.specs.Sets as set
 use Rattle.ent_rel.specs.Numbered.{Numbered}
 use Rattle.ent_closed.specs.Form.{Tables}
 use Rattle.ent_coordination.specs.Pool.{Posted}
-use Rattle.ent_plan.specs.Tables.{tables_named}
+use Rattle.ent_plan.specs.Tables.{source_tables}
 
 -- the table of a number
 abbrev pub table_at : ℕ → List Numbered → Option Numbered
@@ -20,4 +20,4 @@ IsLaid tables laid number =
 
 -- so is each table that the statements name
 abbrev pub AreLaid : List Posted → List Numbered → Tables → Type 0
-AreLaid members tables laid = AllByRecursion (IsLaid tables laid) (tables_named members)
+AreLaid members tables laid = AllByRecursion (IsLaid tables laid) (source_tables members)

@@ -11,12 +11,12 @@ use Rattle.ent_value.specs.declared.value.Value.{Value}
 use Rattle.ent_semantics.specs.Entangled.{Valuation}
 use Rattle.ent_semantics.specs.Term.{no_value}
 use Rattle.ent_coordination.specs.Pool.{Posted}
-use Rattle.ent_unify.specs.Unifier.{class_of, constant_in, constant_of, value_in, IsVariableOf, Agrees}
+use Rattle.ent_unify.specs.Unifier.{class_of, constant_in, constant_of, member_value, IsVariableOf, Agrees}
 use Rattle.ent_unify.specs.declared.unifier.Binding.{Binding}
 use Rattle.ent_unify.specs.declared.variable.Representative.TheVariants.{Constant, Variable}
 use Rattle.ent_unify.specs.declared.variable.Variable.{Variable as Variables}
 use Rattle.ent_plan.specs.Agreement.{variables_of, IsUnifierOf}
-use Rattle.ent_plan.specs.Classes.{variable_at, Stands, AreRows}
+use Rattle.ent_plan.specs.Classes.{variable_at, Stands, AreSlotRows}
 use Rattle.ent_plan.specs.Plan.{IsPlan, AreNumbered, all_slots, slot_kind, slot_value}
 use Rattle.ent_plan.specs.declared.class.Class.{Class as Classes}
 use Rattle.ent_plan.specs.declared.slot.Slot.{Slot}
@@ -80,7 +80,7 @@ kind_at (v ∷ values) (suc n) k is = kind_at values n k is
 
 -- a variable's value is of its kind
 kind_in : (K : List (List Kind)) (V : List Valuation) → map kinds_of V ≡ K → (x : Variables) → IsVariableOf K x
-    → kind_of (value_in V x) ≡ x.kind
+    → kind_of (member_value V x) ≡ x.kind
 kind_in K V kinded x of_members =
     let row : kinds_of (get_or V x.member []) ≡ get_or K x.member [] =
     sym (kinds_get V x.member) ∙ ap (λ ks. get_or ks x.member []) kinded in
@@ -90,7 +90,7 @@ kind_in K V kinded x of_members =
 
 -- the value of each class is that of its first variable
 abbrev first_values : List Valuation → List Classes → List Value
-first_values V classes = map (λ (c : Classes). value_in V c.first) classes
+first_values V classes = map (λ (c : Classes). member_value V c.first) classes
 
 abbrev first_kinds : List Classes → List Kind
 first_kinds classes = map (λ (c : Classes). c.first.kind) classes
@@ -101,20 +101,20 @@ no_class =
     record { representative = x; first = x }
 
 module _ (bs : List Binding) (K : List (List Kind)) (classes : List Classes) (rows : List (List Slot))
-    (are : AreRows bs K classes rows) where
+    (are : AreSlotRows bs K classes rows) where
   first_of : (n : ℕ) → n < length classes → IsVariableOf K (get_or classes n no_class).first
       × (class_of bs (get_or classes n no_class).first ≡ Variable (get_or classes n no_class).representative)
   first_of n below = are.classes_are.firsts n no_class below
 
   -- a variable's value is what its slot is worth
   worth_is : (V : List Valuation) → Agrees K bs V → (x : Variables) → IsVariableOf K x → (s : Slot)
-      → Stands bs classes x s → value_in V x ≡ slot_value (first_values V classes) s
+      → Stands bs classes x s → member_value V x ≡ slot_value (first_values V classes) s
   worth_is V agrees x of_members (Fixed value) stands =
-      subst (λ r. IfSome (constant_in r) (λ v. value_in V x ≡ v)) stands (agrees.constants x of_members)
+      subst (λ r. IfSome (constant_in r) (λ v. member_value V x ≡ v)) stands (agrees.constants x of_members)
   worth_is V agrees x of_members (Class n) (below, stands) =
       let first = first_of n below in
       agrees.classes x (get_or classes n no_class).first of_members first.0 (stands no_class ∙ sym first.1)
-      ∙ sym (get_or-map (λ (c : Classes). value_in V c.first) classes n no_class no_value below)
+      ∙ sym (get_or-map (λ (c : Classes). member_value V c.first) classes n no_class no_value below)
 
   -- the slot of a variable
   slot_at : ℕ → ℕ → Slot
@@ -131,19 +131,19 @@ module _ (bs : List Binding) (K : List (List Kind)) (classes : List Classes) (ro
   kinds_of_firsts V kinded =
       same_lists (kinds_of (first_values V classes)) (first_kinds classes)
       (length-map (first_values V classes) kind_of
-      ∙ (length-map classes (λ (c : Classes). value_in V c.first)
+      ∙ (length-map classes (λ (c : Classes). member_value V c.first)
       ∙ sym (length-map classes (λ (c : Classes). c.first.kind))))
       (λ n d less.
       let below : n < length classes =
       (let l = less in omega (
         arith,
         length-map (first_values V classes) kind_of,
-        length-map classes (λ (c : Classes). value_in V c.first),
+        length-map classes (λ (c : Classes). member_value V c.first),
       )) in
       let below_values : n < length (first_values V classes) =
-      omega (arith, length-map classes (λ (c : Classes). value_in V c.first)) in
+      omega (arith, length-map classes (λ (c : Classes). member_value V c.first)) in
       get_or-map kind_of (first_values V classes) n no_value d below_values
-      ∙ (ap kind_of (get_or-map (λ (c : Classes). value_in V c.first) classes n no_class no_value below)
+      ∙ (ap kind_of (get_or-map (λ (c : Classes). member_value V c.first) classes n no_class no_value below)
       ∙ (kind_in K V kinded (get_or classes n no_class).first (first_of n below).0
       ∙ sym (get_or-map (λ (c : Classes). c.first.kind) classes n no_class d below))))
 
@@ -240,7 +240,7 @@ module _ (bs : List Binding) (K : List (List Kind)) (classes : List Classes) (ro
             ∙ sym (value y at_y));
         constants = λ x of_x.
             let at_x = placed_at K x of_x in
-            constant_is values x (value_in V x) (slot x) (stands x at_x) (value x at_x);
+            constant_is values x (member_value V x) (slot x) (stands x at_x) (value x at_x);
       }
 
   -- ---- the kinds of slots
@@ -280,11 +280,11 @@ module _ (bs : List Binding) (K : List (List Kind)) (classes : List Classes) (ro
 
 pub planned : (members : List Posted) (K : List (List Kind)) → K ≡ variables_of members → (bs : List Binding)
     (classes : List Classes) (rows : List (List Slot)) (class_kinds : List Kind) → IsUnifierOf members bs
-    → AreRows bs K classes rows → class_kinds ≡ first_kinds classes
+    → AreSlotRows bs K classes rows → class_kinds ≡ first_kinds classes
     → IsPlan (record { members = members; slots = rows; kinds = class_kinds })
 planned members K same bs classes rows class_kinds unifier given kinds_given =
     let K' = variables_of members in
-    let are : AreRows bs K' classes rows = subst (λ k. AreRows bs k classes rows) same given in
+    let are : AreSlotRows bs K' classes rows = subst (λ k. AreSlotRows bs k classes rows) same given in
     subst (λ ks. IsPlan (record { members = members; slots = rows; kinds = ks })) (sym kinds_given)
     (record {
       kinded = kinds_are bs K' classes rows are unifier.some unifier.of_kinds unifier.agrees;

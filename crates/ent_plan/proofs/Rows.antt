@@ -17,8 +17,8 @@ use Rattle.ent_plan.specs.Plan.{AreNumbered}
 use Rattle.ent_plan.specs.declared.class.Class.{Class as Classes}
 use Rattle.ent_plan.specs.declared.slot.Slot.{Slot}
 use Rattle.ent_plan.specs.declared.slot.Slot.TheVariants.{Fixed, Class}
-use Rattle.ent_plan.specs.Classes.{IsNewTo, IsSlot, variable_at, Stands, AreClasses, IsRowTo}
-use Rattle.ent_plan.specs.Classes.{IsRow, AreRowsTo}
+use Rattle.ent_plan.specs.Classes.{IsNewTo, IsSlot, variable_at, Stands, AreClasses, IsSlotRowTo}
+use Rattle.ent_plan.specs.Classes.{IsSlotRow, AreSlotRowsTo}
 use Rattle.ent_plan.proofs.Order.{numbered_grows}
 
 -- ---- numbers end to end
@@ -109,15 +109,15 @@ variable_is_of K m n below = slice_get_at (get_or K m []) n kinds.Int below
 
 pub row_more : (bs : List Binding) (K : List (List Kind)) (m n : ℕ) (old mid new : List Classes)
     (slots fresh : List Slot) (x : Variables) (s : Slot) → n < length (get_or K m []) → x ≡ variable_at K m n
-    → IsRowTo bs K m n old mid slots → IsSlot bs x mid new s → fresh ≡ slots ++ s ∷ []
-    → IsRowTo bs K m (n + 1) old new fresh
+    → IsSlotRowTo bs K m n old mid slots → IsSlot bs x mid new s → fresh ≡ slots ++ s ∷ []
+    → IsSlotRowTo bs K m (n + 1) old new fresh
 row_more bs K m n old mid new slots fresh x s below is row slot pushed =
     let of_members : IsVariableOf K x = subst (IsVariableOf K) (sym is) (variable_is_of K m n below) in
     let one = step bs K x of_members mid new s row.classes slot in
     let longer = numbered_grows (length old) slots (length mid) row.numbered in
     let longer_too = numbered_grows (length mid) (s ∷ []) (length new) one.numbered in
     let width : length slots ≡ n = row.width_is in
-    subst (IsRowTo bs K m (n + 1) old new) (sym pushed)
+    subst (IsSlotRowTo bs K m (n + 1) old new) (sym pushed)
     (record {
       width_is = omega (arith, length_push slots s);
       stands = λ k d less. elim (cases_lt k n) [
@@ -144,8 +144,8 @@ kinds_at (ks ∷ given) (suc m) d none = kinds_at given m d none
 -- ---- one more member
 
 pub rows_more : (bs : List Binding) (K : List (List Kind)) (m : ℕ) (old new : List Classes)
-    (rows fresh : List (List Slot)) (row : List Slot) → AreRowsTo bs K m old rows → IsRow bs K m old new row
-    → fresh ≡ rows ++ row ∷ [] → AreRowsTo bs K (m + 1) new fresh
+    (rows fresh : List (List Slot)) (row : List Slot) → AreSlotRowsTo bs K m old rows → IsSlotRow bs K m old new row
+    → fresh ≡ rows ++ row ∷ [] → AreSlotRowsTo bs K (m + 1) new fresh
 rows_more bs K m old new rows fresh row are one pushed =
     let count : length rows ≡ m = are.count_is in
     let longer = numbered_grows (length old) row (length new) one.numbered in
@@ -153,7 +153,7 @@ rows_more bs K m old new rows fresh row are one pushed =
     λ k before. get_or_append_left rows (row ∷ []) [] k (omega arith) in
     let last_is : (k : ℕ) → m ≡ k → get_or (rows ++ row ∷ []) k [] ≡ row =
     λ k same. get_or_push rows row [] k (count ∙ same) in
-    subst (AreRowsTo bs K (m + 1) new) (sym pushed)
+    subst (AreSlotRowsTo bs K (m + 1) new) (sym pushed)
     (record {
       count_is = omega (arith, length_push rows row);
       widths = λ k less. elim (cases_lt k m) [

@@ -61,8 +61,8 @@ pub record AreClasses (bindings : List Binding) (members : List (List Kind)) (cl
   pub apart : AllPairs (λ (one other : Classes). one.representative ≢ other.representative) classes
 
 -- the slots of a member's first variables
-pub record IsRowTo (bindings : List Binding) (members : List (List Kind)) (member width : ℕ) (old new : List Classes)
-    (slots : List Slot) : Type 0 where
+pub record IsSlotRowTo (bindings : List Binding) (members : List (List Kind)) (member width : ℕ)
+    (old new : List Classes) (slots : List Slot) : Type 0 where
   pub width_is : length slots ≡ width
   pub stands : (k : ℕ) (d : Slot) → k < width
       → Stands bindings new (variable_at members member k) (slice_index_or slots k d)
@@ -70,11 +70,11 @@ pub record IsRowTo (bindings : List Binding) (members : List (List Kind)) (membe
   pub kept : (n : ℕ) (d : Classes) → n < length old → slice_index_or new n d ≡ slice_index_or old n d
   pub classes : AreClasses bindings members new
 
-abbrev pub IsRow : List Binding → List (List Kind) → ℕ → List Classes → List Classes → List Slot → Type 0
-IsRow bindings members member = IsRowTo bindings members member (length (slice_index_or members member []))
+abbrev pub IsSlotRow : List Binding → List (List Kind) → ℕ → List Classes → List Classes → List Slot → Type 0
+IsSlotRow bindings members member = IsSlotRowTo bindings members member (length (slice_index_or members member []))
 
 -- the slots of the first members
-pub record AreRowsTo (bindings : List Binding) (members : List (List Kind)) (count : ℕ) (classes : List Classes)
+pub record AreSlotRowsTo (bindings : List Binding) (members : List (List Kind)) (count : ℕ) (classes : List Classes)
     (rows : List (List Slot)) : Type 0 where
   pub count_is : length rows ≡ count
   pub widths : (m : ℕ) → m < count → length (slice_index_or rows m []) ≡ length (slice_index_or members m [])
@@ -83,5 +83,5 @@ pub record AreRowsTo (bindings : List Binding) (members : List (List Kind)) (cou
   pub numbered : AreNumbered 0 (flat_map (λ slots. slots) rows) (length classes)
   pub classes_are : AreClasses bindings members classes
 
-abbrev pub AreRows : List Binding → List (List Kind) → List Classes → List (List Slot) → Type 0
-AreRows bindings members = AreRowsTo bindings members (length members)
+abbrev pub AreSlotRows : List Binding → List (List Kind) → List Classes → List (List Slot) → Type 0
+AreSlotRows bindings members = AreSlotRowsTo bindings members (length members)

@@ -10,7 +10,7 @@ use Rattle.ent_coordination.specs.Pool.{Posted}
 abbrev pub sources_of : Entangled Value → List ℕ
 sources_of statement = flat_map (λ membership. membership.select.sources) statement.atoms
 
--- the tables by number, each once
-abbrev pub tables_named : List Posted → List ℕ
-tables_named members =
+-- the tables of the sub-selects of posted statements, by number, each once
+abbrev pub source_tables : List Posted → List ℕ
+source_tables members =
     set.ascending (set.from_list {R = nat_cmp} (flat_map (λ member. sources_of member.statement) members))

@@ -1,7 +1,7 @@
 //! The classes of variables that have one value, by number.
 ghost use Rattle.std.specs.Prelude.{◌≡◌, ◌<◌, [], IfOk, MatchOption, length, slice_index_or};
 ghost use Rattle.ent_unify.specs.Unifier.{kinds_seen};
-ghost use Rattle.ent_plan.specs.Classes.{AreClasses, AreRows, IsNewTo, IsNumberOf, IsNumbered, IsRow, IsSlot};
+ghost use Rattle.ent_plan.specs.Classes.{AreClasses, AreSlotRows, IsNewTo, IsNumberOf, IsNumbered, IsSlotRow, IsSlot};
 ghost use Rattle.ent_plan.specs.declared.slot.Slot.TheVariants.{Class as Numbered};
 
 use crate::slot::Slot;
@@ -79,7 +79,7 @@ fn row_of(
 ) -> Result<Sequence<Slot>, AllocError>
     requires member { member < length kinds.now }
     requires classes { AreClasses unifier.now (kinds_seen kinds.now) classes.old.items }
-    ensures { IfOk result (IsRow unifier.now (kinds_seen kinds.now) member classes.old.items classes.new.items) }
+    ensures { IfOk result (IsSlotRow unifier.now (kinds_seen kinds.now) member classes.old.items classes.new.items) }
 {
     let mut slots = Sequence::new(alloc);
     let variables = kinds[member];
@@ -103,7 +103,7 @@ pub(crate) fn rows_of(
     kinds: &[&[Kind]],
 ) -> Result<Vec<Sequence<Slot>>, AllocError>
     requires { classes.old.items ≡ [] }
-    ensures { IfOk result (λ rows. AreRows unifier.now (kinds_seen kinds.now) classes.new.items rows.items) }
+    ensures { IfOk result (λ rows. AreSlotRows unifier.now (kinds_seen kinds.now) classes.new.items rows.items) }
 {
     let mut rows = Vec::new(alloc);
     for member in 0..kinds.len() {

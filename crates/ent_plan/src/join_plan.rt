@@ -4,7 +4,7 @@ ghost use Rattle.ent_coordination.specs.Pool.{IsPool, IsSafe};
 ghost use Rattle.ent_unify.specs.Unifier.{kinds_seen};
 ghost use Rattle.ent_plan.specs.Agreement.{IsUnifierOf, variables_of};
 ghost use Rattle.ent_plan.specs.Plan.{HaveDistinctHeads, HaveNoPlan, IsPlan, named};
-ghost use Rattle.ent_plan.specs.Tables.{tables_named};
+ghost use Rattle.ent_plan.specs.Tables.{source_tables};
 
 use crate::class::{Class, rows_of};
 use crate::named::shared_of;
@@ -42,14 +42,14 @@ impl Drop for JoinPlan {
 impl Model for JoinPlan {
     ghost use Rattle.std.specs.Prelude.{◌≡◌};
     ghost use Rattle.ent_plan.specs.Plan.{IsPlan, Plan};
-    ghost use Rattle.ent_plan.specs.Tables.{tables_named};
+    ghost use Rattle.ent_plan.specs.Tables.{source_tables};
 
     ghost Value = { Plan };
 
     ghost view = { λ p. record { members = p.members.items; slots = p.slots.items; kinds = p.kinds.items } };
 
     ghost invariant = { λ p. IsPlan (record { members = p.members.items; slots = p.slots.items; kinds = p.kinds.items })
-        × (p.tables.items ≡ tables_named p.members.items) };
+        × (p.tables.items ≡ source_tables p.members.items) };
 }
 
 /// What the written variables of members are, and the kinds of the classes.
@@ -169,7 +169,7 @@ impl JoinPlan {
 
     /// The tables that the sub-selects of the statements name, by number and each once.
     pub fn tables(&self) -> &[usize]
-        ensures { result.now ≡ tables_named self.now.members }
+        ensures { result.now ≡ source_tables self.now.members }
     {
         self.tables.as_slice()
     }

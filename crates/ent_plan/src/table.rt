@@ -1,6 +1,6 @@
 //! The tables that the sub-selects of statements name.
 ghost use Rattle.std.specs.Prelude.{◌≡◌, ◌++◌, IfOk, OnOk};
-ghost use Rattle.ent_plan.specs.Tables.{sources_of, tables_named};
+ghost use Rattle.ent_plan.specs.Tables.{sources_of, source_tables};
 
 use ent_closed::Entangled;
 use ent_match::Posted;
@@ -19,7 +19,7 @@ fn push_sources(tables: &mut Vec<usize>, statement: &Entangled<Value>) -> Result
 
 /// The tables that the sub-selects of the members name, by number and each once.
 pub(crate) fn tables_of(alloc: Global, members: &[Posted]) -> Result<Vec<usize>, AllocError>
-    ensures { IfOk result (λ tables. tables.items ≡ tables_named members.now) }
+    ensures { IfOk result (λ tables. tables.items ≡ source_tables members.now) }
 {
     let mut tables = Vec::new(alloc);
     for member in members {

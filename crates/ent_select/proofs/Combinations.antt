@@ -12,13 +12,14 @@ use Rattle.ent_semantics.specs.Selection.{meets, combinations}
 use Rattle.ent_closed.specs.declared.operand.Operand.{Operand}
 use Rattle.ent_select.specs.Combined.{combined, shown_of}
 use Rattle.ent_select.specs.Tables.{rows_in, rows_listed}
-use Rattle.ent_select.specs.Worth.{value_in}
+use Rattle.ent_select.specs.Worth.{worth_over}
 
 pub shown_of-append : (items : List (Operand Value)) (tests : List (Test (Operand Value))) (xs ys : List (List Value))
     → shown_of items tests (xs ++ ys) ≡ shown_of items tests xs ++ shown_of items tests ys
 shown_of-append items tests xs ys =
-    ap (map (λ row. map (value_in row) items)) (filter-append (meets value_in tests) xs ys)
-    ∙ map-append (λ row. map (value_in row) items) (filter (meets value_in tests) xs) (filter (meets value_in tests) ys)
+    ap (map (λ row. map (worth_over row) items)) (filter-append (meets worth_over tests) xs ys)
+    ∙ map-append (λ row. map (worth_over row) items)
+    (filter (meets worth_over tests) xs) (filter (meets worth_over tests) ys)
 
 -- one row more of a walk, whose combinations were looked at
 pub one_row_more :

@@ -13,7 +13,7 @@ use Rattle.ent_closed.specs.declared.operand.Operand.{Operand}
 use Rattle.ent_closed.specs.declared.operand.Operand.TheVariants as operands
 use Rattle.ent_select.specs.Combined.{combined, shown_of}
 use Rattle.ent_select.specs.Early.{value_there, may_compare, may_hold, may_meet}
-use Rattle.ent_select.specs.Worth.{value_in}
+use Rattle.ent_select.specs.Worth.{worth_over}
 use Rattle.ent_select.proofs.Combinations.{shown_of-append}
 
 column_there : (front rest : List Value) (number : ℕ) (value : Value) → slice_get front number ≡ Some value
@@ -24,16 +24,16 @@ column_there (first ∷ front) rest (suc number) value e = column_there front re
 
 -- what an operand is worth over a front, it is worth over the row
 pub there_worth : (front rest : List Value) (operand : Operand Value) (value : Value)
-    → value_there front operand ≡ Some value → value_in (front ++ rest) operand ≡ value
+    → value_there front operand ≡ Some value → worth_over (front ++ rest) operand ≡ value
 there_worth front rest (operands.Known known) value e = cc
 there_worth front rest (operands.Column number) value e = column_there front rest number value e
 
 hold_fails : (front rest : List Value) (test : Test (Operand Value)) → may_hold front test ≡ false
-    → holds (value_in (front ++ rest)) test ≡ false
+    → holds (worth_over (front ++ rest)) test ≡ false
 hold_fails front rest test = by (value_there front test.left) (value_there front test.right) refl refl
   where
     by : (left right : Option Value) → value_there front test.left ≡ left → value_there front test.right ≡ right
-        → may_compare test.comparison left right ≡ false → holds (value_in (front ++ rest)) test ≡ false
+        → may_compare test.comparison left right ≡ false → holds (worth_over (front ++ rest)) test ≡ false
     by (Some left) (Some right) l r e =
         (λ i. compares test.comparison (value_cmp (there_worth front rest test.left left l i)
         (there_worth front rest test.right right r i))) ∙ e
@@ -57,20 +57,20 @@ fails_too {A} p q each (x ∷ xs) e = by (p x) refl e (fails_too p q each xs)
 
 -- where a test fails over a front, it fails whatever follows
 pub meet_fails : (tests : List (Test (Operand Value))) (front rest : List Value) → may_meet tests front ≡ false
-    → meets value_in tests (front ++ rest) ≡ false
+    → meets worth_over tests (front ++ rest) ≡ false
 meet_fails tests front rest e =
-    fails_too (may_hold front) (holds (value_in (front ++ rest))) (hold_fails front rest) tests e
+    fails_too (may_hold front) (holds (worth_over (front ++ rest))) (hold_fails front rest) tests e
 
 -- where nothing that begins with a front meets the tests, nothing is shown of it
 pub nothing_shown : (items : List (Operand Value)) (tests : List (Test (Operand Value))) (front : List Value)
-    (sources : List (List (List Value))) → ((rest : List Value) → meets value_in tests (front ++ rest) ≡ false)
+    (sources : List (List (List Value))) → ((rest : List Value) → meets worth_over tests (front ++ rest) ≡ false)
     → shown_of items tests (combined front sources) ≡ []
 nothing_shown items tests front [] fails =
-    ap (λ b. map (λ row. map (value_in row) items) (cond b (front ∷ []) []))
-    (sym (ap (meets value_in tests) (append-nil front)) ∙ fails [])
+    ap (λ b. map (λ row. map (worth_over row) items) (cond b (front ∷ []) []))
+    (sym (ap (meets worth_over tests) (append-nil front)) ∙ fails [])
 nothing_shown items tests front (rows ∷ more) fails =
     all (λ row. nothing_shown items tests (front ++ row) more
-    (λ rest. ap (meets value_in tests) (append_assoc front row rest) ∙ fails (row ++ rest))) rows
+    (λ rest. ap (meets worth_over tests) (append_assoc front row rest) ∙ fails (row ++ rest))) rows
   where
     each : List Value → List (List Value)
     each row = combined (front ++ row) more

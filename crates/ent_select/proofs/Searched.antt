@@ -12,7 +12,7 @@ use Rattle.ent_semantics.specs.Selection.{meets}
 use Rattle.ent_closed.specs.declared.operand.Operand.{Operand}
 use Rattle.ent_select.specs.Combined.{combined, shown_of, AreNarrowed}
 use Rattle.ent_select.specs.Early.{may_meet}
-use Rattle.ent_select.specs.Worth.{value_in}
+use Rattle.ent_select.specs.Worth.{worth_over}
 use Rattle.ent_select.proofs.Combinations.{shown_of-append, combined_one, one_row_more}
 use Rattle.ent_select.proofs.Fronts.{meet_fails, nothing_shown}
 use Rattle.ent_select.proofs.Narrowed.{in_order, rows_met}
@@ -20,17 +20,17 @@ use Rattle.ent_select.proofs.Narrowed.{in_order, rows_met}
 module _ (items : List (Operand Value)) (tests : List (Test (Operand Value))) (front : List Value) (s : RowSet)
     (first : List Value → Bool)
     (wants : (row others : List Value) → IsTrue (set.contains s row)
-    → IsTrue (meets value_in tests ((front ++ row) ++ others)) → IsTrue (first row)) where
+    → IsTrue (meets worth_over tests ((front ++ row) ++ others)) → IsTrue (first row)) where
   -- what is shown behind a row that doesn't begin with these values
   nothing_behind : (more : List (List (List Value))) (row : List Value) → IsTrue (set.contains s row)
       → first row ≡ false
       → shown_of items tests (combined (front ++ row) more) ≡ []
   nothing_behind more row here not_first =
       nothing_shown items tests (front ++ row) more
-      (λ others. by others (meets value_in tests ((front ++ row) ++ others)) refl)
+      (λ others. by others (meets worth_over tests ((front ++ row) ++ others)) refl)
     where
-      by : (others : List Value) (b : Bool) → meets value_in tests ((front ++ row) ++ others) ≡ b
-          → meets value_in tests ((front ++ row) ++ others) ≡ false
+      by : (others : List Value) (b : Bool) → meets worth_over tests ((front ++ row) ++ others) ≡ b
+          → meets worth_over tests ((front ++ row) ++ others) ≡ false
       by others true e = let is : first row ≡ true = wants row others here e in absurd cc
       by others false e = e
 
@@ -63,34 +63,35 @@ module _ (items : List (Operand Value)) (tests : List (Test (Operand Value))) (f
 
   -- the same over the last source, with tests that were made ready for the front
   last_shown : (prepared : List Value → Bool)
-      → ((row : List Value) → prepared row ≡ meets value_in tests (front ++ row))
-      → map (λ row. map (value_in (front ++ row)) items) (filter prepared (filter first (set.ascending s)))
+      → ((row : List Value) → prepared row ≡ meets worth_over tests (front ++ row))
+      → map (λ row. map (worth_over (front ++ row)) items) (filter prepared (filter first (set.ascending s)))
       ≡ shown_of items tests (combined front (set.ascending s ∷ []))
   last_shown prepared same =
-      ap (map (λ row. map (value_in (front ++ row)) items))
-      (rows_met s first prepared (λ row. meets value_in tests (front ++ row)) same
-      (λ row here met. wants row [] here (ap (meets value_in tests) (append-nil (front ++ row)) ∙ met)))
+      ap (map (λ row. map (worth_over (front ++ row)) items))
+      (rows_met s first prepared (λ row. meets worth_over tests (front ++ row)) same
+      (λ row here met. wants row [] here (ap (meets worth_over tests) (append-nil (front ++ row)) ∙ met)))
       ∙ shown_behind (set.ascending s)
       ∙ ap (shown_of items tests) (sym (combined_one front (set.ascending s)))
     where
       shown_behind : (rows : List (List Value))
-          → map (λ row. map (value_in (front ++ row)) items) (filter (λ row. meets value_in tests (front ++ row)) rows)
+          → map (λ row. map (worth_over (front ++ row)) items)
+          (filter (λ row. meets worth_over tests (front ++ row)) rows)
           ≡ shown_of items tests (map (λ row. front ++ row) rows)
       shown_behind [] = refl
       shown_behind (row ∷ rows) =
-          by (meets value_in tests (front ++ row)) (shown_behind rows)
+          by (meets worth_over tests (front ++ row)) (shown_behind rows)
         where
           by : (b : Bool)
-              → map (λ row. map (value_in (front ++ row)) items)
-              (filter (λ row. meets value_in tests (front ++ row)) rows)
+              → map (λ row. map (worth_over (front ++ row)) items)
+              (filter (λ row. meets worth_over tests (front ++ row)) rows)
               ≡ shown_of items tests (map (λ row. front ++ row) rows)
-              → map (λ row. map (value_in (front ++ row)) items)
-              (cond b (row ∷ filter (λ row. meets value_in tests (front ++ row)) rows)
-              (filter (λ row. meets value_in tests (front ++ row)) rows))
-              ≡ map (λ row. map (value_in row) items)
-              (cond b ((front ++ row) ∷ filter (meets value_in tests) (map (λ row. front ++ row) rows))
-              (filter (meets value_in tests) (map (λ row. front ++ row) rows)))
-          by true h = ap (λ others. map (value_in (front ++ row)) items ∷ others) h
+              → map (λ row. map (worth_over (front ++ row)) items)
+              (cond b (row ∷ filter (λ row. meets worth_over tests (front ++ row)) rows)
+              (filter (λ row. meets worth_over tests (front ++ row)) rows))
+              ≡ map (λ row. map (worth_over row) items)
+              (cond b ((front ++ row) ∷ filter (meets worth_over tests) (map (λ row. front ++ row) rows))
+              (filter (meets worth_over tests) (map (λ row. front ++ row) rows)))
+          by true h = ap (λ others. map (worth_over (front ++ row)) items ∷ others) h
           by false h = h
 
 -- what was found once all rows of a source were looked at
@@ -107,11 +108,11 @@ module _ (items : List (Operand Value)) (tests : List (Test (Operand Value))) (f
       ∙ source_shown items tests front s are.passes are.enough more)
 
   pub last_searched : (prepared : List Value → Bool)
-      → ((row : List Value) → prepared row ≡ meets value_in tests (front ++ row))
-      → map (λ row. map (value_in (front ++ row)) items) (filter prepared narrowed)
+      → ((row : List Value) → prepared row ≡ meets worth_over tests (front ++ row))
+      → map (λ row. map (worth_over (front ++ row)) items) (filter prepared narrowed)
       ≡ shown_of items tests (combined front (set.ascending s ∷ []))
   last_searched prepared same =
-      ap (λ rows. map (λ row. map (value_in (front ++ row)) items) (filter prepared rows)) are.are
+      ap (λ rows. map (λ row. map (worth_over (front ++ row)) items) (filter prepared rows)) are.are
       ∙ last_shown items tests front s are.passes are.enough prepared same
 
 -- one row more of a walk, over which a test fails

@@ -16,25 +16,25 @@ use Rattle.ent_semantics.specs.Selection.{compares, holds}
 use Rattle.ent_semantics.specs.Term.{no_value}
 use Rattle.ent_closed.specs.declared.operand.Operand.{Operand}
 use Rattle.ent_select.specs.Early.{value_there}
-use Rattle.ent_select.specs.Worth.{value_in}
+use Rattle.ent_select.specs.Worth.{worth_over}
 use Rattle.ent_select.proofs.Fronts.{there_worth}
 
 module _ (front rest : List Value) (test : Test (Operand Value)) (is : test.comparison ≡ Equal)
-    (met : IsTrue (holds (value_in (front ++ rest)) test)) where
-  sides_same : value_in (front ++ rest) test.left ≡ value_in (front ++ rest) test.right
+    (met : IsTrue (holds (worth_over (front ++ rest)) test)) where
+  sides_same : worth_over (front ++ rest) test.left ≡ worth_over (front ++ rest) test.right
   sides_same =
-      let left = value_in (front ++ rest) test.left in
-      let right = value_in (front ++ rest) test.right in
+      let left = worth_over (front ++ rest) test.left in
+      let right = worth_over (front ++ rest) test.right in
       exact_values left right ((Equal-is (value_cmp left right)).0
       (ap (λ c. compares c (value_cmp left right)) (sym is) ∙ met))
 
   pub wanted_right : (column : ℕ) (value : Value)
-      → value_in (front ++ rest) test.left ≡ slice_index_or rest column no_value
+      → worth_over (front ++ rest) test.left ≡ slice_index_or rest column no_value
       → value_there front test.right ≡ Some value → slice_index_or rest column no_value ≡ value
   wanted_right column value left right = sym left ∙ sides_same ∙ there_worth front rest test.right value right
 
   pub wanted_left : (column : ℕ) (value : Value)
-      → value_in (front ++ rest) test.right ≡ slice_index_or rest column no_value
+      → worth_over (front ++ rest) test.right ≡ slice_index_or rest column no_value
       → value_there front test.left ≡ Some value → slice_index_or rest column no_value ≡ value
   wanted_left column value right left = sym right ∙ sym sides_same ∙ there_worth front rest test.left value left
 

@@ -9,5 +9,5 @@ abbrev pub itself : Value → Value
 itself value = value
 
 -- what an operand is worth over a row
-abbrev pub value_in : List Value → Operand Value → Value
-value_in = operand_worth itself
+abbrev pub worth_over : List Value → Operand Value → Value
+worth_over = operand_worth itself

@@ -1,7 +1,7 @@
 //! Conditions over a row.
 ghost use Rattle.std.specs.Prelude.{◌≡◌};
 ghost use Rattle.ent_semantics.specs.Selection.{compares, holds, meets};
-ghost use Rattle.ent_select.specs.Worth.{value_in};
+ghost use Rattle.ent_select.specs.Worth.{worth_over};
 
 use crate::term::operand_value;
 use ent_closed::Operand;
@@ -24,7 +24,7 @@ pub fn compares(comparison: Comparison, order: Ordering) -> bool
 }
 
 fn holds(test: &Test<Operand<Value>>, row: &[Value]) -> bool
-    ensures { result ≡ holds (value_in row.now) test.now }
+    ensures { result ≡ holds (worth_over row.now) test.now }
 {
     let none = Value::Int(0);
     let left = operand_value(row, &test.left, &none);
@@ -34,7 +34,7 @@ fn holds(test: &Test<Operand<Value>>, row: &[Value]) -> bool
 
 /// Whether a row meets every test.
 pub(crate) fn meets(tests: &[Test<Operand<Value>>], row: &[Value]) -> bool
-    ensures { result ≡ meets value_in tests.now row.now }
+    ensures { result ≡ meets worth_over tests.now row.now }
 {
     tests.iter().all(|test| holds(test, row))
 }

@@ -6,7 +6,7 @@ ghost use Rattle.ent_value.specs.declared.value.Value.{Value as Held};
 ghost use Rattle.ent_rel.specs.First.{has_first};
 ghost use Rattle.ent_semantics.specs.Selection.{holds, meets};
 ghost use Rattle.ent_semantics.specs.Term.{no_value};
-ghost use Rattle.ent_select.specs.Worth.{value_in};
+ghost use Rattle.ent_select.specs.Worth.{worth_over};
 
 use crate::term::operand_there;
 use ent_closed::Operand;
@@ -25,7 +25,7 @@ pub fn first_values(
 ) -> Result<Vec<Value>, AllocError>
     ensures kinds { IfOk result (λ values. kinds_of values.items ≡ take (length values.items) kinds.now) }
     ensures first { IfOk result (λ values. (row others : List Held) → kinds_of row ≡ kinds.now
-        → IsTrue (meets value_in tests.now ((front.now ++ row) ++ others))
+        → IsTrue (meets worth_over tests.now ((front.now ++ row) ++ others))
         → IsTrue (has_first values.items row)) }
 {
     let mut values = Vec::new(alloc);
@@ -47,7 +47,7 @@ fn wanted_value<'a>(
 ) -> Option<&'a Value>
     ensures kind { IfSome result (λ value. kind_of value.now ≡ kind) }
     ensures wanted { IfSome result (λ value. (rest : List Held)
-        → IsTrue (meets value_in tests.now (front.now ++ rest))
+        → IsTrue (meets worth_over tests.now (front.now ++ rest))
         → slice_index_or rest column no_value ≡ value.now) }
 {
     for test in tests {
@@ -67,7 +67,7 @@ fn value_of<'a>(
 ) -> Option<&'a Value>
     ensures kind { IfSome result (λ value. kind_of value.now ≡ kind) }
     ensures wanted { IfSome result (λ value. (rest : List Held)
-        → IsTrue (holds (value_in (front.now ++ rest)) test.now)
+        → IsTrue (holds (worth_over (front.now ++ rest)) test.now)
         → slice_index_or rest column no_value ≡ value.now) }
 {
     let value = equal_side(front, test, column)?;
@@ -84,7 +84,7 @@ fn equal_side<'a>(
     column: usize,
 ) -> Option<&'a Value>
     ensures { IfSome result (λ value. (rest : List Held)
-        → IsTrue (holds (value_in (front.now ++ rest)) test.now)
+        → IsTrue (holds (worth_over (front.now ++ rest)) test.now)
         → slice_index_or rest column no_value ≡ value.now) }
 {
     if test.comparison != Comparison::Equal {
@@ -102,7 +102,7 @@ fn equal_side<'a>(
 /// Whether an operand is the column of this number behind a front.
 fn is_column_behind(front: &[Value], operand: &Operand<Value>, column: usize) -> bool
     ensures { OnTrue result ((rest : List Held)
-        → value_in (front.now ++ rest) operand.now ≡ slice_index_or rest column no_value) }
+        → worth_over (front.now ++ rest) operand.now ≡ slice_index_or rest column no_value) }
 {
     match operand {
         Operand::Known(_) => false,

@@ -6,7 +6,7 @@ ghost use Rattle.ent_semantics.specs.Term.{no_value};
 ghost use Rattle.ent_select.specs.Early.{may_hold, may_meet, value_there};
 ghost use Rattle.ent_select.specs.Prepared.{prepared_value, prepared_holds, prepared_meets};
 ghost use Rattle.ent_select.specs.Prepared.{prepared_there, prepared_may_hold, prepared_may_meet};
-ghost use Rattle.ent_select.specs.Worth.{value_in};
+ghost use Rattle.ent_select.specs.Worth.{worth_over};
 
 use crate::condition::compares;
 use ent_closed::Operand;
@@ -47,7 +47,7 @@ impl PreparedTests {
         tests: &[Test<Operand<Value>>],
     ) -> Result<Self, AllocError>
         ensures meets { IfOk result (λ prepared. (row : List Held)
-            → prepared_meets prepared row ≡ meets value_in tests.now (front.now ++ row)) }
+            → prepared_meets prepared row ≡ meets worth_over tests.now (front.now ++ row)) }
         ensures may_meet { IfOk result (λ prepared. (row : List Held)
             → prepared_may_meet prepared row ≡ may_meet tests.now (front.now ++ row)) }
     {
@@ -83,7 +83,7 @@ fn prepared_test(
     test: &Test<Operand<Value>>,
 ) -> Result<PreparedTest, AllocError>
     ensures holds { IfOk result (λ prepared. (row : List Held)
-        → prepared_holds no_value row prepared ≡ holds (value_in (front.now ++ row)) test.now) }
+        → prepared_holds no_value row prepared ≡ holds (worth_over (front.now ++ row)) test.now) }
     ensures may_hold { IfOk result (λ prepared. (row : List Held)
         → prepared_may_hold row prepared ≡ may_hold (front.now ++ row) test.now) }
 {
@@ -100,7 +100,7 @@ fn prepared_operand(
     operand: &Operand<Value>,
 ) -> Result<PreparedOperand, AllocError>
     ensures value { IfOk result (λ prepared. (row : List Held)
-        → prepared_value no_value row prepared ≡ value_in (front.now ++ row) operand.now) }
+        → prepared_value no_value row prepared ≡ worth_over (front.now ++ row) operand.now) }
     ensures there { IfOk result (λ prepared. (row : List Held)
         → prepared_there row prepared ≡ value_there (front.now ++ row) operand.now) }
 {

@@ -1,7 +1,7 @@
 //! Rows that a SELECT joins and shows.
 ghost use Rattle.std.specs.Prelude.{◌≡◌, ◌++◌, IfOk, map, slice_index_or};
 ghost use Rattle.ent_semantics.specs.Term.{no_value};
-ghost use Rattle.ent_select.specs.Worth.{value_in};
+ghost use Rattle.ent_select.specs.Worth.{worth_over};
 
 use crate::term::operand_value;
 use ent_closed::Operand;
@@ -29,7 +29,7 @@ pub(crate) fn item_row(
     items: &[Operand<Value>],
     row: &[Value],
 ) -> Result<Row, AllocError>
-    ensures { IfOk result (λ shown. shown ≡ map (value_in row.now) items.now) }
+    ensures { IfOk result (λ shown. shown ≡ map (worth_over row.now) items.now) }
 {
     let none = Value::Int(0);
     let mut values = Vec::with_capacity(alloc, items.len())?;
@@ -46,7 +46,7 @@ pub(crate) fn shown_row(
     front: &[Value],
     row: &StoredRow<'_>,
 ) -> Result<Row, AllocError>
-    ensures { IfOk result (λ shown. shown ≡ map (value_in (front.now ++ row.now)) items.now) }
+    ensures { IfOk result (λ shown. shown ≡ map (worth_over (front.now ++ row.now)) items.now) }
 {
     let mut values = Vec::with_capacity(alloc, items.len())?;
     for item in items {
@@ -62,7 +62,7 @@ fn shown_value(
     front: &[Value],
     row: &StoredRow<'_>,
 ) -> Result<Value, AllocError>
-    ensures { IfOk result (λ value. value ≡ value_in (front.now ++ row.now) item.now) }
+    ensures { IfOk result (λ value. value ≡ worth_over (front.now ++ row.now) item.now) }
 {
     match item {
         Operand::Known(value) => value.copy(alloc),

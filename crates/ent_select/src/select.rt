@@ -10,7 +10,7 @@ ghost use Rattle.ent_semantics.specs.Selection.{meets, selection};
 ghost use Rattle.ent_select.specs.Combined.{combined, shown_of, AreNarrowed};
 ghost use Rattle.ent_select.specs.Prepared.{prepared_meets};
 ghost use Rattle.ent_select.specs.Tables.{rows_in, rows_listed};
-ghost use Rattle.ent_select.specs.Worth.{value_in};
+ghost use Rattle.ent_select.specs.Worth.{worth_over};
 
 use crate::condition::meets;
 use crate::first::first_values;
@@ -48,7 +48,7 @@ fn show_rows(
     found: &mut Vec<Row>,
 ) -> Result<(), AllocError>
     ensures { OnOk result (found.new.items ≡ found.old.items
-        ++ map (λ row. map (value_in (front.now ++ row)) items.now) (filter (prepared_meets tests.now) rows.entry)) }
+        ++ map (λ row. map (worth_over (front.now ++ row)) items.now) (filter (prepared_meets tests.now) rows.entry)) }
 {
     while let Some(row) = rows.next_row() {
         if tests.meets(&row) {
@@ -123,7 +123,7 @@ pub fn all(
     sources: &[NumberedTable],
 ) -> Result<Sequence<Row>, AllocError>
     ensures { IfOk result (λ rows. rows ≡ set.ascending
-        (selection (meets value_in select.now.tests) (λ row. map (value_in row) select.now.items)
+        (selection (meets worth_over select.now.tests) (λ row. map (worth_over row) select.now.items)
         (rows_in (map relation_of sources.now)))) }
 {
     let mut found = Vec::new(alloc);

@@ -3,7 +3,7 @@ ghost use Rattle.std.specs.Prelude.{◌≡◌};
 ghost use Rattle.std.specs.Option.{option_copied};
 ghost use Rattle.ent_semantics.specs.Term.{no_value};
 ghost use Rattle.ent_select.specs.Early.{value_there};
-ghost use Rattle.ent_select.specs.Worth.{value_in};
+ghost use Rattle.ent_select.specs.Worth.{worth_over};
 
 use ent_closed::Operand;
 use ent_value::Value;
@@ -15,7 +15,7 @@ pub fn operand_value<'a>(
     none: &'a Value,
 ) -> &'a Value
     requires { none.now ≡ no_value }
-    ensures { result.now ≡ value_in row.now operand.now }
+    ensures { result.now ≡ worth_over row.now operand.now }
 {
     match operand {
         Operand::Known(value) => value,

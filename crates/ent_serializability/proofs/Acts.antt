@@ -14,7 +14,7 @@ use Rattle.ent_form_laws.specs.Tables.{database_of, AreWide}
 use Rattle.ent_protocol.specs.Finish.{with_change, noted}
 use Rattle.ent_protocol.specs.Rollback.{put_back}
 use Rattle.ent_protocol.specs.State.{Change, Use}
-use Rattle.ent_serializability.specs.Faithful.{number_of, is_used, is_owned}
+use Rattle.ent_serializability.specs.Faithful.{table_number, is_used, is_owned}
 use Rattle.ent_serializability.specs.History.{History, Replays, AreSerial}
 use Rattle.ent_lists.specs.Elements.{In, Pairs, of_all, to_all, all_second, all_map, pairs_map, in_first, in_second}
 use Rattle.ent_lists.specs.Elements.{in_either, to_map, map_joined, pairs_second}
@@ -60,7 +60,8 @@ module _ (declared : List Create) (laws : Laws) (h : History → History) where
     a.0,
     f x (inl refl) first a.0
         (λ name used. serial_kept declared laws xs a.0 last name covered.1 a.2
-        (λ y at. unowned x.member y.member (number_of declared name) (of_all (AreApart x) xs y apart.0 at) used)) a.1,
+        (λ y at. unowned x.member y.member (table_number declared name)
+        (of_all (AreApart x) xs y apart.0 at) used)) a.1,
     presently xs a.0 last (λ y at. f y (inr at)) covered.1 apart.1 a.2,
   )
 

@@ -1,5 +1,5 @@
 -- What an answer makes of each member, and which statement each place of the joint answer is of.
-use Rattle.std.proofs.Common.{◌≡◌, ◌⊎◌, Bool, true, false, cond, List, [], ◌∷◌, map, refl, ap, ◌∙◌, inl, inr, Option}
+use Rattle.std.proofs.Common.{◌≡◌, ◌⊎◌, Bool, true, false, cond, List, [], ◌∷◌, refl, ap, ◌∙◌, inl, inr, Option}
 use Rattle.std.proofs.Common.{Some, None, ℕ, ◌==◌, sym}
 use Rattle.ent_tree.specs.declared.script.Statement.{Statement as TreeStatement}
 use Rattle.ent_semantics.specs.declared.answer.Fact.{Fact}

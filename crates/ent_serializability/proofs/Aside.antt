@@ -1,12 +1,11 @@
 -- Events that touch neither what members did nor the tables.
-use Rattle.std.proofs.Common.{◌≡◌, ◌<◌, ◌≤◌, ℕ, zero, suc, Bool, true, false, List, [], ◌∷◌, ◌++◌, map, length, refl}
-use Rattle.std.proofs.Common.{sym, ap, subst, ◌∙◌, inl, inr, arith, All, AllPairs, Contains, slice_index_or, flat_map}
+use Rattle.std.proofs.Common.{◌≡◌, ◌<◌, ◌≤◌, ℕ, true, false, List, [], ◌∷◌, ◌++◌, refl}
+use Rattle.std.proofs.Common.{sym, ap, subst, ◌∙◌, inl, inr, arith, flat_map}
 use Rattle.std.proofs.Common.{◌==◌}
 use Rattle.std.specs.List.{AllByRecursion, filter, list_any}
-use Rattle.ent_semantics.specs.Serial.{numbered}
 use Rattle.ent_coordination.specs.Pool.{Posted}
 use Rattle.ent_protocol.specs.Job.{Job, Work, One, Joint, tables_of}
-use Rattle.ent_protocol.specs.Member.{Next, Ordinary, Asks, Commits, RollsBack, next_in, next_of, posted_by, pool}
+use Rattle.ent_protocol.specs.Member.{posted_by, pool}
 use Rattle.ent_protocol.specs.Member.{is_tx, seen_now}
 use Rattle.ent_protocol.specs.PoolEvents.{IsPresentComponent, answered_groups, joint_job, joint_uses}
 use Rattle.ent_protocol.specs.Run.{Forms}
@@ -18,7 +17,7 @@ use Rattle.ent_serializability.specs.Faithful.{is_used}
 use Rattle.ent_serializability.proofs.Answered.{OtherPostedQuery, IsPresent}
 use Rattle.ent_lists.specs.Elements.{In, Pairs, of_all, to_all, all_joined, any_in, to_map, to_filter, pairs_by}
 use Rattle.ent_lists.specs.Elements.{in_first, in_second, in_either, nobody, pairs_joined}
-use Rattle.ent_lists.specs.Elements.{all_index, contains_in, in_contains, in_flat, index_pairs, number_itself}
+use Rattle.ent_lists.specs.Elements.{contains_in, index_pairs, number_itself}
 use Rattle.ent_serializability.proofs.Outcomes.{seen_same, used_first, used_second}
 use Rattle.ent_serializability.proofs.Operations.{HoldsUses}
 use Rattle.ent_serializability.proofs.Locks.{used_got}

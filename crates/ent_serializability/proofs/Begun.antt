@@ -12,7 +12,7 @@ use Rattle.ent_protocol.specs.Run.{Forms}
 use Rattle.ent_protocol.specs.State.{State, Member, Use}
 use Rattle.ent_protocol.specs.Uses.{blocker}
 use Rattle.ent_protocol_laws.proofs.Lent.{replaced_here}
-use Rattle.ent_serializability.specs.Faithful.{number_of, is_used, is_owned}
+use Rattle.ent_serializability.specs.Faithful.{table_number, is_used, is_owned}
 use Rattle.ent_serializability.specs.History.{History, Replays}
 use Rattle.ent_serializability.specs.SerialState.{Follows, IsWhole}
 use Rattle.ent_lists.specs.Elements.{In, Pairs, of_all, to_all, all_by, in_first, in_second, in_either, of_map, to_map}
@@ -85,10 +85,10 @@ module _ {F : Type 0} (forms : Forms F) (laws : Laws) (s : State) (kept : Kept f
       record {
         reads = all_by (λ operation. Covers (held s.opening.tables x.member.uses) operation.statement)
             (λ operation. Covers (held s.opening.tables new.uses) operation.statement) x.operations
-            (λ operation c name used. (holds_more x.member asked (number_of s.opening.tables name)).0 (c name used))
+            (λ operation c name used. (holds_more x.member asked (table_number s.opening.tables name)).0 (c name used))
             covered.reads;
         writes = all_by (WritesWithin s.opening.tables x.member.uses) (WritesWithin s.opening.tables new.uses) x.operations
-            (λ operation c name used. (holds_more x.member asked (number_of s.opening.tables name)).1 (c name used))
+            (λ operation c name used. (holds_more x.member asked (table_number s.opening.tables name)).1 (c name used))
             covered.writes;
         within = λ table used. elim (used_from asked x.member.uses table used) [
           | inl a ↦ low table a

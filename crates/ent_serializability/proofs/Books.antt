@@ -3,6 +3,7 @@ use Rattle.std.proofs.Common.{◌≡◌, ℕ, zero, suc, cond, List, [], ◌∷�
 use Rattle.std.proofs.Common.{◌∙◌, inl, inr, Some, Contains, slice_get}
 use Rattle.std.specs.List.{AllByRecursion}
 use Rattle.std.specs.Option.{option_map, option_and_then}
+use Rattle.std.proofs.lemmas.Simd.{map-map}
 use Rattle.ent_tree.specs.declared.declaration.Create.{Create}
 use Rattle.ent_tree.specs.declared.script.Statement.{Statement}
 use Rattle.ent_tree.specs.declared.script.Statement.TheVariants as statements
@@ -27,7 +28,7 @@ use Rattle.ent_serializability.specs.History.{History, Replays, AreSerial}
 use Rattle.ent_serializability.specs.SerialState.{IsOracled, IsWhole}
 use Rattle.ent_lists.specs.Elements.{In, all_joined, all_first, of_all}
 use Rattle.ent_serializability.proofs.Frame.{Laws}
-use Rattle.ent_serializability.proofs.Kept.{Kept, entry_from, map_map}
+use Rattle.ent_serializability.proofs.Kept.{Kept, entry_from}
 use Rattle.ent_lists.specs.Elements.{contains_in}
 use Rattle.ent_serializability.proofs.Reached.{reached_kept}
 
@@ -175,7 +176,7 @@ module _ {F : Type 0} (forms : Forms F) (s : State) (kept : Kept forms s) where
   run_gives_book =
       record {
         in_order = turns_order s.submitted kept.committed committed_whole
-            ∙ sym (map_map entry_from (λ (e : Entry). e.tx) kept.committed)
+            ∙ sym (map-map (λ (e : Entry). e.tx) entry_from kept.committed)
             ∙ ap (map (λ (e : Entry). e.tx)) kept.journal;
         own_scripts = λ turn at.
             turns_scripts s.submitted kept.committed committed_whole turn
@@ -184,7 +185,7 @@ module _ {F : Type 0} (forms : Forms F) (s : State) (kept : Kept forms s) where
             (opening_database s.opening) kept.base kept.settles
             ∙ (λ i. Some (record {
               database = database_is i;
-              answers = (sym (map_map entry_from (λ (e : Entry). e.answers) kept.committed)
+              answers = (sym (map-map (λ (e : Entry). e.answers) entry_from kept.committed)
                   ∙ ap (map (λ (e : Entry). e.answers)) kept.journal) i;
             }));
       }

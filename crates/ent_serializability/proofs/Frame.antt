@@ -25,7 +25,7 @@ use Rattle.ent_closed.specs.declared.operand.Known.{Known}
 use Rattle.ent_closed.specs.declared.statement.Statement.{Statement as FormStatement}
 use Rattle.ent_protocol.specs.Member.{environment_of}
 use Rattle.ent_protocol.specs.State.{Member, Use}
-use Rattle.ent_serializability.specs.Faithful.{number_of, is_used, is_owned}
+use Rattle.ent_serializability.specs.Faithful.{table_number, is_used, is_owned}
 use Rattle.ent_serializability.specs.History.{History, Replays, AreSerial}
 use Rattle.ent_lists.specs.Elements.{In, Pairs, all_by, all_first, all_second, all_joined, all_filtered, of_all, to_all}
 use Rattle.ent_lists.specs.Elements.{of_filter, clash, not_so, or_first, or_second, or_cases}
@@ -69,10 +69,10 @@ pub record Laws : Type 0 where
 -- ---- uses by name
 
 abbrev pub held : List Create → List Use → Name → Bool
-held declared uses name = is_used uses (number_of declared name)
+held declared uses name = is_used uses (table_number declared name)
 
 abbrev pub owned : List Create → List Use → Name → Bool
-owned declared uses name = is_owned uses (number_of declared name)
+owned declared uses name = is_owned uses (table_number declared name)
 
 -- an operation changes tables that are used exclusively
 abbrev pub WritesWithin : List Create → List Use → Operation → Type 0
@@ -256,7 +256,7 @@ module _ (declared : List Create) (laws : Laws) where
       → Agree (held declared other.member.uses) first next
   past_agree one other first next covered apart replays name used =
       sym (kept one first next name covered replays
-      (unowned other.member one.member (number_of declared name) apart used))
+      (unowned other.member one.member (table_number declared name) apart used))
 
   pub swap : (one other : History) (first next last : Database) → IsCovered declared one → IsCovered declared other
       → Apart one.member other.member → Replays declared one first next → Replays declared other next last
@@ -282,20 +282,20 @@ module _ (declared : List Create) (laws : Laws) where
           by (owned declared one.member.uses name) refl (owned declared other.member.uses name) refl
         where
           number : ℕ
-          number = number_of declared name
+          number = table_number declared name
 
           by : (a : Bool) → owned declared one.member.uses name ≡ a → (b : Bool)
               → owned declared other.member.uses name ≡ b → end name ≡ last name
           by true is b no_matter =
-              sym (also_alike name (owned_used one.member.uses (number_of declared name) is))
+              sym (also_alike name (owned_used one.member.uses (table_number declared name) is))
               ∙ sym (kept other next last name also there
               (not_so (owned declared other.member.uses name) (λ both.
-              clash (is_used other.member.uses (number_of declared name))
-              (owned_used other.member.uses (number_of declared name) both)
-              ((apart (number_of declared name)).0 is))))
+              clash (is_used other.member.uses (table_number declared name))
+              (owned_used other.member.uses (table_number declared name) both)
+              ((apart (table_number declared name)).0 is))))
           by false is true too =
               kept one between end name covered second is
-              ∙ sym (alike name (owned_used other.member.uses (number_of declared name) too))
+              ∙ sym (alike name (owned_used other.member.uses (table_number declared name) too))
           by false is false too =
               kept one between end name covered second is ∙ kept other first between name also moved too
               ∙ sym (kept one first next name covered here is) ∙ sym (kept other next last name also there too)

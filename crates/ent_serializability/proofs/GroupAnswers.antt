@@ -24,7 +24,8 @@ use Rattle.ent_serializability.specs.History.{History, Replays}
 use Rattle.ent_lists.specs.Elements.{contains_in, in_contains}
 use Rattle.ent_serializability.proofs.Asks.{Ask, ask_of, ask_member, history_asks, read_views_asks}
 use Rattle.ent_serializability.proofs.Frame.{Laws}
-use Rattle.ent_serializability.proofs.Good.{histories_ask, histories_grounded, good_over}
+use Rattle.ent_serializability.proofs.Good.{histories_ask, histories_grounded}
+use Rattle.ent_serializability.proofs.GoodOver.{good_over}
 use Rattle.ent_serializability.proofs.GroupRuns.{unprepared, group_runs, its_prepared, are_others}
 use Rattle.ent_serializability.proofs.Joints.{JointsRight, AsksOf, right_part, of_own}
 use Rattle.ent_serializability.proofs.Kept.{Kept}
@@ -224,7 +225,7 @@ module _ {F : Type 0} (forms : Forms F) (laws : Laws) (s : State) (kept : Kept f
           others = others;
           of_others = are_others forms laws s kept group;
           good = λ joint live of.
-              good_over s.opening.tables did seen (filter (is_joint_of own) s.joints) asks_are grounded its_right joint
+              good_over did seen asks_are (filter (is_joint_of own) s.joints) its_right s.opening.tables grounded joint
               (of_own_group joint live of);
         }
 

@@ -7,7 +7,7 @@ use Rattle.ent_protocol.specs.Member.{is_of}
 use Rattle.ent_protocol.specs.Reached.{IsReached}
 use Rattle.ent_protocol.specs.Run.{Forms}
 use Rattle.ent_protocol.specs.State.{State, Member, members}
-use Rattle.ent_serializability.specs.Faithful.{AreFaithful, number_of, is_used}
+use Rattle.ent_serializability.specs.Faithful.{AreFaithful, table_number, is_used}
 use Rattle.ent_serializability.specs.GroupRuns.{HasUsed, NotOwned, present_database, settled_database, RunsFrom}
 use Rattle.ent_serializability.specs.GroupRuns.{GroupRuns}
 use Rattle.ent_serializability.specs.GroupRuns.{UnownedIsSettled}
@@ -176,14 +176,14 @@ module _ {F : Type 0} (forms : Forms F) (laws : Laws) (s : State) (kept : Kept f
           (λ y other. other_number y.member.tx x.member.tx other)) moved in
           record { last = first.0; replays = first.1; after = first.2 }
 
-      stands_so : (name : Name) → is_used x.member.uses (number_of s.opening.tables name) ≡ true
+      stands_so : (name : Name) → is_used x.member.uses (table_number s.opening.tables name) ≡ true
           → present_database s name ≡ ran.last name
       stands_so name used =
           serial_kept s.opening.tables laws (filter (λ y. not (is_it y)) rest) ran.last (present_database s) name
           (all_filtered (IsCovered s.opening.tables) (λ y. not (is_it y)) rest rest_covered) ran.after
           (λ y bt.
           let r = of_filter (λ z. not (is_it z)) rest y bt in
-          unowned x.member y.member (number_of s.opening.tables name)
+          unowned x.member y.member (table_number s.opening.tables name)
           (apart_turned y.member x.member (apart_from y r.0 (turned (is_it y) r.1))) used)
 
     runs_from : (member : Member) → Contains s.active member → member.group ≡ group
@@ -201,7 +201,7 @@ module _ {F : Type 0} (forms : Forms F) (laws : Laws) (s : State) (kept : Kept f
           replays = (ran x h.1 of_group).replays;
           present = λ name used.
               stands_so x h.1 of_group name
-              (ap (λ (m : Member). is_used m.uses (number_of s.opening.tables name)) (sym h.2) ∙ used);
+              (ap (λ (m : Member). is_used m.uses (table_number s.opening.tables name)) (sym h.2) ∙ used);
         }
 
     left_as : (user : Member) (name : Name) → Contains (members s) user → user.group ≡ group → HasUsed s user name
@@ -212,16 +212,16 @@ module _ {F : Type 0} (forms : Forms F) (laws : Laws) (s : State) (kept : Kept f
         let x : History = u.0 in
         let of_group : in_group x ≡ true =
         ap (λ (m : Member). m.group == group) (sym u.2) ∙ ap (λ n. n == group) same ∙ number_itself group in
-        let uses : is_used x.member.uses (number_of s.opening.tables name) ≡ true =
-        ap (λ (m : Member). is_used m.uses (number_of s.opening.tables name)) (sym u.2) ∙ used in
+        let uses : is_used x.member.uses (table_number s.opening.tables name) ≡ true =
+        ap (λ (m : Member). is_used m.uses (table_number s.opening.tables name)) (sym u.2) ∙ used in
         serial_kept s.opening.tables laws rest begun.start (present_database s) name rest_covered begun.goes_on
         (λ y yt. by x u.1 of_group uses y yt (in_group y) refl)
       where
         by : (x : History) → In x (kept.prepared ++ kept.others) → in_group x ≡ true
-            → is_used x.member.uses (number_of s.opening.tables name) ≡ true → (y : History) → In y rest
+            → is_used x.member.uses (table_number s.opening.tables name) ≡ true → (y : History) → In y rest
             → (b : Bool) → in_group y ≡ b → owned s.opening.tables y.member.uses name ≡ false
         by x xt of_group uses y yt false out =
-            unowned x.member y.member (number_of s.opening.tables name)
+            unowned x.member y.member (table_number s.opening.tables name)
             (groups_apart x y xt (rest_in y yt) (λ e. differs y x out of_group (sym e))) uses
         by x xt of_group uses y yt true is =
             elim (in_either other_ones kept.others y yt) [

@@ -1,16 +1,12 @@
 -- What holds of the jobs that are lent, and that it goes on to hold.
-use Rattle.std.proofs.Common.{◌≡◌, ◌⊎◌, ◌<◌, ◌≤◌, ℕ, zero, suc, ◌==◌, true, false, List, [], ◌∷◌, refl, sym}
-use Rattle.std.proofs.Common.{ap, subst, ◌∙◌, inl, inr, arith, Option, Some, None}
+use Rattle.std.proofs.Common.{◌≡◌, ◌⊎◌, ◌<◌, ◌≤◌, ℕ, ◌==◌, true, false, List, refl, sym}
+use Rattle.std.proofs.Common.{ap, subst, ◌∙◌, inl, inr, arith}
 use Rattle.std.specs.List.{AllByRecursion}
-use Rattle.ent_tree.specs.declared.script.Script.{Script}
 use Rattle.ent_semantics.specs.Serial.{numbered}
-use Rattle.ent_closed.specs.Closing.{closed}
 use Rattle.ent_closed.specs.Form.{Tables}
-use Rattle.ent_closed.specs.declared.operand.Known.{Known}
-use Rattle.ent_closed.specs.declared.statement.Statement.{Statement}
 use Rattle.ent_coordination.specs.Pool.{Posted}
 use Rattle.ent_protocol.specs.Job.{Job, Work, One, Joint, Single, tables_of}
-use Rattle.ent_protocol.specs.Member.{Ordinary, next_in, statement_next, environment_of, is_single_of}
+use Rattle.ent_protocol.specs.Member.{Ordinary, next_in, is_single_of}
 use Rattle.ent_protocol.specs.PostedBy.{next_same}
 use Rattle.ent_protocol.specs.State.{Submitted, Member, Use}
 use Rattle.ent_protocol.specs.Uses.{statement_uses, entangled_uses}

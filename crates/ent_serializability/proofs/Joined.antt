@@ -29,7 +29,7 @@ use Rattle.ent_protocol.specs.PoolEvents.{joint_answer}
 use Rattle.ent_protocol.specs.Run.{Forms}
 use Rattle.ent_protocol.specs.State.{State, Member}
 use Rattle.ent_protocol.specs.Uses.{statement_uses, entangled_uses}
-use Rattle.ent_serializability.specs.Faithful.{number_of, is_used, is_owned, IsFaithful, IsFaithfulEntangled}
+use Rattle.ent_serializability.specs.Faithful.{table_number, is_used, is_owned, IsFaithful, IsFaithfulEntangled}
 use Rattle.ent_serializability.specs.Faithful.{AreFaithful}
 use Rattle.ent_serializability.specs.History.{History, Replays}
 use Rattle.ent_serializability.specs.SerialState.{Follows, IsWhole, IsOracled}
@@ -166,8 +166,8 @@ module _ {F : Type 0} (forms : Forms F) (laws : Laws) (s : State) (kept : Kept f
       let grounds : is_form_grounding (λ value. value) s.tables asks_for values ≡ true =
       sym (grounding_same seen s.tables asks_for values r.asks.alike) ∙ r.answered.grounds in
       let covers : Covers (held s.opening.tables x.member.uses) (tree.Entangled entangled) =
-      λ name used. (r.asks.holds (number_of s.opening.tables name)).0
-      (subst (λ e. is_used (entangled_uses e) (number_of s.opening.tables name) ≡ true) closes
+      λ name used. (r.asks.holds (table_number s.opening.tables name)).0
+      (subst (λ e. is_used (entangled_uses e) (table_number s.opening.tables name) ≡ true) closes
       (faith.reads (environment_of x.member) name used)) in
       replays_pushed s.opening.tables laws x
       (with_operation x (in_joined_group groups (answered_by r.answered.query values x.member))

@@ -12,7 +12,7 @@ use Rattle.ent_protocol.specs.State.{Member}
 use Rattle.ent_serializability.specs.History.{History}
 use Rattle.ent_lists.specs.Elements.{pairs_by, In, Pairs, in_first, in_second, in_either, of_filter, to_filter}
 use Rattle.ent_lists.specs.Elements.{pairs_joined, pairs_first, pairs_second, pairs_across, any_none, any_some, clash}
-use Rattle.ent_lists.specs.Elements.{turned}
+use Rattle.ent_lists.specs.Elements.{turned, in_flat, to_flat}
 use Rattle.ent_serializability.proofs.Asks.{Ask, ask_member, ask_heads, ask_posts, history_asks, asks_tx}
 
 abbrev pub OtherTx : JointMember → JointMember → Type 0
@@ -45,27 +45,15 @@ right_same A B joints f g right =
       met = λ j jt a b at post pt. let r = right.met j jt a (g a b) at post pt in (r.0, f r.0 r.1, r.2, r.3);
     }
 
-pub members_in : (joints : List JointAnswer) (m : JointMember) → In m (all_members joints)
-    → (joint : JointAnswer) × In joint joints × In m joint.members
-members_in [] m at = absurd at
-members_in (j ∷ js) m at =
-    elim (in_either j.members (all_members js) m at) [
-      | inl a ↦ (j, inl refl, a)
-      | inr b ↦ let r = members_in js m b in (r.0, inr r.1, r.2)
-    ]
-
-pub in_members : (joints : List JointAnswer) (joint : JointAnswer) (m : JointMember) → In joint joints
-    → In m joint.members → In m (all_members joints)
-in_members (j ∷ js) joint m (inl same) mt =
-    in_first j.members (all_members js) m (subst (λ (x : JointAnswer). In m x.members) same mt)
-in_members (j ∷ js) joint m (inr at) mt = in_second j.members (all_members js) m (in_members js joint m at mt)
-in_members [] joint m at mt = absurd at
+-- the members of a joint answer
+abbrev pub members_of : JointAnswer → List JointMember
+members_of joint = joint.members
 
 members_filtered : (p : JointAnswer → Bool) (joints : List JointAnswer) (m : JointMember)
     → In m (all_members (filter p joints)) → In m (all_members joints)
 members_filtered p joints m at =
-    let r = members_in (filter p joints) m at in
-    in_members joints r.0 m (of_filter p joints r.0 r.1).0 r.2
+    let r = in_flat members_of (filter p joints) m at in
+    to_flat members_of joints r.0 m (of_filter p joints r.0 r.1).0 r.2
 
 once_filtered : (p : JointAnswer → Bool) (joints : List JointAnswer) → Pairs AreApart (all_members joints)
     → Pairs AreApart (all_members (filter p joints))
@@ -129,8 +117,8 @@ right_joined A B js ks apart left right =
       ];
       once = subst (Pairs AreApart) (sym (joined_members js ks))
           (pairs_joined AreApart (all_members js) (all_members ks) left.once right.once (λ m n mt nt.
-          let j = members_in js m mt in
-          let k = members_in ks n nt in
+          let j = in_flat members_of js m mt in
+          let k = in_flat members_of ks n nt in
           let a = left.down j.0 j.1 m j.2 in
           let b = right.down k.0 k.1 n k.2 in
           subst (λ x. AreApart x n) (sym a.2) (subst (AreApart (ask_member a.0)) (sym b.2) (apart a.0 b.0 a.1 b.1))));

@@ -2,6 +2,7 @@
 use Rattle.std.proofs.Common.{◌≡◌, ◌==◌, true, false, cond, List, [], ◌∷◌, ◌++◌, map}
 use Rattle.std.proofs.Common.{refl, sym, ap, subst, ◌∙◌, inl, inr, Some, Ok}
 use Rattle.std.specs.List.{AllByRecursion}
+use Rattle.std.proofs.lemmas.Simd.{map-map}
 use Rattle.ent_value.specs.declared.value.Value.{Value}
 use Rattle.ent_semantics.specs.declared.book.Entry.{Entry}
 use Rattle.ent_semantics.specs.declared.book.Fated.{Fated}
@@ -94,10 +95,6 @@ pub record Kept {F : Type 0} (forms : Forms F) (s : State) : Type 0 where
 
 -- ---- maps
 
-pub map_map : {X Y Z : Type 0} (f : X → Y) (g : Y → Z) (xs : List X) → map g (map f xs) ≡ map (λ x. g (f x)) xs
-map_map f g [] = refl
-map_map f g (x ∷ xs) = ap (λ more. g (f x) ∷ more) (map_map f g xs)
-
 pub map_alike : {X Y : Type 0} (f g : X → Y) (xs : List X) → ((x : X) → In x xs → f x ≡ g x) → map f xs ≡ map g xs
 map_alike f g [] h = refl
 map_alike f g (x ∷ xs) h =
@@ -120,7 +117,7 @@ same_mapped {X} {Y} f xs ys same y = (
 pub members_mapped : (h : History → History) (f : Member → Member) (xs : List History)
     → ((x : History) → In x xs → (h x).member ≡ f x.member) → map member_of (map h xs) ≡ map f (map member_of xs)
 members_mapped h f xs is =
-    map_map h member_of xs ∙ map_alike (λ x. (h x).member) (λ x. f x.member) xs is ∙ sym (map_map member_of f xs)
+    map-map member_of h xs ∙ map_alike (λ x. (h x).member) (λ x. f x.member) xs is ∙ sym (map-map f member_of xs)
 
 -- ---- members that become others, the tables being as they are
 

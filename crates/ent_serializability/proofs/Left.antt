@@ -2,6 +2,7 @@
 use Rattle.std.proofs.Common.{suc, length, ◌≡◌, ◌⊎◌, ℕ, Bool, true, false, not, List, ◌++◌, map, refl, sym, ap, subst}
 use Rattle.std.proofs.Common.{◌∙◌, inl, inr, Some}
 use Rattle.std.specs.List.{filter, list_any, filter_map}
+use Rattle.std.proofs.lemmas.Simd.{map-map}
 use Rattle.ent_semantics.specs.Database.{opening_database}
 use Rattle.ent_semantics.specs.Serial.{numbered}
 use Rattle.ent_semantics.specs.declared.book.Fated.{Fated}
@@ -29,7 +30,7 @@ use Rattle.ent_serializability.proofs.Locks.{by_number_same, by_number_pairs}
 use Rattle.ent_serializability.proofs.Jobs.{OtherJob, jobs_moved, stays_as_is}
 use Rattle.ent_serializability.proofs.Kept.{Kept, PostedHolds, OtherMember, OtherFated, OtherDormant, member_of}
 use Rattle.ent_serializability.proofs.Kept.{entry_from}
-use Rattle.ent_serializability.proofs.Kept.{map_map, history_of, active_at, prepared_at, one_history, in_all}
+use Rattle.ent_serializability.proofs.Kept.{history_of, active_at, prepared_at, one_history, in_all}
 use Rattle.ent_serializability.proofs.Joints.{JointsStand, stand_committed, stand_left}
 use Rattle.ent_serializability.proofs.Fates.{of_dormant, dormant_pairs, of_commit, to_commit, commit_pairs, of_fated}
 use Rattle.ent_serializability.proofs.Fates.{fated_pairs, fate_or_dormant}
@@ -270,7 +271,7 @@ module _ {F : Type 0} (forms : Forms F) (laws : Laws) (s : State) (kept : Kept f
       where
         entries : map entry_from (filter (leaves gone) kept.prepared) ≡ map entry_of (committing_members s group)
         entries =
-            sym (map_map member_of entry_of (filter (leaves gone) kept.prepared))
+            sym (map-map entry_of member_of (filter (leaves gone) kept.prepared))
             ∙ ap (map entry_of) (prepared_left (is_of group) gone gone_is)
 
   -- ---- members are taken out

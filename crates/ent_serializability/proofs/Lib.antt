@@ -25,6 +25,7 @@ pub mod Asks
 pub mod Joints
 pub mod Answered
 pub mod Moved
+pub mod GoodOver
 pub mod Legal
 pub mod Once
 pub mod GroupRuns

@@ -20,11 +20,11 @@ use Rattle.ent_serializability.specs.SerialState.{Follows, IsWhole}
 use Rattle.ent_lists.specs.Elements.{contains_in, in_contains, same_number, number_itself}
 use Rattle.ent_serializability.proofs.Asks.{Ask, ask_member, asks_at, asks_of, history_asks, next_environment}
 use Rattle.ent_serializability.proofs.Frame.{Laws}
-use Rattle.ent_serializability.proofs.Joints.{in_members, of_own}
+use Rattle.ent_serializability.proofs.Joints.{members_of, of_own}
 use Rattle.ent_serializability.proofs.Kept.{Kept, entry_from, member_of, history_of, active_at, prepared_at}
 use Rattle.ent_lists.specs.Elements.{In, Pairs, of_all, to_all, in_first, in_second, in_either, of_map, to_map, any_in}
 use Rattle.ent_lists.specs.Elements.{any_some, pairs_second, pairs_across}
-use Rattle.ent_lists.specs.Elements.{NotBoth, and_both, both_and, only_one}
+use Rattle.ent_lists.specs.Elements.{NotBoth, and_both, both_and, only_one, to_flat}
 use Rattle.ent_serializability.proofs.Reached.{reached_kept}
 
 -- ---- the joint answers of a statement
@@ -51,7 +51,8 @@ module _ (tx place : ℕ) where
     to_all (NotBoth (stands_in tx place) joint) more (λ other at one two.
         let a = member_there joint one in
         let b = member_there other two in
-        pairs_across AreApart joint.members (all_members more) a.0 b.0 pairs a.1 (in_members more other b.0 at b.1)
+        pairs_across AreApart joint.members (all_members more) a.0 b.0 pairs a.1
+        (to_flat members_of more other b.0 at b.1)
         (a.2 ∙ sym b.2) (a.3 ∙ sym b.3)),
     not_both more (pairs_second AreApart joint.members (all_members more) pairs),
   )

@@ -30,7 +30,8 @@ use Rattle.ent_protocol.specs.Finish.{with_change, with_bound}
 use Rattle.ent_protocol.specs.Member.{Ordinary, statement_next, environment_of}
 use Rattle.ent_protocol.specs.State.{Submitted, Member, Use}
 use Rattle.ent_protocol.specs.Uses.{exclusive, statement_uses}
-use Rattle.ent_serializability.specs.Faithful.{number_of, is_used, is_owned, IsFaithful, IsFaithfulEntangled, AreAlike}
+use Rattle.ent_serializability.specs.Faithful.{table_number, is_used, is_owned}
+use Rattle.ent_serializability.specs.Faithful.{IsFaithful, IsFaithfulEntangled, AreAlike}
 use Rattle.ent_serializability.specs.History.{History}
 use Rattle.ent_serializability.specs.SerialState.{IsOracled, Follows}
 use Rattle.ent_lists.specs.Elements.{all_joined, same_number, number_itself}
@@ -144,14 +145,16 @@ module _ (creates : List Create) (x : History) (member : Member) (st : TreeState
             (x.operations ++ record { statement = st; valuation = valuation } ∷ [])) (sym uses)
             (all_joined (λ d. Covers (held creates x.member.uses) d.statement) x.operations
             (record { statement = st; valuation = valuation } ∷ []) covered.reads (
-              (λ name used. (holds (number_of creates name)).0 (faithful.reads (environment_of x.member) name used)),
+              (λ name used. (holds (table_number creates name)).0
+                  (faithful.reads (environment_of x.member) name used)),
               tt,
             ));
         writes = subst (λ held_uses. AllByRecursion (WritesWithin creates held_uses)
             (x.operations ++ record { statement = st; valuation = valuation } ∷ [])) (sym uses)
             (all_joined (WritesWithin creates x.member.uses) x.operations
             (record { statement = st; valuation = valuation } ∷ []) covered.writes (
-              (λ name used. (holds (number_of creates name)).1 (faithful.writes (environment_of x.member) name used)),
+              (λ name used. (holds (table_number creates name)).1
+                  (faithful.writes (environment_of x.member) name used)),
               tt,
             ));
         within = subst (λ (held_uses : List Use). (table : ℕ) → is_used held_uses table ≡ true

@@ -2,6 +2,7 @@
 use Rattle.std.proofs.Common.{Bool, ◌≡◌, ◌≤◌, ℕ, suc, ◌==◌, true, false, not, List, [], ◌∷◌, ◌++◌, map, length, take}
 use Rattle.std.proofs.Common.{drop, refl, sym, ap, subst, ◌∙◌, inl, inr, arith, Some, Ok, slice_get, take-append-drop}
 use Rattle.std.specs.List.{AllByRecursion, filter}
+use Rattle.std.proofs.lemmas.Simd.{map-map}
 use Rattle.ent_tree.specs.declared.declaration.Create.{Create}
 use Rattle.ent_tree.specs.declared.declaration.Opening.{Opening}
 use Rattle.ent_tree.specs.declared.script.Script.{Script}
@@ -34,7 +35,6 @@ use Rattle.ent_serializability.proofs.Sound.{Fit, AreApart, Sound, IsOwner}
 use Rattle.ent_serializability.proofs.Locks.{by_number_same, by_number_pairs}
 use Rattle.ent_serializability.proofs.Jobs.{JobRight, WorkRight}
 use Rattle.ent_serializability.proofs.Kept.{Kept, PostedHolds, OtherDormant, OtherMember, member_of, history_of}
-use Rattle.ent_serializability.proofs.Kept.{map_map}
 use Rattle.ent_serializability.proofs.Kept.{active_at, prepared_at, one_history}
 use Rattle.ent_serializability.proofs.Left.{takes_out, fit_at}
 use Rattle.ent_serializability.proofs.Asks.{history_asks}
@@ -296,7 +296,7 @@ module _ {F : Type 0} (forms : Forms F) (s : State) (kept : Kept forms s) (off :
         journal = kept.journal;
         of_prepared = kept.of_prepared;
         same = λ m.
-            let e = map_map begun member_of firsts in (
+            let e = map-map member_of begun firsts in (
               λ at. (by_number_same (λ (x : Member). x.tx) (map fresh firsts) m).1 (subst (In m) e at),
               λ at. subst (In m) (sym e) ((by_number_same (λ (x : Member). x.tx) (map fresh firsts) m).0 at),
             );

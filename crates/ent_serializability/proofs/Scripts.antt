@@ -69,14 +69,14 @@ ends_committing Commit e = refl
 ends_committing Rollback e = cc
 
 -- a form stands at this index, and closed it is this
-pub record StandsAt (form : List (Statement Known)) (index : ℕ) (member : Member) (is : Statement Value) : Type 0 where
+pub record ClosesAt (form : List (Statement Known)) (index : ℕ) (member : Member) (is : Statement Value) : Type 0 where
   pub statement : Statement Known
   pub at : slice_get form index ≡ Some statement
   pub closes : closed (environment_of member) statement ≡ is
 
 ordinary_in : (script : Script) (form : List (Statement Known)) (member : Member) (n : ℕ) (st : Statement Value)
     → next_in (Some (record { script = script; form = form })) (record member { place = suc n }) ≡ Ordinary st
-    → (stands : StandsAt form n member st)
+    → (stands : ClosesAt form n member st)
     × (statement_next (closed (environment_of member) stands.statement) ≡ Ordinary st)
 ordinary_in script [] member n st e = ends_ordinary script.end st e
 ordinary_in script (f ∷ fs) member zero st e =
@@ -87,7 +87,7 @@ ordinary_in script (f ∷ fs) member (suc n) st e =
 
 posting_in : (script : Script) (form : List (Statement Known)) (member : Member) (n : ℕ) (asked : Entangled Value)
     → next_in (Some (record { script = script; form = form })) (record member { place = suc n }) ≡ Asks asked
-    → StandsAt form n member (statements.Entangled asked)
+    → ClosesAt form n member (statements.Entangled asked)
 posting_in script [] member n asked e = ends_posting script.end asked e
 posting_in script (f ∷ fs) member zero asked e =
     record { statement = f; at = refl; closes = posting_statement (closed (environment_of member) f) asked e }
@@ -107,12 +107,12 @@ module _ (own : Submitted) (member : Member) (n : ℕ) (place : member.place ≡
   there = λ i. next_in (Some own) (record member { place = place i })
 
   pub next_ordinary : (st : Statement Value) → next_in (Some own) member ≡ Ordinary st
-      → (stands : StandsAt own.form n member st)
+      → (stands : ClosesAt own.form n member st)
       × (statement_next (closed (environment_of member) stands.statement) ≡ Ordinary st)
   next_ordinary st e = ordinary_in own.script own.form member n st (sym there ∙ e)
 
   pub next_posting : (asked : Entangled Value) → next_in (Some own) member ≡ Asks asked
-      → StandsAt own.form n member (statements.Entangled asked)
+      → ClosesAt own.form n member (statements.Entangled asked)
   next_posting asked e = posting_in own.script own.form member n asked (sym there ∙ e)
 
   pub next_committing : next_in (Some own) member ≡ Commits

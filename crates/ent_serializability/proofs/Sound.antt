@@ -10,7 +10,7 @@ use Rattle.ent_form_laws.specs.Tables.{database_of, AreWide}
 use Rattle.ent_protocol.specs.Member.{is_tx}
 use Rattle.ent_protocol.specs.Rollback.{put_back}
 use Rattle.ent_protocol.specs.State.{Change}
-use Rattle.ent_serializability.specs.Faithful.{number_of, is_used, is_owned}
+use Rattle.ent_serializability.specs.Faithful.{table_number, is_used, is_owned}
 use Rattle.ent_serializability.specs.History.{History, AreSerial}
 use Rattle.ent_lists.specs.Elements.{In, Pairs, of_all, to_all, all_by, all_joined, all_filtered, of_filter, to_filter}
 use Rattle.ent_lists.specs.Elements.{filter_empty, filter_joined, same_parted, pairs_of, pairs_filtered, pairs_joined}
@@ -206,22 +206,22 @@ module _ (declared : List Create) (laws : Laws) (base : Database) (ps us : List 
       → owned declared y.member.uses name ≡ false
   rest_keeps name changed y at no_matter =
       not_so (owned declared y.member.uses name) (λ is.
-      clash (is_used y.member.uses (number_of declared name))
-      (owned_used y.member.uses (number_of declared name) is)
-      ((divided changed.by y changed.at at changed.goes no_matter (number_of declared name)).0 changed.owns))
+      clash (is_used y.member.uses (table_number declared name))
+      (owned_used y.member.uses (table_number declared name) is)
+      ((divided changed.by y changed.at at changed.goes no_matter (table_number declared name)).0 changed.owns))
 
-  low : (name : Name) → IsChanged name → number_of declared name < length tables
+  low : (name : Name) → IsChanged name → table_number declared name < length tables
   low name changed =
-      subst (λ n. number_of declared name < n) (sym (wide_length declared tables sound.wide))
-      ((of_all (IsCovered declared) (ps ++ us) changed.by sound.covered changed.at).within (number_of declared name)
-      (owned_used changed.by.member.uses (number_of declared name) changed.owns))
+      subst (λ n. table_number declared name < n) (sym (wide_length declared tables sound.wide))
+      ((of_all (IsCovered declared) (ps ++ us) changed.by sound.covered changed.at).within (table_number declared name)
+      (owned_used changed.by.member.uses (table_number declared name) changed.owns))
 
   owner : (change : Change) → In change changes → IsOwner (ps ++ us) change
   owner change at = of_all (IsOwner (ps ++ us)) changes change sound.owners at
 
   -- the changes of a table are all of those that leave, or none is
   theirs : (name : Name) → IsChanged name → (change : Change) → In change changes
-      → change.table ≡ number_of declared name → gone change.tx ≡ true
+      → change.table ≡ table_number declared name → gone change.tx ≡ true
   theirs name changed change at same = by (gone change.tx) refl
     where
       by : (b : Bool) → gone change.tx ≡ b → b ≡ true
@@ -233,7 +233,7 @@ module _ (declared : List Create) (laws : Laws) (base : Database) (ps us : List 
           (rest_keeps name changed o.by o.at (ap gone o.tx ∙ is))
 
   not_theirs : (name : Name) → IsKept name → (change : Change) → In change changes
-      → change.table ≡ number_of declared name → gone change.tx ≡ false
+      → change.table ≡ table_number declared name → gone change.tx ≡ false
   not_theirs name kept change at same =
       not_so (gone change.tx) (λ is.
       let o = owner change at in
@@ -243,40 +243,40 @@ module _ (declared : List Create) (laws : Laws) (base : Database) (ps us : List 
 
   -- what changes put back, by name
   put_named : (some : List Change) (there : Tables) (name : Name) → length there ≡ length declared
-      → number_of declared name < length there
+      → table_number declared name < length there
       → database_of declared (put_back some there) name
-      ≡ back (number_of declared name) some (database_of declared there name)
+      ≡ back (table_number declared name) some (database_of declared there name)
   put_named some there name same is_low =
       named_at declared (put_back some there) name (put_length some there ∙ same)
-      ∙ put_at some there (number_of declared name) is_low
-      ∙ ap (back (number_of declared name) some) (sym (named_at declared there name same))
+      ∙ put_at some there (table_number declared name) is_low
+      ∙ ap (back (table_number declared name) some) (sym (named_at declared there name same))
 
   long : length tables ≡ length declared
   long = wide_length declared tables sound.wide
 
-  undone : (name : Name) → number_of declared name < length tables
-      → back (number_of declared name) changes (database_of declared tables name) ≡ base name
+  undone : (name : Name) → table_number declared name < length tables
+      → back (table_number declared name) changes (database_of declared tables name) ≡ base name
   undone name is_low = sym (put_named changes tables name long is_low) ∙ ap (λ (d : Database). d name) sound.undo
 
   -- all that is put back of a table that is kept, or of one that isn't declared
   put_kept : (some : List Change) (there : Tables) (name : Name) → length there ≡ length declared
-      → ((change : Change) → In change some → change.table ≡ number_of declared name → ⊥)
+      → ((change : Change) → In change some → change.table ≡ table_number declared name → ⊥)
       → database_of declared (put_back some there) name ≡ database_of declared there name
   put_kept some there name same none_of =
       elim (declared_or_empty declared name) [
         | inl is_low ↦
-            put_named some there name same (subst (λ n. number_of declared name < n) (sym same) is_low)
+            put_named some there name same (subst (λ n. table_number declared name < n) (sym same) is_low)
             ∙ untouched some (database_of declared there name) none_of
         | inr none ↦ none (put_back some there) ∙ sym (none there)
       ]
     where
       untouched : (some : List Change) (rows : Rows)
-          → ((change : Change) → In change some → change.table ≡ number_of declared name → ⊥)
-          → back (number_of declared name) some rows ≡ rows
+          → ((change : Change) → In change some → change.table ≡ table_number declared name → ⊥)
+          → back (table_number declared name) some rows ≡ rows
       untouched [] rows f = refl
       untouched (change ∷ more) rows f =
-          ap (λ b. back (number_of declared name) more (cond b change.before rows))
-          (other_number change.table (number_of declared name) (f change (inl refl)))
+          ap (λ b. back (table_number declared name) more (cond b change.before rows))
+          (other_number change.table (table_number declared name) (f change (inl refl)))
           ∙ untouched more rows (λ c at. f c (inr at))
 
   abbrev pub restored : Tables
@@ -288,7 +288,7 @@ module _ (declared : List Create) (laws : Laws) (base : Database) (ps us : List 
   was_changed : (name : Name) → IsChanged name → database_of declared restored name ≡ base name
   was_changed name changed =
       put_named (filter (change_goes gone) changes) tables name long (low name changed)
-      ∙ back_all (change_goes gone) (number_of declared name) changes (database_of declared tables name)
+      ∙ back_all (change_goes gone) (table_number declared name) changes (database_of declared tables name)
       (theirs name changed)
       ∙ undone name (low name changed)
 
@@ -306,11 +306,11 @@ module _ (declared : List Create) (laws : Laws) (base : Database) (ps us : List 
       elim (declared_or_empty declared name) [
         | inl is_low ↦
             put_named (filter (change_stays gone) changes) there name same
-            (subst (λ n. number_of declared name < n) (sym same) is_low)
-            ∙ back_all (change_stays gone) (number_of declared name) changes (database_of declared there name)
+            (subst (λ n. table_number declared name < n) (sym same) is_low)
+            ∙ back_all (change_stays gone) (table_number declared name) changes (database_of declared there name)
             (λ change at e. ap not (not_theirs name kept change at e))
-            ∙ ap (back (number_of declared name) changes) alike
-            ∙ undone name (subst (λ n. number_of declared name < n) (sym long) is_low)
+            ∙ ap (back (table_number declared name) changes) alike
+            ∙ undone name (subst (λ n. table_number declared name < n) (sym long) is_low)
         | inr none ↦
             none (put_back (filter (change_stays gone) changes) there)
             ∙ sym (none (put_back changes tables)) ∙ ap (λ (d : Database). d name) sound.undo

@@ -11,7 +11,7 @@ use Rattle.ent_closed.specs.Form.{Tables}
 use Rattle.ent_form_laws.specs.Tables.{database_of, AreWide}
 use Rattle.ent_protocol.specs.Rollback.{put_back}
 use Rattle.ent_protocol.specs.State.{Change}
-use Rattle.ent_serializability.specs.Faithful.{number_of}
+use Rattle.ent_serializability.specs.Faithful.{table_number}
 use Rattle.ent_lists.specs.Elements.{In, clash, same_number, differ}
 
 -- ---- the rows of a table
@@ -103,28 +103,28 @@ wide_length (create ∷ more) (rows ∷ tables) wide = ap suc (wide_length more 
 
 -- the rows of a name are those of its table
 pub named_at : (creates : List Create) (tables : Tables) (name : Name) → length tables ≡ length creates
-    → database_of creates tables name ≡ at_number tables (number_of creates name)
+    → database_of creates tables name ≡ at_number tables (table_number creates name)
 named_at [] [] name same = refl
 named_at [] (rows ∷ tables) name same = absurd (omega (arith, same))
 named_at (create ∷ more) [] name same = absurd (omega (arith, same))
 named_at (create ∷ more) (rows ∷ tables) name same =
     by (same_name create.name.name name) (named_at more tables name (omega (arith, same)))
   where
-    by : (b : Bool) → database_of more tables name ≡ at_number tables (number_of more name)
+    by : (b : Bool) → database_of more tables name ≡ at_number tables (table_number more name)
         → cond b rows (database_of more tables name)
-        ≡ at_number (rows ∷ tables) (cond b 0 (suc (number_of more name)))
+        ≡ at_number (rows ∷ tables) (cond b 0 (suc (table_number more name)))
     by true rest = refl
     by false rest = rest
 
 -- a name is declared, or has no rows in any tables
 pub declared_or_empty : (creates : List Create) (name : Name)
-    → (number_of creates name < length creates) ⊎ ((tables : Tables) → database_of creates tables name ≡ set.empty)
+    → (table_number creates name < length creates) ⊎ ((tables : Tables) → database_of creates tables name ≡ set.empty)
 declared_or_empty [] name = inr (λ tables. refl)
 declared_or_empty (create ∷ more) name = by (same_name create.name.name name) refl (declared_or_empty more name)
   where
     by : (b : Bool) → same_name create.name.name name ≡ b
-        → (number_of more name < length more) ⊎ ((tables : Tables) → database_of more tables name ≡ set.empty)
-        → (cond b 0 (suc (number_of more name)) < suc (length more))
+        → (table_number more name < length more) ⊎ ((tables : Tables) → database_of more tables name ≡ set.empty)
+        → (cond b 0 (suc (table_number more name)) < suc (length more))
         ⊎ ((tables : Tables) → database_of (create ∷ more) tables name ≡ set.empty)
     by true is rest = inl (omega arith)
     by false is (inl low) = inl (omega (arith, low))

@@ -26,9 +26,9 @@ use Rattle.ent_protocol.specs.State.{Use}
 use Rattle.ent_protocol.specs.Uses.{statement_uses}
 
 -- the number of the table of a name; where none is declared, one that no table has
-abbrev pub number_of : List Create → Name → ℕ
-number_of [] name = 0
-number_of (create ∷ more) name = if same_name create.name.name name then 0 else suc (number_of more name)
+abbrev pub table_number : List Create → Name → ℕ
+table_number [] name = 0
+table_number (create ∷ more) name = if same_name create.name.name name then 0 else suc (table_number more name)
 
 -- a table is used, and is used exclusively
 abbrev pub is_used : List Use → ℕ → Bool
@@ -70,9 +70,9 @@ pub record IsFaithful (creates : List Create) (statement : TreeStatement) (form 
       → AreWide creates effect.database
   -- it uses the tables that its statement uses, and exclusively those that it may change
   pub reads : (environment : Environment) (name : Name) → uses statement name ≡ true
-      → is_used (statement_uses (closed environment form)) (number_of creates name) ≡ true
+      → is_used (statement_uses (closed environment form)) (table_number creates name) ≡ true
   pub writes : (environment : Environment) (name : Name) → changes statement name ≡ true
-      → is_owned (statement_uses (closed environment form)) (number_of creates name) ≡ true
+      → is_owned (statement_uses (closed environment form)) (table_number creates name) ≡ true
   -- those tables are declared
   pub declared : (environment : Environment) (table : ℕ)
       → is_used (statement_uses (closed environment form)) table ≡ true → table < length creates

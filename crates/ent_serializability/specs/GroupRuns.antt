@@ -6,16 +6,16 @@ use Rattle.ent_form_laws.specs.Tables.{database_of}
 use Rattle.ent_protocol.specs.Member.{is_of}
 use Rattle.ent_protocol.specs.Reached.{settled}
 use Rattle.ent_protocol.specs.State.{State, Member, members}
-use Rattle.ent_serializability.specs.Faithful.{number_of, is_used, is_owned}
+use Rattle.ent_serializability.specs.Faithful.{table_number, is_used, is_owned}
 use Rattle.ent_serializability.specs.History.{History, Replays, AreSerial}
 use Rattle.ent_serializability.specs.SerialState.{Follows, IsWhole}
 
 -- a member uses the table of a name, or uses it exclusively
 abbrev pub HasUsed : State → Member → Name → Type 0
-HasUsed s member name = is_used member.uses (number_of s.opening.tables name) ≡ true
+HasUsed s member name = is_used member.uses (table_number s.opening.tables name) ≡ true
 
 abbrev pub NotOwned : State → Member → Name → Type 0
-NotOwned s member name = is_owned member.uses (number_of s.opening.tables name) ≡ false
+NotOwned s member name = is_owned member.uses (table_number s.opening.tables name) ≡ false
 
 -- the present rows of a table, and its settled ones
 abbrev pub present_database : State → Database

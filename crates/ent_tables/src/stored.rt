@@ -104,8 +104,7 @@ impl StoredTables {
         ensures { IfOk result (λ seen. (declared : List Create) → kinds_declared declared ≡ self.now.kinds
             → seen ≡ seen_now declared self.now.tables uses.now) }
     {
-        let seen = tables_seen(alloc, self.tables.as_slice(), uses)?;
-        Ok(seen)
+        tables_seen(alloc, self.tables.as_slice(), uses)
     }
 
     /// Makes a change of the table of a number, and notes how it stood. Where memory runs out nothing changes. A change

@@ -51,9 +51,6 @@ behind_has ks at r tx is le =
     list_any_at (λ k. k == tx) (drop r ks) (at - r) tx (omega (arith, length-drop r ks)) itself
 
 module _ {S : Type 0} (live : Slab Dormant) (order : IndexMap ℕ ℕ S) (tx : ℕ) where
-  own : ℕ → Dormant
-  own k = entrant_of live order k
-
   abbrev first : List ℕ → Option Dormant
   first ks = first_of (filter (λ (it : Dormant). it.tx == tx) (map (entrant_of live order) ks))
 

@@ -17,7 +17,7 @@ use Rattle.ent_coordination.specs.Pool.{AreOfKinds, Unify, fact_under}
 use Rattle.ent_unify.specs.Side.{Assignment, worth, side_kind}
 use Rattle.ent_unify.specs.Equation.{HaveSolution, AreRefuted, IsDecided}
 use Rattle.ent_unify.specs.Tuple.{variable_side, term_side, column_sides}
-use Rattle.ent_unify.specs.Unifier.{AreApart}
+use Rattle.ent_unify.specs.Unifier.{AreApart, member_value}
 use Rattle.ent_unify.proofs.Places.{length-map}
 use Rattle.ent_unify.proofs.Tuples.{Reads, IsKinded, columns_kinded, values_from_columns, columns_from_values}
 
@@ -120,14 +120,10 @@ unify_from_solution ks atom js other relation same solution =
       one_fact = λ i. record { relation = relation i; values = values i };
     }
 
--- the values of the members of a list of valuations
-abbrev pub value_in : List Valuation → Assignment
-value_in valuations x = get_or (get_or valuations x.member []) x.index no_value
-
 pub are_apart : (ks : List Kind) (atom : Atom Value) (js : List Kind) (other : Atom Value)
     → AreRefuted (column_sides (term_side 0 ks) (term_side 1 js) atom.terms other.terms) → AreApart ks atom js other
 are_apart ks atom js other refuted values others left right one_fact =
-    let v = value_in (values ∷ others ∷ []) in
+    let v = member_value (values ∷ others ∷ []) in
     refuted v
     (columns_kinded v 0 1 ks js atom.terms other.terms (kinded_of v 0 ks values (λ n k. refl) left)
     (kinded_of v 1 js others (λ n k. refl) right))

@@ -14,7 +14,7 @@ use Rattle.ent_unify.specs.declared.variable.Representative.TheVariants.{Constan
 use Rattle.ent_unify.specs.declared.variable.Variable.{Variable as Variables}
 use Rattle.ent_unify.specs.Side.{Assignment, worth, Substitution, resolved, same_variable}
 use Rattle.ent_unify.specs.Equation.{Sides, Holds, resolved_both}
-use Rattle.ent_unify.specs.Unifier.{class_of, constant_in, binding_of, bindings_under, value_in, IsVariableOf}
+use Rattle.ent_unify.specs.Unifier.{class_of, constant_in, binding_of, bindings_under, member_value, IsVariableOf}
 use Rattle.ent_unify.specs.Unifier.{Agrees}
 use Rattle.ent_unify.proofs.Places.{get_or-map}
 use Rattle.ent_unify.proofs.Solving.{same_variable-self, same_variable-true}
@@ -146,13 +146,13 @@ constant_case (Variable x) values w is = tt
 
 pub agrees_from_kept : (K : List (List Kind)) (stands : Substitution) (es : List Sides) (bs : List Binding)
     (V : List Valuation) → bs ≡ flat_map (bindings_under stands) es
-    → ((x : Variables) → worth (value_in V) (stands x) ≡ value_in V x) → Agrees K bs V
+    → ((x : Variables) → worth (member_value V) (stands x) ≡ member_value V x) → Agrees K bs V
 agrees_from_kept K stands es bs V is kept =
     let are : AreOf stands bs = subst (AreOf stands) (sym is) (are_of_all stands es) in
-    let by = λ (x : Variables). class_worth (value_in V) stands bs x are kept in
+    let by = λ (x : Variables). class_worth (member_value V) stands bs x are kept in
     record {
-      classes = λ x y of_x of_y same. sym (by x) ∙ (ap (worth (value_in V)) same ∙ by y);
-      constants = λ x of_x. constant_case (class_of bs x) (value_in V) (value_in V x) (by x);
+      classes = λ x y of_x of_y same. sym (by x) ∙ (ap (worth (member_value V)) same ∙ by y);
+      constants = λ x of_x. constant_case (class_of bs x) (member_value V) (member_value V x) (by x);
     }
 
 constant_is : (o : Representative) (value w : Value) → o ≡ Constant value → IfSome (constant_in o) (λ v. w ≡ v)
@@ -169,18 +169,18 @@ AreSidesOf K equation = IsSideOf K equation.0 × IsSideOf K equation.1
 
 agree_sides : (K : List (List Kind)) (bs : List Binding) (V : List Valuation) (l r : Representative)
     → IsSideOf K l → IsSideOf K r → resolved (class_of bs) l ≡ resolved (class_of bs) r → Agrees K bs V
-    → worth (value_in V) l ≡ worth (value_in V) r
+    → worth (member_value V) l ≡ worth (member_value V) r
 agree_sides K bs V (Constant c) (Constant d) left right same agrees = cc
 agree_sides K bs V (Constant c) (Variable y) left right same agrees =
-    sym (constant_is (class_of bs y) c (value_in V y) (sym same) (agrees.constants y right))
+    sym (constant_is (class_of bs y) c (member_value V y) (sym same) (agrees.constants y right))
 agree_sides K bs V (Variable x) (Constant d) left right same agrees =
-    constant_is (class_of bs x) d (value_in V x) same (agrees.constants x left)
+    constant_is (class_of bs x) d (member_value V x) same (agrees.constants x left)
 agree_sides K bs V (Variable x) (Variable y) left right same agrees = agrees.classes x y left right same
 
 pub holds_from_agrees : (K : List (List Kind)) (stands : Substitution) (es : List Sides) (bs : List Binding)
     (V : List Valuation) → bs ≡ flat_map (bindings_under stands) es
     → ((k : ℕ) (d : Sides) → k < length es → resolved stands (get_or es k d).0 ≡ resolved stands (get_or es k d).1)
-    → All (AreSidesOf K) es → Agrees K bs V → All (Holds (value_in V)) es
+    → All (AreSidesOf K) es → Agrees K bs V → All (Holds (member_value V)) es
 holds_from_agrees K stands es bs V is equal sides agrees k d below =
     let are : AreOf stands bs = subst (AreOf stands) (sym is) (are_of_all stands es) in
     let e = get_or es k d in

@@ -18,7 +18,7 @@ use Rattle.ent_unify.specs.declared.unifier.MemberAtom.{MemberAtom}
 use Rattle.ent_unify.specs.Side.{Assignment}
 use Rattle.ent_unify.specs.Equation.{Sides, Holds, HasKinds, AreWithinBounds, AreRefuted}
 use Rattle.ent_unify.specs.Tuple.{variable_side, term_side, column_sides, tuple_equations}
-use Rattle.ent_unify.specs.Unifier.{AreKinded, AreAllOfKinds, AreEqual, NoneEquals, value_in, IsMostGeneral}
+use Rattle.ent_unify.specs.Unifier.{AreKinded, AreAllOfKinds, AreEqual, NoneEquals, member_value, IsMostGeneral}
 use Rattle.ent_unify.specs.Unifier.{pair_equations, IsPlain, AreEquationsOf, AreBindingsOf}
 use Rattle.ent_unify.proofs.Atoms.{values_under, values_by_kinds, reads_under, reads_of, kinded_of}
 use Rattle.ent_unify.proofs.Classes.{agrees_from_kept, holds_from_agrees, IsSideOf, AreSidesOf}
@@ -61,15 +61,15 @@ kinds_at (values ∷ V) (suc m) = kinds_at V m
 abbrev ReadAll : Assignment → List (List Kind) → List Valuation → Type 0
 ReadAll values K V = (m : ℕ) → Reads values m (get_or K m []) (get_or V m [])
 
-reads_kinded : (K : List (List Kind)) (V : List Valuation) → AreKinded K V → ReadAll (value_in V) K V
+reads_kinded : (K : List (List Kind)) (V : List Valuation) → AreKinded K V → ReadAll (member_value V) K V
 reads_kinded K V kinded m =
-    reads_of (value_in V) m (get_or K m []) (get_or V m []) (λ n k. refl)
+    reads_of (member_value V) m (get_or K m []) (get_or V m []) (λ n k. refl)
     (sym (kinds_at V m) ∙ ap (λ ks. get_or ks m []) kinded)
 
 kinded_all : (K : List (List Kind)) (V : List Valuation) → AreKinded K V → (m : ℕ)
-    → IsKinded (value_in V) m (get_or K m [])
+    → IsKinded (member_value V) m (get_or K m [])
 kinded_all K V kinded m =
-    kinded_of (value_in V) m (get_or K m []) (get_or V m []) (λ n k. refl)
+    kinded_of (member_value V) m (get_or K m []) (get_or V m []) (λ n k. refl)
     (sym (kinds_at V m) ∙ ap (λ ks. get_or ks m []) kinded)
 
 -- ---- one pair
@@ -144,9 +144,10 @@ all_sides K pairs =
 none_equals : (K : List (List Kind)) (pairs : List Pair) (es : List Sides) → AreEquationsOf K pairs es → AreRefuted es
     → NoneEquals K pairs
 none_equals K pairs es are refuted V kinded equal =
-    refuted (value_in V) (subst (All (HasKinds (value_in V))) (sym are.are)
-    (all_kinded (value_in V) K (kinded_all K V kinded) pairs))
-    (subst (All (Holds (value_in V))) (sym are.are) (all_hold (value_in V) K V (reads_kinded K V kinded) pairs equal))
+    refuted (member_value V) (subst (All (HasKinds (member_value V))) (sym are.are)
+    (all_kinded (member_value V) K (kinded_all K V kinded) pairs))
+    (subst (All (Holds (member_value V))) (sym are.are)
+    (all_hold (member_value V) K V (reads_kinded K V kinded) pairs equal))
 
 -- the valuations of an assignment, from a member on
 valuations_from : (ℕ → List Kind → Valuation) → List (List Kind) → List Valuation
@@ -180,11 +181,11 @@ most_general K pairs es bs are puts =
     let solution = has_solution es puts.stands puts.solves in
     record {
       exact = λ V kinded. (
-        (λ equal. agrees_from_kept K puts.stands es bs V is (puts.solves.kept (value_in V)
-            (subst (All (Holds (value_in V))) (sym are.are)
-            (all_hold (value_in V) K V (reads_kinded K V kinded) pairs equal)))),
-        (λ agrees. all_equal (value_in V) K V (reads_kinded K V kinded) pairs are.plain
-            (subst (All (Holds (value_in V))) are.are
+        (λ equal. agrees_from_kept K puts.stands es bs V is (puts.solves.kept (member_value V)
+            (subst (All (Holds (member_value V))) (sym are.are)
+            (all_hold (member_value V) K V (reads_kinded K V kinded) pairs equal)))),
+        (λ agrees. all_equal (member_value V) K V (reads_kinded K V kinded) pairs are.plain
+            (subst (All (Holds (member_value V))) are.are
             (holds_from_agrees K puts.stands es bs V is puts.solves.equal
             (subst (All (AreSidesOf K)) (sym are.are) (all_sides K pairs)) agrees))),
       );

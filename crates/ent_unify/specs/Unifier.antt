@@ -59,9 +59,9 @@ constant_in (Variable x) = None
 abbrev pub constant_of : List Binding → Variables → Option Value
 constant_of bindings x = constant_in (class_of bindings x)
 
--- a variable's value
-abbrev pub value_in : List Valuation → Variables → Value
-value_in valuations x = slice_index_or (slice_index_or valuations x.member []) x.index no_value
+-- the value of a member's variable
+abbrev pub member_value : List Valuation → Variables → Value
+member_value valuations x = slice_index_or (slice_index_or valuations x.member []) x.index no_value
 
 -- no values of the kinds make two atoms one fact, be they within bounds or not
 abbrev pub AreApart : List Kind → Atom Value → List Kind → Atom Value → Type 0
@@ -77,9 +77,9 @@ IsVariableOf kinds x = slice_get (slice_index_or kinds x.member []) x.index ≡ 
 -- constant that one
 pub record Agrees (kinds : List (List Kind)) (bindings : List Binding) (valuations : List Valuation) : Type 0 where
   pub classes : (x y : Variables) → IsVariableOf kinds x → IsVariableOf kinds y
-      → class_of bindings x ≡ class_of bindings y → value_in valuations x ≡ value_in valuations y
+      → class_of bindings x ≡ class_of bindings y → member_value valuations x ≡ member_value valuations y
   pub constants : (x : Variables) → IsVariableOf kinds x
-      → IfSome (constant_of bindings x) (λ value. value_in valuations x ≡ value)
+      → IfSome (constant_of bindings x) (λ value. member_value valuations x ≡ value)
 
 -- values of the kinds make all pairs equal exactly where they agree with the unifier, and there are such values
 pub record IsMostGeneral (kinds : List (List Kind)) (pairs : List (MemberAtom × MemberAtom)) (bindings : List Binding)

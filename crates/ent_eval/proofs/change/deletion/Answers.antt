@@ -2,7 +2,7 @@ use Rattle.std.proofs.Common.{rules, [], ap, sym, ◌∙◌, Ok, append-nil}
 use Rattle.ent_rel.specs.First.{has_first}
 use Rattle.ent_semantics.specs.Selection.{meets}
 use Rattle.ent_select.specs.Prepared.{prepared_meets}
-use Rattle.ent_select.specs.Worth.{value_in}
+use Rattle.ent_select.specs.Worth.{worth_over}
 use Rattle.ent_eval.proofs.Narrowed.{deletion_met}
 use Rattle.ent_eval.proofs.change.deletion.Goals as goal
 
@@ -10,7 +10,7 @@ pub returns : goal.returns
 returns c =
     let prepared = prepared_meets c.in_ok-prepared.prepared in
     let first = has_first c.as_slice.result.now in
-    let met = meets value_in c.args.tests.now in (
+    let met = meets worth_over c.args.tests.now in (
       ap (λ change. Ok change)
           (sym (c.in_ok-count.ensures.change prepared (λ row answer here k. search rules)
           ∙ deletion_met c.args.table.now.rows first prepared met c.in_ok-prepared.ensures.meets

@@ -6,7 +6,7 @@ use Rattle.ent_semantics.specs.Selection.{meets}
 use Rattle.ent_semantics.specs.declared.answer.Failure.{Failure}
 use Rattle.ent_value.specs.Refusal.{◌>>=◌}
 use Rattle.ent_select.specs.Prepared.{prepared_meets}
-use Rattle.ent_select.specs.Worth.{value_in}
+use Rattle.ent_select.specs.Worth.{worth_over}
 use Rattle.ent_eval.specs.Change.{Changes, image_or_overflow, or_full}
 use Rattle.ent_eval.specs.Worth.{image_of}
 use Rattle.ent_eval.proofs.Changes.{if_ok, replaced, refused_so}
@@ -23,7 +23,7 @@ pub returns-in-Ok : goal.returns-in-Ok
 returns-in-Ok c =
     let prepared = prepared_meets c.in_ok-prepared.prepared in
     let first = has_first c.as_slice.result.now in
-    let met = meets value_in c.args.tests.now in
+    let met = meets worth_over c.args.tests.now in
     let image = image_or_overflow (image_of c.args.image.now) in (
       replaced _ _
           (sym (replacement_met c.args.table.now.rows first prepared met c.in_ok-prepared.ensures.meets
@@ -39,7 +39,7 @@ returns c =
     let table = c.args.table.now in
     let prepared = prepared_meets c.in_ok-prepared.prepared in
     let first = has_first c.as_slice.result.now in
-    let met = meets value_in c.args.tests.now in
+    let met = meets worth_over c.args.tests.now in
     let image = image_or_overflow (image_of c.args.image.now) in
     let P : Result (ℕ × RowSet) Failure → Type 0 =
     λ meant. IfOk c.refused.result (λ outcome. Changes table (meant >>= λ change. or_full (bounded change.1 change))

@@ -1,7 +1,7 @@
 use Rattle.std.proofs.Common.{◌++◌, ap, sym, ◌∙◌, append_assoc, rules, arith}
 use Rattle.std.proofs.lemmas.Grind.{common_steps}
 use Rattle.ent_semantics.specs.Selection.{meets}
-use Rattle.ent_select.specs.Worth.{value_in}
+use Rattle.ent_select.specs.Worth.{worth_over}
 use Rattle.ent_select.proofs.Wanted.{first_are, first_more}
 use Rattle.ent_select.proofs.first.first_values.Goals as goal
 
@@ -16,7 +16,7 @@ loop-column-preserved c =
           first_more values c.push.new.self.items row others c.args.kinds.now c.loop-column.column c.in-Some.value.now
           c.in_ok-copy-in-Some.field-0 of (omega arith) (c.loop-column.invariant.first row others of met)
           (c.in-Some.ensures.wanted (row ++ others)
-          (sym (ap (meets value_in c.args.tests.now) (append_assoc front row others)) ∙ met))
+          (sym (ap (meets worth_over c.args.tests.now) (append_assoc front row others)) ∙ met))
           c.in_ok-copy-in-Some.ensures c.in_ok-push-in-Some.ensures.items;
     }
 

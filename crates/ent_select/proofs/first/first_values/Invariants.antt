@@ -3,7 +3,7 @@ use Rattle.std.specs.Prelude.{IsTrue}
 use Rattle.ent_value.specs.Value.{kinds_of}
 use Rattle.ent_value.specs.declared.value.Value.{Value}
 use Rattle.ent_semantics.specs.Selection.{meets}
-use Rattle.ent_select.specs.Worth.{value_in}
+use Rattle.ent_select.specs.Worth.{worth_over}
 use Rattle.ent_select.proofs.first.first_values.Given as goal
 
 -- the values of the columns so far
@@ -12,5 +12,5 @@ invariant-loop-column l = record {
   count : length l.values.items ≡ l.column;
   kinds : kinds_of l.values.items ≡ take l.column l.kinds;
   first : (row others : List Value) → kinds_of row ≡ l.kinds
-      → IsTrue (meets value_in l.tests ((l.front ++ row) ++ others)) → take l.column row ≡ l.values.items;
+      → IsTrue (meets worth_over l.tests ((l.front ++ row) ++ others)) → take l.column row ≡ l.values.items;
 }

@@ -1,11 +1,11 @@
 use Rattle.std.proofs.Common.{◌≡◌, map, take}
 use Rattle.ent_semantics.specs.Term.{no_value}
-use Rattle.ent_select.specs.Worth.{value_in}
+use Rattle.ent_select.specs.Worth.{worth_over}
 use Rattle.ent_select.proofs.row.item_row.Given as goal
 
 -- the values of the items so far
 abbrev pub invariant-loop-item : goal.invariant-loop-item
 invariant-loop-item l = record {
   none : l.none ≡ no_value;
-  shown : l.values.items ≡ map (value_in l.row) (take l.item-index l.items);
+  shown : l.values.items ≡ map (worth_over l.row) (take l.item-index l.items);
 }

@@ -7,7 +7,7 @@ use Rattle.ent_semantics.specs.Selection.{meets}
 use Rattle.ent_closed.specs.declared.operand.Operand.{Operand}
 use Rattle.ent_select.specs.Combined.{AreNarrowed}
 use Rattle.ent_select.specs.Prepared.{prepared_meets}
-use Rattle.ent_select.specs.Worth.{value_in}
+use Rattle.ent_select.specs.Worth.{worth_over}
 use Rattle.ent_select.proofs.Searched.{last_searched}
 use Rattle.ent_select.proofs.select.search_last.Goals as goal
 
@@ -23,8 +23,8 @@ returns c =
     λ shown. OnOk c.show_rows.result (c.show_rows.new.found.items ≡ c.args.found.now.items ++ shown) in
     let Q : List (Test (Operand Value)) → Type 0 = λ tests. AreNarrowed tests front all rows in
     subst P
-    (ap (λ items. map (λ row. map (value_in (front ++ row)) items) (filter prepared rows)) c.as_slice-3.ensures
+    (ap (λ items. map (λ row. map (worth_over (front ++ row)) items) (filter prepared rows)) c.as_slice-3.ensures
     ∙ last_searched select.items select.tests front all rows
     (subst Q (c.as_slice-2.ensures ∙ c.deref-2.ensures) c.in_ok-rows.ensures) prepared
-    (λ row. c.in_ok-tests.ensures.meets row ∙ ap (λ tests. meets value_in tests (front ++ row)) conditions))
+    (λ row. c.in_ok-tests.ensures.meets row ∙ ap (λ tests. meets worth_over tests (front ++ row)) conditions))
     c.show_rows.ensures
