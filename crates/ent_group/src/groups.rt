@@ -87,16 +87,6 @@ impl Groups {
         self.group_of(tx).is_some()
     }
 
-    /// Whether two transactions are members of one group.
-    pub fn same_group(&self, left: Tx, right: Tx) -> bool
-        ensures { IsTrue result ↔ SameGroup self.now left right }
-    {
-        match (self.group_of(left), self.group_of(right)) {
-            (Some(left_group), Some(right_group)) => left_group == right_group,
-            _ => false,
-        }
-    }
-
     /// The members of a transaction's group, by number; nobody where it is no member.
     pub fn members(&self, tx: Tx) -> Members
         ensures by_number { IsStrictlyIncreasing result }

@@ -351,7 +351,7 @@ removed_nowhere key ts i table tx mode gap =
 
 -- ---- the holders of a table
 
-pub any_from_Contains : (tx : ℕ) (table : List ℕ) (mode : Mode) (hs : List Holder) → Contains hs (record { holder = tx; mode = mode }) → list_any (is_use (the_use tx table mode)) (uses_in table hs) ≡ true
+any_from_Contains : (tx : ℕ) (table : List ℕ) (mode : Mode) (hs : List Holder) → Contains hs (record { holder = tx; mode = mode }) → list_any (is_use (the_use tx table mode)) (uses_in table hs) ≡ true
 any_from_Contains tx table mode [] (k, within, e) = absurd (omega arith)
 any_from_Contains tx table mode (h ∷ hs) (zero, within, e) =
     let u = the_use tx table mode in
@@ -365,7 +365,7 @@ any_from_Contains tx table mode (h ∷ hs) (suc k, within, e) =
     or_true true = refl
     or_true false = refl
 
-pub Contains_from_any : (tx : ℕ) (table : List ℕ) (mode : Mode) (hs : List Holder) → list_any (is_use (the_use tx table mode)) (uses_in table hs) ≡ true → Contains hs (record { holder = tx; mode = mode })
+Contains_from_any : (tx : ℕ) (table : List ℕ) (mode : Mode) (hs : List Holder) → list_any (is_use (the_use tx table mode)) (uses_in table hs) ≡ true → Contains hs (record { holder = tx; mode = mode })
 Contains_from_any tx table mode [] = λ e. absurd (true≢false (sym e))
 Contains_from_any tx table mode (h ∷ hs) =
     let u = the_use tx table mode in
@@ -458,7 +458,7 @@ any_agree : {X : Type 0} (p q : X → Bool) → ((x : X) → p x ≡ q x) → (x
 any_agree p q e [] = refl
 any_agree p q e (x ∷ xs) = λ i. e x i || any_agree p q e xs i
 
-pub is_held_of : (tx : ℕ) (table : List ℕ) (mode : Mode) (hs : List Holder) → list_any (is_holder tx mode) hs ≡ list_any (is_use (the_use tx table mode)) (uses_in table hs)
+is_held_of : (tx : ℕ) (table : List ℕ) (mode : Mode) (hs : List Holder) → list_any (is_holder tx mode) hs ≡ list_any (is_use (the_use tx table mode)) (uses_in table hs)
 is_held_of tx table mode hs =
     any_agree (is_holder tx mode) (λ (h : Holder). is_use (the_use tx table mode) (the_use h.holder table h.mode)) (λ h. same_holder tx mode table h ∙ is_use_symm (the_use h.holder table h.mode) (the_use tx table mode)) hs
     ∙ sym (any-map (is_use (the_use tx table mode)) (λ (h : Holder). the_use h.holder table h.mode) hs)

@@ -1,3 +1,2 @@
 pub mod Held
-pub mod Own
 pub mod Requests

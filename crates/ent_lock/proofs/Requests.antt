@@ -1,16 +1,16 @@
 -- Who is in conflict with a request for locks, and what granting it and dropping locks make of the uses that are held.
-use Rattle.std.proofs.Common.{◌≡◌, ◌≢◌, ℕ, zero, suc, ◌≤◌, ◌==◌, Bool, true, false, not, ◌&&◌, ◌||◌, if◌then◌else◌, min, ◌⊎◌, inl, inr, List, [], ◌∷◌, refl, sym, ap, subst, ◌∙◌, arith, true≢false}
+use Rattle.std.proofs.Common.{◌≡◌, ◌≢◌, ℕ, zero, suc, ◌≤◌, ◌==◌, Bool, true, false, not, ◌&&◌, ◌||◌, if◌then◌else◌, min, ◌⊎◌, inl, inr, List, [], ◌∷◌, ◌++◌, refl, sym, ap, subst, ◌∙◌, arith, true≢false}
 use Rattle.std.specs.Prelude.{Contains, IsTrue, Option, None, Some, ◌↔◌}
 use Rattle.std.specs.List.{list_any}
 use Rattle.std.specs.FinSet as finite
 use Rattle.std.proofs.lemmas.Bool.{eqb-true, eq-eqb, ne_eqb, or_left, or_right}
-use Rattle.std.proofs.lemmas.List.Elements.{Contains-append_right}
+use Rattle.std.proofs.lemmas.List.Elements.{Contains-append_left, Contains-append_right, Contains-append_cases}
 use Rattle.ent_lists.specs.Elements.{and_both, not_so, or_cases}
 use Rattle.ent_lock.specs.declared.mode.Mode.{Mode}
 use Rattle.ent_lock.specs.declared.holders.Holder.{Holder}
 use Rattle.ent_lock.specs.Mode.{in_conflict}
 use Rattle.ent_lock.specs.Holders.{is_conflicting, lesser, least_conflicting}
-use Rattle.ent_lock.specs.Use.{Use, Uses, Holds, InConflict, InConflictAt, Blocks, IsLeastIfAny, AddsUses, DropsUses, with_uses}
+use Rattle.ent_lock.specs.Use.{Use, Uses, Holds, InConflictAt, Blocks, IsLeastIfAny, AddsUses, DropsUses, with_uses}
 use Rattle.ent_lock.specs.Layout.{is_use_of_none}
 use Rattle.ent_lock.proofs.Held.{the_use, use_total, is_use, is_use-true, is_use-itself, of_none_alike}
 
@@ -134,24 +134,30 @@ least_of_one held tx table mode pass hs holders =
     least_same (Conflicting (Some tx) mode pass hs) (BlocksOne held tx table mode pass) (least_conflicting (Some tx) mode pass hs)
     (conflicting_blocks held tx table mode pass hs holders) (blocks_conflicting held tx table mode pass hs holders) (least_conflicting-IsLeastIfAny (Some tx) mode pass hs)
 
-blocks_more : (held : Uses) (tx : ℕ) (a : List ℕ × Mode) (asked : List (List ℕ × Mode)) (pass : List ℕ) (v : ℕ) → BlocksOne held tx a.0 a.1 pass v ⊎ Blocks held tx asked pass v → Blocks held tx (a ∷ asked) pass v
-blocks_more held tx a asked pass v (inl (other, apart, (theirs, there, conflict))) = (other, apart, (a.0, a.1, theirs, (0, omega arith, refl), there, conflict))
-blocks_more held tx a asked pass v (inr (other, apart, (table, mode, theirs, inside, there, conflict))) =
-    (other, apart, (table, mode, theirs, Contains-append_right (a ∷ []) asked (table, mode) inside, there, conflict))
+blocks_more : (held : Uses) (tx : ℕ) (a : List ℕ × Mode) (asked : List (List ℕ × Mode)) (pass : List ℕ) (v : ℕ) → Blocks held tx asked pass v ⊎ BlocksOne held tx a.0 a.1 pass v → Blocks held tx (asked ++ a ∷ []) pass v
+blocks_more held tx a asked pass v (inl (other, apart, (table, mode, theirs, inside, there, conflict))) =
+    (other, apart, (table, mode, theirs, Contains-append_left asked (a ∷ []) (table, mode) inside, there, conflict))
+blocks_more held tx a asked pass v (inr (other, apart, (theirs, there, conflict))) =
+    (other, apart, (a.0, a.1, theirs, Contains-append_right asked (a ∷ []) a (0, omega arith, refl), there, conflict))
 
-blocks_cases : (held : Uses) (tx : ℕ) (a : List ℕ × Mode) (asked : List (List ℕ × Mode)) (pass : List ℕ) (v : ℕ) → Blocks held tx (a ∷ asked) pass v → BlocksOne held tx a.0 a.1 pass v ⊎ Blocks held tx asked pass v
-blocks_cases held tx a asked pass v (other, apart, (table, mode, theirs, (zero, within, e), there, conflict)) =
-    let same_table : a.0 ≡ table = ap (λ (b : List ℕ × Mode). b.0) e in
-    let same_mode : a.1 ≡ mode = ap (λ (b : List ℕ × Mode). b.1) e in
-    inl (other, apart, (theirs, subst (λ (t : List ℕ). Holds held v t theirs) (sym same_table) there, subst (λ (m : Mode). IsTrue (in_conflict theirs m)) (sym same_mode) conflict))
-blocks_cases held tx a asked pass v (other, apart, (table, mode, theirs, (suc k, within, e), there, conflict)) =
-    inr (other, apart, (table, mode, theirs, (k, omega arith, e), there, conflict))
+blocks_cases : (held : Uses) (tx : ℕ) (a : List ℕ × Mode) (asked : List (List ℕ × Mode)) (pass : List ℕ) (v : ℕ) → Blocks held tx (asked ++ a ∷ []) pass v → Blocks held tx asked pass v ⊎ BlocksOne held tx a.0 a.1 pass v
+blocks_cases held tx a asked pass v (other, apart, (table, mode, theirs, inside, there, conflict)) =
+    elim (Contains-append_cases asked (a ∷ []) (table, mode) inside) [
+      | inl before ↦ inl (other, apart, (table, mode, theirs, before, there, conflict))
+      | inr last ↦
+          let here = subst (λ (b : List ℕ × Mode). Holds held v b.0 theirs × IsTrue (in_conflict theirs b.1)) (sym (only last)) (there, conflict) in
+          inr (other, apart, (theirs, here.0, here.1))
+    ]
+  where
+    only : {b : List ℕ × Mode} → Contains (a ∷ []) b → a ≡ b
+    only (zero, within, e) = e
+    only (suc k, within, e) = absurd (omega arith)
 
 pub least_of_more : (held : Uses) (tx : ℕ) (a : List ℕ × Mode) (asked : List (List ℕ × Mode)) (pass : List ℕ) (o p : Option ℕ) →
-    IsLeastIfAny (BlocksOne held tx a.0 a.1 pass) o → IsLeastIfAny (Blocks held tx asked pass) p → IsLeastIfAny (Blocks held tx (a ∷ asked) pass) (lesser o p)
-least_of_more held tx a asked pass o p first rest =
-    least_same (λ v. BlocksOne held tx a.0 a.1 pass v ⊎ Blocks held tx asked pass v) (Blocks held tx (a ∷ asked) pass) (lesser o p)
-    (blocks_more held tx a asked pass) (blocks_cases held tx a asked pass) (least_either (BlocksOne held tx a.0 a.1 pass) (Blocks held tx asked pass) o p first rest)
+    IsLeastIfAny (Blocks held tx asked pass) o → IsLeastIfAny (BlocksOne held tx a.0 a.1 pass) p → IsLeastIfAny (Blocks held tx (asked ++ a ∷ []) pass) (lesser o p)
+least_of_more held tx a asked pass o p before last =
+    least_same (λ v. Blocks held tx asked pass v ⊎ BlocksOne held tx a.0 a.1 pass v) (Blocks held tx (asked ++ a ∷ []) pass) (lesser o p)
+    (blocks_more held tx a asked pass) (blocks_cases held tx a asked pass) (least_either (Blocks held tx asked pass) (BlocksOne held tx a.0 a.1 pass) o p before last)
 
 pub nobody_blocks : (held : Uses) (tx : ℕ) (pass : List ℕ) (v : ℕ) → ¬ Blocks held tx [] pass v
 nobody_blocks held tx pass v (other, apart, (table, mode, theirs, (k, within, e), there, conflict)) = absurd (omega arith)
@@ -178,19 +184,6 @@ pub least_of_any : (held : Uses) (table : List ℕ) (mode : Mode) (pass : List �
 least_of_any held table mode pass hs holders =
     least_same (Conflicting None mode pass hs) (ConflictsOne held table mode pass) (least_conflicting None mode pass hs)
     (way_conflicts held table mode pass hs holders) (conflicts_way held table mode pass hs holders) (least_conflicting-IsLeastIfAny None mode pass hs)
-
--- ---- who is in conflict
-
-pub conflict_more : (held : Uses) (v : ℕ) (a : List ℕ × Mode) (asked : List (List ℕ × Mode)) → InConflictAt held v a.0 a.1 ⊎ InConflict held v asked → InConflict held v (a ∷ asked)
-conflict_more held v a asked (inl (theirs, there, conflict)) = (a.0, a.1, theirs, (0, omega arith, refl), there, conflict)
-conflict_more held v a asked (inr (table, mode, theirs, inside, there, conflict)) = (table, mode, theirs, Contains-append_right (a ∷ []) asked (table, mode) inside, there, conflict)
-
-pub conflict_cases : (held : Uses) (v : ℕ) (a : List ℕ × Mode) (asked : List (List ℕ × Mode)) → InConflict held v (a ∷ asked) → InConflictAt held v a.0 a.1 ⊎ InConflict held v asked
-conflict_cases held v a asked (table, mode, theirs, (zero, within, e), there, conflict) =
-    let same_table : a.0 ≡ table = ap (λ (b : List ℕ × Mode). b.0) e in
-    let same_mode : a.1 ≡ mode = ap (λ (b : List ℕ × Mode). b.1) e in
-    inl (theirs, subst (λ (t : List ℕ). Holds held v t theirs) (sym same_table) there, subst (λ (m : Mode). IsTrue (in_conflict theirs m)) (sym same_mode) conflict)
-conflict_cases held v a asked (table, mode, theirs, (suc k, within, e), there, conflict) = inr (table, mode, theirs, (k, omega arith, e), there, conflict)
 
 -- ---- uses that are added
 

@@ -1,16 +1,12 @@
 -- How a lock table keeps its uses: for each table, by key, its holders.
-use Rattle.std.specs.Prelude.{◌≡◌, ℕ, ◌<◌, ◌≤◌, ◌==◌, Bool, not, if◌then◌else◌, List, [], ◌∷◌, ◌++◌, length, map}
-use Rattle.std.specs.Prelude.{slice_index_or, AllPairs}
+use Rattle.std.specs.Prelude.{◌≡◌, ℕ, ◌<◌, ◌≤◌, ◌==◌, Bool, not, List, [], length, map, slice_index_or, AllPairs}
 use Rattle.std.specs.List.{flat_map, list_any}
 use Rattle.std.specs.Ordering.{nat_cmp}
 use Rattle.std.specs.Cmp.Lexicographic.{slice_cmp}
 use Rattle.std.specs.declared.cmp.Ordering.TheVariants.{Less}
 use Rattle.std.specs.FinSet as set
-use Rattle.ent_lock.specs.declared.mode.Mode.{Mode}
-use Rattle.ent_lock.specs.declared.mode.Mode.TheVariants.{Shared, Exclusive}
 use Rattle.ent_lock.specs.declared.holders.Holder.{Holder}
 use Rattle.ent_lock.specs.declared.table_uses.TableUses.{TableUses}
-use Rattle.ent_lock.specs.Holders.{is_holder}
 use Rattle.ent_lock.specs.Use.{Use, Uses}
 
 -- the uses of one table
@@ -47,11 +43,3 @@ pub record IsGapFor {T : Type 0} (key : T → List ℕ) (tables : List (TableUse
 -- a use of none of these transactions
 abbrev pub is_use_of_none : List ℕ → Use → Bool
 is_use_of_none members u = not (list_any (λ m. m == u.holder) members)
-
--- a transaction's use of one table in a mode, where it holds the table so
-abbrev pub use_of : {T : Type 0} → ℕ → Mode → TableUses T → List (T × Mode)
-use_of tx mode t = if list_any (is_holder tx mode) t.holders.items then (t.table, mode) ∷ [] else []
-
--- a transaction's uses of all tables
-abbrev pub uses_of : {T : Type 0} → ℕ → List (TableUses T) → List (T × Mode)
-uses_of tx tables = flat_map (λ t. use_of tx Shared t ++ use_of tx Exclusive t) tables

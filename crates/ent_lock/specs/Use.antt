@@ -1,11 +1,10 @@
 -- The uses that transactions hold: a finite relation of transactions, tables and modes.
-use Rattle.std.specs.Prelude.{◌≡◌, ◌≢◌, ℕ, ◌≤◌, ◌⊎◌, ◌↔◌, Bool, true, false, List, [], ◌∷◌, map, IsTrue, AllPairs}
-use Rattle.std.specs.Prelude.{Contains, Option, None, Some, refl}
+use Rattle.std.specs.Prelude.{◌≡◌, ◌≢◌, ℕ, ◌≤◌, ◌⊎◌, ◌↔◌, Bool, true, false, List, [], ◌∷◌, map, IsTrue, Contains}
+use Rattle.std.specs.Prelude.{Option, None, Some, refl}
 use Rattle.std.specs.Coded.{Coded, code_by, coded×, coded_ℕ, coded_bool, coded_list}
 use Rattle.std.specs.Ordering.{nat_cmp, on, then_cmp}
 use Rattle.std.specs.Cmp.Lexicographic.{slice_cmp}
 use Rattle.std.specs.declared.cmp.Ordering.{Ordering}
-use Rattle.std.specs.declared.cmp.Ordering.TheVariants.{Less}
 use Rattle.std.specs.FinSet as set
 use Rattle.ent_lock.specs.declared.mode.Mode.{Mode}
 use Rattle.ent_lock.specs.declared.mode.Mode.TheVariants.{Shared, Exclusive}
@@ -71,18 +70,6 @@ abbrev pub DropsUses : Uses → Uses → List ℕ → Type 0
 DropsUses old new members =
     (v : ℕ) (table : List ℕ) (mode : Mode)
     → Holds new v table mode ↔ (Holds old v table mode × ¬ Contains members v)
-
--- a transaction's uses are those that it holds
-abbrev pub AreUsesOf : Uses → ℕ → List (List ℕ × Mode) → Type 0
-AreUsesOf held tx uses = (table : List ℕ) (mode : Mode) → Contains uses (table, mode) ↔ Holds held tx table mode
-
--- the lower key first, and of one table the shared use first
-abbrev pub table_cmp : (List ℕ × Mode) → (List ℕ × Mode) → Ordering
-table_cmp = then_cmp (on (λ u. u.0) (slice_cmp nat_cmp)) (on (λ u. mode_rank u.1) nat_cmp)
-
--- each use comes once, in order
-abbrev pub IsByTable : List (List ℕ × Mode) → Type 0
-IsByTable uses = AllPairs (λ a b. table_cmp a b ≡ Less) uses
 
 abbrev is_exclusive : Mode → Bool
 is_exclusive Shared = false

@@ -1,13 +1,12 @@
 //! The locks of all tables.
-ghost use Rattle.std.specs.Prelude.{◌≡◌, ◌≢◌, ℕ, ◌↔◌, IsTrue, IfOk, OnOk, OnErr, Contains};
+ghost use Rattle.std.specs.Prelude.{◌≡◌, ◌≢◌, ℕ, ◌↔◌, OnOk, OnErr, Contains};
 ghost use Rattle.std.specs.FinSet as set;
-ghost use Rattle.ent_lock.specs.Use.{Holds, InConflict, InConflictAt, Blocks, IsLeast, IsLeastIfAny, AddsUses};
-ghost use Rattle.ent_lock.specs.Use.{DropsUses, AreUsesOf, IsByTable, keyed};
+ghost use Rattle.ent_lock.specs.Use.{Holds, InConflictAt, Blocks, IsLeast, IsLeastIfAny, AddsUses, DropsUses, keyed};
 
-use crate::holders::{Holder, is_held, least_conflicting, lesser};
+use crate::holders::{Holder, least_conflicting, lesser};
 use crate::mode::Mode;
 use crate::table_key::TableKey;
-use crate::table_uses::{TableUses, add_all, drop_members, holders_of, uses_of};
+use crate::table_uses::{TableUses, add_all, drop_members, holders_of};
 use ent_group::{Members, Tx};
 use std::alloc::{AllocError, Global};
 use std::marker::Model;
@@ -54,61 +53,6 @@ impl<T: TableKey> LockTable<T> {
         }
     }
 
-    /// The transactions that hold a table, and how, in no order.
-    pub fn holders(&self, table: &T) -> &[Holder]
-        ensures { (tx : ℕ) (mode : Mode)
-            → Contains result.now (record { holder = tx; mode = mode }) ↔ Holds self.now tx (T.key table.now) mode }
-    {
-        holders_of(&self.tables, table)
-    }
-
-    /// The uses of a transaction: its tables by key, each with its mode, and where it holds one in both modes the
-    /// shared use first.
-    pub fn uses(&self, alloc: Global, tx: Tx) -> Result<Vec<(T, Mode)>, AllocError>
-        ensures held { IfOk result (λ uses. AreUsesOf self.now tx (keyed T.key uses.items)) }
-        ensures by_table { IfOk result (λ uses. IsByTable (keyed T.key uses.items)) }
-    {
-        uses_of(&self.tables, alloc, tx)
-    }
-
-    /// Whether a transaction holds a table in a mode.
-    pub fn holds(&self, tx: Tx, table: &T, mode: Mode) -> bool
-        ensures { IsTrue result ↔ Holds self.now tx (T.key table.now) mode }
-    {
-        is_held(self.holders(table), tx, mode)
-    }
-
-    /// Whether a transaction holds a use in conflict with one of those that another would ask for.
-    pub fn in_conflict(&self, holder: Tx, asked: &[(T, Mode)]) -> bool
-        ensures { IsTrue result ↔ InConflict self.now holder (keyed T.key asked.now) }
-    {
-        let Some((first, rest)) = asked.split_first() else {
-            return false;
-        };
-        self.in_conflict_at(holder, &first.0, first.1) || self.in_conflict(holder, rest)
-    }
-
-    fn in_conflict_at(&self, holder: Tx, table: &T, mode: Mode) -> bool
-        ensures { IsTrue result ↔ InConflictAt self.now holder (T.key table.now) mode }
-    {
-        self.holds(holder, table, Mode::Exclusive)
-            || mode == Mode::Exclusive && self.holds(holder, table, Mode::Shared)
-    }
-
-    /// The least transaction whose uses are in conflict with those that a transaction would ask for, save itself and
-    /// those that are to be passed.
-    pub fn blocker(&self, tx: Tx, asked: &[(T, Mode)], pass: &Members) -> Option<Tx>
-        ensures { IsLeastIfAny (Blocks self.now tx (keyed T.key asked.now) pass.now) result }
-    {
-        let Some((first, rest)) = asked.split_first() else {
-            return None;
-        };
-        lesser(
-            least_conflicting(self.holders(&first.0), Some(tx), first.1, pass),
-            self.blocker(tx, rest, pass),
-        )
-    }
-
     /// The least transaction that holds a table in conflict with a mode of using it, save those that are to be passed.
     pub fn least_in_conflict_at(&self, table: &T, mode: Mode, pass: &Members) -> Option<Tx>
         ensures { IsLeastIfAny (λ v. ¬ Contains pass.now v × InConflictAt self.now v (T.key table.now) mode) result }
@@ -147,5 +91,26 @@ impl<T: TableKey> LockTable<T> {
         ensures { DropsUses self.old self.new members.now }
     {
         drop_members(&mut self.tables, members);
+    }
+
+    /// The transactions that hold a table, and how, in no order.
+    fn holders(&self, table: &T) -> &[Holder]
+        ensures { (tx : ℕ) (mode : Mode)
+            → Contains result.now (record { holder = tx; mode = mode }) ↔ Holds self.now tx (T.key table.now) mode }
+    {
+        holders_of(&self.tables, table)
+    }
+
+    /// The least transaction whose uses are in conflict with those that a transaction would ask for, save itself and
+    /// those that are to be passed.
+    fn blocker(&self, tx: Tx, asked: &[(T, Mode)], pass: &Members) -> Option<Tx>
+        ensures { IsLeastIfAny (Blocks self.now tx (keyed T.key asked.now) pass.now) result }
+    {
+        let mut least = None;
+        for (table, mode) in asked {
+            let holder = least_conflicting(self.holders(table), Some(tx), *mode, pass);
+            least = lesser(least, holder);
+        }
+        least
     }
 }

@@ -1,9 +1,8 @@
 //! The uses of each table, by key.
-ghost use Rattle.std.specs.Prelude.{◌≡◌, ℕ, ◌<◌, ◌≤◌, ◌==◌, ◌||◌, ◌↔◌, ◌++◌, [], length, map, filter, not, IsTrue};
-ghost use Rattle.std.specs.Prelude.{OnOk, OnErr, IfOk, IfErr, Contains, slice_index_or};
+ghost use Rattle.std.specs.Prelude.{◌≡◌, ℕ, ◌↔◌, not, OnOk, OnErr, IfOk, IfErr, Contains};
 ghost use Rattle.std.specs.FinSet as set;
 ghost use Rattle.ent_lock.specs.Use.{with_uses, Holds, keyed};
-ghost use Rattle.ent_lock.specs.Layout.{held_in, IsByKey, IsAt, IsGapFor, is_use_of_none, use_of, uses_of};
+ghost use Rattle.ent_lock.specs.Layout.{held_in, IsByKey, IsAt, IsGapFor, is_use_of_none};
 
 use crate::holders::{Holder, drop_holders, is_held, remove_holder};
 use crate::mode::Mode;
@@ -38,38 +37,6 @@ pub fn holders_of<'a, T: TableKey>(tables: &'a [TableUses<T>], table: &T) -> &'a
         Ok(at) => tables[at].holders.as_slice(),
         Err(_) => &[],
     }
-}
-
-/// Puts a transaction's use of one table to a list, where it holds the table in this mode.
-fn push_use<T: TableKey>(
-    uses: &mut Vec<(T, Mode)>,
-    alloc: Global,
-    table_uses: &TableUses<T>,
-    tx: Tx,
-    mode: Mode,
-) -> Result<(), AllocError>
-    ensures { OnOk result (uses.new.items ≡ uses.old.items ++ use_of tx mode table_uses.now) }
-{
-    if is_held(&table_uses.holders, tx, mode) {
-        uses.push((table_uses.table.copy(alloc)?, mode))?;
-    }
-    Ok(())
-}
-
-/// The uses of a transaction, by table.
-pub fn uses_of<T: TableKey>(
-    tables: &[TableUses<T>],
-    alloc: Global,
-    tx: Tx,
-) -> Result<Vec<(T, Mode)>, AllocError>
-    ensures { IfOk result (λ uses. uses.items ≡ uses_of tx tables.now) }
-{
-    let mut uses = Vec::new(alloc);
-    for table_uses in tables {
-        push_use(&mut uses, alloc, table_uses, tx, Mode::Shared)?;
-        push_use(&mut uses, alloc, table_uses, tx, Mode::Exclusive)?;
-    }
-    Ok(uses)
 }
 
 /// Adds a use, and answers whether it is new. Where memory runs out nothing is changed.

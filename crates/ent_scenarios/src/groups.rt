@@ -30,10 +30,6 @@ pub(crate) fn reply_to_groups(
 fn reply_of_groups(alloc: Global, groups: &Groups, call: &[&str], out: &mut Out) -> Result<()> {
     match call {
         ["group", tx] => put_members(alloc, out, &groups.members(number(tx)?)),
-        ["same", left, right] => {
-            let (left, right) = (number(left)?, number(right)?);
-            put(out, yes_or_no(groups.same_group(left, right)))
-        }
         ["label", tx] => put_transaction(out, groups.group_of(number(tx)?)),
         ["contains", tx] => put(out, yes_or_no(groups.contains(number(tx)?))),
         ["all"] => put_all(alloc, groups, out),
