@@ -49,8 +49,7 @@ fn sources_of(
     ensures { IfOk result (λ sources. rows_in (map relation_of sources.items)
         ≡ map (λ number. slice_index_or (rows_in (map arc_value tables.now)) number set.empty) numbers.now) }
 {
-    let sources = tables_of(alloc, tables, numbers)?;
-    Ok(sources)
+    tables_of(alloc, tables, numbers)
 }
 
 /// Whether a row is one of a list.

@@ -1,8 +1,9 @@
 -- The first open component, part by part.
 use Rattle.std.proofs.Common.{◌≡◌, ◌⊎◌, ◌∙◌, inl, inr, zero, suc, ◌<◌, ◌≤◌, Bool, List, [], ◌∷◌, ◌++◌}
-use Rattle.std.proofs.Common.{length, refl, sym, ap, subst, arith, Option, Some, None}
+use Rattle.std.proofs.Common.{length, refl, sym, ap, subst, arith, true, Option, Some, None, ◌==◌}
 use Rattle.std.specs.Prelude.{Contains, MatchBool, MatchOption, nat_lt, slice_get}
 use Rattle.std.proofs.lemmas.Bool.{cases_Bool, ltb-false}
+use Rattle.std.proofs.lemmas.Bool.Decides.{nat_tests}
 use Rattle.std.proofs.lemmas.List.Elements.{Contains-append_cases, Contains-append_left, Contains-append_right}
 use Rattle.ent_lock.specs.Use.{IsLeast}
 use Rattle.ent_coordination.specs.Component.{IsComponent}
@@ -40,6 +41,9 @@ least_first (own ∷ pool) ascends next member is (suc k, below, here) =
 is_some : (pool : List Posted) (next : Posted) → Some next ≡ slice_get pool 0 → 0 < length pool
 is_some [] next is = cc
 is_some (own ∷ pool) next is = omega arith
+
+pub nothing_there : (pool : List Posted) → (length pool == 0) ≡ true → length pool ≡ 0
+nothing_there pool is = grind (arith, nat_tests)
 
 pub may_be : (pool : List Posted) → IsByNumber pool → (next : Posted) (asked : List Posted)
     → Some next ≡ slice_get pool 0

@@ -1,12 +1,10 @@
 //! Whether one more statement may be posted.
 ghost use Rattle.std.specs.Prelude.{◌≡◌, [], ◌∷◌, ◌++◌, IfOk, MatchOption};
 ghost use Rattle.ent_coordination.specs.Pool.{IsFirstUnsafe, IsSafe};
-ghost use Rattle.ent_match.specs.Fault.{IsByNumber};
 ghost use Rattle.ent_match.specs.Posting.{HasNone};
 ghost use Rattle.ent_match.specs.declared.fault.PostFault.TheVariants as faults;
 
-use crate::pool::pool_of;
-use ent_match::{PostFault, Posted, Unsafe, same_statements_are_alike};
+use ent_match::{Pool, PostFault, Posted, Unsafe, same_statements_are_alike};
 use std::alloc::{AllocError, Global};
 
 /// Why a statement isn't posted, where it isn't for want of memory.
@@ -21,21 +19,15 @@ pub fn unsafe_post(why: PostFault) -> Result<Unsafe, AllocError>
 
 /// Why one more statement can't be posted: none where the pool with it is safe, else the first unsafe post of
 /// that pool.
-pub fn post_fault(
-    alloc: Global,
-    posted: &[Posted],
-    query: &Posted,
-) -> Result<Option<Unsafe>, AllocError>
-    requires by_number { IsByNumber posted.now }
-    requires safe { IsSafe posted.now }
-    requires none { HasNone posted.now query.now }
-    ensures { IfOk result (λ fault. MatchOption fault (IsSafe (posted.now ++ query.now ∷ []))
-        (IsFirstUnsafe (posted.now ++ query.now ∷ []))) }
+pub fn post_fault(alloc: Global, pool: &Pool, query: &Posted) -> Result<Option<Unsafe>, AllocError>
+    requires { HasNone pool.now query.now }
+    ensures { IfOk result (λ fault. MatchOption fault (IsSafe (pool.now ++ query.now ∷ []))
+        (IsFirstUnsafe (pool.now ++ query.now ∷ []))) }
 {
     same_statements_are_alike();
-    let mut pool = pool_of(alloc, posted)?;
+    let mut with_query = pool.shared(alloc)?;
     let member = query.shared()?;
-    match pool.post(member) {
+    match with_query.post(member) {
         Ok(()) => Ok(None),
         Err((member, why)) => {
             drop(member);

@@ -1,9 +1,7 @@
 //! Which component is picked.
 ghost use Rattle.std.specs.Prelude.{◌≡◌, ◌<◌, IfOk, MatchBool, MatchOption, length};
 ghost use Rattle.ent_lock.specs.Use.{IsLeast};
-ghost use Rattle.ent_coordination.specs.Pool.{IsSafe};
-ghost use Rattle.ent_match.specs.Fault.{IsByNumber};
-ghost use Rattle.ent_protocol.specs.Member.{pool};
+ghost use Rattle.ent_protocol.specs.Member.{pool as pool_of};
 ghost use Rattle.ent_protocol.specs.Quiet.{IsUntried, NoneIs};
 ghost use Rattle.ent_protocol.specs.State.{State};
 ghost use Rattle.ent_components.specs.Component.{IsPick};
@@ -11,7 +9,6 @@ ghost use Rattle.ent_components.specs.Part.{AreBehind, IsEarlier};
 
 use crate::open::{first_open, first_tx};
 use crate::part::take_part;
-use crate::pool::pool_of;
 use ent_group::Tx;
 use ent_job::Job;
 use ent_match::{Pool, Posted};
@@ -51,16 +48,17 @@ fn earlier(
 /// first member; none where there is none. The pool is gone through part by part, and no further than need be.
 pub fn pick(
     alloc: Global,
-    posted: &[Posted],
+    pool: &Pool,
     tried: &[Sequence<Posted>],
     lent: &[Job],
 ) -> Result<Option<Sequence<Posted>>, AllocError>
-    requires by_number { IsByNumber posted.now }
-    requires safe { IsSafe posted.now }
-    ensures { IfOk result (λ picked. IsPick posted.now tried.now lent.now picked) }
+    ensures { IfOk result (λ picked. IsPick pool.now tried.now lent.now picked) }
 {
-    let mut rest = pool_of(alloc, posted)?;
-    let mut first = None;
+    if pool.members().is_empty() {
+        return Ok(None);
+    }
+    let (lists, mut rest) = take_part(alloc, pool, 0)?;
+    let mut first = first_open(lists, tried, lent);
     'parts: while may_go_before(&rest, &first) {
         let (lists, others) = take_part(alloc, &rest, 0)?;
         let found = first_open(lists, tried, lent);
@@ -73,17 +71,15 @@ pub fn pick(
 /// The least first transaction of a component that wasn't tried, where there is one.
 pub fn first_untried(
     alloc: Global,
-    posted: &[Posted],
+    pool: &Pool,
     tried: &[Sequence<Posted>],
 ) -> Result<Option<Tx>, AllocError>
-    requires by_number { IsByNumber posted.now }
-    requires safe { IsSafe posted.now }
     ensures { IfOk result (λ first. (s : State)
-        → pool s ≡ posted.now
+        → pool_of s ≡ pool.now
         → s.tried ≡ tried.now
         → MatchOption first (NoneIs (IsUntried s)) (IsLeast (IsUntried s))) }
 {
-    let first = pick(alloc, posted, tried, &[])?;
+    let first = pick(alloc, pool, tried, &[])?;
     match first {
         Some(asked) => Ok(Some(first_tx(asked.as_slice()))),
         None => Ok(None),

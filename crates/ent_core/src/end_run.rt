@@ -9,29 +9,22 @@ use crate::reply::Reply;
 use crate::store::Store;
 use crate::take_out::end;
 use ent_form::FormFault;
-use ent_protocol_laws::{
-    attempts_stay_within, members_stand_by_number, pools_are_safe, transactions_are_counted,
-    transactions_stand_once,
-};
+use ent_protocol_laws::{attempts_stay_within, transactions_are_counted, transactions_stand_once};
 use ent_waits::{Reason, reason_of};
 use std::alloc::AllocError;
 
 /// Why the run can't end yet; no reason where it is quiet.
 fn reason_now(store: &Store) -> Result<Option<Reason>, AllocError>
-    requires kept { IsKeptState store.now }
     ensures { IfOk result (λ reason. IsReasonIfAny store.now reason) }
 {
-    members_stand_by_number::<FormFault>();
-    pools_are_safe::<FormFault>();
-    let why = reason_of(
+    reason_of(
         store.alloc,
         &store.run,
         store.submitted.as_slice(),
-        store.pool.members(),
+        &store.pool,
         store.tried.as_slice(),
         store.lent.as_slice(),
-    )?;
-    Ok(why)
+    )
 }
 
 /// Ends the run, where one is on and it is quiet.

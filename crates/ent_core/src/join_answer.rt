@@ -25,8 +25,7 @@ use std::alloc::{AllocError, AllocFailed};
 fn is_component(store: &Store, asked: &[Posted]) -> Result<bool, AllocError>
     ensures { IfOk result (λ is. IsTrue is ↔ IsPresentComponent store.now asked.now) }
 {
-    let is = is_present(store.alloc, store.pool.members(), asked)?;
-    Ok(is)
+    is_present(store.alloc, &store.pool, asked)
 }
 
 /// Carries out what the joint job at an index came to: with a choice its members are answered, without one its

@@ -77,8 +77,7 @@ fn held_back(store: &Store, member: &Member) -> Result<Option<Unsafe>, AllocErro
         }
         Next::Asks(statement) => {
             let query = query_of(member, statement);
-            let fault = post_fault(store.alloc, store.pool.members(), &query)?;
-            Ok(fault)
+            post_fault(store.alloc, &store.pool, &query)
         }
         Next::Commits => Ok(None),
         Next::RollsBack => Ok(None),

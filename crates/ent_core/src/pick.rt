@@ -35,7 +35,7 @@ fn picked_job(store: &Store) -> Result<Option<Job>, AllocError>
 {
     let picked = first_to_pick(
         store.alloc,
-        store.pool.members(),
+        &store.pool,
         store.tried.as_slice(),
         store.lent.as_slice(),
     )?;

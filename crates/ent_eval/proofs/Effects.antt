@@ -33,12 +33,9 @@ use Rattle.ent_job.specs.Work.{AreUsed, IsOne}
 use Rattle.ent_eval.specs.Result.{IsRight, CanBeMade, alone_seen}
 use Rattle.ent_eval.specs.declared.outcome.Outcome.{Outcome}
 use Rattle.ent_eval.specs.declared.outcome.Outcome.TheVariants as outcomes
+use Rattle.ent_eval.proofs.Used.{tables_shared}
 
 -- ---- the tables that a statement names are those that it uses
-
-tables_shared : (numbers : List ℕ) → map (λ (own : Use). own.table) (map shared numbers) ≡ numbers
-tables_shared [] = refl
-tables_shared (number ∷ more) = ap (λ numbers. number ∷ numbers) (tables_shared more)
 
 named_are_used : (statement : Statement Value)
     → map (λ (own : Use). own.table) (statement_uses statement) ≡ tables_named statement

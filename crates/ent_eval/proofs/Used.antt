@@ -220,7 +220,7 @@ all_shared (query ∷ asked) =
     ++ all_shared asked i)
     ∙ sym (map-append shared (sources query.statement) (flat_map (λ (query : Posted). sources query.statement) asked))
 
-tables_shared : (numbers : List ℕ) → map (λ (own : Use). own.table) (map shared numbers) ≡ numbers
+pub tables_shared : (numbers : List ℕ) → map (λ (own : Use). own.table) (map shared numbers) ≡ numbers
 tables_shared [] = refl
 tables_shared (number ∷ more) = ap (λ numbers. number ∷ numbers) (tables_shared more)
 

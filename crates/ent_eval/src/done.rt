@@ -100,8 +100,7 @@ fn one_outcome(
       outcome = alone_seen outcome;
     }) }
 {
-    let outcome = statement_outcome(alloc, single.statement(), tables)?;
-    Ok(outcome)
+    statement_outcome(alloc, single.statement(), tables)
 }
 
 /// What a job comes to.

@@ -27,9 +27,7 @@ fn plan_of(alloc: Global, asked: &[Posted]) -> Result<Option<JoinPlan>, AllocErr
     requires { (tables : List Numbered) × IsJoint asked.now tables }
     ensures { IfOk result (λ plan. MatchOption plan (HaveNoPlan asked.now) (λ plan. plan.members ≡ asked.now)) }
 {
-    let members = shared(alloc, asked)?;
-    let plan = JoinPlan::of(alloc, members)?;
-    Ok(plan)
+    JoinPlan::of(alloc, shared(alloc, asked)?)
 }
 
 /// The least coordinating choice of posted statements over their tables, a grounding for each statement; none where
@@ -42,12 +40,8 @@ pub(crate) fn choice(
     requires { IsJoint asked.now tables.now }
     ensures { IfOk result (λ choice. IsLeastChoiceIfAny (tables_of tables.now) asked.now choice) }
 {
-    let planned = plan_of(alloc, asked)?;
-    match planned {
+    match plan_of(alloc, asked)? {
         None => Ok(None),
-        Some(plan) => {
-            let choice = first(alloc, &plan, tables)?;
-            Ok(choice)
-        }
+        Some(plan) => first(alloc, &plan, tables),
     }
 }

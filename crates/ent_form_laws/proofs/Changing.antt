@@ -34,9 +34,9 @@ use Rattle.ent_form.specs.Ordinary.{row_from, insert_in, tests_in, delete_in, se
 use Rattle.ent_form.specs.Scope.{table_in, table_scope}
 use Rattle.ent_form_laws.specs.Tables.{database_of, AreWide, effect_of}
 use Rattle.ent_form_laws.proofs.Heads.{grown}
-use Rattle.ent_form_laws.proofs.Putting.{put_at, insertion_same, deletion_same}
+use Rattle.ent_form_laws.proofs.Putting.{put_table, insertion_same, deletion_same}
 use Rattle.ent_form_laws.proofs.Selecting.{where_same}
-use Rattle.ent_form_laws.proofs.Sources.{name_of, told, names_seen}
+use Rattle.ent_form_laws.proofs.Sources.{name_of, names_seen}
 use Rattle.ent_form_laws.proofs.Steps.{one_answer, bound_given, demand_given, there_given}
 use Rattle.ent_form_laws.proofs.Terms.{value_same, kind_value_same}
 
@@ -95,17 +95,13 @@ module _ (creates : List Create) (tables : Tables) (fitting : AreWide creates ta
       found.0 found.1 in
       let kept = demand_given (length insert.values == length found.0.1.columns) (Arity insert.place) _ form found.2 in
       let row = bound_given (row_from bound [] found.0.1.columns insert.values) _ form kept.1 in
-      let here = told creates tables name 0 found.0 fitting there_it_is in
-      let put = put_at creates tables name 0 found.0 fitting there_it_is in
-      let number : here.number ≡ found.0.0 = let c = here.counted in omega arith in
-      let place : put.0 ≡ found.0.0 = let c = put.1 in omega arith in
-      let rows : database_of creates tables name ≡ (table_numbered put.0).rows tables =
-      here.rows ∙ ap (λ (n : ℕ). (table_numbered n).rows tables) (number ∙ sym place) in
+      let table = put_table creates tables name found.0 fitting there_it_is in
       ap (λ values. insertion (table_named name) values (database_of creates tables) environment)
       (sym (row_same environment bound found.0.1.columns insert.values [] row.0 (same_number _ _ kept.0) row.1))
-      ∙ insertion_same creates tables name put.0 put.2 environment (map (known_worth environment) row.0) rows
+      ∙ insertion_same creates tables name table.put.0 table.put.2 environment
+      (map (known_worth environment) row.0) table.rows
       ∙ ap (λ (n : ℕ). effect_of creates (insertion (table_numbered n) (map (known_worth environment) row.0) tables
-      environment)) place
+      environment)) table.place
       ∙ ap (λ (f : Statement Known). effect_of creates (meaning f)) (one_answer _ form row.2)
 
   pub delete_same : (delete : Delete) (form : Statement Known)
@@ -121,23 +117,18 @@ module _ (creates : List Create) (tables : Tables) (fitting : AreWide creates ta
       found.0 found.1 in
       let scope = table_scope name found.0 in
       let tests = bound_given (tests_in scope bound delete.tests) _ form found.2 in
-      let here = told creates tables name 0 found.0 fitting there_it_is in
-      let put = put_at creates tables name 0 found.0 fitting there_it_is in
-      let number : here.number ≡ found.0.0 = let c = here.counted in omega arith in
-      let place : put.0 ≡ found.0.0 = let c = put.1 in omega arith in
-      let rows : database_of creates tables name ≡ (table_numbered put.0).rows tables =
-      here.rows ∙ ap (λ (n : ℕ). (table_numbered n).rows tables) (number ∙ sym place) in
+      let table = put_table creates tables name found.0 fitting there_it_is in
       let columns : table_columns creates name name ≡ map name_of scope.columns =
-      ap (map (λ column. record { source = name; column = column })) here.columns
+      ap (map (λ column. record { source = name; column = column })) table.here.columns
       ∙ sym (names_seen name found.0.1.columns) in
       ap (λ columns. deletion (table_named name) (meets (operand_value environment columns) delete.tests)
       (database_of creates tables) environment) columns
       ∙ (λ i. deletion (table_named name) (λ row. where_same environment bound scope row delete.tests tests.0 tests.1
       i) (database_of creates tables) environment)
-      ∙ deletion_same creates tables name put.0 put.2 environment
-      (meets (operand_worth (known_worth environment)) tests.0) rows
+      ∙ deletion_same creates tables name table.put.0 table.put.2 environment
+      (meets (operand_worth (known_worth environment)) tests.0) table.rows
       ∙ ap (λ (n : ℕ). effect_of creates (deletion (table_numbered n)
-      (meets (operand_worth (known_worth environment)) tests.0) tables environment)) place
+      (meets (operand_worth (known_worth environment)) tests.0) tables environment)) table.place
       ∙ ap (λ (f : Statement Known). effect_of creates (meaning f)) (one_answer _ form tests.2)
 
   setting_same : (variable : Name) (value : Option Value)

@@ -17,6 +17,7 @@ use Rattle.ent_semantics.specs.Names.{equal_names, names_turned}
 use Rattle.ent_form.specs.declared.catalogue.TableSchema.{TableSchema}
 use Rattle.ent_form.specs.Catalogue.{table_schema, schemas_of, table_from}
 use Rattle.ent_form_laws.specs.Tables.{database_of, AreWide, effect_of}
+use Rattle.ent_form_laws.proofs.Sources.{Told, told}
 
 -- what is put under a name stands at its number
 abbrev Put : List Create → Tables → Name → ℕ → Type 0
@@ -148,3 +149,27 @@ module _ (creates : List Create) (tables : Tables) (name : Name) (number : ℕ) 
           ≡ effect_of creates (or_overflow there (changed (table_numbered number) count) tables environment)
       going_on None count = refl
       going_on (Some rows) count = changed_same count rows
+
+-- ---- a table that is found
+
+-- where it stands, how it is put there, and the rows that the database has of it
+pub record PutTable (creates : List Create) (tables : Tables) (name : Name) (found : ℕ × TableSchema) : Type 0 where
+  pub here : Told creates tables name 0 found
+  pub put : (number : ℕ) × (found.0 ≡ 0 + number) × Put creates tables name number
+  pub place : put.0 ≡ found.0
+  pub rows : database_of creates tables name ≡ (table_numbered put.0).rows tables
+
+pub put_table : (creates : List Create) (tables : Tables) (name : Name) (found : ℕ × TableSchema)
+    → AreWide creates tables → table_from 0 (schemas_of creates) name ≡ Some found
+    → PutTable creates tables name found
+put_table creates tables name found wide there =
+    let here = told creates tables name 0 found wide there in
+    let put = put_at creates tables name 0 found wide there in
+    let number : here.number ≡ found.0 = let c = here.counted in omega arith in
+    let place : put.0 ≡ found.0 = let c = put.1 in omega arith in
+    record {
+      here = here;
+      put = put;
+      place = place;
+      rows = here.rows ∙ ap (λ (n : ℕ). (table_numbered n).rows tables) (number ∙ sym place);
+    }

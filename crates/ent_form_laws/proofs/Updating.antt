@@ -32,9 +32,9 @@ use Rattle.ent_form.specs.Ordinary.{tests_in, image_in, update_in}
 use Rattle.ent_form.specs.Scope.{table_in, table_scope}
 use Rattle.ent_form_laws.specs.Tables.{database_of, AreWide, HaveDistinctColumns, effect_of}
 use Rattle.ent_form_laws.proofs.Images.{names_of, image_same}
-use Rattle.ent_form_laws.proofs.Putting.{put_at, replacement_same}
+use Rattle.ent_form_laws.proofs.Putting.{put_table, replacement_same}
 use Rattle.ent_form_laws.proofs.Selecting.{said, meant, where_same}
-use Rattle.ent_form_laws.proofs.Sources.{name_of, OfWidth, told, names_seen, names_again}
+use Rattle.ent_form_laws.proofs.Sources.{name_of, OfWidth, names_seen, names_again}
 use Rattle.ent_form_laws.proofs.Steps.{one_answer, bound_given, there_given}
 
 -- ---- rows of a width
@@ -114,16 +114,12 @@ module _ (creates : List Create) (tables : Tables) (fitting : AreWide creates ta
       let schema = found.0.1.columns in
       let tests = bound_given (tests_in scope bound update.tests) _ form found.2 in
       let made = bound_given (image_in scope bound schema update.assignments) _ form tests.2 in
-      let here = told creates tables name 0 found.0 fitting there_it_is in
-      let put = put_at creates tables name 0 found.0 fitting there_it_is in
-      let number : here.number ≡ found.0.0 = let c = here.counted in omega arith in
-      let place : put.0 ≡ found.0.0 = let c = put.1 in omega arith in
-      let rows : database_of creates tables name ≡ (table_numbered put.0).rows tables =
-      here.rows ∙ ap (λ (n : ℕ). (table_numbered n).rows tables) (number ∙ sym place) in
+      let table = put_table creates tables name found.0 fitting there_it_is in
       let columns : table_columns creates name name ≡ map name_of scope.columns =
-      ap (map (λ column. record { source = name; column = column })) here.columns ∙ sym (names_seen name schema) in
+      ap (map (λ column. record { source = name; column = column })) table.here.columns
+      ∙ sym (names_seen name schema) in
       let wide : OfWidth (length schema) (database_of creates tables name) =
-      subst (λ (r : Rows). OfWidth (length schema) r) (sym here.rows) here.wide in
+      subst (λ (r : Rows). OfWidth (length schema) r) (sym table.here.rows) table.here.wide in
       let form_image : List Value → Option (List Value) = λ row. all_there
       (map (expression_value (meant environment bound scope row)) made.0) in
       let tree_image : List Value → Option (List Value) = image (said environment bound scope) update.assignments
@@ -140,12 +136,13 @@ module _ (creates : List Create) (tables : Tables) (fitting : AreWide creates ta
       environment) columns
       ∙ ap (λ (names : List Name). replacement (table_named name) (meets (said environment bound scope) update.tests)
       (image (said environment bound scope) update.assignments
-      (map (λ column. record { source = name; column = column }) names)) database environment) here.columns
+      (map (λ column. record { source = name; column = column }) names)) database environment) table.here.columns
       ∙ (λ i. replacement (table_named name) (λ row. where_same environment bound scope row update.tests tests.0
       tests.1 i) tree_image database environment)
       ∙ ap (λ (left : Option Rows). or_overflow left (changed (table_named name)
       (set.len (matched matches (database name)))) database environment)
       (updated_alike matches tree_image form_image (database name) (length schema) wide alike)
-      ∙ replacement_same creates tables name put.0 put.2 environment matches form_image rows
-      ∙ ap (λ (n : ℕ). effect_of creates (replacement (table_numbered n) matches form_image tables environment)) place
+      ∙ replacement_same creates tables name table.put.0 table.put.2 environment matches form_image table.rows
+      ∙ ap (λ (n : ℕ). effect_of creates (replacement (table_numbered n) matches form_image tables environment))
+      table.place
       ∙ ap (λ (f : Statement Known). effect_of creates (meaning f)) (one_answer _ form made.2)

@@ -30,29 +30,18 @@ use Rattle.ent_form_laws.proofs.Opened.{declared_once}
 use Rattle.ent_form_laws.proofs.Steps.{one_answer, bound_given}
 use Rattle.ent_protocol.specs.Reached.{table_names}
 use Rattle.ent_protocol.specs.Uses.{shared, exclusive, statement_uses}
-use Rattle.ent_serializability.specs.Faithful.{table_number, is_used, is_owned, IsFaithfulEntangled, IsFaithful, InTurn}
+use Rattle.ent_serializability.specs.Faithful.{table_number, is_used, is_owned}
+use Rattle.ent_serializability.specs.Faithful.{IsFaithfulEntangled, IsFaithful, InTurn}
 use Rattle.ent_serializability.specs.Faithful.{AreFaithful}
 use Rattle.ent_headline.specs.Resolved.{resolved_forms}
+use Rattle.ent_headline.proofs.FormLaws.{FormLaws}
 use Rattle.ent_headline.proofs.Named.{IsRight, statement_right}
 use Rattle.ent_headline.proofs.Used.{UsesOf, uses_are, used_there, owned_there, all_declared}
 use Rattle.ent_headline.proofs.Widths.{widths_kept}
 
 -- what lower crates say of forms, declarations and openings
 pub record Laws : Type 0 where
-  pub means : (creates : List Create) (tables : Tables) (environment : Environment) (valuation : Valuation)
-      → (bound after : Bound) (statement : TreeStatement) (form : Statement Known)
-      → AreWide creates tables → HaveDistinctColumns creates
-      → statement_in (schemas_of creates) bound statement ≡ Ok (form, after) → Answers statement valuation
-      → statement_meaning creates statement valuation (database_of creates tables) environment
-      ≡ effect_of creates (form_meaning known_worth form valuation tables environment)
-  pub variables : (tables : List TableSchema) (bound after : Bound) (entangled : TreeEntangled)
-      → (form : Entangled Known) → entangled_in tables bound entangled ≡ Ok (form, after)
-      → length form.variables ≡ length (written_variables entangled)
-  pub grounds : (creates : List Create) (tables : Tables) (environment : Environment) (bound after : Bound)
-      → (entangled : TreeEntangled) (form : Entangled Known) (valuation : Valuation)
-      → AreWide creates tables → entangled_in (schemas_of creates) bound entangled ≡ Ok (form, after)
-      → is_grounding creates (database_of creates tables) environment entangled valuation
-      ≡ is_form_grounding (known_worth environment) tables form valuation
+  pub forms : FormLaws
   pub offers : (tables : List TableSchema) (bound after : Bound) (entangled : TreeEntangled)
       → (form : Entangled Known) (environment : Environment) (valuation : Valuation)
       → entangled_in tables bound entangled ≡ Ok (form, after)
@@ -68,8 +57,6 @@ pub record Laws : Type 0 where
       → AreKinded (schemas_of opening.tables) (opening_tables opening)
   pub database : (opening : Opening) → opening_fault opening ≡ None
       → database_of opening.tables (opening_tables opening) ≡ opening_database opening
-  pub wide : (creates : List Create) (tables : Tables) → AreKinded (schemas_of creates) tables
-      → AreWide creates tables
 
 module _ (laws : Laws) (creates : List Create) (apart : HaveDistinctColumns creates) (bound : Bound) where
   -- ---- entangled statements
@@ -79,9 +66,9 @@ module _ (laws : Laws) (creates : List Create) (apart : HaveDistinctColumns crea
       → IsFaithfulEntangled creates entangled form
   faithful_entangled entangled form after e =
       record {
-        variables = laws.variables (schemas_of creates) bound after entangled form e;
+        variables = laws.forms.variables (schemas_of creates) bound after entangled form e;
         grounds = λ tables environment valuation wide.
-            laws.grounds creates tables environment bound after entangled form valuation wide e;
+            laws.forms.grounds creates tables environment bound after entangled form valuation wide e;
         offers = λ environment valuation long.
             laws.offers (schemas_of creates) bound after entangled form environment valuation e long;
         demands = λ environment valuation long.
@@ -111,7 +98,7 @@ module _ (laws : Laws) (creates : List Create) (apart : HaveDistinctColumns crea
       let changes = exclusive_tables statement in
       record {
         means = λ tables environment valuation wide answers.
-            laws.means creates tables environment valuation bound after statement form wide apart e answers;
+            laws.forms.means creates tables environment valuation bound after statement form wide apart e answers;
         keeps_width = λ tables environment valuation effect wide is.
             IfOk-at_ok (λ effect. AreWide creates effect.database) is
             (widths_kept creates tables environment wide form valuation right.fits);
@@ -119,7 +106,8 @@ module _ (laws : Laws) (creates : List Create) (apart : HaveDistinctColumns crea
             subst (λ all. is_used all (table_number creates name) ≡ true) (uses_named statement form right environment)
             (used_there creates reads changes name there);
         writes = λ environment name there.
-            subst (λ all. is_owned all (table_number creates name) ≡ true) (uses_named statement form right environment)
+            subst (λ all. is_owned all (table_number creates name) ≡ true)
+            (uses_named statement form right environment)
             (owned_there creates reads changes name there);
         declared = λ environment table there.
             all_declared creates reads changes right.reads.declared right.changes.declared table
@@ -160,7 +148,7 @@ resolved_faithful laws opening e =
     let same : opening_tables opening ≡ map (opening_database opening) (table_names opening) =
     sym (map-map (opening_database opening) (λ (create : Create). create.name.name) creates) in
     record {
-      wide = subst (AreWide creates) same (laws.wide creates (opening_tables opening) (laws.kinds opening e));
+      wide = subst (AreWide creates) same (laws.forms.wide creates (opening_tables opening) (laws.kinds opening e));
       opens = ap (database_of creates) (sym same) ∙ laws.database opening e;
       each = λ script form is.
           let plain = bound_given (script_in (schemas_of creates) script) _ form is in

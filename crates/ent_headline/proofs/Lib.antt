@@ -2,6 +2,7 @@ pub mod Numbers
 pub mod Widths
 pub mod FittedRows
 pub mod Named
+pub mod FormLaws
 pub mod Used
 pub mod Faithful
 pub mod Outstanding

@@ -36,6 +36,7 @@ use Rattle.ent_form_laws.specs.Kinds.{kinds_numbered, AnswersInKind, AreKinded, 
 use Rattle.ent_form_laws.specs.Tables.{database_of, effect_of, Answers, AreWide, HaveDistinctColumns}
 use Rattle.ent_form_laws.proofs.Steps.{one_answer, bound_given}
 use Rattle.ent_headline.specs.Kinds.{bound_behind}
+use Rattle.ent_headline.proofs.FormLaws.{FormLaws}
 
 -- an ordinary statement fits the tables that it names
 abbrev pub FitsLaw : Type 0
@@ -48,20 +49,7 @@ FitsLaw =
 
 -- what lower crates say of resolved statements
 pub record Laws : Type 0 where
-  pub means : (creates : List Create) (tables : Tables) (environment : Environment) (valuation : Valuation)
-      → (bound after : Bound) (statement : TreeStatement) (form : Statement Known)
-      → AreWide creates tables → HaveDistinctColumns creates
-      → statement_in (schemas_of creates) bound statement ≡ Ok (form, after) → Answers statement valuation
-      → statement_meaning creates statement valuation (database_of creates tables) environment
-      ≡ effect_of creates (form_meaning known_worth form valuation tables environment)
-  pub variables : (tables : List TableSchema) (bound after : Bound) (entangled : TreeEntangled)
-      → (form : Entangled Known) → entangled_in tables bound entangled ≡ Ok (form, after)
-      → length form.variables ≡ length (written_variables entangled)
-  pub grounds : (creates : List Create) (tables : Tables) (environment : Environment) (bound after : Bound)
-      → (entangled : TreeEntangled) (form : Entangled Known) (valuation : Valuation)
-      → AreWide creates tables → entangled_in (schemas_of creates) bound entangled ≡ Ok (form, after)
-      → is_grounding creates (database_of creates tables) environment entangled valuation
-      ≡ is_form_grounding (known_worth environment) tables form valuation
+  pub forms : FormLaws
   pub closing : (environment : Environment) (tables : Tables) (entangled : Entangled Known) (valuation : Valuation)
       → is_form_grounding (λ value. value) tables (closed_entangled environment entangled) valuation
       ≡ is_form_grounding (known_worth environment) tables entangled valuation
@@ -71,8 +59,6 @@ pub record Laws : Type 0 where
       → HasKinds bound environment
       → is_form_grounding (λ value. value) tables (closed_entangled environment form) valuation ≡ true
       → kinds_of valuation ≡ form.variables
-  pub wide : (creates : List Create) (tables : Tables) → AreKinded (schemas_of creates) tables
-      → AreWide creates tables
   pub fits : FitsLaw
   pub tables : (schemas : List TableSchema) (bound after : Bound) (statement : TreeStatement)
       → (form : Statement Known) (valuation : Valuation) (tables : Tables) (environment : Environment)
@@ -142,8 +128,8 @@ module _ (laws : Laws) (creates : List Create) (apart : HaveDistinctColumns crea
       let there : is_form_grounding (λ value. value) stands.tables (closed_entangled environment found.0.0) valuation
       ≡ true =
       laws.closing environment stands.tables found.0.0 valuation
-      ∙ sym (laws.grounds creates stands.tables environment bound found.0.1 tree found.0.0 valuation
-      (laws.wide creates stands.tables stands.kinded) found.1)
+      ∙ sym (laws.forms.grounds creates stands.tables environment bound found.0.1 tree found.0.0 valuation
+      (laws.forms.wide creates stands.tables stands.kinded) found.1)
       ∙ subst (λ (over : Database). is_grounding creates over environment tree valuation ≡ true) stands.is grounded in
       let kinds : kinds_of valuation ≡ found.0.0.variables =
       laws.groundings schemas bound found.0.1 tree found.0.0 environment stands.tables valuation found.1 stands.kinded
@@ -152,7 +138,7 @@ module _ (laws : Laws) (creates : List Create) (apart : HaveDistinctColumns crea
       ap (λ (f : Statement Known × Bound). f.0)
       (one_answer (statements.Entangled found.0.0, found.0.1) (form, after) found.2) in (
         sym (length-map valuation kind_of) ∙ ap length kinds
-            ∙ laws.variables schemas bound found.0.1 tree found.0.0 found.1,
+            ∙ laws.forms.variables schemas bound found.0.1 tree found.0.0 found.1,
         subst (λ (f : Statement Known). AnswersInKind f valuation) same kinds,
       )
 
@@ -201,8 +187,8 @@ module _ (laws : Laws) (creates : List Create) (apart : HaveDistinctColumns crea
   effect_kept statement bound after form valuation database environment effect e stands have answers is =
       let tables = stands.tables in
       let over = effect_given creates (form_meaning known_worth form valuation tables environment) effect
-      (sym (laws.means creates tables environment valuation bound after statement form
-      (laws.wide creates tables stands.kinded) apart e answers.0)
+      (sym (laws.forms.means creates tables environment valuation bound after statement form
+      (laws.forms.wide creates tables stands.kinded) apart e answers.0)
       ∙ subst (λ (over : Database). statement_meaning creates statement valuation over environment ≡ Ok effect)
       stands.is is) in (
         record {

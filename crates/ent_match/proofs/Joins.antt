@@ -15,7 +15,7 @@ use Rattle.ent_match.specs.Fault.{IsByNumber}
 use Rattle.ent_match.specs.Links.{IsMarked, PathIn, Grows, Closed}
 use Rattle.ent_match.specs.Remainder.{At}
 use Rattle.ent_match.specs.Components.{flipped, IsKept, AreJoinsOf, marked_in, AreLinkedBy}
-use Rattle.ent_match.proofs.Offered.{one_place}
+use Rattle.ent_match.proofs.Linked.{one_place}
 use Rattle.ent_match.proofs.Placed.{contains_cases, contains_first, contains_later}
 use Rattle.ent_match.proofs.Marks.{front_cases}
 

@@ -2,7 +2,7 @@ pub mod Numbered
 pub mod Faults
 pub mod Placed
 pub mod Marks
-pub mod Offered
+pub mod Linked
 pub mod Joins
 pub mod Firsts
 pub mod Listing
@@ -10,3 +10,6 @@ pub mod Alike
 pub mod Parts
 pub mod Marked
 pub mod Owners
+pub mod Offered
+pub mod Partners
+pub mod Refused

@@ -2,7 +2,7 @@
 use Rattle.std.proofs.Common.{◌≡◌, ℕ, zero, suc, ◌+◌, ◌<◌, ◌≤◌, Bool, true, false, not, cond, List, [], ◌∷◌}
 use Rattle.std.proofs.Common.{◌++◌}
 use Rattle.std.proofs.Common.{length, get_or, refl, sym, ◌∙◌, ap, subst, arith, inl, inr, true≢false}
-use Rattle.std.specs.Prelude.{Contains, ◌==◌, ◌≢◌, if◌then◌else◌}
+use Rattle.std.specs.Prelude.{Contains, ◌==◌, if◌then◌else◌}
 use Rattle.std.proofs.lemmas.Bool.{cases_lt, cases_Bool, eq-eqb, eqb-true}
 use Rattle.std.proofs.lemmas.List.Elements.{Contains-push_cases, Contains-push, Contains-append_left, Contains-get_or}
 use Rattle.std.proofs.lemmas.List.Quantifiers.{all_pairs_push}
@@ -14,12 +14,12 @@ use Rattle.ent_coordination.specs.Pool.{Posted, CanMeet, IsSafe, first_tx}
 use Rattle.ent_match.specs.declared.link.Link.{Link}
 use Rattle.ent_match.specs.Fault.{IsByNumber}
 use Rattle.ent_match.specs.Links.{Closed, IsMarked, PathIn, Closes}
-use Rattle.ent_match.specs.Remainder.{At, HasOffers, IsAsked, IsStart}
+use Rattle.ent_match.specs.Remainder.{At, HasLinks, IsAsked, IsStart}
 use Rattle.ent_match.specs.Components.{flipped, AreJoinsOf, marked_in, IsClassAt, AreLinkedBy, AreComponents}
 use Rattle.ent_match.specs.Components.{AscendByFirst}
 use Rattle.ent_match.proofs.Numbered.{at_place, same_member}
 use Rattle.ent_match.proofs.Firsts.{first_is, marked_before, removed_closed}
-use Rattle.ent_match.proofs.Offered.{one_place}
+use Rattle.ent_match.proofs.Linked.{one_place}
 use Rattle.ent_match.proofs.Joins.{class_component, at_marked}
 
 -- ---- the list of classes
@@ -269,7 +269,7 @@ module _ (pool : List Posted) (ordered : IsByNumber pool) (safe : IsSafe pool) (
   start_remains : (k : ℕ) → get_or removed k false ≡ false → get_or start k false ≡ false
   start_remains k remains = not_marked start k (λ gone. true≢false (sym (c.grows.kept k gone) ∙ remains))
 
-  offers_at : (k : ℕ) → k < length pool → get_or removed k false ≡ false → HasOffers pool links k
+  offers_at : (k : ℕ) → k < length pool → get_or removed k false ≡ false → HasLinks pool links k
   offers_at k below remains = subst (λ b. IsAsked pool links k b) (start_remains k remains) (s.asked k below)
 
   supported : IsSupported pool (remaining removed pool)

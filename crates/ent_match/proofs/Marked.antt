@@ -3,8 +3,7 @@ use Rattle.std.proofs.Common.{◌≡◌, ◌≢◌, ◌⊎◌, ◌∙◌, ℕ, z
 use Rattle.std.proofs.Common.{◌++◌, take, length, get_or, map, set, refl, sym, ap, subst, arith, inl, inr, true≢false}
 use Rattle.std.proofs.lemmas.Bool.{cases_Bool, cases_lt}
 use Rattle.std.proofs.lemmas.List.{get_or_default, get_or-set_same, get_or-set_other, length-set}
-use Rattle.ent_coordination.specs.Component.{AreJoined}
-use Rattle.ent_coordination.specs.Pool.{IsSafe, Posted}
+use Rattle.ent_coordination.specs.Pool.{Posted}
 use Rattle.ent_coordination.proofs.Linked.{joined_back}
 use Rattle.ent_match.specs.Components.{marked_in}
 use Rattle.ent_match.specs.Links.{IsMarked}
@@ -12,8 +11,6 @@ use Rattle.ent_match.specs.Parts.{AreLeast, AreMarkedFrom, AreSplit, IsMarkedPar
 use Rattle.ent_match.specs.Parts.{JoinedAreMarked}
 use Rattle.ent_match.specs.Remainder.{At}
 use Rattle.ent_match.proofs.Joins.{at_marked, class_more, marked_at}
-use Rattle.ent_match.proofs.Offered.{one_place}
-use Rattle.ent_match.proofs.Parts.{safe_part}
 
 pub marked_below : (marks : List Bool) (place : ℕ) → IsMarked marks place → place < length marks
 marked_below [] place marked = absurd (true≢false (sym marked))
@@ -75,7 +72,7 @@ fewer_left (false ∷ marks) (member ∷ pool) (suc place) below marked =
 -- ---- the part and the rest
 
 module _ (pool : List Posted) (place : ℕ) (marks : List Bool) (is : IsMarkedPart pool place marks) where
-  marked_part : IsPart pool (marked_in marks pool)
+  pub marked_part : IsPart pool (marked_in marks pool)
   marked_part =
       record {
         within = λ member inside. let r = marked_at marks pool member inside in (r.0, r.1.0, r.1.1);
@@ -85,7 +82,7 @@ module _ (pool : List Posted) (place : ℕ) (marks : List Bool) (is : IsMarkedPa
             at_marked marks pool other there.0 at (is.joined r.0 r.2 there.0 one other r.1 at joined);
       }
 
-  left_part : IsPart pool (marked_in (map not marks) pool)
+  pub left_part : IsPart pool (marked_in (map not marks) pool)
   left_part =
       record {
         within = λ member inside. let r = marked_at (map not marks) pool member inside in (r.0, r.1.0, r.1.1);
@@ -102,12 +99,6 @@ module _ (pool : List Posted) (place : ℕ) (marks : List Bool) (is : IsMarkedPa
                   (left_out marks there.0 (let below = at.0 in omega arith) unmarked)
             ];
       }
-
-  pub safe_split : IsSafe pool → IsSafe (marked_in marks pool) × IsSafe (marked_in (map not marks) pool)
-  safe_split safe = (
-    safe_part pool (marked_in marks pool) marked_part safe,
-    safe_part pool (marked_in (map not marks) pool) left_part safe,
-  )
 
   pub split_at : place < length pool → AreSplit pool place (marked_in marks pool) (marked_in (map not marks) pool)
   split_at below =
@@ -175,34 +166,3 @@ put_more marks pool i o member old new room below is marked own so_far pushed =
     pushed ∙ (ap (λ (xs : List Posted). xs ++ member ∷ []) so_far
     ∙ (ap (λ (m : Posted). marked_in (take i marks) (take i pool) ++ m ∷ []) own
     ∙ sym (class_more marks pool i o room below is marked)))
-
--- ---- one statement after the other
-
-abbrev pub JoinedUpTo : List Posted → Posted → ℕ → List Bool → Type 0
-JoinedUpTo pool one n marks =
-    (last : ℕ) (other : Posted) → last < n → At pool last other → AreJoined one other → IsMarked marks last
-
-pub joined_more : (pool : List Posted) (one : Posted) (cur new : List Bool) (i : ℕ)
-    → ((k : ℕ) → IsMarked cur k → IsMarked new k) → JoinedUpTo pool one i cur
-    → ((other : Posted) → At pool i other → AreJoined one other → IsMarked new i) → JoinedUpTo pool one (i + 1) new
-joined_more pool one cur new i kept so_far here last other below at joined =
-    elim (cases_lt last i) [
-      | inl before ↦ kept last (so_far last other before at joined)
-      | inr not_before ↦
-          let same : i ≡ last = omega arith in
-          subst (IsMarked new) same (here other (subst (λ k. At pool k other) (sym same) at) joined)
-    ]
-
-abbrev pub IsSoundUpTo : List Posted → Posted → List Bool → List Bool → Type 0
-IsSoundUpTo pool one old new =
-    (last : ℕ) (other : Posted) → IsMarked new last → At pool last other → IsMarked old last ⊎ AreJoined one other
-
-pub sound_more : (pool : List Posted) (one : Posted) (old cur : List Bool) (i : ℕ) (o : Posted) → i < length pool
-    → o ≡ get_or pool i o → AreJoined one o → IsSoundUpTo pool one old cur → IsSoundUpTo pool one old (set cur i true)
-sound_more pool one old cur i o below is joined so_far last other marked at =
-    elim (marked_before cur i last marked) [
-      | inl same ↦
-          let own = one_place pool i o other (below, sym is) (subst (λ k. At pool k other) (sym same) at) in
-          inr (subst (AreJoined one) own joined)
-      | inr before ↦ so_far last other before at
-    ]

@@ -1,123 +1,517 @@
--- What the links of a pool say of its posts.
-use Rattle.std.proofs.Common.{◌≡◌, ◌⊎◌, ℕ, zero, suc, ◌+◌, ◌<◌, ◌≤◌, Bool, true, false, List, [], ◌∷◌, ◌++◌}
-use Rattle.std.proofs.Common.{length, get_or, refl, sym, ◌∙◌, ap, subst, arith, inl, inr}
-use Rattle.std.specs.Prelude.{Contains}
-use Rattle.std.proofs.lemmas.Bool.{cases_lt}
-use Rattle.std.proofs.lemmas.List.{get_or_default}
-use Rattle.std.proofs.lemmas.Option.{slice_get-get_or}
-use Rattle.std.proofs.lemmas.List.Elements.{Contains-push_cases, Contains-push, Contains-append_left}
-use Rattle.ent_value.specs.declared.value.Value.{Value}
-use Rattle.ent_closed.specs.declared.entangled.Atom.{Atom}
-use Rattle.ent_coordination.specs.Component.{IsInRemainder}
-use Rattle.ent_coordination.specs.Pool.{Posted}
-use Rattle.ent_match.specs.declared.link.Link.{Link}
-use Rattle.ent_match.specs.Fault.{HasNoOwner}
-use Rattle.ent_match.specs.Remainder.{At, IsOwnerAt, IsOffer, HasOffer, HasOffers, IsAsked, AsksTo}
+-- Offers that are put down, and the offers of a pool.
+use Rattle.std.proofs.Common.{◌≡◌, ◌≢◌, ◌⊎◌, ◌∙◌, ℕ, ◌+◌, ◌<◌, ◌≤◌, Bool, true, false, not, List, [], ◌∷◌, ◌++◌}
+use Rattle.std.proofs.Common.{filter, take, length, get_or, refl, sym, ap, subst, arith, inl, inr, true≢false}
+use Rattle.std.proofs.Common.{Option, Some, None}
+use Rattle.std.specs.Prelude.{◌==◌, Contains, MatchOption, is_some}
+use Rattle.std.proofs.lemmas.Bool.{cases_Bool, cases_lt}
+use Rattle.std.proofs.lemmas.List.{take_more, take_all}
+use Rattle.std.proofs.lemmas.List.Elements.{Contains-push_cases, Contains-push, Contains-append_left, Contains-get_or}
+use Rattle.std.proofs.lemmas.Option.{slice_get_within}
+use Rattle.ent_lists.specs.Elements.{clash, turned, or_first, or_second, or_cases, not_so, same_number, number_itself}
+use Rattle.ent_lists.specs.Elements.{other_number, differ, of_filter, to_filter, contains_in, in_contains}
+use Rattle.ent_coordination.specs.Pool.{Posted, CanMeet, IsSafe}
+use Rattle.ent_match.specs.declared.offers.Offer.{Offer}
+use Rattle.ent_match.specs.Fault.{HasNoOwner, IsByNumber, IsSafeBut}
+use Rattle.ent_match.specs.Offers.{AreOffers, AreOffersBut, AreThoseWithin, GrowBy, IsBetween, IsContested, IsMetBy}
+use Rattle.ent_match.specs.Offers.{IsOfPair, IsOffered, is_of, is_of_others}
+use Rattle.ent_match.specs.Parts.{IsPart}
+use Rattle.ent_match.specs.Place.{HasNoneOf, HasOneOf, IsPlaceOf}
+use Rattle.ent_match.specs.Posting.{Adds, HasNone, is_of_other}
+use Rattle.ent_match.specs.Remainder.{IsOwnerAt}
+use Rattle.ent_match.proofs.Firsts.{some_at}
+use Rattle.ent_match.proofs.Marks.{same_or_not}
+use Rattle.ent_match.proofs.Numbered.{front_cases, front_all, same_member}
 
--- two statements at one place are one
-pub one_place : (pool : List Posted) (k : ℕ) (x y : Posted) → At pool k x → At pool k y → x ≡ y
-one_place pool k x y (below, is_x) (below_y, is_y) = sym is_x ∙ (get_or_default pool k x y below ∙ is_y)
+abbrev pub offer_of : ℕ → ℕ → ℕ → Offer
+offer_of asker index owner = record { asker = asker; index = index; owner = owner }
 
-some_atom : Atom Value
-some_atom = record { relation = []; terms = [] }
+-- ---- lists that grow
 
--- a post that unifies with no head keeps its statement out of the remainder
-pub unmet : (pool : List Posted) (place : ℕ) (o : Posted) (index : ℕ) → place < length pool → o ≡ get_or pool place o
-    → index < length o.statement.posts → HasNoOwner pool o index
-    → (asker : Posted) → At pool place asker → IsInRemainder pool asker → ⊥
-unmet pool place o index below is post none asker at remains =
-    let same : o ≡ asker = one_place pool place o asker (below, sym is) at in
-    let in_post = slice_get-get_or o.statement.posts index some_atom post in
-    let r = subst (IsInRemainder pool) (sym same) remains in
-    let met = r.supported o index (get_or o.statement.posts index some_atom) r.is_in in_post in
-    none met.0 met.1.0 met.2
+pub grow_push : (IsNew : Offer → Type 0) (first old new : List Offer) (made : Offer) → new ≡ old ++ made ∷ []
+    → IsNew made → GrowBy first old IsNew → GrowBy first new IsNew
+grow_push IsNew first old new made pushed is grow =
+    record {
+      kept = λ offer inside. subst (λ xs. Contains xs offer) (sym pushed)
+          (Contains-append_left old (made ∷ []) offer (grow.kept offer inside));
+      sound = λ offer inside.
+          elim (Contains-push_cases old made offer (subst (λ xs. Contains xs offer) pushed inside)) [
+            | inl before ↦ grow.sound offer before
+            | inr last ↦ inr (subst IsNew last is)
+          ];
+    }
 
-pub offered_more : (pool : List Posted) (first old new : List Link) (place : ℕ) (o : Posted) (index owner : ℕ)
-    → place < length pool → o ≡ get_or pool place o → IsOwnerAt pool o index owner
-    → new ≡ old ++ record { from = owner; to = place } ∷ []
-    → ((link : Link) → Contains first link → Contains old link)
-    → ((link : Link) → Contains old link → Contains first link ⊎ IsOffer pool link)
-    → ((i : ℕ) → i < index → HasOffer pool old place o i)
-    → ((link : Link) → Contains first link → Contains new link)
-    × ((link : Link) → Contains new link → Contains first link ⊎ IsOffer pool link)
-    × ((i : ℕ) → i < index + 1 → HasOffer pool new place o i)
-offered_more pool first old new place o index owner below is owns pushed grows sound so_far = (
-  (λ link inside. into link (grows link inside)),
-  (λ link inside. elim (Contains-push_cases old made link (subst (λ xs. Contains xs link) pushed inside)) [
-    | inl before ↦ sound link before
-    | inr last ↦ inr (subst (IsOffer pool) last
-        (record { asker = o; asks = (below, sym is); index = index; owner = owns }))
-  ]),
-  (λ i less. elim (cases_lt i index) [
-    | inl earlier ↦ (let h = so_far i earlier in record { from = h.from; owner = h.owner; listed = into _ h.listed })
-    | inr not_earlier ↦
-        let here : index ≡ i = omega arith in
-        subst (HasOffer pool new place o) here (record { from = owner; owner = owns; listed = last_one })
-  ]),
-)
+pub grow_then : (IsNew IsNext : Offer → Type 0) (first old new : List Offer)
+    → ((offer : Offer) → IsNext offer → IsNew offer) → GrowBy first old IsNew → GrowBy old new IsNext
+    → GrowBy first new IsNew
+grow_then IsNew IsNext first old new into before after =
+    record {
+      kept = λ offer inside. after.kept offer (before.kept offer inside);
+      sound = λ offer inside. elim (after.sound offer inside) [
+        | inl earlier ↦ before.sound offer earlier
+        | inr made ↦ inr (into offer made)
+      ];
+    }
+
+-- what is put down of the first so many posts of a statement
+pub record MetSoFar (first new : List Offer) (asker owner : Posted) (n : ℕ) : Type 0 where
+  pub grow : GrowBy first new (IsMetBy asker owner)
+  pub so_far : (index : ℕ) → index < n → CanMeet asker index owner
+      → Contains new (offer_of asker.tx index owner.tx)
+
+pub met_more : (first old new : List Offer) (asker owner : Posted) (i a b : ℕ) → a ≡ asker.tx → b ≡ owner.tx
+    → new ≡ old ++ offer_of a i b ∷ [] → CanMeet asker i owner → MetSoFar first old asker owner i
+    → MetSoFar first new asker owner (i + 1)
+met_more first old new asker owner i a b is_a is_b pushed meets before =
+    record {
+      grow = grow_push (IsMetBy asker owner) first old new (offer_of a i b) pushed (is_a, is_b, meets) before.grow;
+      so_far = λ index below met. elim (cases_lt index i) [
+        | inl less ↦ subst (λ xs. Contains xs (offer_of asker.tx index owner.tx)) (sym pushed)
+            (Contains-append_left old (offer_of a i b ∷ []) (offer_of asker.tx index owner.tx)
+            (before.so_far index less met))
+        | inr not_less ↦
+            let here : i ≡ index = omega arith in
+            subst (λ k. Contains new (offer_of asker.tx k owner.tx)) here last
+      ];
+    }
   where
-    made : Link
-    made = record { from = owner; to = place }
+    last : Contains new (offer_of asker.tx i owner.tx)
+    last =
+        subst (λ t. Contains new (offer_of t i owner.tx)) is_a
+        (subst (λ t. Contains new (offer_of a i t)) is_b
+        (subst (λ xs. Contains xs (offer_of a i b)) (sym pushed) (Contains-push old (offer_of a i b))))
 
-    into : (link : Link) → Contains old link → Contains new link
-    into link inside = subst (λ xs. Contains xs link) (sym pushed)
-        (Contains-append_left old (record { from = owner; to = place } ∷ []) link inside)
+pub met_same : (first old : List Offer) (asker owner : Posted) (i : ℕ) → (CanMeet asker i owner → ⊥)
+    → MetSoFar first old asker owner i → MetSoFar first old asker owner (i + 1)
+met_same first old asker owner i none before =
+    record {
+      grow = before.grow;
+      so_far = λ index below met. elim (cases_lt index i) [
+        | inl less ↦ before.so_far index less met
+        | inr not_less ↦
+            let here : index ≡ i = omega arith in absurd (none (subst (λ k. CanMeet asker k owner) here met))
+      ];
+    }
 
-    last_one : Contains new (record { from = owner; to = place })
-    last_one = subst (λ xs. Contains {X = Link} xs (record { from = owner; to = place })) (sym pushed)
-        (Contains-push old (record { from = owner; to = place }))
-
-pub all_offered : (pool : List Posted) (links : List Link) (place : ℕ) (o : Posted) (n : ℕ) → o ≡ get_or pool place o
-    → place < length pool → length o.statement.posts ≤ n → ((i : ℕ) → i < n → HasOffer pool links place o i)
-    → HasOffers pool links place
-all_offered pool links place o n is below all each asker index at post =
-    let same : o ≡ asker = one_place pool place o asker (below, sym is) at in
-    subst (λ z. index < length z.statement.posts → HasOffer pool links place z index) same
-    (λ within. each index (omega arith)) post
+pub met_all : (first new : List Offer) (asker owner : Posted) (n : ℕ) → length asker.statement.posts ≤ n
+    → MetSoFar first new asker owner n → (offer : Offer) → IsMetBy asker owner offer → Contains new offer
+met_all first new asker owner n all are offer (is_asker, is_owner, meets) =
+    let within = slice_get_within asker.statement.posts offer.index meets.post meets.is_post in
+    let listed = are.so_far offer.index (omega arith) meets in
+    subst (λ t. Contains new (offer_of t offer.index offer.owner)) (sym is_asker)
+    (subst (λ t. Contains new (offer_of asker.tx offer.index t)) (sym is_owner) listed)
 
 -- ---- statement by statement
 
-asked_grows : (pool : List Posted) (old new : List Link) (place : ℕ) (b : Bool)
-    → ((link : Link) → Contains old link → Contains new link)
-    → IsAsked pool old place b → IsAsked pool new place b
-asked_grows pool old new place true grows asked = asked
-asked_grows pool old new place false grows asked = λ asker index at post.
-    let h = asked asker index at post in record { from = h.from; owner = h.owner; listed = grows _ h.listed }
+-- what is put down of the first so many statements of a pool
+pub record BetweenSoFar (first new : List Offer) (pool : List Posted) (one : Posted) (n : ℕ) : Type 0 where
+  pub grow : GrowBy first new (IsBetween pool one)
+  pub so_far : (offer : Offer) → IsBetween (take n pool) one offer → Contains new offer
 
-get_or-pushed : (xs : List Bool) (b : Bool) (k : ℕ) → k < length xs → get_or (xs ++ b ∷ []) k false ≡ get_or xs k false
-get_or-pushed [] b k below = absurd (omega arith)
-get_or-pushed (x ∷ xs) b zero below = refl
-get_or-pushed (x ∷ xs) b (suc k) below = get_or-pushed xs b k (omega arith)
+pub between_grow : (first old new : List Offer) (pool : List Posted) (one : Posted) (n : ℕ) (o : Posted)
+    → n < length pool → o ≡ get_or pool n o → GrowBy old new (IsOfPair o one)
+    → BetweenSoFar first old pool one n → GrowBy first new (IsBetween pool one)
+between_grow first old new pool one n o below is grow before =
+    grow_then (IsBetween pool one) (IsOfPair o one) first old new (λ offer pair. (o, (n, below, sym is), pair))
+    before.grow grow
 
-get_or-last : (xs : List Bool) (b : Bool) → get_or (xs ++ b ∷ []) (length xs) false ≡ b
-get_or-last [] b = refl
-get_or-last (x ∷ xs) b = get_or-last xs b
+pub between_more : (first old new : List Offer) (pool : List Posted) (one : Posted) (n : ℕ) (o : Posted)
+    → n < length pool → o ≡ get_or pool n o → GrowBy old new (IsOfPair o one)
+    → ((offer : Offer) → IsOfPair o one offer → Contains new offer)
+    → BetweenSoFar first old pool one n → BetweenSoFar first new pool one (n + 1)
+between_more first old new pool one n o below is grow all before =
+    record {
+      grow = between_grow first old new pool one n o below is grow before;
+      so_far = λ offer between. elim (front_cases pool n o between.0 below is between.1) [
+        | inl front ↦ grow.kept offer (before.so_far offer (between.0, front, between.2))
+        | inr last ↦ all offer (subst (λ z. IsOfPair z one offer) (sym last) between.2)
+      ];
+    }
 
-length-pushed : (xs : List Bool) (b : Bool) → length (xs ++ b ∷ []) ≡ length xs + 1
-length-pushed [] b = refl
-length-pushed (x ∷ xs) b = let l = length-pushed xs b in omega arith
+pub between_all : (first new : List Offer) (pool : List Posted) (one : Posted) (n : ℕ) → length pool ≤ n
+    → BetweenSoFar first new pool one n → (offer : Offer) → IsBetween pool one offer → Contains new offer
+between_all first new pool one n all are offer between =
+    are.so_far offer (between.0, front_all pool n between.0 all between.1, between.2)
 
-pub asked_more : (pool : List Posted) (n : ℕ) (old new : List Link) (removed more : List Bool) (b : Bool)
-    → length removed ≡ n
-    → ((link : Link) → Contains old link → IsOffer pool link)
-    → ((place : ℕ) → place < n → IsAsked pool old place (get_or removed place false))
-    → AsksTo pool n old new b → more ≡ removed ++ b ∷ []
-    → (length more ≡ n + 1)
-    × ((link : Link) → Contains new link → IsOffer pool link)
-    × ((place : ℕ) → place < n + 1 → IsAsked pool new place (get_or more place false))
-asked_more pool n old new removed more b room sound asked asks pushed = (
-  ap length pushed ∙ (length-pushed removed b ∙ ap (λ k. k + 1) room),
-  (λ link inside. elim (asks.sound link inside) [ inl before ↦ sound link before | inr offer ↦ offer ]),
-  (λ place less. elim (cases_lt place n) [
-    | inl before ↦
-        let at : get_or more place false ≡ get_or removed place false =
-        ap (λ xs. get_or xs place false) pushed ∙ get_or-pushed removed b place (omega arith) in
-        subst (IsAsked pool new place) (sym at) (asked_grows pool old new place _ asks.grows (asked place before))
-    | inr not_before ↦
-        let here : n ≡ place = omega arith in
-        let at : get_or more n false ≡ b =
-        ap (λ xs. get_or xs n false) pushed
-        ∙ (ap (λ k. get_or (removed ++ b ∷ []) k false) (sym room) ∙ get_or-last removed b) in
-        subst (λ k. IsAsked pool new k (get_or more k false)) here (subst (IsAsked pool new n) (sym at) asks.asked)
+-- ---- offers by a transaction, and to it
+
+pub own_cases : (tx : ℕ) (offer : Offer) → is_of tx offer ≡ true → (offer.asker ≡ tx) ⊎ (offer.owner ≡ tx)
+own_cases tx offer is =
+    elim (or_cases (offer.asker == tx) (offer.owner == tx) is) [
+      | inl one ↦ inl (same_number offer.asker tx one)
+      | inr one ↦ inr (same_number offer.owner tx one)
+    ]
+
+equal : (a b : ℕ) → a ≡ b → (a == b) ≡ true
+equal a b same = subst (λ n. (a == n) ≡ true) same (number_itself a)
+
+pub own_asker : (tx : ℕ) (offer : Offer) → offer.asker ≡ tx → is_of tx offer ≡ true
+own_asker tx offer same = or_first (offer.asker == tx) (offer.owner == tx) (equal offer.asker tx same)
+
+pub own_owner : (tx : ℕ) (offer : Offer) → offer.owner ≡ tx → is_of tx offer ≡ true
+own_owner tx offer same = or_second (offer.asker == tx) (offer.owner == tx) (equal offer.owner tx same)
+
+own_or_other : (tx : ℕ) (offer : Offer) → (is_of tx offer ≡ true) ⊎ (is_of_others tx offer ≡ true)
+own_or_other tx offer = elim (cases_Bool (is_of tx offer)) [ inl own ↦ inl own | inr other ↦ inr (ap not other) ]
+
+-- an offer is of a transaction, or it isn't
+one_way : {A : Type 0} (tx : ℕ) (offer : Offer) → is_of_others tx offer ≡ true → is_of tx offer ≡ true → A
+one_way tx offer others own = clash (is_of tx offer) own (turned (is_of tx offer) others)
+
+of_others : (tx : ℕ) (offer : Offer) → offer.asker ≢ tx → offer.owner ≢ tx → is_of_others tx offer ≡ true
+of_others tx offer asker owner =
+    ap not (not_so (is_of tx offer)
+    (λ is. elim (own_cases tx offer is) [ inl same ↦ asker same | inr same ↦ owner same ]))
+
+-- ---- what a filter keeps
+
+pub in_filter : {X : Type 0} (p : X → Bool) (xs : List X) (x : X) → Contains (filter p xs) x
+    → Contains xs x × (p x ≡ true)
+in_filter p xs x inside =
+    let r = of_filter p xs x (contains_in (filter p xs) x inside) in (in_contains xs x r.0, r.1)
+
+pub into_filter : {X : Type 0} (p : X → Bool) (xs : List X) (x : X) → Contains xs x → p x ≡ true
+    → Contains (filter p xs) x
+into_filter p xs x inside passes = in_contains (filter p xs) x (to_filter p xs x (contains_in xs x inside) passes)
+
+-- ---- a new statement
+
+module _ (pool : List Posted) (one : Posted) where
+  between_own : (offer : Offer) → IsBetween pool one offer → is_of one.tx offer ≡ true
+  between_own offer (member, inside, inl met) = own_owner one.tx offer met.1
+  between_own offer (member, inside, inr met) = own_asker one.tx offer met.0
+
+  between_offered : Contains pool one → (offer : Offer) → IsBetween pool one offer → IsOffered pool offer
+  between_offered is_in offer (member, inside, inl met) =
+      record {
+        asker = member;
+        asks = inside;
+        asker_is = sym met.0;
+        partner = one;
+        offers = is_in;
+        partner_is = sym met.1;
+        meets = met.2;
+      }
+  between_offered is_in offer (member, inside, inr met) =
+      record {
+        asker = one;
+        asks = is_in;
+        asker_is = sym met.0;
+        partner = member;
+        offers = inside;
+        partner_is = sym met.1;
+        meets = met.2;
+      }
+
+  -- the offers that are left once those of the one are taken out
+  pub left_offers : (old new : List Offer) → AreOffersBut pool one.tx old → GrowBy old new (IsBetween pool one)
+      → AreOffersBut pool one.tx (filter (is_of_others one.tx) new)
+  left_offers old new are grow offer = (
+    (λ inside.
+        let kept = in_filter (is_of_others one.tx) new offer inside in
+        elim (grow.sound offer kept.0) [
+          | inl before ↦ (are offer).0 before
+          | inr between ↦ one_way one.tx offer kept.1 (between_own offer between)
+        ]),
+    (λ both. into_filter (is_of_others one.tx) new offer (grow.kept offer ((are offer).1 both)) both.1),
+  )
+
+  module _ (ordered : IsByNumber pool) (is_in : Contains pool one) where
+    own_between : (offer : Offer) → IsOffered pool offer → is_of one.tx offer ≡ true → IsBetween pool one offer
+    own_between offer h own =
+        elim (own_cases one.tx offer own) [
+          | inl same ↦
+              let is = same_member pool ordered h.asker one h.asks is_in (h.asker_is ∙ same) in (
+                h.partner,
+                h.offers,
+                inr (same, sym h.partner_is, subst (λ z. CanMeet z offer.index h.partner) is h.meets),
+              )
+          | inr same ↦
+              let is = same_member pool ordered h.partner one h.offers is_in (h.partner_is ∙ same) in
+              (h.asker, h.asks, inl (sym h.asker_is, same, subst (λ z. CanMeet h.asker offer.index z) is h.meets))
+        ]
+
+    -- the offers of all, with those between the one and each
+    pub all_offers : (old new : List Offer) → AreOffersBut pool one.tx old → GrowBy old new (IsBetween pool one)
+        → ((offer : Offer) → IsBetween pool one offer → Contains new offer) → AreOffers pool new
+    all_offers old new are grow all offer = (
+      (λ inside. elim (grow.sound offer inside) [
+        | inl before ↦ ((are offer).0 before).0
+        | inr between ↦ between_offered is_in offer between
+      ]),
+      (λ offered. elim (own_or_other one.tx offer) [
+        | inl own ↦ all offer (own_between offer offered own)
+        | inr other ↦ grow.kept offer ((are offer).1 (offered, other))
+      ]),
+    )
+
+    -- a pool is safe that is safe without the one, where no two offer for a post, and the one has a part in it
+    pub safe_uncontested : (offers : List Offer) → AreOffers pool offers → IsSafeBut pool one
+        → (IsContested offers one.tx → ⊥) → IsSafe pool
+    safe_uncontested offers are safe none asker first second index asks a b meets met =
+        let left = offer_of asker.tx index first.tx in
+        let right = offer_of asker.tx index second.tx in
+        let in_left : Contains offers left = (are left).1 (record {
+          asker = asker;
+          asks = asks;
+          asker_is = refl;
+          partner = first;
+          offers = a;
+          partner_is = refl;
+          meets = meets;
+        }) in
+        let in_right : Contains offers right = (are right).1 (record {
+          asker = asker;
+          asks = asks;
+          asker_is = refl;
+          partner = second;
+          offers = b;
+          partner_is = refl;
+          meets = met;
+        }) in
+        elim (same_or_not first.tx second.tx) [
+          | inl same ↦ same
+          | inr differ ↦ elim (own_or_other one.tx left) [
+            | inl own ↦ absurd (none (record {
+              offer = left;
+              listed = in_left;
+              is_own = own;
+              rival = record { other = right; listed = in_right; rivals = (refl, refl, λ e. differ (sym e)) };
+            }))
+            | inr other ↦ elim (own_or_other one.tx right) [
+              | inl own ↦ absurd (none (record {
+                offer = right;
+                listed = in_right;
+                is_own = own;
+                rival = record { other = left; listed = in_left; rivals = (refl, refl, differ) };
+              }))
+              | inr other_right ↦
+                  safe asker first second index asks a b (λ e. one_way one.tx left other (own_asker one.tx left e))
+                  (λ e. one_way one.tx left other (own_owner one.tx left e))
+                  (λ e. one_way one.tx right other_right (own_owner one.tx right e)) meets met
+            ]
+          ]
+        ]
+
+-- ---- a pool with a statement, and without it
+
+module _ (old new : List Posted) (member : Posted) (adds : Adds old new member) (none : HasNone old member) where
+  old_offered : (offer : Offer) → IsOffered old offer → IsOffered new offer × (is_of_others member.tx offer ≡ true)
+  old_offered offer h = (
+    record {
+      asker = h.asker;
+      asks = (adds h.asker).1 (inl h.asks);
+      asker_is = h.asker_is;
+      partner = h.partner;
+      offers = (adds h.partner).1 (inl h.offers);
+      partner_is = h.partner_is;
+      meets = h.meets;
+    },
+    of_others member.tx offer (λ e. none h.asker h.asks (h.asker_is ∙ e))
+        (λ e. none h.partner h.offers (h.partner_is ∙ e)),
+  )
+
+  still_old : (offer : Offer) → IsOffered new offer → is_of_others member.tx offer ≡ true → IsOffered old offer
+  still_old offer h others =
+      record {
+        asker = h.asker;
+        asks = elim ((adds h.asker).0 h.asks) [
+          | inl before ↦ before
+          | inr own ↦ one_way member.tx offer others
+              (own_asker member.tx offer (sym h.asker_is ∙ sym (ap (λ z. z.tx) own)))
+        ];
+        asker_is = h.asker_is;
+        partner = h.partner;
+        offers = elim ((adds h.partner).0 h.offers) [
+          | inl before ↦ before
+          | inr own ↦ one_way member.tx offer others
+              (own_owner member.tx offer (sym h.partner_is ∙ sym (ap (λ z. z.tx) own)))
+        ];
+        partner_is = h.partner_is;
+        meets = h.meets;
+      }
+
+  pub but_new : (offers : List Offer) → AreOffers old offers → AreOffersBut new member.tx offers
+  but_new offers are offer = (
+    (λ inside. old_offered offer ((are offer).0 inside)),
+    (λ both. (are offer).1 (still_old offer both.0 both.1)),
+  )
+
+  pub of_old : (offers : List Offer) → AreOffersBut new member.tx offers → AreOffers old offers
+  of_old offers are offer = (
+    (λ inside. let both = (are offer).0 inside in still_old offer both.0 both.1),
+    (λ offered. (are offer).1 (old_offered offer offered)),
+  )
+
+pub left_over : (pool : List Posted) (tx : ℕ) (offers : List Offer) → AreOffers pool offers
+    → AreOffers (filter (is_of_other tx) pool) (filter (is_of_others tx) offers)
+left_over pool tx offers are offer = (
+  (λ inside.
+      let kept = in_filter (is_of_others tx) offers offer inside in
+      let h = (are offer).0 kept.0 in
+      record {
+        asker = h.asker;
+        asks = stays h.asker h.asks (λ e. one_way tx offer kept.1 (own_asker tx offer (sym h.asker_is ∙ e)));
+        asker_is = h.asker_is;
+        partner = h.partner;
+        offers = stays h.partner h.offers (λ e. one_way tx offer kept.1 (own_owner tx offer (sym h.partner_is ∙ e)));
+        partner_is = h.partner_is;
+        meets = h.meets;
+      }),
+  (λ h.
+      let asks = in_filter (is_of_other tx) pool h.asker h.asks in
+      let offers_it = in_filter (is_of_other tx) pool h.partner h.offers in
+      let whole : IsOffered pool offer = record {
+        asker = h.asker;
+        asks = asks.0;
+        asker_is = h.asker_is;
+        partner = h.partner;
+        offers = offers_it.0;
+        partner_is = h.partner_is;
+        meets = h.meets;
+      } in
+      into_filter (is_of_others tx) offers offer ((are offer).1 whole)
+      (of_others tx offer
+      (λ e. differ h.asker.tx tx (turned (h.asker.tx == tx) asks.1) (h.asker_is ∙ e))
+      (λ e. differ h.partner.tx tx (turned (h.partner.tx == tx) offers_it.1) (h.partner_is ∙ e)))),
+)
+  where
+    stays : (member : Posted) → Contains pool member → member.tx ≢ tx → Contains (filter (is_of_other tx) pool) member
+    stays member inside other =
+        into_filter (is_of_other tx) pool member inside (ap not (other_number member.tx tx other))
+
+-- ---- a part of a pool
+
+pub part_offers : (pool part : List Posted) → IsByNumber pool → IsPart pool part → (offers kept : List Offer)
+    → AreOffers pool offers → AreThoseWithin part offers kept → AreOffers part kept
+part_offers pool part ordered is offers kept are those offer = (
+  (λ inside.
+      let both = (those offer).0 inside in
+      let h = (are offer).0 both.0 in
+      let own = both.1 in
+      let same = same_member pool ordered own.0 h.asker (is.within own.0 own.1) h.asks (own.2 ∙ sym h.asker_is) in
+      let asks : Contains part h.asker = subst (Contains part) same own.1 in
+      record {
+        asker = h.asker;
+        asks = asks;
+        asker_is = h.asker_is;
+        partner = h.partner;
+        offers = is.joined h.asker h.partner asks h.offers (offer.index, inl h.meets);
+        partner_is = h.partner_is;
+        meets = h.meets;
+      }),
+  (λ h.
+      let whole : IsOffered pool offer = record {
+        asker = h.asker;
+        asks = is.within h.asker h.asks;
+        asker_is = h.asker_is;
+        partner = h.partner;
+        offers = is.within h.partner h.offers;
+        partner_is = h.partner_is;
+        meets = h.meets;
+      } in
+      (those offer).1 ((are offer).1 whole, (h.asker, h.asks, h.asker_is))),
+)
+
+-- ---- offer by offer
+
+front_offers : (offers : List Offer) (n : ℕ) (o x : Offer) → n < length offers → o ≡ get_or offers n o
+    → Contains (take (n + 1) offers) x → Contains (take n offers) x ⊎ (o ≡ x)
+front_offers offers n o x below is inside =
+    Contains-push_cases (take n offers) o x
+    (subst (λ xs. Contains xs x) (take_more offers n o below ∙ ap (λ z. take n offers ++ z ∷ []) (sym is)) inside)
+
+more_offers : (offers : List Offer) (n : ℕ) (o x : Offer) → n < length offers → o ≡ get_or offers n o
+    → Contains (take n offers) x → Contains (take (n + 1) offers) x
+more_offers offers n o x below is inside =
+    subst (λ xs. Contains xs x) (sym (take_more offers n o below ∙ ap (λ z. take n offers ++ z ∷ []) (sym is)))
+    (Contains-append_left (take n offers) (o ∷ []) x inside)
+
+last_offer : (offers : List Offer) (n : ℕ) (o : Offer) → n < length offers → o ≡ get_or offers n o
+    → Contains (take (n + 1) offers) o
+last_offer offers n o below is =
+    subst (λ xs. Contains xs o) (sym (take_more offers n o below ∙ ap (λ z. take n offers ++ z ∷ []) (sym is)))
+    (Contains-push (take n offers) o)
+
+pub within_more : (part : List Posted) (offers old new : List Offer) (n : ℕ) (o : Offer) → n < length offers
+    → o ≡ get_or offers n o → HasOneOf part o.asker → new ≡ old ++ o ∷ [] → AreThoseWithin part (take n offers) old
+    → AreThoseWithin part (take (n + 1) offers) new
+within_more part offers old new n o below is own pushed before offer = (
+  (λ inside. elim (Contains-push_cases old o offer (subst (λ xs. Contains xs offer) pushed inside)) [
+    | inl earlier ↦ (let both = (before offer).0 earlier in (more_offers offers n o offer below is both.0, both.1))
+    | inr last ↦ subst (λ x. Contains (take (n + 1) offers) x × HasOneOf part x.asker) last
+        (last_offer offers n o below is, own)
+  ]),
+  (λ both. elim (front_offers offers n o offer below is both.0) [
+    | inl front ↦ subst (λ xs. Contains xs offer) (sym pushed)
+        (Contains-append_left old (o ∷ []) offer ((before offer).1 (front, both.1)))
+    | inr last ↦ subst (λ x. Contains new x) last (subst (λ xs. Contains xs o) (sym pushed) (Contains-push old o))
   ]),
 )
+
+pub within_same : (part : List Posted) (offers old : List Offer) (n : ℕ) (o : Offer) → n < length offers
+    → o ≡ get_or offers n o → HasNoneOf part o.asker → AreThoseWithin part (take n offers) old
+    → AreThoseWithin part (take (n + 1) offers) old
+within_same part offers old n o below is none before offer = (
+  (λ inside. let both = (before offer).0 inside in (more_offers offers n o offer below is both.0, both.1)),
+  (λ both. elim (front_offers offers n o offer below is both.0) [
+    | inl front ↦ (before offer).1 (front, both.1)
+    | inr last ↦
+        let own = both.1 in
+        absurd (none own.0 own.1 (own.2 ∙ sym (ap (λ (x : Offer). x.asker) last)))
+  ]),
+)
+
+pub within_all : (part : List Posted) (offers kept : List Offer) (n : ℕ) → length offers ≤ n
+    → AreThoseWithin part (take n offers) kept → AreThoseWithin part offers kept
+within_all part offers kept n all are = subst (λ xs. AreThoseWithin part xs kept) (take_all n offers all) are
+
+-- a place holds a statement of its transaction
+pub one_of : (part : List Posted) (tx : ℕ) (r : Option ℕ) → is_some r ≡ true
+    → MatchOption r (HasNoneOf part tx) (IsPlaceOf part tx) → HasOneOf part tx
+one_of part tx None is found = absurd (true≢false (sym is))
+one_of part tx (Some place) is found =
+    let some = some_at part place found.0 in
+    (some.0, (place, some.1.0, some.1.1), subst (λ (z : Posted). z.tx ≡ tx) some.1.1 (found.1 some.0))
+
+pub none_of : (part : List Posted) (tx : ℕ) (r : Option ℕ) → is_some r ≡ false
+    → MatchOption r (HasNoneOf part tx) (IsPlaceOf part tx) → HasNoneOf part tx
+none_of part tx None is found = found
+none_of part tx (Some place) is found = absurd (true≢false is)
+
+-- ---- the owner of a head
+
+pub owner_at : (pool : List Posted) (offers : List Offer) (asker : Posted) (index : ℕ) → IsByNumber pool
+    → AreOffers pool offers → Contains pool asker → (o : Offer) → Contains offers o → o.asker ≡ asker.tx
+    → o.index ≡ index → (r : Option ℕ) → MatchOption r (HasNoneOf pool o.owner) (IsPlaceOf pool o.owner)
+    → MatchOption r (HasNoOwner pool asker index) (IsOwnerAt pool asker index)
+owner_at pool offers asker index ordered are asks o inside is_asker is_index None none =
+    let h = (are o).0 inside in absurd (none h.partner h.offers h.partner_is)
+owner_at pool offers asker index ordered are asks o inside is_asker is_index (Some place) found =
+    let h = (are o).0 inside in
+    let own = same_member pool ordered h.asker asker h.asks asks (h.asker_is ∙ is_asker) in
+    let there = Contains-get_or pool place h.partner found.0 in
+    let same = same_member pool ordered (get_or pool place h.partner) h.partner there h.offers
+    (found.1 h.partner ∙ sym h.partner_is) in
+    record {
+      owner = h.partner;
+      offers = (found.0, same);
+      meets = subst (λ i. CanMeet asker i h.partner) is_index (subst (λ z. CanMeet z o.index h.partner) own h.meets);
+    }
+
+pub no_owner : (pool : List Posted) (offers : List Offer) (asker : Posted) (index n : ℕ) → AreOffers pool offers
+    → Contains pool asker → length offers ≤ n
+    → ((k : ℕ) (d : Offer) → k < n → (get_or offers k d).asker ≡ asker.tx → (get_or offers k d).index ≡ index → ⊥)
+    → HasNoOwner pool asker index
+no_owner pool offers asker index n are asks all none owner inside meets =
+    let made = offer_of asker.tx index owner.tx in
+    let listed : Contains offers made = (are made).1 (record {
+      asker = asker;
+      asks = asks;
+      asker_is = refl;
+      partner = owner;
+      offers = inside;
+      partner_is = refl;
+      meets = meets;
+    }) in
+    none listed.0 made (let below = listed.1 in omega arith) (ap (λ (x : Offer). x.asker) listed.2)
+    (ap (λ (x : Offer). x.index) listed.2)

@@ -1,4 +1,6 @@
 pub mod Fault
+pub mod Place
+pub mod Offers
 pub mod Posting
 pub mod Links
 pub mod Remainder

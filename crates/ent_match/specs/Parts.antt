@@ -3,7 +3,9 @@ use Rattle.std.specs.Prelude.{◌≡◌, ◌⊎◌, ◌<◌, ℕ, Bool, false, L
 use Rattle.ent_coordination.specs.Component.{AreJoined}
 use Rattle.ent_coordination.specs.Pool.{Posted}
 use Rattle.ent_match.specs.Links.{IsMarked}
+use Rattle.ent_match.specs.Offers.{IsPartner}
 use Rattle.ent_match.specs.Remainder.{At}
+use Rattle.ent_match.specs.declared.offers.Offer.{Offer}
 
 -- some of the statements of a pool, and with each all those that are joined to it
 pub record IsPart (pool part : List Posted) : Type 0 where
@@ -44,6 +46,14 @@ pub record AreMarkedFrom (pool : List Posted) (place : ℕ) (old new : List Bool
   pub joined : JoinedAreMarked pool place new
   pub sound : (last : ℕ) (one other : Posted) → IsMarked new last → At pool place one → At pool last other
       → IsMarked old last ⊎ AreJoined one other
+
+-- a further statement is marked, where an offer connects it with a transaction
+pub record IsPartnerMarked (pool : List Posted) (offer : Offer) (tx : ℕ) (old new : List Bool) : Type 0 where
+  pub room : length new ≡ length old
+  pub kept : (last : ℕ) → IsMarked old last → IsMarked new last
+  pub there : (last : ℕ) (other : Posted) → At pool last other → IsPartner offer tx other.tx → IsMarked new last
+  pub sound : (last : ℕ) (other : Posted) → IsMarked new last → At pool last other
+      → IsMarked old last ⊎ IsPartner offer tx other.tx
 
 -- the marked statements are in each part with the statement at a place
 abbrev pub AreLeast : List Posted → ℕ → List Bool → Type 0

@@ -20,6 +20,11 @@ pub record IsPostedTo (old new : List Posted) (member : Posted) : Type 0 where
   pub by_number : IsByNumber new
   pub safe : IsSafe new
 
+-- why a new statement is no part of a pool: memory ran out, or the pool isn't safe, the first post and heads being told
+abbrev pub IsWhyIn : List Posted → PostFault → Type 0
+IsWhyIn pool faults.Memory = Unit {0}
+IsWhyIn pool (faults.Unsafe fault) = IsFirstUnsafe pool fault
+
 -- why a statement isn't posted: memory ran out, or the pool with it isn't safe, the first post and heads being told
 abbrev pub IsWhyWith : List Posted → Posted → PostFault → Type 0
 IsWhyWith old member faults.Memory = Unit {0}

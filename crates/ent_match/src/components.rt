@@ -3,13 +3,15 @@ ghost use Rattle.std.specs.Prelude.{◌≡◌, ◌<◌, length, IfOk};
 ghost use Rattle.ent_coordination.specs.Pool.{IsSafe};
 ghost use Rattle.ent_match.specs.Fault.{IsByNumber};
 ghost use Rattle.ent_match.specs.Links.{AreWithin};
+ghost use Rattle.ent_match.specs.Offers.{AreOffers};
 ghost use Rattle.ent_match.specs.Remainder.{IsStart};
 ghost use Rattle.ent_match.specs.Components.{AreComponents, AreJoinsOf, AreLinkedBy, AscendByFirst, IsClassAt};
 ghost use Rattle.ent_match.specs.Components.{IsUnmarked};
 
 use crate::link::{Link, mark_all};
+use crate::offers::Offer;
 use crate::posted::Posted;
-use crate::remainder::{Offers, links_of};
+use crate::remainder::{Asked, links_of};
 use ent_value::Sequence;
 use std::alloc::{AllocError, Global};
 
@@ -103,12 +105,14 @@ fn components_from(
 pub(crate) fn components_of(
     alloc: Global,
     members: &[Posted],
+    offers: &[Offer],
 ) -> Result<Vec<Sequence<Posted>>, AllocError>
     requires by_number { IsByNumber members.now }
     requires safe { IsSafe members.now }
+    requires offers { AreOffers members.now offers.now }
     ensures components { IfOk result (λ lists. AreComponents members.now lists.items) }
     ensures by_first { IfOk result (λ lists. AscendByFirst lists.items) }
 {
-    let Offers { links, mut removed } = links_of(alloc, members)?;
+    let Asked { links, mut removed } = links_of(alloc, members, offers)?;
     components_from(alloc, members, links.as_slice(), removed.as_mut_slice())
 }

@@ -1,33 +1,16 @@
 //! Parts of a pool, which nothing joins to the rest of it.
-ghost use Rattle.std.specs.Prelude.{◌≡◌, ◌↔◌, ◌<◌, ℕ, false, length, map, not, IfOk, IsTrue, MatchOption};
-ghost use Rattle.ent_coordination.specs.Component.{AreJoined};
-ghost use Rattle.ent_coordination.specs.Pool.{CanMeet};
+ghost use Rattle.std.specs.Prelude.{◌≡◌, ◌<◌, ℕ, length, map, not, IfOk, MatchOption};
 ghost use Rattle.ent_match.specs.Components.{marked_in};
+ghost use Rattle.ent_match.specs.Fault.{IsByNumber};
 ghost use Rattle.ent_match.specs.Links.{IsMarked};
-ghost use Rattle.ent_match.specs.Parts.{AreMarkedFrom, IsMarkedPart, IsNextOf};
+ghost use Rattle.ent_match.specs.Offers.{AreOffers};
+ghost use Rattle.ent_match.specs.Parts.{AreMarkedFrom, IsMarkedPart, IsNextOf, IsPartnerMarked};
 
-use crate::meets::can_meet;
+use crate::offers::{Offer, partner};
+use crate::place::place_of;
 use crate::posted::Posted;
+use ent_group::Tx;
 use std::alloc::{AllocError, Global};
-
-/// Whether one statement has a post that unifies with a head of another.
-fn asks(asker: &Posted, owner: &Posted) -> bool
-    ensures { IsTrue result ↔ ((index : ℕ) × CanMeet asker.now index owner.now) }
-{
-    for index in 0..asker.statement().posts.len() {
-        if can_meet(asker, index, owner) {
-            return true;
-        }
-    }
-    false
-}
-
-/// Whether one of two statements has a head for a post of the other.
-fn are_joined(one: &Posted, other: &Posted) -> bool
-    ensures { IsTrue result ↔ AreJoined one.now other.now }
-{
-    asks(one, other) || asks(other, one)
-}
 
 /// The first marked place from which marks haven't gone on.
 fn next_place(marks: &[bool], done: &[bool]) -> Option<usize>
@@ -43,17 +26,30 @@ fn next_place(marks: &[bool], done: &[bool]) -> Option<usize>
     None
 }
 
+/// Marks the statement that an offer connects with one of a transaction, where there is one.
+fn mark_partner(members: &[Posted], offer: &Offer, tx: Tx, marks: &mut [bool])
+    requires by_number { IsByNumber members.now }
+    requires room { length marks.old ≡ length members.now }
+    ensures { IsPartnerMarked members.now offer.now tx marks.old marks.new }
+{
+    if let Some(other) = partner(offer, tx) {
+        if let Some(place) = place_of(members, other) {
+            marks[place] = true;
+        }
+    }
+}
+
 /// Marks the statements that are joined to the one at a place.
-fn mark_joined(members: &[Posted], place: usize, marks: &mut [bool])
+fn mark_joined(members: &[Posted], offers: &[Offer], place: usize, marks: &mut [bool])
+    requires by_number { IsByNumber members.now }
+    requires offers { AreOffers members.now offers.now }
     requires within { place < length members.now }
     requires room { length marks.old ≡ length members.now }
     ensures { AreMarkedFrom members.now place marks.old marks.new }
 {
-    let member = &members[place];
-    for other in 0..members.len() {
-        if !marks[other] && are_joined(member, &members[other]) {
-            marks[other] = true;
-        }
+    let tx = members[place].tx();
+    for offer in offers {
+        mark_partner(members, offer, tx, marks);
     }
 }
 
@@ -61,9 +57,12 @@ fn mark_joined(members: &[Posted], place: usize, marks: &mut [bool])
 pub(crate) fn part_marks(
     alloc: Global,
     members: &[Posted],
+    offers: &[Offer],
     place: usize,
 ) -> Result<Vec<bool>, AllocError>
-    requires { place < length members.now }
+    requires by_number { IsByNumber members.now }
+    requires offers { AreOffers members.now offers.now }
+    requires within { place < length members.now }
     ensures { IfOk result (λ marks. IsMarkedPart members.now place marks.items) }
 {
     let mut marks = vec![in alloc; false; members.len()]?;
@@ -71,7 +70,7 @@ pub(crate) fn part_marks(
     marks[place] = true;
     'rounds: while let Some(next) = next_place(marks.as_slice(), done.as_slice()) {
         done[next] = true;
-        mark_joined(members, next, marks.as_mut_slice());
+        mark_joined(members, offers, next, marks.as_mut_slice());
     }
     Ok(marks)
 }

@@ -3,11 +3,13 @@ ghost use Rattle.std.specs.Prelude.{◌≡◌, ◌≢◌, [], ◌<◌, AllPairs,
 ghost use Rattle.ent_coordination.specs.Pool.{IsSafe};
 ghost use Rattle.ent_match.specs.Components.{AreComponents, AscendByFirst};
 ghost use Rattle.ent_match.specs.Fault.{IsByNumber};
-ghost use Rattle.ent_match.specs.Parts.{AreSplit};
+ghost use Rattle.ent_match.specs.Offers.{AreOffers};
+ghost use Rattle.ent_match.specs.Parts.{AreSplit, IsPart};
 ghost use Rattle.ent_match.specs.Posting.{HasNone, IsPostedTo, IsWhyWith, IsPlaceFor, is_of_other};
 
 use crate::components::components_of;
-use crate::fault::{PostFault, fault_of};
+use crate::fault::PostFault;
+use crate::offers::{Offer, add_offers, forget, offers_within};
 use crate::part::{part_marks, split_by};
 use crate::posted::Posted;
 use ent_group::Tx;
@@ -16,22 +18,24 @@ use std::alloc::{AllocError, Global};
 use std::marker::Model;
 
 /// Posted statements, at most one a transaction. Contracts see them by number of their transactions. A pool is safe:
-/// each post unifies with the heads of one statement at most.
+/// each post unifies with the heads of one statement at most. It keeps which statements have heads for which posts, so
+/// that only `post` unifies.
 #[derive(Drop)]
 pub struct Pool {
     members: Vec<Posted>,
+    offers: Vec<Offer>,
 }
 
 impl Model for Pool {
     ghost use Rattle.std.specs.Prelude.{List};
-    ghost use Rattle.ent_coordination.specs.Pool.{Posted, IsSafe};
-    ghost use Rattle.ent_match.specs.Fault.{IsByNumber};
+    ghost use Rattle.ent_coordination.specs.Pool.{Posted};
+    ghost use Rattle.ent_match.specs.Offers.{IsSafeWith};
 
     ghost Value = { List Posted };
 
     ghost view = { λ p. p.members.items };
 
-    ghost invariant = { λ p. IsByNumber p.members.items × IsSafe p.members.items };
+    ghost invariant = { λ p. IsSafeWith p.members.items p.offers.items };
 }
 
 impl Pool {
@@ -41,16 +45,8 @@ impl Pool {
     {
         Pool {
             members: Vec::new(alloc),
+            offers: Vec::new(alloc),
         }
-    }
-
-    /// The pool of statements that are known to be by number and safe: nothing is checked again. It takes no memory.
-    pub fn of_safe(members: Vec<Posted>) -> Self
-        requires by_number { IsByNumber members.items }
-        requires safe { IsSafe members.items }
-        ensures { result ≡ members.items }
-    {
-        Pool { members }
     }
 
     /// The statements, by number of their transactions.
@@ -63,7 +59,8 @@ impl Pool {
     }
 
     /// Posts a statement. Refused where a post of the pool would unify with heads of two statements, or where memory
-    /// runs out; then the pool is as before and the statement comes back.
+    /// runs out; then the pool is as before and the statement comes back. Each of its posts is unified with each head
+    /// of the pool, and each post of the pool with each of its heads.
     pub fn post(&mut self, member: Posted) -> Result<(), (Posted, PostFault)>
         requires { HasNone self.old member }
         ensures posted { OnOk result (IsPostedTo self.old self.new member) }
@@ -71,29 +68,50 @@ impl Pool {
         ensures returned { IfErr result (λ e. e.0 ≡ member) }
         ensures why { IfErr result (λ e. IsWhyWith self.old member e.1) }
     {
-        post_to(&mut self.members, member)
+        post_to(&mut self.members, &mut self.offers, member)
     }
 
     /// The components, each once: of each the statements by number, and the components by their first ones. Statements
-    /// are shared, so that none is copied.
+    /// are shared, so that none is copied, and no post is unified with a head.
     pub fn components(&self, alloc: Global) -> Result<Vec<Sequence<Posted>>, AllocError>
         ensures components { IfOk result (λ lists. AreComponents self.now lists.items) }
         ensures by_first { IfOk result (λ lists. AscendByFirst lists.items) }
     {
         let members = self.members();
-        components_of(alloc, members)
+        components_of(alloc, members, self.offers.as_slice())
     }
 
     /// The part of the pool around a place, and the rest: no statement of one has a head for a post of the other.
-    /// Statements are shared, so that none is copied.
+    /// Statements are shared, so that none is copied, and no post is unified with a head.
     pub fn split(&self, alloc: Global, place: usize) -> Result<(Pool, Pool), AllocError>
         requires { place < length self.now }
         ensures { IfOk result (λ two. AreSplit self.now place two.0 two.1) }
     {
         let members = self.members();
-        let marks = part_marks(alloc, members, place)?;
-        let (part, rest) = split_by(alloc, members, marks.as_slice())?;
-        Ok((Pool::of_safe(part), Pool::of_safe(rest)))
+        let marks = part_marks(alloc, members, self.offers.as_slice(), place)?;
+        let (around, others) = split_by(alloc, members, marks.as_slice())?;
+        let part = self.pool_of(alloc, around)?;
+        let rest = self.pool_of(alloc, others)?;
+        Ok((part, rest))
+    }
+
+    /// The pool of some of the statements, to which nothing joins the others.
+    fn pool_of(&self, alloc: Global, members: Vec<Posted>) -> Result<Pool, AllocError>
+        requires by_number { IsByNumber members.items }
+        requires part { IsPart self.now members.items }
+        ensures { IfOk result (λ pool. pool ≡ members.items) }
+    {
+        let offers = offers_within(alloc, self.offers.as_slice(), members.as_slice())?;
+        Ok(Pool { members, offers })
+    }
+
+    /// The same pool once more. Statements are shared, so that none is copied.
+    pub fn shared(&self, alloc: Global) -> Result<Pool, AllocError>
+        ensures { IfOk result (λ pool. pool ≡ self.now) }
+    {
+        let members = shared_members(alloc, self.members.as_slice())?;
+        let offers = Vec::from_slice(alloc, self.offers.as_slice())?;
+        Ok(Pool { members, offers })
     }
 
     /// Takes the statement of a transaction out, where there is one. It takes no memory.
@@ -101,11 +119,12 @@ impl Pool {
         ensures { self.new ≡ filter (is_of_other tx) self.old }
     {
         withdraw_from(&mut self.members, tx);
+        forget(&mut self.offers, tx);
     }
 }
 
 /// Where a statement goes, by number.
-fn place_of(members: &[Posted], member: &Posted) -> usize
+fn place_for(members: &[Posted], member: &Posted) -> usize
     ensures { IsPlaceFor members.now member.now result }
 {
     for (i, other) in members.iter().enumerate() {
@@ -116,25 +135,31 @@ fn place_of(members: &[Posted], member: &Posted) -> usize
     members.len()
 }
 
-/// Posts a statement to statements by number that are safe; refused, they are as before.
-fn post_to(members: &mut Vec<Posted>, member: Posted) -> Result<(), (Posted, PostFault)>
+/// Posts a statement to statements by number that are safe, whose offers are kept; refused, they are as before.
+fn post_to(
+    members: &mut Vec<Posted>,
+    offers: &mut Vec<Offer>,
+    member: Posted,
+) -> Result<(), (Posted, PostFault)>
     requires by_number { IsByNumber members.old.items }
     requires safe { IsSafe members.old.items }
+    requires offers { AreOffers members.old.items offers.old.items }
     requires none { HasNone members.old.items member }
     ensures posted { OnOk result (IsPostedTo members.old.items members.new.items member) }
     ensures err { OnErr result (members.new.items ≡ members.old.items) }
+    ensures offers { AreOffers members.new.items offers.new.items }
     ensures returned { IfErr result (λ e. e.0 ≡ member) }
     ensures why { IfErr result (λ e. IsWhyWith members.old.items member e.1) }
 {
-    let at = place_of(members.as_slice(), &member);
+    let at = place_for(members.as_slice(), &member);
     if let Err(failed) = members.insert(at, member) {
         return Err((failed.value, PostFault::Memory));
     }
-    match fault_of(members.as_slice(), &members[at]) {
-        None => Ok(()),
-        Some(fault) => {
+    match add_offers(offers, members.as_slice(), &members[at]) {
+        Ok(()) => Ok(()),
+        Err(fault) => {
             let member = members.remove(at);
-            Err((member, PostFault::Unsafe(fault)))
+            Err((member, fault))
         }
     }
 }
@@ -150,4 +175,16 @@ fn withdraw_from(members: &mut Vec<Posted>, tx: Tx)
     ensures { members.new.items ≡ filter (is_of_other tx) members.old.items }
 {
     members.retain(|member| is_of_other(member, tx));
+}
+
+/// The same statements once more.
+fn shared_members(alloc: Global, members: &[Posted]) -> Result<Vec<Posted>, AllocError>
+    ensures { IfOk result (λ same. same.items ≡ members.now) }
+{
+    let mut same = Vec::with_capacity(alloc, members.len())?;
+    for member in members {
+        let shared = member.shared()?;
+        same.push(shared)?;
+    }
+    Ok(same)
 }

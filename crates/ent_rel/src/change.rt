@@ -1,7 +1,7 @@
 //! Changes of a table.
 ghost use Rattle.std.specs.Prelude.{◌≡◌, IfOk};
 
-use crate::copies::copies_of;
+use ent_tree::Duplicate;
 use ent_value::{Row, Sequence};
 use std::alloc::{AllocError, Global};
 
@@ -16,11 +16,9 @@ impl Delta {
     pub fn copy(&self, alloc: Global) -> Result<Delta, AllocError>
         ensures { IfOk result (λ copy. copy ≡ self.now) }
     {
-        let removed = copies_of(alloc, self.removed.as_slice())?;
-        let added = copies_of(alloc, self.added.as_slice())?;
         Ok(Delta {
-            removed: Sequence::from_vec(removed),
-            added: Sequence::from_vec(added),
+            removed: self.removed.copy(alloc)?,
+            added: self.added.copy(alloc)?,
         })
     }
 }

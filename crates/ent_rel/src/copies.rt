@@ -11,17 +11,6 @@ ghost use Rattle.ent_rel.specs.Part.{IsPart};
 use ent_value::{Refusal, Row};
 use std::alloc::{AllocError, Global};
 
-/// Copies of rows.
-pub(crate) fn copies_of(alloc: Global, rows: &[Row]) -> Result<Vec<Row>, AllocError>
-    ensures { IfOk result (λ copies. copies.items ≡ rows.now) }
-{
-    let mut copies = Vec::with_capacity(alloc, rows.len())?;
-    for row in rows {
-        copies.push(row.copy(alloc)?)?;
-    }
-    Ok(copies)
-}
-
 /// Copies of the rows that pass a test. Whatever the test does, they are a part of the list.
 pub(crate) fn copies_where<F: Fn(&Row) -> bool>(
     alloc: Global,

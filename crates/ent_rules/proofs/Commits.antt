@@ -166,41 +166,41 @@ none_if_numbered all is =
 
 -- ---- each number is some commit's
 
-abbrev number_of : Account → Option ℕ
-number_of a = commit_number a.fate
+abbrev account_commit : Account → Option ℕ
+account_commit a = commit_number a.fate
 
-numbers_length : (all : List Account) → length (filter_map number_of all) ≡ length (filter has_committed all)
+numbers_length : (all : List Account) → length (filter_map account_commit all) ≡ length (filter has_committed all)
 numbers_length [] = refl
 numbers_length (a ∷ all) = by (commit_number a.fate) (numbers_length all)
   where
-    by : (o : Option ℕ) → length (filter_map number_of all) ≡ length (filter has_committed all)
-        → length (cons_option o (filter_map number_of all))
+    by : (o : Option ℕ) → length (filter_map account_commit all) ≡ length (filter has_committed all)
+        → length (cons_option o (filter_map account_commit all))
         ≡ length (cond (is_some o) (a ∷ filter has_committed all) (filter has_committed all))
     by None e = e
     by (Some n) e = ap (λ (k : ℕ). suc k) e
 
-of_numbers : (all : List Account) (n : ℕ) → In n (filter_map number_of all)
+of_numbers : (all : List Account) (n : ℕ) → In n (filter_map account_commit all)
     → (a : Account) × In a all × (commit_number a.fate ≡ Some n)
 of_numbers [] n at = absurd at
 of_numbers (x ∷ xs) n at = by (commit_number x.fate) refl at (of_numbers xs n)
   where
-    by : (o : Option ℕ) → commit_number x.fate ≡ o → In n (cons_option o (filter_map number_of xs))
-        → (In n (filter_map number_of xs) → (a : Account) × In a xs × (commit_number a.fate ≡ Some n))
+    by : (o : Option ℕ) → commit_number x.fate ≡ o → In n (cons_option o (filter_map account_commit xs))
+        → (In n (filter_map account_commit xs) → (a : Account) × In a xs × (commit_number a.fate ≡ Some n))
         → (a : Account) × In a (x ∷ xs) × (commit_number a.fate ≡ Some n)
     by None is at more = let r = more at in (r.0, inr r.1, r.2)
     by (Some m) is (inl same) more = (x, inl refl, is ∙ ap (λ k. Some k) (sym same))
     by (Some m) is (inr at) more = let r = more at in (r.0, inr r.1, r.2)
 
-distinct_from : (all : List Account) → Pairs NotSame all → IsDistinct eqb (filter_map number_of all)
+distinct_from : (all : List Account) → Pairs NotSame all → IsDistinct eqb (filter_map account_commit all)
 unfolding IsDistinct
 distinct_from [] apart = tt
 distinct_from (x ∷ xs) apart = by (commit_number x.fate) refl (distinct_from xs apart.1)
   where
-    by : (o : Option ℕ) → commit_number x.fate ≡ o → IsDistinct eqb (filter_map number_of xs)
-        → IsDistinct eqb (cons_option o (filter_map number_of xs))
+    by : (o : Option ℕ) → commit_number x.fate ≡ o → IsDistinct eqb (filter_map account_commit xs)
+        → IsDistinct eqb (cons_option o (filter_map account_commit xs))
     by None is rest = rest
     by (Some m) is rest = (
-      to_all (λ k. eqb m k ≡ false) (filter_map number_of xs) (λ k at.
+      to_all (λ k. eqb m k ≡ false) (filter_map account_commit xs) (λ k at.
           other_number m k (λ same.
           let r = of_numbers xs k at in
           of_all (NotSame x) xs r.0 apart.0 r.1 k (is ∙ ap (λ j. Some j) same) r.2)),
@@ -209,7 +209,7 @@ distinct_from (x ∷ xs) apart = by (commit_number x.fate) refl (distinct_from x
 
 module _ (all : List Account) (is : IsNumbered all) where
   abbrev ns : List ℕ
-  ns = filter_map number_of all
+  ns = filter_map account_commit all
 
   ns_low : (q : ℕ) → In q ns → (0 < q) × (q ≤ commit_count all)
   ns_low q at =

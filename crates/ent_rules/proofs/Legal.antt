@@ -1,6 +1,7 @@
 -- Where nothing is found, the book of a history is legal.
 use Rattle.std.proofs.Common.{◌≡◌, ◌≢◌, ℕ, suc, ◌+◌, ◌<◌, Bool, true, false, List, [], ◌∷◌, ◌++◌, map, refl}
 use Rattle.std.proofs.Common.{sym, ap, subst, ◌∙◌, inl, inr, arith, Option, Some, None, flat_map, Contains, is_some}
+use Rattle.std.proofs.lemmas.Simd.{map-map}
 use Rattle.ent_set.specs.Sets as set
 use Rattle.ent_tree.specs.declared.declaration.Create.{Create}
 use Rattle.ent_tree.specs.declared.script.Statement.TheVariants as statements
@@ -41,12 +42,6 @@ use Rattle.ent_lists.specs.Elements.{not_so, contains_in, in_contains, index_pai
 use Rattle.ent_rules.proofs.Lists.{every, none_first, none_second}
 use Rattle.ent_rules.proofs.Replays.{IsReady, IsReplayed, replayed, account_read_view, read_view_account, turn_told}
 use Rattle.ent_rules.proofs.Tables.{Keeps, kept_end, not_shown, shown_is, shown_left}
-
--- ---- lists of turns
-
-pub map_map : {X Y Z : Type 0} (f : X → Y) (g : Y → Z) (xs : List X) → map g (map f xs) ≡ map (λ x. g (f x)) xs
-map_map f g [] = refl
-map_map f g (x ∷ xs) = ap (λ more. g (f x) ∷ more) (map_map f g xs)
 
 pub in_members : (joints : List JointAnswer) (joint : JointAnswer) (m : Member) → In joint joints
     → In m joint.members → In m (all_members joints)
@@ -223,8 +218,8 @@ module _ (history : History) (formed : IsFormed history) (keeps : Keeps) (none :
   gives : RunGivesBook (book history) turns
   gives =
       record {
-        in_order = map_map (turn_told declared members) (λ (t : Turn). t.tx) order
-            ∙ sym (map_map entry_of (λ (e : Entry). e.tx) order);
+        in_order = map-map (λ (t : Turn). t.tx) (turn_told declared members) order
+            ∙ sym (map-map (λ (e : Entry). e.tx) entry_of order);
         own_scripts = λ t c.
             let r = of_map (turn_told declared members) order t (contains_in turns t c) in
             subst (λ (u : Turn). numbered history.scripts u.tx ≡ Some u.script) (sym r.2)
@@ -232,7 +227,7 @@ module _ (history : History) (formed : IsFormed history) (keeps : Keeps) (none :
         run = run.gives
             ∙ (λ i. Some (record {
               database = left_is i;
-              answers = sym (map_map entry_of (λ (e : Entry). e.answers) order) i;
+              answers = sym (map-map (λ (e : Entry). e.answers) entry_of order) i;
             }));
       }
 

@@ -257,57 +257,34 @@ module _ (declared : List Create) (members : List Placed) where
       (answer ∷ others) d v ≡ []
       → (is_entangled st ≡ true → Stands tx place) → Later tx (suc place) more others
       → IsClean tx place (record { statement = st; valuation = valuation } ∷ more) (answer ∷ others) d v
-  clean_step tx place st valuation more answer others d v m is none stands next = by m is
+  clean_step tx place st valuation more answer others d v m is none stands next =
+      let meaning = statement_meaning declared st valuation d v in
+      let unmet = flat_map (ungrounded declared members)
+      (seen tx place (record { statement = st; valuation = valuation }) d v) in
+      let wrong = unless (is_answered meaning (answer ∷ others)) rule.Answer (thing.Answer tx place) in
+      let later = found_after meaning (operations_findings declared members tx (suc place) more others) in
+      let behind = none_second unmet (wrong ++ later) none in
+      by m is (none_first unmet (wrong ++ later) none)
+      (unless_holds (is_answered meaning (answer ∷ others)) rule.Answer (thing.Answer tx place)
+      (none_first wrong later behind))
+      (none_second wrong later behind)
     where
-      meaning : Result (Effect Database) Failure
-      meaning = statement_meaning declared st valuation d v
-
-      here : List ReadView
-      here = seen tx place (record { statement = st; valuation = valuation }) d v
-
       by : (m : Result (Effect Database) Failure) → statement_meaning declared st valuation d v ≡ m
+          → flat_map (ungrounded declared members)
+          (seen tx place (record { statement = st; valuation = valuation }) d v) ≡ []
+          → is_answered (statement_meaning declared st valuation d v) (answer ∷ others) ≡ true
+          → found_after (statement_meaning declared st valuation d v)
+          (operations_findings declared members tx (suc place) more others) ≡ []
           → IsClean tx place (record { statement = st; valuation = valuation } ∷ more) (answer ∷ others) d v
-      by (Err failure) is =
-          let behind = none_second
-          (flat_map (ungrounded declared members)
-          (seen tx place (record { statement = st; valuation = valuation }) d v))
-          (unless (is_answered (statement_meaning declared st valuation d v) (answer ∷ others)) rule.Answer
-          (thing.Answer tx place)
-          ++ found_after (statement_meaning declared st valuation d v)
-          (operations_findings declared members tx (suc place) more others)) none in
-          let answered = unless_holds (is_answered (statement_meaning declared st valuation d v) (answer ∷ others))
-          rule.Answer (thing.Answer tx place)
-          (none_first
-          (unless (is_answered (statement_meaning declared st valuation d v) (answer ∷ others)) rule.Answer
-          (thing.Answer tx place))
-          (found_after (statement_meaning declared st valuation d v)
-          (operations_findings declared members tx (suc place) more others)) behind) in
+      by (Err failure) is unmet answered later =
           clash (is_answered (statement_meaning declared st valuation d v) (answer ∷ others)) answered
           (ap (λ m. is_answered m (answer ∷ others)) is)
-      by (Ok effect) is =
-          let behind = none_second
-          (flat_map (ungrounded declared members)
-          (seen tx place (record { statement = st; valuation = valuation }) d v))
-          (unless (is_answered (statement_meaning declared st valuation d v) (answer ∷ others)) rule.Answer
-          (thing.Answer tx place)
-          ++ found_after (statement_meaning declared st valuation d v)
-          (operations_findings declared members tx (suc place) more others)) none in
-          let answered = unless_holds (is_answered (statement_meaning declared st valuation d v) (answer ∷ others))
-          rule.Answer (thing.Answer tx place)
-          (none_first
-          (unless (is_answered (statement_meaning declared st valuation d v) (answer ∷ others)) rule.Answer
-          (thing.Answer tx place))
-          (found_after (statement_meaning declared st valuation d v)
-          (operations_findings declared members tx (suc place) more others)) behind) in
+      by (Ok effect) is unmet answered later =
           let same = equal_answers effect.answer answer
           (ap (λ m. is_answered m (answer ∷ others)) (sym is) ∙ answered) in
           let rest = next effect.database effect.environment
           (ap (λ m. found_after m (operations_findings declared members tx (suc place) more others)) (sym is)
-          ∙ none_second
-          (unless (is_answered (statement_meaning declared st valuation d v) (answer ∷ others)) rule.Answer
-          (thing.Answer tx place))
-          (found_after (statement_meaning declared st valuation d v)
-          (operations_findings declared members tx (suc place) more others)) behind) in
+          ∙ later) in
           record {
             left = answered_first effect.answer rest.left;
             runs = ap (λ m. after m (run declared more)) is
@@ -317,14 +294,7 @@ module _ (declared : List Create) (members : List Placed) where
                 (seen tx place (record { statement = st; valuation = valuation }) d v)
                 (seen_after (statement_meaning declared st valuation d v) (read_views declared tx (suc place) more))
                 (grounded_all (seen tx place (record { statement = st; valuation = valuation }) d v)
-                (stands_now tx place st valuation d v stands)
-                (none_first
-                (flat_map (ungrounded declared members)
-                (seen tx place (record { statement = st; valuation = valuation }) d v))
-                (unless (is_answered (statement_meaning declared st valuation d v) (answer ∷ others)) rule.Answer
-                (thing.Answer tx place)
-                ++ found_after (statement_meaning declared st valuation d v)
-                (operations_findings declared members tx (suc place) more others)) none))
+                (stands_now tx place st valuation d v stands) unmet)
                 (subst (λ m. AllByRecursion (IsGrounded declared)
                 (seen_after m (read_views declared tx (suc place) more))) (sym is) rest.grounded);
           }

@@ -1,6 +1,7 @@
 -- Of a legal book nothing is found.
 use Rattle.std.proofs.Common.{◌≡◌, ℕ, suc, ◌+◌, true, List, [], ◌∷◌, ◌++◌, map}
 use Rattle.std.proofs.Common.{refl, sym, ap, subst, ◌∙◌, inl, inr, arith, Some, flat_map, Contains}
+use Rattle.std.proofs.lemmas.Simd.{map-map}
 use Rattle.ent_set.specs.Sets as set
 use Rattle.ent_tree.specs.declared.declaration.Create.{Create}
 use Rattle.ent_tree.specs.declared.script.Script.{Script}
@@ -37,7 +38,7 @@ use Rattle.ent_rules.proofs.Found.{holds_unless}
 use Rattle.ent_rules.proofs.Joints.{IsStatement, all_so, among, at_member, none_left, none_of_right, one_member}
 use Rattle.ent_rules.proofs.Joints.{stands_there}
 use Rattle.ent_rules.proofs.Journals.{book, numbered_if_journal}
-use Rattle.ent_rules.proofs.Legal.{in_members, map_map}
+use Rattle.ent_rules.proofs.Legal.{in_members}
 use Rattle.ent_lists.specs.Elements.{In, Pairs, of_all, to_all, of_filter, to_filter, in_flat, to_flat, any_some}
 use Rattle.ent_lists.specs.Elements.{any_in, contains_in, in_contains, index_pairs}
 use Rattle.ent_rules.proofs.Lists.{of_every, both_none}
@@ -101,7 +102,7 @@ module _ (history : History) (formed : IsFormed history) (legal : IsLegal (book 
   run : IsTold declared members legal.turns order start runs
   run =
       told declared members legal.turns order start runs
-      (legal.runs.in_order ∙ map_map entry_of (λ (e : Entry). e.tx) order)
+      (legal.runs.in_order ∙ map-map (λ (e : Entry). e.tx) entry_of order)
       own_scripts legal.runs.run are_told
 
   to_run : (s : ReadView) → In s seen → In s run_read_views
@@ -161,7 +162,7 @@ module _ (history : History) (formed : IsFormed history) (legal : IsLegal (book 
 
   none_replay : replay_findings declared members order start ≡ []
   none_replay =
-      run.none (map_map entry_of (λ (e : Entry). e.answers) order) (to_all (IsGrounded declared) seen grounded)
+      run.none (map-map (λ (e : Entry). e.answers) entry_of order) (to_all (IsGrounded declared) seen grounded)
 
   -- ---- postconditions
 

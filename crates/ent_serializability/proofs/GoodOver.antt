@@ -10,14 +10,16 @@ use Rattle.ent_semantics.specs.Joint.{IsGood, IsGrounded, IsOffered, StandsIn, r
 use Rattle.ent_semantics.specs.Joint as joint_specs
 use Rattle.ent_semantics.specs.Serial.{ReadView}
 use Rattle.ent_serializability.specs.History.{History}
-use Rattle.ent_lists.specs.Elements.{In, contains_in, in_contains, in_flat, to_flat, of_all, of_map, to_map, pairs_index}
+use Rattle.ent_lists.specs.Elements.{In, contains_in, in_contains, in_flat, to_flat}
+use Rattle.ent_lists.specs.Elements.{of_all, of_map, to_map, pairs_index}
 use Rattle.ent_serializability.proofs.Asks.{Ask, ask_of, ask_member, ask_heads, history_asks}
 use Rattle.ent_serializability.proofs.Joints.{JointsRight, AsksOf, OtherTx}
 
 module _ (all : List History) (seen : List ReadView) (asks_are : map ask_of seen ≡ flat_map history_asks all) where
   pub asked_by : (read_view : ReadView) → In read_view seen → AsksOf all (ask_of read_view)
   asked_by read_view at =
-      in_flat history_asks all (ask_of read_view) (subst (In (ask_of read_view)) asks_are (to_map ask_of seen read_view at))
+      in_flat history_asks all (ask_of read_view)
+      (subst (In (ask_of read_view)) asks_are (to_map ask_of seen read_view at))
 
   seen_by : (ask : Ask) → AsksOf all ask → (read_view : ReadView) × In read_view seen × (ask ≡ ask_of read_view)
   seen_by ask a = of_map ask_of seen ask (subst (In ask) (sym asks_are) (to_flat history_asks all a.0 ask a.1 a.2))

@@ -33,15 +33,10 @@ use Rattle.ent_protocol.specs.Run.{EndsWhileRunning, ending}
 use Rattle.ent_protocol.specs.State.{State, Member, Change, Dormant}
 use Rattle.ent_protocol.specs.Step.{Step}
 use Rattle.ent_protocol.specs.Uses.{statement_uses, entangled_uses, blocker}
-use Rattle.ent_protocol_laws.proofs.Acts.{ComesBack}
+use Rattle.ent_protocol_laws.proofs.Acts.{IsIdle, ComesBack}
 use Rattle.ent_protocol_laws.proofs.Found.{found}
 use Rattle.ent_termination.specs.Progress.{brings_work, is_progress}
 use Rattle.ent_lists.specs.Elements.{In, neither}
-
--- a member that isn't prepared, and whose statement isn't posted
-pub record IsIdle (s : State) (member : Member) : Type 0 where
-  pub at : In member s.active
-  pub unposted : member.posted ≡ false
 
 -- a joint job that came back, and the other jobs
 pub record JointBack (s : State) (asked : List Posted) (left : List Job) : Type 0 where
@@ -173,7 +168,7 @@ module _ {F : Type 0} where
   unless true s m reply new is step at = acts s reply _ new Stays step.0 step.1 refl refl
   unless false s m reply new is step at =
       let two = neither m.posted (is_lent s m.tx) is in
-      next_step s m (next_of s m) reply new refl step (record { at = at; unposted = two.0 })
+      next_step s m (next_of s m) reply new refl step (record { at = at; unposted = two.0; not_lent = two.1 })
 
   absent : (b : Bool) (s : State) (reply : Reply F) (new : State)
       → reply ≡ (if b then events.NotNow else events.Absent) → new ≡ s → IsAct s reply new

@@ -5,7 +5,7 @@ use Rattle.std.proofs.Common.{sum_by}
 use Rattle.std.proofs.lemmas.List.{length-append, length-map}
 use Rattle.std.specs.Prelude.{◌↔◌}
 use Rattle.ent_protocol_laws.specs.Numbered.{one_of, below_apart}
-use Rattle.ent_protocol_laws.proofs.Acts.{ComesBack}
+use Rattle.ent_protocol_laws.proofs.Acts.{IsIdle, ComesBack}
 use Rattle.ent_protocol_laws.proofs.Found.{taken_there}
 use Rattle.ent_value.specs.declared.value.Value.{Value}
 use Rattle.ent_semantics.specs.Entangled.{Valuation}
@@ -27,7 +27,7 @@ use Rattle.ent_termination.specs.Within.{IsWithin, begun, statements_behind, unb
 use Rattle.ent_termination.proofs.Answering.{is_asked, left_asked, left_components}
 use Rattle.ent_termination.proofs.PostedQueries.{asked_there, one_component, present_in_other, some_asked}
 use Rattle.ent_termination.proofs.Changes.{Act, Submits, Starts, Lends, Posts, Prepares, Steps, Fails, Picks, Answers}
-use Rattle.ent_termination.proofs.Changes.{Tries, Ends, Recalls, IsIdle, JointBack, after, opens, worth}
+use Rattle.ent_termination.proofs.Changes.{Tries, Ends, Recalls, JointBack, after, opens, worth}
 use Rattle.ent_termination.proofs.Changes as acts
 use Rattle.ent_termination.proofs.Counts.{answered_begun, begun_unposted, behind_placed, committed_begun}
 use Rattle.ent_termination.proofs.Counts.{committed_counted}

@@ -12,7 +12,7 @@ use Rattle.ent_protocol.specs.Quiet.{CanPost, MovesBy}
 use Rattle.ent_protocol.specs.State.{State, Member}
 use Rattle.ent_protocol.specs.Uses.{blocker, entangled_uses, is_conflicting, not_passed}
 use Rattle.ent_protocol.specs.Waits.{next_uses}
-use Rattle.ent_waits.specs.Free.{IsFree, IsIdle, is_posting}
+use Rattle.ent_waits.specs.Free.{is_posting}
 
 -- nobody blocks who asks for nothing
 none_conflicting : (xs : List Member) → filter (is_conflicting []) xs ≡ []

@@ -5,12 +5,16 @@ use Rattle.std.specs.Prelude.{Contains}
 use Rattle.std.specs.List.{list_any}
 use Rattle.std.proofs.lemmas.Bool.Decides.{nat_tests}
 use Rattle.std.proofs.lemmas.List.Elements.{Contains-append_right}
+use Rattle.ent_members.proofs.Lists.{contains_cases, contains_none}
 use Rattle.ent_protocol.specs.Job.{Job, Work, One, Joint}
 use Rattle.ent_protocol.specs.Member.{is_single_of}
 use Rattle.ent_protocol.specs.Quiet.{HasJobOut}
 use Rattle.ent_protocol.specs.State.{State}
-use Rattle.ent_waits.specs.Jobs.{HasJobIn, IsWorkOf}
-use Rattle.ent_waits.proofs.Smallest.{contains_cases, contains_none}
+use Rattle.ent_waits.specs.Jobs.{IsWorkOf}
+
+-- one of some jobs is of a transaction
+abbrev pub HasJobIn : State → List Job → ℕ → Type 0
+HasJobIn s jobs tx = (job : Job) × Contains jobs job × IsWorkOf s job.work tx
 
 eq_is : (n m : ℕ) → (n == m) ≡ true → n ≡ m
 eq_is n m is = grind (arith, nat_tests)

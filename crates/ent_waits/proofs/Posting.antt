@@ -1,57 +1,34 @@
 -- Posted statements: whose they are, and when the pool stays safe with one more.
-use Rattle.std.proofs.Common.{◌≡◌, ◌↔◌, ◌⊎◌, inl, inr, ℕ, zero, suc, ◌<◌, Bool, true, false, not, List, [], ◌∷◌, ◌++◌}
-use Rattle.std.proofs.Common.{map, Option, Some, None, refl, sym, ap, ◌∙◌, subst, arith, true≢false}
-use Rattle.std.specs.Prelude.{AllPairs, Contains, IsTrue, MatchOption}
-use Rattle.std.specs.List.{flat_map}
+use Rattle.std.proofs.Common.{◌≡◌, ◌↔◌, ◌⊎◌, inl, inr, ℕ, Bool, true, false, not, List, [], ◌∷◌, ◌++◌, map}
+use Rattle.std.proofs.Common.{Option, Some, None, refl, sym, ap, ◌∙◌, subst, arith, true≢false}
+use Rattle.std.specs.Prelude.{Contains, IsTrue, MatchOption, nat_eq}
+use Rattle.std.specs.List.{IsDistinct}
 use Rattle.std.specs.Option.{is_some}
-use Rattle.std.proofs.lemmas.List.Elements.{Contains-append_cases, Contains-append_left, Contains-append_right}
 use Rattle.std.proofs.lemmas.List.Elements.{Contains-push_cases}
 use Rattle.ent_value.specs.declared.value.Value.{Value}
 use Rattle.ent_closed.specs.declared.entangled.Entangled.{Entangled}
-use Rattle.ent_protocol.specs.Begin.{pool_with}
 use Rattle.ent_coordination.specs.Pool.{Posted, CanMeet, IsFirstUnsafe, IsSafe, IsUnsafeAt, Unsafe}
+use Rattle.ent_lists.specs.Elements.{contains_in, in_contains}
 use Rattle.ent_match.specs.Fault.{IsByNumber}
 use Rattle.ent_match.specs.Posting.{HasNone}
+use Rattle.ent_protocol.specs.Begin.{pool_with}
 use Rattle.ent_protocol.specs.Member.{Asks, pool, posted_as}
-use Rattle.ent_lists.specs.Elements.{contains_in, in_contains}
-use Rattle.ent_components.proofs.Numbered.{same_member}
 use Rattle.ent_protocol.specs.PostedBy.{in_pool}
 use Rattle.ent_protocol.specs.State.{State, Member}
+use Rattle.ent_members.specs.Run.{tx_of}
+use Rattle.ent_members.proofs.Locked.{one_member}
 use Rattle.ent_components.specs.Part.{HasNoneOf}
-use Rattle.ent_waits.specs.Movers.{OnlyPostedAsk}
-use Rattle.ent_waits.proofs.Smallest.{contains_none}
-
--- ---- lists
-
-module _ {X Y : Type 0} where
-  pub mapped_from : (f : X → Y) (xs : List X) (y : Y) → Contains (map f xs) y → (x : X) × Contains xs x × (f x ≡ y)
-  mapped_from f [] y (k, below, is) = absurd (omega arith)
-  mapped_from f (x ∷ xs) y (zero, below, is) = (x, (0, omega arith, refl), is)
-  mapped_from f (x ∷ xs) y (suc k, below, is) =
-      let r = mapped_from f xs y (k, omega arith, is) in
-      (r.0, (suc r.1.0, (let l = r.1.1 in omega arith), r.1.2), r.2)
-
-  pub flat_from : (f : X → List Y) (xs : List X) (y : Y) → Contains (flat_map f xs) y
-      → (x : X) × Contains xs x × Contains (f x) y
-  flat_from f [] y there = absurd (contains_none y there)
-  flat_from f (x ∷ xs) y there =
-      elim (Contains-append_cases (f x) (flat_map f xs) y there) [
-        | inl here ↦ (x, (0, omega arith, refl), here)
-        | inr later ↦
-            let r = flat_from f xs y later in
-            (r.0, (suc r.1.0, (let l = r.1.1 in omega arith), r.1.2), r.2)
-      ]
+use Rattle.ent_components.proofs.Numbered.{same_member}
 
 -- ---- whose posted statements are
 
 -- of a member that isn't posted none of the posted statements is
-pub only_posted_ask : (s : State) → AllPairs (λ (one other : Member). one.tx < other.tx) s.active
-    → OnlyPostedAsk (pool s) s.active
-only_posted_ask s ascends member active unposted query there own =
+pub none_of_unposted : (s : State) → IsDistinct nat_eq (map tx_of s.active) → (member : Member)
+    → Contains s.active member → member.posted ≡ false → HasNoneOf (pool s) member.tx
+none_of_unposted s distinct member active unposted query there own =
     let r = in_pool s query (contains_in (pool s) query there) in
     let same : r.member ≡ member =
-    same_member (λ (m : Member). m.tx) s.active ascends r.member member (in_contains s.active r.member r.at) active
-    (sym r.own ∙ own) in
+    one_member s.active distinct r.member member (in_contains s.active r.member r.at) active (sym r.own ∙ own) in
     true≢false (sym r.by.posted ∙ (ap (λ (m : Member). m.posted) same ∙ unposted))
 
 -- ---- one statement more
@@ -109,13 +86,3 @@ pool_is s posted query member statement same is = λ i. sym same i ++ is i ∷ [
 
 pub asks_same : (one other : Entangled Value) → Asks one ≡ Asks other → one ≡ other
 asks_same one other same = cc
-
--- ---- of more members and of fewer
-
-pub first_asks : (posted : List Posted) (first : Member) (rest : List Member) → OnlyPostedAsk posted (first ∷ rest)
-    → OnlyPostedAsk posted (first ∷ [])
-first_asks posted first rest all member there = all member (Contains-append_left (first ∷ []) rest member there)
-
-pub rest_ask : (posted : List Posted) (first : Member) (rest : List Member) → OnlyPostedAsk posted (first ∷ rest)
-    → OnlyPostedAsk posted rest
-rest_ask posted first rest all member there = all member (Contains-append_right (first ∷ []) rest member there)

@@ -1,10 +1,11 @@
 -- Who would move, in the words of the protocol.
-use Rattle.std.proofs.Common.{◌≡◌, ◌||◌, ℕ, Bool, true, false, Some, refl, sym, subst, arith}
+use Rattle.std.proofs.Common.{◌≡◌, ◌||◌, ℕ, Bool, true, false, List, Some, refl, sym, subst, arith}
+use Rattle.std.specs.Prelude.{Contains}
 use Rattle.ent_lock.specs.Use.{IsLeastIfAny}
 use Rattle.ent_protocol.specs.Member.{is_lent, next_of}
 use Rattle.ent_protocol.specs.Quiet.{CanMove, MovesBy}
 use Rattle.ent_protocol.specs.State.{State, Member}
-use Rattle.ent_waits.specs.Movers.{HasMoverIn, IsMover}
+use Rattle.ent_waits.specs.Movers.{IsMover}
 use Rattle.ent_waits.specs.Free.{IsIdle}
 
 pub idle_is_unposted : (posted lent : Bool) → (posted || lent) ≡ false → posted ≡ false
@@ -16,6 +17,10 @@ pub mover : (s : State) (member : Member) (tx : ℕ) → tx ≡ member.tx → Is
     → MovesBy s member (next_of s member) → IsLeastIfAny (IsMover s member) (Some tx)
 mover s member tx is idle moves =
     (record { own = sym is; idle = idle; moves = moves }, λ other m. let own = m.own in omega (arith, is, own))
+
+-- one of some members, of a number, would move
+abbrev pub HasMoverIn : State → List Member → ℕ → Type 0
+HasMoverIn s members tx = (member : Member) × Contains members member × IsMover s member tx
 
 pub can_move : (s : State) (tx : ℕ) → HasMoverIn s s.active tx → CanMove s tx
 can_move s tx (member, active, moves) = record {

@@ -1,7 +1,7 @@
 -- Whose jobs are out.
 use Rattle.std.specs.Prelude.{◌≡◌, ℕ, List, Contains}
 use Rattle.ent_coordination.specs.Pool.{Posted}
-use Rattle.ent_protocol.specs.Job.{Job, Work, One, Joint}
+use Rattle.ent_protocol.specs.Job.{Work, One, Joint}
 use Rattle.ent_protocol.specs.PoolEvents.{IsPresentComponent}
 use Rattle.ent_protocol.specs.State.{State}
 
@@ -13,7 +13,3 @@ HasPostedQuery asked tx = (query : Posted) × Contains asked query × (query.tx 
 abbrev pub IsWorkOf : State → Work → ℕ → Type 0
 IsWorkOf s (One single) tx = single.tx ≡ tx
 IsWorkOf s (Joint asked) tx = IsPresentComponent s asked × HasPostedQuery asked tx
-
--- one of some jobs is of a transaction
-abbrev pub HasJobIn : State → List Job → ℕ → Type 0
-HasJobIn s jobs tx = (job : Job) × Contains jobs job × IsWorkOf s job.work tx

@@ -1,14 +1,12 @@
 -- Why a run can't end yet, in the words of the protocol.
-use Rattle.std.specs.Prelude.{◌≡◌, ◌<◌, AllPairs, List, Option, None, Some}
-use Rattle.ent_coordination.specs.Pool.{IsSafe, Posted}
-use Rattle.ent_match.specs.Fault.{IsByNumber}
+use Rattle.std.specs.Prelude.{List, Option, None, Some}
+use Rattle.ent_coordination.specs.Pool.{Posted}
 use Rattle.ent_members.specs.Run.{Run}
 use Rattle.ent_protocol.specs.Event.{Reason}
 use Rattle.ent_protocol.specs.Event as reasons
 use Rattle.ent_protocol.specs.Job.{Job}
-use Rattle.ent_protocol.specs.Member.{pool}
 use Rattle.ent_protocol.specs.Quiet.{IsQuiet, IsReason}
-use Rattle.ent_protocol.specs.State.{State, Member, Submitted}
+use Rattle.ent_protocol.specs.State.{State, Submitted}
 use Rattle.ent_waits.specs.Waits.{state_with}
 use Rattle.ent_waits.specs.declared.reason.Reason.{Reason as Why}
 use Rattle.ent_waits.specs.declared.reason.Reason.TheVariants as why
@@ -22,16 +20,6 @@ reason_seen (why.Cycle members) = reasons.Cycle members
 -- a state with these members, scripts, tried components and lent jobs
 abbrev pub state_of : Run → List Submitted → List (List Posted) → List Job → State → State
 state_of run submitted tried lent s = record (state_with run submitted lent s) { tried = tried }
-
--- these are the scripts and the active members of a state where members and posted statements stand by number, and the
--- pool is safe
-pub record AreInOrder (submitted : List Submitted) (active : List Member) : Type 0 where
-  pub state : State
-  pub of_submitted : state.submitted ≡ submitted
-  pub of_active : state.active ≡ active
-  pub ascending : AllPairs (λ (one other : Member). one.tx < other.tx) state.active
-  pub posted : IsByNumber (pool state)
-  pub safe : IsSafe (pool state)
 
 -- the reason that holds, or else the run is quiet
 abbrev pub IsReasonIfAny : State → Option Why → Type 0

@@ -1,43 +1,40 @@
 //! Whose jobs are out.
 ghost use Rattle.std.specs.Prelude.{◌≡◌, IfOk};
 ghost use Rattle.ent_lock.specs.Use.{IsLeastIfAny};
-ghost use Rattle.ent_coordination.specs.Pool.{IsSafe};
-ghost use Rattle.ent_match.specs.Fault.{IsByNumber};
-ghost use Rattle.ent_protocol.specs.Member.{pool};
+ghost use Rattle.ent_protocol.specs.Member.{pool as pool_of};
 ghost use Rattle.ent_protocol.specs.Quiet.{HasJobOut};
 ghost use Rattle.ent_protocol.specs.State.{State};
 ghost use Rattle.ent_job.specs.Work.{work_seen};
-ghost use Rattle.ent_waits.specs.Jobs.{HasPostedQuery, HasJobIn, IsWorkOf};
+ghost use Rattle.ent_waits.specs.Jobs.{HasPostedQuery, IsWorkOf};
 
 use ent_components::is_present;
 use ent_group::Tx;
 use ent_job::{Job, Work};
 use ent_lock::lesser;
-use ent_match::Posted;
+use ent_match::{Pool, Posted};
 use std::alloc::{AllocError, Global};
 
 /// The least transaction of some statements.
 fn least_of(asked: &[Posted]) -> Option<Tx>
     ensures { IsLeastIfAny (HasPostedQuery asked.now) result }
 {
-    let Some((first, rest)) = asked.split_first() else {
-        return None;
-    };
-    lesser(Some(first.tx()), least_of(rest))
+    let mut least = None;
+    for query in asked {
+        least = lesser(least, Some(query.tx()));
+    }
+    least
 }
 
 /// The least transaction that work is of. Posted statements that are no component now are of nobody.
-fn least_at(alloc: Global, posted: &[Posted], work: &Work) -> Result<Option<Tx>, AllocError>
-    requires by_number { IsByNumber posted.now }
-    requires safe { IsSafe posted.now }
+fn least_at(alloc: Global, pool: &Pool, work: &Work) -> Result<Option<Tx>, AllocError>
     ensures { IfOk result (λ least. (s : State)
-        → pool s ≡ posted.now
+        → pool_of s ≡ pool.now
         → IsLeastIfAny (IsWorkOf s (work_seen work.now)) least) }
 {
     match work {
         Work::One(single) => Ok(Some(single.tx())),
         Work::Joint(asked) => {
-            if is_present(alloc, posted, asked.as_slice())? {
+            if is_present(alloc, pool, asked.as_slice())? {
                 Ok(least_of(asked.as_slice()))
             } else {
                 Ok(None)
@@ -46,34 +43,18 @@ fn least_at(alloc: Global, posted: &[Posted], work: &Work) -> Result<Option<Tx>,
     }
 }
 
-/// The least transaction of which one of some jobs is.
-fn least_out(alloc: Global, posted: &[Posted], lent: &[Job]) -> Result<Option<Tx>, AllocError>
-    requires by_number { IsByNumber posted.now }
-    requires safe { IsSafe posted.now }
-    ensures { IfOk result (λ least. (s : State) → pool s ≡ posted.now → IsLeastIfAny (HasJobIn s lent.now) least) }
-{
-    let Some((job, rest)) = lent.split_first() else {
-        return Ok(None);
-    };
-    let later = least_out(alloc, posted, rest)?;
-    let own = least_at(alloc, posted, job.work())?;
-    Ok(lesser(own, later))
-}
-
 /// The least transaction that has a job out: one of its statements, or posted statements with its own that are a
 /// component now; none where no job is out. Jobs of posted statements that are no component any more don't count.
-pub(crate) fn job_out(
-    alloc: Global,
-    posted: &[Posted],
-    lent: &[Job],
-) -> Result<Option<Tx>, AllocError>
-    requires by_number { IsByNumber posted.now }
-    requires safe { IsSafe posted.now }
+pub(crate) fn job_out(alloc: Global, pool: &Pool, lent: &[Job]) -> Result<Option<Tx>, AllocError>
     ensures { IfOk result (λ least. (s : State)
-        → pool s ≡ posted.now
+        → pool_of s ≡ pool.now
         → s.lent ≡ lent.now
         → IsLeastIfAny (HasJobOut s) least) }
 {
-    let least = least_out(alloc, posted, lent)?;
+    let mut least = None;
+    for job in lent {
+        let own = least_at(alloc, pool, job.work())?;
+        least = lesser(least, own);
+    }
     Ok(least)
 }

@@ -1,23 +1,24 @@
 //! Who would move.
-ghost use Rattle.std.specs.Prelude.{◌≡◌, ◌∷◌, ◌↔◌, [], IfOk, IsTrue};
+ghost use Rattle.std.specs.Prelude.{◌≡◌, ◌↔◌, IfOk, IsTrue, false};
 ghost use Rattle.ent_value.specs.declared.value.Value.{Value};
 ghost use Rattle.ent_lock.specs.Use.{IsLeastIfAny};
 ghost use Rattle.ent_closed.specs.declared.entangled.Entangled.{Entangled};
 ghost use Rattle.ent_coordination.specs.Pool.{IsSafe};
-ghost use Rattle.ent_match.specs.Fault.{IsByNumber};
+ghost use Rattle.ent_pool_laws.specs.Pooled.{IsPoolOf};
 ghost use Rattle.ent_protocol.specs.Begin.{pool_with};
-ghost use Rattle.ent_protocol.specs.Member.{Asks, next_of, pool};
+ghost use Rattle.ent_protocol.specs.Member.{Asks, next_of, pool as pool_of};
+ghost use Rattle.ent_protocol.specs.Quiet.{CanMove};
 ghost use Rattle.ent_protocol.specs.State.{State};
 ghost use Rattle.ent_components.specs.Part.{HasNoneOf};
 ghost use Rattle.ent_waits.specs.Waits.{state_with};
-ghost use Rattle.ent_waits.specs.Movers.{HasMoverIn, IsMover, OnlyPostedAsk};
+ghost use Rattle.ent_waits.specs.Movers.{IsMover};
 
 use crate::free::{is_free, is_posting};
 use ent_components::post_fault;
 use ent_group::Tx;
 use ent_job::Job;
 use ent_lock::lesser;
-use ent_match::Posted;
+use ent_match::{Pool, Posted};
 use ent_members::{Member, Run};
 use ent_next::{Next, SubmittedScript, next_of};
 use std::alloc::{AllocError, Global};
@@ -26,23 +27,22 @@ use std::alloc::{AllocError, Global};
 fn stays_safe(
     alloc: Global,
     submitted: &[SubmittedScript],
-    posted: &[Posted],
+    pool: &Pool,
     member: &Member,
 ) -> Result<bool, AllocError>
-    requires by_number { IsByNumber posted.now }
-    requires safe { IsSafe posted.now }
-    requires none { HasNoneOf posted.now member.now.tx }
+    requires { HasNoneOf pool.now member.now.tx }
     ensures { IfOk result (λ safe. (s : State) (statement : Entangled Value)
         → s.submitted ≡ submitted.now
-        → pool s ≡ posted.now
+        → pool_of s ≡ pool.now
         → next_of s member.now ≡ Asks statement
         → IsTrue safe ↔ IsSafe (pool_with s member.now statement)) }
 {
+    let _posted = pool.members();
     match next_of(alloc, submitted, member)? {
         Next::Asks(statement) => {
             let place = member.place() as u64;
             let query = Posted::new(member.tx(), member.attempt(), place, statement);
-            let fault = post_fault(alloc, posted, &query)?;
+            let fault = post_fault(alloc, pool, &query)?;
             Ok(fault.is_none())
         }
         _ => Ok(false),
@@ -55,14 +55,12 @@ fn mover_of(
     run: &Run,
     submitted: &[SubmittedScript],
     lent: &[Job],
-    posted: &[Posted],
+    pool: &Pool,
     member: &Member,
 ) -> Result<Option<Tx>, AllocError>
-    requires by_number { IsByNumber posted.now }
-    requires safe { IsSafe posted.now }
-    requires apart { OnlyPostedAsk posted.now (member.now ∷ []) }
+    requires { member.now.posted ≡ false → HasNoneOf pool.now member.now.tx }
     ensures { IfOk result (λ mover. (s : State)
-        → pool (state_with run.now submitted.now lent.now s) ≡ posted.now
+        → pool_of (state_with run.now submitted.now lent.now s) ≡ pool.now
         → IsLeastIfAny (IsMover (state_with run.now submitted.now lent.now s) member.now) mover) }
 {
     if !is_free(run, submitted, lent, member) {
@@ -71,33 +69,29 @@ fn mover_of(
     if !is_posting(submitted, member) {
         return Ok(Some(member.tx()));
     }
-    if stays_safe(alloc, submitted, posted, member)? {
+    if stays_safe(alloc, submitted, pool, member)? {
         Ok(Some(member.tx()))
     } else {
         Ok(None)
     }
 }
 
-/// The least of some members that would move.
+/// The least member that would move.
 pub(crate) fn least_mover(
     alloc: Global,
     run: &Run,
     submitted: &[SubmittedScript],
     lent: &[Job],
-    posted: &[Posted],
-    members: &[Member],
+    pool: &Pool,
 ) -> Result<Option<Tx>, AllocError>
-    requires by_number { IsByNumber posted.now }
-    requires safe { IsSafe posted.now }
-    requires apart { OnlyPostedAsk posted.now members.now }
+    requires { IsPoolOf submitted.now run.now.active pool.now }
     ensures { IfOk result (λ least. (s : State)
-        → pool (state_with run.now submitted.now lent.now s) ≡ posted.now
-        → IsLeastIfAny (HasMoverIn (state_with run.now submitted.now lent.now s) members.now) least) }
+        → IsLeastIfAny (CanMove (state_with run.now submitted.now lent.now s)) least) }
 {
-    let Some((member, rest)) = members.split_first() else {
-        return Ok(None);
-    };
-    let later = least_mover(alloc, run, submitted, lent, posted, rest)?;
-    let own = mover_of(alloc, run, submitted, lent, posted, member)?;
-    Ok(lesser(own, later))
+    let mut least = None;
+    for member in run.active() {
+        let own = mover_of(alloc, run, submitted, lent, pool, member)?;
+        least = lesser(least, own);
+    }
+    Ok(least)
 }

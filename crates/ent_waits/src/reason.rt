@@ -2,7 +2,7 @@
 ghost use Rattle.std.specs.Prelude.{◌≡◌, IfOk};
 ghost use Rattle.ent_pool_laws.specs.Pooled.{IsPoolOf};
 ghost use Rattle.ent_protocol.specs.State.{State};
-ghost use Rattle.ent_waits.specs.Quiet.{AreInOrder, IsReasonIfAny, state_of};
+ghost use Rattle.ent_waits.specs.Quiet.{IsReasonIfAny, state_of};
 
 use crate::cycles::deadlock;
 use crate::jobs::job_out;
@@ -10,7 +10,7 @@ use crate::movers::least_mover;
 use ent_components::first_untried;
 use ent_group::{Members, Tx};
 use ent_job::Job;
-use ent_match::Posted;
+use ent_match::{Pool, Posted};
 use ent_members::Run;
 use ent_next::SubmittedScript;
 use ent_value::Sequence;
@@ -29,29 +29,26 @@ pub enum Reason {
     Cycle(Members),
 }
 
-/// Why the run can't end yet, with what its members posted; no reason where it may. The members that aren't prepared
-/// have to stand by number, as do their posted statements, in a safe pool.
+/// Why the run can't end yet; no reason where it may. The pool has to be that of the members that aren't prepared.
 pub fn reason_of(
     alloc: Global,
     run: &Run,
     submitted: &[SubmittedScript],
-    posted: &[Posted],
+    pool: &Pool,
     tried: &[Sequence<Posted>],
     lent: &[Job],
 ) -> Result<Option<Reason>, AllocError>
-    requires posted { IsPoolOf submitted.now run.now.active posted.now }
-    requires order { AreInOrder submitted.now run.now.active }
+    requires { IsPoolOf submitted.now run.now.active pool.now }
     ensures { IfOk result (λ reason. (s : State)
         → IsReasonIfAny (state_of run.now submitted.now tried.now lent.now s) reason) }
 {
-    let active = run.active();
-    if let Some(tx) = job_out(alloc, posted, lent)? {
+    if let Some(tx) = job_out(alloc, pool, lent)? {
         return Ok(Some(Reason::JobOut(tx)));
     }
-    if let Some(tx) = least_mover(alloc, run, submitted, lent, posted, active)? {
+    if let Some(tx) = least_mover(alloc, run, submitted, lent, pool)? {
         return Ok(Some(Reason::CanBegin(tx)));
     }
-    if let Some(tx) = first_untried(alloc, posted, tried)? {
+    if let Some(tx) = first_untried(alloc, pool, tried)? {
         return Ok(Some(Reason::Untried(tx)));
     }
     match deadlock(run, submitted, lent) {

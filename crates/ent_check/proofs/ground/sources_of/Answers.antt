@@ -1,9 +1,12 @@
 use Rattle.std.proofs.Common.{◌∙◌, ap, map}
 use Rattle.std.specs.Arc.{arc_value}
+use Rattle.std.proofs.lemmas.Result.{IfOk-weaker}
 use Rattle.ent_select.specs.Tables.{rows_in}
 use Rattle.ent_check.proofs.Places.{rows_of_numbers}
 use Rattle.ent_check.proofs.ground.sources_of.Goals as goal
 
 pub returns : goal.returns
 returns c =
-    ap rows_in c.in_ok-sources.ensures.tables ∙ rows_of_numbers (map arc_value c.args.tables.now) c.args.numbers.now
+    IfOk-weaker c.tables_of.result _ _ (λ sources are.
+    ap rows_in are ∙ rows_of_numbers (map arc_value c.args.tables.now) c.args.numbers.now)
+    c.tables_of.ensures.tables

@@ -8,7 +8,7 @@ use Rattle.ent_components.proofs.picking.first_untried.Goals as goal
 
 pub returns-in-Some : goal.returns-in-Some
 returns-in-Some c = λ s posted_is tried_is.
-    let posted = c.args.posted.now in
+    let posted = c.args.pool.now in
     let tried = c.args.tried.now in
     subst (IsLeast (IsUntried s)) (sym (c.first_tx.ensures ∙ ap first_tx c.as_slice.ensures))
     (least_untried posted tried c.in-Some.asked
@@ -17,7 +17,7 @@ returns-in-Some c = λ s posted_is tried_is.
 
 pub returns-in-None : goal.returns-in-None
 returns-in-None c =
-    let posted = c.args.posted.now in
+    let posted = c.args.pool.now in
     let tried = c.args.tried.now in
     no_untried posted tried
     (subst (λ (first : Option (List Posted)). IsPick posted tried [] first) c.in-None.is c.in_ok-first.ensures)

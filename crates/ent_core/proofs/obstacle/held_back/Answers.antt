@@ -1,22 +1,20 @@
-use Rattle.std.proofs.Common.{◌≡◌, ◌∙◌, List, ap, refl, subst, sym}
+use Rattle.std.proofs.Common.{◌≡◌, ◌∙◌, List, [], ◌∷◌, ◌++◌, ap, refl, subst, sym}
 use Rattle.std.specs.Arc.{arc_value}
-use Rattle.ent_coordination.specs.Pool.{IsSafe, Posted}
+use Rattle.std.specs.Prelude.{MatchOption}
+use Rattle.std.proofs.lemmas.Result.{IfOk-weaker}
+use Rattle.ent_coordination.specs.Pool.{IsFirstUnsafe, IsSafe, Posted}
 use Rattle.ent_headline.specs.Resolved.{resolved_forms}
 use Rattle.ent_match.specs.Posting.{HasNone}
 use Rattle.ent_next.specs.Next.{next_seen}
 use Rattle.ent_protocol.specs.Member.{Asks, Commits, Ordinary, RollsBack, next_of, pool}
-use Rattle.ent_protocol.specs.State.{State}
+use Rattle.ent_core.specs.Obstacle.{IsHeldBack}
 use Rattle.ent_core.specs.contracts.store.Store.{the_view}
 use Rattle.ent_core.proofs.Obstacles.{moves_commits, moves_ordinary, moves_rolls_back, told_of_pool}
 use Rattle.ent_core.proofs.Posting.{none_there, to_post}
 use Rattle.ent_core.proofs.obstacle.held_back.Goals as goal
 
-pub post_fault-requires-clause-safe : goal.post_fault-requires-clause-safe
-post_fault-requires-clause-safe c =
-    subst (λ (posted : List Posted). IsSafe posted) (sym c.members.ensures.members) c.members.ensures.safe
-
-pub post_fault-requires-clause-none : goal.post_fault-requires-clause-none
-post_fault-requires-clause-none c =
+pub post_fault-requires : goal.post_fault-requires
+post_fault-requires c =
     let now = c.args.store.now in
     let member = c.args.member.now in
     let asks : Asks (arc_value c.in-Asks.statement) ≡ next_of now member =
@@ -24,9 +22,8 @@ post_fault-requires-clause-none c =
     let query = c.query_of-query.result in
     let plan = to_post now member query (arc_value c.in-Asks.statement) c.requires.free (sym asks)
     c.query_of-query.ensures in
-    let all : pool now ≡ c.members.result.now =
-    ap pool (sym c.store.view_is) ∙ c.store.invariant.posted (the_view c.store.inside) refl refl
-    ∙ sym c.members.ensures.members in
+    let all : pool now ≡ c.store.inside.pool =
+    ap pool (sym c.store.view_is) ∙ c.store.invariant.posted (the_view c.store.inside) refl refl in
     subst (λ (posted : List Posted). HasNone posted query) all
     (none_there now member.tx query plan
     (c.members_stand_by_number.ensures resolved_forms now c.requires.kept.reached))
@@ -39,8 +36,8 @@ returns-in-Ordinary c =
     sym (ap next_seen c.in-Ordinary.is) ∙ c.in_ok-statement.ensures.next in
     moves_ordinary now member c.requires.free c.in-Ordinary.statement (sym next)
 
-pub returns-in_ok-fault-in-Asks : goal.returns-in_ok-fault-in-Asks
-returns-in_ok-fault-in-Asks c =
+pub returns-in-Asks : goal.returns-in-Asks
+returns-in-Asks c =
     let now = c.args.store.now in
     let member = c.args.member.now in
     let asks : Asks (arc_value c.in-Asks.statement) ≡ next_of now member =
@@ -48,11 +45,12 @@ returns-in_ok-fault-in-Asks c =
     let query = c.query_of-query.result in
     let plan = to_post now member query (arc_value c.in-Asks.statement) c.requires.free (sym asks)
     c.query_of-query.ensures in
-    let all : pool now ≡ c.members.result.now =
-    ap pool (sym c.store.view_is) ∙ c.store.invariant.posted (the_view c.store.inside) refl refl
-    ∙ sym c.members.ensures.members in
-    told_of_pool now member.tx query plan c.members.result.now all c.in_ok-fault-in-Asks.fault
-    c.in_ok-fault-in-Asks.ensures
+    let posted = c.store.inside.pool in
+    let all : pool now ≡ posted =
+    ap pool (sym c.store.view_is) ∙ c.store.invariant.posted (the_view c.store.inside) refl refl in
+    IfOk-weaker c.post_fault.result
+    (λ fault. MatchOption fault (IsSafe (posted ++ query ∷ [])) (IsFirstUnsafe (posted ++ query ∷ [])))
+    (IsHeldBack now member.tx) (told_of_pool now member.tx query plan posted all) c.post_fault.ensures
 
 pub returns-in-Commits : goal.returns-in-Commits
 returns-in-Commits c =

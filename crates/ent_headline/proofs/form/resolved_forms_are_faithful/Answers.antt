@@ -5,14 +5,16 @@ pub returns : goal.returns
 returns c opening =
     let laws : Laws =
     record {
-      means = c.resolved_means_the_same.ensures;
-      variables = c.variables_are_the_written_ones.ensures.kinds;
-      grounds = c.resolved_grounds_the_same.ensures;
+      forms = record {
+        means = c.resolved_means_the_same.ensures;
+        variables = c.variables_are_the_written_ones.ensures.kinds;
+        grounds = c.resolved_grounds_the_same.ensures;
+        wide = c.kinded_tables_are_wide.ensures;
+      };
       offers = c.resolved_offers_and_demands_the_same.ensures.heads;
       demands = c.resolved_offers_and_demands_the_same.ensures.posts;
       columns = c.declared_columns_are_distinct.ensures;
       kinds = c.opening_tables_are_kinded.ensures.kinds;
       database = c.opening_tables_are_kinded.ensures.database;
-      wide = c.kinded_tables_are_wide.ensures;
     } in
     resolved_faithful laws opening

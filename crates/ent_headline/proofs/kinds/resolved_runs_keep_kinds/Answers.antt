@@ -7,12 +7,14 @@ pub returns : goal.returns
 returns c s e reached =
     let laws : Laws =
     record {
-      means = c.resolved_means_the_same.ensures;
-      variables = c.variables_are_the_written_ones.ensures.kinds;
-      grounds = c.resolved_grounds_the_same.ensures;
+      forms = record {
+        means = c.resolved_means_the_same.ensures;
+        variables = c.variables_are_the_written_ones.ensures.kinds;
+        grounds = c.resolved_grounds_the_same.ensures;
+        wide = c.kinded_tables_are_wide.ensures;
+      };
       closing = c.closing_keeps_the_meaning.ensures.grounds;
       groundings = c.groundings_are_of_their_kinds.ensures;
-      wide = c.kinded_tables_are_wide.ensures;
       fits = c.resolved_statements_fit.ensures.fits;
       tables = c.effects_keep_kinds.ensures.tables;
       bound = c.effects_keep_kinds.ensures.bound;

@@ -1,5 +1,5 @@
 use Rattle.std.proofs.Common.{arith}
-use Rattle.ent_match.proofs.Offered.{asked_more}
+use Rattle.ent_match.proofs.Linked.{asked_more}
 use Rattle.ent_match.proofs.remainder.links_of.Goals as goal
 
 pub loop-place-preserved : goal.loop-place-preserved

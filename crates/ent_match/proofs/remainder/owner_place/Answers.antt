@@ -1,18 +1,19 @@
-use Rattle.std.proofs.Common.{sym, subst, ◌∙◌, true≢false, inl, inr}
-use Rattle.ent_coordination.specs.Pool.{CanMeet}
-use Rattle.ent_match.proofs.Numbered.{front_cases, front_all}
+use Rattle.std.proofs.Common.{◌∙◌, arith, get_or}
+use Rattle.std.proofs.lemmas.List.Elements.{Contains-get_or}
+use Rattle.ent_match.specs.declared.offers.Offer.{Offer}
+use Rattle.ent_match.proofs.Offered.{no_owner, owner_at}
 use Rattle.ent_match.proofs.remainder.owner_place.Goals as goal
 
-pub loop-place-preserved : goal.loop-place-preserved
-loop-place-preserved c = λ owner inside meets.
-    elim (front_cases c.args.members.now c.loop-place.place c.index-members-place.result owner c.loop-place-test.true
-    c.index-members-place.is inside) [
-      | inl front ↦ c.loop-place.invariant owner front meets
-      | inr last ↦ absurd (true≢false (sym (c.can_meet.ensures.1
-          (subst (λ z. CanMeet c.args.asker.now c.args.index z) (sym last) meets)) ∙ c.if-can_meet.false))
-    ]
+pub returns-then-offer-index : goal.returns-then-offer-index
+returns-then-offer-index c =
+    let offers = c.args.offers.now in
+    let none : Offer = record { asker = 0; index = 0; owner = 0 } in
+    let i = c.loop-offer.offer-index in
+    owner_at c.args.members.now offers c.args.asker.now c.args.index c.requires.by_number c.requires.offers
+    c.requires.asks (get_or offers i none) (Contains-get_or offers i none c.loop-offer-test.true)
+    (c.if-offer-tx.true ∙ c.tx.ensures) c.if-offer-index.true c.place_of.result c.place_of.ensures
 
 pub returns : goal.returns
-returns c = λ owner inside meets.
-    c.loop-place.invariant owner
-    (front_all c.args.members.now c.loop-place.place owner c.loop-place-test.false inside) meets
+returns c =
+    no_owner c.args.members.now c.args.offers.now c.args.asker.now c.args.index c.loop-offer.offer-index
+    c.requires.offers c.requires.asks (omega arith) c.loop-offer.invariant

@@ -1,11 +1,11 @@
 use Rattle.std.proofs.Common.{List, sym, subst, ◌∙◌, true≢false}
 use Rattle.ent_lock.specs.Use.{IsLeastIfAny}
+use Rattle.ent_members.proofs.LeastOf.{least_same}
 use Rattle.ent_job.specs.Work.{work_seen}
 use Rattle.ent_job.specs.declared.work.Work.{Work}
 use Rattle.ent_coordination.specs.Pool.{Posted}
 use Rattle.ent_protocol.specs.PoolEvents.{IsPresentComponent}
 use Rattle.ent_waits.specs.Jobs.{HasPostedQuery, IsWorkOf}
-use Rattle.ent_waits.proofs.Smallest.{least_same}
 use Rattle.ent_waits.proofs.jobs.least_at.Goals as goal
 
 pub returns-then-branch : goal.returns-then-branch
@@ -16,8 +16,8 @@ returns-then-branch c = λ s same.
     subst (IsPresentComponent s) c.as_slice.ensures
     ((c.in_ok-is_present-in-Joint.ensures s same).0 c.if-branch.true) in
     subst (λ (work : Work). IsLeastIfAny (IsWorkOf s (work_seen work)) found) (sym c.in-Joint.is)
-    (least_same (HasPostedQuery asked) (λ tx. IsPresentComponent s asked × HasPostedQuery asked tx) (λ n h. (present, h))
-    (λ n h. h.1) found
+    (least_same (HasPostedQuery asked) (λ tx. IsPresentComponent s asked × HasPostedQuery asked tx) found
+    (λ n h. (present, h)) (λ n h. h.1)
     (subst (λ (xs : List Posted). IsLeastIfAny (HasPostedQuery xs) found) c.as_slice-then-branch.ensures
     c.least_of.ensures))
 

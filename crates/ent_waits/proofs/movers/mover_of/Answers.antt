@@ -1,4 +1,4 @@
-use Rattle.std.proofs.Common.{refl, sym, ◌∙◌, arith, true≢false}
+use Rattle.std.proofs.Common.{refl, sym, ◌∙◌, true≢false}
 use Rattle.ent_protocol.specs.Member.{is_lent, next_of}
 use Rattle.ent_waits.specs.Waits.{nothing, state_with}
 use Rattle.ent_waits.proofs.Moving.{free_asks, free_moves, mover_is_unblocked}
@@ -23,11 +23,11 @@ returns-then-not-is_posting c = λ s same.
     mover here member c.tx.result c.tx.ensures free.idle
     (free_moves here member (next_of here member) free.unblocked (sym c.is_posting.ensures ∙ c.if-not-is_posting.true))
 
-pub stays_safe-requires-clause-none : goal.stays_safe-requires-clause-none
-stays_safe-requires-clause-none c =
+pub stays_safe-requires : goal.stays_safe-requires
+stays_safe-requires c =
     let here = state_with c.args.run.now c.args.submitted.now c.args.lent.now nothing in
     let member = c.args.member.now in
-    c.requires.apart member (0, omega arith, refl)
+    c.requires
     (idle_is_unposted member.posted (is_lent here member.tx)
     ((c.is_free.ensures nothing).0 c.if-not-is_free.false).idle)
 

@@ -9,10 +9,10 @@ use Rattle.ent_semantics.specs.Serial.{numbered}
 use Rattle.ent_waits.proofs.Posting.{asks_same, fault_tells, has_none, pool_is}
 use Rattle.ent_waits.proofs.movers.stays_safe.Goals as goal
 
-pub post_fault-requires-clause-none : goal.post_fault-requires-clause-none
-post_fault-requires-clause-none c =
-    has_none c.args.posted.now c.new-query.result c.args.member.now.tx
-    (ap (λ (a : Posted). a.tx) c.new-query.ensures ∙ c.tx.ensures) c.requires.none
+pub post_fault-requires : goal.post_fault-requires
+post_fault-requires c =
+    has_none c.args.pool.now c.new-query.result c.args.member.now.tx
+    (ap (λ (a : Posted). a.tx) c.new-query.ensures ∙ c.tx.ensures) c.requires
 
 pub returns-in-Asks : goal.returns-in-Asks
 returns-in-Asks c = λ s statement same posted next.
@@ -33,7 +33,7 @@ returns-in-Asks c = λ s statement same posted next.
       statement = asks_same (arc_value c.in-Asks.statement) statement asks i;
     }) in
     subst (λ (pool : List Posted). IsTrue c.is_none.result ↔ IsSafe pool)
-    (pool_is s c.args.posted.now query member statement posted is)
-    (fault_tells c.args.posted.now query c.requires.by_number
-    (has_none c.args.posted.now query member.tx own c.requires.none) fault c.is_none.result c.is_none.ensures
+    (pool_is s c.args.pool.now query member statement posted is)
+    (fault_tells c.args.pool.now query c.members-posted.ensures.by_number
+    (has_none c.args.pool.now query member.tx own c.requires) fault c.is_none.result c.is_none.ensures
     c.in_ok-fault-in-Asks.ensures)

@@ -1,13 +1,11 @@
-use Rattle.std.proofs.Common.{ℕ, List, Option, refl, sym, ap, subst}
+use Rattle.std.proofs.Common.{ℕ, List, Option, refl, ap, subst}
 use Rattle.std.specs.Prelude.{IfSome}
 use Rattle.std.specs.Option.{is_some}
 use Rattle.ent_protocol.specs.Quiet.{CanMove, HasJobOut, IsUntried, NoneIs}
-use Rattle.ent_protocol.specs.State.{Member, State}
+use Rattle.ent_protocol.specs.State.{State}
 use Rattle.ent_protocol.specs.Waits.{IsDeadlock}
-use Rattle.ent_waits.specs.Movers.{OnlyPostedAsk}
 use Rattle.ent_waits.specs.Quiet.{state_of}
-use Rattle.ent_waits.proofs.Reasons.{in_order, in_safety, is_least, is_none, least_if_any, least_of_all}
-use Rattle.ent_waits.proofs.Reasons.{posted_ask}
+use Rattle.ent_waits.proofs.Reasons.{is_least, is_none, least_if_any}
 use Rattle.ent_waits.proofs.reason.reason_of.Goals as goal
 use Rattle.ent_waits.proofs.reason.reason_of.Goals.{In_default, In_default-2, In_default-3}
 
@@ -17,15 +15,14 @@ none_out : (c : In_default) (s : State)
 none_out c s =
     let here = state_of c.args.run.now c.args.submitted.now c.args.tried.now c.args.lent.now s in
     is_none (HasJobOut here) c.in_ok-tx.field-0 c.in_default.is
-    (c.in_ok-tx.ensures here (c.requires.posted here refl refl) refl)
+    (c.in_ok-tx.ensures here (c.requires here refl refl) refl)
 
 none_moves : (c : In_default-2) (s : State)
     → NoneIs (CanMove (state_of c.args.run.now c.args.submitted.now c.args.tried.now c.args.lent.now s))
 none_moves c s =
     let here = state_of c.args.run.now c.args.submitted.now c.args.tried.now c.args.lent.now s in
     is_none (CanMove here) c.in_ok-tx-2.field-0 c.in_default-2.is
-    (least_of_all here c.active-active.result.now c.in_ok-tx-2.field-0 c.active-active.ensures.list
-    (c.in_ok-tx-2.ensures (record s { tried = c.args.tried.now }) (c.requires.posted here refl refl)))
+    (c.in_ok-tx-2.ensures (record s { tried = c.args.tried.now }))
 
 none_untried : (c : In_default-3) (s : State)
     → NoneIs (IsUntried (state_of c.args.run.now c.args.submitted.now c.args.tried.now c.args.lent.now s))
@@ -33,57 +30,27 @@ none_untried c s =
     let here = state_of c.args.run.now c.args.submitted.now c.args.tried.now c.args.lent.now s in
     is_none (IsUntried here) c.in_ok-tx-3.field-0 c.in_default-3.is
     (least_if_any (IsUntried here) c.in_ok-tx-3.field-0
-    (c.in_ok-tx-3.ensures here (c.requires.posted here refl refl) refl))
-
-pub job_out-requires-clause-by_number : goal.job_out-requires-clause-by_number
-job_out-requires-clause-by_number c =
-    in_order c.args.submitted.now c.args.run.now.active c.args.posted.now c.requires.order c.requires.posted
-
-pub job_out-requires-clause-safe : goal.job_out-requires-clause-safe
-job_out-requires-clause-safe c =
-    in_safety c.args.submitted.now c.args.run.now.active c.args.posted.now c.requires.order c.requires.posted
+    (c.in_ok-tx-3.ensures here (c.requires here refl refl) refl))
 
 pub returns-in-Some : goal.returns-in-Some
 returns-in-Some c = λ s.
     let here = state_of c.args.run.now c.args.submitted.now c.args.tried.now c.args.lent.now s in
     is_least (HasJobOut here) c.in_ok-tx.field-0 c.in-Some.tx c.in-Some.is
-    (c.in_ok-tx.ensures here (c.requires.posted here refl refl) refl)
-
-pub least_mover-requires-clause-by_number : goal.least_mover-requires-clause-by_number
-least_mover-requires-clause-by_number c =
-    in_order c.args.submitted.now c.args.run.now.active c.args.posted.now c.requires.order c.requires.posted
-
-pub least_mover-requires-clause-safe : goal.least_mover-requires-clause-safe
-least_mover-requires-clause-safe c =
-    in_safety c.args.submitted.now c.args.run.now.active c.args.posted.now c.requires.order c.requires.posted
-
-pub least_mover-requires-clause-apart : goal.least_mover-requires-clause-apart
-least_mover-requires-clause-apart c =
-    subst (λ (members : List Member). OnlyPostedAsk c.args.posted.now members) (sym c.active-active.ensures.list)
-    (posted_ask c.args.submitted.now c.args.run.now.active c.args.posted.now c.requires.order c.requires.posted)
+    (c.in_ok-tx.ensures here (c.requires here refl refl) refl)
 
 pub returns-in-Some-2 : goal.returns-in-Some-2
 returns-in-Some-2 c = λ s.
     let here = state_of c.args.run.now c.args.submitted.now c.args.tried.now c.args.lent.now s in
     let mover = is_least (CanMove here) c.in_ok-tx-2.field-0 c.in-Some-2.tx c.in-Some-2.is
-    (least_of_all here c.active-active.result.now c.in_ok-tx-2.field-0 c.active-active.ensures.list
-    (c.in_ok-tx-2.ensures (record s { tried = c.args.tried.now }) (c.requires.posted here refl refl))) in
+    (c.in_ok-tx-2.ensures (record s { tried = c.args.tried.now })) in
     (none_out (goal.at.returns-in-Some-2 c).In_default s, mover)
-
-pub first_untried-requires-clause-by_number : goal.first_untried-requires-clause-by_number
-first_untried-requires-clause-by_number c =
-    in_order c.args.submitted.now c.args.run.now.active c.args.posted.now c.requires.order c.requires.posted
-
-pub first_untried-requires-clause-safe : goal.first_untried-requires-clause-safe
-first_untried-requires-clause-safe c =
-    in_safety c.args.submitted.now c.args.run.now.active c.args.posted.now c.requires.order c.requires.posted
 
 pub returns-in-Some-3 : goal.returns-in-Some-3
 returns-in-Some-3 c = λ s.
     let here = state_of c.args.run.now c.args.submitted.now c.args.tried.now c.args.lent.now s in
     let untried = is_least (IsUntried here) c.in_ok-tx-3.field-0 c.in-Some-3.tx c.in-Some-3.is
     (least_if_any (IsUntried here) c.in_ok-tx-3.field-0
-    (c.in_ok-tx-3.ensures here (c.requires.posted here refl refl) refl)) in (
+    (c.in_ok-tx-3.ensures here (c.requires here refl refl) refl)) in (
       none_out (goal.at.returns-in-Some-3 c).In_default s,
       none_moves (goal.at.returns-in-Some-3 c).In_default-2 s,
       untried,

@@ -1,52 +1,56 @@
 use Rattle.std.proofs.Common.{◌∙◌, ◌<◌, List, length, map, not, sym, subst}
-use Rattle.ent_coordination.specs.Pool.{IsSafe, Posted}
+use Rattle.ent_coordination.specs.Pool.{Posted}
+use Rattle.ent_match.specs.declared.offers.Offer.{Offer}
 use Rattle.ent_match.specs.Components.{marked_in}
 use Rattle.ent_match.specs.Fault.{IsByNumber}
-use Rattle.ent_match.specs.Parts.{AreSplit, IsMarkedPart}
+use Rattle.ent_match.specs.Offers.{AreOffers}
+use Rattle.ent_match.specs.Parts.{AreSplit, IsMarkedPart, IsPart}
 use Rattle.ent_match.proofs.Joins.{marked_ordered}
-use Rattle.ent_match.proofs.Marked.{safe_split, split_at}
+use Rattle.ent_match.proofs.Marked.{left_part, marked_part, split_at}
 use Rattle.ent_match.proofs.pool.Pool.split.Goals as goal
 
-pub of_safe-requires-clause-by_number : goal.of_safe-requires-clause-by_number
-of_safe-requires-clause-by_number c =
-    let marks = c.as_slice.result.now in
-    let pool = c.members-members.result.now in
+pub part_marks-requires-clause-offers : goal.part_marks-requires-clause-offers
+part_marks-requires-clause-offers c =
+    subst (λ (xs : List Offer). AreOffers c.members-members.result.now xs) (sym c.as_slice.ensures.value)
+    (subst (λ (xs : List Posted). AreOffers xs c.self.inside.offers.items)
+    (c.self.view_is ∙ sym c.members-members.ensures.members) c.self.invariant.2)
+
+pub pool_of-requires-clause-by_number : goal.pool_of-requires-clause-by_number
+pool_of-requires-clause-by_number c =
     let ordered = subst IsByNumber (sym c.members-members.ensures.members) c.members-members.ensures.by_number in
-    subst IsByNumber (sym c.in_ok-part.ensures.marked) (marked_ordered marks pool ordered)
+    subst IsByNumber (sym c.in_ok-around.ensures.marked)
+    (marked_ordered c.as_slice-2.result.now c.members-members.result.now ordered)
 
-pub of_safe-requires-clause-safe : goal.of_safe-requires-clause-safe
-of_safe-requires-clause-safe c =
-    let marks = c.as_slice.result.now in
+pub pool_of-requires-clause-part : goal.pool_of-requires-clause-part
+pool_of-requires-clause-part c =
     let pool = c.members-members.result.now in
-    let is = subst (IsMarkedPart pool c.args.place) (sym c.as_slice.ensures.value) c.in_ok-marks.ensures in
-    let safe = subst IsSafe (sym c.members-members.ensures.members) c.members-members.ensures.safe in
-    subst IsSafe (sym c.in_ok-part.ensures.marked) (safe_split pool c.args.place marks is safe).0
+    let is = subst (IsMarkedPart pool c.args.place) (sym c.as_slice-2.ensures.value) c.in_ok-marks.ensures in
+    subst (λ (xs : List Posted). IsPart xs c.in_ok-around.around.items) c.members-members.ensures.members
+    (subst (IsPart pool) (sym c.in_ok-around.ensures.marked) (marked_part pool c.args.place c.as_slice-2.result.now is))
 
-pub of_safe-requires-2-clause-by_number : goal.of_safe-requires-2-clause-by_number
-of_safe-requires-2-clause-by_number c =
-    let marks = c.as_slice.result.now in
-    let pool = c.members-members.result.now in
+pub pool_of-requires-2-clause-by_number : goal.pool_of-requires-2-clause-by_number
+pool_of-requires-2-clause-by_number c =
     let ordered = subst IsByNumber (sym c.members-members.ensures.members) c.members-members.ensures.by_number in
-    subst IsByNumber (sym c.in_ok-part.ensures.others) (marked_ordered (map not marks) pool ordered)
+    subst IsByNumber (sym c.in_ok-around.ensures.others)
+    (marked_ordered (map not c.as_slice-2.result.now) c.members-members.result.now ordered)
 
-pub of_safe-requires-2-clause-safe : goal.of_safe-requires-2-clause-safe
-of_safe-requires-2-clause-safe c =
-    let marks = c.as_slice.result.now in
+pub pool_of-requires-2-clause-part : goal.pool_of-requires-2-clause-part
+pool_of-requires-2-clause-part c =
     let pool = c.members-members.result.now in
-    let is = subst (IsMarkedPart pool c.args.place) (sym c.as_slice.ensures.value) c.in_ok-marks.ensures in
-    let safe = subst IsSafe (sym c.members-members.ensures.members) c.members-members.ensures.safe in
-    subst IsSafe (sym c.in_ok-part.ensures.others) (safe_split pool c.args.place marks is safe).1
+    let is = subst (IsMarkedPart pool c.args.place) (sym c.as_slice-2.ensures.value) c.in_ok-marks.ensures in
+    subst (λ (xs : List Posted). IsPart xs c.in_ok-around.others.items) c.members-members.ensures.members
+    (subst (IsPart pool) (sym c.in_ok-around.ensures.others) (left_part pool c.args.place c.as_slice-2.result.now is))
 
 pub returns : goal.returns
 returns c =
-    let marks = c.as_slice.result.now in
+    let marks = c.as_slice-2.result.now in
     let place = c.args.place in
     let pool = c.members-members.result.now in
     let same = c.members-members.ensures.members in
-    let is = subst (IsMarkedPart pool place) (sym c.as_slice.ensures.value) c.in_ok-marks.ensures in
+    let is = subst (IsMarkedPart pool place) (sym c.as_slice-2.ensures.value) c.in_ok-marks.ensures in
     let below = subst (λ (xs : List Posted). place < length xs) (sym same) c.requires in
-    subst (λ (xs : List Posted). AreSplit xs place c.of_safe.result c.of_safe-2.result) same
-    (subst (λ (part : List Posted). AreSplit pool place part c.of_safe-2.result)
-    (sym (c.of_safe.ensures ∙ c.in_ok-part.ensures.marked))
+    subst (λ (xs : List Posted). AreSplit xs place c.in_ok-part.part c.in_ok-rest.rest) same
+    (subst (λ (part : List Posted). AreSplit pool place part c.in_ok-rest.rest)
+    (sym (c.in_ok-part.ensures ∙ c.in_ok-around.ensures.marked))
     (subst (λ (rest : List Posted). AreSplit pool place (marked_in marks pool) rest)
-    (sym (c.of_safe-2.ensures ∙ c.in_ok-part.ensures.others)) (split_at pool place marks is below)))
+    (sym (c.in_ok-rest.ensures ∙ c.in_ok-around.ensures.others)) (split_at pool place marks is below)))

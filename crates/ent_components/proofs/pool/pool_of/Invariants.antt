@@ -1,6 +1,0 @@
-use Rattle.std.proofs.Common.{◌≡◌, take}
-use Rattle.ent_components.proofs.pool.pool_of.Given as goal
-
--- the statements so far
-abbrev pub invariant-loop-query : goal.invariant-loop-query
-invariant-loop-query l = l.members.items ≡ take l.query-index l.posted

@@ -1,0 +1,18 @@
+//! Where statements stand.
+ghost use Rattle.std.specs.Prelude.{MatchOption};
+ghost use Rattle.ent_match.specs.Place.{HasNoneOf, IsPlaceOf};
+
+use crate::posted::Posted;
+use ent_group::Tx;
+
+/// The place of the statement of a transaction.
+pub fn place_of(members: &[Posted], tx: Tx) -> Option<usize>
+    ensures { MatchOption result (HasNoneOf members.now tx) (IsPlaceOf members.now tx) }
+{
+    for (place, member) in members.iter().enumerate() {
+        if member.tx() == tx {
+            return Some(place);
+        }
+    }
+    None
+}
