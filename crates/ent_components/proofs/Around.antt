@@ -10,7 +10,8 @@ use Rattle.ent_match.specs.Remainder.{At}
 use Rattle.ent_protocol.specs.Member.{pool}
 use Rattle.ent_protocol.specs.PoolEvents.{IsPresentComponent}
 use Rattle.ent_protocol.specs.State.{State}
-use Rattle.ent_components.specs.Part.{HasNoneOf, IsPlaceOf, IsTakenOut}
+use Rattle.ent_components.specs.Part.{IsTakenOut}
+use Rattle.ent_match.specs.Place.{HasNoneOf, IsPlaceOf}
 use Rattle.ent_components.proofs.Exact.{component_in, has_first, is_posted, present_in}
 use Rattle.ent_components.proofs.Listed.{element_here, in_none}
 use Rattle.ent_components.proofs.Numbered.{same_member}

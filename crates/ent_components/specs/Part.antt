@@ -1,18 +1,9 @@
 -- The components of a part of what is posted.
-use Rattle.std.specs.Prelude.{◌≡◌, ◌≢◌, ◌<◌, ◌≤◌, ◌⊎◌, ℕ, List, length, Contains, Option, Some, None}
-use Rattle.std.specs.Prelude.{slice_index_or}
+use Rattle.std.specs.Prelude.{◌≡◌, ◌≤◌, ◌⊎◌, ℕ, List, Contains, Option, Some, None}
 use Rattle.ent_coordination.specs.Component.{IsComponent}
 use Rattle.ent_coordination.specs.Pool.{Posted, first_tx}
 use Rattle.ent_match.specs.Fault.{IsByNumber}
 use Rattle.ent_match.specs.Parts.{AreSplit, IsPart}
-
--- no statement of a pool is of a transaction
-abbrev pub HasNoneOf : List Posted → ℕ → Type 0
-HasNoneOf pool tx = (member : Posted) → Contains pool member → member.tx ≢ tx
-
--- where the statement of a transaction stands
-abbrev pub IsPlaceOf : List Posted → ℕ → ℕ → Type 0
-IsPlaceOf pool tx place = (place < length pool) × ((d : Posted) → (slice_index_or pool place d).tx ≡ tx)
 
 -- components of what is posted, and all of those that have a member in a part
 pub record AreComponentsOf (posted : List Posted) (part : List Posted) (lists : List (List Posted)) : Type 0 where

@@ -1,24 +1,11 @@
 //! The components of a part of the posted statements.
-ghost use Rattle.std.specs.Prelude.{◌≡◌, ◌<◌, length, IfOk, MatchOption};
-ghost use Rattle.ent_components.specs.Part.{HasNoneOf, IsPlaceOf, IsTakenOut};
+ghost use Rattle.std.specs.Prelude.{◌<◌, length, IfOk};
+ghost use Rattle.ent_components.specs.Part.{IsTakenOut};
 
 use ent_coordination::components_are_classes;
-use ent_group::Tx;
 use ent_match::{Pool, Posted, parts_are_apart};
 use ent_value::Sequence;
 use std::alloc::{AllocError, Global};
-
-/// The place of the statement of a transaction.
-pub(crate) fn place_of(members: &[Posted], tx: Tx) -> Option<usize>
-    ensures { MatchOption result (HasNoneOf members.now tx) (IsPlaceOf members.now tx) }
-{
-    for (place, member) in members.iter().enumerate() {
-        if member.tx() == tx {
-            return Some(place);
-        }
-    }
-    None
-}
 
 /// The components of the part of a pool around a place, and the rest of the pool.
 pub(crate) fn take_part(

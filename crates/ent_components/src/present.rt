@@ -5,8 +5,8 @@ ghost use Rattle.ent_protocol.specs.PoolEvents.{IsPresentComponent};
 ghost use Rattle.ent_protocol.specs.State.{State};
 
 use crate::open::is_among;
-use crate::part::{place_of, take_part};
-use ent_match::{Pool, Posted};
+use crate::part::take_part;
+use ent_match::{Pool, Posted, place_of};
 use std::alloc::{AllocError, Global};
 
 /// Whether some statements are posted just so, of these attempts and at these places, and exactly a component of those

@@ -7,7 +7,7 @@ ghost use Rattle.ent_protocol.specs.Lookup.{running_members};
 ghost use Rattle.ent_protocol.specs.Member.{pool};
 ghost use Rattle.ent_protocol.specs.Reached.{scripts_of};
 ghost use Rattle.ent_semantics.specs.Serial.{numbered};
-ghost use Rattle.ent_components.specs.Part.{HasNoneOf};
+ghost use Rattle.ent_match.specs.Place.{HasNoneOf};
 ghost use Rattle.ent_core.specs.Obstacle.{IsOf};
 
 use crate::obstacle::posted_of;

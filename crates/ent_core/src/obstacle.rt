@@ -6,7 +6,7 @@ ghost use Rattle.ent_core.specs.Obstacle.{obstacle_seen};
 ghost use Rattle.ent_protocol.specs.Event as replies;
 ghost use Rattle.ent_protocol.specs.Member.{next_of};
 ghost use Rattle.ent_protocol.specs.Waits.{next_uses};
-ghost use Rattle.ent_components.specs.Part.{HasNoneOf};
+ghost use Rattle.ent_match.specs.Place.{HasNoneOf};
 ghost use Rattle.ent_core.specs.Obstacle.{AreBetween, IsBetween, IsHeldBack, IsObstacle, IsOf, StandsSo};
 
 use crate::begin::{BeginRefusal, free_member, next_of, query_of};

@@ -25,7 +25,7 @@ ghost use Rattle.ent_semantics.specs.Serial.{numbered};
 ghost use Rattle.ent_protocol_laws.specs.Attempts.{AsksForRun};
 ghost use Rattle.ent_value.specs.Refusal.{Gives};
 ghost use Rattle.ent_value.specs.declared.refusal.Refusal.TheVariants.{Fault};
-ghost use Rattle.ent_components.specs.Part.{HasNoneOf};
+ghost use Rattle.ent_match.specs.Place.{HasNoneOf};
 ghost use Rattle.ent_core.specs.Obstacle.{IsBetween, IsObstacle, IsOf};
 ghost use Rattle.ent_core.specs.declared.closing.NotDone.{NotDone};
 

@@ -17,7 +17,7 @@ use Rattle.ent_protocol.specs.PostedBy.{in_pool}
 use Rattle.ent_protocol.specs.State.{State, Member}
 use Rattle.ent_members.specs.Run.{tx_of}
 use Rattle.ent_members.proofs.Locked.{one_member}
-use Rattle.ent_components.specs.Part.{HasNoneOf}
+use Rattle.ent_match.specs.Place.{HasNoneOf}
 use Rattle.ent_components.proofs.Numbered.{same_member}
 
 -- ---- whose posted statements are

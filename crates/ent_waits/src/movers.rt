@@ -9,7 +9,7 @@ ghost use Rattle.ent_protocol.specs.Begin.{pool_with};
 ghost use Rattle.ent_protocol.specs.Member.{Asks, next_of, pool as pool_of};
 ghost use Rattle.ent_protocol.specs.Quiet.{CanMove};
 ghost use Rattle.ent_protocol.specs.State.{State};
-ghost use Rattle.ent_components.specs.Part.{HasNoneOf};
+ghost use Rattle.ent_match.specs.Place.{HasNoneOf};
 ghost use Rattle.ent_waits.specs.Waits.{state_with};
 ghost use Rattle.ent_waits.specs.Movers.{IsMover};
 

@@ -1,7 +1,7 @@
 use Rattle.std.proofs.Common.{ℕ, List, false, sym, subst, true≢false}
 use Rattle.std.specs.Prelude.{Contains, IsTrue}
 use Rattle.ent_coordination.specs.Pool.{Posted}
-use Rattle.ent_components.specs.Part.{HasNoneOf, IsPlaceOf}
+use Rattle.ent_match.specs.Place.{HasNoneOf, IsPlaceOf}
 use Rattle.ent_components.proofs.Around.{in_state, is_listed, not_posted, of_none}
 use Rattle.ent_components.proofs.present.is_present.Goals as goal
 

@@ -2,7 +2,7 @@ use Rattle.std.proofs.Common.{◌≡◌, ◌∙◌, List, ap, refl, subst, sym}
 use Rattle.std.specs.Prelude.{MatchOption}
 use Rattle.ent_coordination.specs.Pool.{Posted}
 use Rattle.ent_protocol.specs.Member.{pool}
-use Rattle.ent_components.specs.Part.{HasNoneOf}
+use Rattle.ent_match.specs.Place.{HasNoneOf}
 use Rattle.ent_core.specs.Obstacle.{IsOf}
 use Rattle.ent_core.specs.contracts.store.Store.{the_view}
 use Rattle.ent_core.proofs.lookup.posted.Goals as goal

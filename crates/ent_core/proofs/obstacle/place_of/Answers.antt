@@ -3,7 +3,7 @@ use Rattle.ent_coordination.specs.Pool.{Posted}
 use Rattle.ent_match.specs.Demand.{IsDemand}
 use Rattle.ent_protocol.specs.Member.{is_prepared, pool}
 use Rattle.ent_protocol.specs.State.{State}
-use Rattle.ent_components.specs.Part.{HasNoneOf}
+use Rattle.ent_match.specs.Place.{HasNoneOf}
 use Rattle.ent_core.specs.Obstacle.{IsOf}
 use Rattle.ent_core.specs.contracts.store.Store.{the_view}
 use Rattle.ent_core.proofs.obstacle.place_of.Goals as goal

@@ -5,7 +5,7 @@ use Rattle.ent_lock.specs.Use.{IsLeastIfAny}
 use Rattle.ent_members.proofs.LeastOf.{least_same}
 use Rattle.ent_protocol.specs.Quiet.{CanMove}
 use Rattle.ent_protocol.specs.State.{Member}
-use Rattle.ent_components.specs.Part.{HasNoneOf}
+use Rattle.ent_match.specs.Place.{HasNoneOf}
 use Rattle.ent_waits.specs.Movers.{IsMover}
 use Rattle.ent_waits.specs.Waits.{nothing, state_with}
 use Rattle.ent_waits.proofs.Posting.{none_of_unposted}

@@ -2,7 +2,7 @@ use Rattle.std.proofs.Common.{subst}
 use Rattle.std.specs.Prelude.{MatchOption}
 use Rattle.ent_protocol.specs.Member.{pool}
 use Rattle.ent_protocol.specs.State.{State}
-use Rattle.ent_components.specs.Part.{HasNoneOf}
+use Rattle.ent_match.specs.Place.{HasNoneOf}
 use Rattle.ent_core.specs.Obstacle.{IsOf}
 use Rattle.ent_core.proofs.reached.Core.posted.Goals as goal
 
