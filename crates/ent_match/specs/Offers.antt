@@ -68,7 +68,7 @@ abbrev pub IsPartner : Offer → ℕ → ℕ → Type 0
 IsPartner offer tx other =
     ((offer.asker ≡ tx) × (offer.owner ≡ other)) ⊎ ((offer.owner ≡ tx) × (offer.asker ≡ other))
 
--- exactly the offers by statements of a part are listed
+-- exactly the offers to statements of a part are listed
 abbrev pub AreThoseWithin : List Posted → List Offer → List Offer → Type 0
 AreThoseWithin part offers kept =
     (offer : Offer) → Contains kept offer ↔ (Contains offers offer × HasOneOf part offer.asker)

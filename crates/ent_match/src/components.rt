@@ -109,7 +109,7 @@ pub(crate) fn components_of(
 ) -> Result<Vec<Sequence<Posted>>, AllocError>
     requires by_number { IsByNumber members.now }
     requires safe { IsSafe members.now }
-    requires offers { AreOffers members.now offers.now }
+    requires exact { AreOffers members.now offers.now }
     ensures components { IfOk result (λ lists. AreComponents members.now lists.items) }
     ensures by_first { IfOk result (λ lists. AscendByFirst lists.items) }
 {

@@ -52,7 +52,7 @@ pub(crate) fn forget(offers: &mut Vec<Offer>, tx: Tx)
 
 /// Puts down for which posts of one statement another has a head.
 fn push_met(offers: &mut Vec<Offer>, asker: &Posted, owner: &Posted) -> Result<(), AllocError>
-    ensures grow { GrowBy offers.old.items offers.new.items (IsMetBy asker.now owner.now) }
+    ensures grows { GrowBy offers.old.items offers.new.items (IsMetBy asker.now owner.now) }
     ensures ok { OnOk result ((offer : Offer) → IsMetBy asker.now owner.now offer
         → Contains offers.new.items offer) }
 {
@@ -71,7 +71,7 @@ fn push_met(offers: &mut Vec<Offer>, asker: &Posted, owner: &Posted) -> Result<(
 /// Puts down the offers between two statements, once where the two are one.
 fn push_pair(offers: &mut Vec<Offer>, one: &Posted, other: &Posted) -> Result<(), AllocError>
     requires { one.now.tx ≡ other.now.tx → one.now ≡ other.now }
-    ensures grow { GrowBy offers.old.items offers.new.items (IsOfPair one.now other.now) }
+    ensures grows { GrowBy offers.old.items offers.new.items (IsOfPair one.now other.now) }
     ensures ok { OnOk result ((offer : Offer) → IsOfPair one.now other.now offer
         → Contains offers.new.items offer) }
 {
@@ -86,7 +86,7 @@ fn push_pair(offers: &mut Vec<Offer>, one: &Posted, other: &Posted) -> Result<()
 fn push_between(offers: &mut Vec<Offer>, members: &[Posted], new: &Posted) -> Result<(), AllocError>
     requires by_number { IsByNumber members.now }
     requires is_new { Contains members.now new.now }
-    ensures grow { GrowBy offers.old.items offers.new.items (IsBetween members.now new.now) }
+    ensures grows { GrowBy offers.old.items offers.new.items (IsBetween members.now new.now) }
     ensures ok { OnOk result ((offer : Offer) → IsBetween members.now new.now offer
         → Contains offers.new.items offer) }
 {
@@ -142,9 +142,9 @@ fn push_new(offers: &mut Vec<Offer>, members: &[Posted], new: &Posted) -> Result
     requires is_new { Contains members.now new.now }
     requires safe { IsSafeBut members.now new.now }
     requires kept { AreOffersBut members.now new.now.tx offers.old.items }
-    ensures offers { OnOk result (AreOffers members.now offers.new.items) }
+    ensures exact { OnOk result (AreOffers members.now offers.new.items) }
     ensures safe { OnOk result (IsSafe members.now) }
-    ensures grow { GrowBy offers.old.items offers.new.items (IsBetween members.now new.now) }
+    ensures grows { GrowBy offers.old.items offers.new.items (IsBetween members.now new.now) }
     ensures why { IfErr result (IsWhyIn members.now) }
 {
     let Ok(()) = push_between(offers, members, new) else {
@@ -167,7 +167,7 @@ pub(crate) fn add_offers(
     requires is_new { Contains members.now new.now }
     requires safe { IsSafeBut members.now new.now }
     requires kept { AreOffersBut members.now new.now.tx offers.old.items }
-    ensures offers { OnOk result (AreOffers members.now offers.new.items) }
+    ensures exact { OnOk result (AreOffers members.now offers.new.items) }
     ensures safe { OnOk result (IsSafe members.now) }
     ensures err { OnErr result (AreOffersBut members.now new.now.tx offers.new.items) }
     ensures why { IfErr result (IsWhyIn members.now) }
@@ -181,7 +181,7 @@ pub(crate) fn add_offers(
     }
 }
 
-/// The offers that are by a statement of a part of a pool: they are to such a statement, too.
+/// The offers to the statements of a part of a pool; they are by such statements, too.
 pub(crate) fn offers_within(
     alloc: Global,
     offers: &[Offer],

@@ -42,7 +42,7 @@ fn mark_partner(members: &[Posted], offer: &Offer, tx: Tx, marks: &mut [bool])
 /// Marks the statements that are joined to the one at a place.
 fn mark_joined(members: &[Posted], offers: &[Offer], place: usize, marks: &mut [bool])
     requires by_number { IsByNumber members.now }
-    requires offers { AreOffers members.now offers.now }
+    requires exact { AreOffers members.now offers.now }
     requires within { place < length members.now }
     requires room { length marks.old ≡ length members.now }
     ensures { AreMarkedFrom members.now place marks.old marks.new }
@@ -61,7 +61,7 @@ pub(crate) fn part_marks(
     place: usize,
 ) -> Result<Vec<bool>, AllocError>
     requires by_number { IsByNumber members.now }
-    requires offers { AreOffers members.now offers.now }
+    requires exact { AreOffers members.now offers.now }
     requires within { place < length members.now }
     ensures { IfOk result (λ marks. IsMarkedPart members.now place marks.items) }
 {

@@ -143,11 +143,11 @@ fn post_to(
 ) -> Result<(), (Posted, PostFault)>
     requires by_number { IsByNumber members.old.items }
     requires safe { IsSafe members.old.items }
-    requires offers { AreOffers members.old.items offers.old.items }
+    requires exact { AreOffers members.old.items offers.old.items }
     requires none { HasNone members.old.items member }
     ensures posted { OnOk result (IsPostedTo members.old.items members.new.items member) }
     ensures err { OnErr result (members.new.items ≡ members.old.items) }
-    ensures offers { AreOffers members.new.items offers.new.items }
+    ensures exact { AreOffers members.new.items offers.new.items }
     ensures returned { IfErr result (λ e. e.0 ≡ member) }
     ensures why { IfErr result (λ e. IsWhyWith members.old.items member e.1) }
 {

@@ -21,7 +21,7 @@ pub struct Asked {
 /// The place of a statement that has a head for a post.
 fn owner_place(members: &[Posted], offers: &[Offer], asker: &Posted, index: usize) -> Option<usize>
     requires by_number { IsByNumber members.now }
-    requires offers { AreOffers members.now offers.now }
+    requires exact { AreOffers members.now offers.now }
     requires asks { Contains members.now asker.now }
     ensures { MatchOption result (HasNoOwner members.now asker.now index) (IsOwnerAt members.now asker.now index) }
 {
@@ -41,7 +41,7 @@ fn push_links(
     place: usize,
 ) -> Result<bool, AllocError>
     requires by_number { IsByNumber members.now }
-    requires offers { AreOffers members.now offers.now }
+    requires exact { AreOffers members.now offers.now }
     requires within { place < length members.now }
     ensures { IfOk result (AsksTo members.now place links.old.items links.new.items) }
 {
@@ -65,7 +65,7 @@ pub(crate) fn links_of(
     offers: &[Offer],
 ) -> Result<Asked, AllocError>
     requires by_number { IsByNumber members.now }
-    requires offers { AreOffers members.now offers.now }
+    requires exact { AreOffers members.now offers.now }
     ensures { IfOk result (λ asked. IsStart members.now asked.links.items asked.removed.items) }
 {
     let mut links = Vec::new(alloc);

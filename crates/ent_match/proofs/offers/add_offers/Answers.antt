@@ -11,4 +11,4 @@ returns-in-Err-clause-err c =
     let pushed = c.push_new.new.offers.items in
     subst (λ (xs : List Offer). AreOffersBut pool one.tx xs)
     (sym (c.forget.ensures ∙ ap (λ (tx : ℕ). filter (is_of_others tx) pushed) c.tx.ensures))
-    (left_offers pool one c.args.offers.now.items pushed c.requires.kept c.push_new.ensures.grow)
+    (left_offers pool one c.args.offers.now.items pushed c.requires.kept c.push_new.ensures.grows)

@@ -9,9 +9,9 @@ use Rattle.ent_match.proofs.Placed.{by_number-insert, adds-insert, safe_but, rem
 use Rattle.ent_match.proofs.Refused.{why_with}
 use Rattle.ent_match.proofs.pool.post_to.Goals as goal
 
-pub returns-in-Err-clause-offers : goal.returns-in-Err-clause-offers
-returns-in-Err-clause-offers c =
-    subst (λ xs. AreOffers xs c.args.offers.now.items) (sym c.in-Err.ensures.items) c.requires.offers
+pub returns-in-Err-clause-exact : goal.returns-in-Err-clause-exact
+returns-in-Err-clause-exact c =
+    subst (λ xs. AreOffers xs c.args.offers.now.items) (sym c.in-Err.ensures.items) c.requires.exact
 
 pub add_offers-requires-clause-by_number : goal.add_offers-requires-clause-by_number
 add_offers-requires-clause-by_number c =
@@ -49,7 +49,7 @@ add_offers-requires-clause-kept c =
     let offers = c.args.offers.now.items in
     subst (λ xs. AreOffersBut xs c.index.result.now.tx offers) (sym full)
     (subst (λ (z : Posted). AreOffersBut (insert old at m) z.tx offers) (sym is_m)
-    (but_new old (insert old at m) m (adds-insert old at m place.within) c.requires.none offers c.requires.offers))
+    (but_new old (insert old at m) m (adds-insert old at m place.within) c.requires.none offers c.requires.exact))
 
 pub returns-in-Ok-clause-posted : goal.returns-in-Ok-clause-posted
 returns-in-Ok-clause-posted c =
@@ -65,9 +65,9 @@ returns-in-Ok-clause-posted c =
       safe = subst IsSafe full c.in-Ok.ensures.safe;
     })
 
-pub returns-in-Ok-clause-offers : goal.returns-in-Ok-clause-offers
-returns-in-Ok-clause-offers c =
-    subst (λ xs. AreOffers xs c.add_offers.new.offers.items) c.as_slice-2.ensures.value c.in-Ok.ensures.offers
+pub returns-in-Ok-clause-exact : goal.returns-in-Ok-clause-exact
+returns-in-Ok-clause-exact c =
+    subst (λ xs. AreOffers xs c.add_offers.new.offers.items) c.as_slice-2.ensures.value c.in-Ok.ensures.exact
 
 pub returns-in-Err-add_offers-clause-err : goal.returns-in-Err-add_offers-clause-err
 returns-in-Err-add_offers-clause-err c =
@@ -78,8 +78,8 @@ returns-in-Err-add_offers-clause-err c =
     c.remove-member.ensures.items
     ∙ (ap (λ xs. remove xs at) c.in_default.ensures.items ∙ remove-insert old at m place.within)
 
-pub returns-in-Err-add_offers-clause-offers : goal.returns-in-Err-add_offers-clause-offers
-returns-in-Err-add_offers-clause-offers c =
+pub returns-in-Err-add_offers-clause-exact : goal.returns-in-Err-add_offers-clause-exact
+returns-in-Err-add_offers-clause-exact c =
     let old = c.args.members.now.items in
     let at = c.place_for-at.result in
     let m = c.args.member in

@@ -12,9 +12,9 @@ post_to-requires-clause-none c =
 pub invariant_of-self : goal.invariant_of-self
 invariant_of-self c =
     either_way c.post_to.result c.post_to.ensures.posted c.post_to.ensures.err
-    (λ posted. (posted.by_number, posted.safe, c.post_to.ensures.offers))
+    (λ posted. (posted.by_number, posted.safe, c.post_to.ensures.exact))
     (λ same. (
       subst IsByNumber (sym same) c.self.invariant.0,
       subst IsSafe (sym same) c.self.invariant.1,
-      c.post_to.ensures.offers,
+      c.post_to.ensures.exact,
     ))

@@ -9,8 +9,8 @@ use Rattle.ent_match.proofs.Joins.{marked_ordered}
 use Rattle.ent_match.proofs.Marked.{left_part, marked_part, split_at}
 use Rattle.ent_match.proofs.pool.Pool.split.Goals as goal
 
-pub part_marks-requires-clause-offers : goal.part_marks-requires-clause-offers
-part_marks-requires-clause-offers c =
+pub part_marks-requires-clause-exact : goal.part_marks-requires-clause-exact
+part_marks-requires-clause-exact c =
     subst (λ (xs : List Offer). AreOffers c.members-members.result.now xs) (sym c.as_slice.ensures.value)
     (subst (λ (xs : List Posted). AreOffers xs c.self.inside.offers.items)
     (c.self.view_is ∙ sym c.members-members.ensures.members) c.self.invariant.2)
