@@ -34,7 +34,8 @@ use Rattle.ent_waits.proofs.Moving.{free_at_end}
 use Rattle.ent_lists.specs.Elements.{contains_in, index_pairs}
 use Rattle.ent_protocol_laws.specs.ByNumber.{StandByNumber}
 use Rattle.ent_protocol_laws.specs.Numbered.{below_apart, one_of}
-use Rattle.ent_core.specs.Begin.{IsFree, IsIdle, LendsTo, MayBegin, job_uses}
+use Rattle.ent_waits.specs.Free.{IsFree, IsIdle}
+use Rattle.ent_core.specs.Begin.{IsUnposted, LendsTo, MayBegin, job_uses}
 
 -- ---- the member of a number
 
@@ -92,9 +93,9 @@ is_there members tx some = by (first_of (filter (is_tx tx) members)) some
     by None some = absurd cc
 
 -- where members stand by number, one that may begin is the only one of its number, and hasn't posted
-pub one_idle : (s : State) (tx : ℕ) (member : Member) → StandByNumber s → Contains s.active member → member.tx ≡ tx
-    → member.posted ≡ false → IsIdle s tx
-one_idle s tx member stand at own off other there same =
+pub one_unposted : (s : State) (tx : ℕ) (member : Member) → StandByNumber s → Contains s.active member → member.tx ≡ tx
+    → member.posted ≡ false → IsUnposted s tx
+one_unposted s tx member stand at own off other there same =
     let one : other ≡ member =
     one_of (λ (m : Member). m.tx) s.active other member
     (below_apart (λ (m : Member). m.tx) s.active
@@ -102,11 +103,22 @@ one_idle s tx member stand at own off other there same =
     (contains_in s.active other there) (contains_in s.active member at) (same ∙ sym own) in
     ap (λ (m : Member). m.posted) one ∙ off
 
-pub idle_at_turn : (s : State) (tx : ℕ) (member : Member) (next : Next) → StandByNumber s → MayBegin s tx member next
-    → IsIdle s tx
-idle_at_turn s tx member next stand may =
-    one_idle s tx member stand (member_found tx s.active member may.there) (number_found tx s.active member may.there)
-    (or_first member.posted (is_lent s tx) may.free)
+pub unposted_at_turn : (s : State) (tx : ℕ) (member : Member) (next : Next) → StandByNumber s
+    → MayBegin s tx member next → IsUnposted s tx
+unposted_at_turn s tx member next stand may =
+    one_unposted s tx member stand (member_found tx s.active member may.there)
+    (number_found tx s.active member may.there) (or_first member.posted (is_lent s member.tx) may.idle)
+
+-- the member of a number is idle exactly where its number is
+pub idle_of : (s : State) (tx : ℕ) (member : Member) → active_member s tx ≡ Some member → IsIdle s member
+    → (member.posted || is_lent s tx) ≡ false
+idle_of s tx member there idle =
+    subst (λ n. (member.posted || is_lent s n) ≡ false) (number_found tx s.active member there) idle
+
+pub idle_by : (s : State) (tx : ℕ) (member : Member) → active_member s tx ≡ Some member
+    → (member.posted || is_lent s tx) ≡ false → IsIdle s member
+idle_by s tx member there idle =
+    subst (λ n. (member.posted || is_lent s n) ≡ false) (sym (number_found tx s.active member there)) idle
 
 -- ---- where nothing is begun
 
@@ -140,7 +152,8 @@ module _ (s : State) (tx : ℕ) where
       let P : Option Member → Type 0 = λ o. BeginsMember s tx o reply new in
       let Q : Bool → Type 0 = λ b. BeginsUnless b s member reply new in
       let R : Next → Type 0 = λ n. BeginsNext s member n reply new in
-      subst P (sym begun.there) (subst Q (sym begun.free) (subst R (sym begun.is_next) h))
+      subst P (sym begun.there)
+      (subst Q (sym (idle_of s tx member begun.there begun.idle)) (subst R (sym begun.is_next) h))
 
   module _ (member : Member) (statement : Statement Value) (begun : MayBegin s tx member (Ordinary statement)) where
     ordinary : (holder : Option ℕ) → blocker s member (statement_uses statement) ≡ holder
@@ -191,9 +204,9 @@ module _ (s : State) (tx : ℕ) where
     entangled_posted none safe new is = entangled None none replies.Posted new (inl (safe, refl, is))
 
   -- a free member may begin what comes next
-  pub begun_next : (member : Member) (next : Next) → IsFree s tx member → next ≡ next_of s member
-      → MayBegin s tx member next
-  begun_next member next free is = record { there = free.may.there; free = free.may.free; is_next = sym is }
+  pub begun_next : (member : Member) (next : Next) → active_member s tx ≡ Some member → IsFree s member
+      → next ≡ next_of s member → MayBegin s tx member next
+  begun_next member next there free is = record { there = there; idle = free.idle; is_next = sym is }
 
   -- whatever comes next, who blocks what it asks for blocks it
   pub begun_blocked : (member : Member) (next : Next) → MayBegin s tx member next → (holder : ℕ)

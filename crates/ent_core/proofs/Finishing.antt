@@ -42,10 +42,10 @@ use Rattle.ent_core.specs.Advance.{Advances, binding}
 use Rattle.ent_core.specs.Finish.{Accepts, CanChange, CarriesOut, IsReplyTo, MayCarryOut}
 use Rattle.ent_core.specs.declared.finish.Carried.{Carried}
 use Rattle.ent_core.specs.declared.finish.Carried.TheVariants as carried
-use Rattle.ent_core.specs.Begin.{IsIdle}
+use Rattle.ent_core.specs.Begin.{IsUnposted}
 use Rattle.ent_coordination.specs.Pool.{Posted}
 use Rattle.ent_pool_laws.specs.Pooled.{IsPoolOf}
-use Rattle.ent_core.proofs.Begun.{number_found, one_idle, one_member}
+use Rattle.ent_core.proofs.Begun.{number_found, one_unposted, one_member}
 use Rattle.ent_core.proofs.Pooled.{kept_changing}
 
 -- ---- the member of a statement
@@ -264,11 +264,11 @@ out_member s job single index present there work =
     is_found single.tx s.active p.member p.active p.own
 
 -- nobody of its number has posted
-pub out_idle : (s : State) (job : Job) (single : Single) (index : ℕ) → LentIsPresent s → StandByNumber s
-    → slice_get s.lent index ≡ Some job → job.work ≡ One single → IsIdle s single.tx
-out_idle s job single index present stand there work =
+pub out_unposted : (s : State) (job : Job) (single : Single) (index : ℕ) → LentIsPresent s → StandByNumber s
+    → slice_get s.lent index ≡ Some job → job.work ≡ One single → IsUnposted s single.tx
+out_unposted s job single index present stand there work =
     let p = present.single job single (contains_at s.lent index job there) work in
-    one_idle s single.tx p.member stand p.active p.own p.unposted
+    one_unposted s single.tx p.member stand p.active p.own p.unposted
 
 -- its change can be made
 pub out_change : (s : State) (job : Job) (single : Single) (index : ℕ) (outcome : Outcome) → LentIsPresent s

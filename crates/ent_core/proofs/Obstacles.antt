@@ -1,5 +1,5 @@
 -- What keeps a member from moving, and that it moves where nothing does.
-use Rattle.std.proofs.Common.{◌≡◌, ℕ, List, [], ◌∷◌, ◌++◌, Option, Some, None, ap, refl, subst, sym, ◌∙◌}
+use Rattle.std.proofs.Common.{◌≡◌, ℕ, List, [], ◌∷◌, ◌++◌, Option, Some, None, ap, subst, sym, ◌∙◌}
 use Rattle.std.specs.Prelude.{MatchOption}
 use Rattle.ent_value.specs.declared.value.Value.{Value}
 use Rattle.ent_closed.specs.declared.statement.Statement.{Statement}
@@ -7,38 +7,39 @@ use Rattle.ent_coordination.specs.Pool.{IsFirstUnsafe, IsSafe, Posted, Unsafe}
 use Rattle.ent_form.specs.declared.fault.FormFault.{FormFault}
 use Rattle.ent_protocol.specs.Begin.{Begins}
 use Rattle.ent_protocol.specs.Event as replies
-use Rattle.ent_protocol.specs.Member.{Asks, Commits, Next, Ordinary, RollsBack, next_of, pool}
+use Rattle.ent_protocol.specs.Member.{Commits, Next, Ordinary, RollsBack, active_member, next_of, pool}
 use Rattle.ent_protocol.specs.Quiet.{CanMove, CanPost, MovesBy}
 use Rattle.ent_protocol.specs.State.{State, Member}
 use Rattle.ent_protocol.specs.Uses.{blocker}
 use Rattle.ent_protocol.specs.Waits.{next_uses}
-use Rattle.ent_core.specs.Begin.{IsFree, IsToPost}
+use Rattle.ent_waits.specs.Free.{IsFree}
+use Rattle.ent_core.specs.Begin.{IsToPost}
 use Rattle.ent_core.specs.Obstacle.{IsHeldBack}
-use Rattle.ent_core.proofs.Begun.{entangled_held, member_found, number_found}
+use Rattle.ent_core.proofs.Begun.{entangled_held, idle_of, member_found, number_found}
 
--- a member that may begin, and that nobody blocks, moves where what comes next does
-moves_next : (s : State) (member : Member) → IsFree s member.tx member → MovesBy s member (next_of s member)
-    → CanMove s member.tx
-moves_next s member free moves = record {
-  member = member;
-  active = member_found member.tx s.active member free.may.there;
-  own = refl;
-  waiting = free.may.free;
-  moves = moves;
-}
+-- a free member moves where what comes next does
+module _ (s : State) (tx : ℕ) (member : Member) (there : active_member s tx ≡ Some member)
+    (free : IsFree s member) where
+  moves_next : MovesBy s member (next_of s member) → CanMove s tx
+  moves_next moves = record {
+    member = member;
+    active = member_found tx s.active member there;
+    own = number_found tx s.active member there;
+    waiting = idle_of s tx member there free.idle;
+    moves = moves;
+  }
 
-module _ (s : State) (member : Member) (free : IsFree s member.tx member) where
-  pub moves_ordinary : (statement : Statement Value) → next_of s member ≡ Ordinary statement → CanMove s member.tx
+  pub moves_ordinary : (statement : Statement Value) → next_of s member ≡ Ordinary statement → CanMove s tx
   moves_ordinary statement next =
-      moves_next s member free
+      moves_next
       (subst (MovesBy s member) (sym next)
       (ap (λ (then : Next). blocker s member (next_uses then)) (sym next) ∙ free.unblocked))
 
-  pub moves_commits : next_of s member ≡ Commits → CanMove s member.tx
-  moves_commits next = moves_next s member free (subst (MovesBy s member) (sym next) tt)
+  pub moves_commits : next_of s member ≡ Commits → CanMove s tx
+  moves_commits next = moves_next (subst (MovesBy s member) (sym next) tt)
 
-  pub moves_rolls_back : next_of s member ≡ RollsBack → CanMove s member.tx
-  moves_rolls_back next = moves_next s member free (subst (MovesBy s member) (sym next) tt)
+  pub moves_rolls_back : next_of s member ≡ RollsBack → CanMove s tx
+  moves_rolls_back next = moves_next (subst (MovesBy s member) (sym next) tt)
 
 -- of a member that would post, by what is told of the pool with its statement
 module _ (s : State) (tx : ℕ) (query : Posted) (plan : IsToPost s tx query) where
@@ -47,7 +48,7 @@ module _ (s : State) (tx : ℕ) (query : Posted) (plan : IsToPost s tx query) wh
     member = plan.member;
     active = member_found tx s.active plan.member plan.may.there;
     own = number_found tx s.active plan.member plan.may.there;
-    waiting = plan.may.free;
+    waiting = idle_of s tx plan.member plan.may.there plan.may.idle;
     moves = subst (MovesBy s plan.member) (sym plan.may.is_next)
         (subst (CanPost s plan.member query.statement) (sym plan.unblocked)
         (subst (λ (own : Posted). IsSafe (pool s ++ own ∷ [])) plan.is safe));

@@ -1,6 +1,6 @@
 -- A statement is posted, or held back.
 use Rattle.std.proofs.Common.{◌≡◌, ◌⊎◌, ◌<◌, inl, inr, ℕ, true, not, ◌==◌, List, [], ◌∷◌, sym, ap}
-use Rattle.std.proofs.Common.{subst, ◌∙◌, map, Contains, Result, Ok, Err}
+use Rattle.std.proofs.Common.{subst, ◌∙◌, map, Contains, Result, Ok, Err, Some}
 use Rattle.std.specs.List.{filter}
 use Rattle.std.specs.Prelude.{IfOk, IsSome}
 use Rattle.ent_value.specs.declared.value.Value.{Value}
@@ -20,7 +20,7 @@ use Rattle.ent_pool_laws.specs.Pooled.{IsPoolOf}
 use Rattle.ent_protocol.specs.Begin.{Begins, holding, pool_with, posting, replaced}
 use Rattle.ent_protocol.specs.Event.{Reply}
 use Rattle.ent_protocol.specs.Event as replies
-use Rattle.ent_protocol.specs.Member.{Asks, is_lent, next_of, pool, posted_as}
+use Rattle.ent_protocol.specs.Member.{Asks, active_member, is_lent, next_of, pool, posted_as}
 use Rattle.ent_protocol.specs.PostedBy.{in_pool}
 use Rattle.ent_protocol.specs.State.{State, Member, Use}
 use Rattle.ent_protocol.specs.Uses.{blocker, entangled_uses}
@@ -28,11 +28,12 @@ use Rattle.ent_protocol.specs.Waits.{next_uses}
 use Rattle.ent_protocol_laws.specs.ByNumber.{StandByNumber}
 use Rattle.ent_protocol_laws.specs.Numbered.{same_lists}
 use Rattle.ent_protocol_laws.proofs.ByNumber.{posted_tx}
-use Rattle.ent_core.specs.Begin.{IsFree, IsIdle, IsToPost}
+use Rattle.ent_waits.specs.Free.{IsFree}
+use Rattle.ent_core.specs.Begin.{IsToPost, IsUnposted}
 use Rattle.ent_core.specs.Reply.{reply_seen}
 use Rattle.ent_core.specs.declared.reply.Reply.{Reply as Given}
-use Rattle.ent_core.proofs.Begun.{entangled_held, entangled_posted, idle_at_turn, member_found, number_found, or_first}
-use Rattle.ent_core.proofs.Begun.{some_found}
+use Rattle.ent_core.proofs.Begun.{entangled_held, entangled_posted, member_found, number_found, or_first, some_found}
+use Rattle.ent_core.proofs.Begun.{unposted_at_turn}
 use Rattle.ent_core.proofs.Pooled.{kept_posted}
 
 -- what was posted just now is taken out again
@@ -65,14 +66,15 @@ posted_withdrawn old new query tx own by_number none posted =
         (is_other x (λ same. none x there (same ∙ sym own)))
 
 -- what a member may begin is posted, where it is entangled and nobody blocks it
-pub to_post : (s : State) (member : Member) (query : Posted) (statement : Entangled Value) → IsFree s member.tx member
-    → next_of s member ≡ Asks statement → query ≡ posted_as member statement → IsToPost s member.tx query
-to_post s member query statement free next is =
+pub to_post : (s : State) (tx : ℕ) (member : Member) (query : Posted) (statement : Entangled Value)
+    → active_member s tx ≡ Some member → IsFree s member → next_of s member ≡ Asks statement
+    → query ≡ posted_as member statement → IsToPost s tx query
+to_post s tx member query statement there free next is =
     let own : query.statement ≡ statement = ap (λ (x : Posted). x.statement) is in
     let asks : next_of s member ≡ Asks query.statement = next ∙ ap Asks (sym own) in
     record {
       member = member;
-      may = record { there = free.may.there; free = free.may.free; is_next = asks };
+      may = record { there = there; idle = free.idle; is_next = asks };
       unblocked = ap (λ next. blocker s member (next_uses next)) (sym asks) ∙ free.unblocked;
       is = is ∙ ap (posted_as member) (sym own);
     }
@@ -84,8 +86,8 @@ module _ (s : State) (tx : ℕ) (query : Posted) (plan : IsToPost s tx query) wh
   pub is_member : IsSome (found s.active tx)
   is_member = some_found tx s.active plan.member plan.may.there
 
-  pub is_idle : StandByNumber s → IsIdle s tx
-  is_idle stand = idle_at_turn s tx plan.member (Asks query.statement) stand plan.may
+  pub is_idle : StandByNumber s → IsUnposted s tx
+  is_idle stand = unposted_at_turn s tx plan.member (Asks query.statement) stand plan.may
 
   -- its transaction has no statement in the pool
   pub none_there : StandByNumber s → HasNone (pool s) query
@@ -170,7 +172,7 @@ module _ (s : State) (tx : ℕ) (query : Posted) (plan : IsToPost s tx query) wh
     posted_kept stand old new are posted =
         kept_posted s.submitted s.active old are plan.member query.statement active' new changed stand.active
         (member_found tx s.active plan.member plan.may.there)
-        (or_first plan.member.posted (is_lent s tx) plan.may.free) plan.may.is_next
+        (or_first plan.member.posted (is_lent s plan.member.tx) plan.may.idle) plan.may.is_next
         (subst (Adds old new) plan.is posted.adds) posted.by_number
 
     pub replied_posted : ((those other : List Posted) → SameStatements those other → IsSafe those → IsSafe other)

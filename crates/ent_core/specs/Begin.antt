@@ -1,32 +1,32 @@
 -- What a begin comes to, before anything is changed.
-use Rattle.std.specs.Prelude.{◌≡◌, ◌||◌, ℕ, false, List, [], ◌∷◌, ◌++◌, None, Some, IsSome, Contains}
+use Rattle.std.specs.Prelude.{◌≡◌, ℕ, false, List, [], ◌∷◌, ◌++◌, None, Some, IsSome, Contains}
 use Rattle.ent_form.specs.declared.fault.FormFault.{FormFault}
 use Rattle.ent_coordination.specs.Pool.{Posted}
 use Rattle.ent_protocol.specs.Begin.{Begins, holding, with_member}
 use Rattle.ent_protocol.specs.Event.{Reply}
 use Rattle.ent_protocol.specs.Event as replies
 use Rattle.ent_protocol.specs.Job.{Job, Joint, One, Work}
-use Rattle.ent_protocol.specs.Member.{Asks, Next, active_member, is_lent, next_of, posted_as}
+use Rattle.ent_protocol.specs.Member.{Asks, Next, active_member, next_of, posted_as}
 use Rattle.ent_protocol.specs.State.{State, Member, Use}
 use Rattle.ent_protocol.specs.Uses.{blocker, entangled_uses, statement_uses}
-use Rattle.ent_protocol.specs.Waits.{next_uses}
+use Rattle.ent_waits.specs.Free.{IsFree, IsIdle}
 use Rattle.ent_core.specs.declared.begin.BeginRefusal.{BeginRefusal}
 use Rattle.ent_core.specs.declared.begin.BeginRefusal.TheVariants as refusals
 
 -- no member of a number that isn't prepared has posted
-abbrev pub IsIdle : State → ℕ → Type 0
-IsIdle s tx = (member : Member) → Contains s.active member → member.tx ≡ tx → member.posted ≡ false
+abbrev pub IsUnposted : State → ℕ → Type 0
+IsUnposted s tx = (member : Member) → Contains s.active member → member.tx ≡ tx → member.posted ≡ false
 
 -- the member of a number may begin, and this comes next
 pub record MayBegin (s : State) (tx : ℕ) (member : Member) (next : Next) : Type 0 where
   pub there : active_member s tx ≡ Some member
-  pub free : (member.posted || is_lent s tx) ≡ false
+  pub idle : IsIdle s member
   pub is_next : next_of s member ≡ next
 
--- the member of a number may begin, and nobody blocks what comes next
-pub record IsFree (s : State) (tx : ℕ) (member : Member) : Type 0 where
-  pub may : MayBegin s tx member (next_of s member)
-  pub unblocked : blocker s member (next_uses (next_of s member)) ≡ None
+-- the member of a number, and that it is free
+pub record IsFreeMember (s : State) (tx : ℕ) (member : Member) : Type 0 where
+  pub there : active_member s tx ≡ Some member
+  pub free : IsFree s member
 
 -- what is replied to a member that may not begin
 abbrev pub begin_refusal_seen : BeginRefusal → Reply FormFault
@@ -51,7 +51,7 @@ LendsTo tx job old new =
 -- lending this job to the member of a number is its begin
 pub record IsToLend (s : State) (tx : ℕ) (job : Job) : Type 0 where
   pub there : IsSome (active_member s tx)
-  pub idle : IsIdle s tx
+  pub unposted : IsUnposted s tx
   pub lends : (new : State) → LendsTo tx job s new → Begins {F = FormFault} s tx (replies.Lent job) new
 
 -- the member of a number may begin, nobody blocks it, and this is its statement, which comes next

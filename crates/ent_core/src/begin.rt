@@ -2,8 +2,8 @@
 ghost use Rattle.std.specs.Prelude.{◌≡◌, ℕ, Some, None, true, IfErr, IfOk, IsOk, OnErr, IsSome};
 ghost use Rattle.std.specs.Arc.{arc_value};
 ghost use Rattle.ent_coordination.specs.Pool.{Unsafe as UnsafePost};
-ghost use Rattle.ent_core.specs.Begin.{IsFree, IsIdle, IsToLend, IsToPost, LendsTo, MayBegin, begin_refusal_seen};
-ghost use Rattle.ent_core.specs.Begin.{job_uses};
+ghost use Rattle.ent_core.specs.Begin.{IsFreeMember, IsToLend, IsToPost, IsUnposted, LendsTo, MayBegin};
+ghost use Rattle.ent_core.specs.Begin.{begin_refusal_seen, job_uses};
 ghost use Rattle.ent_core.specs.Kept.{IsKeptState};
 ghost use Rattle.ent_core.specs.Reply.{reply_seen};
 ghost use Rattle.ent_form.specs.declared.fault.FormFault.{FormFault as Form};
@@ -133,7 +133,7 @@ fn member_at_turn(store: &Store, tx: Tx) -> Result<&Member, BeginRefusal>
 /// The member of a number, where nothing keeps it from what comes next.
 pub(crate) fn free_member(store: &Store, tx: Tx) -> Result<&Member, BeginRefusal>
     ensures number { IfOk result (λ member. member.now.tx ≡ tx) }
-    ensures free { IfOk result (λ member. IsFree store.now tx member.now) }
+    ensures free { IfOk result (λ member. IsFreeMember store.now tx member.now) }
     ensures refused { IfErr result (λ refusal. Begins store.now tx (begin_refusal_seen refusal) store.now) }
 {
     let member = member_at_turn(store, tx)?;
@@ -166,7 +166,7 @@ fn job_uses(job: &Job) -> Uses
 /// A job is lent, and the member holds the uses of its statement. Where memory runs out nothing changes.
 fn lend(store: &mut Store, tx: Tx, job: Job) -> Result<Reply, AllocError>
     requires there { IsSome (found store.old.active tx) }
-    requires idle { IsIdle store.old tx }
+    requires unposted { IsUnposted store.old tx }
     ensures reply { IfOk result (λ reply. reply_seen reply ≡ replies.Lent job) }
     ensures ok { IfOk result (λ reply. LendsTo tx job store.old store.new) }
     ensures err { OnErr result (store.new ≡ store.old) }

@@ -1,7 +1,7 @@
 //! A member asks to commit.
 ghost use Rattle.std.specs.Prelude.{◌≡◌, ◌+◌, ◌≤◌, ◌++◌, IfOk, IsSome, OnErr, Some, length, map};
 ghost use Rattle.std.specs.Vec.{vec_capacity, vec_len};
-ghost use Rattle.ent_core.specs.Begin.{IsIdle};
+ghost use Rattle.ent_core.specs.Begin.{IsUnposted};
 ghost use Rattle.ent_core.specs.Reply.{reply_seen};
 ghost use Rattle.ent_protocol.specs.Begin.{BeginsCommit};
 ghost use Rattle.ent_protocol.specs.Commit.{entry_of, is_ready, preparing};
@@ -36,7 +36,7 @@ fn enter(journal: &mut Vec<Entry>, committed: &mut Vec<Member>)
 /// A member that isn't prepared prepares; where every member of its group has, the group commits.
 pub(crate) fn commit(store: &mut Store, tx: Tx) -> Result<Reply, AllocError>
     requires there { IsSome (active_member store.old tx) }
-    requires idle { IsIdle store.old tx }
+    requires unposted { IsUnposted store.old tx }
     requires counted { length store.old.fates + length store.old.dormant + length (members store.old)
         ≡ length store.old.submitted }
     requires within { StayWithin store.old }

@@ -2,7 +2,7 @@
 ghost use Rattle.std.specs.Prelude.{◌≡◌, ◌<◌, ◌∷◌, [], IfErr, IfOk, IfSome, IsNone, IsOk, IsSome, OnErr, OnOk, Some};
 ghost use Rattle.std.specs.Prelude.{length, slice_get};
 ghost use Rattle.ent_core.specs.Advance.{Advances, MayAdvance};
-ghost use Rattle.ent_core.specs.Begin.{IsIdle};
+ghost use Rattle.ent_core.specs.Begin.{IsUnposted};
 ghost use Rattle.ent_core.specs.Finish.{Accepts, CarriesOut, IsReplyTo, MayCarryOut, StandsAt};
 ghost use Rattle.ent_core.specs.Kept.{IsKeptState};
 ghost use Rattle.ent_core.specs.Reply.{reply_seen};
@@ -133,7 +133,7 @@ fn carry_out(
     requires kept { IsKeptState store.old }
     requires lent { index < length store.old.lent }
     requires there { IsSome (active_member store.old single.now.tx) }
-    requires idle { IsIdle store.old single.now.tx }
+    requires unposted { IsUnposted store.old single.now.tx }
     requires may { MayCarryOut store.old single.now.statement (alone_seen outcome.now) }
     ensures ok { IfOk result (λ how. (reply : Replied FormFault) × IsReplyTo (alone_seen outcome.now) how reply
         × CarriesOut store.old index single.now (alone_seen outcome.now) reply store.new) }

@@ -1,6 +1,6 @@
 //! Why a member can't move now.
 ghost use Rattle.std.specs.Prelude.{◌≡◌, IfOk, MatchOption};
-ghost use Rattle.ent_core.specs.Begin.{IsFree};
+ghost use Rattle.ent_core.specs.Begin.{IsFreeMember};
 ghost use Rattle.ent_core.specs.Kept.{IsKeptState};
 ghost use Rattle.ent_core.specs.Obstacle.{obstacle_seen};
 ghost use Rattle.ent_protocol.specs.Event as replies;
@@ -66,7 +66,7 @@ fn place_of(store: &Store, tx: Tx) -> Obstacle
 /// The unsafe post for which a member's statement is held back that nobody blocks.
 fn held_back(store: &Store, member: &Member) -> Result<Option<Unsafe>, AllocError>
     requires kept { IsKeptState store.now }
-    requires free { IsFree store.now member.now.tx member.now }
+    requires free { IsFreeMember store.now member.now.tx member.now }
     ensures { IfOk result (IsHeldBack store.now member.now.tx) }
 {
     members_stand_by_number::<FormFault>();

@@ -21,7 +21,11 @@ use std::alloc::{AllocError, Global};
 
 /// Hands in the result of the job of the component that was just picked: the members have their answers, or there is
 /// no choice. Where memory runs out the job stays lent.
-fn hand_in<W: Watcher>(counted: &mut Counted, watcher: &mut W, done: Done) -> Result<(), AllocError>
+fn join_answer<W: Watcher>(
+    counted: &mut Counted,
+    watcher: &mut W,
+    done: Done,
+) -> Result<(), AllocError>
     requires lent { IsJustLent resolved_forms Pick done.job counted.old.core }
     ensures events { TicksOn resolved_forms 1 counted.old counted.new }
     ensures watched { IsWatched resolved_forms W.hears counted.old counted.new watcher.old watcher.new }
@@ -62,7 +66,7 @@ fn answer<W: Watcher>(
     events_add_up::<FormFault>();
     counted.is_reached();
     match evaluate(alloc, job) {
-        Ok(done) => hand_in(counted, watcher, done),
+        Ok(done) => join_answer(counted, watcher, done),
         Err(refused) => {
             drop(refused);
             Err(AllocError)

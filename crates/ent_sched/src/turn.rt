@@ -27,7 +27,7 @@ use std::alloc::{AllocError, Global};
 
 /// Hands in the result of the job that was just lent to a member: its statement is done, or its group is rolled back.
 /// Where memory runs out the job stays lent.
-fn hand_in<W: Watcher>(counted: &mut Counted, watcher: &mut W, done: Done) -> Result<(), AllocError>
+fn finish<W: Watcher>(counted: &mut Counted, watcher: &mut W, done: Done) -> Result<(), AllocError>
     requires lent { (tx : ℕ) × IsJustLent resolved_forms (Begin tx) done.job counted.old.core }
     ensures events { TicksOn resolved_forms 1 counted.old counted.new }
     ensures watched { IsWatched resolved_forms W.hears counted.old counted.new watcher.old watcher.new }
@@ -67,7 +67,7 @@ fn carry_out<W: Watcher>(
     events_add_up::<FormFault>();
     counted.is_reached();
     match evaluate(alloc, job) {
-        Ok(done) => hand_in(counted, watcher, done),
+        Ok(done) => finish(counted, watcher, done),
         Err(refused) => {
             drop(refused);
             Err(AllocError)

@@ -10,7 +10,7 @@ use Rattle.ent_headline.specs.Resolved.{resolved_forms}
 use Rattle.ent_protocol.specs.State.{State, Use}
 use Rattle.ent_protocol.specs.Uses.{statement_uses}
 use Rattle.ent_protocol.specs.Waits.{next_uses}
-use Rattle.ent_core.proofs.Begun.{idle_at_turn, member_found, ordinary_lent, some_found}
+use Rattle.ent_core.proofs.Begun.{unposted_at_turn, member_found, ordinary_lent, some_found}
 use Rattle.ent_core.proofs.begin.job_of.Goals as goal
 
 pub seen-requires : goal.seen-requires
@@ -75,7 +75,7 @@ returns c =
     ∙ ap (λ (x : State). seen_now x.opening.tables x.tables (statement_uses statement)) c.store.view_is in
     record {
       there = some_found member.tx now.active member c.requires.next.there;
-      idle = idle_at_turn now member.tx member (Ordinary statement)
+      unposted = unposted_at_turn now member.tx member (Ordinary statement)
           (c.members_stand_by_number.ensures resolved_forms now c.requires.kept.reached) c.requires.next;
       lends = ordinary_lent now member.tx member statement c.requires.next c.requires.unblocked c.one.result
           (c.one.ensures ∙ (λ i. record { work = One (single i); tables = seen i }));

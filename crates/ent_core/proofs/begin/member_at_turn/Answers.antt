@@ -2,7 +2,7 @@ use Rattle.std.proofs.Common.{◌∙◌, ◌||◌, Bool, ap, refl, sym}
 use Rattle.ent_protocol.specs.Member.{active_member, is_lent, is_prepared}
 use Rattle.ent_protocol.specs.State.{State}
 use Rattle.ent_core.specs.contracts.store.Store.{the_view}
-use Rattle.ent_core.proofs.Begun.{either, neither, number_found, refused_absent, refused_out}
+use Rattle.ent_core.proofs.Begun.{either, idle_by, neither, number_found, refused_absent, refused_out}
 use Rattle.ent_core.proofs.Begun.{refused_prepared}
 use Rattle.ent_core.proofs.begin.member_at_turn.Goals as goal
 
@@ -38,11 +38,13 @@ returns-else-is_lent-clause-free c =
     let s : State = the_view c.store.inside in
     let now = c.args.store.now in
     let member = c.in-Some.member.now in
+    let there = ap (λ (x : State). active_member x c.args.tx) (sym c.store.view_is) ∙ sym (c.in-Some.ensures s) in
     record {
-      there = ap (λ (x : State). active_member x c.args.tx) (sym c.store.view_is) ∙ sym (c.in-Some.ensures s);
-      free = neither member.posted (is_lent now c.args.tx) (sym c.is_posted.ensures ∙ c.if-is_posted.false)
+      there = there;
+      idle = idle_by now c.args.tx member there
+          (neither member.posted (is_lent now c.args.tx) (sym c.is_posted.ensures ∙ c.if-is_posted.false)
           (ap (λ (x : State). is_lent x c.args.tx) (sym c.store.view_is)
-          ∙ sym (c.is_lent.ensures.state s refl) ∙ c.if-is_lent.false);
+          ∙ sym (c.is_lent.ensures.state s refl) ∙ c.if-is_lent.false));
       is_next = refl;
     }
 

@@ -17,7 +17,7 @@ use Rattle.ent_core.specs.Reply.{numbered_from}
 use Rattle.ent_core.specs.Store.{IsKept}
 use Rattle.ent_core.specs.contracts.store.Store.{the_view}
 use Rattle.ent_pool_laws.specs.Pooled.{IsPoolOf}
-use Rattle.ent_core.specs.Begin.{IsIdle}
+use Rattle.ent_core.specs.Begin.{IsUnposted}
 use Rattle.ent_core.proofs.Begun.{kept_changed, kept_with, one_member}
 use Rattle.ent_core.proofs.Committing.{commits, committed_all, committed_few, first_part, last_part, nobody_there}
 use Rattle.ent_core.proofs.Committing.{parts_numbered, waits}
@@ -55,7 +55,7 @@ pub invariant_of-store-in_default-commit : goal.invariant_of-store-in_default-co
 invariant_of-store-in_default-commit c =
     let inside = c.store.inside in
     let there = subst (λ (x : State). IsSome (found x.active c.args.tx)) (sym c.store.view_is) c.requires.there in
-    let idle = subst (λ (x : State). IsIdle x c.args.tx) (sym c.store.view_is) c.requires.idle in
+    let idle = subst (λ (x : State). IsUnposted x c.args.tx) (sym c.store.view_is) c.requires.unposted in
     let K : Run → Type 0 = λ run. IsKept inside.catalogue.tables inside.opening inside.submitted.items
     inside.transaction_table inside.running run inside.tables inside.pool in
     subst K (sym (c.in_default-commit.ensures.same refl))
@@ -141,7 +141,7 @@ pub invariant_of-store-2 : goal.invariant_of-store-2
 invariant_of-store-2 c =
     let inside = c.store.inside in
     let there = subst (λ (x : State). IsSome (found x.active c.args.tx)) (sym c.store.view_is) c.requires.there in
-    let idle = subst (λ (x : State). IsIdle x c.args.tx) (sym c.store.view_is) c.requires.idle in
+    let idle = subst (λ (x : State). IsUnposted x c.args.tx) (sym c.store.view_is) c.requires.unposted in
     let pooled = kept_prepared inside.submitted.items inside.run.active inside.pool c.store.invariant.posted c.args.tx
     inside.run c.prepare.new.self refl c.in_ok-prepare.ensures.ok there idle in
     kept_with inside.catalogue.tables inside.opening inside.submitted.items inside.transaction_table

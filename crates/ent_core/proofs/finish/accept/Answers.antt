@@ -7,7 +7,7 @@ use Rattle.ent_job.specs.declared.work.Work.{Work}
 use Rattle.ent_protocol.specs.Job.{Job, One, Outcome}
 use Rattle.ent_headline.specs.Resolved.{resolved_forms}
 use Rattle.ent_core.specs.Finish.{StandsAt}
-use Rattle.ent_core.proofs.Finishing.{accepted, out_change, out_idle, out_member}
+use Rattle.ent_core.proofs.Finishing.{accepted, out_change, out_unposted, out_member}
 use Rattle.ent_core.proofs.finish.accept.Goals as goal
 
 pub returns-in_default-clause-ok : goal.returns-in_default-clause-ok
@@ -34,8 +34,8 @@ carry_out-requires-clause-there c =
     let present = c.resolved_jobs_are_present.ensures.present s c.requires.kept.formed c.requires.kept.reached in
     out_member s job c.in-One.single c.in-Some.index present there work
 
-pub carry_out-requires-clause-idle : goal.carry_out-requires-clause-idle
-carry_out-requires-clause-idle c =
+pub carry_out-requires-clause-unposted : goal.carry_out-requires-clause-unposted
+carry_out-requires-clause-unposted c =
     let s = c.args.store.now in
     let job = c.args.done.now.job in
     let stands : StandsAt s c.args.done.now (Some c.in-Some.index) =
@@ -44,7 +44,7 @@ carry_out-requires-clause-idle c =
     ap (λ (j : Job). j.work) (sym c.job.ensures) ∙ sym c.work.ensures.work
     ∙ ap (λ (w : Work). work_seen w) c.in-One.is in
     let present = c.resolved_jobs_are_present.ensures.present s c.requires.kept.formed c.requires.kept.reached in
-    out_idle s job c.in-One.single c.in-Some.index present
+    out_unposted s job c.in-One.single c.in-Some.index present
     (c.members_stand_by_number.ensures resolved_forms s c.requires.kept.reached) stands.0 work
 
 pub carry_out-requires-clause-may : goal.carry_out-requires-clause-may

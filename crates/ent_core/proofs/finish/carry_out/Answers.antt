@@ -7,7 +7,7 @@ use Rattle.ent_protocol.specs.Finish.{FinishesBy, IsTaken}
 use Rattle.ent_protocol.specs.Job.{Fault, Job, Outcome}
 use Rattle.ent_protocol.specs.Member.{active_member}
 use Rattle.ent_protocol.specs.State.{State}
-use Rattle.ent_core.specs.Begin.{IsIdle}
+use Rattle.ent_core.specs.Begin.{IsUnposted}
 use Rattle.ent_core.specs.Finish.{CarriesOut}
 use Rattle.ent_core.specs.contracts.store.Store.{the_view}
 use Rattle.ent_core.proofs.Begun.{kept_with}
@@ -86,7 +86,7 @@ invariant_of-store c =
     let single = c.args.single.now in
     let outcome : Outcome = alone_seen c.args.outcome.now in
     let there = subst (λ (x : State). IsSome (active_member x single.tx)) (sym c.store.view_is) c.requires.there in
-    let idle = subst (λ (x : State). IsIdle x single.tx) (sym c.store.view_is) c.requires.idle in
+    let idle = subst (λ (x : State). IsUnposted x single.tx) (sym c.store.view_is) c.requires.unposted in
     let run = c.advance.new.run in
     let stored = c.advance.new.tables in
     kept_with inside.catalogue.tables inside.opening inside.submitted.items inside.transaction_table inside.transaction_table inside.running

@@ -20,7 +20,8 @@ post_fault-requires c =
     let asks : Asks (arc_value c.in-Asks.statement) ≡ next_of now member =
     sym (ap next_seen c.in-Asks.is) ∙ c.in_ok-statement.ensures.next in
     let query = c.query_of-query.result in
-    let plan = to_post now member query (arc_value c.in-Asks.statement) c.requires.free (sym asks)
+    let plan = to_post now member.tx member query (arc_value c.in-Asks.statement) c.requires.free.there
+    c.requires.free.free (sym asks)
     c.query_of-query.ensures in
     let all : pool now ≡ c.store.inside.pool =
     ap pool (sym c.store.view_is) ∙ c.store.invariant.posted (the_view c.store.inside) refl refl in
@@ -34,7 +35,7 @@ returns-in-Ordinary c =
     let member = c.args.member.now in
     let next : Ordinary c.in-Ordinary.statement ≡ next_of now member =
     sym (ap next_seen c.in-Ordinary.is) ∙ c.in_ok-statement.ensures.next in
-    moves_ordinary now member c.requires.free c.in-Ordinary.statement (sym next)
+    moves_ordinary now member.tx member c.requires.free.there c.requires.free.free c.in-Ordinary.statement (sym next)
 
 pub returns-in-Asks : goal.returns-in-Asks
 returns-in-Asks c =
@@ -43,7 +44,8 @@ returns-in-Asks c =
     let asks : Asks (arc_value c.in-Asks.statement) ≡ next_of now member =
     sym (ap next_seen c.in-Asks.is) ∙ c.in_ok-statement.ensures.next in
     let query = c.query_of-query.result in
-    let plan = to_post now member query (arc_value c.in-Asks.statement) c.requires.free (sym asks)
+    let plan = to_post now member.tx member query (arc_value c.in-Asks.statement) c.requires.free.there
+    c.requires.free.free (sym asks)
     c.query_of-query.ensures in
     let posted = c.store.inside.pool in
     let all : pool now ≡ posted =
@@ -58,7 +60,7 @@ returns-in-Commits c =
     let member = c.args.member.now in
     let next : Commits ≡ next_of now member =
     sym (ap next_seen c.in-Commits.is) ∙ c.in_ok-statement.ensures.next in
-    moves_commits now member c.requires.free (sym next)
+    moves_commits now member.tx member c.requires.free.there c.requires.free.free (sym next)
 
 pub returns-in-RollsBack : goal.returns-in-RollsBack
 returns-in-RollsBack c =
@@ -66,4 +68,4 @@ returns-in-RollsBack c =
     let member = c.args.member.now in
     let next : RollsBack ≡ next_of now member =
     sym (ap next_seen c.in-RollsBack.is) ∙ c.in_ok-statement.ensures.next in
-    moves_rolls_back now member c.requires.free (sym next)
+    moves_rolls_back now member.tx member c.requires.free.there c.requires.free.free (sym next)

@@ -5,7 +5,7 @@ use Rattle.ent_protocol.specs.Event.{Begin, Finish, Lent}
 use Rattle.ent_headline.specs.Resolved.{resolved_forms}
 use Rattle.ent_sched.proofs.Moving.{single_progress}
 use Rattle.ent_sched.proofs.Watched.{one_watched}
-use Rattle.ent_sched.proofs.turn.hand_in.Goals as goal
+use Rattle.ent_sched.proofs.turn.finish.Goals as goal
 
 pub finish_at_once-requires : goal.finish_at_once-requires
 finish_at_once-requires g c =

@@ -5,7 +5,7 @@ use Rattle.ent_protocol.specs.Event.{JoinAnswer, Lent, Pick}
 use Rattle.ent_headline.specs.Resolved.{resolved_forms}
 use Rattle.ent_sched.proofs.Moving.{joint_progress}
 use Rattle.ent_sched.proofs.Watched.{one_watched}
-use Rattle.ent_sched.proofs.joint.hand_in.Goals as goal
+use Rattle.ent_sched.proofs.joint.join_answer.Goals as goal
 
 pub join_answer_at_once-requires-clause-alone : goal.join_answer_at_once-requires-clause-alone
 join_answer_at_once-requires-clause-alone g c =
