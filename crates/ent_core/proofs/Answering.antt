@@ -2,8 +2,9 @@
 use Rattle.std.proofs.Common.{◌≡◌, List, length, map, sym, ap, subst, ◌∙◌, nat_eq}
 use Rattle.std.specs.List.{IsDistinct}
 use Rattle.ent_semantics.specs.Entangled.{Valuation}
-use Rattle.ent_members.specs.Answered.{MemberAnswer, answer_tx, member_answers}
-use Rattle.ent_members.proofs.Answered.{asked_numbers}
+use Rattle.ent_members.specs.Answered.{MemberAnswer, answer_tx}
+use Rattle.ent_run.specs.Answered.{member_answers}
+use Rattle.ent_run.proofs.Answered.{asked_numbers}
 use Rattle.ent_coordination.specs.Pool.{Posted}
 
 -- those who are answered are distinct

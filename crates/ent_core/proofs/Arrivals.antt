@@ -6,7 +6,7 @@ use Rattle.std.proofs.lemmas.Bool.Decides.{nat_tests}
 use Rattle.ent_tree.specs.declared.declaration.Opening.{Opening}
 use Rattle.ent_form.specs.declared.catalogue.TableSchema.{TableSchema}
 use Rattle.ent_protocol.specs.State.{State, Submitted, Dormant, Member, members}
-use Rattle.ent_members.specs.Run.{Run}
+use Rattle.ent_run.specs.Run.{Run}
 use Rattle.ent_transaction_table.specs.TransactionTable.{TransactionTable}
 use Rattle.ent_protocol_laws.specs.Attempts.{AsksForRun}
 use Rattle.ent_coordination.specs.Pool.{Posted}

@@ -24,7 +24,7 @@ use Rattle.ent_protocol.specs.State.{State, Dormant, Member, first_of}
 use Rattle.ent_protocol.specs.Uses.{blocker, entangled_uses, statement_uses}
 use Rattle.ent_protocol.specs.Waits.{next_uses}
 use Rattle.ent_tree.specs.declared.declaration.Opening.{Opening}
-use Rattle.ent_members.specs.Run.{Run}
+use Rattle.ent_run.specs.Run.{Run}
 use Rattle.ent_protocol.specs.State.{Submitted}
 use Rattle.ent_transaction_table.specs.TransactionTable.{TransactionTable}
 use Rattle.ent_pool_laws.specs.Pooled.{IsPoolOf}

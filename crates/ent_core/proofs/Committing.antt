@@ -6,9 +6,9 @@ use Rattle.std.proofs.lemmas.List.{length-append}
 use Rattle.ent_lists.specs.Elements.{all_filtered, all_joined, shorter}
 use Rattle.ent_semantics.specs.declared.book.Entry.{Entry}
 use Rattle.ent_semantics.specs.declared.book.Fated.{Fated}
-use Rattle.ent_members.specs.Moves.{PreparesMember, is_of_another, run_of}
-use Rattle.ent_members.specs.Places.{found}
-use Rattle.ent_members.specs.Run.{Run, with_run}
+use Rattle.ent_run.specs.Moves.{PreparesMember, is_of_another, run_of}
+use Rattle.ent_run.specs.Places.{found}
+use Rattle.ent_run.specs.Run.{Run, with_run}
 use Rattle.ent_protocol.specs.Begin.{BeginsCommit}
 use Rattle.ent_protocol.specs.Commit.{commit_fates, commit_numbers, committing, committing_members, entry_of, is_ready}
 use Rattle.ent_protocol.specs.Commit.{preparing}

@@ -16,8 +16,8 @@ use Rattle.ent_eval.specs.Result.{CanBeMade, answer_of}
 use Rattle.ent_form.specs.declared.fault.FormFault.{FormFault}
 use Rattle.ent_serializability.specs.Faithful.{is_used}
 use Rattle.ent_serializability.specs.Present.{LentIsPresent, SameWhereUsed}
-use Rattle.ent_members.specs.Places.{found}
-use Rattle.ent_members.specs.Run.{Run}
+use Rattle.ent_run.specs.Places.{found}
+use Rattle.ent_run.specs.Run.{Run}
 use Rattle.ent_protocol.specs.Event.{Reply}
 use Rattle.ent_protocol.specs.Event as replies
 use Rattle.ent_protocol.specs.Begin.{replaced}

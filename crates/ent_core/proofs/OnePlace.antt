@@ -4,7 +4,7 @@ use Rattle.std.proofs.Common.{refl, ap, arith, Some}
 use Rattle.std.proofs.lemmas.List.{map-append}
 use Rattle.std.specs.List.{filter, list_any}
 use Rattle.ent_semantics.specs.declared.book.Fated.{Fated}
-use Rattle.ent_members.specs.Run.{tx_of}
+use Rattle.ent_members.specs.Order.{tx_of}
 use Rattle.ent_protocol.specs.Member.{is_tx}
 use Rattle.ent_protocol.specs.State.{State, Dormant, Member, first_of, members}
 use Rattle.ent_protocol_laws.specs.Standing.{StandOnce, standing}

@@ -11,10 +11,10 @@ use Rattle.ent_closed.specs.declared.entangled.Entangled.{Entangled}
 use Rattle.ent_coordination.specs.Pool.{Posted}
 use Rattle.ent_lists.specs.Elements.{In, filter_whole, in_contains, of_map, to_all}
 use Rattle.ent_match.specs.Posting.{Adds, is_of_other}
-use Rattle.ent_members.specs.Answered.{IsJoining}
-use Rattle.ent_members.specs.Moves.{Prepares, is_not_of}
-use Rattle.ent_members.specs.Places.{Changes, found}
-use Rattle.ent_members.specs.Run.{Run, with_run}
+use Rattle.ent_run.specs.Answered.{IsJoining}
+use Rattle.ent_run.specs.Moves.{Prepares, is_not_of}
+use Rattle.ent_run.specs.Places.{Changes, found}
+use Rattle.ent_run.specs.Run.{Run, with_run}
 use Rattle.ent_protocol.specs.Begin.{holding, posting, replaced, with_member}
 use Rattle.ent_protocol.specs.Member.{Asks, is_tx, next_in, posted_as, posted_by}
 use Rattle.ent_protocol.specs.PoolEvents.{joining}

@@ -6,7 +6,7 @@ use Rattle.std.specs.List.{AllByRecursion, IsDistinct, filter, list_any}
 use Rattle.std.proofs.lemmas.Bool.Decides.{nat_tests}
 use Rattle.std.proofs.lemmas.List.Elements.{All-head, All-tail}
 use Rattle.ent_lists.specs.Elements.{number_itself, other_number, same_number}
-use Rattle.ent_members.specs.Run.{tx_of}
+use Rattle.ent_members.specs.Order.{tx_of}
 use Rattle.ent_protocol.specs.Rollback.{is_among}
 use Rattle.ent_protocol.specs.State.{Member, by_number, inserted}
 use Rattle.ent_protocol_laws.proofs.Times.{one_if, one_more, times}

@@ -10,7 +10,8 @@ use Rattle.ent_closed.specs.Form.{Tables}
 use Rattle.ent_form.specs.declared.catalogue.TableSchema.{TableSchema}
 use Rattle.ent_members.specs.declared.run_attempts.RunAttempt.{RunAttempt}
 use Rattle.ent_members.specs.RunAttempts.{run_attempt_of, numbers_in, run_attempts_in}
-use Rattle.ent_members.specs.Run.{Run, tx_of}
+use Rattle.ent_members.specs.Order.{tx_of}
+use Rattle.ent_run.specs.Run.{Run}
 use Rattle.ent_members.proofs.ByNumber.{every_run_attempt, group_run_attempts, run_attempt_numbers}
 use Rattle.ent_protocol.specs.Job.{Job, Work, One, Joint}
 use Rattle.ent_protocol.specs.Rollback.{Cause, dormant_by, fated_by, goes_with, is_among, is_joint_of}

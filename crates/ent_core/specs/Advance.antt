@@ -6,8 +6,8 @@ use Rattle.ent_closed.specs.Kinds.{changed_tables}
 use Rattle.ent_closed.specs.declared.statement.Statement.{Statement}
 use Rattle.ent_eval.specs.Change.{IsApplicable}
 use Rattle.ent_rel.specs.declared.change.Delta.{Delta}
-use Rattle.ent_members.specs.Places.{Changes}
-use Rattle.ent_members.specs.Run.{Run}
+use Rattle.ent_run.specs.Places.{Changes}
+use Rattle.ent_run.specs.Run.{Run}
 use Rattle.ent_semantics.specs.declared.answer.Answer.TheVariants as answers
 use Rattle.ent_protocol.specs.Finish.{noted, stepped, variable_of, with_bound, with_change}
 use Rattle.ent_protocol.specs.Job.{Outcome, Shown, Changed, Bound, Choice, Fault, Single}

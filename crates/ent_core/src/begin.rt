@@ -8,7 +8,7 @@ ghost use Rattle.ent_core.specs.Kept.{IsKeptState};
 ghost use Rattle.ent_core.specs.Reply.{reply_seen};
 ghost use Rattle.ent_form.specs.declared.fault.FormFault.{FormFault as Form};
 ghost use Rattle.ent_match.specs.declared.fault.PostFault.TheVariants as post_faults;
-ghost use Rattle.ent_members.specs.Places.{found};
+ghost use Rattle.ent_run.specs.Places.{found};
 ghost use Rattle.ent_next.specs.Next.{next_seen};
 ghost use Rattle.ent_protocol.specs.Member.{Ordinary, RollsBack, active_member, next_of, posted_as};
 ghost use Rattle.ent_protocol.specs.Begin.{Begins};

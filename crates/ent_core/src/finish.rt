@@ -7,7 +7,7 @@ ghost use Rattle.ent_core.specs.Finish.{Accepts, CarriesOut, IsReplyTo, MayCarry
 ghost use Rattle.ent_core.specs.Kept.{IsKeptState};
 ghost use Rattle.ent_core.specs.Reply.{reply_seen};
 ghost use Rattle.ent_eval.specs.Result.{alone_seen};
-ghost use Rattle.ent_members.specs.Places.{found};
+ghost use Rattle.ent_run.specs.Places.{found};
 ghost use Rattle.ent_protocol.specs.Event.{Reply as Replied};
 ghost use Rattle.ent_protocol.specs.Event as replies;
 ghost use Rattle.ent_protocol.specs.Finish.{Finishes, IsOutstandingSingle};
@@ -26,11 +26,11 @@ use ent_form::FormFault;
 use ent_group::Members;
 use ent_headline::{resolved_jobs_are_present, used_tables_are_declared};
 use ent_job::{Job, LentJobs, Single, Work};
-use ent_members::Run;
 use ent_protocol_laws::{
     attempts_stay_within, lent_tables_are_declared, members_stand_by_number,
     transactions_are_counted, transactions_stand_once,
 };
+use ent_run::Run;
 use ent_semantics::Failure;
 use ent_tables::StoredTables;
 use ent_transaction_table::Cause;

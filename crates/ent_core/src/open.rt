@@ -8,7 +8,7 @@ use crate::store::Store;
 use ent_form::{Catalogue, FormFault};
 use ent_job::LentJobs;
 use ent_match::Pool;
-use ent_members::Run;
+use ent_run::Run;
 use ent_tables::StoredTables;
 use ent_transaction_table::TransactionTable;
 use ent_tree::Opening;

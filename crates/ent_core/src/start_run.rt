@@ -6,7 +6,7 @@ ghost use Rattle.ent_protocol.specs.Run.{Starts};
 use crate::reply::Reply;
 use crate::store::Store;
 use ent_group::MOST_MEMBERS;
-use ent_members::Run;
+use ent_run::Run;
 use std::alloc::AllocError;
 
 /// Starts a run of the first of the dormant list, where none is on and somebody is dormant.

@@ -2,7 +2,7 @@
 ghost use Rattle.std.specs.Prelude.{◌≡◌, ◌+◌, ◌≤◌, List, filter, length, map};
 ghost use Rattle.ent_core.specs.TakeOut.{MayLeave, is_joint_of_any, is_joint_of_others};
 ghost use Rattle.ent_members.specs.RunAttempts.{numbers_in, run_attempt_of, run_attempts_in};
-ghost use Rattle.ent_members.specs.Run.{tx_of};
+ghost use Rattle.ent_members.specs.Order.{tx_of};
 ghost use Rattle.ent_pool_laws.specs.Pooled.{is_of_none};
 ghost use Rattle.ent_protocol.specs.Rollback.{group_numbers, rolled_back, taken_out};
 ghost use Rattle.ent_protocol.specs.Run.{ending, numbers_of};

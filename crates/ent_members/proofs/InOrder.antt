@@ -1,129 +1,24 @@
--- What members that stand by number allow: a search, and a list that is in order already.
-use Rattle.std.proofs.Common.{◌≡◌, ℕ, zero, suc, ◌+◌, ◌<◌, ◌≤◌, Bool, true, false, ◌==◌, nat_lt, if◌then◌else◌, List}
-use Rattle.std.proofs.Common.{[], ◌∷◌, length, map, get_or, refl, sym, ap, subst, ◌∙◌, arith}
-use Rattle.std.specs.Prelude.{Option, Some, None}
+-- A list of members that is in order already.
+use Rattle.std.proofs.Common.{ℕ, Bool, true, false, if◌then◌else◌, List, [], ◌∷◌, map, ◌≡◌, ◌<◌, nat_lt, length, refl}
+use Rattle.std.proofs.Common.{sym, ap, subst, ◌∙◌, arith}
 use Rattle.std.specs.List.{filter, AllByRecursion}
-use Rattle.std.specs.List.Sorted.{IsNonDecreasingBy, IsPartitionPoint}
-use Rattle.std.specs.Ordering.{is_lt, nat_cmp, ordering_index}
-use Rattle.std.specs.declared.cmp.Ordering.TheVariants.{Less, Greater}
+use Rattle.std.specs.Prelude.{Option}
 use Rattle.std.proofs.lemmas.Bool.Decides.{nat_tests}
-use Rattle.std.proofs.lemmas.Cmp.{nat_cmp_total}
-use Rattle.std.proofs.lemmas.List.Sorted.{searchable_from_sorted}
-use Rattle.ent_protocol.specs.Member.{is_tx}
-use Rattle.ent_protocol.specs.State.{Member, first_of, inserted}
+use Rattle.ent_protocol.specs.State.{Member, inserted}
+use Rattle.ent_members.specs.Order.{tx_of, IsAscending}
 use Rattle.ent_members.specs.declared.run_attempts.RunAttempt.{RunAttempt}
 use Rattle.ent_members.specs.RunAttempts.{gathered, is_within, run_attempt_of, run_attempts_in, number_of, numbers_in}
-use Rattle.ent_members.specs.Order.{IsAscending}
-use Rattle.ent_members.specs.Places.{found}
-use Rattle.ent_members.specs.Run.{tx_of}
-use Rattle.ent_members.proofs.Ascending.{all_filter, eq_below}
 use Rattle.ent_members.proofs.ByNumber.{run_attempt_numbers}
-use Rattle.ent_members.proofs.OneMember.{all_at, eq_same}
 
--- ---- the member of a number
+all_filter_if : (P : ℕ → Type 0) (x : Member) (xs : List Member) (b : Bool) → P x.tx
+    → AllByRecursion P (map tx_of xs) → AllByRecursion P (map tx_of (if b then x ∷ xs else xs))
+all_filter_if P x xs true here rest = (here, rest)
+all_filter_if P x xs false here rest = rest
 
-eq_above : (n m : ℕ) → m < n → (n == m) ≡ false
-eq_above n m above = grind (arith, nat_tests)
-
-pub found_here : (xs : List Member) (i tx : ℕ) (d : Member) → IsAscending (map tx_of xs) → i < length xs
-    → (get_or xs i d).tx ≡ tx → found xs tx ≡ Some (get_or xs i d)
-found_here [] i tx d ascending lt is = absurd (omega (arith, lt))
-found_here (x ∷ xs) zero tx d ascending lt is =
-    ap (λ b. first_of (if b then x ∷ filter (is_tx tx) xs else filter (is_tx tx) xs)) (eq_same x.tx tx is)
-found_here (x ∷ xs) (suc i) tx d ascending lt is =
-    let below : x.tx < (get_or xs i d).tx = all_at (λ n. x.tx < n) xs i d (omega (arith, lt)) ascending.0 in
-    ap (λ b. first_of (if b then x ∷ filter (is_tx tx) xs else filter (is_tx tx) xs))
-    (eq_below x.tx tx (omega (arith, below, is)))
-    ∙ found_here xs i tx d ascending.1 (omega (arith, lt)) is
-
-next_above : (xs : List Member) (k j : ℕ) (d : Member) → IsAscending (map tx_of xs) → j ≡ suc k → j < length xs
-    → (get_or xs k d).tx < (get_or xs j d).tx
-next_above [] k j d ascending next lt = absurd (omega (arith, lt))
-next_above (x ∷ xs) k zero d ascending next lt = absurd (omega (arith, next))
-next_above (x ∷ xs) zero (suc j) d ascending next lt =
-    all_at (λ n. x.tx < n) xs j d (omega (arith, lt)) ascending.0
-next_above (x ∷ xs) (suc k) (suc j) d ascending next lt =
-    next_above xs k j d ascending.1 (omega (arith, next)) (omega (arith, lt))
-
-found_nowhere : (xs : List Member) (tx : ℕ)
-    → ((k : ℕ) (d : Member) → k < length xs → ((get_or xs k d).tx == tx) ≡ false) → found xs tx ≡ None
-found_nowhere [] tx none = refl
-found_nowhere (x ∷ xs) tx none =
-    ap (λ b. first_of (if b then x ∷ filter (is_tx tx) xs else filter (is_tx tx) xs)) (none 0 x (omega arith))
-    ∙ found_nowhere xs tx (λ k d lt. none (suc k) d (omega (arith, lt)))
-
-none_above : (xs : List Member) (n tx : ℕ) → AllByRecursion (λ m. n < m) (map tx_of xs) → tx ≤ n
-    → filter (is_tx tx) xs ≡ []
-none_above [] n tx all le = refl
-none_above (x ∷ xs) n tx all le =
-    ap (λ b. if b then x ∷ filter (is_tx tx) xs else filter (is_tx tx) xs) (eq_above x.tx tx (omega (arith, all.0, le)))
-    ∙ none_above xs n tx all.1 le
-
--- the one of a number is the only one, and where there is none there is none
-pub one_of_number : (xs : List Member) (tx : ℕ) (own : Member) → IsAscending (map tx_of xs)
-    → Some own ≡ found xs tx → filter (is_tx tx) xs ≡ own ∷ []
-one_of_number [] tx own ascending is = let e : Some own ≡ None = is in absurd cc
-one_of_number (x ∷ xs) tx own ascending is = by (x.tx == tx) refl is (one_of_number xs tx own ascending.1)
-  where
-    le : (x.tx == tx) ≡ true → tx ≤ x.tx
-    le same = grind (arith, nat_tests, same)
-
-    by : (b : Bool) → (x.tx == tx) ≡ b
-        → Some own ≡ first_of (if b then x ∷ filter (is_tx tx) xs else filter (is_tx tx) xs)
-        → (Some own ≡ found xs tx → filter (is_tx tx) xs ≡ own ∷ [])
-        → (if b then x ∷ filter (is_tx tx) xs else filter (is_tx tx) xs) ≡ own ∷ []
-    by true same first rest =
-        let e : own ≡ x = cc in λ i. sym e i ∷ none_above xs x.tx tx ascending.0 (le same) i
-    by false other first rest = rest first
-
-pub none_of_number : (xs : List Member) (tx : ℕ) → None ≡ found xs tx → filter (is_tx tx) xs ≡ []
-none_of_number xs tx is = by (filter (is_tx tx) xs) is
-  where
-    by : (ys : List Member) → None ≡ first_of ys → ys ≡ []
-    by [] none = refl
-    by (y ∷ ys) none = let e : None ≡ Some y = none in absurd cc
-
-not_less : (n m : ℕ) → nat_cmp n m ≡ Less → (n == m) ≡ false
-not_less n m is = eq_below n m (is_below is)
-  where
-    is_below : nat_cmp n m ≡ Less → n < m
-    is_below less = grind (arith, nat_tests, less)
-
-not_greater : (n m : ℕ) → nat_cmp n m ≡ Greater → (n == m) ≡ false
-not_greater n m is = eq_above n m (is_above is)
-  where
-    is_above : nat_cmp n m ≡ Greater → m < n
-    is_above greater = grind (arith, nat_tests, greater)
-
-rises : (xs : List Member) (tx : ℕ) → IsAscending (map tx_of xs)
-    → IsNonDecreasingBy (λ (x : Member). ordering_index (nat_cmp x.tx tx)) xs
-rises xs tx ascending =
-    searchable_from_sorted nat_cmp_total tx_of xs tx (λ k d low next.
-    not_lower (get_or xs k d).tx (get_or xs (k + 1) d).tx
-    (next_above xs k (k + 1) d ascending (omega arith) (omega (arith, next))))
-  where
-    not_lower : (n m : ℕ) → n < m → is_lt (nat_cmp m n) ≡ false
-    not_lower n m lt = grind (arith, nat_tests, lt)
-
-pub found_between : (xs : List Member) (tx i : ℕ) → IsAscending (map tx_of xs)
-    → (IsNonDecreasingBy (λ (x : Member). ordering_index (nat_cmp x.tx tx)) xs
-    → IsPartitionPoint (λ (x : Member). nat_cmp x.tx tx ≡ Less) (λ (x : Member). nat_cmp x.tx tx ≡ Greater) xs i)
-    → found xs tx ≡ None
-found_between xs tx i ascending parted = found_nowhere xs tx (λ k d lt. on_a_side k d lt (nat_lt k i) refl)
-  where
-    sides : IsPartitionPoint (λ (x : Member). nat_cmp x.tx tx ≡ Less) (λ (x : Member). nat_cmp x.tx tx ≡ Greater) xs i
-    sides = parted (rises xs tx ascending)
-
-    below : (k : ℕ) → nat_lt k i ≡ true → k < i
-    below k is = grind (arith, nat_tests, is)
-
-    beyond : (k : ℕ) → nat_lt k i ≡ false → i ≤ k
-    beyond k is = grind (arith, nat_tests, is)
-
-    on_a_side : (k : ℕ) (d : Member) → k < length xs → (b : Bool) → nat_lt k i ≡ b
-        → ((get_or xs k d).tx == tx) ≡ false
-    on_a_side k d lt true is = not_less (get_or xs k d).tx tx (sides.0 k d (omega arith) (below k is))
-    on_a_side k d lt false is = not_greater (get_or xs k d).tx tx (sides.1 k d (beyond k is) lt)
+pub all_filter : (P : ℕ → Type 0) (p : Member → Bool) (xs : List Member) → AllByRecursion P (map tx_of xs)
+    → AllByRecursion P (map tx_of (filter p xs))
+all_filter P p [] all = all
+all_filter P p (x ∷ xs) all = all_filter_if P x (filter p xs) (p x) all.0 (all_filter P p xs all.1)
 
 -- ---- those who leave
 

@@ -1,13 +1,5 @@
 pub mod Order
-pub mod Run
 pub mod RunAttempts
-pub mod Places
-pub mod Passed
 pub mod Changes
-pub mod Moves
-pub mod Joined
-pub mod Grouped
-pub mod Waits
 pub mod Answered
-pub mod Locks
 pub mod Conflict

@@ -1,8 +1,10 @@
 //! Uses that are in conflict.
 ghost use Rattle.std.specs.Prelude.{◌≡◌, false, true, Contains, MatchOption};
+ghost use Rattle.ent_protocol.specs.Uses.{uses_conflict, is_conflicting};
+ghost use Rattle.std.specs.List.{list_any};
 ghost use Rattle.ent_members.specs.Conflict.{IsConflict, NoConflict, IsInConflict, NoneInConflict};
 
-use crate::blockers::in_conflict;
+use crate::member::Member;
 use crate::table_use::Use;
 use ent_lock::Mode;
 
@@ -13,6 +15,26 @@ pub struct Conflict {
     pub table: usize,
     pub asked: Mode,
     pub held: Mode,
+}
+
+fn in_conflict(one: Use, other: Use) -> bool
+    ensures { result ≡ uses_conflict one other }
+{
+    one.table() == other.table() && one.mode().in_conflict(other.mode())
+}
+
+fn any_in_conflict(asked: Use, held: &[Use]) -> bool
+    ensures { result ≡ list_any (uses_conflict asked) held.now }
+{
+    held.iter().any(|other| in_conflict(asked, *other))
+}
+
+/// Whether a member holds a use in conflict with one that is asked for.
+pub fn is_conflicting(asked: &[Use], holder: &Member) -> bool
+    ensures { result ≡ is_conflicting asked.now holder.now }
+{
+    let held = holder.uses();
+    asked.iter().any(|own| any_in_conflict(*own, held))
 }
 
 /// The first of some uses that one is in conflict with.

@@ -50,7 +50,7 @@ impl Model for Member {
 
 impl Member {
     /// A member of a run that starts, in a group of its own, at its first statement. It takes no memory.
-    pub(crate) fn fresh(alloc: Global, entrant: Entrant) -> Self
+    pub fn fresh(alloc: Global, entrant: Entrant) -> Self
         ensures { result ≡ fresh entrant }
     {
         Member {
@@ -128,14 +128,14 @@ impl Member {
     }
 
     /// It holds these uses.
-    pub(crate) fn hold(&mut self, uses: Vec<Use>)
+    pub fn hold(&mut self, uses: Vec<Use>)
         ensures { self.new ≡ holding_all uses.items self.old }
     {
         self.uses = uses;
     }
 
     /// It holds these uses, and its next statement is in the pool.
-    pub(crate) fn post(&mut self, uses: Vec<Use>)
+    pub fn post(&mut self, uses: Vec<Use>)
         ensures { self.new ≡ posting_all uses.items self.old }
     {
         self.uses = uses;
@@ -143,14 +143,14 @@ impl Member {
     }
 
     /// Its group has another label.
-    pub(crate) fn set_group(&mut self, group: Tx)
+    pub fn set_group(&mut self, group: Tx)
         ensures { self.new ≡ record self.old { group = group } }
     {
         self.group = group;
     }
 
     /// It takes the answer of its statement, and is at the next one.
-    pub(crate) fn step(&mut self, answer: Answer) -> Result<(), AllocError>
+    pub fn step(&mut self, answer: Answer) -> Result<(), AllocError>
         ensures ok { OnOk result (self.new ≡ stepped answer self.old) }
         ensures err { OnErr result (self.new ≡ self.old) }
     {
@@ -160,7 +160,7 @@ impl Member {
     }
 
     /// It takes the answer of its statement, which binds host variables, and is at the next one.
-    pub(crate) fn step_bound(
+    pub fn step_bound(
         &mut self,
         answer: Answer,
         bound: Vec<(Name, Value)>,
@@ -176,7 +176,7 @@ impl Member {
     }
 
     /// It is as before it took its last answer: it had so many bindings, and its statement was posted or not.
-    pub(crate) fn step_back(&mut self, bindings: usize, was_posted: bool)
+    pub fn step_back(&mut self, bindings: usize, was_posted: bool)
         ensures back { (answer : Answered) (bound : List (Variable × Bound)) (before : Before)
             → self.old ≡ stepping answer bound before → length before.bound ≡ bindings
             → before.posted ≡ was_posted → self.new ≡ before }

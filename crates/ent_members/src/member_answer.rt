@@ -54,7 +54,7 @@ impl MemberAnswer {
     }
 
     /// The answer, and what it binds, moved and not copied.
-    pub(crate) fn into_parts(self) -> (Answer, Vec<(Name, Value)>)
+    pub fn into_parts(self) -> (Answer, Vec<(Name, Value)>)
         ensures answer { result.0 ≡ self.answer }
         ensures bound { result.1.items ≡ self.bound }
     {

@@ -3,8 +3,7 @@ ghost use Rattle.std.specs.Prelude.{◌≡◌, ◌<◌, ◌≤◌, ◌+◌, ◌+
 ghost use Rattle.ent_protocol.specs.State.{inserted};
 ghost use Rattle.ent_members.specs.RunAttempts.{gathered, is_within, run_attempt_of, run_attempts_in, number_of};
 ghost use Rattle.ent_members.specs.RunAttempts.{numbers_in};
-ghost use Rattle.ent_members.specs.Order.{IsAscending, place_in};
-ghost use Rattle.ent_members.specs.Run.{tx_of};
+ghost use Rattle.ent_members.specs.Order.{IsAscending, place_in, tx_of};
 
 use crate::member::Member;
 use ent_group::{MOST_MEMBERS, Members, Tx};
@@ -135,7 +134,7 @@ fn run_attempt_of(member: &Member) -> RunAttempt
 }
 
 /// The members of the group with a label, where one is named, else all, of a list by number.
-pub(crate) fn gather_by_number(members: &[Member], group: Option<Tx>) -> RunAttempts
+pub fn gather_by_number(members: &[Member], group: Option<Tx>) -> RunAttempts
     requires ascending { IsAscending (map tx_of members.now) }
     requires bound { length members.now ≤ MOST_MEMBERS }
     ensures list { result ≡ run_attempts_in group members.now }
@@ -153,7 +152,7 @@ pub(crate) fn gather_by_number(members: &[Member], group: Option<Tx>) -> RunAtte
 }
 
 /// Puts in the members of the group with a label, where one is named, else all of a list.
-pub(crate) fn gather(members: &[Member], group: Option<Tx>, run_attempts: &mut RunAttempts)
+pub fn gather(members: &[Member], group: Option<Tx>, run_attempts: &mut RunAttempts)
     requires { length members.now + length run_attempts.old ≤ MOST_MEMBERS }
     ensures list { run_attempts.new ≡ gathered group members.now run_attempts.old }
     ensures room { length run_attempts.new ≤ length members.now + length run_attempts.old }

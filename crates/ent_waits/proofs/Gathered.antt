@@ -8,8 +8,9 @@ use Rattle.std.proofs.lemmas.List.Concat.{flat_map_single}
 use Rattle.std.proofs.lemmas.List.Elements.{All-cons, All-contains_itself, All-nil, All-weaker}
 use Rattle.ent_group.specs.Cycle.{IsCycle, IsOnCycle, NamesAtMost}
 use Rattle.ent_semantics.specs.Serial.{numbered}
-use Rattle.ent_members.specs.Run.{Run, tx_of, with_run}
-use Rattle.ent_members.specs.Waits.{is_awaited, pairs_of}
+use Rattle.ent_members.specs.Order.{tx_of}
+use Rattle.ent_run.specs.Run.{Run, with_run}
+use Rattle.ent_run.specs.Waits.{is_awaited, pairs_of}
 use Rattle.ent_protocol.specs.Job.{Job}
 use Rattle.ent_protocol.specs.Member.{next_in, next_of}
 use Rattle.ent_protocol.specs.State.{State, Member, Submitted, Use}

@@ -10,8 +10,9 @@ use Rattle.std.proofs.lemmas.List.Elements.{All-cons, All-nil, Contains-append_c
 use Rattle.ent_group.specs.Marks.{has_mark}
 use Rattle.ent_group.specs.Reach.{IsAt}
 use Rattle.ent_semantics.specs.Serial.{numbered}
-use Rattle.ent_members.specs.Run.{Run, tx_of, with_run}
-use Rattle.ent_members.specs.Waits.{is_awaited, waits_over}
+use Rattle.ent_members.specs.Order.{tx_of}
+use Rattle.ent_run.specs.Run.{Run, with_run}
+use Rattle.ent_run.specs.Waits.{is_awaited, waits_over}
 use Rattle.ent_protocol.specs.Job.{Job}
 use Rattle.ent_protocol.specs.Member.{next_in}
 use Rattle.ent_protocol.specs.State.{Member, Submitted, Use}

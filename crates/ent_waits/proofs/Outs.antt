@@ -5,7 +5,7 @@ use Rattle.std.specs.Prelude.{Contains}
 use Rattle.std.specs.List.{list_any}
 use Rattle.std.proofs.lemmas.Bool.Decides.{nat_tests}
 use Rattle.std.proofs.lemmas.List.Elements.{Contains-append_right}
-use Rattle.ent_members.proofs.Lists.{contains_cases, contains_none}
+use Rattle.ent_run.proofs.Lists.{contains_cases, contains_none}
 use Rattle.ent_protocol.specs.Job.{Job, Work, One, Joint}
 use Rattle.ent_protocol.specs.Member.{is_single_of}
 use Rattle.ent_protocol.specs.Quiet.{HasJobOut}

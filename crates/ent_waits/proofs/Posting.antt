@@ -15,8 +15,8 @@ use Rattle.ent_protocol.specs.Begin.{pool_with}
 use Rattle.ent_protocol.specs.Member.{Asks, pool, posted_as}
 use Rattle.ent_protocol.specs.PostedBy.{in_pool}
 use Rattle.ent_protocol.specs.State.{State, Member}
-use Rattle.ent_members.specs.Run.{tx_of}
-use Rattle.ent_members.proofs.Locked.{one_member}
+use Rattle.ent_members.specs.Order.{tx_of}
+use Rattle.ent_run.proofs.Locked.{one_member}
 use Rattle.ent_match.specs.Place.{HasNoneOf}
 use Rattle.ent_components.proofs.Numbered.{same_member}
 

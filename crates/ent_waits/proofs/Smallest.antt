@@ -6,8 +6,8 @@ use Rattle.std.proofs.lemmas.List.{take_all, take_more}
 use Rattle.std.proofs.lemmas.List.Elements.{Contains-append_left, Contains-push, Contains-push_cases}
 use Rattle.ent_lock.specs.Holders.{lesser}
 use Rattle.ent_lock.specs.Use.{IsLeastIfAny}
-use Rattle.ent_members.proofs.LeastOf.{least_either, least_same}
-use Rattle.ent_members.proofs.Lists.{contains_none}
+use Rattle.ent_run.proofs.LeastOf.{least_either, least_same}
+use Rattle.ent_run.proofs.Lists.{contains_none}
 
 module _ {X : Type 0} (P : X → ℕ → Type 0) where
   -- it holds of one of a list, and a number

@@ -1,7 +1,7 @@
 -- Why a run can't end yet, in the words of the protocol.
 use Rattle.std.specs.Prelude.{List, Option, None, Some}
 use Rattle.ent_coordination.specs.Pool.{Posted}
-use Rattle.ent_members.specs.Run.{Run}
+use Rattle.ent_run.specs.Run.{Run}
 use Rattle.ent_protocol.specs.Event.{Reason}
 use Rattle.ent_protocol.specs.Event as reasons
 use Rattle.ent_protocol.specs.Job.{Job}

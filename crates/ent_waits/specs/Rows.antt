@@ -3,8 +3,8 @@ use Rattle.std.specs.Prelude.{◌≡◌, ℕ, ◌<◌, ◌==◌, ◌&&◌, ◌||
 use Rattle.std.specs.Prelude.{slice_index_or, if◌then◌else◌, Option, None, Some, IfSome}
 use Rattle.ent_group.specs.Marks.{IsMarked, has_mark}
 use Rattle.ent_group.specs.Reach.{IsAt}
-use Rattle.ent_members.specs.Run.{Run, with_run}
-use Rattle.ent_members.specs.Waits.{is_awaited, waits_over}
+use Rattle.ent_run.specs.Run.{Run, with_run}
+use Rattle.ent_run.specs.Waits.{is_awaited, waits_over}
 use Rattle.ent_protocol.specs.State.{Member, Use}
 use Rattle.ent_protocol.specs.Uses.{exclusive, is_conflicting}
 use Rattle.ent_waits.specs.Waits.{nothing}

@@ -2,8 +2,8 @@
 use Rattle.std.specs.Prelude.{ℕ, Bool, ◌&&◌, List, [], ◌∷◌, if◌then◌else◌}
 use Rattle.std.specs.List.{flat_map}
 use Rattle.ent_semantics.specs.Serial.{numbered}
-use Rattle.ent_members.specs.Run.{Run, with_run}
-use Rattle.ent_members.specs.Waits.{is_awaited}
+use Rattle.ent_run.specs.Run.{Run, with_run}
+use Rattle.ent_run.specs.Waits.{is_awaited}
 use Rattle.ent_protocol.specs.Job.{Job}
 use Rattle.ent_protocol.specs.Member.{next_in}
 use Rattle.ent_protocol.specs.Reached.{opened}

@@ -1,7 +1,7 @@
 //! The row that those who change one table have in common.
 ghost use Rattle.std.specs.Prelude.{◌≡◌, ◌≤◌, ◌<◌, [], ◌∷◌, length, IfSome};
-ghost use Rattle.ent_members.specs.Run.{with_run};
-ghost use Rattle.ent_members.specs.Waits.{is_awaited};
+ghost use Rattle.ent_run.specs.Run.{with_run};
+ghost use Rattle.ent_run.specs.Waits.{is_awaited};
 ghost use Rattle.ent_protocol.specs.Uses.{exclusive};
 ghost use Rattle.ent_waits.specs.Rows.{HasMarksOf, IsOfChangers, IsOfGroup, IsRowOfAny, MarksAll, MarksGroups};
 ghost use Rattle.ent_waits.specs.Rows.{goes_with};
@@ -10,7 +10,8 @@ ghost use Rattle.ent_waits.specs.Waits.{nothing};
 use crate::marks::share_mark;
 use crate::rows::{Askers, row_of, row_of_askers};
 use ent_group::{MOST_MEMBERS, Row, Tx, with_mark};
-use ent_members::{Member, Run, Use, is_conflicting};
+use ent_members::{Member, Use, is_conflicting};
+use ent_run::Run;
 
 /// A table, and the row of whoever changes it: marks at those for whom any such member waits, and maybe at others of
 /// their groups. Beside it, if it was asked for, the row of those of one group who change the table.

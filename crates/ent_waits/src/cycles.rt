@@ -13,8 +13,9 @@ use crate::rows::rows_of;
 use crate::waiting::is_waiting;
 use ent_group::{MOST_MEMBERS, Members, cycle};
 use ent_job::Job;
-use ent_members::{Member, Run, Use, awaited_members_are_waited_for};
+use ent_members::{Member, Use};
 use ent_next::SubmittedScript;
+use ent_run::{Run, awaited_members_are_waited_for};
 
 /// A cycle of members that wait for each other: each waits for the next, and the last for the first. The first is the
 /// greatest transaction that stands on any cycle. There is none where nobody waits in a cycle. It takes no memory.

@@ -5,7 +5,7 @@ ghost use Rattle.ent_protocol.specs.Member.{next_in};
 ghost use Rattle.ent_protocol.specs.State.{State};
 ghost use Rattle.ent_protocol.specs.Uses.{blocker};
 ghost use Rattle.ent_protocol.specs.Waits.{next_uses};
-ghost use Rattle.ent_members.specs.Run.{with_run};
+ghost use Rattle.ent_run.specs.Run.{with_run};
 ghost use Rattle.ent_waits.specs.Free.{IsFree, is_posting};
 ghost use Rattle.ent_waits.specs.Waits.{state_with};
 
@@ -13,8 +13,9 @@ use crate::waiting::is_waiting;
 use ent_closed::Statement;
 use ent_group::Tx;
 use ent_job::Job;
-use ent_members::{Member, Run};
+use ent_members::Member;
 use ent_next::{SubmittedScript, next_form};
+use ent_run::Run;
 
 /// Whether a member that isn't prepared is at its turn, and nobody blocks what it does next. It takes no memory.
 pub(crate) fn is_free(

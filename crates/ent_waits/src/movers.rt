@@ -19,8 +19,9 @@ use ent_group::Tx;
 use ent_job::Job;
 use ent_lock::lesser;
 use ent_match::{Pool, Posted};
-use ent_members::{Member, Run};
+use ent_members::Member;
 use ent_next::{Next, SubmittedScript, next_of};
+use ent_run::Run;
 use std::alloc::{AllocError, Global};
 
 /// Whether the pool stays safe with a member's entangled statement.

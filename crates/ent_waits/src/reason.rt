@@ -11,8 +11,8 @@ use ent_components::first_untried;
 use ent_group::{Members, Tx};
 use ent_job::Job;
 use ent_match::{Pool, Posted};
-use ent_members::Run;
 use ent_next::SubmittedScript;
+use ent_run::Run;
 use ent_value::Sequence;
 use std::alloc::{AllocError, Global};
 

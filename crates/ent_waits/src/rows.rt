@@ -1,7 +1,7 @@
 //! Whom each member waits for, as rows of marks.
 ghost use Rattle.std.specs.Prelude.{◌≡◌, ℕ, ◌≤◌, ◌<◌, length, slice_index, IfSome};
-ghost use Rattle.ent_members.specs.Run.{with_run};
-ghost use Rattle.ent_members.specs.Waits.{is_awaited, waits_over};
+ghost use Rattle.ent_run.specs.Run.{with_run};
+ghost use Rattle.ent_run.specs.Waits.{is_awaited, waits_over};
 ghost use Rattle.ent_protocol.specs.State.{Member as Seen};
 ghost use Rattle.ent_protocol.specs.Uses.{statement_uses};
 ghost use Rattle.ent_waits.specs.Rows.{HasMarksOf, IsOfChangers, IsRowOf, MarksAll, MarksOver, StandsAt};
@@ -13,8 +13,9 @@ use crate::waiting::is_waiting;
 use ent_closed::{Known, Statement};
 use ent_group::{MOST_MEMBERS, Row, Tx, with_mark};
 use ent_job::Job;
-use ent_members::{Member, Run, Use, exclusive_table, is_conflicting, statement_uses, waits_over};
+use ent_members::{Member, Use, exclusive_table, is_conflicting, statement_uses};
 use ent_next::{SubmittedScript, next_form};
+use ent_run::{Run, waits_over};
 
 /// Those of a group who ask for uses: whoever of it does, or one member only.
 #[derive(Clone, Copy)]

@@ -8,8 +8,8 @@ ghost use Rattle.ent_waits.specs.Waits.{state_with};
 use crate::cycles::deadlock;
 use ent_group::{Members, Tx};
 use ent_job::Job;
-use ent_members::Run;
 use ent_next::SubmittedScript;
+use ent_run::Run;
 
 /// A deadlock, and the label of the group of its first member, which is rolled back for it.
 #[derive(Debug, Drop)]

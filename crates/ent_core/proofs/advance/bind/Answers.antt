@@ -1,5 +1,5 @@
 use Rattle.std.proofs.Common.{◌≡◌, ◌∙◌, ℕ, Some, ap, map, subst, sym}
-use Rattle.ent_members.specs.Places.{found}
+use Rattle.ent_run.specs.Places.{found}
 use Rattle.ent_protocol.specs.Begin.{replaced}
 use Rattle.ent_protocol.specs.State.{Member}
 use Rattle.ent_core.proofs.Bound.{bound_to}

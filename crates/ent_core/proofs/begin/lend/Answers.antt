@@ -1,6 +1,6 @@
 use Rattle.std.proofs.Common.{refl, subst, sym}
 use Rattle.std.specs.Prelude.{IsSome}
-use Rattle.ent_members.specs.Places.{found}
+use Rattle.ent_run.specs.Places.{found}
 use Rattle.ent_protocol.specs.Begin.{holding}
 use Rattle.ent_protocol.specs.State.{State}
 use Rattle.ent_core.specs.Begin.{IsUnposted}

@@ -4,7 +4,7 @@ use Rattle.ent_coordination.specs.Pool.{Posted}
 use Rattle.ent_form.specs.declared.fault.FormFault.{FormFault}
 use Rattle.ent_match.specs.Fault.{IsByNumber}
 use Rattle.ent_match.specs.Posting.{HasNone, IsPostedTo, IsWhyWith}
-use Rattle.ent_members.specs.Run.{Run}
+use Rattle.ent_run.specs.Run.{Run}
 use Rattle.ent_protocol.specs.Begin.{Begins}
 use Rattle.ent_protocol.specs.Event as replies
 use Rattle.ent_protocol.specs.Member.{pool}

@@ -2,8 +2,9 @@ use Rattle.std.proofs.Common.{◌≡◌, ◌+◌, ◌++◌, ◌∙◌, ℕ, suc,
 use Rattle.std.specs.List.{AllByRecursion}
 use Rattle.std.specs.Prelude.{IsSome}
 use Rattle.ent_form.specs.declared.fault.FormFault.{FormFault}
-use Rattle.ent_members.specs.Places.{found}
-use Rattle.ent_members.specs.Run.{Run, tx_of, with_run}
+use Rattle.ent_run.specs.Places.{found}
+use Rattle.ent_members.specs.Order.{tx_of}
+use Rattle.ent_run.specs.Run.{Run, with_run}
 use Rattle.ent_protocol.specs.Begin.{BeginsCommit}
 use Rattle.ent_protocol.specs.Commit.{commit_fates, entry_of, is_ready, preparing}
 use Rattle.ent_protocol.specs.Event as replies

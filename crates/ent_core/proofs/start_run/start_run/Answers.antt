@@ -4,7 +4,7 @@ use Rattle.ent_form.specs.declared.fault.FormFault.{FormFault}
 use Rattle.ent_group.specs.declared.members.TheConstants.{MOST_MEMBERS}
 use Rattle.ent_protocol.specs.State.{State, Dormant, by_number}
 use Rattle.ent_protocol.specs.Run.{fresh}
-use Rattle.ent_members.specs.Run.{tx_of}
+use Rattle.ent_members.specs.Order.{tx_of}
 use Rattle.ent_core.specs.contracts.store.Store.{the_view}
 use Rattle.ent_transaction_table.specs.TransactionTable.{TransactionTable}
 use Rattle.ent_core.proofs.Pooled.{kept_fresh}

@@ -5,7 +5,7 @@ use Rattle.ent_core.specs.contracts.store.Store.{the_view}
 use Rattle.ent_members.proofs.ByNumber.{every_run_attempt}
 use Rattle.ent_members.specs.declared.run_attempts.RunAttempt.{RunAttempt}
 use Rattle.ent_members.specs.RunAttempts.{run_attempts_in}
-use Rattle.ent_members.specs.Run.{tx_of}
+use Rattle.ent_members.specs.Order.{tx_of}
 use Rattle.ent_protocol.specs.Rollback.{NoOne, taken_out}
 use Rattle.ent_protocol.specs.State.{State, by_number, members}
 use Rattle.ent_core.proofs.take_out.end.Goals as goal

@@ -8,8 +8,8 @@ use Rattle.ent_core.specs.TakeOut.{MayLeave}
 use Rattle.ent_core.specs.contracts.store.Store.{the_view}
 use Rattle.ent_members.specs.declared.run_attempts.RunAttempt.{RunAttempt}
 use Rattle.ent_members.specs.RunAttempts.{numbers_in, run_attempt_of, run_attempts_in}
-use Rattle.ent_members.specs.Moves.{is_not_of}
-use Rattle.ent_members.specs.Run.{tx_of}
+use Rattle.ent_run.specs.Moves.{is_not_of}
+use Rattle.ent_members.specs.Order.{tx_of}
 use Rattle.ent_protocol.specs.Rollback.{dormant_by, fated_by, taken_out}
 use Rattle.ent_protocol.specs.State.{Member, State, Submitted, by_number, members}
 use Rattle.ent_transaction_table.specs.ByNumber.{IsNumbered}

@@ -2,7 +2,7 @@ use Rattle.std.proofs.Common.{map, arith}
 use Rattle.std.proofs.lemmas.Bool.Decides.{Decides-eqb}
 use Rattle.std.proofs.lemmas.List.{length-map}
 use Rattle.std.proofs.lemmas.Map.Made.{AllPairs-from_IsDistinct}
-use Rattle.ent_members.specs.Run.{tx_of}
+use Rattle.ent_members.specs.Order.{tx_of}
 use Rattle.ent_waits.specs.Waits.{gathered}
 use Rattle.ent_waits.proofs.Gathered.{no_deadlock}
 use Rattle.ent_waits.proofs.Marked.{marked_pairs}

@@ -1,5 +1,5 @@
 use Rattle.std.proofs.Common.{List, ap, refl, sym, ◌∙◌}
-use Rattle.ent_members.specs.Run.{with_run}
+use Rattle.ent_run.specs.Run.{with_run}
 use Rattle.ent_protocol.specs.State.{Use}
 use Rattle.ent_protocol.specs.Uses.{blocker}
 use Rattle.ent_waits.proofs.Moving.{free_at_end}

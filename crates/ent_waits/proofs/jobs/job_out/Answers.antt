@@ -1,6 +1,6 @@
 use Rattle.std.proofs.Common.{◌+◌, ℕ, List, Option, take, sym, subst}
 use Rattle.ent_lock.specs.Use.{IsLeastIfAny}
-use Rattle.ent_members.proofs.LeastOf.{least_same}
+use Rattle.ent_run.proofs.LeastOf.{least_same}
 use Rattle.ent_protocol.specs.Job.{Job, Work}
 use Rattle.ent_protocol.specs.Quiet.{HasJobOut}
 use Rattle.ent_waits.specs.Jobs.{IsWorkOf}

@@ -1,6 +1,6 @@
 use Rattle.std.proofs.Common.{List, sym, subst, ◌∙◌, true≢false}
 use Rattle.ent_lock.specs.Use.{IsLeastIfAny}
-use Rattle.ent_members.proofs.LeastOf.{least_same}
+use Rattle.ent_run.proofs.LeastOf.{least_same}
 use Rattle.ent_job.specs.Work.{work_seen}
 use Rattle.ent_job.specs.declared.work.Work.{Work}
 use Rattle.ent_coordination.specs.Pool.{Posted}

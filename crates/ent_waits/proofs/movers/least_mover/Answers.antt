@@ -2,7 +2,7 @@ use Rattle.std.proofs.Common.{◌≡◌, ◌+◌, ◌<◌, ◌≤◌, ℕ, List,
 use Rattle.std.specs.Prelude.{Contains}
 use Rattle.ent_coordination.specs.Pool.{Posted}
 use Rattle.ent_lock.specs.Use.{IsLeastIfAny}
-use Rattle.ent_members.proofs.LeastOf.{least_same}
+use Rattle.ent_run.proofs.LeastOf.{least_same}
 use Rattle.ent_protocol.specs.Quiet.{CanMove}
 use Rattle.ent_protocol.specs.State.{Member}
 use Rattle.ent_match.specs.Place.{HasNoneOf}

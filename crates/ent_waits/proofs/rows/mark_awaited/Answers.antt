@@ -1,6 +1,6 @@
 use Rattle.std.proofs.Common.{ℕ, ◌+◌, Bool, sym, subst, ◌∙◌, arith}
 use Rattle.std.proofs.lemmas.List.{get_or_default}
-use Rattle.ent_members.specs.Waits.{waits_over}
+use Rattle.ent_run.specs.Waits.{waits_over}
 use Rattle.ent_protocol.specs.State.{Member}
 use Rattle.ent_waits.specs.Rows.{HasMarksOf}
 use Rattle.ent_waits.proofs.Marked.{IsElement, MarksUpto, kept_more, upto_more, upto_same}

@@ -1,4 +1,4 @@
-use Rattle.ent_members.specs.Waits.{waits_over}
+use Rattle.ent_run.specs.Waits.{waits_over}
 use Rattle.ent_protocol.specs.State.{Member}
 use Rattle.ent_waits.specs.Rows.{HasMarksOf}
 use Rattle.ent_waits.proofs.Marked.{MarksUpto}

@@ -1,6 +1,0 @@
-use Rattle.std.proofs.Common.{◌≡◌, map, take}
-use Rattle.ent_members.specs.Locks.{lock_of}
-use Rattle.ent_members.proofs.locks.locks_of.Given as goal
-
-abbrev pub invariant-loop-own : goal.invariant-loop-own
-invariant-loop-own l = l.uses.items ≡ map lock_of (take l.own-index l.asked)

@@ -1,0 +1,183 @@
+-- The uses that a member holds, with those that are asked for.
+use Rattle.std.proofs.Common.{◌≡◌, ◌⊎◌, inl, inr, ℕ, Bool, true, false, ◌==◌, nat_lt, if◌then◌else◌, List, [], ◌∷◌, map}
+use Rattle.std.proofs.Common.{refl, sym, ap, subst, ◌∙◌, arith}
+use Rattle.std.specs.Prelude.{Contains, Some, IsSome}
+use Rattle.std.specs.List.{list_any}
+use Rattle.ent_lists.specs.Elements.{and_both, same_number}
+use Rattle.ent_lock.specs.declared.mode.Mode.{Mode}
+use Rattle.ent_lock.specs.declared.mode.Mode.TheVariants.{Shared, Exclusive}
+use Rattle.ent_lock.specs.Mode.{mode_rank}
+use Rattle.ent_lock.specs.Use.{Uses}
+use Rattle.ent_protocol.specs.Begin.{replaced, same_use, use_rank, with_uses}
+use Rattle.ent_protocol.specs.State.{Member, Use, inserted, by_number}
+use Rattle.ent_run.specs.Locks.{IsLockedRun, Locks, use_of}
+use Rattle.ent_run.specs.Places.{Changes, found}
+use Rattle.ent_members.specs.Order.{tx_of}
+use Rattle.ent_run.proofs.Lists.{contains_none, contains_cases, contains_first, contains_later, some_of}
+use Rattle.ent_run.proofs.Locked.{run_changed, some_value}
+
+same_mode : (a b : Mode) → mode_rank a ≡ mode_rank b → a ≡ b
+same_mode Shared Shared e = refl
+same_mode Shared Exclusive e = absurd (omega arith)
+same_mode Exclusive Shared e = absurd (omega arith)
+same_mode Exclusive Exclusive e = refl
+
+same_is : (a b : Use) → same_use a b ≡ true → a ≡ b
+same_is a b e =
+    let parts = and_both (a.table == b.table) (mode_rank a.mode == mode_rank b.mode) e in
+    let table : a.table ≡ b.table = same_number a.table b.table parts.0 in
+    let mode : a.mode ≡ b.mode = same_mode a.mode b.mode (same_number (mode_rank a.mode) (mode_rank b.mode) parts.1) in
+    λ i. use_of (table i) (mode i)
+
+-- ---- one more in a list by number
+
+module _ {A : Type 0} (number : A → ℕ) (x own : A) where
+  into_if : (y : A) (ys : List A) (b : Bool) → ((x ≡ own) ⊎ Contains ys own → Contains (inserted number x ys) own)
+      → (x ≡ own) ⊎ ((y ≡ own) ⊎ Contains ys own)
+      → Contains (if b then x ∷ y ∷ ys else y ∷ inserted number x ys) own
+  into_if y ys true rest (inl same) = subst (Contains (x ∷ y ∷ ys)) same (contains_first x (y ∷ ys))
+  into_if y ys true rest (inr (inl same)) =
+      contains_later x own (y ∷ ys) (subst (Contains (y ∷ ys)) same (contains_first y ys))
+  into_if y ys true rest (inr (inr later)) = contains_later x own (y ∷ ys) (contains_later y own ys later)
+  into_if y ys false rest (inl same) = contains_later y own (inserted number x ys) (rest (inl same))
+  into_if y ys false rest (inr (inl same)) =
+      subst (Contains (y ∷ inserted number x ys)) same (contains_first y (inserted number x ys))
+  into_if y ys false rest (inr (inr later)) = contains_later y own (inserted number x ys) (rest (inr later))
+
+  in_cases : (y : A) (ys : List A) → (x ≡ own) ⊎ Contains (y ∷ ys) own → (x ≡ own) ⊎ ((y ≡ own) ⊎ Contains ys own)
+  in_cases y ys (inl same) = inl same
+  in_cases y ys (inr there) = inr (contains_cases y own ys there)
+
+  pub into_inserted : (ys : List A) → (x ≡ own) ⊎ Contains ys own → Contains (inserted number x ys) own
+  into_inserted [] (inl same) = subst (Contains (x ∷ [])) same (contains_first x [])
+  into_inserted [] (inr there) = absurd (contains_none own there)
+  into_inserted (y ∷ ys) h =
+      into_if y ys (nat_lt (number x) (number y)) (into_inserted ys) (in_cases y ys h)
+
+  out_if : (y : A) (ys : List A) (b : Bool) → (Contains (inserted number x ys) own → (x ≡ own) ⊎ Contains ys own)
+      → Contains (if b then x ∷ y ∷ ys else y ∷ inserted number x ys) own → (x ≡ own) ⊎ Contains (y ∷ ys) own
+  out_if y ys true rest h = contains_cases x own (y ∷ ys) h
+  out_if y ys false rest h = by_cases (contains_cases y own (inserted number x ys) h)
+    where
+      by_rest : (x ≡ own) ⊎ Contains ys own → (x ≡ own) ⊎ Contains (y ∷ ys) own
+      by_rest (inl is) = inl is
+      by_rest (inr there) = inr (contains_later y own ys there)
+
+      by_cases : (y ≡ own) ⊎ Contains (inserted number x ys) own → (x ≡ own) ⊎ Contains (y ∷ ys) own
+      by_cases (inl same) = inr (subst (Contains (y ∷ ys)) same (contains_first y ys))
+      by_cases (inr later) = by_rest (rest later)
+
+  pub out_of_inserted : (ys : List A) → Contains (inserted number x ys) own → (x ≡ own) ⊎ Contains ys own
+  out_of_inserted [] h = contains_cases x own [] h
+  out_of_inserted (y ∷ ys) h = out_if y ys (nat_lt (number x) (number y)) (out_of_inserted ys) h
+
+-- ---- the uses with those that are asked for
+
+either_asked : (a own : Use) (more held : List Use) → Contains held own ⊎ Contains (a ∷ more) own
+    → (Contains held own ⊎ (a ≡ own)) ⊎ Contains more own
+either_asked a own more held (inl there) = inl (inl there)
+either_asked a own more held (inr asked) = by_cases (contains_cases a own more asked)
+  where
+    by_cases : (a ≡ own) ⊎ Contains more own → (Contains held own ⊎ (a ≡ own)) ⊎ Contains more own
+    by_cases (inl same) = inl (inr same)
+    by_cases (inr later) = inr later
+
+into_one : (a own : Use) (held : List Use) → Contains held own ⊎ (a ≡ own)
+    → Contains (if list_any (same_use a) held then held else inserted use_rank a held) own
+into_one a own held h = by_test (list_any (same_use a) held) refl h
+  where
+    by_test : (b : Bool) → list_any (same_use a) held ≡ b → Contains held own ⊎ (a ≡ own)
+        → Contains (if b then held else inserted use_rank a held) own
+    by_test true is (inl there) = there
+    by_test true is (inr same) =
+        let other = some_of (same_use a) held is in
+        subst (Contains held) (sym (same_is a other.0 other.2) ∙ same) other.1
+    by_test false is (inl there) = into_inserted use_rank a own held (inr there)
+    by_test false is (inr same) = into_inserted use_rank a own held (inl same)
+
+out_of_one : (a own : Use) (held : List Use)
+    → Contains (if list_any (same_use a) held then held else inserted use_rank a held) own
+    → Contains held own ⊎ (a ≡ own)
+out_of_one a own held h = by_test (list_any (same_use a) held) h
+  where
+    turned : (a ≡ own) ⊎ Contains held own → Contains held own ⊎ (a ≡ own)
+    turned (inl same) = inr same
+    turned (inr there) = inl there
+
+    by_test : (b : Bool) → Contains (if b then held else inserted use_rank a held) own
+        → Contains held own ⊎ (a ≡ own)
+    by_test true there = inl there
+    by_test false there = turned (out_of_inserted use_rank a own held there)
+
+pub into_with_uses : (asked held : List Use) (own : Use) → Contains held own ⊎ Contains asked own
+    → Contains (with_uses asked held) own
+into_with_uses [] held own (inl there) = there
+into_with_uses [] held own (inr there) = absurd (contains_none own there)
+into_with_uses (a ∷ more) held own h =
+    into_with_uses more (if list_any (same_use a) held then held else inserted use_rank a held) own
+    (by_cases (either_asked a own more held h))
+  where
+    by_cases : (Contains held own ⊎ (a ≡ own)) ⊎ Contains more own
+        → Contains (if list_any (same_use a) held then held else inserted use_rank a held) own ⊎ Contains more own
+    by_cases (inl one) = inl (into_one a own held one)
+    by_cases (inr later) = inr later
+
+pub out_of_with_uses : (asked held : List Use) (own : Use) → Contains (with_uses asked held) own
+    → Contains held own ⊎ Contains asked own
+out_of_with_uses [] held own h = inl h
+out_of_with_uses (a ∷ more) held own h =
+    by_cases (out_of_with_uses more (if list_any (same_use a) held then held else inserted use_rank a held) own h)
+  where
+    by_one : Contains held own ⊎ (a ≡ own) → Contains held own ⊎ Contains (a ∷ more) own
+    by_one (inl there) = inl there
+    by_one (inr same) = inr (subst (Contains (a ∷ more)) same (contains_first a more))
+
+    by_cases : Contains (if list_any (same_use a) held then held else inserted use_rank a held) own ⊎ Contains more own
+        → Contains held own ⊎ Contains (a ∷ more) own
+    by_cases (inl there) = by_one (out_of_one a own held there)
+    by_cases (inr later) = inr (contains_later a own more later)
+
+-- ---- those of a run that starts
+
+pub out_of_by_number : {A : Type 0} (number : A → ℕ) (xs : List A) (own : A) → Contains (by_number number xs) own
+    → Contains xs own
+out_of_by_number number [] own h = h
+out_of_by_number number (x ∷ xs) own h =
+    by_cases (λ later. out_of_by_number number xs own later) (out_of_inserted number x own (by_number number xs) h)
+  where
+    by_cases : (Contains (by_number number xs) own → Contains xs own) → (x ≡ own) ⊎ Contains (by_number number xs) own
+        → Contains (x ∷ xs) own
+    by_cases rest (inl same) = subst (Contains (x ∷ xs)) same (contains_first x xs)
+    by_cases rest (inr later) = contains_later x own xs (rest later)
+
+pub into_by_number : {A : Type 0} (number : A → ℕ) (xs : List A) (own : A) → Contains xs own
+    → Contains (by_number number xs) own
+into_by_number number [] own h = h
+into_by_number number (x ∷ xs) own h =
+    into_inserted number x own (by_number number xs)
+    (elim (contains_cases x own xs h) [ inl same ↦ inl same | inr later ↦ inr (into_by_number number xs own later) ])
+
+-- ---- a member that holds them
+
+pub holds_asked : (change : List Use → Member → Member) (asked uses : List Use) (tx : ℕ) (old new : List Member)
+    → ((member : Member) → found old tx ≡ Some member → uses ≡ with_uses asked member.uses)
+    → Changes (change uses) tx old new → Changes (λ member. change (with_uses asked member.uses) member) tx old new
+holds_asked change asked uses tx old new are changes member there =
+    changes member there ∙ ap (λ us. map (replaced (change us member)) old) (are member there)
+
+pub run_held : (change : List Use → Member → Member) → ((us : List Use) (m : Member) → (change us m).tx ≡ m.tx)
+    → ((us : List Use) (m : Member) → (change us m).uses ≡ us) → (locks next : Uses)
+    → (prepared old new : List Member) (asked uses : List Use) (tx : ℕ) → IsLockedRun locks prepared old
+    → IsSome (found old tx) → ((member : Member) → found old tx ≡ Some member → uses ≡ with_uses asked member.uses)
+    → Changes (change uses) tx old new → map tx_of new ≡ map tx_of old → Locks tx asked locks next
+    → IsLockedRun next prepared new
+run_held change same sets locks next prepared old new asked uses tx run there are changes numbers more =
+    let one = some_value (found old tx) there in
+    let is : (change uses one.0).uses ≡ with_uses asked one.0.uses = sets uses one.0 ∙ are one.0 one.1 in
+    run_changed locks next prepared old new (change uses) asked tx one.0 run one.1 changes numbers
+    (record {
+      same = same uses one.0;
+      into = λ own h. subst (λ us. Contains us own) (sym is) (into_with_uses asked one.0.uses own h);
+      out_of = λ own h. out_of_with_uses asked one.0.uses own (subst (λ us. Contains us own) is h);
+    })
+    more

@@ -1,0 +1,10 @@
+use Rattle.std.proofs.Common.{◌≡◌, drop}
+use Rattle.std.specs.List.{filter}
+use Rattle.ent_protocol.specs.Member.{is_tx}
+use Rattle.ent_protocol.specs.State.{first_of}
+use Rattle.ent_run.proofs.search.member_in.Given as goal
+
+-- nobody so far is of the number
+abbrev pub invariant-loop-member : goal.invariant-loop-member
+invariant-loop-member l =
+    first_of (filter (is_tx l.tx) (drop l.member-index l.members)) ≡ first_of (filter (is_tx l.tx) l.members)

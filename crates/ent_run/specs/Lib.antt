@@ -1,0 +1,9 @@
+pub mod Run
+pub mod Places
+pub mod Passed
+pub mod Moves
+pub mod Joined
+pub mod Grouped
+pub mod Waits
+pub mod Answered
+pub mod Locks

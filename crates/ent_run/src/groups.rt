@@ -1,0 +1,159 @@
+//! The groups of a run's members. [`Groups`] decides who is of one group; each member has the label of its group too.
+ghost use Rattle.std.specs.Prelude.{◌≡◌, ℕ, ◌+◌, ◌≤◌, ◌∷◌, ◌++◌, ◌↔◌, Contains, IsSome, IsTrue, List, Some, length};
+ghost use Rattle.std.specs.Prelude.{map, filter, nat_eq, not};
+ghost use Rattle.std.specs.List.{AllByRecursion, IsDistinct, filter_map};
+ghost use Rattle.std.specs.List.Sorted.{IsStrictlyIncreasing};
+ghost use Rattle.std.specs.Option.{option_map};
+ghost use Rattle.ent_group.specs.Groups.{group_of};
+ghost use Rattle.ent_protocol.specs.PoolEvents.{joined_label};
+ghost use Rattle.ent_protocol.specs.Run.{fresh};
+ghost use Rattle.ent_protocol.specs.State.{Member as Seen, first_of};
+ghost use Rattle.ent_run.specs.Grouped.{AreGrouped, AreNamed, labelled, unless_gone};
+ghost use Rattle.ent_run.specs.Joined.{is_one_of, labels_in};
+ghost use Rattle.ent_members.specs.Order.{tx_of};
+ghost use Rattle.ent_members.specs.RunAttempts.{is_within};
+
+use ent_group::{Groups, MOST_MEMBERS, Members, Tx};
+use ent_members::{Entrant, Member};
+
+/// Each of those who enter, in a group of its own.
+pub(crate) fn each_alone(entrants: &[Entrant]) -> Groups
+    requires bound { length entrants.now ≤ MOST_MEMBERS }
+    requires distinct { IsDistinct nat_eq (map (λ e. e.tx) entrants.now) }
+    ensures { AreGrouped result (map fresh entrants.now) }
+{
+    let mut groups = Groups::new();
+    for entrant in entrants {
+        groups.add(entrant.tx());
+    }
+    groups
+}
+
+/// Whether a group has a label: it is called after one of its members.
+fn is_label(groups: &Groups, label: Tx) -> bool
+    ensures { IsTrue result ↔ (group_of groups.now label ≡ Some label) }
+{
+    groups.group_of(label) == Some(label)
+}
+
+/// The members of the group with a label, by number.
+pub(crate) fn members_of(groups: &Groups, label: Tx) -> Members
+    requires named { AreNamed groups.now }
+    ensures by_number { IsStrictlyIncreasing result }
+    ensures members { (x : ℕ) → Contains result x ↔ (group_of groups.now x ≡ Some label) }
+{
+    if is_label(groups, label) {
+        groups.members(label)
+    } else {
+        Members::new()
+    }
+}
+
+/// The group with a label leaves.
+pub(crate) fn remove_labelled(groups: &mut Groups, label: Tx)
+    requires named { AreNamed groups.old }
+    ensures { (x : ℕ) → group_of groups.new x ≡ unless_gone label (group_of groups.old x) }
+{
+    if is_label(groups, label) {
+        groups.remove_group(label);
+    }
+}
+
+/// The group with a label leaves, or all, if none is named.
+pub(crate) fn leave(groups: &mut Groups, group: Option<Tx>)
+    requires named { AreNamed groups.old }
+    ensures { (members : List Seen) → AreGrouped groups.old members
+        → AreGrouped groups.new (filter (λ member. not (is_within group member)) members) }
+{
+    match group {
+        Some(label) => remove_labelled(groups, label),
+        None => *groups = Groups::new(),
+    }
+}
+
+fn is_one_of(numbers: &[Tx], member: &Member) -> bool
+    ensures { result ≡ is_one_of numbers.now member.now }
+{
+    let tx = member.tx();
+    numbers.iter().any(|n| *n == tx)
+}
+
+/// Puts the numbers of members that are among these to others.
+fn gather_joined(members: &[Member], numbers: &[Tx], joined: &mut Members)
+    requires { length joined.old + length members.now ≤ MOST_MEMBERS }
+    ensures list { joined.new ≡ joined.old ++ map tx_of (filter (is_one_of numbers.now) members.now) }
+    ensures room { length joined.new ≤ length joined.old + length members.now }
+{
+    for member in members {
+        if is_one_of(numbers, member) {
+            joined.push(member.tx());
+        }
+    }
+}
+
+/// The groups of others become one with that of the first.
+fn merge_into(groups: &mut Groups, first: Tx, others: &[Tx])
+    requires { AllByRecursion (λ tx. IsSome (group_of groups.old tx)) (first ∷ others.now) }
+    ensures { (x : ℕ) → group_of groups.new x
+        ≡ option_map (joined_label (filter_map (group_of groups.old) (first ∷ others.now))) (group_of groups.old x) }
+{
+    for other in others {
+        groups.merge(first, *other);
+    }
+}
+
+/// Joins the groups of these members, and tells the label of the group that they are in then: the first one's.
+fn merge_all(groups: &mut Groups, joined: &[Tx]) -> Option<Tx>
+    requires { AllByRecursion (λ tx. IsSome (group_of groups.old tx)) joined.now }
+    ensures label { result ≡ first_of (filter_map (group_of groups.old) joined.now) }
+    ensures labels { (x : ℕ) → group_of groups.new x
+        ≡ option_map (joined_label (filter_map (group_of groups.old) joined.now)) (group_of groups.old x) }
+{
+    let (first, others) = joined.split_first()?;
+    merge_into(groups, *first, others);
+    groups.group_of(*first)
+}
+
+/// Joins the groups of a run's members that are answered, and tells the label that they have then; there is None if
+/// nobody is answered.
+pub(crate) fn merge_answered(
+    groups: &mut Groups,
+    prepared: &[Member],
+    active: &[Member],
+    answered: &[Tx],
+) -> Option<Tx>
+    requires bound { length prepared.now + length active.now ≤ MOST_MEMBERS }
+    requires grouped { AreGrouped groups.old (prepared.now ++ active.now) }
+    ensures label { result ≡ first_of (labels_in answered.now (prepared.now ++ active.now)) }
+    ensures labels { (x : ℕ) → group_of groups.new x
+        ≡ option_map (joined_label (labels_in answered.now (prepared.now ++ active.now))) (group_of groups.old x) }
+{
+    let mut joined = Members::new();
+    gather_joined(prepared, answered, &mut joined);
+    gather_joined(active, answered, &mut joined);
+    merge_all(groups, joined.as_slice())
+}
+
+/// A member of one of these numbers gets a label.
+fn label_one(member: &mut Member, numbers: &Members, label: Tx)
+    ensures { member.new ≡ labelled numbers.now label member.old }
+{
+    if numbers.contains(member.tx()) {
+        member.set_group(label);
+    }
+}
+
+/// Members of these numbers get a label.
+pub(crate) fn set_labels(members: &mut Vec<Member>, numbers: &Members, label: Tx)
+    ensures { members.new.items ≡ map (labelled numbers.now label) members.old.items }
+{
+    label_each(members.as_mut_slice(), numbers, label);
+}
+
+fn label_each(members: &mut [Member], numbers: &Members, label: Tx)
+    ensures { members.new ≡ map (labelled numbers.now label) members.old }
+{
+    for member in members.iter_mut() {
+        label_one(member, numbers, label);
+    }
+}

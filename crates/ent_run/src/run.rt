@@ -1,0 +1,382 @@
+//! The members of a run.
+ghost use Rattle.std.specs.Prelude.{◌≡◌, ℕ, ◌+◌, ◌≤◌, ◌==◌, ◌++◌, [], length, map, filter, nat_eq, not, true, false};
+ghost use Rattle.std.specs.Prelude.{List, IfOk, OnOk, OnErr, IfSome, IsSome, IsNone};
+ghost use Rattle.std.specs.List.{IsDistinct, list_any};
+ghost use Rattle.std.specs.Option.{option_copied};
+ghost use Rattle.std.specs.Vec.{vec_capacity};
+ghost use Rattle.ent_coordination.specs.Pool.{Posted};
+ghost use Rattle.ent_protocol.specs.Begin.{holding};
+ghost use Rattle.ent_protocol.specs.Commit.{committing_members, is_ready};
+ghost use Rattle.ent_protocol.specs.Finish.{stepped};
+ghost use Rattle.ent_protocol.specs.Lookup.{member_of, running_members};
+ghost use Rattle.ent_protocol.specs.Member.{active_member, is_of, is_prepared};
+ghost use Rattle.ent_protocol.specs.Rollback.{group_members, group_numbers};
+ghost use Rattle.ent_protocol.specs.Run.{fresh};
+ghost use Rattle.ent_protocol.specs.State.{Member as Seen, State, by_number, members};
+ghost use Rattle.ent_protocol.specs.Uses.{blocker, statement_uses};
+ghost use Rattle.ent_semantics.specs.Entangled.{Valuation};
+ghost use Rattle.ent_members.specs.Answered.{answer_tx};
+ghost use Rattle.ent_run.specs.Answered.{AnswerTogether, IsJoining, answered_from, member_answers};
+ghost use Rattle.ent_members.specs.Changes.{posting, stepping};
+ghost use Rattle.ent_run.specs.Joined.{JoinGroups, labels_in};
+ghost use Rattle.ent_members.specs.RunAttempts.{numbers_in, run_attempt_of, run_attempts_in};
+ghost use Rattle.ent_run.specs.Locks.{passed_numbers};
+ghost use Rattle.ent_run.specs.Moves.{Leave, Prepares, is_not_of, is_of_another};
+ghost use Rattle.ent_run.specs.Places.{Changes, found};
+ghost use Rattle.ent_members.specs.Order.{tx_of};
+ghost use Rattle.ent_run.specs.Run.{with_run};
+ghost use Rattle.ent_run.specs.Waits.{is_awaited};
+
+use crate::answer::{answer_each, numbers_of};
+use crate::blockers::{Passed, gather_passed, is_awaited_over, pass_itself};
+use crate::change::{self, uses_with};
+use crate::groups::{each_alone, leave, members_of, merge_answered, remove_labelled, set_labels};
+use crate::locks::{least_in_conflict, lock};
+use crate::moves::{any_of, prepare, remove, take_group};
+use crate::search::{is_among, member_by_number, member_in, member_numbers};
+use crate::start::fresh_members;
+use ent_closed::Statement;
+use ent_group::{Groups, MOST_MEMBERS, Members, Tx};
+use ent_lock::LockTable;
+use ent_members::{
+    Entrant, Member, MemberAnswer, RunAttempts, Use, exclusive_table, gather, gather_by_number,
+    statement_uses,
+};
+use ent_semantics::Answer;
+use ent_value::{Name, Value};
+use std::alloc::{AllocError, Global};
+use std::marker::Model;
+
+/// The members of a run, up to [`MOST_MEMBERS`]: those that are prepared, in the order in which they prepared, and the
+/// others, which are active. The lock table has the uses of them all, and the groups have their labels.
+#[derive(Drop)]
+pub struct Run {
+    alloc: Global,
+    prepared: Vec<Member>,
+    active: Vec<Member>,
+    locks: LockTable<usize>,
+    groups: Groups,
+}
+
+impl Model for Run {
+    ghost use Rattle.ent_run.specs.Grouped.{IsRunWith};
+    ghost use Rattle.ent_run.specs.Run.{Run as Seen};
+
+    ghost Value = { Seen };
+
+    ghost view = { λ r. record { prepared = r.prepared.items; active = r.active.items } };
+
+    ghost invariant = { λ r. IsRunWith r.locks r.groups r.prepared.items r.active.items };
+}
+
+impl Run {
+    /// No member. It takes no memory.
+    pub fn new(alloc: Global) -> Self
+        ensures prepared { result.prepared ≡ [] }
+        ensures active { result.active ≡ [] }
+    {
+        Run {
+            alloc,
+            prepared: Vec::new(alloc),
+            active: Vec::new(alloc),
+            locks: LockTable::new(alloc),
+            groups: Groups::new(),
+        }
+    }
+
+    /// The members of a run that starts: each of those who enter, in a group of its own, at its first statement.
+    pub fn start(alloc: Global, entrants: &[Entrant]) -> Result<Self, AllocError>
+        requires bound { length entrants.now ≤ MOST_MEMBERS }
+        requires distinct { IsDistinct nat_eq (map (λ e. e.tx) entrants.now) }
+        ensures prepared { IfOk result (λ run. run.prepared ≡ []) }
+        ensures active { IfOk result (λ run. run.active ≡ by_number tx_of (map fresh entrants.now)) }
+    {
+        let active = fresh_members(alloc, entrants)?;
+        Ok(Run {
+            alloc,
+            prepared: Vec::new(alloc),
+            active,
+            locks: LockTable::new(alloc),
+            groups: each_alone(entrants),
+        })
+    }
+
+    pub fn len(&self) -> usize
+        ensures len { result ≡ length self.now.prepared + length self.now.active }
+        ensures bound { length self.now.prepared + length self.now.active ≤ MOST_MEMBERS }
+    {
+        self.prepared.len() + self.active.len()
+    }
+
+    pub fn is_empty(&self) -> bool
+        ensures { result ≡ (length self.now.prepared + length self.now.active == 0) }
+    {
+        self.len() == 0
+    }
+
+    /// The members that are prepared, in the order in which they prepared.
+    pub fn prepared(&self) -> &[Member]
+        ensures { result.now ≡ self.now.prepared }
+    {
+        self.prepared.as_slice()
+    }
+
+    /// The other members.
+    pub fn active(&self) -> &[Member]
+        ensures list { result.now ≡ self.now.active }
+        ensures distinct { IsDistinct nat_eq (map tx_of self.now.active) }
+    {
+        self.active.as_slice()
+    }
+
+    /// The member of a number that isn't prepared.
+    pub fn active_member(&self, tx: Tx) -> Option<&Member>
+        ensures { (s : State) → option_copied result ≡ active_member (with_run self.now s) tx }
+    {
+        member_by_number(self.active.as_slice(), tx)
+    }
+
+    /// The member of a number, prepared or not.
+    pub fn member(&self, tx: Tx) -> Option<&Member>
+        ensures { (s : State) → option_copied result ≡ member_of (with_run self.now s) tx }
+    {
+        match member_in(self.prepared(), tx) {
+            Some(member) => Some(member),
+            None => member_by_number(self.active.as_slice(), tx),
+        }
+    }
+
+    /// Whether the member of a number is prepared.
+    pub fn is_prepared(&self, tx: Tx) -> bool
+        ensures { (s : State) → result ≡ is_prepared (with_run self.now s) tx }
+    {
+        is_among(self.prepared(), tx)
+    }
+
+    /// All members, by number.
+    pub fn numbers(&self) -> Members
+        ensures { (s : State) → result ≡ running_members (with_run self.now s) }
+    {
+        self.run_attempts(None).numbers()
+    }
+
+    /// The members of the group with a label, by number.
+    pub fn group_numbers(&self, group: Tx) -> Members
+        ensures { (s : State) → result ≡ group_numbers (with_run self.now s) group }
+    {
+        members_of(&self.groups, group)
+    }
+
+    fn run_attempts(&self, group: Option<Tx>) -> RunAttempts
+        ensures { result ≡ run_attempts_in group (self.now.prepared ++ self.now.active) }
+    {
+        let mut run_attempts = gather_by_number(self.active.as_slice(), group);
+        gather(self.prepared.as_slice(), group, &mut run_attempts);
+        run_attempts
+    }
+
+    /// Those that an asker passes: the prepared members of its group, and itself.
+    fn passed_by(&self, asker: &Member) -> Members
+        ensures { result ≡ passed_numbers asker.now self.now }
+    {
+        let mut pass = Members::new();
+        let group = Passed::Group(asker.group());
+        gather_passed(self.prepared.as_slice(), group, &mut pass);
+        pass_itself(self.active.as_slice(), asker, &mut pass);
+        pass
+    }
+
+    /// The least member that holds a use in conflict with one of those that a member asks for, save itself and the
+    /// prepared members of its group.
+    pub fn blocker(&self, asker: &Member, asked: &[Use]) -> Option<Tx>
+        ensures { (s : State) → result ≡ blocker (with_run self.now s) asker.now asked.now }
+    {
+        least_in_conflict(&self.locks, asked, &self.passed_by(asker))
+    }
+
+    /// The same of one that asks for the uses of a statement, which are put together.
+    fn uses_blocker<K>(&self, asker: &Member, statement: &Statement<K>) -> Option<Tx>
+        ensures { (s : State) → result ≡ blocker (with_run self.now s) asker.now (statement_uses statement.now) }
+    {
+        self.blocker(asker, statement_uses(statement).as_slice())
+    }
+
+    /// The least member in conflict with one that asks for the uses of a statement, as [`Run::blocker`] says. What
+    /// changes a table asks for one use, and needs no room for more.
+    pub fn statement_blocker<K>(&self, asker: &Member, statement: &Statement<K>) -> Option<Tx>
+        ensures { (s : State) → result ≡ blocker (with_run self.now s) asker.now (statement_uses statement.now) }
+    {
+        match exclusive_table(statement) {
+            Some(table) => self.blocker(asker, &[Use::exclusive(table)]),
+            None => self.uses_blocker(asker, statement),
+        }
+    }
+
+    /// Whether a member that asks for uses would wait for another member, which isn't prepared.
+    pub fn awaits(&self, asker: &Member, asked: &[Use], other: &Member) -> bool
+        ensures { (s : State) → result ≡ is_awaited (with_run self.now s) asker.now asked.now other.now }
+    {
+        let group = asker.group();
+        is_awaited_over(self.prepared(), asked, Passed::Group(group), group, other)
+            || is_awaited_over(
+                self.active(),
+                asked,
+                Passed::Itself(asker.tx()),
+                group,
+                other,
+            )
+    }
+
+    /// A member that isn't prepared holds the uses that are asked for too. Where memory runs out nothing changes.
+    pub fn hold(&mut self, tx: Tx, asked: &[Use]) -> Result<(), AllocError>
+        requires { IsSome (found self.old.active tx) }
+        ensures ok { OnOk result (Changes (λ member. holding member asked.now) tx self.old.active self.new.active) }
+        ensures prepared { self.new.prepared ≡ self.old.prepared }
+        ensures err { OnErr result (self.new ≡ self.old) }
+    {
+        let uses = uses_with(self.alloc, self.active.as_slice(), tx, asked)?;
+        lock(&mut self.locks, self.alloc, tx, asked)?;
+        change::hold(self.active.as_mut_slice(), tx, uses);
+        Ok(())
+    }
+
+    /// A member that isn't prepared holds the uses that are asked for too, and its next statement is in the pool.
+    /// Where memory runs out nothing changes.
+    pub fn post(&mut self, tx: Tx, asked: &[Use]) -> Result<(), AllocError>
+        requires { IsSome (found self.old.active tx) }
+        ensures ok { OnOk result (Changes (posting asked.now) tx self.old.active self.new.active) }
+        ensures prepared { self.new.prepared ≡ self.old.prepared }
+        ensures err { OnErr result (self.new ≡ self.old) }
+    {
+        let uses = uses_with(self.alloc, self.active.as_slice(), tx, asked)?;
+        lock(&mut self.locks, self.alloc, tx, asked)?;
+        change::post(self.active.as_mut_slice(), tx, uses);
+        Ok(())
+    }
+
+    /// A member that isn't prepared takes the answer of its statement, and is at the next one. Where memory runs out
+    /// nothing changes.
+    pub fn step(&mut self, tx: Tx, answer: Answer) -> Result<(), AllocError>
+        requires { IsSome (found self.old.active tx) }
+        ensures ok { OnOk result (Changes (stepped answer) tx self.old.active self.new.active) }
+        ensures prepared { self.new.prepared ≡ self.old.prepared }
+        ensures err { OnErr result (self.new ≡ self.old) }
+    {
+        change::step(self.active.as_mut_slice(), tx, answer)
+    }
+
+    /// A member that isn't prepared takes the answer of its statement, which binds host variables, and is at the next
+    /// one. Where memory runs out nothing changes.
+    pub fn step_bound(
+        &mut self,
+        tx: Tx,
+        answer: Answer,
+        bound: Vec<(Name, Value)>,
+    ) -> Result<(), AllocError>
+        requires { IsSome (found self.old.active tx) }
+        ensures ok { OnOk result (Changes (stepping answer bound.items) tx self.old.active self.new.active) }
+        ensures prepared { self.new.prepared ≡ self.old.prepared }
+        ensures err { OnErr result (self.new ≡ self.old) }
+    {
+        change::step_bound(self.active.as_mut_slice(), tx, answer, bound)
+    }
+
+    /// A member is prepared, the last so far. Where memory runs out nothing changes.
+    pub fn prepare(&mut self, tx: Tx) -> Result<(), AllocError>
+        requires { IsSome (found self.old.active tx) }
+        ensures ok { OnOk result (Prepares tx self.old self.new) }
+        ensures err { OnErr result (self.new ≡ self.old) }
+    {
+        prepare(&mut self.prepared, &mut self.active, tx)
+    }
+
+    /// Whether every member of the group with a label is prepared.
+    fn is_ready(&self, group: Tx) -> bool
+        ensures { result ≡ not (list_any (is_of group) self.now.active) }
+    {
+        !any_of(self.active(), group)
+    }
+
+    fn join(&mut self, numbers: &[Tx])
+        ensures { JoinGroups (labels_in numbers.now (self.old.prepared ++ self.old.active)) self.old self.new }
+    {
+        let (prepared, active) = (self.prepared.as_slice(), self.active.as_slice());
+        let Some(label) = merge_answered(&mut self.groups, prepared, active, numbers) else {
+            return;
+        };
+        let group = members_of(&self.groups, label);
+        set_labels(&mut self.prepared, &group, label);
+        set_labels(&mut self.active, &group, label);
+    }
+
+    fn answer_active(&mut self, given: Vec<MemberAnswer>) -> Result<(), AllocError>
+        requires { IsDistinct nat_eq (map answer_tx given.items) }
+        ensures ok { OnOk result (self.new.active ≡ map (answered_from given.items) self.old.active) }
+        ensures prepared { self.new.prepared ≡ self.old.prepared }
+        ensures err { OnErr result (self.new ≡ self.old) }
+    {
+        let mut given = given;
+        answer_each(self.active.as_mut_slice(), &mut given)
+    }
+
+    /// Members that aren't prepared take a joint answer together: each its own answer and what that binds, and their
+    /// groups become one. Where memory runs out nothing changes.
+    pub fn answer(&mut self, given: Vec<MemberAnswer>) -> Result<(), AllocError>
+        requires { IsDistinct nat_eq (map answer_tx given.items) }
+        ensures ok { OnOk result (AnswerTogether given.items self.old self.new) }
+        ensures joining { OnOk result ((s : State) (asked : List Posted) (groundings : List Valuation)
+            → given.items ≡ member_answers asked groundings → length groundings ≡ length asked
+            → IsJoining (with_run self.old s) asked groundings self.new) }
+        ensures err { OnErr result (self.new ≡ self.old) }
+    {
+        let numbers = numbers_of(self.alloc, given.as_slice())?;
+        self.answer_active(given)?;
+        self.join(numbers.as_slice());
+        Ok(())
+    }
+
+    /// The group with a label commits, if every member of it is prepared: its members leave the run, in the order in
+    /// which they prepared, and come in the room that is made for them. If one isn't prepared, there is None, and
+    /// nothing changes. It takes no memory.
+    pub fn commit(&mut self, group: Tx, room: Vec<Member>) -> Option<Vec<Member>>
+        requires empty { room.items ≡ [] }
+        requires room { MOST_MEMBERS ≤ vec_capacity room }
+        ensures ready { IsSome result → (s : State) → is_ready (with_run self.old s) group ≡ true }
+        ensures committed { (s : State) → IfSome result (λ committed.
+            committed.items ≡ committing_members (with_run self.old s) group) }
+        ensures bound { IfSome result (λ committed. length committed.items ≤ MOST_MEMBERS) }
+        ensures prepared { IsSome result → self.new.prepared ≡ filter (is_of_another group) self.old.prepared }
+        ensures active { IsSome result → self.new.active ≡ self.old.active }
+        ensures none { IsNone result → (s : State) → is_ready (with_run self.old s) group ≡ false }
+        ensures same { IsNone result → self.new ≡ self.old }
+    {
+        if !self.is_ready(group) {
+            return None;
+        }
+        let mut committed = room;
+        take_group(&mut self.prepared, group, &mut committed);
+        self.locks.drop_group(&member_numbers(committed.as_slice()));
+        remove_labelled(&mut self.groups, group);
+        Some(committed)
+    }
+
+    /// The members of the group with a label leave the run, or all, if none is named. Tells who left, by number. It
+    /// takes no memory.
+    pub fn remove(&mut self, group: Option<Tx>) -> RunAttempts
+        ensures group { (s : State) → IfSome group (λ label.
+            result ≡ map run_attempt_of (group_members (with_run self.old s) label)) }
+        ensures all { (s : State) → IsNone group →
+            result ≡ map run_attempt_of (by_number tx_of (members (with_run self.old s))) }
+        ensures prepared { self.new.prepared ≡ filter (is_not_of (numbers_in result)) self.old.prepared }
+        ensures active { self.new.active ≡ filter (is_not_of (numbers_in result)) self.old.active }
+        ensures leave { (gone : List Seen) → numbers_in result ≡ map tx_of gone → Leave gone self.old self.new }
+    {
+        let run_attempts = self.run_attempts(group);
+        let numbers = run_attempts.numbers();
+        remove(&mut self.prepared, &numbers);
+        remove(&mut self.active, &numbers);
+        self.locks.drop_group(&numbers);
+        leave(&mut self.groups, group);
+        run_attempts
+    }
+}
