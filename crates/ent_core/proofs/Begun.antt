@@ -3,7 +3,7 @@ use Rattle.std.proofs.Common.{◌≡◌, ◌||◌, ℕ, Bool, true, false, List,
 use Rattle.std.proofs.Common.{inl, inr, ◌≤◌, ◌<◌, length, map, nat_eq}
 use Rattle.std.proofs.Common.{Option, Some, None, cond, if◌then◌else◌, arith, suc}
 use Rattle.std.specs.List.{AllByRecursion, IsDistinct, filter}
-use Rattle.std.specs.Prelude.{IsSome, Contains, is_some}
+use Rattle.std.specs.Prelude.{IsSome, Contains, is_some, slice_index_or}
 use Rattle.std.proofs.lemmas.Bool.Decides.{nat_tests}
 use Rattle.ent_value.specs.declared.value.Value.{Value}
 use Rattle.ent_closed.specs.declared.entangled.Entangled.{Entangled}
@@ -24,6 +24,7 @@ use Rattle.ent_protocol.specs.State.{State, Dormant, Member, first_of}
 use Rattle.ent_protocol.specs.Uses.{blocker, entangled_uses, statement_uses}
 use Rattle.ent_protocol.specs.Waits.{next_uses}
 use Rattle.ent_tree.specs.declared.declaration.Opening.{Opening}
+use Rattle.ent_run.specs.Places.{IsAt, found}
 use Rattle.ent_run.specs.Run.{Run}
 use Rattle.ent_protocol.specs.State.{Submitted}
 use Rattle.ent_transaction_table.specs.TransactionTable.{TransactionTable}
@@ -65,6 +66,20 @@ member_found tx (x ∷ xs) member there = by (is_tx tx x) (λ rest. member_found
         → first_of (cond b (x ∷ filter (is_tx tx) xs) (filter (is_tx tx) xs)) ≡ Some member → Contains (x ∷ xs) member
     by true rest e = let same : x ≡ member = cc in (0, omega arith, same)
     by false rest e = let r = rest e in (suc r.0, omega (arith, r.1), r.2)
+
+-- somebody stands at a place
+pub found_at : (members : List Member) (tx place : ℕ) → IsAt members tx place
+    → (member : Member) × (found members tx ≡ Some member)
+found_at [] tx place at = absurd (omega (arith, at.in_range))
+found_at (x ∷ xs) tx place at = (slice_index_or (x ∷ xs) place x, at.first x)
+
+-- who stands at the place of a number is the member of the number
+pub stands_at : (s : State) (members : List Member) (tx place : ℕ) (member : Member) → members ≡ s.active
+    → IsAt s.active tx place → ((d : Member) → member ≡ slice_index_or members place d)
+    → active_member s tx ≡ Some member
+stands_at s members tx place member same at is =
+    at.first member
+    ∙ ap (λ (m : Member). Some m) (sym (is member ∙ ap (λ (ms : List Member). slice_index_or ms place member) same))
 
 pub or_first : (a b : Bool) → (a || b) ≡ false → a ≡ false
 or_first true b e = e

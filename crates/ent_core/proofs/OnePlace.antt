@@ -45,6 +45,15 @@ nobody_there {A} number tx (x ∷ xs) low = by (number x == tx) low (nobody_ther
     by true low rest = absurd (omega (arith, low))
     by false low rest = rest low
 
+none_there : (tx : ℕ) (ms : List Member) → times tx (map tx_of ms) ≤ 0 → list_any (is_tx tx) ms ≡ false
+none_there tx [] low = refl
+none_there tx (m ∷ ms) low = by (is_tx tx m) low (none_there tx ms)
+  where
+    by : (b : Bool) → one_if b (times tx (map tx_of ms)) ≤ 0
+        → (times tx (map tx_of ms) ≤ 0 → list_any (is_tx tx) ms ≡ false) → (b || list_any (is_tx tx) ms) ≡ false
+    by true low rest = absurd (omega (arith, low))
+    by false low rest = rest low
+
 module _ (s : State) (tx : ℕ) (stand : StandOnce s) where
   abbrev of_dormant : Dormant → ℕ
   of_dormant own = own.tx
@@ -96,3 +105,10 @@ module _ (s : State) (tx : ℕ) (stand : StandOnce s) where
       let here = number_there tx_of tx s.active member there in
       let all = counted in
       nobody_there of_dormant tx s.dormant (omega (arith, here, all))
+
+  pub active_is_not_prepared : (member : Member) → Some member ≡ first_of (filter (is_tx tx) s.active)
+      → list_any (is_tx tx) s.prepared ≡ false
+  active_is_not_prepared member there =
+      let here = number_there tx_of tx s.active member there in
+      let all = counted in
+      none_there tx s.prepared (omega (arith, here, all))

@@ -1,14 +1,15 @@
 -- Where a transaction stands: as a member, else as it is dormant, else by its fate.
 use Rattle.std.proofs.Common.{◌≡◌, ℕ, ◌==◌, Bool, true, false, cond, ◌||◌, List, [], ◌∷◌, ◌++◌, map, refl, sym, ap, ◌∙◌}
-use Rattle.std.proofs.Common.{Some, None}
+use Rattle.std.proofs.Common.{Some, None, if◌then◌else◌}
 use Rattle.std.specs.List.{filter, list_any}
 use Rattle.ent_semantics.specs.declared.book.Fated.{Fated}
-use Rattle.ent_protocol.specs.Lookup.{Standing, active_standing, standing}
+use Rattle.ent_protocol.specs.Lookup.{Standing, Turn, active_standing, standing, turn_of}
 use Rattle.ent_protocol.specs.Lookup as lookups
-use Rattle.ent_protocol.specs.Member.{is_tx}
+use Rattle.ent_protocol.specs.Member.{active_member, is_lent, is_tx, next_of}
 use Rattle.ent_protocol.specs.State.{State, Dormant, Member, first_of}
 use Rattle.ent_protocol_laws.specs.Standing.{StandOnce}
-use Rattle.ent_core.proofs.OnePlace.{active_has_no_fate, active_is_not_dormant, fated_not_dormant}
+use Rattle.ent_waits.specs.Free.{IsIdle}
+use Rattle.ent_core.proofs.OnePlace.{active_has_no_fate, active_is_not_dormant, active_is_not_prepared, fated_not_dormant}
 use Rattle.ent_core.proofs.OnePlace.{prepared_has_no_fate, prepared_is_not_dormant}
 
 pub nobody : {A : Type 0} (xs : List A) → None ≡ first_of xs → xs ≡ []
@@ -103,3 +104,18 @@ module _ (s : State) (tx : ℕ) where
   stands_nowhere no_fate not_dormant not_prepared not_active =
       (λ i. first_of (map (active_standing s) (sym (nobody (filter (is_tx tx) s.active) not_active) i)))
       ∙ unprepared not_prepared ∙ neither (nobody fated no_fate) (nobody waiting not_dormant)
+
+  -- who isn't prepared and is at its turn is ready
+  pub stands_ready : StandOnce s → (member : Member) → active_member s tx ≡ Some member → IsIdle s member
+      → (turn : Turn) × (standing s tx ≡ Some (lookups.Ready turn))
+  stands_ready stand member there idle =
+      let turn = turn_of (next_of s member) in
+      let free = active_is_not_prepared s tx stand member (sym there) in
+      let is = ready member.posted (is_lent s member.tx) (lookups.Ready turn) idle in
+      (turn, sym (stands_active stand free member (sym there)) ∙ ap (λ (x : Standing). Some x) is)
+    where
+      ready : (posted out : Bool) (other : Standing) → (posted || out) ≡ false
+          → (if posted then lookups.Posted else (if out then lookups.Out else other)) ≡ other
+      ready true out other off = absurd cc
+      ready false true other off = absurd cc
+      ready false false other off = refl

@@ -9,9 +9,11 @@ use Rattle.ent_protocol.specs.Job.{Job, Joint, One, Work}
 use Rattle.ent_protocol.specs.Member.{Asks, Next, active_member, next_of, posted_as}
 use Rattle.ent_protocol.specs.State.{State, Member, Use}
 use Rattle.ent_protocol.specs.Uses.{blocker, entangled_uses, statement_uses}
+use Rattle.ent_run.specs.Places.{IsAt}
 use Rattle.ent_waits.specs.Free.{IsFree, IsIdle}
 use Rattle.ent_core.specs.declared.begin.BeginRefusal.{BeginRefusal}
 use Rattle.ent_core.specs.declared.begin.BeginRefusal.TheVariants as refusals
+use Rattle.ent_core.specs.declared.begin.FreeMember.{FreeMember}
 
 -- no member of a number that isn't prepared has posted
 abbrev pub IsUnposted : State → ℕ → Type 0
@@ -23,10 +25,10 @@ pub record MayBegin (s : State) (tx : ℕ) (member : Member) (next : Next) : Typ
   pub idle : IsIdle s member
   pub is_next : next_of s member ≡ next
 
--- the member of a number, and that it is free
-pub record IsFreeMember (s : State) (tx : ℕ) (member : Member) : Type 0 where
-  pub there : active_member s tx ≡ Some member
-  pub free : IsFree s member
+-- the member of a number stands at a place of those that aren't prepared, and is free
+pub record IsFreeMember (s : State) (found : FreeMember) : Type 0 where
+  pub at : IsAt s.active found.tx found.place
+  pub free : (member : Member) → active_member s found.tx ≡ Some member → IsFree s member
 
 -- what is replied to a member that may not begin
 abbrev pub begin_refusal_seen : BeginRefusal → Reply FormFault

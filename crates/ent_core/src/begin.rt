@@ -1,5 +1,5 @@
 //! A member begins its next statement.
-ghost use Rattle.std.specs.Prelude.{◌≡◌, ℕ, Some, None, true, IfErr, IfOk, IsOk, OnErr, IsSome};
+ghost use Rattle.std.specs.Prelude.{◌≡◌, ℕ, Some, None, true, IfErr, IfOk, IsOk, OnErr, OnOk};
 ghost use Rattle.std.specs.Arc.{arc_value};
 ghost use Rattle.ent_coordination.specs.Pool.{Unsafe as UnsafePost};
 ghost use Rattle.ent_core.specs.Begin.{IsFreeMember, IsToLend, IsToPost, IsUnposted, LendsTo, MayBegin};
@@ -8,7 +8,7 @@ ghost use Rattle.ent_core.specs.Kept.{IsKeptState};
 ghost use Rattle.ent_core.specs.Reply.{reply_seen};
 ghost use Rattle.ent_form.specs.declared.fault.FormFault.{FormFault as Form};
 ghost use Rattle.ent_match.specs.declared.fault.PostFault.TheVariants as post_faults;
-ghost use Rattle.ent_run.specs.Places.{found};
+ghost use Rattle.ent_run.specs.Places.{IsAt};
 ghost use Rattle.ent_next.specs.Next.{next_seen};
 ghost use Rattle.ent_protocol.specs.Member.{Ordinary, RollsBack, active_member, next_of, posted_as};
 ghost use Rattle.ent_protocol.specs.Begin.{Begins};
@@ -16,6 +16,7 @@ ghost use Rattle.ent_protocol.specs.Event as replies;
 ghost use Rattle.ent_protocol.specs.State.{Member};
 ghost use Rattle.ent_protocol.specs.Uses.{blocker, statement_uses};
 ghost use Rattle.ent_protocol.specs.Waits.{next_uses};
+ghost use Rattle.ent_waits.specs.Free.{IsFree, IsIdle};
 
 use crate::commit::commit;
 use crate::reply::Reply;
@@ -40,8 +41,8 @@ use std::alloc::AllocError;
 use std::sync::Arc;
 
 /// Why a member may not begin what comes next.
-#[derive(Clone, Copy)]
-pub(crate) enum BeginRefusal {
+#[derive(Clone, Copy, Debug, PartialEq, Eq)]
+pub enum BeginRefusal {
     /// No such member of the run.
     Absent,
     /// It is prepared, or its statement is in the pool, or the result of its job is awaited.
@@ -51,7 +52,8 @@ pub(crate) enum BeginRefusal {
 }
 
 impl BeginRefusal {
-    fn reply(self) -> Reply
+    /// What is replied to a begin that is refused so.
+    pub fn reply(self) -> Reply
         ensures { reply_seen result ≡ begin_refusal_seen self }
     {
         match self {
@@ -59,6 +61,32 @@ impl BeginRefusal {
             BeginRefusal::NotNow => Reply::NotNow,
             BeginRefusal::Blocked(holder) => Reply::Blocked(holder),
         }
+    }
+}
+
+/// A member that nothing keeps from what comes next, as [`Core::free_member`](crate::Core::free_member) found it: its
+/// number, and its place among those that aren't prepared. It is of the state in which it was found.
+#[derive(Clone, Copy)]
+pub struct FreeMember {
+    tx: Tx,
+    place: usize,
+}
+
+impl FreeMember {
+    pub fn tx(self) -> Tx
+        ensures { result ≡ self.tx }
+    {
+        self.tx
+    }
+
+    /// The member itself.
+    pub(crate) fn member(self, store: &Store) -> &Member
+        requires { IsFreeMember store.now self }
+        ensures there { active_member store.now self.tx ≡ Some result.now }
+        ensures number { result.now.tx ≡ self.tx }
+        ensures free { IsFree store.now result.now }
+    {
+        store.run.at(self.place)
     }
 }
 
@@ -105,41 +133,38 @@ fn blocker_of(store: &Store, member: &Member) -> Option<Tx>
     ent_waits::blocker_of(&store.run, store.submitted.as_slice(), member)
 }
 
-/// The member of a number, where it is at its turn.
-fn member_at_turn(store: &Store, tx: Tx) -> Result<&Member, BeginRefusal>
-    ensures number { IfOk result (λ member. member.now.tx ≡ tx) }
-    ensures free { IfOk result (λ member. MayBegin store.now tx member.now (next_of store.now member.now)) }
+/// The place of the member of a number, where it is at its turn.
+fn place_at_turn(store: &Store, tx: Tx) -> Result<usize, BeginRefusal>
+    ensures at { IfOk result (IsAt store.now.active tx) }
+    ensures idle { OnOk result ((member : Member) → active_member store.now tx ≡ Some member
+        → IsIdle store.now member) }
     ensures refused { IfErr result (λ refusal. Begins store.now tx (begin_refusal_seen refusal) store.now) }
 {
-    match store.run.active_member(tx) {
-        Some(member) => {
-            if member.is_posted() {
-                return Err(BeginRefusal::NotNow);
-            }
-            if store.lent.is_lent(tx) {
-                return Err(BeginRefusal::NotNow);
-            }
-            Ok(member)
+    let Some(place) = store.run.active_place(tx) else {
+        if store.run.is_prepared(tx) {
+            return Err(BeginRefusal::NotNow);
         }
-        None => {
-            if store.run.is_prepared(tx) {
-                return Err(BeginRefusal::NotNow);
-            }
-            Err(BeginRefusal::Absent)
-        }
+        return Err(BeginRefusal::Absent);
+    };
+    if store.run.at(place).is_posted() {
+        return Err(BeginRefusal::NotNow);
     }
+    if store.lent.is_lent(tx) {
+        return Err(BeginRefusal::NotNow);
+    }
+    Ok(place)
 }
 
 /// The member of a number, where nothing keeps it from what comes next.
-pub(crate) fn free_member(store: &Store, tx: Tx) -> Result<&Member, BeginRefusal>
-    ensures number { IfOk result (λ member. member.now.tx ≡ tx) }
-    ensures free { IfOk result (λ member. IsFreeMember store.now tx member.now) }
+pub(crate) fn free_member(store: &Store, tx: Tx) -> Result<FreeMember, BeginRefusal>
+    ensures number { IfOk result (λ found. found.tx ≡ tx) }
+    ensures free { IfOk result (IsFreeMember store.now) }
     ensures refused { IfErr result (λ refusal. Begins store.now tx (begin_refusal_seen refusal) store.now) }
 {
-    let member = member_at_turn(store, tx)?;
-    match blocker_of(store, member) {
+    let place = place_at_turn(store, tx)?;
+    match blocker_of(store, store.run.at(place)) {
         Some(holder) => Err(BeginRefusal::Blocked(holder)),
-        None => Ok(member),
+        None => Ok(FreeMember { tx, place }),
     }
 }
 
@@ -164,11 +189,11 @@ fn job_uses(job: &Job) -> Uses
 }
 
 /// A job is lent, and the member holds the uses of its statement. Where memory runs out nothing changes.
-fn lend(store: &mut Store, tx: Tx, job: Job) -> Result<Reply, AllocError>
-    requires there { IsSome (found store.old.active tx) }
-    requires unposted { IsUnposted store.old tx }
+fn lend(store: &mut Store, found: FreeMember, job: Job) -> Result<Reply, AllocError>
+    requires at { IsAt store.old.active found.tx found.place }
+    requires unposted { IsUnposted store.old found.tx }
     ensures reply { IfOk result (λ reply. reply_seen reply ≡ replies.Lent job) }
-    ensures ok { IfOk result (λ reply. LendsTo tx job store.old store.new) }
+    ensures ok { IfOk result (λ reply. LendsTo found.tx job store.old store.new) }
     ensures err { OnErr result (store.new ≡ store.old) }
 {
     let uses = job_uses(&job);
@@ -183,7 +208,7 @@ fn lend(store: &mut Store, tx: Tx, job: Job) -> Result<Reply, AllocError>
         drop(copy);
         return Err(fault);
     }
-    match store.run.hold(tx, uses.as_slice()) {
+    match store.run.hold_at(found.place, uses.as_slice()) {
         Ok(()) => Ok(Reply::Lent(copy)),
         Err(fault) => {
             drop(copy);
@@ -204,10 +229,11 @@ fn held_back(why: PostFault) -> Result<Reply, AllocError>
 }
 
 /// A statement is posted, and the member holds its uses; or it is held back. Where memory runs out nothing changes.
-fn post(store: &mut Store, tx: Tx, query: Posted) -> Result<Reply, AllocError>
+fn post(store: &mut Store, found: FreeMember, query: Posted) -> Result<Reply, AllocError>
     requires kept { IsKeptState store.old }
-    requires asks { IsToPost store.old tx query }
-    ensures ok { IfOk result (λ reply. Begins store.old tx (reply_seen reply) store.new) }
+    requires at { IsAt store.old.active found.tx found.place }
+    requires asks { IsToPost store.old found.tx query }
+    ensures ok { IfOk result (λ reply. Begins store.old found.tx (reply_seen reply) store.new) }
     ensures err { OnErr result (store.new ≡ store.old) }
 {
     same_statements_are_alike();
@@ -217,8 +243,8 @@ fn post(store: &mut Store, tx: Tx, query: Posted) -> Result<Reply, AllocError>
         drop(query);
         return held_back(why);
     }
-    if let Err(fault) = store.run.post(tx, uses.as_slice()) {
-        store.pool.withdraw(tx);
+    if let Err(fault) = store.run.post_at(found.place, uses.as_slice()) {
+        store.pool.withdraw(found.tx);
         return Err(fault);
     }
     Ok(Reply::Posted)
@@ -233,29 +259,41 @@ pub(crate) fn begin(store: &mut Store, tx: Tx) -> Result<Reply, AllocError>
     ensures rolls_back { (member : Member) → active_member store.old tx ≡ Some member
         → next_of store.old member ≡ RollsBack → IsOk result }
 {
+    match free_member(store, tx) {
+        Ok(found) => begin_free(store, found),
+        Err(refusal) => Ok(refusal.reply()),
+    }
+}
+
+/// The same of a member that is free.
+pub(crate) fn begin_free(store: &mut Store, found: FreeMember) -> Result<Reply, AllocError>
+    requires kept { IsKeptState store.old }
+    requires free { IsFreeMember store.old found }
+    ensures ok { IfOk result (λ reply. Begins store.old found.tx (reply_seen reply) store.new) }
+    ensures err { OnErr result (store.new ≡ store.old) }
+    ensures rolls_back { (member : Member) → active_member store.old found.tx ≡ Some member
+        → next_of store.old member ≡ RollsBack → IsOk result }
+{
     // Laws: there is room for those who leave, each stands once, and each asked for the run that it leaves.
     members_stand_by_number::<FormFault>();
     transactions_are_counted::<FormFault>();
     attempts_stay_within::<FormFault>();
     transactions_stand_once::<FormFault>();
     store.asks_for_runs();
-    let member = match free_member(store, tx) {
-        Ok(member) => member,
-        Err(refusal) => return Ok(refusal.reply()),
-    };
+    let member = found.member(store);
     match next_of(store, member)? {
         Next::Ordinary(statement) => {
             let job = job_of(store, member, statement)?;
-            lend(store, tx, job)
+            lend(store, found, job)
         }
         Next::Asks(statement) => {
             let query = query_of(member, statement);
-            post(store, tx, query)
+            post(store, found, query)
         }
-        Next::Commits => commit(store, tx),
+        Next::Commits => commit(store, found.tx),
         Next::RollsBack => {
             let group = member.group();
-            Ok(Reply::RolledBack(roll_back(store, group, Cause::Asked(tx))))
+            Ok(Reply::RolledBack(roll_back(store, group, Cause::Asked(found.tx))))
         }
     }
 }

@@ -32,6 +32,7 @@ mod store;
 mod submit;
 mod take_out;
 
+pub use begin::{BeginRefusal, FreeMember};
 pub use closing::{NotClosed, NotDone};
 pub use copies::answers_copy;
 pub use ent_waits::Reason;

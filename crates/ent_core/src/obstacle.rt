@@ -9,7 +9,7 @@ ghost use Rattle.ent_protocol.specs.Waits.{next_uses};
 ghost use Rattle.ent_match.specs.Place.{HasNoneOf};
 ghost use Rattle.ent_core.specs.Obstacle.{AreBetween, IsBetween, IsHeldBack, IsObstacle, IsOf, StandsSo};
 
-use crate::begin::{BeginRefusal, free_member, next_of, query_of};
+use crate::begin::{BeginRefusal, FreeMember, free_member, next_of, query_of};
 use crate::store::Store;
 use ent_components::post_fault;
 use ent_form::FormFault;
@@ -64,12 +64,13 @@ fn place_of(store: &Store, tx: Tx) -> Obstacle
 }
 
 /// The unsafe post for which a member's statement is held back that nobody blocks.
-fn held_back(store: &Store, member: &Member) -> Result<Option<Unsafe>, AllocError>
+fn held_back(store: &Store, found: FreeMember) -> Result<Option<Unsafe>, AllocError>
     requires kept { IsKeptState store.now }
-    requires free { IsFreeMember store.now member.now.tx member.now }
-    ensures { IfOk result (IsHeldBack store.now member.now.tx) }
+    requires free { IsFreeMember store.now found }
+    ensures { IfOk result (IsHeldBack store.now found.tx) }
 {
     members_stand_by_number::<FormFault>();
+    let member = found.member(store);
     match next_of(store, member)? {
         Next::Ordinary(statement) => {
             drop(statement);
@@ -93,7 +94,7 @@ pub(crate) fn obstacle_of(store: &Store, tx: Tx) -> Result<Option<Obstacle>, All
         Err(BeginRefusal::Absent) => Ok(Some(Obstacle::Absent)),
         Err(BeginRefusal::NotNow) => Ok(Some(place_of(store, tx))),
         Err(BeginRefusal::Blocked(holder)) => Ok(Some(Obstacle::Blocked(holder))),
-        Ok(member) => match held_back(store, member)? {
+        Ok(found) => match held_back(store, found)? {
             Some(fault) => Ok(Some(Obstacle::HeldBack(fault))),
             None => Ok(None),
         },

@@ -4,6 +4,7 @@ ghost use Rattle.std.specs.Prelude.{◌∷◌, [], length};
 ghost use Rattle.std.specs.List.{AllByRecursion};
 ghost use Rattle.std.specs.Option.{option_copied, option_map};
 ghost use Rattle.ent_book.specs.Tables.{book_seen};
+ghost use Rattle.ent_core.specs.Begin.{IsFreeMember, begin_refusal_seen};
 ghost use Rattle.ent_core.specs.Kinds.{kinds_of_table};
 ghost use Rattle.ent_core.specs.Reply.{reply_seen};
 ghost use Rattle.ent_core.specs.Standing.{standing_seen};
@@ -16,7 +17,7 @@ ghost use Rattle.ent_protocol.specs.Job as jobs;
 ghost use Rattle.ent_protocol.specs.PoolEvents.{IsOutstandingJoint};
 ghost use Rattle.ent_semantics.specs.declared.answer.Failure.{Failure};
 ghost use Rattle.ent_protocol.specs.Lookup.{answers_of, dormant_at, entry_at, group_of, present_rows};
-ghost use Rattle.ent_protocol.specs.Lookup.{running_members, standing};
+ghost use Rattle.ent_protocol.specs.Lookup.{Ready, Turn, running_members, standing};
 ghost use Rattle.ent_protocol.specs.Reached.{CanClose, IsFinishedBook, IsReached, book_of, opened, scripts_of};
 ghost use Rattle.ent_protocol.specs.Step.{Step};
 ghost use Rattle.ent_headline.specs.Resolved.{resolved_forms};
@@ -29,7 +30,7 @@ ghost use Rattle.ent_match.specs.Place.{HasNoneOf};
 ghost use Rattle.ent_core.specs.Obstacle.{IsBetween, IsObstacle, IsOf};
 ghost use Rattle.ent_core.specs.declared.closing.NotDone.{NotDone};
 
-use crate::begin::{begin, is_blocked};
+use crate::begin::{BeginRefusal, FreeMember, begin, begin_free, free_member, is_blocked};
 use crate::break_cycle::break_cycle;
 use crate::closing::{NotClosed, NotDone, book, book_parts, can_close};
 use crate::end_run::end_run;
@@ -53,7 +54,7 @@ use ent_headline::resolved_runs_are_legal;
 use ent_match::Posted;
 use ent_members::{Conflict, Entrant};
 use ent_protocol::{closing_gives_the_book, reached_states_are_tidy};
-use ent_protocol_laws::steps_go_on;
+use ent_protocol_laws::{steps_go_on, transactions_stand_once};
 use ent_rel::Table;
 use ent_semantics::{Answer, Book, Entry};
 use ent_tree::{Opening, Script};
@@ -138,6 +139,34 @@ impl Core {
         resolved_runs_are_legal();
         steps_go_on::<FormFault>();
         begin(&mut self.store, tx)
+    }
+
+    /// The member of a number, where nothing keeps it from what comes next; or why a begin of it is refused, which
+    /// changes nothing. No reply is made.
+    pub fn free_member(&self, tx: Tx) -> Result<FreeMember, BeginRefusal>
+        ensures number { IfOk result (λ found. found.tx ≡ tx) }
+        ensures free { IfOk result (IsFreeMember self.now) }
+        ensures ready { IfOk result (λ found. (turn : Turn) × (standing self.now found.tx ≡ Some (Ready turn))) }
+        ensures refused { IfErr result (λ refusal.
+            Step resolved_forms self.now (Begin tx) (begin_refusal_seen refusal) self.now) }
+    {
+        transactions_stand_once::<FormFault>();
+        free_member(&self.store, tx)
+    }
+
+    /// What [`Core::begin`] does, for a caller who has found the member free, and made no event since. Neither the
+    /// member nor who blocks it is looked up again.
+    pub fn begin_free(&mut self, found: FreeMember) -> Result<Reply, AllocError>
+        requires { IsFreeMember self.old found }
+        ensures ok { IfOk result (λ reply. Step resolved_forms self.old (Begin found.tx) (reply_seen reply) self.new) }
+        ensures err { OnErr result (self.new ≡ self.old) }
+        ensures rolls_back { (member : Member) → active_member self.old found.tx ≡ Some member
+            → next_of self.old member ≡ RollsBack → IsOk result }
+        ensures legal { IsLegal (book_of self.new) }
+    {
+        resolved_runs_are_legal();
+        steps_go_on::<FormFault>();
+        begin_free(&mut self.store, found)
     }
 
     /// Whether another member blocks the next statement of the member of a number, so that a begin of it is

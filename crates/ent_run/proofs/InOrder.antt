@@ -12,7 +12,7 @@ use Rattle.std.proofs.lemmas.List.Sorted.{searchable_from_sorted}
 use Rattle.ent_protocol.specs.Member.{is_tx}
 use Rattle.ent_protocol.specs.State.{Member, first_of}
 use Rattle.ent_members.specs.Order.{IsAscending, tx_of}
-use Rattle.ent_run.specs.Places.{found}
+use Rattle.ent_run.specs.Places.{IsAt, found}
 use Rattle.ent_run.proofs.Ascending.{eq_below}
 use Rattle.ent_run.proofs.OneMember.{all_at, eq_same}
 
@@ -118,3 +118,9 @@ found_between xs tx i ascending parted = found_nowhere xs tx (λ k d lt. on_a_si
         → ((get_or xs k d).tx == tx) ≡ false
     on_a_side k d lt true is = not_less (get_or xs k d).tx tx (sides.0 k d (omega arith) (below k is))
     on_a_side k d lt false is = not_greater (get_or xs k d).tx tx (sides.1 k d (beyond k is) lt)
+
+-- the member at an index stands there, as the first of its number
+pub at_own : (xs : List Member) (i : ℕ) (member : Member) → IsAscending (map tx_of xs) → i < length xs
+    → ((d : Member) → member ≡ get_or xs i d) → IsAt xs member.tx i
+at_own xs i member ascending lt is =
+    record { in_range = lt; first = λ d. found_here xs i member.tx d ascending lt (sym (ap tx_of (is d))) }

@@ -1,7 +1,7 @@
 -- Changes of a run's members, with their locks and their groups.
-use Rattle.std.proofs.Common.{◌≡◌, ℕ, ◌≤◌, Bool, true, false, not, ◌==◌, ◌||◌, if◌then◌else◌, nat_eq, List, [], ◌∷◌, ◌++◌}
-use Rattle.std.proofs.Common.{map, length, refl, sym, ap, subst, ◌∙◌, true≢false}
-use Rattle.std.specs.Prelude.{Contains, Option, Some, None, IsSome, Result, Ok, Err, OnOk, OnErr, ◌↔◌, filter}
+use Rattle.std.proofs.Common.{◌≡◌, ℕ, ◌<◌, ◌≤◌, Bool, true, false, not, ◌==◌, ◌||◌, if◌then◌else◌, nat_eq, List, [], ◌∷◌, ◌++◌}
+use Rattle.std.proofs.Common.{map, length, get_or, refl, sym, ap, subst, ◌∙◌, true≢false}
+use Rattle.std.specs.Prelude.{Contains, Option, Some, None, IsSome, is_some, Result, Ok, Err, OnOk, OnErr, ◌↔◌, filter}
 use Rattle.std.specs.List.{IsDistinct, list_any}
 use Rattle.std.specs.List.Sorted.{IsStrictlyIncreasing}
 use Rattle.std.specs.Option.{option_map}
@@ -23,7 +23,7 @@ use Rattle.ent_run.specs.Grouped.{AreGrouped, IsRunWith, labelled, unless_gone}
 use Rattle.ent_run.specs.Joined.{JoinGroups, is_one_of, labels_in}
 use Rattle.ent_run.specs.Locks.{Locks}
 use Rattle.ent_run.specs.Moves.{is_not_of, is_of_another, run_of}
-use Rattle.ent_run.specs.Places.{Changes, found}
+use Rattle.ent_run.specs.Places.{Changes, IsAt, found}
 use Rattle.ent_members.specs.Order.{tx_of}
 use Rattle.ent_members.specs.RunAttempts.{is_within, numbers_in, run_attempts_in}
 use Rattle.ent_run.proofs.Answered.{answered_group, answered_tx}
@@ -32,14 +32,15 @@ use Rattle.ent_run.proofs.ByNumber.{ascending-by_number}
 use Rattle.ent_run.proofs.Distinct.{ascending_of, distinct_append, distinct_filter, same_ascending}
 use Rattle.ent_run.proofs.Grouped.{grouped_left, grouped_mapped, label_of, nobody_grouped, none_is_some, one_label}
 use Rattle.ent_run.proofs.Grouped.{regrouped, same_labels}
-use Rattle.ent_run.proofs.HeldUses.{into_by_number, out_of_by_number, run_held}
+use Rattle.ent_run.proofs.HeldUses.{holds_asked, into_by_number, out_of_by_number, run_held}
+use Rattle.ent_run.proofs.InOrder.{at_own}
 use Rattle.ent_run.proofs.Lists.{contains_first, contains_later, into_among, into_filter, into_map, out_of_among}
 use Rattle.ent_run.proofs.Lists.{out_of_filter, out_of_map}
 use Rattle.ent_run.proofs.Locked.{found_there, run_stepped, some_value}
 use Rattle.ent_run.proofs.LockedRuns.{nobody_runs, run_answered_or_not, run_left, run_left_by_group, run_locked_joined}
 use Rattle.ent_run.proofs.LockedRuns.{run_starts}
 use Rattle.ent_run.proofs.Merged.{grouped_joined, members_joined}
-use Rattle.ent_run.proofs.OneMember.{some_same}
+use Rattle.ent_run.proofs.OneMember.{found_at, some_same}
 
 -- ---- a run that starts
 
@@ -100,6 +101,29 @@ held_with change same holds labels locks next groups prepared old new asked uses
   run_held change same holds locks next prepared old new asked uses tx run.0 there are changed numbers more,
   grouped_changed groups prepared old new (change uses) tx (same uses) (labels uses) there changed run.1,
 )
+
+-- the same of the member at a place, which is of its own number
+module _ (change : List Use → Member → Member) (old new : List Member) (asked uses : List Use) (place : ℕ)
+    (member : Member) (is : (d : Member) → member ≡ get_or old place d) (are : uses ≡ with_uses asked member.uses) where
+  are_found : (tx : ℕ) → IsAt old tx place → (other : Member) → found old tx ≡ Some other
+      → uses ≡ with_uses asked other.uses
+  are_found tx at other there =
+      are ∙ ap (λ (m : Member). with_uses asked m.uses) (is member ∙ found_at old tx place member other at there)
+
+  pub held_at : ((us : List Use) (m : Member) → (change us m).tx ≡ m.tx)
+      → ((us : List Use) (m : Member) → (change us m).uses ≡ us)
+      → ((us : List Use) (m : Member) → (change us m).group ≡ m.group)
+      → (locks next : Uses) (groups : List Membership) (prepared : List Member) → IsRunWith locks groups prepared old
+      → place < length old → ((tx : ℕ) → IsAt old tx place → Changes (change uses) tx old new)
+      → map tx_of new ≡ map tx_of old → Locks member.tx asked locks next → IsRunWith next groups prepared new
+  held_at same holds labels locks next groups prepared run within changed numbers more =
+      let at = at_own old place member run.0.run.ascending within is in
+      held_with change same holds labels locks next groups prepared old new asked uses member.tx run
+      (ap is_some (at.first member)) (are_found member.tx at) (changed member.tx at) numbers more
+
+  pub changes_at : (tx : ℕ) → IsAt old tx place → Changes (change uses) tx old new
+      → Changes (λ m. change (with_uses asked m.uses) m) tx old new
+  changes_at tx at changed = holds_asked change asked uses tx old new (are_found tx at) changed
 
 pub stepped_with : {T E : Type 0} (r : Result T E) (locks : Uses) (groups : List Membership)
     (prepared old new : List Member) (change : Member → Member) → ((m : Member) → (change m).tx ≡ m.tx)

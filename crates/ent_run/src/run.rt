@@ -1,6 +1,6 @@
 //! The members of a run.
-ghost use Rattle.std.specs.Prelude.{◌≡◌, ℕ, ◌+◌, ◌≤◌, ◌==◌, ◌++◌, [], length, map, filter, nat_eq, not, true, false};
-ghost use Rattle.std.specs.Prelude.{List, IfOk, OnOk, OnErr, IfSome, IsSome, IsNone};
+ghost use Rattle.std.specs.Prelude.{◌≡◌, ℕ, ◌+◌, ◌<◌, ◌≤◌, ◌==◌, ◌++◌, [], length, map, filter, nat_eq, not, true};
+ghost use Rattle.std.specs.Prelude.{false, List, IfOk, OnOk, OnErr, None, IfSome, IsSome, IsNone, slice_index_or};
 ghost use Rattle.std.specs.List.{IsDistinct, list_any};
 ghost use Rattle.std.specs.Option.{option_copied};
 ghost use Rattle.std.specs.Vec.{vec_capacity};
@@ -22,25 +22,25 @@ ghost use Rattle.ent_run.specs.Joined.{JoinGroups, labels_in};
 ghost use Rattle.ent_members.specs.RunAttempts.{numbers_in, run_attempt_of, run_attempts_in};
 ghost use Rattle.ent_run.specs.Locks.{passed_numbers};
 ghost use Rattle.ent_run.specs.Moves.{Leave, Prepares, is_not_of, is_of_another};
-ghost use Rattle.ent_run.specs.Places.{Changes, found};
+ghost use Rattle.ent_run.specs.Places.{Changes, IsAt, found};
 ghost use Rattle.ent_members.specs.Order.{tx_of};
 ghost use Rattle.ent_run.specs.Run.{with_run};
 ghost use Rattle.ent_run.specs.Waits.{is_awaited};
 
 use crate::answer::{answer_each, numbers_of};
 use crate::blockers::{Passed, gather_passed, is_awaited_over, pass_itself};
-use crate::change::{self, uses_with};
+use crate::change;
 use crate::groups::{each_alone, leave, members_of, merge_answered, remove_labelled, set_labels};
 use crate::locks::{least_in_conflict, lock};
 use crate::moves::{any_of, prepare, remove, take_group};
-use crate::search::{is_among, member_by_number, member_in, member_numbers};
+use crate::search::{is_among, member_by_number, member_in, member_numbers, place_by_number};
 use crate::start::fresh_members;
 use ent_closed::Statement;
 use ent_group::{Groups, MOST_MEMBERS, Members, Tx};
 use ent_lock::LockTable;
 use ent_members::{
     Entrant, Member, MemberAnswer, RunAttempts, Use, exclusive_table, gather, gather_by_number,
-    statement_uses,
+    statement_uses, with_uses,
 };
 use ent_semantics::Answer;
 use ent_value::{Name, Value};
@@ -136,6 +136,22 @@ impl Run {
         member_by_number(self.active.as_slice(), tx)
     }
 
+    /// The place of the member of a number, among those that aren't prepared.
+    pub fn active_place(&self, tx: Tx) -> Option<usize>
+        ensures some { IfSome result (IsAt self.now.active tx) }
+        ensures none { IsNone result → (s : State) → active_member (with_run self.now s) tx ≡ None }
+    {
+        place_by_number(self.active.as_slice(), tx)
+    }
+
+    /// The member at a place of those that aren't prepared.
+    pub fn at(&self, place: usize) -> &Member
+        requires { place < length self.now.active }
+        ensures { (d : Seen) → result.now ≡ slice_index_or self.now.active place d }
+    {
+        &self.active.as_slice()[place]
+    }
+
     /// The member of a number, prepared or not.
     pub fn member(&self, tx: Tx) -> Option<&Member>
         ensures { (s : State) → option_copied result ≡ member_of (with_run self.now s) tx }
@@ -227,30 +243,37 @@ impl Run {
             )
     }
 
-    /// A member that isn't prepared holds the uses that are asked for too. Where memory runs out nothing changes.
-    pub fn hold(&mut self, tx: Tx, asked: &[Use]) -> Result<(), AllocError>
-        requires { IsSome (found self.old.active tx) }
-        ensures ok { OnOk result (Changes (λ member. holding member asked.now) tx self.old.active self.new.active) }
+    /// The member at a place of those that aren't prepared holds the uses that are asked for too. Where memory runs out
+    /// nothing changes.
+    pub fn hold_at(&mut self, place: usize, asked: &[Use]) -> Result<(), AllocError>
+        requires { place < length self.old.active }
+        ensures ok { (tx : ℕ) → IsAt self.old.active tx place
+            → OnOk result (Changes (λ member. holding member asked.now) tx self.old.active self.new.active) }
         ensures prepared { self.new.prepared ≡ self.old.prepared }
         ensures err { OnErr result (self.new ≡ self.old) }
     {
-        let uses = uses_with(self.alloc, self.active.as_slice(), tx, asked)?;
+        let member = self.at(place);
+        let tx = member.tx();
+        let uses = with_uses(self.alloc, member.uses(), asked)?;
         lock(&mut self.locks, self.alloc, tx, asked)?;
-        change::hold(self.active.as_mut_slice(), tx, uses);
+        change::hold(self.active.as_mut_slice(), place, uses);
         Ok(())
     }
 
-    /// A member that isn't prepared holds the uses that are asked for too, and its next statement is in the pool.
-    /// Where memory runs out nothing changes.
-    pub fn post(&mut self, tx: Tx, asked: &[Use]) -> Result<(), AllocError>
-        requires { IsSome (found self.old.active tx) }
-        ensures ok { OnOk result (Changes (posting asked.now) tx self.old.active self.new.active) }
+    /// The member at a place of those that aren't prepared holds the uses that are asked for too, and its next
+    /// statement is in the pool. Where memory runs out nothing changes.
+    pub fn post_at(&mut self, place: usize, asked: &[Use]) -> Result<(), AllocError>
+        requires { place < length self.old.active }
+        ensures ok { (tx : ℕ) → IsAt self.old.active tx place
+            → OnOk result (Changes (posting asked.now) tx self.old.active self.new.active) }
         ensures prepared { self.new.prepared ≡ self.old.prepared }
         ensures err { OnErr result (self.new ≡ self.old) }
     {
-        let uses = uses_with(self.alloc, self.active.as_slice(), tx, asked)?;
+        let member = self.at(place);
+        let tx = member.tx();
+        let uses = with_uses(self.alloc, member.uses(), asked)?;
         lock(&mut self.locks, self.alloc, tx, asked)?;
-        change::post(self.active.as_mut_slice(), tx, uses);
+        change::post(self.active.as_mut_slice(), place, uses);
         Ok(())
     }
 

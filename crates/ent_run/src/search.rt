@@ -22,14 +22,26 @@ pub(crate) fn member_in<'a>(members: &'a [Member], tx: Tx) -> Option<&'a Member>
     None
 }
 
+/// The index of the member of a number, in a list by number.
+pub(crate) fn place_by_number(members: &[Member], tx: Tx) -> Option<usize>
+    requires { IsAscending (map tx_of members.now) }
+    ensures some { IfSome result (IsAt members.now tx) }
+    ensures none { IsNone result → first_of (filter (is_tx tx) members.now) ≡ None }
+{
+    match members.binary_search_by_key(&tx, |member| member.tx()) {
+        Ok(at) => Some(at),
+        Err(_) => None,
+    }
+}
+
 /// The member of a number, in a list by number.
 pub(crate) fn member_by_number<'a>(members: &'a [Member], tx: Tx) -> Option<&'a Member>
     requires { IsAscending (map tx_of members.now) }
     ensures { option_copied result ≡ first_of (filter (is_tx tx) members.now) }
 {
-    match members.binary_search_by_key(&tx, |member| member.tx()) {
-        Ok(at) => Some(&members[at]),
-        Err(_) => None,
+    match place_by_number(members, tx) {
+        Some(at) => Some(&members[at]),
+        None => None,
     }
 }
 

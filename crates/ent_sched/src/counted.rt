@@ -1,16 +1,16 @@
 //! A core whose events are counted.
-ghost use Rattle.std.specs.Prelude.{◌≡◌, ◌<◌, ◌^◌, ◌∷◌, [], ℕ, IfErr, IfOk, OnErr, OnOk, false, true};
+ghost use Rattle.std.specs.Prelude.{◌≡◌, ◌<◌, ◌^◌, ◌∷◌, [], ℕ, IfErr, IfOk, OnErr, OnOk, Some};
 ghost use Rattle.std.specs.List.{AllByRecursion};
-ghost use Rattle.std.specs.Option.{option_map};
 ghost use Rattle.ent_book.specs.Tables.{book_seen};
+ghost use Rattle.ent_core.specs.Begin.{IsFreeMember, begin_refusal_seen};
 ghost use Rattle.ent_core.specs.Reply.{reply_seen};
-ghost use Rattle.ent_core.specs.Standing.{standing_seen};
 ghost use Rattle.ent_core.specs.declared.closing.NotDone.{NotDone};
-ghost use Rattle.ent_protocol.specs.Event.{Begin, Blocked, BreakCycle, EndRun, Finish, JoinAnswer, Pick};
+ghost use Rattle.ent_protocol.specs.Event.{Begin, BreakCycle, EndRun, Finish, JoinAnswer, Pick};
 ghost use Rattle.ent_protocol.specs.Event.{Recall, StartRun};
-ghost use Rattle.ent_protocol.specs.Lookup.{running_members, standing};
+ghost use Rattle.ent_protocol.specs.Lookup.{Ready, Turn, running_members, standing};
 ghost use Rattle.ent_protocol.specs.PoolEvents.{IsOutstandingJoint};
 ghost use Rattle.ent_protocol.specs.Reached.{CanClose, IsFinishedBook, IsReached, book_of, scripts_of};
+ghost use Rattle.ent_protocol.specs.Step.{Step};
 ghost use Rattle.ent_headline.specs.Resolved.{resolved_forms};
 ghost use Rattle.ent_sched.specs.Tally.{MakesEvent};
 ghost use Rattle.ent_semantics.specs.Book.{IsLegal};
@@ -19,7 +19,7 @@ ghost use Rattle.ent_value.specs.declared.refusal.Refusal.TheVariants.{Fault};
 
 use crate::watcher::{Silent, Told, Watcher};
 use ent_book::NamedTable;
-use ent_core::{Core, NotClosed, NotDone, Reply, Standing};
+use ent_core::{BeginRefusal, Core, FreeMember, NotClosed, NotDone, Reply};
 use ent_eval::Done;
 use ent_group::{Members, Tx};
 use ent_semantics::Book;
@@ -107,13 +107,6 @@ impl Counted {
         self.core.members()
     }
 
-    /// Where a transaction stands; nowhere where no script has its number.
-    pub fn standing(&self, tx: Tx) -> Option<Standing>
-        ensures { option_map standing_seen result ≡ standing self.now.core tx }
-    {
-        self.core.standing(tx)
-    }
-
     /// Lends no job any more. It takes no memory.
     pub fn recall(&mut self) -> Reply
         ensures { MakesEvent resolved_forms Recall (reply_seen result) self.old self.new }
@@ -145,33 +138,52 @@ impl Counted {
         Ok(reply)
     }
 
-    /// Whether another member blocks a member, for a watcher that doesn't listen. Where one does, the begin of the
-    /// member is refused: this is that event, which changes nothing. Else nothing is made; nor for a watcher that
-    /// listens, which wants to be told who blocks it.
-    pub(crate) fn is_begin_blocked<W: Watcher>(&mut self, watcher: &W, tx: Tx) -> bool
-        ensures blocked { result ≡ true → (holder : ℕ)
-            × MakesEvent resolved_forms (Begin tx) (Blocked holder) self.old self.new
-            × W.hears watcher.now (Begin tx, Blocked holder) watcher.now }
-        ensures same { self.new.core ≡ self.old.core }
-        ensures free { result ≡ false → self.new ≡ self.old }
+    /// The member of a number, where nothing keeps it from what comes next; or why a begin of it is refused. It is no
+    /// event.
+    pub(crate) fn free_member(&self, tx: Tx) -> Result<FreeMember, BeginRefusal>
+        ensures free { IfOk result (IsFreeMember self.now.core) }
+        ensures ready { IfOk result (λ found. (turn : Turn) × (standing self.now.core found.tx ≡ Some (Ready turn))) }
+        ensures number { IfOk result (λ found. found.tx ≡ tx) }
+        ensures refused { IfErr result (λ refusal.
+            Step resolved_forms self.now.core (Begin tx) (begin_refusal_seen refusal) self.now.core) }
     {
-        if !watcher.listens() && self.core.is_blocked(tx) {
-            self.ticks.add();
-            return true;
-        }
-        false
+        self.core.free_member(tx)
     }
 
-    /// A member begins its next statement, or is refused.
-    pub(crate) fn begin<W: Watcher>(&mut self, watcher: &mut W, tx: Tx) -> Result<Reply, AllocError>
-        ensures ok { IfOk result (λ reply.
-            MakesEvent resolved_forms (Begin tx) (reply_seen reply) self.old self.new) }
-        ensures err { OnErr result ((self.new ≡ self.old) × (watcher.new ≡ watcher.old)) }
-        ensures told { IfOk result (λ reply. W.hears watcher.old (Begin tx, reply_seen reply) watcher.new) }
+    /// The begin of a member, which is refused and changes nothing, as was found. No reply is made for a watcher that
+    /// doesn't listen.
+    pub(crate) fn refuse_begin<W: Watcher>(
+        &mut self,
+        watcher: &mut W,
+        tx: Tx,
+        refusal: BeginRefusal,
+    )
+        requires { Step resolved_forms self.old.core (Begin tx) (begin_refusal_seen refusal) self.old.core }
+        ensures made { MakesEvent resolved_forms (Begin tx) (begin_refusal_seen refusal) self.old self.new }
+        ensures same { self.new.core ≡ self.old.core }
+        ensures told { W.hears watcher.old (Begin tx, begin_refusal_seen refusal) watcher.new }
     {
-        let reply = self.core.begin(tx)?;
         self.ticks.add();
-        watcher.tell(Told::Begin(tx), &reply, &self.core);
+        if watcher.listens() {
+            watcher.tell(Told::Begin(tx), &refusal.reply(), &self.core);
+        }
+    }
+
+    /// A member that was found free begins its next statement.
+    pub(crate) fn begin<W: Watcher>(
+        &mut self,
+        watcher: &mut W,
+        found: FreeMember,
+    ) -> Result<Reply, AllocError>
+        requires { IsFreeMember self.old.core found }
+        ensures ok { IfOk result (λ reply.
+            MakesEvent resolved_forms (Begin found.tx) (reply_seen reply) self.old self.new) }
+        ensures err { OnErr result ((self.new ≡ self.old) × (watcher.new ≡ watcher.old)) }
+        ensures told { IfOk result (λ reply. W.hears watcher.old (Begin found.tx, reply_seen reply) watcher.new) }
+    {
+        let reply = self.core.begin_free(found)?;
+        self.ticks.add();
+        watcher.tell(Told::Begin(found.tx()), &reply, &self.core);
         Ok(reply)
     }
 

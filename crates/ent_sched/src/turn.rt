@@ -4,6 +4,7 @@ ghost use Rattle.std.specs.List.{AllByRecursion};
 ghost use Rattle.ent_termination.specs.Idle.{IsHeldUp};
 ghost use Rattle.ent_protocol.specs.Event.{Begin};
 ghost use Rattle.ent_protocol.specs.Lookup.{Ready, Turn, running_members, standing};
+ghost use Rattle.ent_core.specs.Begin.{IsFreeMember};
 ghost use Rattle.ent_headline.specs.Resolved.{resolved_forms};
 ghost use Rattle.ent_sched.specs.Onward.{TicksOn};
 ghost use Rattle.ent_sched.specs.Progress.{IsJustLent, UsesUp};
@@ -13,7 +14,7 @@ use crate::counted::Counted;
 use crate::law::events_add_up;
 use crate::progress::told_of_progress;
 use crate::watcher::Watcher;
-use ent_core::{Reply, Standing};
+use ent_core::{BeginRefusal, FreeMember, Reply};
 use ent_eval::{Done, evaluate};
 use ent_form::FormFault;
 use ent_group::Tx;
@@ -75,22 +76,23 @@ fn carry_out<W: Watcher>(
     }
 }
 
-/// A member that is ready begins its next statement, and a job that is lent is carried out at once. Whether it moved.
+/// A member that is free begins its next statement, and a job that is lent is carried out at once. Whether it moved.
 /// Where memory runs out the events that were made stand.
 fn begin<W: Watcher>(
     alloc: Global,
     counted: &mut Counted,
     watcher: &mut W,
-    tx: Tx,
+    found: FreeMember,
 ) -> Result<bool, AllocError>
     requires none_lent { counted.old.core.lent ≡ [] }
-    requires ready { (turn : Turn) × (standing counted.old.core tx ≡ Some (Ready turn)) }
+    requires free { IsFreeMember counted.old.core found }
+    requires ready { (turn : Turn) × (standing counted.old.core found.tx ≡ Some (Ready turn)) }
     ensures events { TicksOn resolved_forms 2 counted.old counted.new }
     ensures watched { IsWatched resolved_forms W.hears counted.old counted.new watcher.old watcher.new }
     ensures none_lent { OnOk result (counted.new.core.lent ≡ []) }
     ensures progress { IfOk result (λ moved. moved ≡ true → UsesUp counted.old.core counted.new.core) }
     ensures idle { IfOk result (λ moved. moved ≡ false
-        → (counted.new.core ≡ counted.old.core) × IsHeldUp resolved_forms counted.old.core tx) }
+        → (counted.new.core ≡ counted.old.core) × IsHeldUp resolved_forms counted.old.core found.tx) }
 {
     events_add_up::<FormFault>();
     jobs_are_lent_by_replies::<FormFault>();
@@ -99,7 +101,7 @@ fn begin<W: Watcher>(
     steps_stay_within::<FormFault>();
     refusals_change_nothing::<FormFault>();
     counted.is_reached();
-    let reply = counted.begin(watcher, tx)?;
+    let reply = counted.begin(watcher, found)?;
     match reply {
         Reply::Lent(job) => {
             carry_out(alloc, counted, watcher, job)?;
@@ -109,7 +111,7 @@ fn begin<W: Watcher>(
     }
 }
 
-/// One member's turn: where it is ready it begins its next statement, and a job that is lent is carried out at once.
+/// One member's turn: where it is free it begins its next statement, and a job that is lent is carried out at once.
 /// Whether it moved. Where memory runs out the events that were made stand.
 fn turn<W: Watcher>(
     alloc: Global,
@@ -127,12 +129,14 @@ fn turn<W: Watcher>(
 {
     events_add_up::<FormFault>();
     counted.is_reached();
-    if counted.is_begin_blocked(&*watcher, tx) {
-        return Ok(false);
-    }
-    match counted.standing(tx) {
-        Some(Standing::Ready(_)) => begin(alloc, counted, watcher, tx),
-        _ => Ok(false),
+    match counted.free_member(tx) {
+        Ok(found) => begin(alloc, counted, watcher, found),
+        Err(refusal) => {
+            if let BeginRefusal::Blocked(_) = refusal {
+                counted.refuse_begin(watcher, tx, refusal);
+            }
+            Ok(false)
+        }
     }
 }
 

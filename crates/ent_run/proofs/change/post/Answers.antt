@@ -4,14 +4,14 @@ use Rattle.ent_members.specs.Changes.{posting_all}
 use Rattle.ent_run.proofs.OneMember.{changes, same_numbers}
 use Rattle.ent_run.proofs.change.post.Goals as goal
 
-pub returns-in-Some-clause-changed : goal.returns-in-Some-clause-changed
-returns-in-Some-clause-changed c =
+pub returns-clause-changed : goal.returns-clause-changed
+returns-clause-changed c = λ tx at.
     let done : Result ℕ ℕ = Ok 0 in
-    changes done (posting_all c.args.uses.items) c.args.members.now c.args.tx c.in-Some.at c.index-members-at.result
-    c.post.new.self (λ member. refl) c.requires c.in-Some.ensures.some c.post.ensures
+    changes done (posting_all c.args.uses.items) c.args.members.now tx c.args.at c.index-members-at.result
+    c.post.new.self (λ member. refl) c.requires.distinct at c.post.ensures
 
-pub returns-in-Some-clause-numbers : goal.returns-in-Some-clause-numbers
-returns-in-Some-clause-numbers c =
+pub returns-clause-numbers : goal.returns-clause-numbers
+returns-clause-numbers c =
     let done : Result ℕ ℕ = Ok 0 in
-    same_numbers done (posting_all c.args.uses.items) c.args.members.now c.in-Some.at c.index-members-at.result
+    same_numbers done (posting_all c.args.uses.items) c.args.members.now c.args.at c.index-members-at.result
     c.post.new.self (λ member. refl) c.post.ensures tt

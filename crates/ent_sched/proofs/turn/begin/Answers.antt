@@ -12,7 +12,7 @@ pub returns-in_err-carry_out-in-Lent-clause-events : goal.returns-in_err-carry_o
 returns-in_err-carry_out-in-Lent-clause-events g c =
     let first = c.args.counted.now in
     let middle = c.begin.new.self in
-    let begun = c.events_add_up.ensures.one resolved_forms (Begin c.args.tx) (reply_seen c.in_ok-reply.reply) first
+    let begun = c.events_add_up.ensures.one resolved_forms (Begin c.args.found.tx) (reply_seen c.in_ok-reply.reply) first
     middle c.in_ok-reply.ensures.ok refl in
     c.events_add_up.ensures.joined resolved_forms 1 1 first middle c.carry_out.new.counted begun
     c.in_err-carry_out-in-Lent.ensures.events
@@ -21,7 +21,7 @@ pub returns-in_ok-carry_out-in-Lent-clause-events : goal.returns-in_ok-carry_out
 returns-in_ok-carry_out-in-Lent-clause-events g c =
     let first = c.args.counted.now in
     let middle = c.begin.new.self in
-    let begun = c.events_add_up.ensures.one resolved_forms (Begin c.args.tx) (reply_seen c.in_ok-reply.reply) first
+    let begun = c.events_add_up.ensures.one resolved_forms (Begin c.args.found.tx) (reply_seen c.in_ok-reply.reply) first
     middle c.in_ok-reply.ensures.ok refl in
     c.events_add_up.ensures.joined resolved_forms 1 1 first middle c.carry_out.new.counted begun
     c.in_ok-carry_out-in-Lent.ensures.events
@@ -29,7 +29,7 @@ returns-in_ok-carry_out-in-Lent-clause-events g c =
 pub returns-in_ok-carry_out-in-Lent-clause-progress : goal.returns-in_ok-carry_out-in-Lent-clause-progress
 returns-in_ok-carry_out-in-Lent-clause-progress g c = λ moved most left within.
     c.in_ok-carry_out-in-Lent.ensures.progress most left
-    (c.steps_stay_within.ensures resolved_forms c.args.counted.now.core (Begin c.args.tx)
+    (c.steps_stay_within.ensures resolved_forms c.args.counted.now.core (Begin c.args.found.tx)
     (reply_seen c.in_ok-reply.reply) c.begin.new.self.core most left c.is_reached.ensures.reached
     c.in_ok-reply.ensures.ok.step (ap (λ reply. brings_work (reply_seen reply)) c.in-Lent.is) within)
 
@@ -39,7 +39,7 @@ returns-in_default g c =
     let last = c.begin.new.self in
     let s = first.core in
     let new = last.core in
-    let tx = c.args.tx in
+    let tx = c.args.found.tx in
     let step = c.in_ok-reply.ensures.ok.step in
     let reply = reply_seen c.in_ok-reply.reply in
     let lends = lends_none c.in_ok-reply.reply c.in_default.not-Lent in
@@ -70,7 +70,7 @@ pub returns-in_err-carry_out-in-Lent-clause-watched : goal.returns-in_err-carry_
 returns-in_err-carry_out-in-Lent-clause-watched g c =
     let first = c.args.counted.now in
     let middle = c.begin.new.self in
-    let one = one_watched resolved_forms g.W.Watcher.hears (Begin c.args.tx) (reply_seen c.in_ok-reply.reply) first
+    let one = one_watched resolved_forms g.W.Watcher.hears (Begin c.args.found.tx) (reply_seen c.in_ok-reply.reply) first
     middle c.args.watcher.now c.begin.new.watcher c.in_ok-reply.ensures.ok c.in_ok-reply.ensures.told in
     watched_on resolved_forms g.W.Watcher.hears first middle c.carry_out.new.counted c.args.watcher.now
     c.begin.new.watcher c.carry_out.new.watcher one c.in_err-carry_out-in-Lent.ensures.watched
@@ -79,7 +79,7 @@ pub returns-in_ok-carry_out-in-Lent-clause-watched : goal.returns-in_ok-carry_ou
 returns-in_ok-carry_out-in-Lent-clause-watched g c =
     let first = c.args.counted.now in
     let middle = c.begin.new.self in
-    let one = one_watched resolved_forms g.W.Watcher.hears (Begin c.args.tx) (reply_seen c.in_ok-reply.reply) first
+    let one = one_watched resolved_forms g.W.Watcher.hears (Begin c.args.found.tx) (reply_seen c.in_ok-reply.reply) first
     middle c.args.watcher.now c.begin.new.watcher c.in_ok-reply.ensures.ok c.in_ok-reply.ensures.told in
     watched_on resolved_forms g.W.Watcher.hears first middle c.carry_out.new.counted c.args.watcher.now
     c.begin.new.watcher c.carry_out.new.watcher one c.in_ok-carry_out-in-Lent.ensures.watched
