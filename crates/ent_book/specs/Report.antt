@@ -11,8 +11,6 @@ use Rattle.ent_tree.specs.declared.declaration.Opening.{Opening}
 use Rattle.ent_semantics.specs.declared.answer.Answer.{Answer}
 use Rattle.ent_semantics.specs.declared.answer.Answer.TheVariants as answers
 use Rattle.ent_semantics.specs.declared.answer.Fact.{Fact}
-use Rattle.ent_semantics.specs.declared.answer.Failure.{Failure}
-use Rattle.ent_semantics.specs.declared.answer.Failure.TheVariants as failures
 use Rattle.ent_semantics.specs.declared.book.Book.{Book}
 use Rattle.ent_semantics.specs.declared.book.Entry.{Entry}
 use Rattle.ent_semantics.specs.declared.book.Fate.{Fate}
@@ -21,6 +19,7 @@ use Rattle.ent_semantics.specs.declared.book.Fated.{Fated}
 use Rattle.ent_semantics.specs.declared.book.JointAnswer.{JointAnswer}
 use Rattle.ent_semantics.specs.declared.book.Member.{Member}
 use Rattle.ent_semantics.specs.Database.{Name, Rows, Database}
+use Rattle.ent_semantics.specs.Failure.{failure_name}
 use Rattle.ent_semantics.specs.Serial.{numbered}
 
 abbrev pub line : List ℕ → List ℕ
@@ -33,10 +32,6 @@ row_line row = line (row_text row)
 abbrev pub rows_text : List (List Value) → List ℕ
 rows_text rows = flat_map row_line rows
 
-abbrev pub failure_text : Failure → List ℕ
-failure_text failures.Overflow = codes "F1"
-failure_text failures.TableFull = codes "F2"
-
 -- how many runs it took part in
 abbrev pub after_text : ℕ → List ℕ
 after_text runs = codes " after " ++ decimal runs
@@ -45,7 +40,7 @@ abbrev pub fate_text : Fate → List ℕ
 fate_text (fates.Committed number runs) = codes "committed " ++ (decimal number ++ after_text runs)
 fate_text (fates.GaveUp runs) = codes "gave up" ++ after_text runs
 fate_text (fates.RolledBack runs) = codes "rolled back" ++ after_text runs
-fate_text (fates.Failed failure runs) = codes "failed " ++ (failure_text failure ++ after_text runs)
+fate_text (fates.Failed failure runs) = codes "failed " ++ (failure_name failure ++ after_text runs)
 
 -- a row of an answer relation, behind a space
 abbrev pub fact_text : Fact → List ℕ

@@ -8,7 +8,6 @@
 mod answer;
 mod grounding;
 mod joint;
-mod numbered;
 mod opening;
 mod piece;
 mod report;
@@ -20,7 +19,6 @@ mod write;
 mod written;
 
 pub use answer::append_answers;
-pub use numbered::element;
 pub use piece::append_number;
 pub use script::line_count;
 pub use table::{NamedTable, append_table, table_named};

@@ -1,12 +1,11 @@
 //! The text of transactions: their fates, and the answers of those that committed.
 ghost use Rattle.std.specs.Prelude.{◌≡◌, ◌++◌, OnOk};
-ghost use Rattle.ent_book.specs.Report.{after_text, answers_text, failure_text, fate_answers, fate_text};
+ghost use Rattle.ent_book.specs.Report.{after_text, answers_text, fate_answers, fate_text};
 ghost use Rattle.ent_book.specs.Report.{transaction_text, transactions_text};
 
 use crate::answer::append_answers;
-use crate::numbered::element;
 use crate::piece::append_number;
-use ent_semantics::{Entry, Failure, Fate, Fated};
+use ent_semantics::{Entry, Fate, Fated, element};
 use std::alloc::{AllocError, Global};
 
 /// How many runs a transaction took part in, as the report has it behind another word: ` after ` and the number.
@@ -15,15 +14,6 @@ pub fn append_after(alloc: Global, out: &mut Vec<u8>, runs: u64) -> Result<(), A
 {
     out.extend_from_slice(b" after ")?;
     append_number(alloc, out, runs)
-}
-
-fn append_failure(out: &mut Vec<u8>, failure: Failure) -> Result<(), AllocError>
-    ensures { OnOk result (out.new.items ≡ out.old.items ++ failure_text failure) }
-{
-    match failure {
-        Failure::Overflow => out.extend_from_slice(b"F1"),
-        Failure::TableFull => out.extend_from_slice(b"F2"),
-    }
 }
 
 /// A fate as the report has it: `committed` and the number of the commit, `gave up`, `rolled back`, or `failed` and the
@@ -47,7 +37,7 @@ pub fn append_fate(alloc: Global, out: &mut Vec<u8>, fate: Fate) -> Result<(), A
         }
         Fate::Failed { failure, runs } => {
             out.extend_from_slice(b"failed ")?;
-            append_failure(out, failure)?;
+            out.extend_from_slice(failure.name().as_bytes())?;
             append_after(alloc, out, runs)
         }
     }

@@ -4,9 +4,8 @@ ghost use Rattle.std.specs.Option.{option_copied};
 ghost use Rattle.ent_semantics.specs.Serial.{numbered};
 ghost use Rattle.ent_book.specs.Report2.{member_variables, script_statement};
 
-use crate::numbered::element;
 use crate::written::written_variables;
-use ent_semantics::Member;
+use ent_semantics::{Member, element};
 use ent_tree::{Script, Statement};
 use ent_value::Name;
 use std::alloc::{AllocError, Global};

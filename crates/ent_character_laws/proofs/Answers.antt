@@ -10,11 +10,12 @@ use Rattle.ent_tree.specs.declared.script.Statement.{Statement}
 use Rattle.ent_semantics.specs.declared.answer.Answer.{Answer}
 use Rattle.ent_semantics.specs.declared.answer.Answer.TheVariants as answers
 use Rattle.ent_semantics.specs.declared.answer.Fact.{Fact}
+use Rattle.ent_semantics.specs.Failure.{failure_name}
 use Rattle.ent_semantics.specs.declared.answer.Failure.{Failure}
 use Rattle.ent_semantics.specs.declared.answer.Failure.TheVariants as failures
 use Rattle.ent_semantics.specs.declared.book.Fate.{Fate}
 use Rattle.ent_semantics.specs.declared.book.Fate.TheVariants as fates
-use Rattle.ent_book.specs.Report.{after_text, answer_text, answers_text, fact_text, facts_text, failure_text, fate_text}
+use Rattle.ent_book.specs.Report.{after_text, answer_text, answers_text, fact_text, facts_text, fate_text}
 use Rattle.ent_book.specs.Report.{line, rows_text}
 use Rattle.ent_history_form.specs.Answers.{IsFact}
 use Rattle.ent_report_laws.specs.Tellable.{AreAnswersTo, IsAnswerTold}
@@ -28,7 +29,7 @@ use Rattle.ent_character_laws.proofs.Values.{line_is_text, row_is_text, rows_are
 after_is_text : (runs : ℕ) → IsUtf8 (after_text runs)
 after_is_text runs = joined (codes " after ") (decimal runs) (of_ascii (codes " after ") refl) (number_text runs)
 
-failure_is_text : (failure : Failure) → IsUtf8 (failure_text failure)
+failure_is_text : (failure : Failure) → IsUtf8 (failure_name failure)
 failure_is_text failures.Overflow = of_ascii (codes "F1") refl
 failure_is_text failures.TableFull = of_ascii (codes "F2") refl
 
@@ -41,8 +42,8 @@ fate_is_text (fates.GaveUp runs) =
 fate_is_text (fates.RolledBack runs) =
     joined (codes "rolled back") (after_text runs) (of_ascii (codes "rolled back") refl) (after_is_text runs)
 fate_is_text (fates.Failed failure runs) =
-    joined (codes "failed ") (failure_text failure ++ after_text runs) (of_ascii (codes "failed ") refl)
-    (joined (failure_text failure) (after_text runs) (failure_is_text failure) (after_is_text runs))
+    joined (codes "failed ") (failure_name failure ++ after_text runs) (of_ascii (codes "failed ") refl)
+    (joined (failure_name failure) (after_text runs) (failure_is_text failure) (after_is_text runs))
 
 -- ---- answers
 

@@ -12,5 +12,4 @@ pub mod Sums
 pub mod Taken
 pub mod Found
 pub mod Places
-pub mod ByNumber
 pub mod Told

@@ -10,7 +10,7 @@ ghost use Rattle.ent_semantics.specs.Serial.{numbered};
 
 use crate::seat::Seats;
 use ent_history::{ToldJoint, ToldMember};
-use ent_semantics::Member;
+use ent_semantics::{Member, element};
 use ent_value::Value;
 use std::marker::Model;
 
@@ -46,10 +46,7 @@ impl<'a> Model for Groundings<'a> {
 fn member_numbered(members: &[ToldMember], number: u64) -> Option<&Member>
     ensures { option_map (λ member. member.now) result ≡ numbered (map (λ told. told.member) members.now) number }
 {
-    if number == 0 {
-        return None;
-    }
-    match members.get((number - 1) as usize) {
+    match element(members, number) {
         Some(told) => Some(&told.member),
         None => None,
     }
@@ -59,10 +56,7 @@ fn member_numbered(members: &[ToldMember], number: u64) -> Option<&Member>
 fn member_in(joints: &[ToldJoint], joint: u64, number: u64) -> Option<&Member>
     ensures { option_map (λ member. member.now) result ≡ member_in (map joint_answer_of joints.now) (joint, number) }
 {
-    if joint == 0 {
-        return None;
-    }
-    match joints.get((joint - 1) as usize) {
+    match element(joints, joint) {
         Some(told) => member_numbered(told.members.as_slice(), number),
         None => None,
     }

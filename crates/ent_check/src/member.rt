@@ -7,7 +7,7 @@ ghost use Rattle.ent_semantics.specs.Serial.{is_entangled, numbered};
 
 use crate::journal::commit_number;
 use ent_history::Told;
-use ent_semantics::Member;
+use ent_semantics::{Member, element};
 use ent_tree::{Script, Statement};
 
 /// Whether a statement is entangled.
@@ -21,10 +21,7 @@ pub(crate) fn is_entangled(statement: &Statement) -> bool
 fn is_entangled_at(statements: &[Statement], place: u64) -> bool
     ensures { result ≡ is_entangled_one (numbered statements.now place) }
 {
-    if place == 0 {
-        return false;
-    }
-    match statements.get((place - 1) as usize) {
+    match element(statements, place) {
         Some(statement) => is_entangled(statement),
         None => false,
     }

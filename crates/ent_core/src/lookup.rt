@@ -15,9 +15,9 @@ use crate::store::Store;
 use ent_group::{Members, Tx};
 use ent_match::Posted;
 use ent_members::Entrant;
-use ent_next::{script_of, with_number};
+use ent_next::script_of;
 use ent_rel::Table;
-use ent_semantics::{Answer, Entry};
+use ent_semantics::{Answer, Entry, element};
 use ent_tree::Script;
 use ent_value::Name;
 
@@ -35,7 +35,7 @@ pub(crate) fn dormant(store: &Store, place: usize) -> Option<&Entrant>
 pub(crate) fn entry(store: &Store, number: usize) -> Option<&Entry>
     ensures { option_copied result ≡ entry_at store.now number }
 {
-    with_number(store.journal.as_slice(), number)
+    element(store.journal.as_slice(), number as u64)
 }
 
 /// The script of a transaction, as it was submitted.

@@ -6,7 +6,7 @@ use ent_group::Tx;
 use ent_next::Turn;
 use ent_rel::Table;
 use ent_semantics::Fate;
-use ent_trace::{failure_name, put_answers, put_rows};
+use ent_trace::{put_answers, put_rows};
 use ent_tree::MOST_SCRIPTS;
 use ent_value::{Name, is_word};
 use std::alloc::Global;
@@ -78,7 +78,7 @@ fn put_fate(out: &mut Out, fate: Fate) {
         Fate::RolledBack { runs } => out.put_number("rolled back after", runs),
         Fate::Failed { failure, runs } => {
             out.put("failed ");
-            out.put(failure_name(failure));
+            out.put(failure.name());
             out.put_number(" after", runs);
         }
     }

@@ -5,6 +5,7 @@ ghost use Rattle.ent_semantics.specs.Database.{same_name};
 ghost use Rattle.ent_form.specs.OpeningFault.{repeated, declarations_fault};
 
 use crate::fault::FormFault;
+use ent_semantics::is_column_among;
 use ent_tree::{Column, Create};
 use ent_value::Name;
 
@@ -13,13 +14,6 @@ fn is_table_among(tables: &[Create], name: &Name) -> bool
     ensures { result ≡ list_any (λ table. same_name table.name.name name.now) tables.now }
 {
     tables.iter().any(|table| table.name.name == *name)
-}
-
-/// Whether one of these columns has this name.
-fn is_column_among(columns: &[Column], name: &Name) -> bool
-    ensures { result ≡ list_any (λ column. same_name column.name.name name.now) columns.now }
-{
-    columns.iter().any(|column| column.name.name == *name)
 }
 
 /// The first name of a column that stands among those before it.

@@ -4,9 +4,9 @@ ghost use Rattle.std.specs.Arc.{arc_value};
 ghost use Rattle.ent_next.specs.Asked.{IsAskedAt};
 
 use crate::next::{Next, statement_next};
-use crate::numbered::with_number;
 use ent_closed::{Entangled, Known, Statement};
 use ent_closing::{Environment, closed};
+use ent_semantics::element;
 use ent_value::Value;
 use std::alloc::{AllocError, Global};
 use std::sync::Arc;
@@ -38,7 +38,7 @@ impl FirstAsked {
             IsAskedAt form.now asked.place (arc_value asked.statement))) }
     {
         let place = first_place(form);
-        let Some(statement) = with_number(form, place) else {
+        let Some(statement) = element(form, place as u64) else {
             return Ok(None);
         };
         let nothing = Environment::new(alloc);

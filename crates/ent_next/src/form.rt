@@ -7,10 +7,11 @@ ghost use Rattle.ent_protocol.specs.Uses.{statement_uses};
 ghost use Rattle.ent_protocol.specs.Waits.{next_uses};
 ghost use Rattle.ent_next.specs.Form.{next_form};
 
-use crate::numbered::{script_of, with_number};
+use crate::numbered::script_of;
 use crate::submitted::SubmittedScript;
 use ent_closed::{Known, Statement};
 use ent_members::{Member, uses_are_kept_by_closing};
+use ent_semantics::element;
 
 /// The statement that a member is at, before it is closed; none where it is at the end of its script, or where no
 /// script has its number. Once closed it asks for the same uses; where there is none, nothing is asked for. It takes
@@ -26,7 +27,7 @@ pub fn next_form<'a>(
 {
     uses_are_kept_by_closing();
     match script_of(submitted, member.tx()) {
-        Some(own) => with_number(own.form(), member.place()),
+        Some(own) => element(own.form(), member.place() as u64),
         None => None,
     }
 }

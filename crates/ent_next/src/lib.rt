@@ -14,6 +14,6 @@ mod turn;
 
 pub use form::next_form;
 pub use next::{Next, next_of};
-pub use numbered::{script_of, with_number};
+pub use numbered::script_of;
 pub use submitted::SubmittedScript;
 pub use turn::{Turn, turn_of};

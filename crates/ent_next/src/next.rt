@@ -6,11 +6,12 @@ ghost use Rattle.ent_closing.specs.Environment.{environment_of};
 ghost use Rattle.ent_protocol.specs.Member.{Commits, RollsBack, end_next, next_in, statement_next};
 ghost use Rattle.ent_next.specs.Next.{next_seen};
 
-use crate::numbered::{script_of, with_number};
+use crate::numbered::script_of;
 use crate::submitted::SubmittedScript;
 use ent_closed::{Entangled, Known, Statement};
 use ent_closing::{Environment, closed};
 use ent_members::Member;
+use ent_semantics::element;
 use ent_tree::End;
 use ent_value::Value;
 use std::alloc::{AllocError, Global};
@@ -69,7 +70,7 @@ fn next_in(alloc: Global, own: &SubmittedScript, member: &Member) -> Result<Next
     ensures commits { next_in (Some own.now) member.now ≡ Commits → IsOk result }
     ensures rolls_back { next_in (Some own.now) member.now ≡ RollsBack → IsOk result }
 {
-    match with_number(own.form(), member.place()) {
+    match element(own.form(), member.place() as u64) {
         Some(form) => match own.asked_at(member.place(), member.environment()) {
             Some(asked) => {
                 let shared = asked.clone()?;

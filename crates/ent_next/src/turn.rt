@@ -5,9 +5,10 @@ ghost use Rattle.ent_protocol.specs.Lookup as lookups;
 ghost use Rattle.ent_protocol.specs.Member.{next_in};
 ghost use Rattle.ent_next.specs.Turn.{turn_seen};
 
-use crate::numbered::{script_of, with_number};
+use crate::numbered::script_of;
 use crate::submitted::SubmittedScript;
 use ent_members::Member;
+use ent_semantics::element;
 use ent_tree::End;
 
 /// What a member that is ready begins next.
@@ -23,7 +24,7 @@ pub fn turn_of(submitted: &[SubmittedScript], member: &Member) -> Turn
     ensures { turn_seen result ≡ lookups.turn_of (next_in (numbered submitted.now member.now.tx) member.now) }
 {
     match script_of(submitted, member.tx()) {
-        Some(own) => match with_number(own.form(), member.place()) {
+        Some(own) => match element(own.form(), member.place() as u64) {
             Some(_) => Turn::Statement,
             None => match own.end() {
                 End::Commit => Turn::Commit,

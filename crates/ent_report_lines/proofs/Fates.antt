@@ -6,11 +6,12 @@ use Rattle.std.proofs.lemmas.Bool.{leb-true, le-leb}
 use Rattle.std.proofs.lemmas.List.{append-nil}
 use Rattle.ent_value.specs.Refusal.{◌>>=◌}
 use Rattle.ent_tree.specs.declared.limits.TheConstants.{MOST_RUNS}
+use Rattle.ent_semantics.specs.Failure.{failure_name}
 use Rattle.ent_semantics.specs.declared.answer.Failure.{Failure}
 use Rattle.ent_semantics.specs.declared.answer.Failure.TheVariants as failures
 use Rattle.ent_semantics.specs.declared.book.Fate.{Fate}
 use Rattle.ent_semantics.specs.declared.book.Fate.TheVariants as fates
-use Rattle.ent_book.specs.Report.{after_text, failure_text, fate_text}
+use Rattle.ent_book.specs.Report.{after_text, fate_text}
 use Rattle.ent_history_form.specs.Parts.{IsNumber}
 use Rattle.ent_line.specs.declared.fault.LineFault.{LineFault}
 use Rattle.ent_line.specs.declared.fault.LineFault.TheVariants.{Misfit}
@@ -106,7 +107,7 @@ module _ (parts : Parts) where
       )
 
   failure_found : (name : List ℕ) (failure : Failure)
-      → ((more : List ℕ) → name ++ more ≡ codes "failed " ++ (failure_text failure ++ more))
+      → ((more : List ℕ) → name ++ more ≡ codes "failed " ++ (failure_name failure ++ more))
       → (bytes : List ℕ) (fate : Fate) → failure_at name failure bytes ≡ Ok fate → FateStands bytes fate
   unfolding failure_at
   failure_found name failure named bytes fate h =

@@ -1,14 +1,14 @@
 //! The line of a table of the opening: its name, its columns, and how many rows follow.
 ghost use Rattle.std.specs.Prelude.{◌≡◌};
-ghost use Rattle.std.specs.List.{list_any};
 ghost use Rattle.ent_value.specs.Refusal.{Gives};
-ghost use Rattle.ent_report_lines.specs.Openings.{are_distinct, column_at, columns_at, is_among, kind_at};
+ghost use Rattle.ent_report_lines.specs.Openings.{are_distinct, column_at, columns_at, kind_at};
 ghost use Rattle.ent_report_lines.specs.Openings.{next_column_at, opening_at};
 
 use crate::word::{first_byte, name};
 use ent_line::{LineFault, behind, number};
+use ent_semantics::is_column_among;
 use ent_tree::{Column, Create, Identifier, MOST_PARTS};
-use ent_value::{Kind, Limited, Name, Refusal};
+use ent_value::{Kind, Limited, Refusal};
 use std::alloc::Global;
 
 /// A kind, as its word in capitals; the first letter tells.
@@ -72,19 +72,12 @@ fn columns(
     Ok((columns, rest))
 }
 
-/// Whether one of these columns has this name.
-fn is_among(name: &Name, columns: &[Column]) -> bool
-    ensures { result ≡ is_among name.now columns.now }
-{
-    columns.iter().any(|column| column.name.name == *name)
-}
-
 /// Whether no column has the name of another.
 fn are_distinct(columns: &[Column]) -> bool
     ensures { result ≡ are_distinct columns.now }
 {
     for (index, column) in columns.iter().enumerate() {
-        if is_among(&column.name.name, &columns[index + 1..]) {
+        if is_column_among(&columns[index + 1..], &column.name.name) {
             return false;
         }
     }

@@ -20,11 +20,12 @@ use Rattle.ent_semantics.specs.Database.{Name}
 use Rattle.ent_semantics.specs.declared.answer.Answer.{Answer}
 use Rattle.ent_semantics.specs.declared.answer.Answer.TheVariants as answers
 use Rattle.ent_semantics.specs.declared.answer.Fact.{Fact}
+use Rattle.ent_semantics.specs.Failure.{failure_name}
 use Rattle.ent_semantics.specs.declared.answer.Failure.{Failure}
 use Rattle.ent_semantics.specs.declared.answer.Failure.TheVariants as failures
 use Rattle.ent_semantics.specs.declared.book.Fate.{Fate}
 use Rattle.ent_semantics.specs.declared.book.Fate.TheVariants as fates
-use Rattle.ent_book.specs.Report.{line, after_text, fact_text, facts_text, failure_text, fate_text}
+use Rattle.ent_book.specs.Report.{line, after_text, fact_text, facts_text, fate_text}
 use Rattle.ent_book.specs.Report2.{bindings_text, column_text, columns_text, kind_text, more_columns_text}
 use Rattle.ent_report_lines.specs.Fates.{transaction_text}
 use Rattle.ent_report_lines.specs.Joints.{joint_text}
@@ -132,7 +133,7 @@ opening_row_line draft text next s = row_is_line text s.row s.text_is s.is_row
 
 -- ---- transactions
 
-failure_in_line : (failure : Failure) → IsInLine (failure_text failure)
+failure_in_line : (failure : Failure) → IsInLine (failure_name failure)
 failure_in_line failures.Overflow = refl
 failure_in_line failures.TableFull = refl
 
@@ -146,8 +147,8 @@ fate_in_line (fates.Committed number runs) =
 fate_in_line (fates.GaveUp runs) = in_line_append (codes "gave up") (after_text runs) refl (after_in_line runs)
 fate_in_line (fates.RolledBack runs) = in_line_append (codes "rolled back") (after_text runs) refl (after_in_line runs)
 fate_in_line (fates.Failed failure runs) =
-    in_line_append (codes "failed ") (failure_text failure ++ after_text runs) refl
-    (in_line_append (failure_text failure) (after_text runs) (failure_in_line failure) (after_in_line runs))
+    in_line_append (codes "failed ") (failure_name failure ++ after_text runs) refl
+    (in_line_append (failure_name failure) (after_text runs) (failure_in_line failure) (after_in_line runs))
 
 pub tx_in_line : (number : ℕ) (fate : Fate) → IsInLine (transaction_text number fate)
 tx_in_line number fate =

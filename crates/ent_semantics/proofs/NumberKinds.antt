@@ -1,5 +1,5 @@
 -- A number that fits into 64 bits is a value of the kind of numbers.
-use Rattle.std.proofs.Common.{◌≡◌, ℤ, Bool, true, false, cond, Option, Some, None, sym, ap}
+use Rattle.std.proofs.Common.{◌≡◌, ℤ, Bool, true, false, cond, Some, None, sym, ap}
 use Rattle.ent_value.specs.Value.{kind_of}
 use Rattle.ent_value.specs.declared.value.Kind.TheVariants as kinds
 use Rattle.ent_value.specs.declared.value.Value.{Value}

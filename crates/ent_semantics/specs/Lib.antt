@@ -4,6 +4,7 @@ pub mod Term
 pub mod Selection
 pub mod Change
 pub mod Effect
+pub mod Failure
 pub mod Entangled
 pub mod Statement
 pub mod Serial

@@ -1,4 +1,7 @@
 //! What statements answer.
+ghost use Rattle.std.specs.Prelude.{◌≡◌};
+ghost use Rattle.ent_semantics.specs.Failure.{failure_name};
+
 use ent_tree::Same;
 use ent_value::{Name, Row, Sequence, Value};
 
@@ -49,6 +52,18 @@ pub enum Failure {
     Overflow,
     /// More rows than [`ent_value::MOST_ROWS`] would stand in a table.
     TableFull,
+}
+
+impl Failure {
+    /// The short name of a failure, in reports and in traces: `F1` or `F2`.
+    pub fn name(self) -> &'static str
+        ensures { result.now ≡ failure_name self }
+    {
+        match self {
+            Failure::Overflow => "F1",
+            Failure::TableFull => "F2",
+        }
+    }
 }
 
 impl Same for Fact {

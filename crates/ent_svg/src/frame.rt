@@ -2,7 +2,6 @@
 use crate::place::{Place, colour, pattern};
 use crate::sheet::Sheet;
 use ent_picture::{Fate, Lane, Picture, Run};
-use ent_semantics::Failure;
 
 /// How the texts and the lines of a picture look.
 const STYLE: &str = "<style>\
@@ -152,17 +151,9 @@ fn put_fate(sheet: &mut Sheet, fate: Fate) {
         )),
         Fate::RolledBack => sheet.put("rolled back"),
         Fate::Failed(failure) => {
-            let name = failure_name(failure);
+            let name = failure.name();
             sheet.put(format_args!("failed {name}"));
         }
         Fate::GaveUp => sheet.put("gave up"),
-    }
-}
-
-/// A failure's name in a report.
-pub(crate) fn failure_name(failure: Failure) -> &'static str {
-    match failure {
-        Failure::Overflow => "F1",
-        Failure::TableFull => "F2",
     }
 }

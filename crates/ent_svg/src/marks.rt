@@ -1,6 +1,5 @@
 //! How lanes leave their runs.
 use crate::bars::{event_at, number_width, tx_of};
-use crate::frame::failure_name;
 use crate::place::Place;
 use crate::sheet::Sheet;
 use ent_picture::{Mark, MarkKind, Picture};
@@ -28,7 +27,7 @@ fn put_title(sheet: &mut Sheet, mark: Mark) {
         MarkKind::Committed(number) => sheet.put(format_args!("committed, number {number}")),
         MarkKind::RolledBack => sheet.put("is rolled back, by ROLLBACK"),
         MarkKind::Failed(failure) => {
-            let name = failure_name(failure);
+            let name = failure.name();
             sheet.put(format_args!("failed, {name}"));
         }
         MarkKind::TakenBack => {
@@ -64,7 +63,7 @@ impl Spot {
         match kind {
             MarkKind::Committed(number) => self.put_number(sheet, number),
             MarkKind::RolledBack => self.put_sign(sheet, "M-4 -4L4 4M-4 4L4 -4"),
-            MarkKind::Failed(failure) => self.put_failure(sheet, failure_name(failure)),
+            MarkKind::Failed(failure) => self.put_failure(sheet, failure.name()),
             MarkKind::TakenBack => self.put_sign(sheet, "M4 0H-4M-1 -3L-4 0L-1 3"),
             MarkKind::Ended if is_back => self.put_sign(sheet, "M-4 0H4M1 -3L4 0L1 3"),
             MarkKind::Ended => self.put_sign(sheet, "M-4 0H4"),

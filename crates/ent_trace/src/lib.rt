@@ -10,6 +10,6 @@ mod text;
 mod trace;
 
 pub use answer::{put_answers, put_rows};
-pub use reply::{failure_name, put_reply};
+pub use reply::put_reply;
 pub use text::Text;
 pub use trace::Trace;

@@ -69,17 +69,9 @@ fn put_stepped(alloc: Global, text: &mut Text, answer: &Answer) {
     put_answer(alloc, text, answer);
 }
 
-/// A failure's name in a report.
-pub fn failure_name(failure: Failure) -> &'static str {
-    match failure {
-        Failure::Overflow => "F1",
-        Failure::TableFull => "F2",
-    }
-}
-
 fn put_failed(text: &mut Text, failure: Failure, members: &Members) {
     text.put("failed ");
-    text.put_members(failure_name(failure), members);
+    text.put_members(failure.name(), members);
 }
 
 fn put_broken(text: &mut Text, cycle: &Members, group: &Members) {

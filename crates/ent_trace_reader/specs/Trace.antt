@@ -5,8 +5,7 @@ use Rattle.std.specs.Fmt.{decimal}
 use Rattle.std.specs.List.{filter, flat_map, starts_with}
 use Rattle.ent_value.specs.declared.refusal.Refusal.{Refusal}
 use Rattle.ent_value.specs.declared.refusal.Refusal.TheVariants.{Memory, Fault}
-use Rattle.ent_semantics.specs.declared.answer.Failure.{Failure}
-use Rattle.ent_semantics.specs.declared.answer.Failure.TheVariants as failures
+use Rattle.ent_semantics.specs.Failure.{failure_name}
 use Rattle.ent_trace_reader.specs.declared.exchange.Event.{Event}
 use Rattle.ent_trace_reader.specs.declared.exchange.Event.TheVariants as events
 use Rattle.ent_trace_reader.specs.declared.exchange.Exchange.{Exchange}
@@ -39,10 +38,6 @@ event_line (events.JoinAnswer job) = codes "join_answer" ++ numbered job
 event_line events.BreakCycle = codes "break_cycle"
 event_line events.EndRun = codes "end_run"
 event_line events.Recall = codes "recall"
-
-abbrev pub failure_name : Failure → List ℕ
-failure_name failures.Overflow = codes "F1"
-failure_name failures.TableFull = codes "F2"
 
 abbrev pub reply_line : Reply → List ℕ
 reply_line (replies.Started members) = codes "started" ++ listed members.items

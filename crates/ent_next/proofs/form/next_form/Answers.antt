@@ -11,7 +11,7 @@ pub returns-in-Some-clause-uses : goal.returns-in-Some-clause-uses
 returns-in-Some-clause-uses c =
     let member = c.args.member.now in
     let P : Option Submitted → Type 0 = λ script.
-    IfSome c.with_number.result (λ form. next_uses (next_in script member) ≡ statement_uses form.now) in
+    IfSome c.element.result (λ form. next_uses (next_in script member) ≡ statement_uses form.now) in
     subst P (c.in-Some.ensures ∙ ap (numbered c.args.submitted.now) c.tx.ensures)
-    (uses_there c.uses_are_kept_by_closing.ensures c.in-Some.own.now member c.with_number.result
-    (c.with_number.ensures ∙ (λ i. numbered (c.form.ensures i) (c.place.ensures i))))
+    (uses_there c.uses_are_kept_by_closing.ensures c.in-Some.own.now member c.element.result
+    (c.element.ensures ∙ (λ i. numbered (c.form.ensures i) (c.place.ensures i))))
