@@ -1,8 +1,8 @@
-//! The report of a book: what scripts came to, as text.
+//! The report of a book: what became of its scripts, as text.
 //!
-//! A caller may rely on the exact text: what [`write_report`] and [`write_report_2`] write is the report of the book,
-//! whole, and after a fault of the writer a beginning of it. And [`written_variables`] gives the written variables of
-//! an entangled statement, in the order of the definition.
+//! [`write_report`] and [`write_report_2`] write the exact text of the report, all of it; if the writer fails, what it
+//! took is a beginning of the report. [`written_variables`] gives the written variables of an entangled statement, in
+//! the order of the definition.
 #![tactic(auto)]
 
 mod answer;

@@ -1,10 +1,11 @@
 //! Statements in the form in which they are matched and carried out.
 //!
-//! A table is its number in the order of declaration, a column its number in the row of a statement's sources side by
-//! side, a written variable its number in the order of first appearance. `K` is what is known before any row is read:
-//! in a resolved statement a [`Known`], in a closed one, whose host variables have given way to their values, a
-//! [`ent_value::Value`]. Both have one meaning, over what a `K` is worth. [`ent_tree::Duplicate`] makes copies of them,
-//! and [`ent_tree::Same`] compares.
+//! Names are numbers here. A table is its number in the order of declaration, a column its number in the row of the
+//! statement's sources side by side, and a written variable its number in the order of first appearance.
+//!
+//! `K` is what is known before any row is read: a [`Known`] in a resolved statement, and an [`ent_value::Value`] in a
+//! closed one, where values have replaced the host variables. One definition gives both their meaning, from what a `K`
+//! is worth. [`ent_tree::Duplicate`] copies them, and [`ent_tree::Same`] compares them.
 #![tactic(auto)]
 
 mod copies;

@@ -1,6 +1,6 @@
 -- A member prepares, and its group commits.
 use Rattle.std.proofs.Common.{◌≡◌, ◌≤◌, ℕ, suc, Bool, true, false, not, List, [], ◌∷◌, ◌++◌, length, map, refl}
-use Rattle.std.proofs.Common.{sym, ap, subst, ◌∙◌, arith, filter, Option, Some, None}
+use Rattle.std.proofs.Common.{sym, ap, subst, ◌∙◌, arith, filter, Some, None}
 use Rattle.std.specs.List.{AllByRecursion}
 use Rattle.std.proofs.lemmas.List.{length-append}
 use Rattle.ent_lists.specs.Elements.{all_filtered, all_joined, shorter}
@@ -29,10 +29,6 @@ numbers_told number [] = refl
 numbers_told number (member ∷ more) = ap (λ rest. (number, member.tx) ∷ rest) (numbers_told (suc number) more)
 
 -- ---- how many
-
-pub nobody_there : (here : Option Member) (member : Member) → None ≡ here → here ≡ Some member → ⊥
-nobody_there None member none some = cc
-nobody_there (Some other) member none some = cc
 
 some_there : (active : List Member) (tx : ℕ) (member : Member) → found active tx ≡ Some member → 1 ≤ length active
 some_there [] tx member e = absurd cc

@@ -3,7 +3,7 @@ use Rattle.std.proofs.Common.{◌≡◌, ℕ, ◌==◌, Bool, true, false, cond,
 use Rattle.std.proofs.Common.{Some, None, if◌then◌else◌}
 use Rattle.std.specs.List.{filter, list_any}
 use Rattle.ent_semantics.specs.declared.book.Fated.{Fated}
-use Rattle.ent_protocol.specs.Lookup.{Standing, Turn, active_standing, standing, turn_of}
+use Rattle.ent_protocol.specs.Lookup.{Standing, active_standing, standing, turn_of}
 use Rattle.ent_protocol.specs.Lookup as lookups
 use Rattle.ent_protocol.specs.Member.{active_member, is_lent, is_tx, next_of}
 use Rattle.ent_protocol.specs.State.{State, Dormant, Member, first_of}
@@ -107,12 +107,12 @@ module _ (s : State) (tx : ℕ) where
 
   -- who isn't prepared and is at its turn is ready
   pub stands_ready : StandOnce s → (member : Member) → active_member s tx ≡ Some member → IsIdle s member
-      → (turn : Turn) × (standing s tx ≡ Some (lookups.Ready turn))
+      → standing s tx ≡ Some (lookups.Ready (turn_of (next_of s member)))
   stands_ready stand member there idle =
       let turn = turn_of (next_of s member) in
       let free = active_is_not_prepared s tx stand member (sym there) in
       let is = ready member.posted (is_lent s member.tx) (lookups.Ready turn) idle in
-      (turn, sym (stands_active stand free member (sym there)) ∙ ap (λ (x : Standing). Some x) is)
+      sym (stands_active stand free member (sym there)) ∙ ap (λ (x : Standing). Some x) is
     where
       ready : (posted out : Bool) (other : Standing) → (posted || out) ≡ false
           → (if posted then lookups.Posted else (if out then lookups.Out else other)) ≡ other

@@ -1,12 +1,11 @@
 //! A member begins its next statement.
-ghost use Rattle.std.specs.Prelude.{◌≡◌, ℕ, Some, None, true, IfErr, IfOk, IsOk, OnErr, OnOk};
+ghost use Rattle.std.specs.Prelude.{◌≡◌, Some, None, IfErr, IfOk, IsOk, OnErr, OnOk};
 ghost use Rattle.std.specs.Arc.{arc_value};
 ghost use Rattle.ent_coordination.specs.Pool.{Unsafe as UnsafePost};
 ghost use Rattle.ent_core.specs.Begin.{IsFreeMember, IsToLend, IsToPost, IsUnposted, LendsTo, MayBegin};
 ghost use Rattle.ent_core.specs.Begin.{begin_refusal_seen, job_uses};
 ghost use Rattle.ent_core.specs.Kept.{IsKeptState};
 ghost use Rattle.ent_core.specs.Reply.{reply_seen};
-ghost use Rattle.ent_form.specs.declared.fault.FormFault.{FormFault as Form};
 ghost use Rattle.ent_match.specs.declared.fault.PostFault.TheVariants as post_faults;
 ghost use Rattle.ent_run.specs.Places.{IsAt};
 ghost use Rattle.ent_next.specs.Next.{next_seen};
@@ -77,6 +76,13 @@ impl FreeMember {
         ensures { result ≡ self.tx }
     {
         self.tx
+    }
+
+    /// Its place among the members that aren't prepared.
+    pub(crate) fn place(self) -> usize
+        ensures { result ≡ self.place }
+    {
+        self.place
     }
 
     /// The member itself.
@@ -165,16 +171,6 @@ pub(crate) fn free_member(store: &Store, tx: Tx) -> Result<FreeMember, BeginRefu
     match blocker_of(store, store.run.at(place)) {
         Some(holder) => Err(BeginRefusal::Blocked(holder)),
         None => Ok(FreeMember { tx, place }),
-    }
-}
-
-/// Whether the begin of a member would be blocked. No reply is made.
-pub(crate) fn is_blocked(store: &Store, tx: Tx) -> bool
-    ensures { result ≡ true → (holder : ℕ) × Begins {F = Form} store.now tx (replies.Blocked holder) store.now }
-{
-    match free_member(store, tx) {
-        Err(BeginRefusal::Blocked(_)) => true,
-        _ => false,
     }
 }
 
@@ -290,7 +286,7 @@ pub(crate) fn begin_free(store: &mut Store, found: FreeMember) -> Result<Reply, 
             let query = query_of(member, statement);
             post(store, found, query)
         }
-        Next::Commits => commit(store, found.tx),
+        Next::Commits => commit(store, found),
         Next::RollsBack => {
             let group = member.group();
             Ok(Reply::RolledBack(roll_back(store, group, Cause::Asked(found.tx))))

@@ -1,7 +1,7 @@
 //! A member asks to commit.
-ghost use Rattle.std.specs.Prelude.{◌≡◌, ◌+◌, ◌≤◌, ◌++◌, IfOk, IsSome, OnErr, Some, length, map};
+ghost use Rattle.std.specs.Prelude.{◌≡◌, ◌+◌, ◌≤◌, ◌++◌, IfOk, OnErr, Some, length, map};
 ghost use Rattle.std.specs.Vec.{vec_capacity, vec_len};
-ghost use Rattle.ent_core.specs.Begin.{IsUnposted};
+ghost use Rattle.ent_core.specs.Begin.{IsFreeMember, IsUnposted};
 ghost use Rattle.ent_core.specs.Reply.{reply_seen};
 ghost use Rattle.ent_protocol.specs.Begin.{BeginsCommit};
 ghost use Rattle.ent_protocol.specs.Commit.{entry_of, is_ready, preparing};
@@ -9,9 +9,10 @@ ghost use Rattle.ent_protocol.specs.Member.{active_member};
 ghost use Rattle.ent_protocol.specs.State.{Member as Seen, members};
 ghost use Rattle.ent_protocol_laws.specs.Attempts.{StayWithin};
 
+use crate::begin::FreeMember;
 use crate::reply::Reply;
 use crate::store::Store;
-use ent_group::{MOST_MEMBERS, Tx};
+use ent_group::MOST_MEMBERS;
 use ent_members::Member;
 use ent_run::member_numbers;
 use ent_semantics::Entry;
@@ -34,25 +35,22 @@ fn enter(journal: &mut Vec<Entry>, committed: &mut Vec<Member>)
     }
 }
 
-/// A member that isn't prepared prepares; where every member of its group has, the group commits.
-pub(crate) fn commit(store: &mut Store, tx: Tx) -> Result<Reply, AllocError>
-    requires there { IsSome (active_member store.old tx) }
-    requires unposted { IsUnposted store.old tx }
+/// A member that is free prepares; where every member of its group has, the group commits.
+pub(crate) fn commit(store: &mut Store, found: FreeMember) -> Result<Reply, AllocError>
+    requires free { IsFreeMember store.old found }
+    requires unposted { IsUnposted store.old found.tx }
     requires counted { length store.old.fates + length store.old.dormant + length (members store.old)
         ≡ length store.old.submitted }
     requires within { StayWithin store.old }
-    ensures ok { IfOk result (λ reply. (member : Seen) → active_member store.old tx ≡ Some member
+    ensures ok { IfOk result (λ reply. (member : Seen) → active_member store.old found.tx ≡ Some member
         → BeginsCommit (preparing store.old member) member.group (is_ready (preparing store.old member) member.group)
         (reply_seen reply) store.new) }
     ensures err { OnErr result (store.new ≡ store.old) }
 {
-    let Some(member) = store.run.active_member(tx) else {
-        return Ok(Reply::Absent);
-    };
-    let group = member.group();
+    let group = found.member(store).group();
     let room = Vec::with_capacity(store.alloc, MOST_MEMBERS)?;
     store.journal.reserve(MOST_MEMBERS)?;
-    store.run.prepare(tx)?;
+    store.run.prepare_at(found.place())?;
     let Some(mut committed) = store.run.commit(group, room) else {
         return Ok(Reply::Prepared);
     };

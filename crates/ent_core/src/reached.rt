@@ -1,5 +1,5 @@
 //! The core whose type keeps that its state is reached.
-ghost use Rattle.std.specs.Prelude.{IfErr, IfOk, IsOk, MatchOption, None, OnErr, OnOk, Some, true, ℕ, ◌≡◌};
+ghost use Rattle.std.specs.Prelude.{IfErr, IfOk, IsOk, MatchOption, None, OnErr, OnOk, Some, ◌≡◌};
 ghost use Rattle.std.specs.Prelude.{◌∷◌, [], length};
 ghost use Rattle.std.specs.List.{AllByRecursion};
 ghost use Rattle.std.specs.Option.{option_copied, option_map};
@@ -8,8 +8,9 @@ ghost use Rattle.ent_core.specs.Begin.{IsFreeMember, begin_refusal_seen};
 ghost use Rattle.ent_core.specs.Kinds.{kinds_of_table};
 ghost use Rattle.ent_core.specs.Reply.{reply_seen};
 ghost use Rattle.ent_core.specs.Standing.{standing_seen};
+ghost use Rattle.ent_next.specs.Turn.{turn_seen};
 ghost use Rattle.ent_form.specs.OpeningFault.{opening_fault, unless};
-ghost use Rattle.ent_protocol.specs.Event.{Begin, Blocked, BreakCycle, EndRun, Finish, JoinAnswer, Pick};
+ghost use Rattle.ent_protocol.specs.Event.{Begin, BreakCycle, EndRun, Finish, JoinAnswer, Pick};
 ghost use Rattle.ent_protocol.specs.Event.{Recall, StartRun, Submit};
 ghost use Rattle.ent_protocol.specs.Member.{RollsBack, active_member, next_of, pool};
 ghost use Rattle.ent_protocol.specs.State.{Member};
@@ -17,7 +18,7 @@ ghost use Rattle.ent_protocol.specs.Job as jobs;
 ghost use Rattle.ent_protocol.specs.PoolEvents.{IsOutstandingJoint};
 ghost use Rattle.ent_semantics.specs.declared.answer.Failure.{Failure};
 ghost use Rattle.ent_protocol.specs.Lookup.{answers_of, dormant_at, entry_at, group_of, present_rows};
-ghost use Rattle.ent_protocol.specs.Lookup.{Ready, Turn, running_members, standing};
+ghost use Rattle.ent_protocol.specs.Lookup.{Ready, Turn as Next, running_members, standing};
 ghost use Rattle.ent_protocol.specs.Reached.{CanClose, IsFinishedBook, IsReached, book_of, opened, scripts_of};
 ghost use Rattle.ent_protocol.specs.Step.{Step};
 ghost use Rattle.ent_headline.specs.Resolved.{resolved_forms};
@@ -30,7 +31,7 @@ ghost use Rattle.ent_match.specs.Place.{HasNoneOf};
 ghost use Rattle.ent_core.specs.Obstacle.{IsBetween, IsObstacle, IsOf};
 ghost use Rattle.ent_core.specs.declared.closing.NotDone.{NotDone};
 
-use crate::begin::{BeginRefusal, FreeMember, begin, begin_free, free_member, is_blocked};
+use crate::begin::{BeginRefusal, FreeMember, begin, begin_free, free_member};
 use crate::break_cycle::break_cycle;
 use crate::closing::{NotClosed, NotDone, book, book_parts, can_close};
 use crate::end_run::end_run;
@@ -42,7 +43,7 @@ use crate::open::open;
 use crate::pick::pick;
 use crate::recall::recall;
 use crate::reply::Reply;
-use crate::standing::{Standing, standing_of};
+use crate::standing::{Standing, next_turn, standing_of};
 use crate::start_run::start_run;
 use crate::store::Store;
 use crate::submit::submit;
@@ -53,6 +54,7 @@ use ent_group::{Members, Tx};
 use ent_headline::resolved_runs_are_legal;
 use ent_match::Posted;
 use ent_members::{Conflict, Entrant};
+use ent_next::Turn;
 use ent_protocol::{closing_gives_the_book, reached_states_are_tidy};
 use ent_protocol_laws::{steps_go_on, transactions_stand_once};
 use ent_rel::Table;
@@ -146,12 +148,22 @@ impl Core {
     pub fn free_member(&self, tx: Tx) -> Result<FreeMember, BeginRefusal>
         ensures number { IfOk result (λ found. found.tx ≡ tx) }
         ensures free { IfOk result (IsFreeMember self.now) }
-        ensures ready { IfOk result (λ found. (turn : Turn) × (standing self.now found.tx ≡ Some (Ready turn))) }
+        ensures ready { IfOk result (λ found. (turn : Next) × (standing self.now found.tx ≡ Some (Ready turn))) }
         ensures refused { IfErr result (λ refusal.
             Step resolved_forms self.now (Begin tx) (begin_refusal_seen refusal) self.now) }
     {
         transactions_stand_once::<FormFault>();
         free_member(&self.store, tx)
+    }
+
+    /// What a free member begins next: a statement, COMMIT or ROLLBACK. The caller has found the member free, and made
+    /// no event since.
+    pub fn next_turn(&self, found: FreeMember) -> Turn
+        requires { IsFreeMember self.now found }
+        ensures { standing self.now found.tx ≡ Some (Ready (turn_seen result)) }
+    {
+        transactions_stand_once::<FormFault>();
+        next_turn(&self.store, found)
     }
 
     /// What [`Core::begin`] does, for a caller who has found the member free, and made no event since. Neither the
@@ -167,15 +179,6 @@ impl Core {
         resolved_runs_are_legal();
         steps_go_on::<FormFault>();
         begin_free(&mut self.store, found)
-    }
-
-    /// Whether another member blocks the next statement of the member of a number, so that a begin of it is
-    /// refused and changes nothing. Where this says no, the begin tells what it comes to. It is quicker than a begin,
-    /// since no reply is made.
-    pub fn is_blocked(&self, tx: Tx) -> bool
-        ensures { result ≡ true → (holder : ℕ) × Step resolved_forms self.now (Begin tx) (Blocked holder) self.now }
-    {
-        is_blocked(&self.store, tx)
     }
 
     /// Takes the result of one statement. Where its job isn't lent any more it is stale, and comes back. Else the

@@ -1,10 +1,15 @@
 //! Where a transaction stands.
-ghost use Rattle.std.specs.Prelude.{◌≡◌};
+ghost use Rattle.std.specs.Prelude.{◌≡◌, Some};
 ghost use Rattle.std.specs.Option.{option_map};
+ghost use Rattle.ent_core.specs.Begin.{IsFreeMember};
 ghost use Rattle.ent_core.specs.Kept.{IsKeptState};
 ghost use Rattle.ent_core.specs.Standing.{standing_seen};
+ghost use Rattle.ent_next.specs.Turn.{turn_seen};
 ghost use Rattle.ent_protocol.specs.Lookup as lookups;
+ghost use Rattle.ent_protocol.specs.Member.{active_member, next_of};
+ghost use Rattle.ent_protocol.specs.State.{Member as Seen};
 
+use crate::begin::FreeMember;
 use crate::store::Store;
 use ent_form::FormFault;
 use ent_group::Tx;
@@ -39,6 +44,15 @@ fn active_standing(store: &Store, member: &Member) -> Standing
         return Standing::Out;
     }
     Standing::Ready(turn_of(store.submitted.as_slice(), member))
+}
+
+/// What a free member begins next.
+pub(crate) fn next_turn(store: &Store, found: FreeMember) -> Turn
+    requires { IsFreeMember store.now found }
+    ensures { (member : Seen) → active_member store.now found.tx ≡ Some member
+        → turn_seen result ≡ lookups.turn_of (next_of store.now member) }
+{
+    turn_of(store.submitted.as_slice(), found.member(store))
 }
 
 /// Where a transaction stands: as a member, else as it is dormant, else by its fate. It stands in one of these places,

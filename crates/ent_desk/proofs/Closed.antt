@@ -20,7 +20,7 @@ use Rattle.ent_desk.specs.declared.ticket.Receipt.{Receipt}
 use Rattle.ent_desk.specs.declared.ticket.Ticket.{Ticket}
 use Rattle.ent_desk.specs.Accounted.{HasReceipt, HaveReceipts, IsAccounted, receipt}
 use Rattle.ent_desk.specs.Closed.{AreReceiptsOf, HasItsRuns, IsClosedBook, Numbered, all_receipts, all_tickets}
-use Rattle.ent_desk.specs.Closed.{entry_of, numbered_from}
+use Rattle.ent_desk.specs.Closed.{entry_of, entries_from}
 use Rattle.ent_desk.specs.Opened.{tickets_from}
 use Rattle.ent_desk.specs.Seen.{SessionState}
 use Rattle.ent_desk.proofs.Exactness.{AllIn, Ascends, In, all_by, all_in, by_all, contains_in, exact, in_contains}
@@ -70,7 +70,7 @@ module _ (core : State) (all : List Receipt) where
   length_wanted next (entry ∷ more) h = ap suc (length_wanted (suc next) more h.1)
 
   entries_wanted : (next : ℕ) (journal : List Entry) (h : HaveReceipts core all next journal)
-      → map entry_of (wanted next journal h) ≡ numbered_from next journal
+      → map entry_of (wanted next journal h) ≡ entries_from next journal
   unfolding wanted
   entries_wanted next [] h = refl
   entries_wanted next (entry ∷ more) h =

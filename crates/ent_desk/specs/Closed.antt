@@ -31,10 +31,10 @@ pub record Numbered : Type 0 where
   pub tx : ℕ
   pub answers : List Answer
 
-abbrev pub numbered_from : ℕ → List Entry → List Numbered
-numbered_from next [] = []
-numbered_from next (entry ∷ more) =
-    record { number = next; tx = entry.tx; answers = entry.answers } ∷ numbered_from (suc next) more
+abbrev pub entries_from : ℕ → List Entry → List Numbered
+entries_from next [] = []
+entries_from next (entry ∷ more) =
+    record { number = next; tx = entry.tx; answers = entry.answers } ∷ entries_from (suc next) more
 
 -- the entry that a receipt is of
 abbrev pub entry_of : Receipt → Numbered
@@ -47,7 +47,7 @@ HasItsRuns fates receipt = Contains fates (record { tx = receipt.tx; fate = Comm
 -- Receipts are those of a book: each entry of the journal has one receipt, no receipt is of anything else, and each has
 -- the runs of its transaction's fate.
 pub record AreReceiptsOf (book : Book Database) (receipts : List Receipt) : Type 0 where
-  pub entries : IsPermutation (numbered_from 1 book.journal) (map entry_of receipts)
+  pub entries : IsPermutation (entries_from 1 book.journal) (map entry_of receipts)
   pub runs : AllByRecursion (HasItsRuns book.fates) receipts
 
 -- A closed manager's book is finished and legal, over the opening that one of the sessions holds, and gathered at the

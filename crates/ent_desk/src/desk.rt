@@ -1,5 +1,6 @@
 //! What stands behind the lock.
 ghost use Rattle.std.specs.Prelude.{◌≡◌, ◌+◌, ◌≤◌, ◌∷◌, ◌++◌, ℕ, [], IfErr, IfOk, OnErr, OnOk, length};
+ghost use Rattle.ent_core.specs.Begin.{IsFreeMember};
 ghost use Rattle.ent_core.specs.Reply.{reply_seen};
 ghost use Rattle.ent_desk.specs.Kept.{IsKeptDesk};
 ghost use Rattle.ent_desk.specs.Seen.{GetsReceipts, LeadsOn, with_ticket};
@@ -17,7 +18,7 @@ use crate::draft::{Draft, commits_told, drafts, keep_receipts};
 use crate::naming::Naming;
 use crate::session::Session;
 use crate::ticket::Ticket;
-use ent_core::{Core, Reply, Standing};
+use ent_core::{Core, FreeMember, Reply, Standing};
 use ent_eval::{Done, Job, Work};
 use ent_form::FormFault;
 use ent_group::{MOST_MEMBERS, Tx};
@@ -277,34 +278,32 @@ impl<L: Naming> Desk<L> {
         ensures events { LeadsOn self.old self.new }
         ensures session { GetsReceipts session.old session.new }
     {
-        if self.core.is_blocked(tx) {
+        let Ok(found) = self.core.free_member(tx) else {
             return Ok(None);
-        }
-        match self.core.standing(tx) {
-            Some(Standing::Ready(Turn::Commit)) => {
-                let drafts = drafts(alloc, &self.core, tx)?;
-                self.begin(alloc, session, tx, drafts)
-            }
-            Some(Standing::Ready(_)) => self.begin(alloc, session, tx, Vec::new(alloc)),
-            _ => Ok(None),
-        }
+        };
+        let drafts = match self.core.next_turn(found) {
+            Turn::Commit => drafts(alloc, &self.core, tx)?,
+            Turn::Statement | Turn::Rollback => Vec::new(alloc),
+        };
+        self.begin(alloc, session, found, drafts)
     }
 
-    /// A member begins its next statement. Room for the receipts of its group is made first, and their answers are
+    /// A free member begins its next statement. Room for the receipts of its group is made first, and their answers are
     /// drafted, so that nothing can fail behind the event.
     fn begin(
         &mut self,
         alloc: Global,
         session: &mut Session<L>,
-        tx: Tx,
+        found: FreeMember,
         drafts: Vec<Draft>,
     ) -> Result<Option<Advance>, AllocError>
+        requires { IsFreeMember self.old.core found }
         ensures events { LeadsOn self.old self.new }
         ensures session { GetsReceipts session.old session.new }
         ensures err { OnErr result ((self.new ≡ self.old) × (session.new ≡ session.old)) }
     {
         session.receipts.reserve(MOST_MEMBERS)?;
-        let reply = self.core.begin(tx)?;
+        let reply = self.core.begin_free(found)?;
         let count = commits_told(&reply);
         self.entries.add(&mut session.committed, count as u64);
         keep_receipts(alloc, &self.core, &mut session.receipts, &reply, drafts);

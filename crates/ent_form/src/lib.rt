@@ -1,9 +1,9 @@
-//! Declared tables, and statements with each name resolved to a number.
+//! Declared tables, and statements in which each name is resolved to a number.
 //!
-//! A caller may rely on the first fault: [`Catalogue::of`] and [`resolve`] answer where no fault stands, and else
-//! refuse for the head of the list of those that stand, which `AllFaults`, `EntangledFaults` and `ScriptFaults` give in
-//! the order in which they count. What is answered is said in the order of `Ordinary`, `Entangled` and `Form`, part by
-//! part, each looked up once.
+//! Unless memory runs out, [`Catalogue::of`] and [`resolve`] answer if there is no fault, and else refuse with the
+//! first one: the head of the list of all faults, which `AllFaults`, `EntangledFaults` and `ScriptFaults` give in the
+//! order in which they count. `Ordinary`, `Entangled` and `Form` say what is answered: they go through a statement part
+//! by part, and look each part up once.
 #![tactic(auto)]
 
 mod binding;

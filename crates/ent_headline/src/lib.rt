@@ -25,8 +25,8 @@ pub use reached::{
 pub use run::{
     a_resolved_script_commits, accepted_results_are_outstanding, finished_books_are_legal,
     resolved_answers_are_good, resolved_answers_are_good_in_groups,
-    resolved_asks_are_answered_once, resolved_conflicts_stand_in_groups, resolved_groups_run_alone,
-    resolved_jobs_are_present, resolved_journals_fit_the_fates, resolved_runs_are_legal,
-    resolved_runs_are_serial, resolved_runs_give_the_book,
+    resolved_conflicts_stand_in_groups, resolved_entangled_statements_are_answered_once,
+    resolved_groups_run_alone, resolved_jobs_are_present, resolved_journals_fit_the_fates,
+    resolved_runs_are_legal, resolved_runs_are_serial, resolved_runs_give_the_book,
 };
 pub use work::{begun_statements_are_work, picked_statements_fit, used_tables_are_declared};

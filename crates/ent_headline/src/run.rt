@@ -32,10 +32,10 @@ use ent_form::FormFault;
 use ent_protocol::plays_lead_on;
 use ent_protocol_laws::lent_jobs_stand_once;
 use ent_serializability::{
-    committed_runs_give_the_book, conflicts_stand_in_groups, groups_run_alone,
-    joint_answers_are_good, journals_fit_the_fates, lent_jobs_are_present,
-    live_answers_are_good_in_groups, passed_asks_are_answered_once, reached_states_are_legal,
-    reached_states_are_serial,
+    committed_runs_give_the_book, conflicts_stand_in_groups,
+    entangled_statements_are_answered_once, groups_run_alone, joint_answers_are_good,
+    journals_fit_the_fates, lent_jobs_are_present, live_answers_are_good_in_groups,
+    reached_states_are_legal, reached_states_are_serial,
 };
 
 /// Every state that is reached is a serial state: the committed transactions, run alone in the order of their commits,
@@ -120,7 +120,7 @@ pub fn resolved_conflicts_stand_in_groups()
 /// In every state that is reached each entangled statement that a transaction has passed, which has committed or is a
 /// member, stands in exactly one of the joint answers that were made and not rolled back; and nothing else stands in
 /// one.
-pub fn resolved_asks_are_answered_once()
+pub fn resolved_entangled_statements_are_answered_once()
     ensures once { (s : State) (tx place : ℕ)
         → opening_fault s.opening ≡ None
         → IsReached resolved_forms s
@@ -132,7 +132,7 @@ pub fn resolved_asks_are_answered_once()
         → NothingElse s }
 {
     resolved_forms_are_faithful();
-    passed_asks_are_answered_once::<FormFault>();
+    entangled_statements_are_answered_once::<FormFault>();
 }
 
 /// In every state that is reached a group runs alone: what its prepared members did, one after the other from the

@@ -47,33 +47,8 @@ pub record ComesBack (s : State) (member : Member) (left : List Job) : Type 0 wh
   pub at : In member s.active
   pub own : member.tx ≡ single.tx
 
--- what each change of a state keeps
+-- what each change of a state keeps; a statement is posted only if the pool is safe with it
 pub record AreKept (P : State → Type 0) : Type 0 where
-  pub submits : (s : State) (script : Script) (form : List (Statement Known)) → P s → P (submitting s script form)
-  pub starts : (s : State) → s.running ≡ false → P s → P (starting s)
-  pub lends : (s : State) (member : Member) (statement : Statement Value) → IsIdle s member
-      → next_of s member ≡ Ordinary statement → P s → P (lending s member statement)
-  pub posts : (s : State) (member : Member) (statement : Entangled Value) → IsIdle s member
-      → next_of s member ≡ Asks statement → P s → P (posting s member statement)
-  pub prepares : (s : State) (member : Member) → IsIdle s member → P s → P (preparing s member)
-  pub commits : (s : State) (group : ℕ) → list_any (is_of group) s.active ≡ false → P s → P (committing s group)
-  pub rolls_back : (s : State) (group : ℕ) (cause : Cause) → P s → P (rolled_back group cause s)
-  pub takes : (s : State) (job : Job) (left : List Job) → IsTaken job s.lent left → P s
-      → P (record s { lent = left })
-  pub finishes : (s : State) (member : Member) (left : List Job) (statement : Statement Value) (outcome : Outcome)
-      → ComesBack s member left → P s → P (finished (record s { lent = left }) member statement outcome)
-  pub picks : (s : State) (asked : List Posted) → IsPresentComponent s asked → (IsOut s asked → ⊥) → P s
-      → P (record s { lent = s.lent ++ joint_job s asked ∷ [] })
-  pub joins : (s : State) (job : Job) (left : List Job) (asked : List Posted) (groundings : List Valuation)
-      → IsTaken job s.lent left → IsPresentComponent s asked
-      → ((tables : Tables) × AreGroundings tables asked groundings) → P s
-      → P (joining (record s { lent = left }) asked groundings)
-  pub tries : (s : State) (asked : List Posted) → P s → P (record s { tried = asked ∷ s.tried })
-  pub ends : (s : State) → P s → P (ending s)
-  pub recalls : (s : State) → P s → P (record s { lent = [] })
-
--- what each change of a state keeps, where a statement is posted only if the pool is safe with it
-pub record AreKeptSafe (P : State → Type 0) : Type 0 where
   pub submits : (s : State) (script : Script) (form : List (Statement Known)) → P s → P (submitting s script form)
   pub starts : (s : State) → s.running ≡ false → P s → P (starting s)
   pub lends : (s : State) (member : Member) (statement : Statement Value) → IsIdle s member
@@ -98,26 +73,7 @@ pub record AreKeptSafe (P : State → Type 0) : Type 0 where
   pub ends : (s : State) → P s → P (ending s)
   pub recalls : (s : State) → P s → P (record s { lent = [] })
 
-safely : {P : State → Type 0} → AreKept P → AreKeptSafe P
-safely kept =
-    record {
-      submits = kept.submits;
-      starts = kept.starts;
-      lends = kept.lends;
-      posts = λ s member statement idle next safe h. kept.posts s member statement idle next h;
-      prepares = kept.prepares;
-      commits = kept.commits;
-      rolls_back = kept.rolls_back;
-      takes = kept.takes;
-      finishes = kept.finishes;
-      picks = kept.picks;
-      joins = kept.joins;
-      tries = kept.tries;
-      ends = kept.ends;
-      recalls = kept.recalls;
-    }
-
-module _ {F : Type 0} (forms : Forms F) (P : State → Type 0) (kept : AreKeptSafe P) where
+module _ {F : Type 0} (forms : Forms F) (P : State → Type 0) (kept : AreKept P) where
   as_is : (s new : State) → new ≡ s → P s → P new
   as_is s new e h = subst P (sym e) h
 
@@ -247,30 +203,22 @@ module _ {F : Type 0} (forms : Forms F) (P : State → Type 0) (kept : AreKeptSa
   end_run s true reply new (inl step) h = as_is _ new step.2 (kept.ends s h)
   end_run s true reply new (inr step) h = as_is s new step.2.1 h
 
-  pub safely_on : (s : State) (event : Event) (reply : Reply F) (new : State) → Step forms s event reply new
+  pub stepped_on : (s : State) (event : Event) (reply : Reply F) (new : State) → Step forms s event reply new
       → P s → P new
-  safely_on s (events.Submit script) reply new step h = submit _ s script reply new step h
-  safely_on s events.StartRun reply new step h = start s s.running s.dormant reply new refl step h
-  safely_on s (events.Begin tx) reply new step h = begins s tx (active_member s tx) reply new refl step h
-  safely_on s (events.Finish done) reply new step h = finish s done reply new step h
-  safely_on s events.Pick reply new step h = pick s reply new step h
-  safely_on s (events.JoinAnswer done) reply new step h = join s done reply new step h
-  safely_on s events.BreakCycle reply new step h = break s reply new step h
-  safely_on s events.EndRun reply new step h = end_run s s.running reply new step h
-  safely_on s events.Recall reply new step h = as_is _ new step.1 (kept.recalls s h)
+  stepped_on s (events.Submit script) reply new step h = submit _ s script reply new step h
+  stepped_on s events.StartRun reply new step h = start s s.running s.dormant reply new refl step h
+  stepped_on s (events.Begin tx) reply new step h = begins s tx (active_member s tx) reply new refl step h
+  stepped_on s (events.Finish done) reply new step h = finish s done reply new step h
+  stepped_on s events.Pick reply new step h = pick s reply new step h
+  stepped_on s (events.JoinAnswer done) reply new step h = join s done reply new step h
+  stepped_on s events.BreakCycle reply new step h = break s reply new step h
+  stepped_on s events.EndRun reply new step h = end_run s s.running reply new step h
+  stepped_on s events.Recall reply new step h = as_is _ new step.1 (kept.recalls s h)
 
   led_on : (n : ℕ) (first last : State) → LeadsTo forms n first last → P first → P last
   led_on zero first last leads h = as_is first last leads h
   led_on (suc n) first last leads h =
-      safely_on leads.0 leads.1 leads.2 last leads.4 (led_on n first leads.0 leads.3 h)
-
-  pub safely_reached : (s : State) → P (opened s.opening) → IsReached forms s → P s
-  safely_reached s h r = led_on r.0 (opened s.opening) s r.1 h
-
-module _ {F : Type 0} (forms : Forms F) (P : State → Type 0) (kept : AreKept P) where
-  pub stepped_on : (s : State) (event : Event) (reply : Reply F) (new : State) → Step forms s event reply new
-      → P s → P new
-  stepped_on = safely_on forms P (safely kept)
+      stepped_on leads.0 leads.1 leads.2 last leads.4 (led_on n first leads.0 leads.3 h)
 
   pub reached : (s : State) → P (opened s.opening) → IsReached forms s → P s
-  reached = safely_reached forms P (safely kept)
+  reached s h r = led_on r.0 (opened s.opening) s r.1 h

@@ -287,7 +287,7 @@ within_kept =
           (h (all_first AsksForRun s.submitted more asked));
       starts = λ s off h asked. starts s (h asked);
       lends = λ s m statement idle next h asked. replaces s m _ idle.at refl refl (h asked);
-      posts = λ s m statement idle next h asked. replaces s m _ idle.at refl refl (h asked);
+      posts = λ s m statement idle next safe h asked. replaces s m _ idle.at refl refl (h asked);
       prepares = λ s m idle h asked. prepares s m idle.at (h asked);
       commits = λ s group ready h asked.
           let w = h asked in

@@ -85,8 +85,8 @@ ordered_kept =
       starts = λ s off h. (places_kept.starts s off h.0, starts s h.0);
       lends = λ s m statement idle next h.
           (places_kept.lends s m statement idle next h.0, mapped (replaced _) (replaced_tx _) s.active h.1);
-      posts = λ s m statement idle next h.
-          (places_kept.posts s m statement idle next h.0, mapped (replaced _) (replaced_tx _) s.active h.1);
+      posts = λ s m statement idle next safe h.
+          (places_kept.posts s m statement idle next safe h.0, mapped (replaced _) (replaced_tx _) s.active h.1);
       prepares = λ s m idle h. (places_kept.prepares s m idle h.0, pairs_filtered (Below tx_of) _ s.active h.1);
       commits = λ s group ready h. (places_kept.commits s group ready h.0, h.1);
       rolls_back = λ s group cause h.

@@ -60,7 +60,7 @@ declared_kept =
       lends = λ s m statement idle next h.
           with_last (SeesDeclared s.opening.tables) s.lent (single_job s m statement) h
           (seen_declared s.opening.tables s.tables (statement_uses statement));
-      posts = λ s m statement idle next h. h;
+      posts = λ s m statement idle next safe h. h;
       prepares = λ s m idle h. h;
       commits = λ s group ready h. h;
       rolls_back = λ s group cause h.

@@ -80,8 +80,8 @@ groups_kept =
       lends = λ s m statement idle next h.
           as_before s _ (places_kept.lends s m statement idle next h.stands)
           (replaced_labels s h.stands _ m idle.at refl refl) refl refl refl h;
-      posts = λ s m statement idle next h.
-          as_before s _ (places_kept.posts s m statement idle next h.stands)
+      posts = λ s m statement idle next safe h.
+          as_before s _ (places_kept.posts s m statement idle next safe h.stands)
           (replaced_labels s h.stands _ m idle.at refl refl) refl refl refl h;
       prepares = prepares;
       commits = commits;

@@ -44,7 +44,7 @@ module _ (old : State) where
         submits = submits;
         starts = λ s off h. alike s _ refl refl h;
         lends = λ s member statement idle next h. alike s _ refl refl h;
-        posts = λ s member statement idle next h. alike s _ refl refl h;
+        posts = λ s member statement idle next safe h. alike s _ refl refl h;
         prepares = λ s member idle h. alike s _ refl refl h;
         commits = λ s group ready h. alike s _ refl refl h;
         rolls_back = λ s group cause h. alike s _ refl refl h;

@@ -23,7 +23,7 @@ use Rattle.ent_protocol.specs.Run.{Forms, fresh, starting, submitting}
 use Rattle.ent_protocol.specs.PostedBy.{IsPosted, IsPostedBy, in_pool, to_pool, next_same}
 use Rattle.ent_protocol.specs.State.{State, Submitted, Member}
 use Rattle.ent_protocol.specs.Uses.{entangled_uses}
-use Rattle.ent_protocol_laws.proofs.Acts.{AreKeptSafe, safely_reached}
+use Rattle.ent_protocol_laws.proofs.Acts.{AreKept, reached}
 use Rattle.ent_protocol_laws.proofs.Found.{numbered_on}
 use Rattle.ent_lists.specs.Elements.{In, contains_in, in_contains, in_first, in_second, of_filter, of_map}
 use Rattle.ent_protocol_laws.specs.Numbered.{from_by_number}
@@ -288,7 +288,7 @@ joins s left asked groundings h =
         by true rest = inl refl
         by false rest = rest
 
-pool_kept : AreKeptSafe PoolRight
+pool_kept : AreKept PoolRight
 pool_kept =
     record {
       submits = submits;
@@ -309,7 +309,7 @@ pool_kept =
 
 pub reached_safe : {F : Type 0} (forms : Forms F) (s : State) → IsReached forms s → IsSafe (pool s)
 reached_safe forms s r =
-    let right = safely_reached forms PoolRight pool_kept s (none_opened s.opening) r in
+    let right = reached forms PoolRight pool_kept s (none_opened s.opening) r in
     λ asker first second index a b c.
     right.safe asker first second index (asked asker a) (asked first b) (asked second c)
   where

@@ -1,5 +1,5 @@
 //! Members that go from one list to another, or leave.
-ghost use Rattle.std.specs.Prelude.{◌≡◌, ◌+◌, ◌≤◌, ◌++◌, List, filter, IsSome, OnOk, OnErr};
+ghost use Rattle.std.specs.Prelude.{◌≡◌, ℕ, ◌+◌, ◌<◌, ◌≤◌, ◌++◌, List, filter, length, OnOk, OnErr};
 ghost use Rattle.std.specs.List.{list_any};
 ghost use Rattle.std.specs.Vec.{vec_capacity, vec_len};
 ghost use Rattle.ent_group.specs.declared.groups.Membership.{Membership};
@@ -8,23 +8,23 @@ ghost use Rattle.ent_run.specs.Grouped.{AreGrouped};
 ghost use Rattle.ent_protocol.specs.Member.{is_of};
 ghost use Rattle.ent_run.specs.Locks.{IsLockedRun};
 ghost use Rattle.ent_run.specs.Moves.{Prepares, is_not_of, is_of_another, run_of};
-ghost use Rattle.ent_run.specs.Places.{found};
+ghost use Rattle.ent_run.specs.Places.{IsAt};
 ghost use Rattle.ent_run.specs.Run.{IsRun};
 
-use crate::search::place_of;
 use ent_group::{Members, Tx};
 use ent_members::Member;
 use std::alloc::AllocError;
 
-/// The member of a number goes to the end of those that are prepared.
+/// The member at an index goes to the end of those that are prepared.
 pub(crate) fn prepare(
     prepared: &mut Vec<Member>,
     active: &mut Vec<Member>,
-    tx: Tx,
+    at: usize,
 ) -> Result<(), AllocError>
     requires run { IsRun prepared.old.items active.old.items }
-    requires there { IsSome (found active.old.items tx) }
-    ensures ok { OnOk result (Prepares tx (run_of prepared.old.items active.old.items)
+    requires within { at < length active.old.items }
+    ensures ok { (tx : ℕ) → IsAt active.old.items tx at
+        → OnOk result (Prepares tx (run_of prepared.old.items active.old.items)
         (run_of prepared.new.items active.new.items)) }
     ensures prepared { OnErr result (prepared.new.items ≡ prepared.old.items) }
     ensures active { OnErr result (active.new.items ≡ active.old.items) }
@@ -34,10 +34,8 @@ pub(crate) fn prepare(
         → AreGrouped groups (prepared.new.items ++ active.new.items) }
 {
     prepared.reserve(1)?;
-    if let Some(at) = place_of(active.as_slice(), tx) {
-        let member = active.remove(at);
-        prepared.push_reserved(member);
-    }
+    let member = active.remove(at);
+    prepared.push_reserved(member);
     Ok(())
 }
 

@@ -304,13 +304,14 @@ impl Run {
         change::step_bound(self.active.as_mut_slice(), tx, answer, bound)
     }
 
-    /// A member is prepared, the last so far. Where memory runs out nothing changes.
-    pub fn prepare(&mut self, tx: Tx) -> Result<(), AllocError>
-        requires { IsSome (found self.old.active tx) }
-        ensures ok { OnOk result (Prepares tx self.old self.new) }
+    /// The member at a place of those that aren't prepared is prepared, the last so far. Where memory runs out nothing
+    /// changes.
+    pub fn prepare_at(&mut self, place: usize) -> Result<(), AllocError>
+        requires { place < length self.old.active }
+        ensures ok { (tx : ℕ) → IsAt self.old.active tx place → OnOk result (Prepares tx self.old self.new) }
         ensures err { OnErr result (self.new ≡ self.old) }
     {
-        prepare(&mut self.prepared, &mut self.active, tx)
+        prepare(&mut self.prepared, &mut self.active, place)
     }
 
     /// Whether every member of the group with a label is prepared.

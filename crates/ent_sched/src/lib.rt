@@ -1,15 +1,18 @@
-//! The schedule of one thread: runs, one after the other, until each script has its fate.
+//! A scheduler for one thread: it makes one run after the other, until each script has its fate.
 //!
-//! In a round of a run each member has its turn, a component of what is posted is answered, and a deadlock is broken.
-//! The core is that of a [`Counted`], which makes no event without a tick. A caller may rely on [`round`] that it makes
-//! a bounded number of events, and lends no job when it is done; that a round in which something moved uses up a step
-//! of progress; and that a round in which nothing moved leaves the state as it was, and the run quiet. On [`run`], that
-//! it makes a bounded number of events and leaves no run on, and that each run uses up tries; and on [`run_all`], that
-//! it takes the jobs back and makes runs, each within its bound, and nothing else, and answers the finished book of the
-//! core that it is given, which is legal, and in which each script has a fate. Only want of memory keeps it from that,
-//! and then the core comes back. [`run_all_counted`] is the same, and tells how many events were made;
-//! [`run_all_watched`] tells a [`Watcher`] each of them with its reply, in order, and nothing else. The core that runs
-//! take and give is passed on by its name.
+//! In a round of a run each member has its turn, then a component of the pool is answered, then a deadlock is broken.
+//! Rounds and runs work on a [`Counted`]: a core, and a count that ticks at each event.
+//!
+//! - [`round`] makes a bounded number of events, and no job is lent when it is done. If something moved, the round used
+//!   up a step of progress. If nothing moved, the state is as it was, and the run is quiet.
+//! - [`run`] makes a bounded number of events and leaves no run on. Each run uses up tries.
+//! - [`run_all`] takes the jobs back and makes runs, each within its bound, and does nothing else. It answers the
+//!   finished book of the core that it is given; this book is legal, and each script has a fate in it. It fails only if
+//!   memory runs out, and then it gives the core back.
+//! - [`run_all_counted`] does the same, and says how many events it made. [`run_all_watched`] also tells a [`Watcher`]
+//!   of each event with its reply, in order, and of nothing else.
+//!
+//! [`Core`] and [`Played`] are those of ent_core, exported again for the callers of this crate.
 #![tactic(auto)]
 
 mod all_runs;

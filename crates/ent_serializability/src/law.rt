@@ -113,7 +113,7 @@ pub fn conflicts_stand_in_groups<F>()
 /// In every state that is reached each entangled statement that a transaction has passed, which has committed or is a
 /// member, stands in exactly one of the joint answers that were made and not rolled back; and nothing else stands in
 /// one.
-pub fn passed_asks_are_answered_once<F>()
+pub fn entangled_statements_are_answered_once<F>()
     ensures once { (forms : Forms F) (s : State) (tx place : ℕ)
         → AreFaithful forms s.opening
         → IsReached forms s

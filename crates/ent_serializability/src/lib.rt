@@ -8,8 +8,8 @@
 mod law;
 
 pub use law::{
-    committed_runs_give_the_book, conflicts_stand_in_groups, groups_run_alone,
-    joint_answers_are_good, journals_fit_the_fates, lent_jobs_are_present,
-    live_answers_are_good_in_groups, passed_asks_are_answered_once, reached_states_are_legal,
-    reached_states_are_serial,
+    committed_runs_give_the_book, conflicts_stand_in_groups,
+    entangled_statements_are_answered_once, groups_run_alone, joint_answers_are_good,
+    journals_fit_the_fates, lent_jobs_are_present, live_answers_are_good_in_groups,
+    reached_states_are_legal, reached_states_are_serial,
 };

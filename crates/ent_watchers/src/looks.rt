@@ -1,6 +1,6 @@
 //! A look at a core: what stops the members of its run.
 use ent_closed::{Atom, Term};
-use ent_core::{Core, Obstacle};
+use ent_core::{BeginRefusal, Core, Obstacle};
 use ent_group::{Members, Tx};
 use ent_match::Demand;
 use ent_members::Conflict;
@@ -38,10 +38,9 @@ fn blocks_if_blocked(
     members: &Members,
     tx: Tx,
 ) -> Result<Vec<Block>, AllocError> {
-    if core.is_blocked(tx) {
-        blocks_of(alloc, core, members, tx)
-    } else {
-        Ok(Vec::new(alloc))
+    match core.free_member(tx) {
+        Err(BeginRefusal::Blocked(_)) => blocks_of(alloc, core, members, tx),
+        _ => Ok(Vec::new(alloc)),
     }
 }
 

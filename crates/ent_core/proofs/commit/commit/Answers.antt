@@ -1,8 +1,8 @@
-use Rattle.std.proofs.Common.{◌≡◌, ◌+◌, ◌++◌, ◌∙◌, ℕ, suc, List, Some, ap, arith, length, map, refl, subst, sym}
+use Rattle.std.proofs.Common.{◌≡◌, ◌+◌, ◌<◌, ◌++◌, ◌∙◌, ℕ, suc, List, Some, ap, arith, length, map, refl, subst, sym}
 use Rattle.std.specs.List.{AllByRecursion}
-use Rattle.std.specs.Prelude.{IsSome}
+use Rattle.std.specs.Prelude.{is_some}
 use Rattle.ent_form.specs.declared.fault.FormFault.{FormFault}
-use Rattle.ent_run.specs.Places.{found}
+use Rattle.ent_run.specs.Places.{IsAt, found}
 use Rattle.ent_members.specs.Order.{tx_of}
 use Rattle.ent_run.specs.Run.{Run, with_run}
 use Rattle.ent_protocol.specs.Begin.{BeginsCommit}
@@ -19,51 +19,52 @@ use Rattle.ent_core.specs.Store.{IsKept}
 use Rattle.ent_core.specs.contracts.store.Store.{the_view}
 use Rattle.ent_pool_laws.specs.Pooled.{IsPoolOf}
 use Rattle.ent_core.specs.Begin.{IsUnposted}
-use Rattle.ent_core.proofs.Begun.{kept_changed, kept_with, one_member}
-use Rattle.ent_core.proofs.Committing.{commits, committed_all, committed_few, first_part, last_part, nobody_there}
-use Rattle.ent_core.proofs.Committing.{parts_numbered, waits}
+use Rattle.ent_core.proofs.Begun.{found_at, kept_changed, kept_with, one_member}
+use Rattle.ent_core.proofs.Committing.{commits, committed_all, committed_few, first_part, last_part, parts_numbered}
+use Rattle.ent_core.proofs.Committing.{waits}
 use Rattle.ent_core.proofs.Pooled.{kept_prepared}
 use Rattle.ent_core.proofs.commit.commit.Goals as goal
+
+pub prepare_at-requires : goal.prepare_at-requires
+prepare_at-requires c =
+    subst (λ (x : State). c.args.found.place < length x.active) (sym c.store.view_is) c.requires.free.at.in_range
+
+-- ---- a member of its group isn't prepared
 
 pub returns-in_default-clause-ok : goal.returns-in_default-clause-ok
 returns-in_default-clause-ok c = λ member there.
     let s : State = the_view c.store.inside in
-    absurd (nobody_there (active_member s c.args.tx) member (c.in_default.ensures s)
-    (ap (λ (x : State). active_member x c.args.tx) c.store.view_is ∙ there))
-
--- ---- a member of its group isn't prepared
-
-pub returns-in_default-commit-clause-ok : goal.returns-in_default-commit-clause-ok
-returns-in_default-commit-clause-ok c = λ member there.
-    let s : State = the_view c.store.inside in
     let now = c.args.store.now in
-    let mid : Run = c.prepare.new.self in
+    let mid : Run = c.prepare_at.new.self in
     let left : Run = c.commit.new.self in
-    let stays : left ≡ mid = c.in_default-commit.ensures.same refl in
-    let here : active_member s c.args.tx ≡ Some member =
-    ap (λ (x : State). active_member x c.args.tx) c.store.view_is ∙ there in
-    let one : c.in-Some.member.now ≡ member =
-    one_member c.in-Some.member.now member (c.in-Some.ensures s ∙ here) in
+    let stays : left ≡ mid = c.in_default.ensures.same refl in
+    let tx = c.args.found.tx in
+    let here : active_member s tx ≡ Some member = ap (λ (x : State). active_member x tx) c.store.view_is ∙ there in
+    let one : c.member.result.now ≡ member =
+    one_member c.member.result.now member (sym c.member.ensures.there ∙ there) in
+    let at = subst (λ (x : State). IsAt x.active tx c.args.found.place) (sym c.store.view_is) c.requires.free.at in
     let own : c.group-group.result ≡ member.group = c.group-group.ensures ∙ ap (λ (m : Member). m.group) one in
     let P : State → Type 0 = λ new. BeginsCommit {F = FormFault} (preparing now member) member.group
     (is_ready (preparing now member) member.group) replies.Prepared new in
     let same : with_run mid s ≡ record (with_run left s) { journal = c.reserve.new.self.items } =
     λ i. record (with_run ((sym stays) i) s) { journal = (sym c.reserve.ensures.items) i } in
-    subst P same (waits s mid c.args.tx c.group-group.result member own (c.in_ok-prepare.ensures.ok member here)
-    FormFault now c.store.view_is (c.in_default-commit.ensures.none refl s))
+    subst P same (waits s mid tx c.group-group.result member own (c.in_ok-prepare_at.ensures.ok tx at member here)
+    FormFault now c.store.view_is (c.in_default.ensures.none refl s))
 
-pub invariant_of-store-in_default-commit : goal.invariant_of-store-in_default-commit
-invariant_of-store-in_default-commit c =
+pub invariant_of-store-in_default : goal.invariant_of-store-in_default
+invariant_of-store-in_default c =
     let inside = c.store.inside in
-    let there = subst (λ (x : State). IsSome (found x.active c.args.tx)) (sym c.store.view_is) c.requires.there in
-    let idle = subst (λ (x : State). IsUnposted x c.args.tx) (sym c.store.view_is) c.requires.unposted in
+    let tx = c.args.found.tx in
+    let at = subst (λ (x : State). IsAt x.active tx c.args.found.place) (sym c.store.view_is) c.requires.free.at in
+    let there = ap is_some (found_at inside.run.active tx c.args.found.place at).1 in
+    let idle = subst (λ (x : State). IsUnposted x tx) (sym c.store.view_is) c.requires.unposted in
     let K : Run → Type 0 = λ run. IsKept inside.catalogue.tables inside.opening inside.submitted.items
     inside.transaction_table inside.running run inside.tables inside.pool in
-    subst K (sym (c.in_default-commit.ensures.same refl))
+    subst K (sym (c.in_default.ensures.same refl))
     (kept_changed inside.catalogue.tables inside.opening inside.submitted.items inside.transaction_table
-    inside.running inside.run c.prepare.new.self inside.tables inside.pool inside.pool c.args.tx c.store.invariant there
-    (kept_prepared inside.submitted.items inside.run.active inside.pool c.store.invariant.posted c.args.tx inside.run
-    c.prepare.new.self refl c.in_ok-prepare.ensures.ok there idle))
+    inside.running inside.run c.prepare_at.new.self inside.tables inside.pool inside.pool tx c.store.invariant there
+    (kept_prepared inside.submitted.items inside.run.active inside.pool c.store.invariant.posted tx inside.run
+    c.prepare_at.new.self refl (c.in_ok-prepare_at.ensures.ok tx at) there idle))
 
 -- ---- its group commits
 
@@ -72,10 +73,13 @@ commit-requires-2-clause-room c =
     let s : State = the_view c.store.inside in
     let C : State → Type 0 = λ x. length x.fates + length x.dormant + length (members x) ≡ length x.submitted in
     let counted : C s = subst C (sym c.store.view_is) c.requires.counted in
-    let there : found c.store.inside.run.active c.args.tx ≡ Some c.in-Some.member.now = sym (c.in-Some.ensures s) in
-    let few = committed_few c.store.inside.run c.prepare.new.self c.args.tx c.group-group.result c.in-Some.member.now
-    c.in-Some-commit.committed.items there (c.in_ok-prepare.ensures.ok c.in-Some.member.now there)
-    (c.in-Some-commit.ensures.committed s) in
+    let tx = c.args.found.tx in
+    let at = subst (λ (x : State). IsAt x.active tx c.args.found.place) (sym c.store.view_is) c.requires.free.at in
+    let there : found c.store.inside.run.active tx ≡ Some c.member.result.now =
+    ap (λ (x : State). active_member x tx) c.store.view_is ∙ c.member.ensures.there in
+    let few = committed_few c.store.inside.run c.prepare_at.new.self tx c.group-group.result c.member.result.now
+    c.in-Some.committed.items there (c.in_ok-prepare_at.ensures.ok tx at c.member.result.now there)
+    (c.in-Some.ensures.committed s) in
     omega (arith, counted, c.store.invariant.known, few, ap length c.as_slice-2.ensures.value)
 
 pub commit-requires-2-clause-numbers : goal.commit-requires-2-clause-numbers
@@ -85,11 +89,11 @@ commit-requires-2-clause-numbers c =
     let P : Member → Type 0 = MayTakePart s.submitted in
     let all : AllByRecursion P (run.prepared ++ run.active) =
     (subst StayWithin (sym c.store.view_is) c.requires.within).members in
-    let there : found run.active c.args.tx ≡ Some c.in-Some.member.now = sym (c.in-Some.ensures s) in
-    let among : AllByRecursion P c.in-Some-commit.committed.items =
-    committed_all P run c.prepare.new.self c.args.tx c.group-group.result c.in-Some.member.now
-    c.in-Some-commit.committed.items there (c.in_ok-prepare.ensures.ok c.in-Some.member.now there)
-    (c.in-Some-commit.ensures.committed s) (first_part P run.prepared run.active all)
+    let there : found run.active tx ≡ Some c.member.result.now = sym (c.in-Some.ensures s) in
+    let among : AllByRecursion P c.in-Some.committed.items =
+    committed_all P run c.prepare_at.new.self tx c.group-group.result c.member.result.now
+    c.in-Some.committed.items there (c.in_ok-prepare_at.ensures.ok tx at c.member.result.now there)
+    (c.in-Some.ensures.committed s) (first_part P run.prepared run.active all)
     (last_part P run.prepared run.active all) in
     parts_numbered s.submitted c.store.inside.transaction_table.known c.as_slice-2.result.now c.store.invariant.known
     (subst (λ ms. AllByRecursion P ms) (sym c.as_slice-2.ensures.value) among)
@@ -98,15 +102,16 @@ pub returns-clause-ok : goal.returns-clause-ok
 returns-clause-ok c = λ member there.
     let s : State = the_view c.store.inside in
     let now = c.args.store.now in
-    let mid : Run = c.prepare.new.self in
+    let mid : Run = c.prepare_at.new.self in
     let left : Run = c.commit.new.self in
-    let committed : List Member = c.in-Some-commit.committed.items in
+    let committed : List Member = c.in-Some.committed.items in
     let numbers : List ℕ = c.member_numbers-members.result in
     let first : ℕ = c.len.result + 1 in
-    let here : active_member s c.args.tx ≡ Some member =
-    ap (λ (x : State). active_member x c.args.tx) c.store.view_is ∙ there in
-    let one : c.in-Some.member.now ≡ member =
-    one_member c.in-Some.member.now member (c.in-Some.ensures s ∙ here) in
+    let tx = c.args.found.tx in
+    let here : active_member s tx ≡ Some member = ap (λ (x : State). active_member x tx) c.store.view_is ∙ there in
+    let one : c.member.result.now ≡ member =
+    one_member c.member.result.now member (sym c.member.ensures.there ∙ there) in
+    let at = subst (λ (x : State). IsAt x.active tx c.args.found.place) (sym c.store.view_is) c.requires.free.at in
     let own : c.group-group.result ≡ member.group = c.group-group.ensures ∙ ap (λ (m : Member). m.group) one in
     let numbers_are : numbers ≡ map tx_of committed =
     c.member_numbers-members.ensures ∙ ap (map tx_of) c.as_slice.ensures.value in
@@ -131,25 +136,27 @@ returns-clause-ok c = λ member there.
       dormant = (sym (ap (λ (transaction_table : TransactionTable). transaction_table.dormant) c.commit-2.ensures)) i;
       tables = (sym (ap (λ (stored : Stored). stored.tables) settled)) i;
     } in
-    subst P same (commits s mid c.args.tx c.group-group.result member own (c.in_ok-prepare.ensures.ok member here)
+    subst P same (commits s mid tx c.group-group.result member own (c.in_ok-prepare_at.ensures.ok tx at member here)
     FormFault now left first committed numbers c.enter.new.journal.items c.commit-2.new.self.fates
-    c.settle.new.self.changes c.store.view_is (c.in-Some-commit.ensures.ready refl s)
-    (c.in-Some-commit.ensures.committed s) (c.in-Some-commit.ensures.prepared refl)
-    (c.in-Some-commit.ensures.active refl) numbers_are first_is entered fated
+    c.settle.new.self.changes c.store.view_is (c.in-Some.ensures.ready refl s)
+    (c.in-Some.ensures.committed s) (c.in-Some.ensures.prepared refl)
+    (c.in-Some.ensures.active refl) numbers_are first_is entered fated
     (ap (λ (stored : Stored). stored.changes) settled))
 
 pub invariant_of-store-2 : goal.invariant_of-store-2
 invariant_of-store-2 c =
     let inside = c.store.inside in
-    let there = subst (λ (x : State). IsSome (found x.active c.args.tx)) (sym c.store.view_is) c.requires.there in
-    let idle = subst (λ (x : State). IsUnposted x c.args.tx) (sym c.store.view_is) c.requires.unposted in
-    let pooled = kept_prepared inside.submitted.items inside.run.active inside.pool c.store.invariant.posted c.args.tx
-    inside.run c.prepare.new.self refl c.in_ok-prepare.ensures.ok there idle in
+    let tx = c.args.found.tx in
+    let at = subst (λ (x : State). IsAt x.active tx c.args.found.place) (sym c.store.view_is) c.requires.free.at in
+    let there = ap is_some (found_at inside.run.active tx c.args.found.place at).1 in
+    let idle = subst (λ (x : State). IsUnposted x tx) (sym c.store.view_is) c.requires.unposted in
+    let pooled = kept_prepared inside.submitted.items inside.run.active inside.pool c.store.invariant.posted tx
+    inside.run c.prepare_at.new.self refl (c.in_ok-prepare_at.ensures.ok tx at) there idle in
     kept_with inside.catalogue.tables inside.opening inside.submitted.items inside.transaction_table
     c.commit-2.new.self inside.running inside.run c.commit.new.self inside.tables c.settle.new.self inside.pool
-    inside.pool c.args.tx c.store.invariant there
+    inside.pool tx c.store.invariant there
     (ap (λ (transaction_table : TransactionTable). transaction_table.dormant) c.commit-2.ensures)
     (ap (λ (transaction_table : TransactionTable). transaction_table.known) c.commit-2.ensures)
     (ap (λ (stored : Stored). stored.kinds) c.settle.ensures.numbers)
     (subst (λ (ms : List Member). IsPoolOf inside.submitted.items ms inside.pool)
-    (sym (c.in-Some-commit.ensures.active refl)) pooled)
+    (sym (c.in-Some.ensures.active refl)) pooled)

@@ -1,7 +1,8 @@
 use Rattle.std.proofs.Common.{◌≡◌, Some, subst}
 use Rattle.std.proofs.lemmas.Result.{IfOk-weaker}
 use Rattle.ent_headline.specs.Resolved.{resolved_forms}
-use Rattle.ent_protocol.specs.Lookup.{Ready, Turn, standing}
+use Rattle.ent_protocol.specs.Lookup.{Ready, Turn, standing, turn_of}
+use Rattle.ent_protocol.specs.Member.{next_of}
 use Rattle.ent_protocol.specs.State.{State}
 use Rattle.ent_core.specs.Begin.{IsFreeMember}
 use Rattle.ent_core.specs.declared.begin.FreeMember.{FreeMember}
@@ -18,5 +19,5 @@ returns-clause-ready c =
     (λ found free.
     let there = found_at s.active found.tx found.place free.at in
     subst (λ (x : State). IsReady x found) c.self.view_is
-    (stands_ready s found.tx stand there.0 there.1 (free.free there.0 there.1).idle))
+    (turn_of (next_of s there.0), stands_ready s found.tx stand there.0 there.1 (free.free there.0 there.1).idle))
     c.free_member.ensures.free

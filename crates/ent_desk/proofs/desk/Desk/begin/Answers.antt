@@ -16,17 +16,17 @@ invariant_of-self-2 g c =
     let total = c.add.ensures.total in
     let told = c.commits_told-count.ensures in
     kept_on i.count i.scripts.total i.entries.total 0 (length (entries_in reply)) i.scripts.total c.add.new.self.total
-    i.core c.begin.new.self (Begin c.args.tx) reply c.self.invariant step
-    (begins_told i.core c.begin.new.self reply c.args.tx step) (omega arith) (omega (arith, total, told))
+    i.core c.begin_free.new.self (Begin c.args.found.tx) reply c.self.invariant step
+    (begins_told i.core c.begin_free.new.self reply c.args.found.tx step) (omega arith) (omega (arith, total, told))
 
 pub returns-clause-events : goal.returns-clause-events
 returns-clause-events g c =
     let i = c.self.inside in
     let reply = reply_seen c.in_ok-reply.reply in
     let step = c.in_ok-reply.ensures.ok in
-    let new : DeskState = record { core = c.begin.new.self; count = i.count } in
+    let new : DeskState = record { core = c.begin_free.new.self; count = i.count } in
     subst (λ (old : DeskState). LeadsOn old new) c.self.view_is
-    (one_on i.count i.core c.begin.new.self (Begin c.args.tx) reply step)
+    (one_on i.count i.core c.begin_free.new.self (Begin c.args.found.tx) reply step)
 
 pub returns-clause-session : goal.returns-clause-session
 returns-clause-session g c =

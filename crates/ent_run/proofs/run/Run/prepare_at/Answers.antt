@@ -1,4 +1,4 @@
-use Rattle.ent_run.proofs.run.Run.prepare.Goals as goal
+use Rattle.ent_run.proofs.run.Run.prepare_at.Goals as goal
 
 pub invariant_of-self : goal.invariant_of-self
 invariant_of-self c = (

@@ -1,6 +1,6 @@
 use Rattle.ent_serializability.proofs.Frame.{Laws}
 use Rattle.ent_serializability.proofs.Once.{reached_once, reached_no_other}
-use Rattle.ent_serializability.proofs.law.passed_asks_are_answered_once.Goals as goal
+use Rattle.ent_serializability.proofs.law.entangled_statements_are_answered_once.Goals as goal
 
 pub returns-clause-once : goal.returns-clause-once
 returns-clause-once c h forms s tx place faithful reached asked =
